@@ -1,7 +1,7 @@
 ghost use Rattle.std.specs.Prelude.{◌≡◌, ℕ, List, true, IsTrue, IfOk, Some, None, if◌then◌else◌};
 ghost use Rattle.std.specs.Char.{is_ascii_graphic};
 ghost use Rattle.std.specs.List.{list_all};
-ghost use Rattle.dots_bytes.specs.Name.{is_name};
+ghost use Rattle.dots_lists.specs.Name.{is_name};
 
 use crate::memory::NoMemory;
 use std::alloc::Global;
