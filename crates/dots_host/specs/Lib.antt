@@ -1,0 +1,5 @@
+pub mod Causes
+pub mod Calls
+pub mod Acts
+pub mod Runs
+pub mod Memory

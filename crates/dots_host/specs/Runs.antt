@@ -1,0 +1,71 @@
+-- Runs of a machine over the acts of a wire, whatever the machine is. A step takes an event with the time beside it,
+-- and gives the sends that it owes, each beside the state that it tells, and the state after it.
+use Rattle.std.specs.Prelude.{◌≡◌, ℕ, ◌+◌, List, [], ◌∷◌, ◌++◌, map, Bool, Option, Some, None, ⊤}
+use Rattle.dots_host.specs.declared.event.Event.{Event}
+use Rattle.dots_host.specs.declared.event.Event.TheVariants as event
+use Rattle.dots_host.specs.declared.out.OwnedOut.{OwnedOut}
+use Rattle.dots_host.specs.Acts.{WireAct, took, gave, Timed}
+
+-- a state once nothing is owed, and the sends that are still owed, in order, each beside the state that it tells
+pub record Owing (S : Type 0) : Type 0 where
+  pub last : S
+  pub owed : List (S × OwnedOut)
+
+abbrev pub resting : {S : Type 0} → S → Owing S
+resting state = record { last = state; owed = [] }
+
+-- One act: an event is taken where nothing is owed; a send is the next one owed, done or lost. The act tells a state.
+abbrev pub ToldStep : {S : Type 0} → (S → Event → ℕ → List (S × OwnedOut) → S → Type 0) → Owing S → WireAct → S → Owing S → Type 0
+ToldStep step old (took event at) told new = (old.owed ≡ []) × step old.last event at new.owed new.last
+ToldStep step old (gave out done) told new = (old.owed ≡ (told, out) ∷ new.owed) × (new.last ≡ old.last)
+
+-- the acts, one after the other, and beside each the state that it tells
+abbrev pub Trace : {S : Type 0} → (S → Event → ℕ → List (S × OwnedOut) → S → Type 0) → Owing S → List Timed → List S → Owing S → Type 0
+Trace step old [] [] new = new ≡ old
+Trace {S} step old (timed ∷ acts) (told ∷ trace) new = (mid : Owing S) × ToldStep step old timed.act told mid × Trace step mid acts trace new
+Trace step old [] (told ∷ trace) new = ⊥
+Trace step old (timed ∷ acts) [] new = ⊥
+
+-- a step whose sends all tell the state after it
+abbrev pub in_one_turn : {S : Type 0} → (S → Event → ℕ → List OwnedOut → S → Type 0) → S → Event → ℕ → List (S × OwnedOut) → S → Type 0
+in_one_turn step old event at owed new = (outs : List OwnedOut) × (owed ≡ map (λ out. (new, out)) outs) × step old event at outs new
+
+-- Where the acts are told in the end they were told at the start, and what was added to them has the property.
+abbrev pub Added : Option (List Timed) → Option (List Timed) → (List Timed → Type 0) → Type 0
+Added old None P = ⊤
+Added None (Some new) P = ⊥
+Added (Some old) (Some new) P = (more : List Timed) × (new ≡ old ++ more) × P more
+
+abbrev pub IsSend : OwnedOut → WireAct → Type 0
+IsSend out (gave given done) = given ≡ out
+IsSend out (took event at) = ⊥
+
+-- the acts are these sends, in order, each done or lost
+abbrev pub Gives : List OwnedOut → List Timed → Type 0
+Gives [] [] = ⊤
+Gives (out ∷ owed) (timed ∷ acts) = IsSend out timed.act × Gives owed acts
+Gives [] (timed ∷ acts) = ⊥
+Gives (out ∷ owed) [] = ⊥
+
+abbrev pub IsNoEnd : WireAct → Type 0
+IsNoEnd (took event.End at) = ⊥
+IsNoEnd (took event.Failed at) = ⊥
+IsNoEnd _ = ⊤
+
+-- no End and no failed call of the wire is among the acts
+abbrev pub GoOn : List Timed → Type 0
+GoOn [] = ⊤
+GoOn (timed ∷ acts) = IsNoEnd timed.act × GoOn acts
+
+-- the last act is this event, and before it the acts go on
+abbrev pub EndsBy : Event → List Timed → Type 0
+EndsBy event acts = (before : List Timed) × (last : Timed) × (at : ℕ) × (last.act ≡ took event at) × (acts ≡ before ++ last ∷ []) × GoOn before
+
+abbrev pub count_of : WireAct → ℕ
+count_of (took event at) = 1
+count_of (gave out done) = 0
+
+-- how many events were taken
+abbrev pub events_in : List Timed → ℕ
+events_in [] = 0
+events_in (timed ∷ acts) = count_of timed.act + events_in acts

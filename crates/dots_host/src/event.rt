@@ -1,0 +1,42 @@
+use dots_lists::Bytes;
+
+/// What came to a host. Connections are named by numbers that the host gives them.
+#[derive(Debug, Drop)]
+pub enum Event {
+    /// A datagram from a peer.
+    Datagram { from: u32, bytes: Bytes },
+    /// A peer opened a connection.
+    Opened { conn: u32, from: u32 },
+    /// The next bytes of a connection.
+    Piece { conn: u32, bytes: Bytes },
+    /// A connection was closed.
+    Closed { conn: u32 },
+    /// Time has passed.
+    Tick,
+    /// The server lost all but its disk, and begins again.
+    Restart,
+    /// Nothing comes after this.
+    End,
+    /// The host failed.
+    Failed,
+}
+
+/// An event whose bytes, `len` of them, stand at the front of the room that [`crate::Wire::next`] was given.
+#[derive(Clone, Copy, Debug, PartialEq, Eq)]
+pub enum What {
+    Datagram { from: u32, len: usize },
+    Opened { conn: u32, from: u32 },
+    Piece { conn: u32, len: usize },
+    Closed { conn: u32 },
+    Tick,
+    Restart,
+    End,
+    Failed,
+}
+
+/// An event and the time beside it, in seconds, below 2^48.
+#[derive(Clone, Copy, Debug, PartialEq, Eq)]
+pub struct Got {
+    pub what: What,
+    pub at: u64,
+}

@@ -1,0 +1,24 @@
+use dots_lists::Bytes;
+
+/// What is sent: a datagram to a peer, bytes on a connection, or the end of a connection.
+#[derive(Clone, Copy, Debug)]
+pub enum Out<'a> {
+    To { peer: u32, bytes: &'a [u8] },
+    Conn { conn: u32, bytes: &'a [u8] },
+    Close { conn: u32 },
+}
+
+/// A send that owns its bytes.
+#[derive(Debug, Drop)]
+pub enum OwnedOut {
+    To { peer: u32, bytes: Bytes },
+    Conn { conn: u32, bytes: Bytes },
+    Close { conn: u32 },
+}
+
+/// Whether a send left.
+#[derive(Clone, Copy, Debug, PartialEq, Eq)]
+pub enum Sent {
+    Done,
+    Lost,
+}
