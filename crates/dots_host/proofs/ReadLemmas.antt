@@ -8,5 +8,5 @@ consumed bytes old new read count is same copied =
     let whole = take-append-drop count (drop read bytes) in
     let joined = drop-drop count read bytes in (
       sym whole ∙ ap (λ front. front ++ drop count (drop read bytes)) (sym copied) ∙ ap (λ rest. take count new ++ rest) joined,
-      λ none some. nil_from_length _ (omega (arith, length-drop read bytes, length-drop (read + count) bytes))
+      λ none some. nil_from_length _ (omega (arith, length-drop read bytes, length-drop (read + count) bytes)),
     )

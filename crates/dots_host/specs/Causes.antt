@@ -1,5 +1,5 @@
 -- Why a call failed: a count of faults that belongs to the object of the call. It never falls, and stands still at the greatest u64.
-use Rattle.std.specs.Prelude.{◌≡◌, ℕ, ◌+◌, ◌-◌, ◌^◌, ◌≤◌, min, Result, OnErr}
+use Rattle.std.specs.Prelude.{ℕ, ◌+◌, ◌-◌, ◌^◌, ◌≤◌, min, Result, OnErr}
 
 -- the count went up by at least one, or stands at the greatest u64
 abbrev pub Rose : ℕ → ℕ → Type 0

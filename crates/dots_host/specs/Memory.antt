@@ -1,9 +1,10 @@
 -- What contracts see of the memory forms.
-use Rattle.std.specs.Prelude.{◌≡◌, ℕ, ◌+◌, ◌-◌, ◌^◌, ◌<◌, ◌≤◌, min, Bool, true, false, List, [], ◌∷◌, length, take, drop, ⊤}
+use Rattle.std.specs.Prelude.{ℕ, nat_le, Bool, true, false, List, [], ◌∷◌, length, Option, Some, None}
 use Rattle.dots_host.specs.declared.calls.Calls.{Calls}
 use Rattle.dots_host.specs.declared.event.Event.{Event}
 use Rattle.dots_host.specs.declared.event.Event.TheVariants as event
 use Rattle.dots_host.specs.declared.act.Act.{Act}
+use Rattle.dots_host.specs.Acts.{Timed, wire_acts}
 
 -- a source over bytes: what it has left, its calls, and how often a read failed
 pub record Reading : Type 0 where
@@ -22,6 +23,12 @@ pub record Coming : Type 0 where
   pub event : Event
   pub at : ℕ
 
+-- the calls recorded so far, whether that is all of them, and for how many more there is room
+pub record Taped : Type 0 where
+  pub acts : List Act
+  pub whole : Bool
+  pub room : ℕ
+
 -- a host over lists: the events to come, the calls recorded so far, whether that is all of them, and its counts
 pub record Hosting : Type 0 where
   pub coming : List Coming
@@ -30,18 +37,19 @@ pub record Hosting : Type 0 where
   pub calls : Calls
   pub faults : ℕ
 
+-- what a tape tells of a wire: its acts, where it has recorded each call
+abbrev pub told : Bool → List Act → Option (List Timed)
+told true acts = Some (wire_acts 0 acts)
+told false acts = None
+
 -- the event has no more bytes than the room that a wire is given, and isn't a failure
-abbrev pub IsGiven : Event → Type 0
-IsGiven (event.Datagram from bytes) = length bytes ≤ 4096
-IsGiven (event.Piece conn bytes) = length bytes ≤ 4096
-IsGiven event.Failed = ⊥
-IsGiven _ = ⊤
+abbrev pub is_given : Event → Bool
+is_given (event.Datagram from bytes) = nat_le (length bytes) 4096
+is_given (event.Piece conn bytes) = nat_le (length bytes) 4096
+is_given event.Failed = false
+is_given _ = true
 
 -- the next event, or End at time 0 where there is none
 abbrev pub first_coming : List Coming → Coming
 first_coming [] = record { event = event.End; at = 0 }
 first_coming (coming ∷ later) = coming
-
--- a count of faults that stands still at the greatest u64
-abbrev pub raised : ℕ → ℕ
-raised faults = min (faults + 1) (2 ^ 64 - 1)

@@ -1,6 +1,6 @@
 -- Runs of a machine over the acts of a wire, whatever the machine is. A step takes an event with the time beside it,
 -- and gives the sends that it owes, each beside the state that it tells, and the state after it.
-use Rattle.std.specs.Prelude.{◌≡◌, ℕ, ◌+◌, List, [], ◌∷◌, ◌++◌, map, Bool, Option, Some, None, ⊤}
+use Rattle.std.specs.Prelude.{◌≡◌, ℕ, ◌+◌, List, [], ◌∷◌, ◌++◌, map, Option, Some, None, ⊤}
 use Rattle.dots_host.specs.declared.event.Event.{Event}
 use Rattle.dots_host.specs.declared.event.Event.TheVariants as event
 use Rattle.dots_host.specs.declared.out.OwnedOut.{OwnedOut}

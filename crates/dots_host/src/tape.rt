@@ -1,0 +1,74 @@
+ghost use Rattle.std.specs.Prelude.{◌≡◌, ◌<◌, [], ◌∷◌, ◌++◌, true, false, MatchBool};
+
+use crate::act::Act;
+use std::alloc::Global;
+use std::marker::Model;
+
+/// The calls of a memory host so far. Where a call can't be recorded for want of memory, the tape says from
+/// then on that it isn't whole.
+#[derive(Debug, Drop)]
+pub struct Tape {
+    acts: Vec<Act>,
+    whole: bool,
+}
+
+impl Model for Tape {
+    ghost use Rattle.std.specs.Prelude.{◌-◌, vec_len, vec_capacity};
+    ghost use Rattle.dots_host.specs.Memory.{Taped};
+
+    ghost Value = { Taped };
+
+    ghost view = { λ tape. record { acts = tape.acts.items; whole = tape.whole; room = vec_capacity tape.acts - vec_len tape.acts } };
+}
+
+impl Tape {
+    pub fn new(alloc: Global) -> Self
+        ensures { (result.acts ≡ []) × (result.whole ≡ true) }
+    {
+        Tape {
+            acts: Vec::new(alloc),
+            whole: true,
+        }
+    }
+
+    pub fn acts(&self) -> &[Act]
+        ensures { result.now ≡ self.now.acts }
+    {
+        self.acts.as_slice()
+    }
+
+    pub fn is_whole(&self) -> bool
+        ensures { result ≡ self.now.whole }
+    {
+        self.whole
+    }
+
+    /// Makes room for one more call, or gives up being whole.
+    pub fn make_room(&mut self) -> bool
+        ensures acts { self.new.acts ≡ self.old.acts }
+        ensures whole { MatchBool result ((self.new.whole ≡ self.old.whole) × (0 < self.new.room)) (self.new.whole ≡ false) }
+    {
+        if self.acts.reserve(1).is_ok() {
+            return true;
+        }
+        self.whole = false;
+        false
+    }
+
+    /// Gives up being whole.
+    pub fn forget(&mut self)
+        ensures acts { self.new.acts ≡ self.old.acts }
+        ensures whole { self.new.whole ≡ false }
+    {
+        self.whole = false;
+    }
+
+    /// Records a call, for which there is room.
+    pub fn log(&mut self, act: Act)
+        requires { 0 < self.old.room }
+        ensures acts { self.new.acts ≡ self.old.acts ++ act ∷ [] }
+        ensures whole { self.new.whole ≡ self.old.whole }
+    {
+        self.acts.push_reserved(act);
+    }
+}
