@@ -7,13 +7,17 @@
 #![tactic(auto)]
 
 mod address;
+mod bad_prefix;
 mod containment;
 mod family;
+mod parse;
 mod port_range;
 mod prefix;
 
 pub use address::Addr;
+pub use bad_prefix::BadPrefix;
 pub use containment::{holds, inside, inside_any, meets};
 pub use family::Family;
+pub use parse::parse_prefix;
 pub use port_range::PortRange;
 pub use prefix::Prefix;
