@@ -1,0 +1,4 @@
+pub mod Family
+pub mod Ports
+pub mod Prefix
+pub mod PrefixText

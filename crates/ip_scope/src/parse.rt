@@ -1,0 +1,133 @@
+ghost use Rattle.std.specs.Prelude.{◌≡◌, ◌≢◌, ℕ, ◌+◌, ◌<◌, ◌≤◌, ◌∷◌, ◌++◌, length, slice_index, decimal, IfSome, IfNone, IfOk, Ok, Err, IsTrue, ◌↔◌};
+ghost use Rattle.std.specs.Str.Parse.{AllDigits, digits_value};
+ghost use Rattle.ip_scope.specs.Prefix.{PrefixValue, IsPrefix};
+ghost use Rattle.ip_scope.specs.PrefixText.{IsAddressText, IsPrefixText, Reads, IsTooLong, reading_of, prefix_text};
+ghost use Rattle.ip_scope.specs.declared.family.Family as families;
+
+use crate::address::Addr;
+use crate::bad_prefix::BadPrefix;
+use crate::family::Family;
+use crate::prefix::Prefix;
+use std::net::{Ipv4Addr, Ipv6Addr};
+
+/// Reads a prefix: an address, a slash, and a length of one to three digits with no leading zero. Host bits are
+/// cleared.
+pub fn parse_prefix(text: &[u8]) -> Result<Prefix, BadPrefix>
+    ensures found { IfOk result (λ p. Reads text.now p) }
+    ensures too_long { result ≡ Err BadPrefix.Length → IsTooLong text.now }
+    ensures not_prefix { result ≡ Err BadPrefix.NotPrefix
+        → (family : families.Family) (number length : ℕ) → ¬ (IsPrefixText text.now family number length) }
+
+    // A text has one reading.
+    ensures only { (family : families.Family) (number length : ℕ) → IsPrefixText text.now family number length
+        → result ≡ reading_of family number length }
+
+    // What `write_prefix` writes is read again.
+    ensures written { (p : PrefixValue) → IsPrefix p → text.now ≡ prefix_text p → result ≡ Ok p }
+{
+    let Some((addr, length)) = read(text) else {
+        return Err(BadPrefix::NotPrefix);
+    };
+    with_length(addr, length)
+}
+
+/// The address and the length that the text writes.
+fn read(text: &[u8]) -> Option<(Addr, u16)>
+    ensures found { IfSome result (λ read. IsPrefixText text.now read.0.family read.0.number read.1) }
+    ensures none { IfNone result ((family : families.Family) (number length : ℕ)
+        → ¬ (IsPrefixText text.now family number length)) }
+{
+    let Some((address, digits)) = split_at_last_slash(text) else {
+        return None;
+    };
+    let Some(length) = decimal_of(digits) else {
+        return None;
+    };
+    let Some(addr) = parse_address(address) else {
+        return None;
+    };
+    Some((addr, length))
+}
+
+/// The prefix of the address, unless the length is too large.
+fn with_length(addr: Addr, length: u16) -> Result<Prefix, BadPrefix>
+    ensures { result ≡ reading_of addr.family addr.number length }
+{
+    if length > addr.family.width() as u16 {
+        return Err(BadPrefix::Length);
+    }
+    Prefix::new(addr, length as u8).ok_or(BadPrefix::Length)
+}
+
+/// What stands before the last slash, and after it.
+fn split_at_last_slash(text: &[u8]) -> Option<(&[u8], &[u8])>
+    ensures found { IfSome result (λ parts. text.now ≡ parts.0.now ++ 47 ∷ parts.1.now) }
+    ensures last { IfSome result (λ parts. (k : ℕ) → k < length parts.1.now → slice_index parts.1.now k ≢ 47) }
+    ensures none { IfNone result ((k : ℕ) → k < length text.now → slice_index text.now k ≢ 47) }
+{
+    for i in (0..text.len()).rev() {
+        if text[i] == b'/' {
+            return Some((&text[..i], &text[i + 1..]));
+        }
+    }
+    None
+}
+
+/// The number below 1000 whose decimal digits these are, with no leading zero.
+fn decimal_of(digits: &[u8]) -> Option<u16>
+    ensures found { IfSome result (λ n. (n < 1000) × (digits.now ≡ decimal n)) }
+    ensures none { IfNone result ((n : ℕ) → n < 1000 → digits.now ≢ decimal n) }
+{
+    if digits.is_empty() {
+        return None;
+    }
+    if digits.len() > 3 {
+        return None;
+    }
+    if has_leading_zero(digits) {
+        return None;
+    }
+    value_of(digits)
+}
+
+fn has_leading_zero(digits: &[u8]) -> bool
+    ensures { IsTrue result ↔ ((1 < length digits.now) × (slice_index digits.now 0 ≡ 48)) }
+{
+    digits.len() > 1 && digits[0] == b'0'
+}
+
+/// What the digits are worth, if they are digits.
+fn value_of(digits: &[u8]) -> Option<u16>
+    requires { length digits.now ≤ 3 }
+    ensures found { IfSome result (λ n. AllDigits 10 digits.now × (digits_value 10 digits.now ≡ n)) }
+    ensures none { IfNone result (¬ (AllDigits 10 digits.now)) }
+{
+    let mut number = 0;
+    for digit in digits {
+        if !digit.is_ascii_digit() {
+            return None;
+        }
+        number = number * 10 + (*digit - b'0') as u16;
+    }
+    Some(number)
+}
+
+/// The address of either family that the text writes.
+fn parse_address(text: &[u8]) -> Option<Addr>
+    ensures found { IfSome result (λ a. IsAddressText text.now a.family a.number) }
+    ensures none { IfNone result ((family : families.Family) (number : ℕ) → ¬ (IsAddressText text.now family number)) }
+{
+    if let Ok(address) = Ipv4Addr::parse_ascii(text) {
+        return Some(Addr {
+            family: Family::V4,
+            number: address.to_bits() as u128,
+        });
+    }
+    if let Ok(address) = Ipv6Addr::parse_ascii(text) {
+        return Some(Addr {
+            family: Family::V6,
+            number: address.to_bits(),
+        });
+    }
+    None
+}
