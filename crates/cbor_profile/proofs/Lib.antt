@@ -1,0 +1,4 @@
+pub mod Heads
+pub mod Options
+pub mod Rows
+pub mod Spellings

@@ -1,0 +1,7 @@
+pub mod Canon
+pub mod Head
+pub mod Parts
+pub mod Readers
+pub mod Tree
+pub mod Valid
+pub mod View

@@ -1,0 +1,79 @@
+ghost use Rattle.std.specs.Prelude.{◌≡◌, [], ◌∷◌, ◌++◌, OnOk, OnErr, map};
+ghost use Rattle.cbor_profile.specs.View.{tree_of, trees, tree_pairs};
+
+use dots_lists::{NoMemory, Text};
+use std::alloc::Global;
+
+/// A data item (RFC 8949, section 3.1).
+#[cycle(item)]
+#[derive(Debug, Drop)]
+pub enum Item {
+    Unsigned(u64),
+    Text(Text),
+    Array(ItemList),
+    Map(PairList),
+}
+
+/// The items of an array.
+#[cycle(item)]
+#[derive(Debug, Drop)]
+pub struct ItemList {
+    items: Vec<Item>,
+}
+
+/// The pairs of a map, each a key and its value.
+#[cycle(item)]
+#[derive(Debug, Drop)]
+pub struct PairList {
+    items: Vec<(Item, Item)>,
+}
+
+impl ItemList {
+    /// No items. Takes no memory.
+    pub fn new(alloc: Global) -> Self
+        ensures { trees result ≡ [] }
+    {
+        ItemList {
+            items: Vec::new(alloc),
+        }
+    }
+
+    pub fn items(&self) -> &[Item]
+        ensures { map tree_of result.now ≡ trees self.now }
+    {
+        self.items.as_slice()
+    }
+
+    pub fn push(&mut self, item: Item) -> Result<(), NoMemory>
+        ensures ok { OnOk result (trees self.new ≡ trees self.old ++ tree_of item ∷ []) }
+        ensures err { OnErr result (trees self.new ≡ trees self.old) }
+    {
+        self.items.push(item)?;
+        Ok(())
+    }
+}
+
+impl PairList {
+    /// No pairs. Takes no memory.
+    pub fn new(alloc: Global) -> Self
+        ensures { tree_pairs result ≡ [] }
+    {
+        PairList {
+            items: Vec::new(alloc),
+        }
+    }
+
+    pub fn items(&self) -> &[(Item, Item)]
+        ensures { map (λ p. (tree_of p.0, tree_of p.1)) result.now ≡ tree_pairs self.now }
+    {
+        self.items.as_slice()
+    }
+
+    pub fn push(&mut self, pair: (Item, Item)) -> Result<(), NoMemory>
+        ensures ok { OnOk result (tree_pairs self.new ≡ tree_pairs self.old ++ (tree_of pair.0, tree_of pair.1) ∷ []) }
+        ensures err { OnErr result (tree_pairs self.new ≡ tree_pairs self.old) }
+    {
+        self.items.push(pair)?;
+        Ok(())
+    }
+}
