@@ -1,0 +1,86 @@
+use crate::head::Head;
+use crate::kind::Kind;
+use crate::options::Options;
+use std::marker::Model;
+
+/// A message that was decoded. What it hands out are parts of the bytes that it was decoded from.
+#[derive(Drop)]
+pub struct Message<'a> {
+    kind: Kind,
+    code: u8,
+    id: u16,
+    token: &'a [u8],
+    options: &'a [u8],
+    payload: &'a [u8],
+}
+
+impl<'a> Model for Message<'a> {
+    ghost use Rattle.std.specs.Prelude.{ℕ, List};
+    ghost use Rattle.coap_message.specs.Message.{CoapMessage, IsMessage};
+    ghost use Rattle.coap_message.specs.Reading.{options_in};
+
+    ghost Value = { CoapMessage };
+
+    ghost view = { λ m. record { kind = m.kind; code = m.code; identifier = m.id; token = m.token.now; options = options_in 0 m.options.now; payload = m.payload.now } };
+}
+
+impl<'a> Message<'a> {
+    ghost use Rattle.std.specs.Prelude.{◌≡◌};
+    ghost use Rattle.coap_message.specs.Rows.{head_view};
+    ghost use Rattle.coap_message.specs.Reading.{message_from};
+
+    pub(crate) fn new(head: Head<'a>, options: &'a [u8], payload: &'a [u8]) -> Self
+        ensures { result ≡ message_from (head_view head.entry) options.now payload.now }
+    {
+        Message {
+            kind: head.kind,
+            code: head.code,
+            id: head.id,
+            token: head.token,
+            options,
+            payload,
+        }
+    }
+
+    pub fn kind(&self) -> Kind
+        ensures { result ≡ self.now.kind }
+    {
+        self.kind
+    }
+
+    pub fn code(&self) -> u8
+        ensures { result ≡ self.now.code }
+    {
+        self.code
+    }
+
+    /// The Message ID.
+    pub fn id(&self) -> u16
+        ensures { result ≡ self.now.identifier }
+    {
+        self.id
+    }
+
+    pub fn token(&self) -> &'a [u8]
+        ensures { result.now ≡ self.now.token }
+    {
+        self.token
+    }
+
+    /// The payload, with no bytes where the message has none.
+    pub fn payload(&self) -> &'a [u8]
+        ensures { result.now ≡ self.now.payload }
+    {
+        self.payload
+    }
+
+    /// The options in their order.
+    pub fn options(&self) -> Options<'a>
+        ensures { result ≡ self.now.options }
+    {
+        Options {
+            previous: 0,
+            rest: self.options,
+        }
+    }
+}

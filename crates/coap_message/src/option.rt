@@ -1,0 +1,6 @@
+/// An option of a message that was decoded.
+#[derive(Clone, Copy, Debug)]
+pub struct OptionRow<'a> {
+    pub number: u16,
+    pub value: &'a [u8],
+}
