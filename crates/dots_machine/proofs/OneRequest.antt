@@ -1,0 +1,136 @@
+-- A datagram asks one thing at most.
+use Rattle.std.proofs.Common.{◌≡◌, ℕ, ◌≤◌, ◌<◌, true, List, [], ◌∷◌, ◌++◌, length, refl, sym, ap, ◌∙◌, subst, arith}
+use Rattle.std.proofs.lemmas.Bool.Decides.{nat_tests}
+use Rattle.std.specs.Str.Parse.{digits_value}
+use Rattle.dots_lists.specs.Name.{is_name}
+use Rattle.ip_scope.specs.Prefix.{PrefixValue, prefix_of}
+use Rattle.ip_scope.specs.PrefixText.{Reads}
+use Rattle.ip_scope.proofs.PrefixTexts.{IsPrefixText_unique}
+use Rattle.cbor_profile.proofs.Spellings.{one_spelling}
+use Rattle.coap_message.specs.Message.{IsMessage}
+use Rattle.coap_message.proofs.Whole.{one_message}
+use Rattle.dots_machine.specs.Requests.{Head, Request, IsHead, IsBody, HasHead, Asks, Heard, short, other, asked, Hears, ReadEach, text_items, request_message, mitigation, request_scope}
+
+name_length : (name : List ℕ) → is_name name ≡ true → length name ≤ 64
+name_length name h = grind (arith, nat_tests)
+
+pub request_is_message : (head : Head) (payload : List ℕ) → IsHead head → IsMessage (request_message head payload)
+request_is_message head payload h =
+    let short_name : length head.cuid ≤ 64 = name_length head.cuid h.name in record {
+      code = omega arith;
+      identifier = h.identifier;
+      token = h.token;
+      options = (
+        omega arith,
+        omega arith,
+        omega arith,
+        (
+          omega arith,
+          omega arith,
+          omega arith,
+          (
+            omega arith,
+            omega arith,
+            omega arith,
+            (
+              omega arith,
+              omega arith,
+              omega (arith, h.ten_digits),
+              (
+                omega arith,
+                omega arith,
+                omega (arith, h.ten_digits),
+                (omega arith, omega arith, omega arith, tt),
+              ),
+            ),
+          ),
+        ),
+      );
+      empty = λ zero. absurd (omega arith);
+    }
+
+pub one_prefix : (words : List ℕ) (p q : PrefixValue) → Reads words p → Reads words q → p ≡ q
+one_prefix words p q a b =
+    let (families, numbers, lengths) = IsPrefixText_unique words p.family q.family a.number b.number p.length q.length a.spelled b.spelled in
+    a.cleared ∙ ap (λ family. prefix_of family a.number p.length) families ∙ ap (λ number. prefix_of q.family number p.length) numbers
+    ∙ ap (λ len. prefix_of q.family b.number len) lengths ∙ sym b.cleared
+
+pub same_prefixes : (texts : List (List ℕ)) (ps qs : List PrefixValue) → ReadEach texts ps → ReadEach texts qs → ps ≡ qs
+same_prefixes [] [] [] a b = refl
+same_prefixes [] [] (q ∷ qs) a b = absurd b
+same_prefixes [] (p ∷ ps) qs a b = absurd a
+same_prefixes (t ∷ ts) [] qs a b = absurd a
+same_prefixes (t ∷ ts) (p ∷ ps) [] a b = absurd b
+same_prefixes (t ∷ ts) (p ∷ ps) (q ∷ qs) a b =
+    ap (λ x. x ∷ ps) (one_prefix t p q a.0 b.0) ∙ ap (λ xs. q ∷ xs) (same_prefixes ts ps qs a.2 b.2)
+
+pub same_texts : (texts others : List (List ℕ)) → text_items texts ≡ text_items others → texts ≡ others
+same_texts [] [] e = refl
+same_texts [] (o ∷ os) e = absurd (cc)
+same_texts (t ∷ ts) [] e = absurd (cc)
+same_texts (t ∷ ts) (o ∷ os) e =
+    let first : t ≡ o = cc in
+    let rest : text_items ts ≡ text_items os = cc in
+    ap (λ x. x ∷ ts) first ∙ ap (λ xs. o ∷ xs) (same_texts ts os rest)
+
+pub one_body : (payload : List ℕ) (ps qs : List PrefixValue) (m n : ℕ) → IsBody payload ps m → IsBody payload qs n → (ps ≡ qs) × (m ≡ n)
+one_body payload ps qs m n a b =
+    let trees = (one_spelling (mitigation (request_scope a.texts m)) (mitigation (request_scope b.texts n)) [] [] a.valid.sound b.valid.sound (ap (λ bytes. bytes ++ []) (sym a.spelled ∙ b.spelled))).0 in
+    let items : text_items a.texts ≡ text_items b.texts = cc trees in
+    let texts = same_texts a.texts b.texts items in
+    (same_prefixes b.texts ps qs (subst (λ ts. ReadEach ts ps) texts a.read) b.read, cc trees)
+
+abbrev head_from : ℕ → List ℕ → List ℕ → List ℕ → Head
+head_from identifier token cuid digits = record { identifier = identifier; token = token; cuid = cuid; digits = digits }
+
+pub one_head : (datagram : List ℕ) (a b : Head) (p q : List ℕ) → HasHead datagram a p → HasHead datagram b q → (a ≡ b) × (p ≡ q)
+one_head datagram a b p q h j =
+    let same = one_message (request_message a p) (request_message b q) (request_is_message a p h.is_head) (request_is_message b q j.is_head) (sym h.spelled ∙ j.spelled) in
+    let identifier : a.identifier ≡ b.identifier = ap (λ m. m.identifier) same in
+    let token : a.token ≡ b.token = ap (λ m. m.token) same in
+    let options = ap (λ m. m.options) same in
+    let cuid : a.cuid ≡ b.cuid = cc options in
+    let digits : a.digits ≡ b.digits = cc options in (
+      ap (λ i. head_from i a.token a.cuid a.digits) identifier ∙ ap (λ t. head_from b.identifier t a.cuid a.digits) token
+          ∙ ap (λ c. head_from b.identifier b.token c a.digits) cuid ∙ ap (λ d. head_from b.identifier b.token b.cuid d) digits,
+      ap (λ m. m.payload) same,
+    )
+
+abbrev request_from : Head → List PrefixValue → ℕ → Request
+request_from head prefixes lifetime = record {
+  identifier = head.identifier;
+  token = head.token;
+  cuid = head.cuid;
+  mid = digits_value 10 head.digits;
+  prefixes = prefixes;
+  lifetime = lifetime;
+}
+
+from_head : (datagram : List ℕ) (r : Request) (a : Asks datagram r) → r ≡ request_from a.head r.prefixes r.lifetime
+from_head datagram r a =
+    ap (λ i. made i r.token r.cuid r.mid) a.identifier ∙ ap (λ t. made a.head.identifier t r.cuid r.mid) a.token
+    ∙ ap (λ c. made a.head.identifier a.head.token c r.mid) a.cuid ∙ ap (λ m. made a.head.identifier a.head.token a.head.cuid m) a.mid
+  where
+    made : ℕ → List ℕ → List ℕ → ℕ → Request
+    made identifier token cuid mid = record { identifier = identifier; token = token; cuid = cuid; mid = mid; prefixes = r.prefixes; lifetime = r.lifetime }
+
+pub one_request : (datagram : List ℕ) (r q : Request) → Asks datagram r → Asks datagram q → r ≡ q
+one_request datagram r q a b =
+    let heads = one_head datagram a.head b.head a.payload b.payload a.has_head b.has_head in
+    let bodies = one_body b.payload r.prefixes q.prefixes r.lifetime q.lifetime (subst (λ bytes. IsBody bytes r.prefixes r.lifetime) heads.1 a.body) b.body in
+    from_head datagram r a ∙ ap (λ h. request_from h r.prefixes r.lifetime) heads.0 ∙ ap (λ ps. request_from b.head ps r.lifetime) bodies.0
+    ∙ ap (λ n. request_from b.head q.prefixes n) bodies.1 ∙ sym (from_head datagram q b)
+
+pub asks_four : (datagram : List ℕ) (r : Request) → Asks datagram r → 4 ≤ length datagram
+asks_four datagram r a = rw (a.has_head.spelled) (omega arith)
+
+pub one_heard : (datagram : List ℕ) (h g : Heard) → Hears datagram h → Hears datagram g → h ≡ g
+one_heard datagram short short a b = refl
+one_heard datagram short (other i) a b = let few : length datagram < 4 = a in let enough : 4 ≤ length datagram = b.0 in absurd (omega arith)
+one_heard datagram short (asked r) a b = let few : length datagram < 4 = a in let enough : 4 ≤ length datagram = asks_four datagram r b in absurd (omega arith)
+one_heard datagram (other i) short a b = let few : length datagram < 4 = b in let enough : 4 ≤ length datagram = a.0 in absurd (omega arith)
+one_heard datagram (other i) (other j) a b = ap other (a.1 ∙ sym b.1)
+one_heard datagram (other i) (asked r) a b = absurd (a.2 r b)
+one_heard datagram (asked r) short a b = let few : length datagram < 4 = b in let enough : 4 ≤ length datagram = asks_four datagram r a in absurd (omega arith)
+one_heard datagram (asked r) (other j) a b = absurd (b.2 r a)
+one_heard datagram (asked r) (asked q) a b = ap asked (one_request datagram r q a b)

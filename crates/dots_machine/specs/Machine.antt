@@ -1,0 +1,102 @@
+-- The machine: its state, what it decides on a datagram, and a step.
+use Rattle.std.specs.Prelude.{◌≡◌, ℕ, Bool, true, false, ◌&&◌, ◌==◌, min, max, if◌then◌else◌, List, [], ◌∷◌, ◌++◌, ◌⊎◌}
+use Rattle.std.specs.List.{list_all}
+use Rattle.dots_host.specs.declared.event.Event.{Event}
+use Rattle.dots_host.specs.declared.event.Event.TheVariants as event
+use Rattle.dots_host.specs.declared.out.OwnedOut.{OwnedOut}
+use Rattle.dots_host.specs.declared.out.OwnedOut.TheVariants as owned
+use Rattle.dots_machine.specs.declared.settings.Settings.{Settings}
+use Rattle.dots_machine.specs.declared.entry.Entry.{Entry}
+use Rattle.dots_machine.specs.Targets.{may_be_asked}
+use Rattle.dots_machine.specs.Requests.{Head, Request, Heard, short, other, asked, Hears, HasHead}
+use Rattle.dots_machine.specs.Replies.{created, not_implemented, unavailable}
+
+-- the history, and the time of the last event
+pub record State : Type 0 where
+  pub history : List Entry
+  pub time : ℕ
+
+abbrev pub begun : State
+begun = record { history = []; time = 0 }
+
+-- The time never falls: it is the greatest of the time handed in and the time before.
+abbrev pub moved : State → ℕ → State
+moved state at = record state { time = max at state.time }
+
+abbrev pub with_entry : State → Entry → State
+with_entry state entry = record state { history = state.history ++ entry ∷ [] }
+
+-- the greatest lifetime that is granted, in seconds
+abbrev pub ceiling : ℕ
+ceiling = 86400
+
+abbrev pub granted : Request → ℕ
+granted request = min request.lifetime ceiling
+
+abbrev pub reply_to : Request → List ℕ
+reply_to request = created request.identifier request.token request.mid (granted request)
+
+-- what is kept of an accepted request
+abbrev pub entry_of : ℕ → ℕ → Request → Entry
+entry_of peer time request = record {
+  time = time;
+  peer = peer;
+  cuid = request.cuid;
+  identifier = request.identifier;
+  reply = reply_to request;
+  put = record { mid = request.mid; prefixes = request.prefixes; granted = granted request };
+}
+
+abbrev pub is_empty : List Entry → Bool
+is_empty [] = true
+is_empty (entry ∷ history) = false
+
+-- Accepted is the first request whose prefixes are targets inside the domain of the client.
+abbrev pub accepts : Settings → State → Request → Bool
+accepts settings state request = list_all (may_be_asked (settings.prefix ∷ [])) request.prefixes && is_empty state.history
+
+-- what is decided: silence, a reply that changes nothing, or a reply to an accepted request
+pub data Verdict : Type 0 where
+  silent : Verdict
+  refuse : List ℕ → Verdict
+  accept : List ℕ → Entry → Verdict
+
+-- on what a client sent
+abbrev pub client_verdict : Settings → State → ℕ → Heard → Verdict
+client_verdict settings state peer short = silent
+client_verdict settings state peer (other identifier) = refuse (not_implemented identifier)
+client_verdict settings state peer (asked request) =
+    if accepts settings state request then accept (reply_to request) (entry_of peer state.time request)
+    else refuse (not_implemented request.identifier)
+
+-- A stranger, who is no client by the settings, gets no answer.
+abbrev pub verdict : Settings → State → ℕ → Heard → Verdict
+verdict settings state peer heard = if peer == settings.peer then client_verdict settings state peer heard else silent
+
+-- the sends that a verdict makes, and the state after it
+abbrev pub Answers : Verdict → ℕ → State → List OwnedOut → State → Type 0
+Answers silent peer state sends new = (sends ≡ []) × (new ≡ state)
+Answers (refuse reply) peer state sends new = (sends ≡ owned.To peer reply ∷ []) × (new ≡ state)
+Answers (accept reply entry) peer state sends new = (sends ≡ owned.To peer reply ∷ []) × (new ≡ with_entry state entry)
+
+-- Want of memory: a client's datagram whose header and options are those of a request is answered 5.00 and changes nothing.
+pub record IsUnavailable (settings : Settings) (peer : ℕ) (datagram : List ℕ) (state : State) (sends : List OwnedOut) (new : State) : Type 0 where
+  pub client : peer ≡ settings.peer
+  pub head : Head
+  pub payload : List ℕ
+  pub has_head : HasHead datagram head payload
+  pub sent : sends ≡ owned.To peer (unavailable head.identifier head.token) ∷ []
+  pub kept : new ≡ state
+
+-- a datagram is answered by its verdict, or by want of memory
+abbrev pub Answered : Settings → ℕ → List ℕ → State → List OwnedOut → State → Type 0
+Answered settings peer datagram state sends new =
+    ((heard : Heard) × Hears datagram heard × Answers (verdict settings state peer heard) peer state sends new)
+    ⊎ IsUnavailable settings peer datagram state sends new
+
+-- One event: its sends, and the state after it. End and a failure of the host move no time; what isn't served yet moves the time and no more.
+abbrev pub Step : Settings → State → Event → ℕ → List OwnedOut → State → Type 0
+Step settings old (event.Datagram peer datagram) at sends new = Answered settings peer datagram (moved old at) sends new
+Step settings old event.End at sends new = (sends ≡ []) × (new ≡ old)
+Step settings old event.Failed at sends new = (sends ≡ []) × (new ≡ old)
+Step settings old _ at sends new = (sends ≡ []) × (new ≡ moved old at)

@@ -1,0 +1,42 @@
+ghost use Rattle.std.specs.Prelude.{◌≡◌};
+ghost use Rattle.dots_machine.specs.Endings.{status_of};
+
+use crate::settings::SettingsFault;
+
+/// How a run ends.
+#[derive(Clone, Copy, Debug, PartialEq, Eq)]
+pub enum Ending {
+    /// End was reached and the report is written whole.
+    Whole,
+    /// The words are no command.
+    WrongWords,
+    /// The settings were read and are refused.
+    Refused(SettingsFault),
+    /// Memory ran out before the first event.
+    NoMemory,
+    /// The settings couldn't be read.
+    SettingsFailed,
+    /// The host failed.
+    NextFailed,
+    /// The report couldn't be written.
+    ReportFailed,
+    /// 2^40 events came and none was End.
+    TooMany,
+}
+
+impl Ending {
+    /// The exit status of the program.
+    pub fn status(self) -> u8
+        ensures { result ≡ status_of self }
+    {
+        match self {
+            Ending::Whole => 0,
+            Ending::WrongWords => 2,
+            Ending::Refused(_) => 3,
+            Ending::NoMemory => 4,
+            Ending::SettingsFailed | Ending::NextFailed => 5,
+            Ending::ReportFailed => 9,
+            Ending::TooMany => 11,
+        }
+    }
+}
