@@ -1,4 +1,6 @@
+pub mod Contents
 pub mod Heads
 pub mod Options
 pub mod Rows
 pub mod Spellings
+pub mod Written

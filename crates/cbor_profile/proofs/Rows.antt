@@ -1,6 +1,5 @@
 -- The items of an array and the pairs of a map, read one after the other.
-use Rattle.std.proofs.Common.{◌≡◌, ℕ, zero, suc, ◌+◌, ◌^◌, ◌<◌, ◌≤◌, max, List, [], ◌∷◌, ◌++◌, length, refl, sym, ap, subst, ◌∙◌, append_assoc, arith}
-use Rattle.std.proofs.lemmas.List.{append-nil}
+use Rattle.std.proofs.Common.{◌≡◌, ℕ, suc, ◌+◌, ◌<◌, ◌≤◌, List, [], ◌∷◌, ◌++◌, refl, sym, ap, subst, ◌∙◌, append_assoc, arith}
 use Rattle.cbor_profile.specs.Tree.{Tree, Trees, no_items, item, Pairs, no_pairs, pair, count, pair_count}
 use Rattle.cbor_profile.specs.Canon.{canon, canon_items, canon_pairs}
 use Rattle.cbor_profile.specs.Valid.{IsSound, AreSound, ArePairsSound, IsBefore, RiseFrom, depth, items_depth, pairs_depth}
@@ -75,7 +74,7 @@ next_in levels no_items (item t ts) x y f g d n e = record {
 next_in levels (item u us) no_items x y f g d n e = absurd (omega arith)
 next_in levels (item u us) (item t ts) x y f g d n e =
     let regrouped : canon u ++ (canon_items us ++ x) ≡ canon t ++ (canon_items ts ++ y) =
-        sym (append_assoc (canon u) (canon_items us) x) ∙ e ∙ append_assoc (canon t) (canon_items ts) y in
+    sym (append_assoc (canon u) (canon_items us) x) ∙ e ∙ append_assoc (canon t) (canon_items ts) y in
     let first = one_spelling u t (canon_items us ++ x) (canon_items ts ++ y) f.0 g.0 regrouped in
     next_in levels us ts x y f.1 g.1 (omega arith) (omega arith) first.1
 
@@ -145,7 +144,7 @@ next_pair_in levels last no_pairs (pair k v ps) x y f g r d n e = record {
 next_pair_in levels last (pair l w qs) no_pairs x y f g r d n e = absurd (omega arith)
 next_pair_in levels last (pair l w qs) (pair k v ps) x y f g r d n e =
     let regrouped : canon l ++ (canon w ++ (canon_pairs qs ++ x)) ≡ canon k ++ (canon v ++ (canon_pairs ps ++ y)) =
-        sym (pair_parts l w qs x) ∙ e ∙ pair_parts k v ps y in
+    sym (pair_parts l w qs x) ∙ e ∙ pair_parts k v ps y in
     let key = one_spelling l k (canon w ++ (canon_pairs qs ++ x)) (canon v ++ (canon_pairs ps ++ y)) f.0 g.0 regrouped in
     let value = one_spelling w v (canon_pairs qs ++ x) (canon_pairs ps ++ y) f.1 g.1 key.1 in
     let rises : RiseFrom (canon l) ps = subst (λ (t : Tree). RiseFrom (canon t) ps) (sym key.0) r.1 in

@@ -1,6 +1,6 @@
 -- No encoding is the front of another.
-use Rattle.std.proofs.Common.{◌≡◌, ℕ, zero, suc, ◌+◌, ◌^◌, ◌<◌, ◌≤◌, List, [], ◌∷◌, ◌++◌, length, take, drop, refl, sym, ap, ◌∙◌, append_assoc, arith}
-use Rattle.std.proofs.lemmas.List.{take_at, drop_at, append-nil}
+use Rattle.std.proofs.Common.{◌≡◌, ℕ, ◌^◌, ◌<◌, List, ◌++◌, length, take, drop, refl, sym, ap, ◌∙◌, append_assoc, arith}
+use Rattle.std.proofs.lemmas.List.{take_at, drop_at}
 use Rattle.cbor_profile.specs.Tree.{Tree, unsigned, text, array, mapping, Trees, no_items, item, Pairs, no_pairs, pair, count, pair_count}
 use Rattle.cbor_profile.specs.Head.{head}
 use Rattle.cbor_profile.specs.Canon.{canon, canon_items, canon_pairs}
@@ -26,9 +26,10 @@ parts_same a b x y f g e =
     one_head (major a) (major b) (argument a) (argument b) (content a ++ x) (content b ++ y) (argument_fits a f) (argument_fits b g) (sym (in_parts a x) ∙ e ∙ in_parts b y)
 
 fronts_same : (a b x y : List ℕ) → length a ≡ length b → a ++ x ≡ b ++ y → (a ≡ b) × (x ≡ y)
-fronts_same a b x y l e =
-    (sym (take_at a x (length a) refl) ∙ ap (take (length a)) e ∙ take_at b y (length a) (sym l),
-     sym (drop_at a x (length a) refl) ∙ ap (drop (length a)) e ∙ drop_at b y (length a) (sym l))
+fronts_same a b x y l e = (
+  sym (take_at a x (length a) refl) ∙ ap (take (length a)) e ∙ take_at b y (length a) (sym l),
+  sym (drop_at a x (length a) refl) ∙ ap (drop (length a)) e ∙ drop_at b y (length a) (sym l),
+)
 
 -- the first pair of a map, and what follows it
 pub pair_parts : (k v : Tree) (ps : Pairs) (rest : List ℕ) → (canon k ++ (canon v ++ canon_pairs ps)) ++ rest ≡ canon k ++ (canon v ++ (canon_pairs ps ++ rest))
@@ -68,7 +69,7 @@ mutual
   items_same (item t ts) no_items x y f g n e = absurd (omega arith)
   items_same (item t ts) (item u us) x y f g n e =
       let regrouped : canon t ++ (canon_items ts ++ x) ≡ canon u ++ (canon_items us ++ y) =
-          sym (append_assoc (canon t) (canon_items ts) x) ∙ e ∙ append_assoc (canon u) (canon_items us) y in
+      sym (append_assoc (canon t) (canon_items ts) x) ∙ e ∙ append_assoc (canon u) (canon_items us) y in
       let first = one_spelling t u (canon_items ts ++ x) (canon_items us ++ y) f.0 g.0 regrouped in
       let more = items_same ts us x y f.1 g.1 (omega arith) first.1 in
       (ap (λ (v : Tree). item v ts) first.0 ∙ ap (item u) more.0, more.1)
@@ -79,7 +80,7 @@ mutual
   pairs_same (pair k v ps) no_pairs x y f g n e = absurd (omega arith)
   pairs_same (pair k v ps) (pair l w qs) x y f g n e =
       let regrouped : canon k ++ (canon v ++ (canon_pairs ps ++ x)) ≡ canon l ++ (canon w ++ (canon_pairs qs ++ y)) =
-          sym (pair_parts k v ps x) ∙ e ∙ pair_parts l w qs y in
+      sym (pair_parts k v ps x) ∙ e ∙ pair_parts l w qs y in
       let key = one_spelling k l (canon v ++ (canon_pairs ps ++ x)) (canon w ++ (canon_pairs qs ++ y)) f.0 g.0 regrouped in
       let value = one_spelling v w (canon_pairs ps ++ x) (canon_pairs qs ++ y) f.1 g.1 key.1 in
       let more = pairs_same ps qs x y f.2 g.2 (omega arith) value.1 in

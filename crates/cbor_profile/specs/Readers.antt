@@ -1,8 +1,6 @@
--- What bytes begin with, and what a reader answers.
-use Rattle.std.specs.Prelude.{◌≡◌, ◌≤◌, ℕ, Result, Ok, Err, List, ◌++◌, length, IsUtf8}
+-- What the bytes in front of a reader begin with.
+use Rattle.std.specs.Prelude.{◌≡◌, ◌≤◌, ℕ, List, ◌++◌, length, IsUtf8}
 use Rattle.std.specs.Borrow.{Bor}
-use Rattle.cbor_profile.specs.declared.fault.CborFault.{CborFault}
-use Rattle.cbor_profile.specs.declared.fault.CborFault.TheVariants.{Unread, NoMemory}
 use Rattle.cbor_profile.specs.declared.head.Major.{Major}
 use Rattle.cbor_profile.specs.declared.item.Item.{Item}
 use Rattle.cbor_profile.specs.declared.item.ItemList.{ItemList}
@@ -12,12 +10,6 @@ use Rattle.cbor_profile.specs.Canon.{canon, canon_items, canon_pairs}
 use Rattle.cbor_profile.specs.Parts.{major, argument, content}
 use Rattle.cbor_profile.specs.Valid.{IsSound, AreSound, ArePairsSound, depth, items_depth, pairs_depth, IsBefore, KeysRise}
 use Rattle.cbor_profile.specs.View.{tree_of, trees, tree_pairs, items_of, pairs_of}
-
--- What was answered, seen by view, is y, unless memory ran out.
-abbrev pub Gives : {X Y : Type 0} → (X → Y) → Result X CborFault → Y → Type 0
-Gives view (Ok x) y = view x ≡ y
-Gives view (Err Unread) y = ⊥
-Gives view (Err NoMemory) y = Unit {0}
 
 -- The bytes begin with the encoding of an item that nests at most levels deep.
 pub record HasItem (levels : ℕ) (bytes : List ℕ) (tree : Tree) (rest : List ℕ) : Type 0 where
@@ -72,7 +64,6 @@ items_read read = (items_of (trees read.0), read.1.now)
 
 abbrev pub pairs_read : PairList × Bor (List ℕ) → Pairs × List ℕ
 pairs_read read = (pairs_of (tree_pairs read.0), read.1.now)
-
 
 abbrev pub text_read : List ℕ × Bor (List ℕ) → List ℕ × List ℕ
 text_read read = (read.0, read.1.now)

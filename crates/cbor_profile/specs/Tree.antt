@@ -1,5 +1,5 @@
 -- A data item as a tree (RFC 8949, section 3.1). The pairs of a map stand in the order in which they are written.
-use Rattle.std.specs.Prelude.{ℕ, zero, suc, List, length}
+use Rattle.std.specs.Prelude.{ℕ, suc, List}
 
 mutual
   pub data Tree : Type 0 where

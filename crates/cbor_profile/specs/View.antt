@@ -1,5 +1,5 @@
 -- The tree that an `Item` stands for.
-use Rattle.std.specs.Prelude.{List, [], ◌∷◌, map}
+use Rattle.std.specs.Prelude.{List, [], ◌∷◌}
 use Rattle.cbor_profile.specs.Tree.{Tree, unsigned, text, array, mapping, Trees, no_items, item, Pairs, no_pairs, pair}
 use Rattle.cbor_profile.specs.declared.item.Item.{Item, fold-Item}
 use Rattle.cbor_profile.specs.declared.item.Item.TheOpen.{Item-F, ItemList-F, PairList-F}

@@ -31,7 +31,8 @@ impl Major {
     }
 
     pub(crate) fn number(self) -> u8
-        ensures { result ≡ number_of self }
+        ensures value { result ≡ number_of self }
+        ensures below { result < 8 }
     {
         match self {
             Major::Unsigned => 0,

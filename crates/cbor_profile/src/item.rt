@@ -18,14 +18,14 @@ pub enum Item {
 #[cycle(item)]
 #[derive(Debug, Drop)]
 pub struct ItemList {
-    items: Vec<Item>,
+    pub(crate) items: Vec<Item>,
 }
 
 /// The pairs of a map, each a key and its value.
 #[cycle(item)]
 #[derive(Debug, Drop)]
 pub struct PairList {
-    items: Vec<(Item, Item)>,
+    pub(crate) items: Vec<(Item, Item)>,
 }
 
 impl ItemList {

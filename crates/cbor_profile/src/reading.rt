@@ -1,12 +1,13 @@
 //! Reading an item from its deterministic encoding.
 
-ghost use Rattle.std.specs.Prelude.{◌≡◌, ◌<◌, ◌^◌, ℕ, List, [], ◌++◌, IfOk, Ok, Err};
+ghost use Rattle.std.specs.Prelude.{◌≡◌, ◌<◌, ◌^◌, ℕ, List, [], ◌++◌, IfOk, Ok, Err, IsTrue, ◌↔◌};
 ghost use Rattle.cbor_profile.specs.declared.head.Major.TheVariants as major_type;
 ghost use Rattle.cbor_profile.specs.Tree.{Tree, Trees, Pairs};
 ghost use Rattle.cbor_profile.specs.Canon.{canon};
-ghost use Rattle.cbor_profile.specs.Valid.{IsValid};
+ghost use Rattle.cbor_profile.specs.Valid.{IsValid, IsBefore};
 ghost use Rattle.cbor_profile.specs.View.{tree_of, trees, tree_pairs, items_of, pairs_of};
-ghost use Rattle.cbor_profile.specs.Readers.{Gives, HasItem, HasContent, HasText, HasItems, HasPairs, HasPair, item_read, items_read, pairs_read, text_read, pair_read};
+ghost use Rattle.cbor_profile.specs.Reads.{Gives, Reads};
+ghost use Rattle.cbor_profile.specs.Readers.{HasItem, HasContent, HasText, HasItems, HasPairs, HasPair, item_read, items_read, pairs_read, text_read, pair_read};
 
 use crate::fault::CborFault;
 use crate::head::{Head, Major, read_head};
@@ -22,7 +23,7 @@ pub fn decode(alloc: Global, bytes: &[u8]) -> Result<Item, CborFault>
     // What is read is valid, and is encoded so.
     ensures found { IfOk result (λ item. IsValid (tree_of item) × (bytes.now ≡ canon (tree_of item))) }
     // What is valid and encoded so is read, unless memory runs out.
-    ensures only { (tree : Tree) → IsValid tree → bytes.now ≡ canon tree → Gives tree_of result tree }
+    ensures only { (tree : Tree) → IsValid tree → bytes.now ≡ canon tree → Reads result tree }
 {
     let (item, rest) = read_item(alloc, bytes, MAX_DEPTH)?;
     if !rest.is_empty() {
@@ -46,7 +47,12 @@ fn read_item(alloc: Global, bytes: &[u8], levels: u8) -> Result<(Item, &[u8]), C
 
 /// The item with this head, whose content is at the front.
 #[cycle(reader)]
-fn read_content(alloc: Global, head: Head, bytes: &[u8], levels: u8) -> Result<(Item, &[u8]), CborFault>
+fn read_content(
+    alloc: Global,
+    head: Head,
+    bytes: &[u8],
+    levels: u8,
+) -> Result<(Item, &[u8]), CborFault>
     requires { head.argument < 2 ^ 64 }
     ensures found { IfOk result (λ read. HasContent levels head.major head.argument bytes.now (tree_of read.0) read.1.now) }
     ensures only { (tree : Tree) (rest : List ℕ) → HasContent levels head.major head.argument bytes.now tree rest
@@ -61,7 +67,12 @@ fn read_content(alloc: Global, head: Head, bytes: &[u8], levels: u8) -> Result<(
 }
 
 /// A text item of `length` bytes.
-fn read_text_item(alloc: Global, length: u64, bytes: &[u8], levels: u8) -> Result<(Item, &[u8]), CborFault>
+fn read_text_item(
+    alloc: Global,
+    length: u64,
+    bytes: &[u8],
+    levels: u8,
+) -> Result<(Item, &[u8]), CborFault>
     ensures found { IfOk result (λ read. HasContent levels major_type.Text length bytes.now (tree_of read.0) read.1.now) }
     ensures only { (tree : Tree) (rest : List ℕ) → HasContent levels major_type.Text length bytes.now tree rest
         → Gives item_read result (tree, rest) }
@@ -88,7 +99,12 @@ fn read_text(alloc: Global, length: u64, bytes: &[u8]) -> Result<(Text, &[u8]), 
 
 /// An array of `count` items.
 #[cycle(reader)]
-fn read_array(alloc: Global, count: u64, bytes: &[u8], levels: u8) -> Result<(Item, &[u8]), CborFault>
+fn read_array(
+    alloc: Global,
+    count: u64,
+    bytes: &[u8],
+    levels: u8,
+) -> Result<(Item, &[u8]), CborFault>
     ensures found { IfOk result (λ read. HasContent levels major_type.Array count bytes.now (tree_of read.0) read.1.now) }
     ensures only { (tree : Tree) (rest : List ℕ) → HasContent levels major_type.Array count bytes.now tree rest
         → Gives item_read result (tree, rest) }
@@ -102,7 +118,12 @@ fn read_array(alloc: Global, count: u64, bytes: &[u8], levels: u8) -> Result<(It
 
 /// `count` items, one after the other.
 #[cycle(reader)]
-fn read_items(alloc: Global, count: u64, bytes: &[u8], levels: u8) -> Result<(ItemList, &[u8]), CborFault>
+fn read_items(
+    alloc: Global,
+    count: u64,
+    bytes: &[u8],
+    levels: u8,
+) -> Result<(ItemList, &[u8]), CborFault>
     ensures found { IfOk result (λ read. HasItems levels count bytes.now (items_of (trees read.0)) read.1.now) }
     ensures only { (ts : Trees) (rest : List ℕ) → HasItems levels count bytes.now ts rest
         → Gives items_read result (ts, rest) }
@@ -133,7 +154,12 @@ fn read_map(alloc: Global, count: u64, bytes: &[u8], levels: u8) -> Result<(Item
 
 /// `count` pairs, one after the other, with rising keys.
 #[cycle(reader)]
-fn read_pairs(alloc: Global, count: u64, bytes: &[u8], levels: u8) -> Result<(PairList, &[u8]), CborFault>
+fn read_pairs(
+    alloc: Global,
+    count: u64,
+    bytes: &[u8],
+    levels: u8,
+) -> Result<(PairList, &[u8]), CborFault>
     ensures found { IfOk result (λ read. HasPairs levels count bytes.now (pairs_of (tree_pairs read.0)) read.1.now) }
     ensures only { (ps : Pairs) (rest : List ℕ) → HasPairs levels count bytes.now ps rest
         → Gives pairs_read result (ps, rest) }
@@ -165,9 +191,16 @@ fn read_pair<'a>(
 {
     let (key, after_key) = read_item(alloc, bytes, levels)?;
     let spelled = &bytes[..bytes.len() - after_key.len()];
-    if spelled <= last {
+    if !is_before(last, spelled) {
         return Err(CborFault::Unread);
     }
     let (value, rest) = read_item(alloc, after_key, levels)?;
     Ok(((key, value), spelled, rest))
+}
+
+/// Whether `left` comes before `right` in bytewise order.
+fn is_before(left: &[u8], right: &[u8]) -> bool
+    ensures { IsTrue result ↔ IsBefore left.now right.now }
+{
+    left.cmp(right).is_lt()
 }

@@ -1,4 +1,4 @@
-use Rattle.std.proofs.Common.{sym, subst, ◌∙◌, ◌/◌, ◌%◌, arith}
+use Rattle.std.proofs.Common.{sym, ◌∙◌}
 use Rattle.cbor_profile.proofs.Heads.{no_head, head_taken, head_made}
 use Rattle.cbor_profile.proofs.Options.{none_of}
 use Rattle.cbor_profile.specs.Parts.{number_of}

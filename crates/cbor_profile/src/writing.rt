@@ -1,0 +1,112 @@
+//! Writing the deterministic encoding of an item.
+
+ghost use Rattle.std.specs.Prelude.{◌≡◌, ◌∷◌, ◌++◌, length, IfOk, OnOk, map};
+ghost use Rattle.cbor_profile.specs.Head.{head};
+ghost use Rattle.cbor_profile.specs.Parts.{number_of};
+ghost use Rattle.cbor_profile.specs.Canon.{canon, canon_items, canon_pairs};
+ghost use Rattle.cbor_profile.specs.Tree.{array, mapping};
+ghost use Rattle.cbor_profile.specs.Valid.{IsValid};
+ghost use Rattle.cbor_profile.specs.View.{tree_of, trees, tree_pairs, items_of, pairs_of};
+
+use crate::head::Major;
+use crate::item::{Item, ItemList, PairList};
+use dots_lists::{Bytes, NoMemory};
+use std::alloc::Global;
+
+/// The deterministic encoding of a valid item (RFC 8949, section 4.2.1).
+pub fn encode(alloc: Global, item: &Item) -> Result<Bytes, NoMemory>
+    requires { IsValid (tree_of item.now) }
+    ensures { IfOk result (λ bytes. bytes ≡ canon (tree_of item.now)) }
+{
+    let mut out = Vec::new(alloc);
+    write_item(&mut out, item)?;
+    Ok(Bytes::from_vec(out))
+}
+
+#[cycle(writer)]
+fn write_item(out: &mut Vec<u8>, item: &Item) -> Result<(), NoMemory>
+    ensures { OnOk result (out.new.items ≡ out.old.items ++ canon (tree_of item.now)) }
+{
+    match item {
+        Item::Unsigned(number) => write_head(out, Major::Unsigned, *number),
+        Item::Text(text) => write_text(out, text.bytes()),
+        Item::Array(items) => write_array(out, items),
+        Item::Map(pairs) => write_map(out, pairs),
+    }
+}
+
+fn write_text(out: &mut Vec<u8>, bytes: &[u8]) -> Result<(), NoMemory>
+    ensures { OnOk result (out.new.items ≡ out.old.items ++ (head 3 (length bytes.now) ++ bytes.now)) }
+{
+    write_head(out, Major::Text, bytes.len() as u64)?;
+    out.extend_from_slice(bytes)?;
+    Ok(())
+}
+
+#[cycle(writer)]
+fn write_array(out: &mut Vec<u8>, list: &ItemList) -> Result<(), NoMemory>
+    ensures { OnOk result (out.new.items ≡ out.old.items ++ canon (array (items_of (trees list.now)))) }
+{
+    let items = list.items.as_slice();
+    write_head(out, Major::Array, items.len() as u64)?;
+    write_items(out, items)
+}
+
+#[cycle(writer)]
+fn write_items(out: &mut Vec<u8>, items: &[Item]) -> Result<(), NoMemory>
+    ensures { OnOk result (out.new.items ≡ out.old.items ++ canon_items (items_of (map tree_of items.now))) }
+{
+    for item in items {
+        write_item(out, item)?;
+    }
+    Ok(())
+}
+
+#[cycle(writer)]
+fn write_map(out: &mut Vec<u8>, list: &PairList) -> Result<(), NoMemory>
+    ensures { OnOk result (out.new.items ≡ out.old.items ++ canon (mapping (pairs_of (tree_pairs list.now)))) }
+{
+    let pairs = list.items.as_slice();
+    write_head(out, Major::Map, pairs.len() as u64)?;
+    write_pairs(out, pairs)
+}
+
+#[cycle(writer)]
+fn write_pairs(out: &mut Vec<u8>, pairs: &[(Item, Item)]) -> Result<(), NoMemory>
+    ensures { OnOk result (out.new.items ≡ out.old.items
+        ++ canon_pairs (pairs_of (map (λ p. (tree_of p.0, tree_of p.1)) pairs.now))) }
+{
+    for (key, value) in pairs {
+        write_item(out, key)?;
+        write_item(out, value)?;
+    }
+    Ok(())
+}
+
+/// Writes a head in its shortest form.
+fn write_head(out: &mut Vec<u8>, major: Major, argument: u64) -> Result<(), NoMemory>
+    ensures { OnOk result (out.new.items ≡ out.old.items ++ head (number_of major) argument) }
+{
+    let kind = 32 * major.number();
+    if argument < 24 {
+        return write_bytes(out, kind + argument as u8, &[]);
+    }
+    if argument < 0x100 {
+        return write_bytes(out, kind + 24, &[argument as u8]);
+    }
+    if argument < 0x1_0000 {
+        return write_bytes(out, kind + 25, &(argument as u16).to_be_bytes());
+    }
+    if argument < 0x1_0000_0000 {
+        return write_bytes(out, kind + 26, &(argument as u32).to_be_bytes());
+    }
+    write_bytes(out, kind + 27, &argument.to_be_bytes())
+}
+
+fn write_bytes(out: &mut Vec<u8>, first: u8, following: &[u8]) -> Result<(), NoMemory>
+    ensures { OnOk result (out.new.items ≡ out.old.items ++ first ∷ following.now) }
+{
+    out.push(first)?;
+    out.extend_from_slice(following)?;
+    Ok(())
+}
