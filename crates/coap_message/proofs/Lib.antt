@@ -5,3 +5,5 @@ pub mod OptionList
 pub mod Ending
 pub mod Heads
 pub mod Whole
+pub mod PutAt
+pub mod Put

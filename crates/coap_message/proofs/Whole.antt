@@ -2,8 +2,9 @@
 use Rattle.std.proofs.Common.{◌≡◌, ℕ, List, [], ◌∷◌, ◌++◌, Some, None, refl, sym, ap, ◌∙◌, append_assoc}
 use Rattle.coap_message.specs.Message.{CoapOption, CoapMessage, IsMessage, header, options_bytes, payload_bytes, spelling}
 use Rattle.coap_message.specs.Reading.{Head, head_at, Splits}
+use Rattle.coap_message.specs.Salvage.{salvaged}
 use Rattle.coap_message.proofs.Steps.{IsBytes, some_is}
-use Rattle.coap_message.proofs.Heads.{head_takes, head_again}
+use Rattle.coap_message.proofs.Heads.{head_takes, head_again, salvaged_again}
 use Rattle.coap_message.proofs.OptionList.{one_ending, last_number, payload_none}
 
 abbrev pub with_rest : Head → List CoapOption → List ℕ → CoapMessage
@@ -71,3 +72,8 @@ one_message m n is are e =
     ap (λ (h : Head). with_rest h m.options m.payload) right.0
     ∙ ap (λ (os : List CoapOption). with_rest (head_of n) os m.payload) split.0
     ∙ ap (λ (p : List ℕ). with_rest (head_of n) n.options p) split.1
+
+pub whole_salvaged : (bytes : List ℕ) (m : CoapMessage) → IsMessage m → bytes ≡ spelling m → salvaged bytes ≡ Some (m.kind, m.identifier)
+whole_salvaged bytes m is spelled =
+    ap salvaged (spelled ∙ append_assoc (header m.kind m.code m.identifier m.token) (options_bytes 0 m.options) (payload_bytes m.payload))
+    ∙ salvaged_again m.kind m.code m.identifier m.token (options_bytes 0 m.options ++ payload_bytes m.payload) is.identifier is.token

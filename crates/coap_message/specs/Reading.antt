@@ -11,11 +11,6 @@ abbrev pub ◌>>=◌ : {A B : Type 0} → Option A → (A → Option B) → Opti
 None >>= f = None
 
 -- What a function returned, seen by view, is what reading gives.
-abbrev pub Gives : {X Y : Type 0} → (X → Y) → Option X → Option Y → Type 0
-Gives view (Some x) read = read ≡ Some (view x)
-Gives view None read = read ≡ None
-
--- the same of a function that may fail
 abbrev pub Reads : {X Y E : Type 0} → (X → Y) → Result X E → Option Y → Type 0
 Reads view (Ok x) read = read ≡ Some (view x)
 Reads view (Err e) read = read ≡ None
@@ -90,6 +85,9 @@ head_at (first ∷ code ∷ high ∷ low ∷ rest) =
     else if nat_lt (length rest) (first % 16) then None
     else Some (record { kind = kind_of (first / 16 % 4); code = code; identifier = from_be_bytes w16 (high ∷ low ∷ []); token = take (first % 16) rest }, drop (first % 16) rest)
 
--- a message whose options stand in these bytes
+-- a message whose options stand in bytes
+abbrev pub message_in : Kind → ℕ → ℕ → List ℕ → List ℕ → List ℕ → CoapMessage
+message_in kind code identifier token options payload = record { kind = kind; code = code; identifier = identifier; token = token; options = options_in 0 options; payload = payload }
+
 abbrev pub message_from : Head → List ℕ → List ℕ → CoapMessage
-message_from head options payload = record { kind = head.kind; code = head.code; identifier = head.identifier; token = head.token; options = options_in 0 options; payload = payload }
+message_from head options payload = message_in head.kind head.code head.identifier head.token options payload

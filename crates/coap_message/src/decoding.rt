@@ -2,13 +2,11 @@ ghost use Rattle.std.specs.Prelude.{◌≡◌, ℕ, List, IfOk, OnErr, Ok};
 ghost use Rattle.coap_message.specs.Message.{CoapOption, CoapMessage, IsMessage, spelling};
 ghost use Rattle.coap_message.specs.Reading.{Splits, options_in};
 
+use crate::PAYLOAD_MARKER;
 use crate::fault::CoapFault;
 use crate::head_reading::read_head;
 use crate::message::Message;
 use crate::option_reading::read_option;
-
-/// The byte in front of a payload (RFC 7252, section 3).
-const PAYLOAD_MARKER: u8 = 0xff;
 
 /// The bytes of the options, and the payload behind them.
 fn split_options(bytes: &[u8]) -> Result<(&[u8], &[u8]), CoapFault>

@@ -6,7 +6,8 @@ use crate::fault::CoapFault;
 use crate::head::Head;
 use crate::kind::Kind;
 
-fn kind_of(bits: u8) -> Kind
+/// The type that two bits stand for.
+pub(crate) fn kind_of(bits: u8) -> Kind
     ensures { result ≡ kind_of bits }
 {
     match bits {

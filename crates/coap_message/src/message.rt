@@ -17,19 +17,23 @@ pub struct Message<'a> {
 impl<'a> Model for Message<'a> {
     ghost use Rattle.std.specs.Prelude.{ℕ, List};
     ghost use Rattle.coap_message.specs.Message.{CoapMessage, IsMessage};
-    ghost use Rattle.coap_message.specs.Reading.{options_in};
+    ghost use Rattle.coap_message.specs.Reading.{message_in};
 
     ghost Value = { CoapMessage };
 
-    ghost view = { λ m. record { kind = m.kind; code = m.code; identifier = m.id; token = m.token.now; options = options_in 0 m.options.now; payload = m.payload.now } };
+    ghost view = { λ m. message_in m.kind m.code m.id m.token.now m.options.now m.payload.now };
+
+    ghost invariant = { λ m. IsMessage (message_in m.kind m.code m.id m.token.now m.options.now m.payload.now) };
 }
 
 impl<'a> Message<'a> {
-    ghost use Rattle.std.specs.Prelude.{◌≡◌};
+    ghost use Rattle.std.specs.Prelude.{◌≡◌, ◌≤◌, length};
+    ghost use Rattle.coap_message.specs.Message.{IsMessage, AreOptions};
     ghost use Rattle.coap_message.specs.Rows.{head_view};
     ghost use Rattle.coap_message.specs.Reading.{message_from};
 
     pub(crate) fn new(head: Head<'a>, options: &'a [u8], payload: &'a [u8]) -> Self
+        requires { IsMessage (message_from (head_view head) options.now payload.now) }
         ensures { result ≡ message_from (head_view head.entry) options.now payload.now }
     {
         Message {
@@ -62,7 +66,8 @@ impl<'a> Message<'a> {
     }
 
     pub fn token(&self) -> &'a [u8]
-        ensures { result.now ≡ self.now.token }
+        ensures value { result.now ≡ self.now.token }
+        ensures size { length result.now ≤ 8 }
     {
         self.token
     }
@@ -76,7 +81,8 @@ impl<'a> Message<'a> {
 
     /// The options in their order.
     pub fn options(&self) -> Options<'a>
-        ensures { result ≡ self.now.options }
+        ensures value { result ≡ self.now.options }
+        ensures are { AreOptions 0 self.now.options }
     {
         Options {
             previous: 0,

@@ -1,5 +1,5 @@
 ghost use Rattle.std.specs.Prelude.{◌≡◌, ℕ, ◌≤◌, IfOk};
-ghost use Rattle.coap_message.specs.Reading.{Gives, Reads, extended_at, option_at};
+ghost use Rattle.coap_message.specs.Reading.{Reads, extended_at, option_at};
 ghost use Rattle.coap_message.specs.Rows.{row_view};
 
 use crate::fault::CoapFault;
@@ -48,12 +48,4 @@ pub(crate) fn read_option<'a>(
     }
     let (value, rest) = rest.split_at(len);
     Ok((OptionRow { number, value }, rest))
-}
-
-/// The option in front of the bytes, behind one with the number `previous`, and the bytes behind it. None where
-/// no option stands there.
-pub fn next_option<'a>(previous: u16, bytes: &'a [u8]) -> Option<(OptionRow<'a>, &'a [u8])>
-    ensures { Gives (λ x. (row_view x.0, x.1.now)) result (option_at previous bytes.now) }
-{
-    read_option(previous, bytes).ok()
 }

@@ -1,5 +1,5 @@
 use crate::option::OptionRow;
-use crate::option_reading::next_option;
+use crate::option_reading::read_option;
 use std::marker::Model;
 
 /// The options of a message in their order, seen as the list of those that are left.
@@ -31,7 +31,9 @@ impl<'a> Iterator for Options<'a> {
 
     #[tactic(auto, using(crate::proofs::OptionList::options_none, crate::proofs::OptionList::options_step))]
     fn next(&mut self) -> Option<OptionRow<'a>> {
-        let (row, rest) = next_option(self.previous, self.rest)?;
+        let Ok((row, rest)) = read_option(self.previous, self.rest) else {
+            return None;
+        };
         self.previous = row.number;
         self.rest = rest;
         Some(row)

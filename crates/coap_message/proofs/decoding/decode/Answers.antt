@@ -15,3 +15,6 @@ pub returns-clause-only : goal.returns-clause-only
 returns-clause-only c m is e =
     let found = whole_found _ _ _ _ _ (λ i. omega (arith, c.type_inv.bytes i)) c.in_ok-head.ensures c.in_ok-options.ensures.found in
     ap Ok (c.new.ensures ∙ one_message _ m found.0 is (sym found.1 ∙ e))
+
+pub new-requires : goal.new-requires
+new-requires c = (whole_found _ _ _ _ _ (λ i. omega (arith, c.type_inv.bytes i)) c.in_ok-head.ensures c.in_ok-options.ensures.found).0
