@@ -1,3 +1,4 @@
 pub mod Decimals
 pub mod AddressTexts
 pub mod PrefixTexts
+pub mod Putting

@@ -2,3 +2,4 @@ pub mod Family
 pub mod Ports
 pub mod Prefix
 pub mod PrefixText
+pub mod Puts

@@ -13,6 +13,8 @@ mod family;
 mod parse;
 mod port_range;
 mod prefix;
+mod put;
+mod write;
 
 pub use address::Addr;
 pub use bad_prefix::BadPrefix;
@@ -21,3 +23,8 @@ pub use family::Family;
 pub use parse::parse_prefix;
 pub use port_range::PortRange;
 pub use prefix::Prefix;
+pub use put::MAX_PREFIX_TEXT;
+pub use write::write_prefix;
+
+#[cfg(test)]
+mod tests;
