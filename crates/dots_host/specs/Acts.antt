@@ -46,6 +46,11 @@ abbrev pub OnFailed : What → Type 0 → Type 0
 OnFailed what.Failed P = P
 OnFailed _ P = ⊤
 
+-- where an event came, this holds
+abbrev pub OnEvent : What → Type 0 → Type 0
+OnEvent what.Failed P = ⊤
+OnEvent _ P = P
+
 -- a send with its bytes
 abbrev pub owned_of : Out → OwnedOut
 owned_of (out.To peer bytes) = owned.To peer bytes.now

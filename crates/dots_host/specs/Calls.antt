@@ -1,7 +1,19 @@
 -- The calls of a memory form, counted from 1, and those that are to fail.
-use Rattle.std.specs.Prelude.{ℕ, ◌+◌, ◌-◌, ◌^◌, min, Bool, false, ◌==◌, ◌||◌, nat_le, Option, Some, None}
+use Rattle.std.specs.Prelude.{ℕ, ◌+◌, ◌-◌, ◌^◌, min, Bool, false, ◌==◌, ◌||◌, nat_le, [], ◌∷◌, ◌++◌, Option, Some, None}
 use Rattle.std.specs.List.{list_any}
 use Rattle.dots_host.specs.declared.calls.Calls.{Calls}
+
+-- none was made, and none is to fail
+abbrev pub no_calls : Calls
+no_calls = record { made = 0; failing = []; stop = None }
+
+-- the call of this number is to fail too
+abbrev pub failing_at : Calls → ℕ → Calls
+failing_at calls call = record calls { failing = calls.failing ++ call ∷ [] }
+
+-- the call of this number and every later one are to fail
+abbrev pub stopping_at : Calls → ℕ → Calls
+stopping_at calls call = record calls { stop = Some call }
 
 -- the number of the next call; the count stands still at the greatest u64
 abbrev pub number : Calls → ℕ

@@ -4,7 +4,7 @@ use Rattle.dots_host.specs.declared.calls.Calls.{Calls}
 use Rattle.dots_host.specs.declared.event.Event.{Event}
 use Rattle.dots_host.specs.declared.event.Event.TheVariants as event
 use Rattle.dots_host.specs.declared.act.Act.{Act}
-use Rattle.dots_host.specs.Acts.{Timed, wire_acts}
+use Rattle.dots_host.specs.Acts.{Timed, WireAct, took, wire_acts}
 
 -- a source over bytes: what it has left, its calls, and how often a read failed
 pub record Reading : Type 0 where
@@ -53,3 +53,7 @@ is_given _ = true
 abbrev pub first_coming : List Coming → Coming
 first_coming [] = record { event = event.End; at = 0 }
 first_coming (coming ∷ later) = coming
+
+-- the act of handing it in
+abbrev pub first_taken : List Coming → WireAct
+first_taken coming = took (first_coming coming).event (first_coming coming).at

@@ -1,5 +1,5 @@
-ghost use Rattle.std.specs.Prelude.{◌≡◌, ◌++◌, ◌∷◌, [], Some, None, OnOk, OnErr};
-ghost use Rattle.dots_host.specs.Calls.{is_to_fail, is_stopped, counted};
+ghost use Rattle.std.specs.Prelude.{◌≡◌, OnOk, OnErr};
+ghost use Rattle.dots_host.specs.Calls.{no_calls, failing_at, stopping_at, is_to_fail, is_stopped, counted};
 
 use dots_lists::{List, NoMemory};
 use std::alloc::Global;
@@ -14,7 +14,7 @@ pub struct Calls {
 
 impl Calls {
     pub fn new(alloc: Global) -> Self
-        ensures { result ≡ record { made = 0; failing = []; stop = None } }
+        ensures { result ≡ no_calls }
     {
         Calls {
             made: 0,
@@ -24,14 +24,14 @@ impl Calls {
     }
 
     pub fn fail_at(&mut self, call: u64) -> Result<(), NoMemory>
-        ensures ok { OnOk result (self.new ≡ record self.old { failing = self.old.failing ++ call ∷ [] }) }
+        ensures ok { OnOk result (self.new ≡ failing_at self.old call) }
         ensures err { OnErr result (self.new ≡ self.old) }
     {
         self.failing.push(call)
     }
 
     pub fn stop_at(&mut self, call: u64)
-        ensures { self.new ≡ record self.old { stop = Some call } }
+        ensures { self.new ≡ stopping_at self.old call }
     {
         self.stop = Some(call);
     }

@@ -1,3 +1,7 @@
+ghost use Rattle.std.specs.Prelude.{◌≡◌};
+ghost use Rattle.dots_host.specs.Memory.{is_given};
+
+use crate::MAX_EVENT_BYTES;
 use dots_lists::Bytes;
 
 /// What came to a host. Connections are named by numbers that the host gives them.
@@ -19,6 +23,21 @@ pub enum Event {
     End,
     /// The host failed.
     Failed,
+}
+
+impl Event {
+    /// Whether a wire can hand this in: it has at most [`MAX_EVENT_BYTES`] bytes and isn't `Failed`.
+    pub fn is_given(&self) -> bool
+        ensures { result ≡ is_given self.now }
+    {
+        match self {
+            Event::Datagram { bytes, .. } | Event::Piece { bytes, .. } => {
+                bytes.items().len() <= MAX_EVENT_BYTES
+            }
+            Event::Failed => false,
+            _ => true,
+        }
+    }
 }
 
 /// An event whose bytes, `len` of them, stand at the front of the room that [`crate::Wire::next`] was given.

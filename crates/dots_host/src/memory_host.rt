@@ -1,8 +1,8 @@
 ghost use Rattle.std.specs.Prelude.{◌≡◌, ◌≢◌, ◌+◌, ◌<◌, ◌≤◌, ◌^◌, [], ◌∷◌, ◌++◌, length, drop, true, false, IsTrue, Some, IfOk, OnOk, OnErr};
 ghost use Rattle.dots_host.specs.Causes.{Rose};
-ghost use Rattle.dots_host.specs.Calls.{is_to_fail, counted};
-ghost use Rattle.dots_host.specs.Acts.{IsWithin, OnFailed, Adds, taken, given, took, event_of, owned_of};
-ghost use Rattle.dots_host.specs.Memory.{told, is_given, first_coming};
+ghost use Rattle.dots_host.specs.Calls.{no_calls, failing_at, stopping_at, is_to_fail, counted};
+ghost use Rattle.dots_host.specs.Acts.{IsWithin, OnFailed, OnEvent, Adds, taken, given};
+ghost use Rattle.dots_host.specs.Memory.{told, is_given, first_coming, first_taken};
 ghost use Rattle.dots_host.specs.declared.TheConstants.{MAX_EVENT_BYTES};
 
 use crate::MAX_EVENT_BYTES;
@@ -82,7 +82,12 @@ const FAILED: Got = Got {
 impl MemoryHost {
     /// A host to which nothing comes yet.
     pub fn new(alloc: Global) -> Result<Self, NoMemory>
-        ensures { IfOk result (λ host. (host.coming ≡ []) × (host.acts ≡ []) × (host.whole ≡ true) × (host.calls.made ≡ 0) × (host.calls.failing ≡ []) × (host.faults ≡ 0)) }
+        ensures {
+            IfOk result (λ host.
+                host ≡ record {
+                    coming = []; acts = []; whole = true; calls = no_calls; faults = 0
+                })
+        }
     {
         Ok(MemoryHost {
             alloc,
@@ -97,7 +102,11 @@ impl MemoryHost {
     pub fn push(&mut self, event: Event, at: u64) -> Result<(), NoMemory>
         requires given { IsTrue (is_given event) }
         requires at { at < 2 ^ 48 }
-        ensures ok { OnOk result (self.new ≡ record self.old { coming = self.old.coming ++ (record { event = event; at = at }) ∷ [] }) }
+        ensures ok {
+            OnOk result (self.new ≡ record self.old {
+                coming = self.old.coming ++ (record { event = event; at = at }) ∷ []
+            })
+        }
         ensures err { OnErr result (self.new ≡ self.old) }
     {
         self.coming.push_back(Planned { event, at })?;
@@ -106,7 +115,7 @@ impl MemoryHost {
 
     /// Lets the call of this number fail; the first call is number 1.
     pub fn fail_at(&mut self, call: u64) -> Result<(), NoMemory>
-        ensures ok { OnOk result (self.new ≡ record self.old { calls = record self.old.calls { failing = self.old.calls.failing ++ call ∷ [] } }) }
+        ensures ok { OnOk result (self.new ≡ record self.old { calls = failing_at self.old.calls call }) }
         ensures err { OnErr result (self.new ≡ self.old) }
     {
         self.calls.fail_at(call)
@@ -114,7 +123,7 @@ impl MemoryHost {
 
     /// Lets the call of this number and every later one fail.
     pub fn stop_at(&mut self, call: u64)
-        ensures { self.new ≡ record self.old { calls = record self.old.calls { stop = Some call } } }
+        ensures { self.new ≡ record self.old { calls = stopping_at self.old.calls call } }
     {
         self.calls.stop_at(call);
     }
@@ -162,16 +171,27 @@ impl Wire for MemoryHost {
         requires { length into.old ≡ MAX_EVENT_BYTES }
         ensures at { result.at < 2 ^ 48 }
         ensures within { IsWithin result.what MAX_EVENT_BYTES }
-        ensures acts { Adds (told self.old.whole self.old.acts) (length self.old.acts) (told self.new.whole self.new.acts) (length self.new.acts) (taken result into.new) }
+        ensures acts {
+            Adds (told self.old.whole self.old.acts) (length self.old.acts)
+                (told self.new.whole self.new.acts) (length self.new.acts) (taken result into.new)
+        }
         ensures later { self.old.faults ≤ self.new.faults }
         ensures cause { OnFailed result.what (Rose self.old.faults self.new.faults) }
         ensures beside { Unit {0} }
 
-        // It fails where the call was to fail, and else hands in the next event unless memory ran out.
+        // It fails where the call was to fail, and else only for want of memory.
         ensures calls { self.new.calls ≡ counted self.old.calls }
         ensures fails { is_to_fail self.old.calls ≡ true → result.what ≡ What.Failed }
-        ensures hands { is_to_fail self.old.calls ≡ false → self.new.whole ≡ true →
-            (taken result into.new ≡ took (first_coming self.old.coming).event (first_coming self.old.coming).at) × (self.new.coming ≡ drop 1 self.old.coming) }
+        ensures memory {
+            is_to_fail self.old.calls ≡ false → self.new.whole ≡ true → OnFailed result.what ⊥
+        }
+
+        // A failed call keeps the events to come. Any other is recorded and hands in the first of them.
+        ensures kept { OnFailed result.what (self.new.coming ≡ self.old.coming) }
+        ensures first { OnEvent result.what (taken result into.new ≡ first_taken self.old.coming) }
+        ensures rest { OnEvent result.what (self.new.coming ≡ drop 1 self.old.coming) }
+        ensures whole { OnEvent result.what (self.new.whole ≡ self.old.whole) }
+        ensures no_fault { OnEvent result.what (self.new.faults ≡ self.old.faults) }
     {
         let fails = self.calls.next_fails();
         if !self.tape.make_room() {
@@ -191,14 +211,20 @@ impl Wire for MemoryHost {
     }
 
     fn send(&mut self, out: &Out) -> Sent
-        ensures acts { Adds (told self.old.whole self.old.acts) (length self.old.acts) (told self.new.whole self.new.acts) (length self.new.acts) (given out.now result) }
+        ensures acts {
+            Adds (told self.old.whole self.old.acts) (length self.old.acts)
+                (told self.new.whole self.new.acts) (length self.new.acts) (given out.now result)
+        }
         ensures faults { self.new.faults ≡ self.old.faults }
         ensures beside { Unit {0} }
 
         // It is lost where the call was to fail, and else done unless memory ran out.
         ensures calls { self.new.calls ≡ counted self.old.calls }
         ensures fails { is_to_fail self.old.calls ≡ true → result ≡ Sent.Lost }
-        ensures does { is_to_fail self.old.calls ≡ false → self.new.whole ≡ true → result ≡ Sent.Done }
+        ensures does {
+            is_to_fail self.old.calls ≡ false → self.new.whole ≡ true → result ≡ Sent.Done
+        }
+        ensures whole { result ≡ Sent.Done → self.new.whole ≡ self.old.whole }
         ensures coming { self.new.coming ≡ self.old.coming }
     {
         let fails = self.calls.next_fails();

@@ -1,8 +1,8 @@
-ghost use Rattle.std.specs.Prelude.{◌≡◌, ℕ, ◌<◌, ◌++◌, ◌∷◌, [], length, IfOk, OnOk, OnErr, true, false, Some, Ok};
+ghost use Rattle.std.specs.Prelude.{◌≡◌, ◌<◌, [], length, IfOk, OnOk, OnErr, true, Some};
 ghost use Rattle.std.specs.Io.{WritesAtMost};
 ghost use Rattle.std.specs.Io.KnownBytes.{WriteAppends};
 ghost use Rattle.dots_host.specs.Causes.{HasCause};
-ghost use Rattle.dots_host.specs.Calls.{is_to_fail, counted};
+ghost use Rattle.dots_host.specs.Calls.{no_calls, failing_at, is_to_fail, counted};
 
 use crate::calls::Calls;
 use crate::failed::Failed;
@@ -30,7 +30,7 @@ impl Model for MemorySink {
 impl MemorySink {
     /// An empty sink. Takes no memory.
     pub fn new(alloc: Global) -> Self
-        ensures { (result.held ≡ []) × (result.calls.made ≡ 0) × (result.calls.failing ≡ []) × (result.faults ≡ 0) }
+        ensures { result ≡ record { held = []; calls = no_calls; faults = 0 } }
     {
         MemorySink {
             held: Vec::new(alloc),
@@ -48,7 +48,7 @@ impl MemorySink {
 
     /// Lets the call of this number fail; the first call is number 1.
     pub fn fail_at(&mut self, call: u64) -> Result<(), NoMemory>
-        ensures ok { OnOk result (self.new ≡ record self.old { calls = record self.old.calls { failing = self.old.calls.failing ++ call ∷ [] } }) }
+        ensures ok { OnOk result (self.new ≡ record self.old { calls = failing_at self.old.calls call }) }
         ensures err { OnErr result (self.new ≡ self.old) }
     {
         self.calls.fail_at(call)
@@ -80,6 +80,7 @@ impl Sink for MemorySink {
         ensures calls { self.new.calls ≡ counted self.old.calls }
         ensures fails { is_to_fail self.old.calls ≡ true → OnOk result ⊥ }
         ensures whole { IfOk result (λ count. count ≡ length bytes.now) }
+        ensures no_fault { OnOk result (self.new.faults ≡ self.old.faults) }
     {
         if self.calls.next_fails() {
             return self.fail();

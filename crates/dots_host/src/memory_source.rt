@@ -1,8 +1,8 @@
-ghost use Rattle.std.specs.Prelude.{◌≡◌, ℕ, ◌++◌, ◌∷◌, [], min, length, IfOk, OnOk, OnErr, true, false, Some, Ok, take, drop, ◌≤◌};
+ghost use Rattle.std.specs.Prelude.{◌≡◌, min, length, IfOk, OnOk, OnErr, true, false, Some, Ok, take, drop, ◌≤◌};
 ghost use Rattle.std.specs.Io.{ReadsAtMost};
 ghost use Rattle.std.specs.Io.KnownBytes.{ReadConsumes};
 ghost use Rattle.dots_host.specs.Causes.{HasCause};
-ghost use Rattle.dots_host.specs.Calls.{is_to_fail, counted};
+ghost use Rattle.dots_host.specs.Calls.{no_calls, failing_at, is_to_fail, counted};
 
 use crate::calls::Calls;
 use crate::failed::Failed;
@@ -34,7 +34,10 @@ impl Model for MemorySource {
 impl MemorySource {
     /// A source of a copy of the bytes.
     pub fn new(alloc: Global, bytes: &[u8]) -> Result<Self, NoMemory>
-        ensures { IfOk result (λ source. (source.left ≡ bytes.now) × (source.calls.made ≡ 0) × (source.calls.failing ≡ []) × (source.faults ≡ 0)) }
+        ensures {
+            IfOk result (λ source.
+                source ≡ record { left = bytes.now; calls = no_calls; faults = 0 })
+        }
     {
         let bytes = Bytes::from_slice(alloc, bytes)?;
         Ok(MemorySource {
@@ -54,7 +57,7 @@ impl MemorySource {
 
     /// Lets the call of this number fail; the first call is number 1.
     pub fn fail_at(&mut self, call: u64) -> Result<(), NoMemory>
-        ensures ok { OnOk result (self.new ≡ record self.old { calls = record self.old.calls { failing = self.old.calls.failing ++ call ∷ [] } }) }
+        ensures ok { OnOk result (self.new ≡ record self.old { calls = failing_at self.old.calls call }) }
         ensures err { OnErr result (self.new ≡ self.old) }
     {
         self.calls.fail_at(call)
@@ -74,7 +77,11 @@ impl Source for MemorySource {
         // It fails exactly where the call was to fail, and else gives as much as there is room for.
         ensures calls { self.new.calls ≡ counted self.old.calls }
         ensures fails { is_to_fail self.old.calls ≡ true → OnOk result ⊥ }
-        ensures gives { is_to_fail self.old.calls ≡ false → result ≡ Ok (min (length self.old.left) (length into.old)) }
+        ensures gives {
+            is_to_fail self.old.calls ≡ false →
+                result ≡ Ok (min (length self.old.left) (length into.old))
+        }
+        ensures no_fault { OnOk result (self.new.faults ≡ self.old.faults) }
     {
         if self.calls.next_fails() {
             self.faults = self.faults.saturating_add(1);
