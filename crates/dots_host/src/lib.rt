@@ -3,7 +3,7 @@
 //! Each trait says by ghost members what an object tells of its content, which may be nothing, and how often
 //! it failed. A failure comes only where that count rose, so a body can't make one up. The memory forms tell
 //! everything and are for tests and for generated runs; [`StdSource`] and [`StdSink`] adapt std's readers and
-//! writers, and tell no content.
+//! writers, and tell what those tell: of files, nothing.
 //!
 //! Read [`Wire`] first, then `specs/Acts.antt` (what a wire did) and `specs/Runs.antt` (what a run of a machine
 //! over these acts is).
