@@ -1,6 +1,7 @@
 -- What contracts see of the memory forms.
-use Rattle.std.specs.Prelude.{ℕ, nat_le, Bool, true, false, List, [], ◌∷◌, length, Option, Some, None}
+use Rattle.std.specs.Prelude.{ℕ, nat_le, Bool, true, false, List, [], ◌∷◌, ◌++◌, length, Option, Some, None}
 use Rattle.dots_host.specs.declared.calls.Calls.{Calls}
+use Rattle.dots_host.specs.Calls.{no_calls}
 use Rattle.dots_host.specs.declared.event.Event.{Event}
 use Rattle.dots_host.specs.declared.event.Event.TheVariants as event
 use Rattle.dots_host.specs.declared.act.Act.{Act}
@@ -36,6 +37,14 @@ pub record Hosting : Type 0 where
   pub whole : Bool
   pub calls : Calls
   pub faults : ℕ
+
+-- nothing comes, and no call was made
+abbrev pub empty_host : Hosting
+empty_host = record { coming = []; acts = []; whole = true; calls = no_calls; faults = 0 }
+
+-- the event comes after all others, with the time beside it
+abbrev pub with_event : Hosting → Event → ℕ → Hosting
+with_event host event at = record host { coming = host.coming ++ (record { event = event; at = at }) ∷ [] }
 
 -- what a tape tells of a wire: its acts, where it has recorded each call
 abbrev pub told : Bool → List Act → Option (List Timed)

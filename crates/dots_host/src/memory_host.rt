@@ -2,7 +2,7 @@ ghost use Rattle.std.specs.Prelude.{◌≡◌, ◌≢◌, ◌+◌, ◌<◌, ◌�
 ghost use Rattle.dots_host.specs.Causes.{Rose};
 ghost use Rattle.dots_host.specs.Calls.{no_calls, failing_at, stopping_at, is_to_fail, counted};
 ghost use Rattle.dots_host.specs.Acts.{IsWithin, OnFailed, OnEvent, Adds, taken, given};
-ghost use Rattle.dots_host.specs.Memory.{told, is_given, first_coming, first_taken};
+ghost use Rattle.dots_host.specs.Memory.{told, is_given, first_coming, first_taken, empty_host, with_event};
 ghost use Rattle.dots_host.specs.declared.TheConstants.{MAX_EVENT_BYTES};
 
 use crate::MAX_EVENT_BYTES;
@@ -82,12 +82,7 @@ const FAILED: Got = Got {
 impl MemoryHost {
     /// A host to which nothing comes yet.
     pub fn new(alloc: Global) -> Result<Self, NoMemory>
-        ensures {
-            IfOk result (λ host.
-                host ≡ record {
-                    coming = []; acts = []; whole = true; calls = no_calls; faults = 0
-                })
-        }
+        ensures { IfOk result (λ host. host ≡ empty_host) }
     {
         Ok(MemoryHost {
             alloc,
@@ -102,11 +97,7 @@ impl MemoryHost {
     pub fn push(&mut self, event: Event, at: u64) -> Result<(), NoMemory>
         requires given { IsTrue (is_given event) }
         requires at { at < 2 ^ 48 }
-        ensures ok {
-            OnOk result (self.new ≡ record self.old {
-                coming = self.old.coming ++ (record { event = event; at = at }) ∷ []
-            })
-        }
+        ensures ok { OnOk result (self.new ≡ with_event self.old event at) }
         ensures err { OnErr result (self.new ≡ self.old) }
     {
         self.coming.push_back(Planned { event, at })?;
@@ -171,10 +162,8 @@ impl Wire for MemoryHost {
         requires { length into.old ≡ MAX_EVENT_BYTES }
         ensures at { result.at < 2 ^ 48 }
         ensures within { IsWithin result.what MAX_EVENT_BYTES }
-        ensures acts {
-            Adds (told self.old.whole self.old.acts) (length self.old.acts)
-                (told self.new.whole self.new.acts) (length self.new.acts) (taken result into.new)
-        }
+        ensures acts { Adds (told self.old.whole self.old.acts) (length self.old.acts)
+            (told self.new.whole self.new.acts) (length self.new.acts) (taken result into.new) }
         ensures later { self.old.faults ≤ self.new.faults }
         ensures cause { OnFailed result.what (Rose self.old.faults self.new.faults) }
         ensures beside { Unit {0} }
@@ -182,9 +171,8 @@ impl Wire for MemoryHost {
         // It fails where the call was to fail, and else only for want of memory.
         ensures calls { self.new.calls ≡ counted self.old.calls }
         ensures fails { is_to_fail self.old.calls ≡ true → result.what ≡ What.Failed }
-        ensures memory {
-            is_to_fail self.old.calls ≡ false → self.new.whole ≡ true → OnFailed result.what ⊥
-        }
+        ensures memory { is_to_fail self.old.calls ≡ false → self.new.whole ≡ true →
+            OnFailed result.what ⊥ }
 
         // A failed call keeps the events to come. Any other is recorded and hands in the first of them.
         ensures kept { OnFailed result.what (self.new.coming ≡ self.old.coming) }
@@ -211,19 +199,16 @@ impl Wire for MemoryHost {
     }
 
     fn send(&mut self, out: &Out) -> Sent
-        ensures acts {
-            Adds (told self.old.whole self.old.acts) (length self.old.acts)
-                (told self.new.whole self.new.acts) (length self.new.acts) (given out.now result)
-        }
+        ensures acts { Adds (told self.old.whole self.old.acts) (length self.old.acts)
+            (told self.new.whole self.new.acts) (length self.new.acts) (given out.now result) }
         ensures faults { self.new.faults ≡ self.old.faults }
         ensures beside { Unit {0} }
 
         // It is lost where the call was to fail, and else done unless memory ran out.
         ensures calls { self.new.calls ≡ counted self.old.calls }
         ensures fails { is_to_fail self.old.calls ≡ true → result ≡ Sent.Lost }
-        ensures does {
-            is_to_fail self.old.calls ≡ false → self.new.whole ≡ true → result ≡ Sent.Done
-        }
+        ensures does { is_to_fail self.old.calls ≡ false → self.new.whole ≡ true →
+            result ≡ Sent.Done }
         ensures whole { result ≡ Sent.Done → self.new.whole ≡ self.old.whole }
         ensures coming { self.new.coming ≡ self.old.coming }
     {

@@ -34,10 +34,8 @@ impl Model for MemorySource {
 impl MemorySource {
     /// A source of a copy of the bytes.
     pub fn new(alloc: Global, bytes: &[u8]) -> Result<Self, NoMemory>
-        ensures {
-            IfOk result (λ source.
-                source ≡ record { left = bytes.now; calls = no_calls; faults = 0 })
-        }
+        ensures { IfOk result (λ source.
+            source ≡ record { left = bytes.now; calls = no_calls; faults = 0 }) }
     {
         let bytes = Bytes::from_slice(alloc, bytes)?;
         Ok(MemorySource {
@@ -77,10 +75,8 @@ impl Source for MemorySource {
         // It fails exactly where the call was to fail, and else gives as much as there is room for.
         ensures calls { self.new.calls ≡ counted self.old.calls }
         ensures fails { is_to_fail self.old.calls ≡ true → OnOk result ⊥ }
-        ensures gives {
-            is_to_fail self.old.calls ≡ false →
-                result ≡ Ok (min (length self.old.left) (length into.old))
-        }
+        ensures gives { is_to_fail self.old.calls ≡ false →
+            result ≡ Ok (min (length self.old.left) (length into.old)) }
         ensures no_fault { OnOk result (self.new.faults ≡ self.old.faults) }
     {
         if self.calls.next_fails() {

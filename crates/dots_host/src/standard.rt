@@ -41,10 +41,8 @@ impl<R: Read> Source for StdSource<R> {
 
     fn read(&mut self, into: &mut [u8]) -> Result<usize, Failed>
         ensures bound { ReadsAtMost result into.new }
-        ensures bytes {
-            ReadConsumes (option_and_then R.remaining self.old.reader)
-                (option_and_then R.remaining self.new.reader) result into.new
-        }
+        ensures bytes { ReadConsumes (option_and_then R.remaining self.old.reader)
+            (option_and_then R.remaining self.new.reader) result into.new }
         ensures cause { HasCause self.old.faults self.new.faults result }
         ensures no_fault { OnOk result (self.new.faults ≡ self.old.faults) }
         ensures no_reader { self.old.reader ≡ None → OnOk result ⊥ }
@@ -93,9 +91,8 @@ impl<W: Write> Sink for StdSink<W> {
     fn write(&mut self, bytes: &[u8]) -> Result<usize, Failed>
         ensures bound { WritesAtMost result bytes.now }
         ensures progress { 0 < length bytes.now → IfOk result (λ count. 0 < count) }
-        ensures written {
-            WriteAppends (W.contents self.old.writer) (W.contents self.new.writer) result bytes.now
-        }
+        ensures written { WriteAppends (W.contents self.old.writer)
+            (W.contents self.new.writer) result bytes.now }
         ensures cause { HasCause self.old.faults self.new.faults result }
         ensures no_fault { OnOk result (self.new.faults ≡ self.old.faults) }
     {
