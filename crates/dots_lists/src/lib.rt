@@ -14,5 +14,5 @@ mod text;
 pub use byte_string::Bytes;
 pub use list::List;
 pub use memory::NoMemory;
-pub use name::Name;
+pub use name::{Name, is_name};
 pub use text::Text;
