@@ -1,5 +1,6 @@
 pub mod Canon
 pub mod Head
+pub mod Kind
 pub mod Parts
 pub mod Readers
 pub mod Reads

@@ -1,5 +1,6 @@
-ghost use Rattle.std.specs.Prelude.{◌≡◌, [], ◌∷◌, ◌++◌, OnOk, OnErr, map};
-ghost use Rattle.cbor_profile.specs.View.{tree_of, trees, tree_pairs};
+ghost use Rattle.std.specs.Prelude.{◌≡◌, [], ◌∷◌, ◌++◌, OnOk, OnErr, map, option_map};
+ghost use Rattle.cbor_profile.specs.Kind.{number_in, text_in, items_in, pairs_in};
+ghost use Rattle.cbor_profile.specs.View.{tree_of, trees, tree_pairs, items_of, pairs_of};
 
 use dots_lists::{NoMemory, Text};
 use std::alloc::Global;
@@ -26,6 +27,49 @@ pub struct ItemList {
 #[derive(Debug, Drop)]
 pub struct PairList {
     pub(crate) items: Vec<(Item, Item)>,
+}
+
+impl Item {
+    /// The number, if the item is one.
+    pub fn as_unsigned(&self) -> Option<u64>
+        ensures { result ≡ number_in (tree_of self.now) }
+    {
+        match self {
+            Item::Unsigned(number) => Some(*number),
+            _ => None,
+        }
+    }
+
+    /// The text, if the item is one.
+    pub fn as_text(&self) -> Option<&Text>
+        ensures { option_map (λ text. text.now) result ≡ text_in (tree_of self.now) }
+    {
+        match self {
+            Item::Text(text) => Some(text),
+            _ => None,
+        }
+    }
+
+    /// The items of an array.
+    pub fn as_array(&self) -> Option<&[Item]>
+        ensures { option_map (λ items. items_of (map tree_of items.now)) result ≡ items_in (tree_of self.now) }
+    {
+        match self {
+            Item::Array(list) => Some(list.items()),
+            _ => None,
+        }
+    }
+
+    /// The pairs of a map, each a key and its value.
+    pub fn as_map(&self) -> Option<&[(Item, Item)]>
+        ensures { option_map (λ pairs. pairs_of (map (λ p. (tree_of p.0, tree_of p.1)) pairs.now)) result
+            ≡ pairs_in (tree_of self.now) }
+    {
+        match self {
+            Item::Map(list) => Some(list.items()),
+            _ => None,
+        }
+    }
 }
 
 impl ItemList {

@@ -21,3 +21,6 @@ pub use item::{Item, ItemList, PairList};
 pub use law::one_spelling;
 pub use reading::{MAX_DEPTH, decode};
 pub use writing::encode;
+
+#[cfg(test)]
+mod tests;
