@@ -29,6 +29,6 @@ impl From<NoMemory> for CborFault {
     ghost from_gives = { λ _ fault. fault ≡ NoMemory };
 
     fn from(_: NoMemory) -> Self {
-        CborFault::NoMemory
+        Self::NoMemory
     }
 }
