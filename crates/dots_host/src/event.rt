@@ -26,7 +26,8 @@ pub enum Event {
 }
 
 impl Event {
-    /// Whether a wire can hand this in: it has at most [`MAX_EVENT_BYTES`] bytes and isn't `Failed`.
+    /// Whether it has at most [`MAX_EVENT_BYTES`] bytes and isn't `Failed`, so that it may be pushed
+    /// to a [`crate::MemoryHost`].
     pub fn is_given(&self) -> bool
         ensures { result ≡ is_given self.now }
     {

@@ -22,6 +22,8 @@ mod sink;
 mod source;
 mod standard;
 mod tape;
+#[cfg(test)]
+mod tests;
 mod wire;
 
 pub use act::Act;

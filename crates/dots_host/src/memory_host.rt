@@ -106,7 +106,8 @@ impl MemoryHost {
 
     /// Lets the call of this number fail; the first call is number 1.
     pub fn fail_at(&mut self, call: u64) -> Result<(), NoMemory>
-        ensures ok { OnOk result (self.new ≡ record self.old { calls = failing_at self.old.calls call }) }
+        ensures ok { OnOk result
+            (self.new ≡ record self.old { calls = failing_at self.old.calls call }) }
         ensures err { OnErr result (self.new ≡ self.old) }
     {
         self.calls.fail_at(call)
@@ -174,7 +175,7 @@ impl Wire for MemoryHost {
         ensures memory { is_to_fail self.old.calls ≡ false → self.new.whole ≡ true →
             OnFailed result.what ⊥ }
 
-        // A failed call keeps the events to come. Any other is recorded and hands in the first of them.
+        // A failed call keeps the events to come; any other hands in the first of them and is recorded.
         ensures kept { OnFailed result.what (self.new.coming ≡ self.old.coming) }
         ensures first { OnEvent result.what (taken result into.new ≡ first_taken self.old.coming) }
         ensures rest { OnEvent result.what (self.new.coming ≡ drop 1 self.old.coming) }

@@ -48,7 +48,8 @@ impl MemorySink {
 
     /// Lets the call of this number fail; the first call is number 1.
     pub fn fail_at(&mut self, call: u64) -> Result<(), NoMemory>
-        ensures ok { OnOk result (self.new ≡ record self.old { calls = failing_at self.old.calls call }) }
+        ensures ok { OnOk result
+            (self.new ≡ record self.old { calls = failing_at self.old.calls call }) }
         ensures err { OnErr result (self.new ≡ self.old) }
     {
         self.calls.fail_at(call)

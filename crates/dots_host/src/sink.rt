@@ -13,7 +13,8 @@ pub trait Sink {
     /// How often a write failed.
     ghost faults: { Self → ℕ };
 
-    /// Writes from the front of the bytes and answers how many it took: at least 1 where there are any.
+    /// Writes from the front of the bytes and answers how many it took: at least 1 where there are
+    /// any.
     fn write(&mut self, bytes: &[u8]) -> Result<usize, Failed>
         ensures bound { WritesAtMost result bytes.now }
         ensures progress { 0 < length bytes.now → IfOk result (λ count. 0 < count) }

@@ -13,7 +13,8 @@ pub trait Source {
     /// How often a read failed.
     ghost faults: { Self → ℕ };
 
-    /// Reads into the front of the room and answers how many bytes came: 0 only at the end, where there is room.
+    /// Reads into the front of the room and answers how many bytes came: 0 only at the end, where
+    /// there is room.
     fn read(&mut self, into: &mut [u8]) -> Result<usize, Failed>
         ensures bound { ReadsAtMost result into.new }
         ensures bytes { ReadConsumes (left self.old) (left self.new) result into.new }

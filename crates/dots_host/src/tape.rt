@@ -46,7 +46,8 @@ impl Tape {
     /// Makes room for one more call, or gives up being whole.
     pub fn make_room(&mut self) -> bool
         ensures acts { self.new.acts ≡ self.old.acts }
-        ensures whole { MatchBool result ((self.new.whole ≡ self.old.whole) × (0 < self.new.room)) (self.new.whole ≡ false) }
+        ensures whole { MatchBool result ((self.new.whole ≡ self.old.whole) × (0 < self.new.room))
+            (self.new.whole ≡ false) }
     {
         if self.acts.reserve(1).is_ok() {
             return true;

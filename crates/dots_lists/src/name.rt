@@ -43,7 +43,8 @@ fn are_visible(bytes: &[u8]) -> bool
 impl Name {
     /// The name that the bytes are, or None exactly where they are none.
     pub fn new(alloc: Global, bytes: &[u8]) -> Result<Option<Self>, NoMemory>
-        ensures { IfOk result (λ name. name ≡ (if is_name bytes.now then Some bytes.now else None)) }
+        ensures { IfOk result (λ name.
+            name ≡ (if is_name bytes.now then Some bytes.now else None)) }
     {
         if !is_name(bytes) {
             return Ok(None);

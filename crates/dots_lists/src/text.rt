@@ -20,7 +20,8 @@ impl Model for Text {
 impl Text {
     /// The text that the bytes are, or None exactly where they aren't UTF-8.
     pub fn new(alloc: Global, bytes: &[u8]) -> Result<Option<Self>, NoMemory>
-        ensures some { IfOk result (λ found. IfSome found (λ text. (text ≡ bytes.now) × IsUtf8 bytes.now)) }
+        ensures some { IfOk result (λ found.
+            IfSome found (λ text. (text ≡ bytes.now) × IsUtf8 bytes.now)) }
         ensures none { IfOk result (λ found. IfNone found (¬ IsUtf8 bytes.now)) }
     {
         match str::from_utf8(bytes) {
