@@ -3,3 +3,4 @@ pub mod Ports
 pub mod Prefix
 pub mod PrefixText
 pub mod Puts
+pub mod Laws

@@ -10,6 +10,7 @@ mod address;
 mod bad_prefix;
 mod containment;
 mod family;
+pub mod laws;
 mod parse;
 mod port_range;
 mod prefix;
