@@ -1,5 +1,5 @@
 -- A text is of the form of one prefix at most, and the canonical text of a prefix is read as it.
-use Rattle.std.proofs.Common.{◌≡◌, ◌≢◌, ℕ, ◌*◌, ◌/◌, ◌%◌, ◌<◌, ◌≤◌, List, [], ◌∷◌, ◌++◌, length, get_or, decimal, Ok, subst, refl, sym, ap, ap₂, ◌∙◌, arith, append_assoc, le-leb}
+use Rattle.std.proofs.Common.{◌≡◌, ◌≢◌, ℕ, ◌*◌, ◌/◌, ◌%◌, ◌<◌, ◌≤◌, List, [], ◌∷◌, ◌++◌, length, get_or, decimal, Option, Some, None, IfNone, Ok, subst, refl, sym, ap, ap₂, ◌∙◌, arith, append_assoc, le-leb}
 use Rattle.std.proofs.lemmas.Fmt.{decimal_is_IsNumeral, decimal_injective}
 use Rattle.std.proofs.lemmas.Str.Parse.{digit_at}
 use Rattle.std.proofs.lemmas.Nat.{div-add-mod'}
@@ -62,6 +62,10 @@ text_from text family number len address digits parts split = record {
   is_address = parts.is_address;
   three_digits = parts.three_digits;
 }
+
+pub if_none_from : {A : Type 0} (r : Option A) (P : Type 0) → P → IfNone r P
+if_none_from None P proved = proved
+if_none_from (Some x) P proved = tt
 
 -- one reading
 pub IsPrefixText_unique : (text : List ℕ) (f g : Family) (m n k l : ℕ) → IsPrefixText text f m k → IsPrefixText text g n l → (f ≡ g) × (m ≡ n) × (k ≡ l)

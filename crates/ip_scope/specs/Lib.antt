@@ -1,3 +1,4 @@
+pub mod BadPrefix
 pub mod Family
 pub mod Ports
 pub mod Prefix

@@ -11,6 +11,11 @@ pub enum BadPrefix {
 }
 
 impl fmt::Display for BadPrefix {
+    ghost use Rattle.std.specs.Prelude.{Some};
+    ghost use Rattle.ip_scope.specs.BadPrefix.{refusal_text};
+
+    ghost output = { λ e. Some (refusal_text e) };
+
     fn fmt<W: fmt::Write>(&self, f: &mut fmt::Formatter<W>) -> fmt::Result {
         f.write_str(match self {
             BadPrefix::NotPrefix => "not a prefix",

@@ -1,9 +1,13 @@
 //! IP addresses and prefixes, port ranges, and the text of prefixes.
 //!
-//! The words are those of RFC 4291, RFC 4632, RFC 5952 and RFC 6991. A [`Prefix`] is a family, a number whose
-//! host bits are zero, and a length: contracts see it as a `PrefixValue` of `specs/Prefix.antt`, where
-//! [`inside`], [`meets`] and [`holds`] are defined by whole parts of division. No call takes memory.
-//! Start reading at `specs/Prefix.antt`, then [`Prefix`].
+//! The words are those of RFC 4632, section 3.1 and RFC 4291, section 2.3 for prefixes, of RFC 4291, section 2.2 for
+//! the text that [`parse_prefix`] reads, and of RFC 5952, section 4 for the text that [`write_prefix`] writes.
+//! Contracts see a [`Prefix`] as a `PrefixValue`: a family, a number whose host bits are zero, and a length.
+//! No call takes memory.
+//!
+//! Start reading at `specs/Prefix.antt`, where [`inside`], [`meets`] and [`holds`] are defined by whole parts of
+//! division, and `specs/PrefixText.antt`, which has the grammar. What these come to is said by the contracts in
+//! [`laws`].
 #![tactic(auto)]
 
 mod address;

@@ -10,6 +10,9 @@ use crate::family::Family;
 use crate::prefix::Prefix;
 use std::net::{Ipv4Addr, Ipv6Addr};
 
+/// What stands between the address and the length.
+const SLASH: u8 = b'/';
+
 /// Reads a prefix: an address, a slash, and a length of one to three digits with no leading zero. Host bits are
 /// cleared.
 pub fn parse_prefix(text: &[u8]) -> Result<Prefix, BadPrefix>
@@ -37,15 +40,9 @@ fn read(text: &[u8]) -> Option<(Addr, u16)>
     ensures none { IfNone result ((family : families.Family) (number length : ℕ)
         → ¬ (IsPrefixText text.now family number length)) }
 {
-    let Some((address, digits)) = split_at_last_slash(text) else {
-        return None;
-    };
-    let Some(length) = decimal_of(digits) else {
-        return None;
-    };
-    let Some(addr) = parse_address(address) else {
-        return None;
-    };
+    let (address, digits) = split_at_last_slash(text)?;
+    let length = decimal_of(digits)?;
+    let addr = parse_address(address)?;
     Some((addr, length))
 }
 
@@ -61,12 +58,12 @@ fn with_length(addr: Addr, length: u16) -> Result<Prefix, BadPrefix>
 
 /// What stands before the last slash, and after it.
 fn split_at_last_slash(text: &[u8]) -> Option<(&[u8], &[u8])>
-    ensures found { IfSome result (λ parts. text.now ≡ parts.0.now ++ 47 ∷ parts.1.now) }
-    ensures last { IfSome result (λ parts. (k : ℕ) → k < length parts.1.now → slice_index parts.1.now k ≢ 47) }
-    ensures none { IfNone result ((k : ℕ) → k < length text.now → slice_index text.now k ≢ 47) }
+    ensures found { IfSome result (λ parts. text.now ≡ parts.0.now ++ SLASH ∷ parts.1.now) }
+    ensures last { IfSome result (λ parts. (k : ℕ) → k < length parts.1.now → slice_index parts.1.now k ≢ SLASH) }
+    ensures none { IfNone result ((k : ℕ) → k < length text.now → slice_index text.now k ≢ SLASH) }
 {
     for i in (0..text.len()).rev() {
-        if text[i] == b'/' {
+        if text[i] == SLASH {
             return Some((&text[..i], &text[i + 1..]));
         }
     }

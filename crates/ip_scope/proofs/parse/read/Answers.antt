@@ -1,13 +1,21 @@
-use Rattle.ip_scope.proofs.PrefixTexts.{parts_of}
+use Rattle.std.proofs.Common.{ℕ}
+use Rattle.ip_scope.specs.declared.family.Family.{Family}
+use Rattle.ip_scope.specs.PrefixText.{IsPrefixText}
+use Rattle.ip_scope.proofs.PrefixTexts.{parts_of, if_none_from}
 use Rattle.ip_scope.proofs.parse.read.Goals as goal
 
-pub returns-in_default-decimal_of-clause-none : goal.returns-in_default-decimal_of-clause-none
-returns-in_default-decimal_of-clause-none c = λ family number len is.
-    let parts = parts_of c.args.text.now family number len c.in-Some.address.now c.in-Some.digits.now is c.in-Some.ensures.last c.in-Some.ensures.found in
-    c.in_default-decimal_of.ensures.none len parts.three_digits parts.digits
+pub returns-in_err-length-clause-none : goal.returns-in_err-length-clause-none
+returns-in_err-length-clause-none c =
+    let none : (family : Family) (number len : ℕ) → ¬ (IsPrefixText c.args.text.now family number len) =
+    λ family number len is.
+    let parts = parts_of c.args.text.now family number len c.in_ok-address.address.now c.in_ok-address.digits.now is c.in_ok-address.ensures.last c.in_ok-address.ensures.found in
+    c.in_err-length.ensures.none len parts.three_digits parts.digits in
+    if_none_from _ _ none
 
-pub returns-in_default-parse_address-clause-none :
-    goal.returns-in_default-parse_address-clause-none
-returns-in_default-parse_address-clause-none c = λ family number len is.
-    let parts = parts_of c.args.text.now family number len c.in-Some.address.now c.in-Some.digits.now is c.in-Some.ensures.last c.in-Some.ensures.found in
-    c.in_default-parse_address.ensures.none family number parts.is_address
+pub returns-in_err-addr-clause-none : goal.returns-in_err-addr-clause-none
+returns-in_err-addr-clause-none c =
+    let none : (family : Family) (number len : ℕ) → ¬ (IsPrefixText c.args.text.now family number len) =
+    λ family number len is.
+    let parts = parts_of c.args.text.now family number len c.in_ok-address.address.now c.in_ok-address.digits.now is c.in_ok-address.ensures.last c.in_ok-address.ensures.found in
+    c.in_err-addr.ensures.none family number parts.is_address in
+    if_none_from _ _ none
