@@ -1,9 +1,16 @@
 -- What the code holds of a request, as the machine's words say it.
 use Rattle.std.specs.Prelude.{◌≡◌, ℕ, List}
 use Rattle.std.specs.Str.Parse.{digits_value}
-use Rattle.dots_machine.specs.Requests.{Head, IsHead}
+use Rattle.coap_message.specs.Message.{CoapMessage}
+use Rattle.dots_machine.specs.Requests.{Head, IsHead, request_message}
 use Rattle.dots_run.specs.declared.request_head.RequestHead.{RequestHead}
 
--- the head, with the digits of its mid
-abbrev pub head_with : RequestHead → List ℕ → Head
-head_with head digits = record { identifier = head.identifier; token = head.token.now; cuid = head.cuid.now; digits = digits }
+-- the head that the code's stands for
+abbrev pub head_of : RequestHead → Head
+head_of head = record { identifier = head.identifier; token = head.token.now; cuid = head.cuid.now; digits = head.digits.now }
+
+-- the message has this head, and its mid is worth that
+pub record HasRequestHead (message : CoapMessage) (head : RequestHead) : Type 0 where
+  pub is_head : IsHead (head_of head)
+  pub mid : head.mid ≡ digits_value 10 head.digits.now
+  pub spelled : message ≡ request_message (head_of head) message.payload
