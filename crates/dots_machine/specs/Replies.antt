@@ -14,16 +14,20 @@ bare code identifier token = record { kind = Non; code = code; identifier = iden
 abbrev pub granted_scope : ℕ → ℕ → Tree
 granted_scope mid lifetime = mapping (pair (unsigned 5) (unsigned mid) (pair (unsigned 14) (unsigned lifetime) no_pairs))
 
--- 2.01 Created, with the mid and the granted lifetime
-abbrev pub created : ℕ → List ℕ → ℕ → ℕ → List ℕ
-created identifier token mid lifetime = spelling (record {
+-- 2.01 Created, with a body
+abbrev pub created_message : ℕ → List ℕ → List ℕ → CoapMessage
+created_message identifier token payload = record {
   kind = Non;
   code = 0x41;
   identifier = identifier;
   token = token;
   options = dots_cbor ∷ [];
-  payload = canon (mitigation (granted_scope mid lifetime));
-})
+  payload = payload;
+}
+
+-- 2.01 Created, with the mid and the granted lifetime
+abbrev pub created : ℕ → List ℕ → ℕ → ℕ → List ℕ
+created identifier token mid lifetime = spelling (created_message identifier token (canon (mitigation (granted_scope mid lifetime))))
 
 -- 5.01 Not Implemented without a token, for what isn't served yet
 abbrev pub not_implemented : ℕ → List ℕ

@@ -1,2 +1,3 @@
+pub mod GrantedBody
 pub mod Lines
 pub mod SettingsLines

@@ -2,6 +2,8 @@
 #![tactic(auto)]
 
 mod affixes;
+mod replies;
 mod request_head;
+mod sending;
 mod settings_file;
 mod words;

@@ -1,0 +1,113 @@
+//! The bytes of the replies.
+
+ghost use Rattle.std.specs.Prelude.{◌≡◌, ◌≢◌, ◌≤◌, ◌<◌, ◌^◌, [], ◌∷◌, length, take, IfOk};
+ghost use Rattle.cbor_profile.specs.Tree.{unsigned, array, mapping, no_items, item, no_pairs, pair};
+ghost use Rattle.cbor_profile.specs.Canon.{canon};
+ghost use Rattle.cbor_profile.specs.View.{tree_of};
+ghost use Rattle.coap_message.specs.Message.{spelling};
+ghost use Rattle.dots_machine.specs.Requests.{mitigation};
+ghost use Rattle.dots_machine.specs.Replies.{bare, granted_scope, created_message, created};
+
+use cbor_profile::{Item, ItemList, PairList, encode};
+use coap_message::{Kind, OptionPart, Parts, encode_into, encoded_len};
+use dots_lists::{Bytes, NoMemory};
+use std::alloc::Global;
+
+/// 2.01 Created, 5.00 Internal Server Error and 5.01 Not Implemented (RFC 7252, section 12.1.2).
+const CREATED: u8 = 0x41;
+
+pub const INTERNAL_SERVER_ERROR: u8 = 0xa0;
+
+pub const NOT_IMPLEMENTED: u8 = 0xa1;
+
+/// The most bytes of a reply without options and payload: a header and a token.
+pub const MAX_BARE: usize = 12;
+
+/// Writes a NON reply of a code alone in front of the bytes, and answers how many bytes it has.
+pub fn put_bare(into: &mut [u8; MAX_BARE], code: u8, identifier: u16, token: &[u8]) -> usize
+    requires code { code ≢ 0 }
+    requires token { length token.now ≤ 8 }
+    ensures front { take result into.new ≡ spelling (bare code identifier token.now) }
+    ensures within { result ≤ 12 }
+{
+    let parts = Parts {
+        kind: Kind::Non,
+        code,
+        id: identifier,
+        token,
+        options: &[],
+        values: &[],
+        payload: &[],
+    };
+    encode_into(&parts, into)
+}
+
+/// 2.01 with the mid and the granted lifetime (RFC 9132, section 4.4.1.1).
+pub fn created(
+    alloc: Global,
+    identifier: u16,
+    token: &[u8],
+    mid: u32,
+    lifetime: u32,
+) -> Result<Bytes, NoMemory>
+    requires { length token.now ≤ 8 }
+    ensures { IfOk result (λ reply. reply ≡ created identifier token.now mid lifetime) }
+{
+    let body = granted_body(alloc, mid, lifetime)?;
+    created_with(alloc, identifier, token, body.items())
+}
+
+fn created_with(
+    alloc: Global,
+    identifier: u16,
+    token: &[u8],
+    payload: &[u8],
+) -> Result<Bytes, NoMemory>
+    requires token { length token.now ≤ 8 }
+    requires payload { length payload.now ≤ 128 }
+    ensures { IfOk result (λ reply. reply ≡ spelling (created_message identifier token.now payload.now)) }
+{
+    let parts = Parts {
+        kind: Kind::Non,
+        code: CREATED,
+        id: identifier,
+        token,
+        options: &[OptionPart {
+            number: 12,
+            length: 2,
+        }],
+        values: &[1, 15],
+        payload,
+    };
+    let mut bytes = vec![in alloc; 0; encoded_len(&parts)]?;
+    encode_into(&parts, &mut bytes);
+    Ok(Bytes::from_vec(bytes))
+}
+
+/// {1: {2: [{5: mid, 14: lifetime}]}} in its deterministic encoding.
+fn granted_body(alloc: Global, mid: u32, lifetime: u32) -> Result<Bytes, NoMemory>
+    ensures { IfOk result (λ body. body ≡ canon (mitigation (granted_scope mid lifetime))) }
+{
+    let item = granted_item(alloc, mid, lifetime)?;
+    encode(alloc, &item)
+}
+
+fn granted_item(alloc: Global, mid: u32, lifetime: u32) -> Result<Item, NoMemory>
+    ensures { IfOk result (λ item. tree_of item ≡ mitigation (granted_scope mid lifetime)) }
+{
+    let mut scope = PairList::new(alloc);
+    scope.push((Item::Unsigned(5), Item::Unsigned(u64::from(mid))))?;
+    scope.push((Item::Unsigned(14), Item::Unsigned(u64::from(lifetime))))?;
+    let mut scopes = ItemList::new(alloc);
+    scopes.push(Item::Map(scope))?;
+    let inner = map_of_one(alloc, 2, Item::Array(scopes))?;
+    map_of_one(alloc, 1, inner)
+}
+
+fn map_of_one(alloc: Global, key: u64, value: Item) -> Result<Item, NoMemory>
+    ensures { IfOk result (λ item. tree_of item ≡ mapping (pair (unsigned key) (tree_of value) no_pairs)) }
+{
+    let mut pairs = PairList::new(alloc);
+    pairs.push((Item::Unsigned(key), value))?;
+    Ok(Item::Map(pairs))
+}

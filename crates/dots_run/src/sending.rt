@@ -1,0 +1,29 @@
+ghost use Rattle.std.specs.Prelude.{◌≡◌, ◌≢◌, ◌≤◌, [], ◌∷◌, length};
+ghost use Rattle.coap_message.specs.Message.{spelling};
+ghost use Rattle.dots_host.specs.Runs.{Added, Gives};
+ghost use Rattle.dots_host.specs.declared.out.OwnedOut.TheVariants as owned;
+ghost use Rattle.dots_machine.specs.Replies.{bare};
+
+use crate::replies::{MAX_BARE, put_bare};
+use dots_host::{Out, Wire};
+
+/// Sends a datagram to a peer. Whether it left makes no difference.
+pub fn send_to<W: Wire>(wire: &mut W, peer: u32, bytes: &[u8])
+    ensures acts { Added (W.acts wire.old) (W.acts wire.new) (Gives (owned.To peer bytes.now ∷ [])) }
+    ensures faults { W.faults wire.new ≡ W.faults wire.old }
+{
+    let _ = wire.send(&Out::To { peer, bytes });
+}
+
+/// Sends a reply of a code alone.
+pub fn send_bare<W: Wire>(wire: &mut W, peer: u32, code: u8, identifier: u16, token: &[u8])
+    requires code { code ≢ 0 }
+    requires token { length token.now ≤ 8 }
+    ensures acts { Added (W.acts wire.old) (W.acts wire.new)
+        (Gives (owned.To peer (spelling (bare code identifier token.now)) ∷ [])) }
+    ensures faults { W.faults wire.new ≡ W.faults wire.old }
+{
+    let mut bytes = [0; MAX_BARE];
+    let len = put_bare(&mut bytes, code, identifier, token);
+    send_to(wire, peer, &bytes[..len]);
+}
