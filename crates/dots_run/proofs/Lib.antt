@@ -1,3 +1,6 @@
+pub mod Bodies
+pub mod Counts
 pub mod GrantedBody
 pub mod Lines
 pub mod SettingsLines
+pub mod Targets

@@ -3,6 +3,7 @@
 
 mod affixes;
 mod replies;
+mod request_body;
 mod request_head;
 mod sending;
 mod settings_file;
