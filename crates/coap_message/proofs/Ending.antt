@@ -1,13 +1,16 @@
 -- Options are read one after the other, up to where they end.
-use Rattle.std.proofs.Common.{◌≡◌, ℕ, ◌-◌, ◌^◌, ◌<◌, ◌≤◌, List, [], ◌∷◌, ◌++◌, length, take, drop, Some, None, Result, Ok, Err, ◌≢◌, refl, sym, ap, subst, ◌∙◌, append_assoc, arith}
-use Rattle.std.specs.Result.{OnErr}
+use Rattle.std.proofs.Common.{eqb, false, ◌≡◌, ℕ, ◌-◌, ◌^◌, ◌<◌, ◌≤◌, List, [], ◌∷◌, ◌++◌, length, take, drop, Some, ◌≢◌, refl, sym, ap, subst, ◌∙◌, append_assoc, arith}
 use Rattle.std.proofs.lemmas.List.{take_at, drop_at, length-append, append-nil, nil_from_length}
 use Rattle.std.proofs.Math.Seq.{take-length}
-use Rattle.coap_message.specs.Message.{CoapOption, AreOptions, option_bytes, options_bytes, payload_bytes}
+use Rattle.coap_message.specs.Message.{last_number, CoapOption, AreOptions, option_bytes, options_bytes, payload_bytes}
+use Rattle.std.proofs.lemmas.Bool.{ne_eqb}
+use Rattle.coap_message.specs.declared.fault.CoapFault.{CoapFault}
+use Rattle.coap_message.specs.declared.fault.CoapFault.TheVariants.{EmptyPayload}
+use Rattle.coap_message.specs.Breaks.{OptionsBreak, rest_break, option_break}
 use Rattle.coap_message.specs.Reading.{option_at, options_in, Splits}
 use Rattle.coap_message.proofs.Steps.{IsBytes, IsBytes-drop}
 use Rattle.coap_message.proofs.OneOption.{option_takes}
-use Rattle.coap_message.proofs.OptionList.{last_number, options_again, one_ending, marker_none}
+use Rattle.coap_message.proofs.OptionList.{options_again}
 
 -- Some options were read, and the rest is still to be read.
 pub record SoFar (bytes : List ℕ) (previous : ℕ) (rest : List ℕ) : Type 0 where
@@ -62,23 +65,6 @@ so_far_split bytes previous rest payload so e =
     let same : options_in 0 (take (length bytes - length rest) bytes) ≡ so.options = ap (options_in 0) front ∙ options_again 0 so.options so.are in
     subst (λ (os : List CoapOption). Splits bytes os payload) (sym same) (record { are = so.are; parts = so.parts ∙ ap (λ (y : List ℕ). options_bytes 0 so.options ++ y) e })
 
-pub so_far_stuck : (bytes : List ℕ) (previous : ℕ) (rest : List ℕ) (os : List CoapOption) (payload : List ℕ) → SoFar bytes previous rest → option_at previous rest ≡ None → Splits bytes os payload → rest ≡ payload_bytes payload
-so_far_stuck bytes previous rest os payload so e split =
-    let stuck : option_at (last_number 0 so.options) rest ≡ None = ap (λ (k : ℕ). option_at k rest) so.last ∙ e in
-    (one_ending 0 so.options os rest payload so.are split.are stuck (sym so.parts ∙ split.parts)).1
-
-abbrev first_of : List ℕ → ℕ
-first_of [] = 0
-first_of (b ∷ bs) = b
-
-no_payload : (b : ℕ) (rest payload : List ℕ) → b ≢ 255 → b ∷ rest ≡ payload_bytes payload → ⊥
-no_payload b rest [] differs e = cc
-no_payload b rest (p ∷ payload) differs e = differs (ap first_of e)
-
-no_empty_payload : (payload : List ℕ) → 255 ∷ [] ≡ payload_bytes payload → ⊥
-no_empty_payload [] e = cc
-no_empty_payload (p ∷ payload) e = cc
-
 pub so_far_end : (bytes : List ℕ) (previous : ℕ) (rest : List ℕ) → SoFar bytes previous rest → length rest ≡ 0 → Splits bytes (options_in 0 bytes) rest
 so_far_end bytes previous rest so none =
     let empty : rest ≡ [] = nil_from_length rest none in
@@ -86,21 +72,22 @@ so_far_end bytes previous rest so none =
     let split = so_far_split bytes previous rest rest so (empty ∙ sym (ap payload_bytes empty)) in
     subst (λ (y : List ℕ). Splits bytes (options_in 0 y) rest) (ap (λ (k : ℕ). take k bytes) all ∙ take-length bytes) split
 
--- the marker and nothing behind it
-pub marker_alone : (bytes : List ℕ) (previous : ℕ) (rest : List ℕ) (b : ℕ) (behind : List ℕ) (os : List CoapOption) (payload : List ℕ) → SoFar bytes previous rest → rest ≡ b ∷ behind → b ≡ 255 → length behind ≡ 0 → Splits bytes os payload → ⊥
-marker_alone bytes previous rest b behind os payload so is marker none split =
-    let alone : rest ≡ 255 ∷ [] = is ∙ ap (λ (k : ℕ). k ∷ behind) marker ∙ ap (λ (y : List ℕ). 255 ∷ y) (nil_from_length behind none) in
-    no_empty_payload payload (sym alone ∙ so_far_stuck bytes previous rest os payload so (ap (option_at previous) alone ∙ marker_none previous []) split)
-
 -- the marker and a payload behind it
 pub marker_before : (b : ℕ) (behind : List ℕ) → b ≡ 255 → length behind ≢ 0 → b ∷ behind ≡ payload_bytes behind
 marker_before b [] marker more = absurd (more refl)
 marker_before b (c ∷ cs) marker more = ap (λ (k : ℕ). k ∷ c ∷ cs) marker
 
--- neither an option nor the marker
-pub no_option : (bytes : List ℕ) (previous : ℕ) (rest : List ℕ) (b : ℕ) (behind : List ℕ) → SoFar bytes previous rest → rest ≡ b ∷ behind → b ≢ 255 → option_at previous rest ≡ None → (os : List CoapOption) (payload : List ℕ) → Splits bytes os payload → ⊥
-no_option bytes previous rest b behind so is differs e os payload split = no_payload b behind payload differs (sym is ∙ so_far_stuck bytes previous rest os payload so e split)
+pub so_far_breaks : (end : ℕ) (bytes : List ℕ) (previous : ℕ) (rest : List ℕ) (fault : CoapFault) → SoFar bytes previous rest → rest_break end previous rest ≡ Some fault → OptionsBreak end bytes fault
+so_far_breaks end bytes previous rest fault so e =
+    record { options = so.options; rest = rest; are = so.are; parts = so.parts; breaks = ap (λ (k : ℕ). rest_break end k rest) so.last ∙ e }
 
-pub on_err_all : {A E : Type 0} {P : Type 0} (r : Result A E) → P → OnErr r P
-on_err_all (Ok x) p = tt
-on_err_all (Err e) p = p
+-- the marker and nothing behind it
+pub marker_alone : (end previous : ℕ) (rest : List ℕ) (b : ℕ) (behind : List ℕ) → rest ≡ b ∷ behind → b ≡ 255 → length behind ≡ 0 → rest_break end previous rest ≡ Some (EmptyPayload (end - 1))
+marker_alone end previous rest b behind is marker none =
+    ap (rest_break end previous) (is ∙ ap (λ (k : ℕ). k ∷ behind) marker ∙ ap (λ (y : List ℕ). 255 ∷ y) (nil_from_length behind none)) ∙ refl
+
+-- not the marker
+pub no_marker : (end previous : ℕ) (rest : List ℕ) (b : ℕ) (behind : List ℕ) (fault : CoapFault) → rest ≡ b ∷ behind → b ≢ 255 → option_break end previous rest ≡ Some fault → rest_break end previous rest ≡ Some fault
+no_marker end previous rest b behind fault is differs e =
+    let t : eqb b 255 ≡ false = ne_eqb b 255 differs in
+    ap (rest_break end previous) is ∙ rw t (ap (option_break end previous) (sym is) ∙ e)

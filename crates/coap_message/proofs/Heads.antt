@@ -8,7 +8,6 @@ use Rattle.coap_message.specs.declared.kind.Kind.{Kind}
 use Rattle.coap_message.specs.declared.kind.Kind.TheVariants.{Con, Non, Ack, Rst}
 use Rattle.coap_message.specs.Message.{kind_number, header}
 use Rattle.coap_message.specs.Reading.{Head, kind_of, head_at}
-use Rattle.coap_message.specs.Salvage.{salvaged}
 use Rattle.coap_message.proofs.Steps.{IsBytes, IsBytes-drop, some_is, some, guard_some}
 use Rattle.coap_message.proofs.Extended.{two_fit}
 
@@ -31,7 +30,7 @@ kind_bound Non = omega arith
 kind_bound Ack = omega arith
 kind_bound Rst = omega arith
 
-not_false : (b : Bool) → not b ≡ false → b ≡ true
+pub not_false : (b : Bool) → not b ≡ false → b ≡ true
 not_false true e = refl
 not_false false e = absurd cc
 
@@ -107,15 +106,6 @@ again_by k first code high low token rest version size kind bound empty =
     = passes_empty code (length token) (length (token ++ rest)) (λ h. let none = empty h in (ap (λ (y : List ℕ). length y) none.0, rw (none.0, none.1) refl)) in
     let v : ltb (length (token ++ rest)) (length token) ≡ false = le-ltb (length (token ++ rest)) (length token) (omega (arith, length-append token rest)) in
     rw (version, size, kind, kind_again k, t, u, v, take_at token rest (length token) refl, drop_at token rest (length token) refl) refl
-
-pub salvaged_again : (k : Kind) (code identifier : ℕ) (token rest : List ℕ) → identifier < 2 ^ 16 → length token ≤ 8 → salvaged (header k code identifier token ++ rest) ≡ Some (k, identifier)
-salvaged_again k code identifier token rest id size =
-    let bound = kind_bound k in
-    let first = 64 + 16 * kind_number k + length token in
-    let version : first / 64 ≡ 1 = omega arith in
-    let bits : first / 16 % 4 ≡ kind_number k = omega arith in
-    let back : from_be_bytes w16 (to_be_bytes w16 identifier) ≡ identifier = from_be_bytes-to_be_bytes_2 identifier id in
-    rw (version, bits, kind_again k) (ap (λ (n : ℕ). some (k, n)) back)
 
 pub head_again : (k : Kind) (code identifier : ℕ) (token rest : List ℕ) → identifier < 2 ^ 16 → length token ≤ 8 → (code ≡ 0 → (token ≡ []) × (rest ≡ []))
     → head_at (header k code identifier token ++ rest) ≡ Some (record { kind = k; code = code; identifier = identifier; token = token }, rest)

@@ -7,3 +7,4 @@ pub mod Heads
 pub mod Whole
 pub mod PutAt
 pub mod Put
+pub mod Faults

@@ -2,7 +2,7 @@
 use Rattle.std.proofs.Common.{◌≡◌, ℕ, zero, suc, ◌+◌, ◌/◌, ◌%◌, ◌<◌, ◌≤◌, cond, ltb, List, [], ◌∷◌, ◌++◌, length, take, drop, Option, Some, None, refl, sym, ap, subst, ◌∙◌, append_assoc, arith, inl, inr}
 use Rattle.std.specs.Prelude.{◌⊎◌}
 use Rattle.std.proofs.lemmas.List.{length-drop}
-use Rattle.coap_message.specs.Message.{CoapOption, AreOptions, option_bytes, options_bytes, payload_bytes}
+use Rattle.coap_message.specs.Message.{last_number, CoapOption, AreOptions, option_bytes, options_bytes, payload_bytes}
 use Rattle.coap_message.specs.Reading.{◌>>=◌, extended_at, option_at, options_within, options_in}
 use Rattle.coap_message.proofs.Steps.{bind_some, some_is, guard_some}
 use Rattle.coap_message.proofs.Extended.{extended_shorter}
@@ -73,11 +73,6 @@ options_again previous (o ∷ os) are =
     options_step previous (option_bytes previous o ++ options_bytes o.number os) o (options_bytes o.number os) (option_again previous o (options_bytes o.number os) are.0 are.1 are.2)
     ∙ ap (λ (rest : List CoapOption). o ∷ rest) (options_again o.number os are.3)
 
--- the number of the last option
-abbrev pub last_number : ℕ → List CoapOption → ℕ
-last_number previous [] = previous
-last_number previous (o ∷ os) = last_number o.number os
-
 pub marker_none : (previous : ℕ) (rest : List ℕ) → option_at previous (255 ∷ rest) ≡ None
 unfolding option_at extended_at
 marker_none previous rest = refl
@@ -87,35 +82,34 @@ unfolding option_at extended_at
 payload_none previous [] = refl
 payload_none previous (b ∷ bs) = refl
 
-one_more : (o p : CoapOption) (os others : List CoapOption) (rest payload : List ℕ) → o ≡ p → AreOptions o.number os → AreOptions o.number others → option_at (last_number o.number os) rest ≡ None
-    → options_bytes o.number os ++ rest ≡ options_bytes o.number others ++ payload_bytes payload
-    → (AreOptions o.number os → AreOptions o.number others → option_at (last_number o.number os) rest ≡ None → options_bytes o.number os ++ rest ≡ options_bytes o.number others ++ payload_bytes payload → (os ≡ others) × (rest ≡ payload_bytes payload))
-    → (o ∷ os ≡ p ∷ others) × (rest ≡ payload_bytes payload)
-one_more o p os others rest payload same a b stuck e further =
-    let done = further a b stuck e in
+one_more : (o p : CoapOption) (os others : List CoapOption) (rest rest' : List ℕ) → o ≡ p → AreOptions o.number os → AreOptions o.number others → option_at (last_number o.number os) rest ≡ None → option_at (last_number o.number others) rest' ≡ None
+    → options_bytes o.number os ++ rest ≡ options_bytes o.number others ++ rest'
+    → (AreOptions o.number os → AreOptions o.number others → option_at (last_number o.number os) rest ≡ None → option_at (last_number o.number others) rest' ≡ None → options_bytes o.number os ++ rest ≡ options_bytes o.number others ++ rest' → (os ≡ others) × (rest ≡ rest'))
+    → (o ∷ os ≡ p ∷ others) × (rest ≡ rest')
+one_more o p os others rest rest' same a b stuck stuck' e further =
+    let done = further a b stuck stuck' e in
     let tails = done.0 in
     (cc, done.1)
 
 -- Where options are followed by what is no option, the options and what follows are the only ones.
-pub one_ending : (previous : ℕ) (os others : List CoapOption) (rest payload : List ℕ) → AreOptions previous os → AreOptions previous others → option_at (last_number previous os) rest ≡ None
-    → options_bytes previous os ++ rest ≡ options_bytes previous others ++ payload_bytes payload → (os ≡ others) × (rest ≡ payload_bytes payload)
-one_ending previous [] [] rest payload a b stuck e = (refl, e)
-one_ending previous [] (o ∷ others) rest payload a b stuck e =
-    let tail = options_bytes o.number others ++ payload_bytes payload in
-    let read : option_at previous rest ≡ Some (o, tail) = ap (option_at previous) (e ∙ append_assoc (option_bytes previous o) (options_bytes o.number others) (payload_bytes payload)) ∙ option_again previous o tail b.0 b.1 b.2 in
+pub one_ending : (previous : ℕ) (os others : List CoapOption) (rest rest' : List ℕ) → AreOptions previous os → AreOptions previous others → option_at (last_number previous os) rest ≡ None → option_at (last_number previous others) rest' ≡ None
+    → options_bytes previous os ++ rest ≡ options_bytes previous others ++ rest' → (os ≡ others) × (rest ≡ rest')
+one_ending previous [] [] rest rest' a b stuck stuck' e = (refl, e)
+one_ending previous [] (o ∷ others) rest rest' a b stuck stuck' e =
+    let tail = options_bytes o.number others ++ rest' in
+    let read : option_at previous rest ≡ Some (o, tail) = ap (option_at previous) (e ∙ append_assoc (option_bytes previous o) (options_bytes o.number others) rest') ∙ option_again previous o tail b.0 b.1 b.2 in
     absurd cc
-one_ending previous (o ∷ os) [] rest payload a b stuck e =
+one_ending previous (o ∷ os) [] rest rest' a b stuck stuck' e =
     let tail = options_bytes o.number os ++ rest in
-    let read : option_at previous (payload_bytes payload) ≡ Some (o, tail) = ap (option_at previous) (sym e ∙ append_assoc (option_bytes previous o) (options_bytes o.number os) rest) ∙ option_again previous o tail a.0 a.1 a.2 in
-    let none = payload_none previous payload in
+    let read : option_at previous rest' ≡ Some (o, tail) = ap (option_at previous) (sym e ∙ append_assoc (option_bytes previous o) (options_bytes o.number os) rest) ∙ option_again previous o tail a.0 a.1 a.2 in
     absurd cc
-one_ending previous (o ∷ os) (p ∷ others) rest payload a b stuck e =
+one_ending previous (o ∷ os) (p ∷ others) rest rest' a b stuck stuck' e =
     let tail = options_bytes o.number os ++ rest in
-    let tail' = options_bytes p.number others ++ payload_bytes payload in
+    let tail' = options_bytes p.number others ++ rest' in
     let left : option_at previous (options_bytes previous (o ∷ os) ++ rest) ≡ Some (o, tail) = ap (option_at previous) (append_assoc (option_bytes previous o) (options_bytes o.number os) rest) ∙ option_again previous o tail a.0 a.1 a.2 in
-    let right : option_at previous (options_bytes previous (p ∷ others) ++ payload_bytes payload) ≡ Some (p, tail') = ap (option_at previous) (append_assoc (option_bytes previous p) (options_bytes p.number others) (payload_bytes payload)) ∙ option_again previous p tail' b.0 b.1 b.2 in
+    let right : option_at previous (options_bytes previous (p ∷ others) ++ rest') ≡ Some (p, tail') = ap (option_at previous) (append_assoc (option_bytes previous p) (options_bytes p.number others) rest') ∙ option_again previous p tail' b.0 b.1 b.2 in
     let both : (o, tail) ≡ (p, tail') = some_is (o, tail) (p, tail') (sym left ∙ ap (option_at previous) e ∙ right) in
     let same : o ≡ p = ap (λ (x : CoapOption × List ℕ). x.0) both in
     let behind : tail ≡ tail' = ap (λ (x : CoapOption × List ℕ). x.1) both in
-    one_more o p os others rest payload same a.3 (subst (λ (k : CoapOption). AreOptions k.number others) (sym same) b.3) stuck
-    (behind ∙ ap (λ (k : CoapOption). options_bytes k.number others ++ payload_bytes payload) (sym same)) (one_ending o.number os others rest payload)
+    one_more o p os others rest rest' same a.3 (subst (λ (k : CoapOption). AreOptions k.number others) (sym same) b.3) stuck (subst (λ (k : CoapOption). option_at (last_number k.number others) rest' ≡ None) (sym same) stuck')
+    (behind ∙ ap (λ (k : CoapOption). options_bytes k.number others ++ rest') (sym same)) (one_ending o.number os others rest rest')

@@ -1,11 +1,10 @@
 -- A message that is read is the one that was written, and no other is.
 use Rattle.std.proofs.Common.{◌≡◌, ℕ, List, [], ◌∷◌, ◌++◌, Some, None, refl, sym, ap, ◌∙◌, append_assoc}
-use Rattle.coap_message.specs.Message.{CoapOption, CoapMessage, IsMessage, header, options_bytes, payload_bytes, spelling}
+use Rattle.coap_message.specs.Message.{last_number, CoapOption, CoapMessage, IsMessage, header, options_bytes, payload_bytes, spelling}
 use Rattle.coap_message.specs.Reading.{Head, head_at, Splits}
-use Rattle.coap_message.specs.Salvage.{salvaged}
 use Rattle.coap_message.proofs.Steps.{IsBytes, some_is}
-use Rattle.coap_message.proofs.Heads.{head_takes, head_again, salvaged_again}
-use Rattle.coap_message.proofs.OptionList.{one_ending, last_number, payload_none}
+use Rattle.coap_message.proofs.Heads.{head_takes, head_again}
+use Rattle.coap_message.proofs.OptionList.{one_ending, payload_none}
 
 abbrev pub with_rest : Head → List CoapOption → List ℕ → CoapMessage
 with_rest head options payload = record { kind = head.kind; code = head.code; identifier = head.identifier; token = head.token; options = options; payload = payload }
@@ -60,7 +59,7 @@ one_payload (a ∷ rest) (b ∷ bs) e = cc
 
 pub one_split : (bytes : List ℕ) (os others : List CoapOption) (payload other : List ℕ) → Splits bytes os payload → Splits bytes others other → (os ≡ others) × (payload ≡ other)
 one_split bytes os others payload other a b =
-    let ends = one_ending 0 os others (payload_bytes payload) other a.are b.are (payload_none (last_number 0 os) payload) (sym a.parts ∙ b.parts) in
+    let ends = one_ending 0 os others (payload_bytes payload) (payload_bytes other) a.are b.are (payload_none (last_number 0 os) payload) (payload_none (last_number 0 others) other) (sym a.parts ∙ b.parts) in
     (ends.0, one_payload payload other ends.1)
 
 -- no bytes spell two messages
@@ -72,8 +71,3 @@ one_message m n is are e =
     ap (λ (h : Head). with_rest h m.options m.payload) right.0
     ∙ ap (λ (os : List CoapOption). with_rest (head_of n) os m.payload) split.0
     ∙ ap (λ (p : List ℕ). with_rest (head_of n) n.options p) split.1
-
-pub whole_salvaged : (bytes : List ℕ) (m : CoapMessage) → IsMessage m → bytes ≡ spelling m → salvaged bytes ≡ Some (m.kind, m.identifier)
-whole_salvaged bytes m is spelled =
-    ap salvaged (spelled ∙ append_assoc (header m.kind m.code m.identifier m.token) (options_bytes 0 m.options) (payload_bytes m.payload))
-    ∙ salvaged_again m.kind m.code m.identifier m.token (options_bytes 0 m.options ++ payload_bytes m.payload) is.identifier is.token

@@ -5,3 +5,4 @@ pub mod Parts
 pub mod Writing
 pub mod Padding
 pub mod Salvage
+pub mod Breaks

@@ -22,6 +22,11 @@ abbrev pub AreOptions : ℕ → List CoapOption → Type 0
 AreOptions previous [] = Unit {0}
 AreOptions previous (o ∷ os) = (previous ≤ o.number) × (o.number < 2 ^ 16) × (length o.value ≤ 65804) × AreOptions o.number os
 
+-- the number of the last option
+abbrev pub last_number : ℕ → List CoapOption → ℕ
+last_number previous [] = previous
+last_number previous (o ∷ os) = last_number o.number os
+
 -- code 0.00 has nothing but the identifier (section 4.1)
 abbrev pub IsEmptyMessage : CoapMessage → Type 0
 IsEmptyMessage m = (m.token ≡ []) × (m.options ≡ []) × (m.payload ≡ [])

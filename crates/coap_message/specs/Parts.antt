@@ -1,5 +1,6 @@
 -- The parts that a message is written from.
 use Rattle.std.specs.Prelude.{◌≡◌, ℕ, ◌^◌, ◌<◌, ◌≤◌, List, [], ◌∷◌, length, take, drop, sum_by}
+use Rattle.std.specs.List.{AllByRecursion}
 use Rattle.coap_message.specs.declared.parts.OptionPart.{OptionPart}
 use Rattle.coap_message.specs.declared.parts.Parts.{Parts}
 use Rattle.coap_message.specs.Message.{CoapOption, CoapMessage, spelling}
@@ -24,3 +25,9 @@ pub record IsValid (parts : Parts) : Type 0 where
   -- code 0.00 has nothing but the identifier
   pub empty : parts.code ≡ 0 → (parts.token.now ≡ []) × (parts.options.now ≡ []) × (parts.payload.now ≡ [])
   pub size : length (spelling (message_of parts)) < 2 ^ 64
+
+-- what the types of the parts say
+pub record InRange (parts : Parts) : Type 0 where
+  pub code : parts.code < 256
+  pub id : parts.id < 2 ^ 16
+  pub numbers : AllByRecursion (λ part. part.number < 2 ^ 16) parts.options.now

@@ -1,5 +1,6 @@
-ghost use Rattle.std.specs.Prelude.{◌≡◌, ℕ, List, IfOk, OnErr, Ok};
-ghost use Rattle.coap_message.specs.Message.{CoapOption, CoapMessage, IsMessage, spelling};
+ghost use Rattle.std.specs.Prelude.{◌≡◌, ◌≤◌, length, IfOk, IfErr, Ok};
+ghost use Rattle.coap_message.specs.Breaks.{Breaks, OptionsBreak};
+ghost use Rattle.coap_message.specs.Message.{CoapMessage, IsMessage, spelling};
 ghost use Rattle.coap_message.specs.Reading.{Splits, options_in};
 
 use crate::PAYLOAD_MARKER;
@@ -8,35 +9,38 @@ use crate::head_reading::read_head;
 use crate::message::Message;
 use crate::option_reading::read_option;
 
-/// The bytes of the options, and the payload behind them.
-fn split_options(bytes: &[u8]) -> Result<(&[u8], &[u8]), CoapFault>
+/// The bytes of the options, and the payload behind them. The bytes end at the place `end`.
+fn split_options(end: usize, bytes: &[u8]) -> Result<(&[u8], &[u8]), CoapFault>
+    requires { length bytes.now ≤ end }
     ensures found { IfOk result (λ x. Splits bytes.now (options_in 0 x.0.now) x.1.now) }
-    ensures none { OnErr result ((options : List CoapOption) (payload : List ℕ) → Splits bytes.now options payload → ⊥) }
+    ensures breaks { IfErr result (λ fault. OptionsBreak end bytes.now fault) }
 {
     let mut previous = 0;
     let mut rest = bytes;
     while let Some((first, behind)) = rest.split_first() {
         if *first == PAYLOAD_MARKER {
             if behind.is_empty() {
-                return Err(CoapFault::Unread);
+                return Err(CoapFault::EmptyPayload { at: end - 1 });
             }
             return Ok((&bytes[..bytes.len() - rest.len()], behind));
         }
-        let (row, behind) = read_option(previous, rest)?;
+        let (row, behind) = read_option(end, previous, rest)?;
         previous = row.number;
         rest = behind;
     }
     Ok((bytes, rest))
 }
 
-/// The message that the bytes spell (RFC 7252, section 3).
+/// The message that the bytes spell, or their first fault (RFC 7252, section 3).
 pub fn decode(bytes: &[u8]) -> Result<Message<'_>, CoapFault>
     // What is read is spelled so.
     ensures found { IfOk result (λ m. IsMessage m × (bytes.now ≡ spelling m)) }
     // What is spelled so is read.
     ensures only { (m : CoapMessage) → IsMessage m → bytes.now ≡ spelling m → result ≡ Ok m }
+    // Else it is the first fault.
+    ensures breaks { IfErr result (λ fault. Breaks bytes.now fault) }
 {
     let (head, rest) = read_head(bytes)?;
-    let (options, payload) = split_options(rest)?;
+    let (options, payload) = split_options(bytes.len(), rest)?;
     Ok(Message::new(head, options, payload))
 }

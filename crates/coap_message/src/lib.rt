@@ -9,6 +9,7 @@ mod fault;
 mod head;
 mod head_reading;
 mod kind;
+pub mod laws;
 mod message;
 mod option;
 mod option_reading;
@@ -31,3 +32,6 @@ pub use token::Token;
 
 /// The byte in front of a payload (RFC 7252, section 3).
 const PAYLOAD_MARKER: u8 = 0xff;
+
+#[cfg(test)]
+mod tests;

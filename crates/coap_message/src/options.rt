@@ -31,7 +31,7 @@ impl<'a> Iterator for Options<'a> {
 
     #[tactic(auto, using(crate::proofs::OptionList::options_none, crate::proofs::OptionList::options_step))]
     fn next(&mut self) -> Option<OptionRow<'a>> {
-        let Ok((row, rest)) = read_option(self.previous, self.rest) else {
+        let Ok((row, rest)) = read_option(self.rest.len(), self.previous, self.rest) else {
             return None;
         };
         self.previous = row.number;

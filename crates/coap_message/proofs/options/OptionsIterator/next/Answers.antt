@@ -4,7 +4,7 @@ use Rattle.coap_message.proofs.OptionList.{options_step}
 use Rattle.coap_message.proofs.options.OptionsIterator.next.Goals as goal
 
 pub returns-clause-steps : goal.returns-clause-steps
-returns-clause-steps c = sym c.self.view_is ∙ options_step _ _ (row_view c.in-Ok.row) _ c.in-Ok.ensures
+returns-clause-steps c = sym c.self.view_is ∙ options_step _ _ (row_view c.in-Ok.row) _ c.in-Ok.ensures.read
 
 pub returns-clause-goes : goal.returns-clause-goes
-returns-clause-goes c = let step = sym c.self.view_is ∙ options_step _ _ (row_view c.in-Ok.row) _ c.in-Ok.ensures in rw step (search rules)
+returns-clause-goes c = let step = sym c.self.view_is ∙ options_step _ _ (row_view c.in-Ok.row) _ c.in-Ok.ensures.read in rw step (search rules)

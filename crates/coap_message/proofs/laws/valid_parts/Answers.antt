@@ -1,0 +1,5 @@
+use Rattle.coap_message.proofs.Put.{parts_message}
+use Rattle.coap_message.proofs.laws.valid_parts.Goals as goal
+
+pub returns : goal.returns
+returns c parts valid ranges = parts_message parts valid ranges
