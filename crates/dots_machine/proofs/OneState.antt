@@ -1,15 +1,16 @@
 -- The sends of a step fix the state after it, so a list of acts fixes one state.
-use Rattle.std.proofs.Common.{◌≡◌, ℕ, Bool, true, false, List, ◌∷◌, inl, inr, refl, ◌==◌, sym, ap, ◌∙◌, subst, cond, arith}
+use Rattle.std.proofs.Common.{◌≡◌, ℕ, [], Bool, true, false, List, ◌∷◌, inl, inr, refl, ◌==◌, sym, ap, ◌∙◌, subst, cond, arith}
 use Rattle.dots_host.specs.declared.event.Event.{Event}
 use Rattle.dots_host.specs.declared.event.Event.TheVariants as event
 use Rattle.dots_host.specs.declared.out.OwnedOut.{OwnedOut}
+use Rattle.dots_host.specs.declared.out.OwnedOut.TheVariants as owned
 use Rattle.dots_host.specs.Acts.{Timed}
 use Rattle.dots_host.specs.Runs.{resting, Trace, in_one_turn}
 use Rattle.dots_host.proofs.RunLemmas.{one_run, one_turn_determined}
 use Rattle.dots_machine.specs.declared.settings.Settings.{Settings}
 use Rattle.dots_machine.specs.Requests.{Heard, short, other, asked}
 use Rattle.dots_machine.specs.Replies.{not_implemented, unavailable}
-use Rattle.dots_machine.specs.Machine.{State, moved, Verdict, silent, refuse, accept, verdict, client_verdict, accepts, reply_to, entry_of, Answers, Answered, IsUnavailable, Step}
+use Rattle.dots_machine.specs.Machine.{State, moved, Verdict, silent, refuse, accept, verdict, accepts, reply_to, entry_of, Answers, Answered, by_silence, by_verdict, for_want_of_memory, Step}
 use Rattle.dots_machine.proofs.OneRequest.{one_heard}
 
 -- one verdict leads to one state
@@ -31,38 +32,37 @@ chosen_created : (b : Bool) (v w : Verdict) → IsCreated v → IsCreated w → 
 chosen_created true v w a c = a
 chosen_created false v w a c = c
 
-client_created : (settings : Settings) (state : State) (peer : ℕ) (heard : Heard) → IsCreated (client_verdict settings state peer heard)
-client_created settings state peer short = tt
-client_created settings state peer (other i) = tt
-client_created settings state peer (asked r) =
+verdict_created : (settings : Settings) (state : State) (peer : ℕ) (heard : Heard) → IsCreated (verdict settings state peer heard)
+verdict_created settings state peer short = tt
+verdict_created settings state peer (other i) = tt
+verdict_created settings state peer (asked r) =
     chosen_created (accepts settings state r) (accept (reply_to r) (entry_of peer state.time r)) (refuse (not_implemented r.identifier)) refl tt
 
-verdict_created : (settings : Settings) (state : State) (peer : ℕ) (heard : Heard) → IsCreated (verdict settings state peer heard)
-verdict_created settings state peer heard =
-    chosen_created (peer == settings.peer) (client_verdict settings state peer heard) silent (client_created settings state peer heard) tt
-
 -- 5.00 changes nothing, and is no reply to an accepted request
-by_verdict : (v : Verdict) (settings : Settings) (peer : ℕ) (datagram : List ℕ) (state : State) (sends : List OwnedOut) (new last : State)
-    → IsCreated v → Answers v peer state sends new → IsUnavailable settings peer datagram state sends last → new ≡ last
-by_verdict silent settings peer datagram state sends new last c a b = a.1 ∙ sym b.kept
-by_verdict (refuse reply) settings peer datagram state sends new last c a b = a.1 ∙ sym b.kept
-by_verdict (accept reply entry) settings peer datagram state sends new last c a b =
-    let same : reply ≡ unavailable b.head.identifier b.head.token = cc (sym a.0 ∙ b.sent) in
-    let code : 0x41 ≡ code_of (unavailable b.head.identifier b.head.token) = sym c ∙ ap code_of same in
+kept_or_created : (v : Verdict) (peer identifier : ℕ) (token : List ℕ) (state : State) (sends : List OwnedOut) (new last : State)
+    → IsCreated v → Answers v peer state sends new → sends ≡ owned.To peer (unavailable identifier token) ∷ [] → last ≡ state → new ≡ last
+kept_or_created silent peer identifier token state sends new last c a sent kept = a.1 ∙ sym kept
+kept_or_created (refuse reply) peer identifier token state sends new last c a sent kept = a.1 ∙ sym kept
+kept_or_created (accept reply entry) peer identifier token state sends new last c a sent kept =
+    let same : reply ≡ unavailable identifier token = cc (sym a.0 ∙ sent) in
+    let code : 0x41 ≡ code_of (unavailable identifier token) = sym c ∙ ap code_of same in
     absurd (omega arith)
 
-mixed : (settings : Settings) (state : State) (peer : ℕ) (datagram : List ℕ) (heard : Heard) (sends : List OwnedOut) (new last : State)
-    → Answers (verdict settings state peer heard) peer state sends new → IsUnavailable settings peer datagram state sends last → new ≡ last
-mixed settings state peer datagram heard sends new last a b =
-    by_verdict (verdict settings state peer heard) settings peer datagram state sends new last (verdict_created settings state peer heard) a b
-
-answered_once : (settings : Settings) (peer : ℕ) (datagram : List ℕ) (state : State) (sends : List OwnedOut) (new last : State) → Answered settings peer datagram state sends new → Answered settings peer datagram state sends last → new ≡ last
-answered_once settings peer datagram state sends new last (inl a) (inl b) =
-    let same = one_heard datagram a.0 b.0 a.1 b.1 in
-    same_answer (verdict settings state peer b.0) peer state sends sends new last (subst (λ heard. Answers (verdict settings state peer heard) peer state sends new) same a.2) b.2
-answered_once settings peer datagram state sends new last (inl a) (inr b) = mixed settings state peer datagram a.0 sends new last a.2 b
-answered_once settings peer datagram state sends new last (inr a) (inl b) = sym (mixed settings state peer datagram b.0 sends last new b.2 a)
-answered_once settings peer datagram state sends new last (inr a) (inr b) = a.kept ∙ sym b.kept
+answered_once : (settings : Settings) (peer : ℕ) (datagram : List ℕ) (state : State) (sends : List OwnedOut) (new last : State)
+    → Answered settings peer datagram state sends new → Answered settings peer datagram state sends last → new ≡ last
+answered_once settings peer datagram state sends new last (by_silence n s k) (by_silence m t j) = k ∙ sym j
+answered_once settings peer datagram state sends new last (by_silence n s k) (by_verdict m h r a) = absurd (n m)
+answered_once settings peer datagram state sends new last (by_silence n s k) (for_want_of_memory m h p r t j) = absurd (n m)
+answered_once settings peer datagram state sends new last (by_verdict m h r a) (by_silence n s k) = absurd (n m)
+answered_once settings peer datagram state sends new last (by_verdict m h r a) (by_verdict n g q b) =
+    let same = one_heard datagram h g r q in
+    same_answer (verdict settings state peer g) peer state sends sends new last (subst (λ heard. Answers (verdict settings state peer heard) peer state sends new) same a) b
+answered_once settings peer datagram state sends new last (by_verdict m h r a) (for_want_of_memory n g p q t j) =
+    kept_or_created (verdict settings state peer h) peer g.identifier g.token state sends new last (verdict_created settings state peer h) a t j
+answered_once settings peer datagram state sends new last (for_want_of_memory m h p r t j) (by_silence n s k) = absurd (n m)
+answered_once settings peer datagram state sends new last (for_want_of_memory m h p r t j) (by_verdict n g q a) =
+    sym (kept_or_created (verdict settings state peer g) peer h.identifier h.token state sends last new (verdict_created settings state peer g) a t j)
+answered_once settings peer datagram state sends new last (for_want_of_memory m h p r t j) (for_want_of_memory n g o q u k) = j ∙ sym k
 
 step_once : (settings : Settings) (old : State) (event : Event) (at : ℕ) (sends : List OwnedOut) (new last : State) → Step settings old event at sends new → Step settings old event at sends last → new ≡ last
 step_once settings old (event.Datagram peer datagram) at sends new last a b = answered_once settings peer datagram (moved old at) sends new last a b

@@ -1,5 +1,5 @@
 -- The machine: its state, what it decides on a datagram, and a step.
-use Rattle.std.specs.Prelude.{◌≡◌, ℕ, Bool, true, false, ◌&&◌, ◌==◌, min, max, if◌then◌else◌, List, [], ◌∷◌, ◌++◌, ◌⊎◌}
+use Rattle.std.specs.Prelude.{◌≡◌, ◌≢◌, ℕ, Bool, true, false, ◌&&◌, ◌==◌, min, max, if◌then◌else◌, List, [], ◌∷◌, ◌++◌, ◌⊎◌}
 use Rattle.std.specs.List.{list_all}
 use Rattle.dots_host.specs.declared.event.Event.{Event}
 use Rattle.dots_host.specs.declared.event.Event.TheVariants as event
@@ -62,16 +62,12 @@ pub data Verdict : Type 0 where
   accept : List ℕ → Entry → Verdict
 
 -- on what a client sent
-abbrev pub client_verdict : Settings → State → ℕ → Heard → Verdict
-client_verdict settings state peer short = silent
-client_verdict settings state peer (other identifier) = refuse (not_implemented identifier)
-client_verdict settings state peer (asked request) =
+abbrev pub verdict : Settings → State → ℕ → Heard → Verdict
+verdict settings state peer short = silent
+verdict settings state peer (other identifier) = refuse (not_implemented identifier)
+verdict settings state peer (asked request) =
     if accepts settings state request then accept (reply_to request) (entry_of peer state.time request)
     else refuse (not_implemented request.identifier)
-
--- A stranger, who is no client by the settings, gets no answer.
-abbrev pub verdict : Settings → State → ℕ → Heard → Verdict
-verdict settings state peer heard = if peer == settings.peer then client_verdict settings state peer heard else silent
 
 -- the sends that a verdict makes, and the state after it
 abbrev pub Answers : Verdict → ℕ → State → List OwnedOut → State → Type 0
@@ -79,20 +75,14 @@ Answers silent peer state sends new = (sends ≡ []) × (new ≡ state)
 Answers (refuse reply) peer state sends new = (sends ≡ owned.To peer reply ∷ []) × (new ≡ state)
 Answers (accept reply entry) peer state sends new = (sends ≡ owned.To peer reply ∷ []) × (new ≡ with_entry state entry)
 
--- Want of memory: a client's datagram whose header and options are those of a request is answered 5.00 and changes nothing.
-pub record IsUnavailable (settings : Settings) (peer : ℕ) (datagram : List ℕ) (state : State) (sends : List OwnedOut) (new : State) : Type 0 where
-  pub client : peer ≡ settings.peer
-  pub head : Head
-  pub payload : List ℕ
-  pub has_head : HasHead datagram head payload
-  pub sent : sends ≡ owned.To peer (unavailable head.identifier head.token) ∷ []
-  pub kept : new ≡ state
-
--- a datagram is answered by its verdict, or by want of memory
-abbrev pub Answered : Settings → ℕ → List ℕ → State → List OwnedOut → State → Type 0
-Answered settings peer datagram state sends new =
-    ((heard : Heard) × Hears datagram heard × Answers (verdict settings state peer heard) peer state sends new)
-    ⊎ IsUnavailable settings peer datagram state sends new
+-- How a datagram is answered: that of a stranger, who is no client by the settings, by silence; that of a client by its
+-- verdict, or, where its header and options are those of a request, by 5.00 for want of memory.
+pub data Answered (settings : Settings) (peer : ℕ) (datagram : List ℕ) (state : State) (sends : List OwnedOut) (new : State) : Type 0 where
+  by_silence : peer ≢ settings.peer → sends ≡ [] → new ≡ state → Answered settings peer datagram state sends new
+  by_verdict : peer ≡ settings.peer → (heard : Heard) → Hears datagram heard → Answers (verdict settings state peer heard) peer state sends new
+      → Answered settings peer datagram state sends new
+  for_want_of_memory : peer ≡ settings.peer → (head : Head) (payload : List ℕ) → HasHead datagram head payload
+      → sends ≡ owned.To peer (unavailable head.identifier head.token) ∷ [] → new ≡ state → Answered settings peer datagram state sends new
 
 -- One event: its sends, and the state after it. End and a failure of the host move no time; what isn't served yet moves the time and no more.
 abbrev pub Step : Settings → State → Event → ℕ → List OwnedOut → State → Type 0

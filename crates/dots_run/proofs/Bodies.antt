@@ -10,7 +10,7 @@ use Rattle.cbor_profile.specs.View.{tree_of, items_of}
 use Rattle.cbor_profile.proofs.Spellings.{one_spelling}
 use Rattle.dots_machine.specs.Requests.{IsBody, mitigation, request_scope}
 use Rattle.dots_run.specs.Scopes.{scope_with, ReadItems, Asked}
-use Rattle.dots_run.proofs.Targets.{texts_of, items_read}
+use Rattle.dots_run.proofs.AskedTexts.{texts_of, items_read}
 
 items_same : (xs ys : List Tree) → items_of xs ≡ items_of ys → xs ≡ ys
 items_same [] [] e = refl

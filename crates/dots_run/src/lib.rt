@@ -3,8 +3,11 @@
 
 mod affixes;
 mod replies;
+mod request;
 mod request_body;
 mod request_head;
 mod sending;
+mod server;
 mod settings_file;
+mod targets;
 mod words;

@@ -1,6 +1,6 @@
 use Rattle.std.proofs.Common.{◌∙◌, sym, subst, List, ℕ}
 use Rattle.ip_scope.specs.PrefixText.{Reads}
-use Rattle.dots_run.proofs.Targets.{same_words}
+use Rattle.dots_run.proofs.AskedTexts.{same_words}
 use Rattle.dots_run.proofs.request_body.prefix_in.Goals as goal
 
 pub returns-in_default-ipv4_prefix : goal.returns-in_default-ipv4_prefix

@@ -1,5 +1,5 @@
 use Rattle.std.proofs.Common.{add-one}
-use Rattle.dots_run.proofs.Targets.{spoiled, read_more}
+use Rattle.dots_run.proofs.AskedTexts.{spoiled, read_more}
 use Rattle.dots_run.proofs.request_body.prefixes_in.Goals as goal
 
 pub returns-in_default-clause-none : goal.returns-in_default-clause-none

@@ -1,0 +1,52 @@
+-- What a datagram asks, by the parts of its message.
+use Rattle.std.proofs.Common.{◌≡◌, ◌≢◌, ◌≤◌, ℕ, List, refl, sym, ap, ◌∙◌, subst, Result, Ok, Err}
+use Rattle.ip_scope.specs.Prefix.{PrefixValue}
+use Rattle.coap_message.specs.Message.{CoapMessage, IsMessage, spelling}
+use Rattle.coap_message.proofs.Whole.{one_message}
+use Rattle.dots_machine.specs.Requests.{Head, Request, IsHead, IsBody, HasHead, Asks, request_message}
+use Rattle.dots_machine.proofs.OneRequest.{request_is_message}
+use Rattle.dots_run.specs.declared.request_head.RequestHead.{RequestHead}
+use Rattle.dots_run.specs.declared.request.Asked.{Asked}
+use Rattle.dots_run.specs.Asking.{head_of, HasRequestHead}
+use Rattle.dots_run.specs.Hearing.{request_of, Begins}
+
+-- a datagram that asks is the spelling of a message
+pub asks_message : (datagram : List ℕ) (r : Request) (a : Asks datagram r) → IsMessage (request_message a.head a.payload) × (datagram ≡ spelling (request_message a.head a.payload))
+asks_message datagram r a = (request_is_message a.head a.payload a.has_head.is_head, a.has_head.spelled)
+
+pub nothing_spelled : (datagram : List ℕ) → ((m : CoapMessage) → IsMessage m → datagram ≡ spelling m → ⊥) → (r : Request) → ¬ (Asks datagram r)
+nothing_spelled datagram none r a = let m = asks_message datagram r a in none _ m.0 m.1
+
+same_message : (datagram : List ℕ) (message : CoapMessage) (r : Request) (a : Asks datagram r) → IsMessage message → datagram ≡ spelling message → message ≡ request_message a.head a.payload
+same_message datagram message r a is spelled =
+    let m = asks_message datagram r a in
+    one_message message _ is m.0 (sym spelled ∙ m.1)
+
+pub no_head : (datagram : List ℕ) (message : CoapMessage) → IsMessage message → datagram ≡ spelling message → ((head : Head) (payload : List ℕ) → IsHead head → message ≢ request_message head payload)
+    → (r : Request) → ¬ (Asks datagram r)
+no_head datagram message is spelled none r a = none a.head a.payload a.has_head.is_head (same_message datagram message r a is spelled)
+
+pub no_body_asked : (datagram : List ℕ) (message : CoapMessage) → IsMessage message → datagram ≡ spelling message → ((ps : List PrefixValue) (lifetime : ℕ) → ¬ (IsBody message.payload ps lifetime))
+    → (r : Request) → ¬ (Asks datagram r)
+no_body_asked datagram message is spelled none r a =
+    let payload : a.payload ≡ message.payload = ap (λ m. m.payload) (sym (same_message datagram message r a is spelled)) in
+    none r.prefixes r.lifetime (subst (λ bytes. IsBody bytes r.prefixes r.lifetime) payload a.body)
+
+pub has_head : (datagram : List ℕ) (message : CoapMessage) (head : RequestHead) → datagram ≡ spelling message → HasRequestHead message head → HasHead datagram (head_of head) message.payload
+has_head datagram message head spelled h = record { is_head = h.is_head; spelled = spelled ∙ ap spelling h.spelled }
+
+pub asks : (datagram : List ℕ) (message : CoapMessage) (a : Asked) → datagram ≡ spelling message → HasRequestHead message a.head → IsBody message.payload a.body.prefixes a.body.lifetime → Asks datagram (request_of a)
+asks datagram message a spelled h body = record {
+  head = head_of a.head;
+  payload = message.payload;
+  has_head = has_head datagram message a.head spelled h;
+  body = body;
+  identifier = refl;
+  token = refl;
+  cuid = refl;
+  mid = h.mid;
+}
+
+-- an error is no answer
+pub err_is_no_ok : {A E : Type 0} (e : E) (x : A) → Err e ≡ Ok x → ⊥
+err_is_no_ok e x same = cc

@@ -1,0 +1,49 @@
+-- What the code hears in a datagram, as the machine's words say it.
+use Rattle.std.specs.Prelude.{◌≡◌, ◌≤◌, ◌⊎◌, ℕ, true, List, [], ◌∷◌, length}
+use Rattle.dots_lists.specs.Name.{is_name}
+use Rattle.dots_host.specs.declared.out.OwnedOut.{OwnedOut}
+use Rattle.dots_host.specs.declared.out.OwnedOut.TheVariants as owned
+use Rattle.dots_machine.specs.declared.settings.Settings.{Settings}
+use Rattle.dots_machine.specs.Requests.{Request, Heard, short, other, asked, HasHead}
+use Rattle.dots_machine.specs.Replies.{unavailable}
+use Rattle.dots_machine.specs.Machine.{State, verdict, Answers}
+use Rattle.dots_run.specs.declared.request_head.RequestHead.{RequestHead}
+use Rattle.dots_run.specs.declared.request.Asked.{Asked}
+use Rattle.dots_run.specs.declared.request.Hearing.{Hearing}
+use Rattle.dots_run.specs.declared.request.Hearing.TheVariants as hearing
+use Rattle.dots_run.specs.Asking.{head_of}
+
+abbrev pub request_of : Asked → Request
+request_of a = record {
+  identifier = a.head.identifier;
+  token = a.head.token.now;
+  cuid = a.head.cuid.now;
+  mid = a.head.mid;
+  prefixes = a.body.prefixes;
+  lifetime = a.body.lifetime;
+}
+
+-- what a reply and an entry are made of is fit for them
+pub record IsFit (a : Asked) : Type 0 where
+  pub name : is_name a.head.cuid.now ≡ true
+  pub token : length a.head.token.now ≤ 8
+
+abbrev pub heard_of : Hearing → Heard
+heard_of hearing.Short = short
+heard_of (hearing.Other identifier) = other identifier
+heard_of (hearing.Asked a) = asked (request_of a)
+
+-- the datagram has this head, whatever its payload
+abbrev pub Begins : List ℕ → RequestHead → Type 0
+Begins datagram head = (payload : List ℕ) × HasHead datagram (head_of head) payload
+
+-- a request is answered by the verdict on it, or by want of memory
+abbrev pub Decides : Settings → State → ℕ → Request → List OwnedOut → State → Type 0
+Decides settings state peer request sends new =
+    Answers (verdict settings state peer (asked request)) peer state sends new
+    ⊎ ((sends ≡ owned.To peer (unavailable request.identifier request.token) ∷ []) × (new ≡ state))
+
+-- what a server keeps
+pub record Serving : Type 0 where
+  pub settings : Settings
+  pub state : State
