@@ -1,6 +1,7 @@
 pub mod Bodies
 pub mod Counts
 pub mod Deciding
+pub mod Turns
 pub mod GrantedBody
 pub mod HearingLemmas
 pub mod Lines

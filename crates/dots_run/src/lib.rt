@@ -3,6 +3,8 @@
 
 mod affixes;
 mod replies;
+mod events;
+mod report;
 mod request;
 mod request_body;
 mod request_head;
@@ -11,3 +13,4 @@ mod server;
 mod settings_file;
 mod targets;
 mod words;
+mod writing;

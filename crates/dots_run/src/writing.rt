@@ -1,0 +1,60 @@
+//! Writing to a sink, in blocks.
+
+ghost use Rattle.std.specs.Prelude.{◌≡◌, ◌≤◌, [], length, drop, OnOk, vec_capacity};
+ghost use Rattle.std.specs.Io.KnownBytes.{Appends, append_known};
+ghost use Rattle.dots_host.specs.Causes.{HasCause};
+
+use dots_host::{Failed, Sink};
+
+/// How many bytes are gathered before they are written.
+pub const BLOCK: usize = 4096;
+
+/// Writes all of the bytes.
+fn write_all<K: Sink>(sink: &mut K, bytes: &[u8]) -> Result<(), Failed>
+    ensures ok { OnOk result (Appends (K.holds sink.old) (K.holds sink.new) bytes.now) }
+    ensures cause { HasCause (K.faults sink.old) (K.faults sink.new) result }
+{
+    let mut written = 0;
+    while written < bytes.len() {
+        written += sink.write(rest_of(bytes, written))?;
+    }
+    Ok(())
+}
+
+/// The bytes that stand after the first ones.
+fn rest_of(bytes: &[u8], written: usize) -> &[u8]
+    requires { written ≤ length bytes.now }
+    ensures { result.now ≡ drop written bytes.now }
+{
+    &bytes[written..]
+}
+
+/// Writes what the block has gathered.
+pub fn flush<K: Sink>(sink: &mut K, block: &mut Vec<u8>) -> Result<(), Failed>
+    requires { BLOCK ≤ vec_capacity block.old }
+    ensures room { BLOCK ≤ vec_capacity block.new }
+    ensures ok { OnOk result (Appends (K.holds sink.old) (K.holds sink.new) block.old.items) }
+    ensures empty { OnOk result (block.new.items ≡ []) }
+    ensures cause { HasCause (K.faults sink.old) (K.faults sink.new) result }
+{
+    write_all(sink, block.as_slice())?;
+    block.clear();
+    Ok(())
+}
+
+/// Gathers the bytes in the block, which is written where they don't fit.
+pub fn put<K: Sink>(sink: &mut K, block: &mut Vec<u8>, bytes: &[u8]) -> Result<(), Failed>
+    requires { BLOCK ≤ vec_capacity block.old }
+    ensures room { BLOCK ≤ vec_capacity block.new }
+    ensures ok { OnOk result (Appends (append_known (K.holds sink.old) block.old.items)
+        (append_known (K.holds sink.new) block.new.items) bytes.now) }
+    ensures cause { HasCause (K.faults sink.old) (K.faults sink.new) result }
+{
+    if bytes.len() > BLOCK - block.len().min(BLOCK) {
+        flush(sink, block)?;
+    }
+    if block.extend_from_slice(bytes).is_err() {
+        return write_all(sink, bytes);
+    }
+    Ok(())
+}
