@@ -1,5 +1,5 @@
 -- A head is taken apart in one way.
-use Rattle.std.proofs.Common.{◌≡◌, ℕ, ◌+◌, ◌*◌, ◌/◌, ◌%◌, ◌^◌, ◌<◌, ◌≤◌, inl, inr, cond, List, [], ◌∷◌, ◌++◌, length, get_or, take, drop, refl, sym, ap, ◌∙◌, arith}
+use Rattle.std.proofs.Common.{slice_index_or, ◌≡◌, ℕ, ◌+◌, ◌*◌, ◌/◌, ◌%◌, ◌^◌, ◌<◌, ◌≤◌, inl, inr, cond, List, [], ◌∷◌, ◌++◌, length, get_or, take, drop, refl, sym, ap, ◌∙◌, arith}
 use Rattle.std.specs.Prelude.{nat_lt, ◌==◌}
 use Rattle.std.specs.Int.{w16, w32, w64, to_be_bytes, from_be_bytes}
 use Rattle.std.proofs.lemmas.Bool.{cases_lt, le-ltb, lt-ltb}
@@ -255,3 +255,24 @@ head_eight major n g = elim (size_of n) [
   | four over below i b ↦ absurd (omega arith)
   | eight over i b ↦ rw (i, b) refl
 ]
+
+-- ---- the same in an array
+
+pub array_none : (kind major n : ℕ) → kind ≡ major → n < 24 → (32 * kind + n) ∷ [] ≡ head major n
+array_none kind major n is h = rw (is, head_none major n h) refl
+
+pub array_one : (kind major n : ℕ) → kind ≡ major → 24 ≤ n → n < 2 ^ 8 → (32 * kind + 24) ∷ n ∷ [] ≡ head major n
+array_one kind major n is g h = rw (is, head_one major n g h) refl
+
+pub array_two : (kind major n : ℕ) (r : List ℕ) → kind ≡ major → 2 ^ 8 ≤ n → n < 2 ^ 16 → r ≡ to_be_bytes w16 n
+    → (32 * kind + 25) ∷ slice_index_or r 0 0 ∷ slice_index_or r 1 0 ∷ [] ≡ head major n
+array_two kind major n r is g h e = rw (is, head_two major n g h, e) refl
+
+pub array_four : (kind major n : ℕ) (r : List ℕ) → kind ≡ major → 2 ^ 16 ≤ n → n < 2 ^ 32 → r ≡ to_be_bytes w32 n
+    → (32 * kind + 26) ∷ slice_index_or r 0 0 ∷ slice_index_or r 1 0 ∷ slice_index_or r 2 0 ∷ slice_index_or r 3 0 ∷ [] ≡ head major n
+array_four kind major n r is g h e = rw (is, head_four major n g h, e) refl
+
+pub array_eight : (kind major n : ℕ) (r : List ℕ) → kind ≡ major → 2 ^ 32 ≤ n → r ≡ to_be_bytes w64 n
+    → (32 * kind + 27) ∷ slice_index_or r 0 0 ∷ slice_index_or r 1 0 ∷ slice_index_or r 2 0 ∷ slice_index_or r 3 0
+    ∷ slice_index_or r 4 0 ∷ slice_index_or r 5 0 ∷ slice_index_or r 6 0 ∷ slice_index_or r 7 0 ∷ [] ≡ head major n
+array_eight kind major n r is g e = rw (is, head_eight major n g, e) refl

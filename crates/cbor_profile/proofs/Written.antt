@@ -1,35 +1,18 @@
 -- What was written is the encoding.
-use Rattle.std.proofs.Common.{◌≡◌, ℕ, suc, ◌+◌, ◌*◌, List, [], ◌∷◌, ◌++◌, length, map, Result, Ok, Err, refl, sym, ap, ◌∙◌, append_assoc, rules}
+use Rattle.std.proofs.Common.{◌≡◌, ℕ, List, ◌++◌, length, map, Result, Ok, Err, sym, ap, ◌∙◌, append_assoc}
 use Rattle.std.specs.Prelude.{OnOk}
 use Rattle.cbor_profile.specs.declared.item.Item.{Item}
-use Rattle.cbor_profile.specs.declared.item.ItemList.{ItemList, the_lemmas as items_lemmas}
-use Rattle.cbor_profile.specs.declared.item.PairList.{PairList, the_lemmas as pairs_lemmas}
+use Rattle.cbor_profile.specs.declared.item.ItemList.{ItemList}
+use Rattle.cbor_profile.specs.declared.item.PairList.{PairList}
 use Rattle.cbor_profile.specs.Tree.{Tree, array, mapping, count, pair_count}
 use Rattle.cbor_profile.specs.Head.{head}
 use Rattle.cbor_profile.specs.Canon.{canon, canon_items, canon_pairs}
+use Rattle.cbor_profile.proofs.Views.{count_is, pair_count_is, trees_are, tree_pairs_are}
 use Rattle.cbor_profile.specs.View.{tree_of, trees, tree_pairs, items_of, pairs_of}
 
 pub on_ok_then : {X E : Type 0} (r : Result X E) {P Q : Type 0} → OnOk r P → (P → Q) → OnOk r Q
 on_ok_then (Ok x) p f = f p
 on_ok_then (Err e) p f = tt
-
-pub head_written : (old new : List ℕ) (kind major info n : ℕ) (bytes : List ℕ) → kind ≡ major → head major n ≡ (32 * major + info) ∷ bytes → new ≡ old ++ (32 * kind + info) ∷ bytes → new ≡ old ++ head major n
-head_written old new kind major info n bytes is spelled e =
-    e ∙ ap (λ (k : ℕ). old ++ (32 * k + info) ∷ bytes) is ∙ ap (λ (l : List ℕ). old ++ l) (sym spelled)
-
-count_is : (xs : List Item) → count (items_of (map tree_of xs)) ≡ length xs
-count_is [] = refl
-count_is (x ∷ xs) = ap suc (count_is xs)
-
-pair_count_is : (xs : List (Item × Item)) → pair_count (pairs_of (map (λ p. (tree_of p.0, tree_of p.1)) xs)) ≡ length xs
-pair_count_is [] = refl
-pair_count_is (x ∷ xs) = ap suc (pair_count_is xs)
-
-trees_are : (list : ItemList) → map tree_of list.items.items ≡ trees list
-trees_are list = search (rules, items_lemmas)
-
-tree_pairs_are : (list : PairList) → map (λ p. (tree_of p.0, tree_of p.1)) list.items.items ≡ tree_pairs list
-tree_pairs_are list = search (rules, pairs_lemmas)
 
 pub array_written : (old mid new : List ℕ) (xs : List Item) (list : ItemList) → xs ≡ list.items.items → mid ≡ old ++ head 4 (length xs) → new ≡ mid ++ canon_items (items_of (map tree_of xs))
     → new ≡ old ++ canon (array (items_of (trees list)))

@@ -7,3 +7,4 @@ pub mod Reads
 pub mod Tree
 pub mod Valid
 pub mod View
+pub mod Within

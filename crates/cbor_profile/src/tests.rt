@@ -1,4 +1,6 @@
 use super::*;
+use dots_lists::NoMemory;
+use std::alloc::Global;
 use std::test::Fail;
 
 /// Sixteen arrays, one in the other, round a number.
@@ -126,6 +128,47 @@ fn a_filter_is_a_map(rt: HostRuntime) -> Result<(), Fail> {
     };
     let text = prefix.as_text().ok_or("a text")?;
     assert_eq!(rt; text.as_str(), "192.0.2.0/24");
+    Ok(())
+}
+
+/// A number in this many arrays, one in the other.
+fn nested(alloc: Global, depth: usize) -> Result<Item, NoMemory> {
+    let mut item = Item::Unsigned(0);
+    for _ in 0..depth {
+        let mut list = ItemList::new(alloc);
+        list.push(item)?;
+        item = Item::Array(list);
+    }
+    Ok(item)
+}
+
+#[test]
+fn valid_items_nest_sixteen_deep(rt: HostRuntime) -> Result<(), Fail> {
+    let deepest = nested(rt.alloc(), 16)?;
+    assert!(rt; is_valid(&deepest));
+    assert_eq!(rt; encode(rt.alloc(), &deepest)?.items(), DEEPEST);
+    assert!(rt; !is_valid(&nested(rt.alloc(), 17)?));
+    Ok(())
+}
+
+/// A map with these keys.
+fn two_pairs(alloc: Global, first: Item, second: Item) -> Result<Item, NoMemory> {
+    let mut pairs = PairList::new(alloc);
+    pairs.push((first, Item::Unsigned(0)))?;
+    pairs.push((second, Item::Unsigned(0)))?;
+    Ok(Item::Map(pairs))
+}
+
+#[test]
+fn keys_of_valid_items_rise(rt: HostRuntime) -> Result<(), Fail> {
+    let alloc = rt.alloc();
+    assert!(rt; is_valid(&two_pairs(alloc, Item::Unsigned(255), Item::Unsigned(256))?));
+    assert!(rt; !is_valid(&two_pairs(alloc, Item::Unsigned(256), Item::Unsigned(255))?));
+    assert!(rt; !is_valid(&two_pairs(alloc, Item::Unsigned(7), Item::Unsigned(7))?));
+    assert!(rt; is_valid(&two_pairs(alloc, Item::Unsigned(1000), nested(alloc, 1)?)?));
+    assert!(rt; is_valid(&two_pairs(alloc, nested(alloc, 1)?, nested(alloc, 2)?)?));
+    assert!(rt; !is_valid(&two_pairs(alloc, nested(alloc, 2)?, nested(alloc, 1)?)?));
+    assert!(rt; !is_valid(&two_pairs(alloc, nested(alloc, 2)?, nested(alloc, 2)?)?));
     Ok(())
 }
 

@@ -1,6 +1,6 @@
 //! Writing the deterministic encoding of an item.
 
-ghost use Rattle.std.specs.Prelude.{◌≡◌, ◌∷◌, ◌++◌, length, IfOk, OnOk, map};
+ghost use Rattle.std.specs.Prelude.{◌≡◌, ◌++◌, length, IfOk, OnOk, map};
 ghost use Rattle.cbor_profile.specs.Head.{head};
 ghost use Rattle.cbor_profile.specs.Parts.{number_of};
 ghost use Rattle.cbor_profile.specs.Canon.{canon, canon_items, canon_pairs};
@@ -9,6 +9,7 @@ ghost use Rattle.cbor_profile.specs.Valid.{IsValid};
 ghost use Rattle.cbor_profile.specs.View.{tree_of, trees, tree_pairs, items_of, pairs_of};
 
 use crate::head::Major;
+use crate::head_bytes::HeadBytes;
 use crate::item::{Item, ItemList, PairList};
 use dots_lists::{Bytes, NoMemory};
 use std::alloc::Global;
@@ -87,26 +88,7 @@ fn write_pairs(out: &mut Vec<u8>, pairs: &[(Item, Item)]) -> Result<(), NoMemory
 fn write_head(out: &mut Vec<u8>, major: Major, argument: u64) -> Result<(), NoMemory>
     ensures { OnOk result (out.new.items ≡ out.old.items ++ head (number_of major) argument) }
 {
-    let kind = 32 * major.number();
-    if argument < 24 {
-        return write_bytes(out, kind + argument as u8, &[]);
-    }
-    if argument < 0x100 {
-        return write_bytes(out, kind + 24, &[argument as u8]);
-    }
-    if argument < 0x1_0000 {
-        return write_bytes(out, kind + 25, &(argument as u16).to_be_bytes());
-    }
-    if argument < 0x1_0000_0000 {
-        return write_bytes(out, kind + 26, &(argument as u32).to_be_bytes());
-    }
-    write_bytes(out, kind + 27, &argument.to_be_bytes())
-}
-
-fn write_bytes(out: &mut Vec<u8>, first: u8, following: &[u8]) -> Result<(), NoMemory>
-    ensures { OnOk result (out.new.items ≡ out.old.items ++ first ∷ following.now) }
-{
-    out.push(first)?;
-    out.extend_from_slice(following)?;
+    let bytes = HeadBytes::new(major, argument);
+    out.extend_from_slice(bytes.as_slice())?;
     Ok(())
 }
