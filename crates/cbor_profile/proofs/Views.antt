@@ -29,10 +29,10 @@ trees_are list = search (rules, items_lemmas)
 pub tree_pairs_are : (list : PairList) → map (λ p. (tree_of p.0, tree_of p.1)) list.items.items ≡ tree_pairs list
 tree_pairs_are list = search (rules, pairs_lemmas)
 
-tree_of-Array : (list : ItemList) → tree_of (Array list) ≡ array (items_of (trees list))
+pub tree_of-Array : (list : ItemList) → tree_of (Array list) ≡ array (items_of (trees list))
 tree_of-Array list = search (rules, the_lemmas)
 
-tree_of-Map : (list : PairList) → tree_of (Map list) ≡ mapping (pairs_of (tree_pairs list))
+pub tree_of-Map : (list : PairList) → tree_of (Map list) ≡ mapping (pairs_of (tree_pairs list))
 tree_of-Map list = search (rules, the_lemmas)
 
 -- the tree of an array, and that of a map, by their items

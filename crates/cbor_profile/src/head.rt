@@ -1,6 +1,6 @@
 //! The head of an item: its major type and its argument (RFC 8949, section 3).
 
-ghost use Rattle.std.specs.Prelude.{◌≡◌, ℕ, ◌+◌, ◌^◌, ◌<◌, ◌≤◌, List, ◌∷◌, ◌++◌, IfSome, IfNone};
+ghost use Rattle.std.specs.Prelude.{◌≡◌, ℕ, ◌^◌, ◌<◌, List, ◌++◌, IfSome, IfNone};
 ghost use Rattle.std.specs.Int.{w16, w32, w64, to_be_bytes};
 ghost use Rattle.cbor_profile.specs.Head.{head, one_byte, HasNumber, HasArgument};
 ghost use Rattle.cbor_profile.specs.Parts.{number_of};

@@ -1,6 +1,6 @@
 //! Reading an item from its deterministic encoding.
 
-ghost use Rattle.std.specs.Prelude.{◌≡◌, ◌<◌, ◌^◌, ℕ, List, [], ◌++◌, IfOk, Ok, Err, IsTrue, ◌↔◌};
+ghost use Rattle.std.specs.Prelude.{◌≡◌, ◌<◌, ◌^◌, ℕ, List, IfOk, IsTrue, ◌↔◌};
 ghost use Rattle.cbor_profile.specs.declared.head.Major.TheVariants as major_type;
 ghost use Rattle.cbor_profile.specs.Tree.{Tree, Trees, Pairs};
 ghost use Rattle.cbor_profile.specs.Canon.{canon};
