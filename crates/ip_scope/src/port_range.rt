@@ -34,6 +34,7 @@ impl PortRange {
         Some(PortRange { lower, upper })
     }
 
+    /// The lowest port.
     pub fn lower(&self) -> u16
         ensures value { result ≡ self.now.lower }
         ensures ordered { self.now.lower ≤ self.now.upper }
@@ -42,6 +43,7 @@ impl PortRange {
         self.lower
     }
 
+    /// The highest port.
     pub fn upper(&self) -> u16
         ensures value { result ≡ self.now.upper }
         ensures ordered { self.now.lower ≤ self.now.upper }

@@ -65,6 +65,7 @@ impl Prefix {
         })
     }
 
+    /// The family of its addresses.
     pub fn family(&self) -> Family
         ensures value { result ≡ self.now.family }
         ensures valid { IsPrefix self.now }
@@ -72,6 +73,7 @@ impl Prefix {
         self.family
     }
 
+    /// The number of its lowest address, whose host bits are zero.
     pub fn number(&self) -> u128
         ensures value { result ≡ self.now.number }
         ensures valid { IsPrefix self.now }
@@ -79,6 +81,7 @@ impl Prefix {
         self.number
     }
 
+    /// How many leading bits its addresses share: at most 32 or 128.
     pub fn length(&self) -> u8
         ensures value { result ≡ self.now.length }
         ensures valid { IsPrefix self.now }
