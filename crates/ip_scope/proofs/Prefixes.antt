@@ -108,22 +108,23 @@ inside-shared a b f n longer in_a in_b =
     let moved : n / block_size b.family b.length ≡ a.number / block_size b.family b.length = subst (λ (g : Family). n / block_size g b.length ≡ a.number / block_size g b.length) same down in
     inside-from a b (record { longer = longer; held = record { same = sym same; leading = sym moved ∙ in_b.leading } })
 
-shared_from : (a b : PrefixValue) → inside a b ≡ true → SharesAddress a b
-shared_from a b within = record {
+shared_from : (a b : PrefixValue) → IsPrefix a → inside a b ≡ true → SharesAddress a b
+shared_from a b valid within = record {
   family = a.family;
   number = a.number;
+  fits = valid.number;
   in_first = holds-itself a;
   in_second = holds-inside a b a.family a.number within (holds-itself a);
 }
 
 shared-sym : (a b : PrefixValue) → SharesAddress a b → SharesAddress b a
-shared-sym a b s = record { family = s.family; number = s.number; in_first = s.in_second; in_second = s.in_first }
+shared-sym a b s = record { family = s.family; number = s.number; fits = s.fits; in_first = s.in_second; in_second = s.in_first }
 
-pub meets-shared : (a b : PrefixValue) → IsTrue (meets a b) ↔ SharesAddress a b
-meets-shared a b = (
+pub meets-shared : (a b : PrefixValue) → IsPrefix a → IsPrefix b → IsTrue (meets a b) ↔ SharesAddress a b
+meets-shared a b valid_a valid_b = (
   λ h. elim (or_parts (inside a b) (inside b a) h) [
-    | inl first ↦ shared_from a b first
-    | inr second ↦ shared-sym b a (shared_from b a second)
+    | inl first ↦ shared_from a b valid_a first
+    | inr second ↦ shared-sym b a (shared_from b a valid_b second)
   ],
   λ s. let in_a = holds-says a s.family s.number s.in_first in
       let in_b = holds-says b s.family s.number s.in_second in

@@ -9,6 +9,7 @@ use Rattle.ip_scope.specs.Prefix.{PrefixValue, holds}
 pub record SharesAddress (a b : PrefixValue) : Type 0 where
   pub family : Family
   pub number : ℕ
+  pub fits : number < 2 ^ width family
   pub in_first : IsTrue (holds a family number)
   pub in_second : IsTrue (holds b family number)
 

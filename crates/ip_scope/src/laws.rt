@@ -12,7 +12,7 @@ pub fn inside_is_covered()
 
 /// Two prefixes meet exactly where they share an address.
 pub fn meets_is_shared()
-    ensures { (a b : PrefixValue) → (IsTrue (meets a b) ↔ SharesAddress a b) }
+    ensures { (a b : PrefixValue) → IsPrefix a → IsPrefix b → (IsTrue (meets a b) ↔ SharesAddress a b) }
 {}
 
 /// A canonical text is that of one prefix.
