@@ -7,11 +7,11 @@ use dots_lists::Bytes;
 /// What came to a host. Connections are named by numbers that the host gives them.
 #[derive(Debug, Drop)]
 pub enum Event {
-    /// A datagram from a peer.
+    /// A datagram from a peer, of at most [`MAX_EVENT_BYTES`] bytes.
     Datagram { from: u32, bytes: Bytes },
     /// A peer opened a connection.
     Opened { conn: u32, from: u32 },
-    /// The next bytes of a connection.
+    /// The next bytes of a connection, at most [`MAX_EVENT_BYTES`].
     Piece { conn: u32, bytes: Bytes },
     /// A connection was closed.
     Closed { conn: u32 },

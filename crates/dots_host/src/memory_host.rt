@@ -1,4 +1,4 @@
-ghost use Rattle.std.specs.Prelude.{◌≡◌, ◌≢◌, ◌+◌, ◌<◌, ◌≤◌, ◌^◌, [], ◌∷◌, ◌++◌, length, drop, true, false, IsTrue, Some, IfOk, OnOk, OnErr};
+ghost use Rattle.std.specs.Prelude.{◌≡◌, ◌≢◌, ◌+◌, ◌<◌, ◌≤◌, ◌^◌, [], ◌∷◌, ◌++◌, length, drop, true, false, ⊤, IsTrue, Some, IfOk, OnOk, OnErr};
 ghost use Rattle.dots_host.specs.Causes.{Rose};
 ghost use Rattle.dots_host.specs.Calls.{no_calls, failing_at, stopping_at, is_to_fail, counted};
 ghost use Rattle.dots_host.specs.Acts.{IsWithin, OnFailed, OnEvent, Adds, taken, given};
@@ -153,7 +153,8 @@ impl Wire for MemoryHost {
 
     ghost faults = { λ host. host.faults };
 
-    ghost beside = { λ _ _. Unit {0} };
+    // Nothing stands beside its wire.
+    ghost beside = { λ _ _. ⊤ };
 
     ghost beside_same = { λ _. tt };
 
@@ -167,7 +168,7 @@ impl Wire for MemoryHost {
             (told self.new.whole self.new.acts) (length self.new.acts) (taken result into.new) }
         ensures later { self.old.faults ≤ self.new.faults }
         ensures cause { OnFailed result.what (Rose self.old.faults self.new.faults) }
-        ensures beside { Unit {0} }
+        ensures beside { ⊤ }
 
         // It fails where the call was to fail, and else only for want of memory.
         ensures calls { self.new.calls ≡ counted self.old.calls }
@@ -203,7 +204,7 @@ impl Wire for MemoryHost {
         ensures acts { Adds (told self.old.whole self.old.acts) (length self.old.acts)
             (told self.new.whole self.new.acts) (length self.new.acts) (given out.now result) }
         ensures faults { self.new.faults ≡ self.old.faults }
-        ensures beside { Unit {0} }
+        ensures beside { ⊤ }
 
         // It is lost where the call was to fail, and else done unless memory ran out.
         ensures calls { self.new.calls ≡ counted self.old.calls }

@@ -20,5 +20,6 @@ pub enum OwnedOut {
 #[derive(Clone, Copy, Debug, PartialEq, Eq)]
 pub enum Sent {
     Done,
+    /// It was lost on the way, which is no fault of the wire.
     Lost,
 }
