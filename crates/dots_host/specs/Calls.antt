@@ -7,13 +7,18 @@ use Rattle.dots_host.specs.declared.calls.Calls.{Calls}
 abbrev pub no_calls : Calls
 no_calls = record { made = 0; failing = []; stop = None }
 
+-- the number from which on all calls fail, once those from `call` on do
+abbrev pub earlier : Option ℕ → ℕ → ℕ
+earlier None call = call
+earlier (Some from) call = min from call
+
 -- the call of this number is to fail too
 abbrev pub failing_at : Calls → ℕ → Calls
 failing_at calls call = record calls { failing = calls.failing ++ call ∷ [] }
 
--- the call of this number and every later one are to fail
+-- the call of this number and every later one are to fail too
 abbrev pub stopping_at : Calls → ℕ → Calls
-stopping_at calls call = record calls { stop = Some call }
+stopping_at calls call = record calls { stop = Some (earlier calls.stop call) }
 
 -- the number of the next call; the count stands still at the greatest u64
 abbrev pub number : Calls → ℕ

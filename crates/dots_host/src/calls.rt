@@ -1,5 +1,5 @@
 ghost use Rattle.std.specs.Prelude.{◌≡◌, OnOk, OnErr};
-ghost use Rattle.dots_host.specs.Calls.{no_calls, failing_at, stopping_at, is_to_fail, is_stopped, counted};
+ghost use Rattle.dots_host.specs.Calls.{no_calls, failing_at, earlier, stopping_at, is_to_fail, is_stopped, counted};
 
 use dots_lists::{List, NoMemory};
 use std::alloc::Global;
@@ -33,7 +33,7 @@ impl Calls {
     pub fn stop_at(&mut self, call: u64)
         ensures { self.new ≡ stopping_at self.old call }
     {
-        self.stop = Some(call);
+        self.stop = Some(earlier(self.stop, call));
     }
 
     /// Counts one more call and tells whether it is to fail.
@@ -44,6 +44,16 @@ impl Calls {
         self.made = self.made.saturating_add(1);
         let listed = self.failing.items().contains(&self.made);
         listed || is_stopped(self.made, self.stop)
+    }
+}
+
+/// From where on all calls fail, once those from `call` on do.
+fn earlier(stop: Option<u64>, call: u64) -> u64
+    ensures { result ≡ earlier stop call }
+{
+    match stop {
+        Some(from) => from.min(call),
+        None => call,
     }
 }
 

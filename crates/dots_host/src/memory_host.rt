@@ -113,7 +113,7 @@ impl MemoryHost {
         self.calls.fail_at(call)
     }
 
-    /// Lets the call of this number and every later one fail.
+    /// Lets the call of this number and every later one fail, beside those that were to fail before.
     pub fn stop_at(&mut self, call: u64)
         ensures { self.new ≡ record self.old { calls = stopping_at self.old.calls call } }
     {

@@ -86,6 +86,7 @@ fn hosts_record_each_call(rt: HostRuntime) -> Result<(), Fail> {
     host.push(Event::Tick, 1001)?;
     host.fail_at(2)?;
     host.stop_at(6);
+    host.stop_at(9);
 
     let mut room = [0; MAX_EVENT_BYTES];
     let datagram = What::Datagram { from: 7, len: 3 };
