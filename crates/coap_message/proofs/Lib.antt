@@ -8,3 +8,4 @@ pub mod Whole
 pub mod PutAt
 pub mod Put
 pub mod Faults
+pub mod PartsOf

@@ -1,13 +1,12 @@
 -- Options are written one after the other.
-use Rattle.std.proofs.Common.{◌≡◌, ℕ, ◌+◌, ◌-◌, ◌≤◌, ◌<◌, ◌^◌, List, [], ◌∷◌, ◌++◌, length, take, drop, refl, sym, ap, subst, ◌∙◌, append_assoc, arith}
+use Rattle.std.proofs.Common.{◌≡◌, ℕ, ◌+◌, ◌-◌, ◌≤◌, List, [], ◌∷◌, ◌++◌, length, take, drop, refl, sym, ap, subst, ◌∙◌, append_assoc, arith}
 use Rattle.std.specs.Prelude.{sum_by}
-use Rattle.std.proofs.lemmas.List.{length-append, length-take, length-take-le, length-drop}
+use Rattle.std.proofs.lemmas.List.{length-append, length-take-le, length-drop}
 use Rattle.std.proofs.lemmas.List.Sums.{sum_by-cons}
-use Rattle.std.specs.List.{AllByRecursion}
 use Rattle.coap_message.specs.declared.parts.OptionPart.{OptionPart}
 use Rattle.coap_message.specs.declared.parts.Parts.{Parts}
-use Rattle.coap_message.specs.Message.{AreOptions, IsMessage, CoapOption, header, extension, option_bytes, options_bytes, payload_bytes, spelling}
-use Rattle.coap_message.specs.Parts.{IsValid, InRange, AreParts, options_of, message_of}
+use Rattle.coap_message.specs.Message.{CoapOption, header, extension, option_bytes, options_bytes, payload_bytes, spelling}
+use Rattle.coap_message.specs.Parts.{AreParts, options_of, message_of}
 use Rattle.coap_message.specs.Writing.{put_at, options_size}
 use Rattle.coap_message.proofs.PutAt.{put_then, place_then}
 
@@ -66,21 +65,3 @@ spelling_size parts sum =
     let size = options_size_is 0 parts.options.now parts.values.now sum in
     let front = header parts.kind parts.code parts.id parts.token.now in
     omega (arith, length-append (front ++ options) (payload_bytes parts.payload.now), length-append front options, size)
-
-parts_options : (previous : ℕ) (parts : List OptionPart) (values : List ℕ) → AreParts previous parts → AllByRecursion (λ part. part.number < 2 ^ 16) parts → AreOptions previous (options_of parts values)
-parts_options previous [] values are numbers = tt
-parts_options previous (part ∷ parts) values are numbers =
-    (are.0, numbers.0, omega (arith, are.1, length-take part.length values), parts_options part.number parts (drop part.length values) are.2 numbers.1)
-
-no_options : (parts : List OptionPart) (values : List ℕ) → parts ≡ [] → options_of parts values ≡ []
-no_options [] values e = refl
-no_options (part ∷ parts) values e = absurd cc
-
-pub parts_message : (parts : Parts) → IsValid parts → InRange parts → IsMessage (message_of parts)
-parts_message parts valid ranges = record {
-  code = ranges.code;
-  identifier = ranges.id;
-  token = valid.token;
-  options = parts_options 0 parts.options.now parts.values.now valid.options ranges.numbers;
-  empty = λ none. let nothing = valid.empty none in (nothing.0, no_options parts.options.now parts.values.now nothing.1, nothing.2);
-}

@@ -5,6 +5,8 @@ use Rattle.coap_message.specs.declared.fault.CoapFault.TheVariants.{Short, Versi
 use Rattle.coap_message.specs.Message.{CoapOption, AreOptions, options_bytes, last_number}
 use Rattle.coap_message.specs.Reading.{extended_at}
 
+-- Below, `end` is how many bytes there are, and `at` is the place of an option's first byte.
+
 -- in the header or the token
 abbrev pub head_break : List ℕ → Option CoapFault
 head_break [] = Some (Short 0)
@@ -25,7 +27,7 @@ abbrev pub behind_head : List ℕ → List ℕ
 behind_head [] = []
 behind_head (first ∷ bytes) = drop (3 + first % 16) bytes
 
--- an option's number, its length, or None where the extension of the length is cut, and the bytes of its value
+-- in an option with this number: its length and the bytes behind that, or None where the extension of the length is cut
 abbrev pub value_break : ℕ → ℕ → ℕ → Option (ℕ × List ℕ) → Option CoapFault
 value_break end at number None = Some (Short end)
 value_break end at number (Some len) =
@@ -33,12 +35,12 @@ value_break end at number (Some len) =
     else if nat_lt (length len.1) len.0 then Some (Short end)
     else None
 
--- its delta, or None where the extension of the delta is cut, and the bytes behind it
+-- in an option whose length has the nibble `n`: its delta and the bytes behind that, or None where the extension of the delta is cut
 abbrev pub length_break : ℕ → ℕ → ℕ → ℕ → Option (ℕ × List ℕ) → Option CoapFault
 length_break end at previous n None = Some (Short end)
 length_break end at previous n (Some delta) = value_break end at (previous + delta.0) (extended_at n delta.1)
 
--- in an option in front of the bytes, behind one with the number `previous`; the bytes end at the place `end`
+-- in an option in front of the bytes, behind one with the number `previous`
 unfoldable pub option_break : ℕ → ℕ → List ℕ → Option CoapFault
 option_break end previous [] = Some (Short end)
 option_break end previous (first ∷ bytes) =

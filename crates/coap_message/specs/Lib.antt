@@ -1,6 +1,6 @@
 pub mod Message
 pub mod Reading
-pub mod Rows
+pub mod Views
 pub mod Parts
 pub mod Writing
 pub mod Padding

@@ -1,5 +1,5 @@
 -- The parts that a message is written from.
-use Rattle.std.specs.Prelude.{◌≡◌, ℕ, ◌^◌, ◌<◌, ◌≤◌, List, [], ◌∷◌, length, take, drop, sum_by}
+use Rattle.std.specs.Prelude.{◌≡◌, ℕ, ◌^◌, ◌<◌, ◌≤◌, List, [], ◌∷◌, ◌++◌, length, take, drop, sum_by}
 use Rattle.std.specs.List.{AllByRecursion}
 use Rattle.coap_message.specs.declared.parts.OptionPart.{OptionPart}
 use Rattle.coap_message.specs.declared.parts.Parts.{Parts}
@@ -31,3 +31,12 @@ pub record InRange (parts : Parts) : Type 0 where
   pub code : parts.code < 256
   pub id : parts.id < 2 ^ 16
   pub numbers : AllByRecursion (λ part. part.number < 2 ^ 16) parts.options.now
+
+-- the parts that options are written from
+abbrev pub parts_of : List CoapOption → List OptionPart
+parts_of [] = []
+parts_of (o ∷ os) = record { number = o.number; length = length o.value } ∷ parts_of os
+
+abbrev pub values_of : List CoapOption → List ℕ
+values_of [] = []
+values_of (o ∷ os) = o.value ++ values_of os

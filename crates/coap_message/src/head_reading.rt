@@ -1,7 +1,7 @@
+ghost use Rattle.std.specs.Prelude.{◌≡◌, Some, IfErr};
 ghost use Rattle.coap_message.specs.Breaks.{head_break};
 ghost use Rattle.coap_message.specs.Reading.{Reads, head_at, kind_of};
-ghost use Rattle.coap_message.specs.Rows.{head_view};
-ghost use Rattle.std.specs.Prelude.{Some, IfErr, ◌≡◌, ◌<◌, ℕ};
+ghost use Rattle.coap_message.specs.Views.{head_view};
 
 use crate::fault::CoapFault;
 use crate::head::Head;

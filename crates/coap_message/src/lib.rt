@@ -1,6 +1,13 @@
 //! CoAP messages (RFC 7252, section 3).
 //!
-//! [`decode`] reads a message out of a datagram.
+//! Start at [`decode`], which reads the message that a datagram spells, or names its first fault with its place.
+//! A [`Message`] hands out parts of the bytes that it was decoded from, and [`Options`] goes over its options.
+//! [`encode_into`] writes the message of some [`Parts`], and [`salvage`] reads what can still be answered to a
+//! datagram that is no message. No call takes memory.
+//!
+//! Contracts see a message as the record `CoapMessage` of `specs/Message.antt`, in the words of the standard, and
+//! its bytes as `spelling` of that record. `specs/Breaks.antt` says what the first fault is. [`laws`] has what holds
+//! of all messages: no bytes spell two of them, and none that has a fault.
 #![tactic(auto)]
 
 mod decoding;

@@ -4,7 +4,7 @@ use crate::options::Options;
 use std::marker::Model;
 
 /// A message that was decoded. What it hands out are parts of the bytes that it was decoded from.
-#[derive(Drop)]
+#[derive(Debug, Drop)]
 pub struct Message<'a> {
     kind: Kind,
     code: u8,
@@ -29,7 +29,7 @@ impl<'a> Model for Message<'a> {
 impl<'a> Message<'a> {
     ghost use Rattle.std.specs.Prelude.{◌≡◌, ◌≤◌, length};
     ghost use Rattle.coap_message.specs.Message.{IsMessage, AreOptions};
-    ghost use Rattle.coap_message.specs.Rows.{head_view};
+    ghost use Rattle.coap_message.specs.Views.{head_view};
     ghost use Rattle.coap_message.specs.Reading.{message_from};
 
     pub(crate) fn new(head: Head<'a>, options: &'a [u8], payload: &'a [u8]) -> Self

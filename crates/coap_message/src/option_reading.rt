@@ -1,7 +1,7 @@
 ghost use Rattle.std.specs.Prelude.{◌≡◌, ◌==◌, ◌||◌, ◌/◌, ◌%◌, ◌≤◌, length, Some, IfSome, IfErr};
 ghost use Rattle.coap_message.specs.Breaks.{option_break};
 ghost use Rattle.coap_message.specs.Reading.{Gives, Reads, extended_at, option_at};
-ghost use Rattle.coap_message.specs.Rows.{row_view};
+ghost use Rattle.coap_message.specs.Views.{row_view};
 
 use crate::fault::CoapFault;
 use crate::option::OptionRow;

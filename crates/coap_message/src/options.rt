@@ -3,7 +3,7 @@ use crate::option_reading::read_option;
 use std::marker::Model;
 
 /// The options of a message in their order, seen as the list of those that are left.
-#[derive(Drop)]
+#[derive(Debug, Drop)]
 pub struct Options<'a> {
     pub(crate) previous: u16,
     pub(crate) rest: &'a [u8],
@@ -23,7 +23,7 @@ impl<'a> Iterator for Options<'a> {
     type Item = OptionRow<'a>;
 
     ghost use Rattle.std.specs.Iterator.{YieldsFirstBy, item_count};
-    ghost use Rattle.coap_message.specs.Rows.{row_view};
+    ghost use Rattle.coap_message.specs.Views.{row_view};
 
     ghost next_gives = { YieldsFirstBy row_view (λ options. options) };
 

@@ -106,6 +106,7 @@ fn reads_short_messages(rt: HostRuntime) -> Result<(), Fail> {
 
 #[test]
 fn writes_a_reply(rt: HostRuntime) -> Result<(), Fail> {
+    assert!(rt; Token::new(&REPLY[..9]).is_none());
     let token = Token::new(&[0x4a]).ok_or("the token is too long")?;
     let parts = Parts {
         kind: Kind::Non,

@@ -1,6 +1,6 @@
 ghost use Rattle.std.specs.Prelude.{◌≡◌, ◌≤◌, ◌+◌, ℕ, length};
 ghost use Rattle.coap_message.specs.Message.{nibble, extension, option_bytes};
-ghost use Rattle.coap_message.specs.Rows.{row_view};
+ghost use Rattle.coap_message.specs.Views.{row_view};
 ghost use Rattle.coap_message.specs.Writing.{put_at};
 
 use crate::option::OptionRow;

@@ -1,6 +1,6 @@
 use Rattle.std.proofs.Common.{rules, ◌≡◌, ◌≢◌, ◌∙◌, arith, length}
 use Rattle.std.proofs.lemmas.Result.{err_from_is_err_and}
-use Rattle.coap_message.specs.Rows.{row_view}
+use Rattle.coap_message.specs.Views.{row_view}
 use Rattle.coap_message.proofs.Ending.{so_far_more, so_far_split, so_far_end, so_far_breaks, so_far_shorter, marker_alone, marker_before, no_marker}
 use Rattle.coap_message.proofs.OptionList.{option_shorter}
 use Rattle.coap_message.proofs.decoding.split_options.Goals as goal

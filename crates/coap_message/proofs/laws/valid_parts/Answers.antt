@@ -1,4 +1,4 @@
-use Rattle.coap_message.proofs.Put.{parts_message}
+use Rattle.coap_message.proofs.PartsOf.{parts_message}
 use Rattle.coap_message.proofs.laws.valid_parts.Goals as goal
 
 pub returns : goal.returns

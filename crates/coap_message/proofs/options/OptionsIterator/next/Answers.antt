@@ -1,5 +1,5 @@
 use Rattle.std.proofs.Common.{rules, ◌∙◌, sym}
-use Rattle.coap_message.specs.Rows.{row_view}
+use Rattle.coap_message.specs.Views.{row_view}
 use Rattle.coap_message.proofs.OptionList.{options_step}
 use Rattle.coap_message.proofs.options.OptionsIterator.next.Goals as goal
 
