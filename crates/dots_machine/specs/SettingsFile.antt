@@ -1,5 +1,5 @@
 -- The settings file: three lines, for one domain, its one IPv4 prefix and its one client.
-use Rattle.std.specs.Prelude.{◌≡◌, ℕ, ◌+◌, ◌^◌, ◌<◌, ◌⊎◌, Bool, true, ◌&&◌, ◌||◌, ◌==◌, nat_le, if◌then◌else◌, List, [], ◌∷◌, ◌++◌, length, take, codes, decimal, slice_get, Some}
+use Rattle.std.specs.Prelude.{◌≡◌, ℕ, ◌+◌, ◌^◌, ◌<◌, Bool, true, ◌&&◌, ◌||◌, ◌==◌, nat_le, if◌then◌else◌, List, [], ◌∷◌, ◌++◌, length, take, codes, decimal, slice_get, Some}
 use Rattle.std.specs.List.{list_all}
 use Rattle.ip_scope.specs.declared.family.Family.TheVariants.{V4}
 use Rattle.ip_scope.specs.Prefix.{PrefixValue}
@@ -53,18 +53,14 @@ pub record AreSettings (lines : List (List ℕ)) (settings : Settings) : Type 0 
   pub whole : length lines ≡ 3
 
 -- The line of this number, from 1 on, is the first that differs, or is missing behind the last: those before it have their form.
-abbrev pub AreAtFault : List (List ℕ) → ℕ → Type 0
-AreAtFault lines number =
-    ((number ≡ 1) × ((name : List ℕ) → ¬ (HasLine lines 0 (λ line. IsDomainLine line name))))
-    ⊎ ((number ≡ 2) × (name : List ℕ) × HasLine lines 0 (λ line. IsDomainLine line name)
-    × ((prefix : PrefixValue) → ¬ (HasLine lines 1 (λ line. IsPrefixLine line name prefix))))
-    ⊎ ((number ≡ 3) × (settings : Settings) × HasLine lines 0 (λ line. IsDomainLine line settings.domain)
-    × HasLine lines 1 (λ line. IsPrefixLine line settings.domain settings.prefix)
-    × ((peer : ℕ) → ¬ (HasLine lines 2 (λ line. IsClientLine line settings.domain peer))))
-    ⊎ ((number ≡ 4) × (settings : Settings) × HasLine lines 0 (λ line. IsDomainLine line settings.domain)
-    × HasLine lines 1 (λ line. IsPrefixLine line settings.domain settings.prefix)
-    × HasLine lines 2 (λ line. IsClientLine line settings.domain settings.peer)
-    × (3 < length lines))
+pub data AreAtFault (lines : List (List ℕ)) : ℕ → Type 0 where
+  no_domain : ((name : List ℕ) → ¬ (HasLine lines 0 (λ line. IsDomainLine line name))) → AreAtFault lines 1
+  no_prefix : (name : List ℕ) → HasLine lines 0 (λ line. IsDomainLine line name)
+      → ((prefix : PrefixValue) → ¬ (HasLine lines 1 (λ line. IsPrefixLine line name prefix))) → AreAtFault lines 2
+  no_client : (name : List ℕ) (prefix : PrefixValue) → HasLine lines 0 (λ line. IsDomainLine line name) → HasLine lines 1 (λ line. IsPrefixLine line name prefix)
+      → ((peer : ℕ) → ¬ (HasLine lines 2 (λ line. IsClientLine line name peer))) → AreAtFault lines 3
+  more_lines : (settings : Settings) → HasLine lines 0 (λ line. IsDomainLine line settings.domain) → HasLine lines 1 (λ line. IsPrefixLine line settings.domain settings.prefix)
+      → HasLine lines 2 (λ line. IsClientLine line settings.domain settings.peer) → 3 < length lines → AreAtFault lines 4
 
 -- No line past the 65,537th byte is looked at: a line in which that byte stands differs, as it is longer than any of the form.
 abbrev pub file_lines : List ℕ → List (List ℕ)

@@ -5,5 +5,7 @@ pub mod Turns
 pub mod GrantedBody
 pub mod HearingLemmas
 pub mod Lines
+pub mod ReportLines
+pub mod SettingsBytes
 pub mod SettingsLines
 pub mod AskedTexts

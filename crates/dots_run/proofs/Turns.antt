@@ -1,9 +1,11 @@
 -- A run that goes on by one event, and one that stops.
-use Rattle.std.proofs.Common.{◌≡◌, ℕ, ◌+◌, Bool, List, [], ◌∷◌, ◌++◌, map, Option, Some, None, refl, sym, ap, ◌∙◌, ◌^◌, subst, arith}
+use Rattle.std.proofs.Common.{◌≡◌, ◌≢◌, ℕ, ◌+◌, Bool, List, [], ◌∷◌, ◌++◌, map, Option, Some, None, refl, sym, ap, ◌∙◌, ◌^◌, subst, arith}
 use Rattle.dots_host.specs.declared.event.Event.{Event}
 use Rattle.dots_host.specs.declared.event.Event.TheVariants as event
+use Rattle.dots_host.specs.declared.event.What.{What}
+use Rattle.dots_host.specs.declared.event.What.TheVariants as what_is
 use Rattle.dots_host.specs.declared.out.OwnedOut.{OwnedOut}
-use Rattle.dots_host.specs.Acts.{WireAct, took, gave, Timed, Adds}
+use Rattle.dots_host.specs.Acts.{WireAct, took, gave, Timed, Adds, event_of}
 use Rattle.dots_host.specs.Runs.{Owing, resting, ToldStep, Trace, in_one_turn, Added, IsSend, Gives, IsNoEnd, GoOn, EndsBy, count_of, events_in}
 use Rattle.dots_host.proofs.RunLemmas.{added_weaker, added_then, added_by, trace_then}
 use Rattle.dots_run.specs.declared.events.Stop.{Stop}
@@ -37,6 +39,17 @@ sends_count (out ∷ sends) (timed ∷ acts) g = omega (arith, by_act timed.act 
     by_act : (act : WireAct) → IsSend out act → count_of act ≡ 0
     by_act (took e at) s = absurd s
     by_act (gave o d) s = refl
+
+-- an event that is neither goes on
+pub no_end : (what : What) (room : List ℕ) (at : ℕ) → what ≢ what_is.End → what ≢ what_is.Failed → IsNoEnd (took (event_of what room) at)
+no_end (what_is.Datagram f n) room at e f' = tt
+no_end (what_is.Opened c f) room at e f' = tt
+no_end (what_is.Piece c n) room at e f' = tt
+no_end (what_is.Closed c) room at e f' = tt
+no_end what_is.Tick room at e f' = tt
+no_end what_is.Restart room at e f' = tt
+no_end what_is.End room at e f' = absurd (e refl)
+no_end what_is.Failed room at e f' = absurd (f' refl)
 
 module _ {S : Type 0} (step : S → Event → ℕ → List OwnedOut → S → Type 0) where
   abbrev owing : S → List OwnedOut → Owing S
@@ -86,7 +99,7 @@ module _ {S : Type 0} (step : S → Event → ℕ → List OwnedOut → S → Ty
       let one = added_by b c before now (took event at) P took_it refl in
       let turn = added_then b c d P (Gives sends) Q one gives (λ front back f g. (back, ap (λ xs. xs ++ back) f, g)) in
       added_then a b d (Lives step from old n) Q (Lives step from new (n + 1)) lives turn (λ front back f q.
-        subst (λ xs. Lives step from new (n + 1) (front ++ xs)) (sym q.1) (lives_then from old new n before event at sends front q.0 f goes s q.2))
+      subst (λ xs. Lives step from new (n + 1) (front ++ xs)) (sym q.1) (lives_then from old new n before event at sends front q.0 f goes s q.2))
 
   -- the loop stops at an event that changes nothing
   pub stopped : (from old : S) (n before now : ℕ) (how : Stop) (event : Event) (at : ℕ) (a b c : Option (List Timed)) → Added a b (Lives step from old n)
@@ -96,14 +109,14 @@ module _ {S : Type 0} (step : S → Event → ℕ → List OwnedOut → S → Ty
       let P : List Timed → Type 0 = λ more. more ≡ timed ∷ [] in
       let one = added_by b c before now (took event at) P took_it refl in
       added_then a b c (Lives step from old n) P (Ran step from old how) lives one (λ front back f p.
-        let last = event_trace old old before event at [] [] s tt in
-        subst (λ xs. Ran step from old how (front ++ xs)) (sym p) (record {
-          trace = f.trace ++ last.0;
-          run = trace_then (in_one_turn step) (resting from) (resting old) (resting old) front _ f.trace last.0 f.run last.1;
-          stops = says _ (front, timed, at, refl, refl, f.goes_on);
-        }))
+      let last = event_trace old old before event at [] [] s tt in
+      subst (λ xs. Ran step from old how (front ++ xs)) (sym p) (record {
+        trace = f.trace ++ last.0;
+        run = trace_then (in_one_turn step) (resting from) (resting old) (resting old) front _ f.trace last.0 f.run last.1;
+        stops = says _ (front, timed, at, refl, refl, f.goes_on);
+      }))
 
   -- the loop has run out
   pub ran_out : (from old : S) (n : ℕ) (a b : Option (List Timed)) → n ≡ 2 ^ 40 → Added a b (Lives step from old n) → Added a b (Ran step from old stop.TooMany)
   ran_out from old n a b is lives = added_weaker a b (Lives step from old n) (Ran step from old stop.TooMany) lives (λ more l.
-    record { trace = l.trace; run = l.run; stops = (l.goes_on, l.count ∙ is) })
+      record { trace = l.trace; run = l.run; stops = (l.goes_on, l.count ∙ is) })

@@ -1,4 +1,6 @@
 pub mod Asking
 pub mod Hearing
 pub mod Scopes
+pub mod Serving
+pub mod Standing
 pub mod Stopping

@@ -2,8 +2,9 @@
 #![tactic(auto)]
 
 mod affixes;
-mod replies;
 mod events;
+mod outcome;
+mod replies;
 mod report;
 mod request;
 mod request_body;
@@ -11,6 +12,9 @@ mod request_head;
 mod sending;
 mod server;
 mod settings_file;
+mod settings_source;
 mod targets;
 mod words;
 mod writing;
+
+pub use outcome::run;

@@ -5,10 +5,11 @@ ghost use Rattle.std.specs.Io.KnownBytes.{Appends, append_known};
 ghost use Rattle.dots_host.specs.Causes.{HasCause};
 ghost use Rattle.dots_machine.specs.History.{stands, standing};
 ghost use Rattle.dots_machine.specs.Report.{scrub_line, scrub_lines, report_of};
+ghost use Rattle.dots_run.specs.Standing.{lines_standing};
 ghost use Rattle.dots_run.specs.declared.writing.TheConstants.{BLOCK};
 
 use crate::server::Server;
-use crate::writing::{flush, put};
+use crate::writing::{flush, put_all};
 use dots_host::{Failed, Sink};
 use dots_machine::{Entry, Settings};
 use ip_scope::{Prefix, write_prefix};
@@ -25,7 +26,13 @@ pub fn write_report<K: Sink>(
         (report_of server.now.settings server.now.state)) }
     ensures cause { HasCause (K.faults sink.old) (K.faults sink.new) result }
 {
-    put_standing(server.settings(), server.time(), server.history(), sink, block)?;
+    put_standing(
+        server.settings(),
+        server.time(),
+        server.history(),
+        sink,
+        block,
+    )?;
     flush(sink, block)
 }
 
@@ -45,11 +52,29 @@ fn put_standing<K: Sink>(
     ensures cause { HasCause (K.faults sink.old) (K.faults sink.new) result }
 {
     for entry in history {
-        if stands(time, entry) {
-            put_entry(settings, entry, sink, block)?;
-        }
+        put_if_standing(settings, time, entry, sink, block)?;
     }
     Ok(())
+}
+
+/// The lines of a request, if it stands at the time.
+fn put_if_standing<K: Sink>(
+    settings: &Settings,
+    time: u64,
+    entry: &Entry,
+    sink: &mut K,
+    block: &mut Vec<u8>,
+) -> Result<(), Failed>
+    requires { BLOCK ≤ vec_capacity block.old }
+    ensures room { BLOCK ≤ vec_capacity block.new }
+    ensures ok { OnOk result (Appends (append_known (K.holds sink.old) block.old.items)
+        (append_known (K.holds sink.new) block.new.items) (lines_standing settings.now time entry.now)) }
+    ensures cause { HasCause (K.faults sink.old) (K.faults sink.new) result }
+{
+    if !stands(time, entry) {
+        return Ok(());
+    }
+    put_entry(settings, entry, sink, block)
 }
 
 /// Whether a request stands at the time.
@@ -98,13 +123,16 @@ fn put_line<K: Sink>(
     let mut mid = itoa::Buffer::new();
     let mut text = [0; 43];
     let len = write_prefix(prefix, &mut text);
-    put(sink, block, b"scrub ")?;
-    put(sink, block, settings.domain.bytes())?;
-    put(sink, block, b" ")?;
-    put(sink, block, entry.cuid.bytes())?;
-    put(sink, block, b" ")?;
-    put(sink, block, mid.format(entry.put.mid).as_bytes())?;
-    put(sink, block, b" ")?;
-    put(sink, block, &text[..len])?;
-    put(sink, block, b" any any\n")
+    let pieces = [
+        b"scrub ".as_slice(),
+        settings.domain.bytes(),
+        b" ".as_slice(),
+        entry.cuid.bytes(),
+        b" ".as_slice(),
+        mid.format(entry.put.mid).as_bytes(),
+        b" ".as_slice(),
+        &text[..len],
+        b" any any\n".as_slice(),
+    ];
+    put_all(sink, block, &pieces)
 }

@@ -52,7 +52,7 @@ pub fn hear<'a>(alloc: Global, datagram: &'a [u8]) -> Result<Hearing<'a>, Reques
 fn identifier_of(datagram: &[u8]) -> Option<u16>
     ensures { MatchOption result (length datagram.now < 4)
         (λ identifier. (4 ≤ length datagram.now)
-            × (identifier ≡ 256 * slice_index datagram.now 2 + slice_index datagram.now 3)) }
+        × (identifier ≡ 256 * slice_index datagram.now 2 + slice_index datagram.now 3)) }
 {
     match datagram {
         [_, _, high, low, ..] => Some(u16::from(*high) * 256 + u16::from(*low)),

@@ -25,12 +25,16 @@ pub struct RequestBody {
 
 /// The keys of RFC 9132, section 6.
 const MITIGATION_SCOPE: u64 = 1;
+
 const SCOPE: u64 = 2;
+
 const TARGET_PREFIX: u64 = 6;
+
 const LIFETIME: u64 = 14;
 
 /// The most prefixes of a scope, and the greatest lifetime in seconds.
 const MAX_PREFIXES: usize = 16;
+
 const MAX_LIFETIME: u64 = 2147483647;
 
 /// The element of a list of one.
@@ -91,7 +95,7 @@ fn two_values(item: &Item, first: u64, second: u64) -> Option<(&Item, &Item)>
     ensures { MatchOption result
         ((a b : Tree) → tree_of item.now ≢ mapping (pair (unsigned first) a (pair (unsigned second) b no_pairs)))
         (λ values. tree_of item.now
-            ≡ mapping (pair (unsigned first) (tree_of values.0.now) (pair (unsigned second) (tree_of values.1.now) no_pairs))) }
+        ≡ mapping (pair (unsigned first) (tree_of values.0.now) (pair (unsigned second) (tree_of values.1.now) no_pairs))) }
 {
     let Some(pairs) = item.as_map() else {
         return None;
@@ -151,7 +155,10 @@ fn prefix_in(target: &Item) -> Option<Prefix>
 }
 
 /// The prefixes in items that are texts of IPv4 prefixes, all of them.
-fn prefixes_in(alloc: Global, targets: &[Item]) -> Result<Option<dots_lists::List<Prefix>>, NoMemory>
+fn prefixes_in(
+    alloc: Global,
+    targets: &[Item],
+) -> Result<Option<dots_lists::List<Prefix>>, NoMemory>
     ensures some { IfOk result (λ found. IfSome found (λ prefixes. ReadItems (map tree_of targets.now) prefixes)) }
     ensures none { IfOk result (λ found. IfNone found ((prefixes : List PrefixValue) → ¬ (ReadItems (map tree_of targets.now) prefixes))) }
 {

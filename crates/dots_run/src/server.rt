@@ -83,14 +83,15 @@ impl Server {
     fn accepts(&self, asked: &Asked) -> bool
         ensures { result ≡ accepts self.now.settings self.now.state (request_of asked.now) }
     {
-        may_all_be_asked(&[self.settings.prefix], asked.body.prefixes.items()) && self.history.is_empty()
+        may_all_be_asked(&[self.settings.prefix], asked.body.prefixes.items())
+            && self.history.is_empty()
     }
 
     /// Adds an accepted request to the history.
     fn accept(&mut self, peer: u32, asked: Asked) -> Result<(), NoMemory>
         requires { IsFit asked }
         ensures ok { OnOk result (self.new ≡ record self.old {
-            state = with_entry self.old.state (entry_of peer self.old.state.time (request_of asked.entry));
+          state = with_entry self.old.state (entry_of peer self.old.state.time (request_of asked.entry));
         }) }
         ensures err { OnErr result (self.new ≡ self.old) }
     {
@@ -117,7 +118,13 @@ impl Server {
         match self.accept(peer, asked) {
             Ok(()) => return self.send_last_reply(wire, peer),
             Err(_) => {
-                return send_bare(wire, peer, INTERNAL_SERVER_ERROR, head.identifier, head.token);
+                return send_bare(
+                    wire,
+                    peer,
+                    INTERNAL_SERVER_ERROR,
+                    head.identifier,
+                    head.token,
+                );
             }
         }
     }
@@ -138,7 +145,13 @@ impl Server {
             }
             Ok(Hearing::Asked(asked)) => return self.decide(wire, peer, asked),
             Err(head) => {
-                return send_bare(wire, peer, INTERNAL_SERVER_ERROR, head.identifier, head.token);
+                return send_bare(
+                    wire,
+                    peer,
+                    INTERNAL_SERVER_ERROR,
+                    head.identifier,
+                    head.token,
+                );
             }
         }
     }

@@ -10,7 +10,7 @@ use decimal_text::parse_decimal;
 use ip_scope::{Family, Prefix, parse_prefix};
 
 /// The first line and what stands after its line feed, or None where there is no line.
-fn split_line(bytes: &[u8]) -> Option<(&[u8], &[u8])>
+pub fn split_line(bytes: &[u8]) -> Option<(&[u8], &[u8])>
     ensures some { IfSome result (λ split. lines_of bytes.now ≡ split.0.now ∷ lines_of split.1.now) }
     ensures none { IfNone result (lines_of bytes.now ≡ []) }
 {
@@ -26,7 +26,7 @@ fn split_line(bytes: &[u8]) -> Option<(&[u8], &[u8])>
 }
 
 /// The name in `domain NAME`.
-fn domain_name(line: &[u8]) -> Option<&[u8]>
+pub fn domain_name(line: &[u8]) -> Option<&[u8]>
     ensures some { IfSome result (λ name. IsDomainLine line.now name.now) }
     ensures none { IfNone result ((name : List ℕ) → ¬ (IsDomainLine line.now name)) }
 {
@@ -62,7 +62,7 @@ fn is_domain_byte(byte: u8) -> bool
 }
 
 /// The prefix in `prefix NAME PREFIX`, an IPv4 prefix.
-fn prefix_of(line: &[u8], name: &[u8]) -> Option<Prefix>
+pub fn prefix_of(line: &[u8], name: &[u8]) -> Option<Prefix>
     ensures some { IfSome result (λ prefix. IsPrefixLine line.now name.now prefix) }
     ensures none { IfNone result ((prefix : PrefixValue) → ¬ (IsPrefixLine line.now name.now prefix)) }
 {
@@ -93,7 +93,7 @@ pub fn ipv4_prefix(text: &[u8]) -> Option<Prefix>
 }
 
 /// The peer in `client PEER NAME`.
-fn client_of(line: &[u8], name: &[u8]) -> Option<u32>
+pub fn client_of(line: &[u8], name: &[u8]) -> Option<u32>
     ensures some { IfSome result (λ peer. IsClientLine line.now name.now peer) }
     ensures none { IfNone result ((peer : ℕ) → ¬ (IsClientLine line.now name.now peer)) }
 {

@@ -1,6 +1,6 @@
 //! Writing to a sink, in blocks.
 
-ghost use Rattle.std.specs.Prelude.{◌≡◌, ◌≤◌, [], length, drop, OnOk, vec_capacity};
+ghost use Rattle.std.specs.Prelude.{◌≡◌, ◌≤◌, [], length, drop, flat_map, OnOk, vec_capacity};
 ghost use Rattle.std.specs.Io.KnownBytes.{Appends, append_known};
 ghost use Rattle.dots_host.specs.Causes.{HasCause};
 
@@ -10,7 +10,7 @@ use dots_host::{Failed, Sink};
 pub const BLOCK: usize = 4096;
 
 /// Writes all of the bytes.
-fn write_all<K: Sink>(sink: &mut K, bytes: &[u8]) -> Result<(), Failed>
+pub fn write_all<K: Sink>(sink: &mut K, bytes: &[u8]) -> Result<(), Failed>
     ensures ok { OnOk result (Appends (K.holds sink.old) (K.holds sink.new) bytes.now) }
     ensures cause { HasCause (K.faults sink.old) (K.faults sink.new) result }
 {
@@ -43,7 +43,7 @@ pub fn flush<K: Sink>(sink: &mut K, block: &mut Vec<u8>) -> Result<(), Failed>
 }
 
 /// Gathers the bytes in the block, which is written where they don't fit.
-pub fn put<K: Sink>(sink: &mut K, block: &mut Vec<u8>, bytes: &[u8]) -> Result<(), Failed>
+fn put<K: Sink>(sink: &mut K, block: &mut Vec<u8>, bytes: &[u8]) -> Result<(), Failed>
     requires { BLOCK ≤ vec_capacity block.old }
     ensures room { BLOCK ≤ vec_capacity block.new }
     ensures ok { OnOk result (Appends (append_known (K.holds sink.old) block.old.items)
@@ -55,6 +55,20 @@ pub fn put<K: Sink>(sink: &mut K, block: &mut Vec<u8>, bytes: &[u8]) -> Result<(
     }
     if block.extend_from_slice(bytes).is_err() {
         return write_all(sink, bytes);
+    }
+    Ok(())
+}
+
+/// Gathers the pieces, one after the other.
+pub fn put_all<K: Sink>(sink: &mut K, block: &mut Vec<u8>, pieces: &[&[u8]]) -> Result<(), Failed>
+    requires { BLOCK ≤ vec_capacity block.old }
+    ensures room { BLOCK ≤ vec_capacity block.new }
+    ensures ok { OnOk result (Appends (append_known (K.holds sink.old) block.old.items)
+        (append_known (K.holds sink.new) block.new.items) (flat_map (λ piece. piece.now) pieces.now)) }
+    ensures cause { HasCause (K.faults sink.old) (K.faults sink.new) result }
+{
+    for piece in pieces {
+        put(sink, block, piece)?;
     }
     Ok(())
 }

@@ -4,8 +4,8 @@ use Rattle.dots_machine.specs.Machine.{Step}
 use Rattle.dots_run.specs.Stopping.{Lives}
 use Rattle.dots_run.proofs.events.take_events.Given as goal
 
-abbrev pub invariant-loop-_turn : goal.invariant-loop-_turn
-invariant-loop-_turn g l = record {
+abbrev pub invariant-loop-turn : goal.invariant-loop-turn
+invariant-loop-turn g l = record {
   settings : l.server.settings ≡ l.fn.server.settings;
   later : g.W.Wire.faults l.fn.wire ≤ g.W.Wire.faults l.wire;
   lives : Added (g.W.Wire.acts l.fn.wire) (g.W.Wire.acts l.wire) (Lives (Step l.fn.server.settings) l.fn.server.state l.server.state l._turn);

@@ -10,5 +10,5 @@ returns-in_default-clause-none c = λ ps all.
 pub loop-target-preserved : goal.loop-target-preserved
 loop-target-preserved c =
     rw (add-one c.loop-target.target-index, c.in_ok-push.ensures.ok) (
-      read_more c.args.targets.now c.loop-target.target-index c.target-item.result c.loop-target.prefixes c.in-Some.prefix c.loop-target-test.true c.target-item.is c.loop-target.invariant c.in-Some.ensures
+    read_more c.args.targets.now c.loop-target.target-index c.target-item.result c.loop-target.prefixes c.in-Some.prefix c.loop-target-test.true c.target-item.is c.loop-target.invariant c.in-Some.ensures
     )

@@ -1,0 +1,139 @@
+//! The top call.
+
+ghost use Rattle.std.specs.Prelude.{◌≡◌, ◌≢◌, ◌≤◌, ◌⊎◌, [], ◌++◌, codes, decimal, map, false, string_bytes, vec_capacity, OnOk};
+ghost use Rattle.std.specs.Io.KnownBytes.{Appends};
+ghost use Rattle.dots_host.specs.Causes.{Rose, HasCause};
+ghost use Rattle.dots_host.specs.Runs.{Added};
+ghost use Rattle.dots_machine.specs.declared.ending.Ending as endings;
+ghost use Rattle.dots_machine.specs.Endings.{is_command, status_of, Behaves, fault_line};
+ghost use Rattle.dots_machine.specs.Report.{report_of};
+ghost use Rattle.dots_run.specs.Serving.{ServesTo};
+ghost use Rattle.dots_run.specs.declared.writing.TheConstants.{BLOCK};
+
+use crate::events::{Stop, take_events};
+use crate::report::write_report;
+use crate::server::Server;
+use crate::settings_source::{SettingsError, read_settings};
+use crate::words::is_command;
+use crate::writing::{BLOCK, write_all};
+use dots_host::{Failed, Host, MAX_EVENT_BYTES, Sink, Source};
+use dots_machine::{Ending, Settings, SettingsFault};
+use std::alloc::Global;
+
+/// Does all that the program does, and answers its exit status.
+///
+/// `words` are the command line's words without the program's name: `replay SETTINGS`. The settings are read
+/// from the source, the events are taken from the host, and at End the filters that stand are written to the
+/// report.
+pub fn run<H: Host, S: Source, K: Sink>(
+    alloc: Global,
+    words: &[String],
+    settings: &mut S,
+    host: &mut H,
+    report: &mut K,
+) -> u8
+    // Which statuses there are, and the causes of some, whatever the host tells.
+    ensures only { (ending : endings.Ending) × (result ≡ status_of ending) }
+    ensures words { result ≡ 2 → is_command (map string_bytes words.now) ≡ false }
+    ensures read { result ≡ 5 → Rose (S.faults settings.old) (S.faults settings.new)
+        ⊎ Rose (H.faults host.old) (H.faults host.new) }
+    ensures written { result ≡ 9 → Rose (K.faults report.old) (K.faults report.new) }
+    // The run, where the host tells its acts.
+    ensures machine { Added (H.acts host.old) (H.acts host.new) (λ more. (ending : endings.Ending)
+        × (result ≡ status_of ending)
+        × Behaves ending (S.left settings.old) more (K.holds report.old) (K.holds report.new)) }
+{
+    ending_of(alloc, words, settings, host, report).status()
+}
+
+/// How the run ends.
+fn ending_of<H: Host, S: Source, K: Sink>(
+    alloc: Global,
+    words: &[String],
+    settings: &mut S,
+    host: &mut H,
+    report: &mut K,
+) -> Ending
+    ensures words { result ≡ Ending.WrongWords → is_command (map string_bytes words.now) ≡ false }
+    ensures unread { result ≡ Ending.SettingsFailed → Rose (S.faults settings.old) (S.faults settings.new) }
+    ensures failed { result ≡ Ending.NextFailed → Rose (H.faults host.old) (H.faults host.new) }
+    ensures written { result ≡ Ending.ReportFailed → Rose (K.faults report.old) (K.faults report.new) }
+    ensures machine { Added (H.acts host.old) (H.acts host.new)
+        (λ more. Behaves result (S.left settings.old) more (K.holds report.old) (K.holds report.new)) }
+{
+    if !is_command(words) {
+        let _ = write_all(report, b"words\n");
+        return Ending::WrongWords;
+    }
+    match read_settings(alloc, settings) {
+        Ok(settings) => return serve(alloc, settings, host, report),
+        Err(SettingsError::Refused(fault)) => {
+            let _ = write_fault(report, fault);
+            return Ending::Refused(fault);
+        }
+        Err(SettingsError::Failed) => return Ending::SettingsFailed,
+        Err(SettingsError::NoMemory) => return Ending::NoMemory,
+    }
+}
+
+/// Serves the events of the host, and reports the filters that stand at End.
+fn serve<H: Host, K: Sink>(
+    alloc: Global,
+    settings: Settings,
+    host: &mut H,
+    report: &mut K,
+) -> Ending
+    ensures here { (result ≢ Ending.WrongWords) × (result ≢ Ending.SettingsFailed) }
+    ensures failed { result ≡ Ending.NextFailed → Rose (H.faults host.old) (H.faults host.new) }
+    ensures written { result ≡ Ending.ReportFailed → Rose (K.faults report.old) (K.faults report.new) }
+    ensures machine { Added (H.acts host.old) (H.acts host.new)
+        (λ more. ServesTo result settings more (K.holds report.old) (K.holds report.new)) }
+{
+    let Ok(mut block) = Vec::with_capacity(alloc, BLOCK) else {
+        return Ending::NoMemory;
+    };
+    let mut room = [0; MAX_EVENT_BYTES];
+    let mut server = Server::new(alloc, settings);
+    match take_events(&mut server, host, &mut room) {
+        Stop::NextFailed => return Ending::NextFailed,
+        Stop::TooMany => return Ending::TooMany,
+        Stop::Ended => return finish(&server, report, &mut block),
+    }
+}
+
+/// Writes the report, and says whether that went well.
+fn finish<K: Sink>(server: &Server, report: &mut K, block: &mut Vec<u8>) -> Ending
+    requires room { BLOCK ≤ vec_capacity block.old }
+    requires empty { block.old.items ≡ [] }
+    ensures here { (result ≡ Ending.Whole) ⊎ (result ≡ Ending.ReportFailed) }
+    ensures whole { result ≡ Ending.Whole → Appends (K.holds report.old) (K.holds report.new)
+        (report_of server.now.settings server.now.state) }
+    ensures written { result ≡ Ending.ReportFailed → Rose (K.faults report.old) (K.faults report.new) }
+{
+    match write_report(server, report, block) {
+        Ok(()) => return Ending::Whole,
+        Err(_) => return Ending::ReportFailed,
+    }
+}
+
+/// Writes the line of a refusal of the settings.
+fn write_fault<K: Sink>(report: &mut K, fault: SettingsFault) -> Result<(), Failed>
+    ensures ok { OnOk result (Appends (K.holds report.old) (K.holds report.new) (fault_line fault)) }
+    ensures cause { HasCause (K.faults report.old) (K.faults report.new) result }
+{
+    match fault {
+        SettingsFault::Line { number } => write_line_fault(report, number),
+    }
+}
+
+/// `settings line N`.
+fn write_line_fault<K: Sink>(report: &mut K, number: u32) -> Result<(), Failed>
+    ensures ok { OnOk result (Appends (K.holds report.old) (K.holds report.new)
+        (codes "settings line " ++ decimal number ++ codes "\n")) }
+    ensures cause { HasCause (K.faults report.old) (K.faults report.new) result }
+{
+    let mut digits = itoa::Buffer::new();
+    write_all(report, b"settings line ")?;
+    write_all(report, digits.format(number).as_bytes())?;
+    write_all(report, b"\n")
+}
