@@ -37,6 +37,7 @@ pub use out::{Out, OwnedOut, Sent};
 pub use sink::Sink;
 pub use source::Source;
 pub use standard::{StdSink, StdSource};
+pub use tape::Tape;
 pub use wire::{Host, Wire};
 
 /// The greatest number of bytes of a datagram or of a piece of a connection.

@@ -1,0 +1,5 @@
+pub mod Known
+pub mod HexPieces
+pub mod Splits
+pub mod EventLines
+pub mod Reading

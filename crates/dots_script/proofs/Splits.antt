@@ -1,0 +1,17 @@
+-- A text before the first of some byte, and behind it.
+use Rattle.std.proofs.Common.{◌≡◌, ◌≢◌, ℕ, ◌+◌, ◌-◌, ◌<◌, List, ◌∷◌, ◌++◌, length, get_or, take, drop, sym, ap, ◌∙◌, arith, length-take}
+use Rattle.std.proofs.lemmas.List.{drop_more, take-append-drop, get_or-take}
+use Rattle.dots_script.proofs.Known.{rest_of}
+
+pub split_at : (text : List ℕ) (at byte : ℕ) → at < length text → get_or text at 0 ≡ byte → text ≡ take at text ++ (byte ∷ drop (at + 1) text)
+split_at text at byte within is =
+    sym (take-append-drop at text) ∙ ap (λ rest. take at text ++ rest) (drop_more text at 0 within ∙ ap (λ b. b ∷ drop (at + 1) text) is)
+
+pub split_around : (text : List ℕ) (at byte : ℕ) → at < length text → get_or text at 0 ≡ byte → text ≡ take at text ++ (byte ∷ take (length text - (at + 1)) (drop (at + 1) text))
+split_around text at byte within is = split_at text at byte within is ∙ ap (λ rest. take at text ++ (byte ∷ rest)) (sym (rest_of text (at + 1)))
+
+-- what no byte of the front is, none of the part is
+pub none_in_front : (text : List ℕ) (at byte : ℕ) → ((k : ℕ) → k < at → get_or text k 0 ≢ byte) → (k : ℕ) → k < length (take at text) → get_or (take at text) k 0 ≢ byte
+none_in_front text at byte none k within is =
+    let before : k < at = omega (arith, length-take at text) in
+    none k before (sym (get_or-take at text k 0 before) ∙ is)

@@ -1,0 +1,6 @@
+pub mod Script
+pub mod Words
+pub mod Lines
+pub mod Finding
+pub mod Sends
+pub mod Scripting

@@ -1,0 +1,102 @@
+ghost use Rattle.std.specs.Prelude.{◌≡◌, ◌≢◌, ℕ, List, ◌∷◌, ◌++◌, ◌^◌, ◌<◌, ◌≤◌, length, take, IfSome, IfNone, MatchOption, decimal};
+ghost use Rattle.dots_host.specs.Acts.{IsWithin, OnFailed, event_of};
+ghost use Rattle.dots_host.specs.declared.event.Event.{Event};
+ghost use Rattle.dots_host.specs.declared.TheConstants.{MAX_EVENT_BYTES};
+ghost use Rattle.dots_script.specs.Script.{IsEventLine, IsHex};
+ghost use Rattle.dots_script.specs.Words.{HasNoSpace, IsAfterNumber};
+
+use decimal_text::parse_decimal;
+use dots_host::{Got, MAX_EVENT_BYTES, What};
+use hex::decode_to_slice;
+
+/// The event of a script line and the time beside it, the event's bytes at the front of the room.
+pub fn parse_event(line: &[u8], into: &mut [u8]) -> Option<Got>
+    requires { length into.old ≡ MAX_EVENT_BYTES }
+    ensures some { IfSome result (λ got. IsEventLine line.now (event_of got.what into.new) got.at) }
+    ensures none { IfNone result ((event : Event) (at : ℕ) → ¬ (IsEventLine line.now event at)) }
+    ensures at { IfSome result (λ got. got.at < 2 ^ 48) }
+    ensures within { IfSome result (λ got. IsWithin got.what MAX_EVENT_BYTES) }
+    ensures event { IfSome result (λ got. OnFailed got.what ⊥) }
+{
+    let Some(rest) = after(line, b"at ") else {
+        return None;
+    };
+    let Some((at, rest)) = number_before_space(rest) else {
+        return None;
+    };
+    if at >= 1 << 48 {
+        return None;
+    }
+    let Some(rest) = after(rest, b"from ") else {
+        return None;
+    };
+    let Some((from, digits)) = number_before_space(rest) else {
+        return None;
+    };
+    if from > u64::from(u32::MAX) {
+        return None;
+    }
+    let Some(len) = read_hex(digits, into) else {
+        return None;
+    };
+    let what = What::Datagram {
+        from: from as u32,
+        len,
+    };
+    Some(Got { what, at })
+}
+
+/// What follows the front, where the bytes begin with it.
+fn after<'a>(bytes: &'a [u8], front: &[u8]) -> Option<&'a [u8]>
+    ensures { MatchOption result ((rest : List ℕ) → bytes.now ≢ front.now ++ rest)
+        (λ rest. bytes.now ≡ front.now ++ rest.now) }
+{
+    bytes.strip_prefix(front)
+}
+
+/// The number that the bytes before the first space write, and the bytes behind that space.
+fn number_before_space(bytes: &[u8]) -> Option<(u64, &[u8])>
+    ensures some { IfSome result (λ found. IsAfterNumber bytes.now found.0 found.1.now) }
+    ensures none { IfNone result ((number : ℕ) (rest : List ℕ) → ¬ (IsAfterNumber bytes.now number rest)) }
+{
+    let Some((digits, rest)) = split_at_space(bytes) else {
+        return None;
+    };
+    let Some(number) = parse_decimal(digits) else {
+        return None;
+    };
+    Some((number, rest))
+}
+
+/// The bytes before the first space and those behind it.
+fn split_at_space(bytes: &[u8]) -> Option<(&[u8], &[u8])>
+    ensures some { IfSome result (λ split. (bytes.now ≡ split.0.now ++ (32 ∷ split.1.now)) × HasNoSpace split.0.now) }
+    ensures none { IfNone result (HasNoSpace bytes.now) }
+{
+    for at in 0..bytes.len() {
+        if bytes[at] == b' ' {
+            return Some((&bytes[..at], &bytes[at + 1..]));
+        }
+    }
+    None
+}
+
+/// Puts the bytes that the digits write to the front of the room, and answers how many they are.
+fn read_hex(digits: &[u8], into: &mut [u8]) -> Option<usize>
+    requires { length into.old ≡ MAX_EVENT_BYTES }
+    ensures some { IfSome result (λ len. IsHex digits.now (take len into.new)) }
+    ensures none { IfNone result ((bytes : List ℕ) → ¬ (IsHex digits.now bytes)) }
+    ensures few { IfSome result (λ len. len ≤ MAX_EVENT_BYTES) }
+{
+    let len = digits.len() / 2;
+    if len == 0 {
+        return None;
+    }
+    if len > MAX_EVENT_BYTES {
+        return None;
+    }
+    match decode_to_slice(digits, &mut into[..len]) {
+        Ok(()) => return Some(len),
+        Err(_) => return None,
+    }
+}

@@ -1,0 +1,190 @@
+ghost use Rattle.std.specs.Prelude.{◌≡◌, ◌+◌, ◌≤◌, ◌<◌, ◌^◌, [], length, true, IfOk};
+ghost use Rattle.std.specs.Io.KnownBytes.{Appends};
+ghost use Rattle.dots_host.specs.Causes.{Rose};
+ghost use Rattle.dots_host.specs.Acts.{IsWithin, OnFailed, OnEvent, Adds, taken, given, event_of, owned_of};
+ghost use Rattle.dots_host.specs.Memory.{told};
+ghost use Rattle.dots_host.specs.declared.TheConstants.{MAX_EVENT_BYTES};
+ghost use Rattle.dots_script.specs.Lines.{to_come, Answers};
+ghost use Rattle.dots_script.specs.Sends.{line_of, AppendsBeginning};
+
+use crate::block::Block;
+use crate::event_line::parse_event;
+use crate::lines::{Found, find_unskipped};
+use crate::recording::{record_given, record_taken};
+use crate::send_line::{SEND_ROOM, write_line};
+use dots_host::{
+    Failed, Got, Host, MAX_EVENT_BYTES, NoMemory, Out, Sent, Sink, Source, Tape, What, Wire,
+};
+use std::alloc::Global;
+use std::marker::Model;
+
+/// A host whose events are the lines of a script and whose sends are written as lines. It records its calls.
+///
+/// A call that can't be recorded for want of memory goes on, and from then on the acts are no longer told.
+#[derive(Drop)]
+pub struct ScriptHost<S, K> {
+    alloc: Global,
+    source: S,
+    block: Block,
+    sink: K,
+    room: Vec<u8>,
+    tape: Tape,
+    faults: u64,
+}
+
+impl<S, K> Model for ScriptHost<S, K> {
+    ghost use Rattle.std.specs.Prelude.{◌≡◌, length};
+    ghost use Rattle.dots_script.specs.Scripting.{Scripting};
+
+    ghost Value = { Scripting S K };
+
+    ghost view = { λ host. record { source = host.source; ahead = host.block; sink = host.sink; acts = host.tape.acts; whole = host.tape.whole; faults = host.faults } };
+
+    ghost invariant = { λ host. length host.room.items ≡ 8209 };
+}
+
+const FAILED: Got = Got {
+    what: What::Failed,
+    at: 0,
+};
+
+impl<S: Source + Drop, K: Sink + Drop> ScriptHost<S, K> {
+    /// A host over the script that the source gives, whose sends go to the sink. Takes the room for lines.
+    pub fn new(alloc: Global, source: S, sink: K) -> Result<Self, NoMemory>
+        ensures { IfOk result (λ host. host ≡
+            record { source = source; ahead = []; sink = sink; acts = []; whole = true; faults = 0 }) }
+    {
+        let block = Block::new(alloc)?;
+        let room = vec![in alloc; 0u8; SEND_ROOM]?;
+        Ok(ScriptHost {
+            alloc,
+            source,
+            block,
+            sink,
+            room,
+            tape: Tape::new(alloc),
+            faults: 0,
+        })
+    }
+}
+
+impl<S: Source, K: Sink> ScriptHost<S, K> {
+    /// The sink of its sends.
+    pub fn sink(&self) -> &K
+        ensures { result.now ≡ self.now.sink }
+    {
+        &self.sink
+    }
+
+    /// Whether it tells its acts: each call so far was recorded.
+    pub fn whole(&self) -> bool
+        ensures { result ≡ self.now.whole }
+    {
+        self.tape.is_whole()
+    }
+}
+
+/// The event of the first line that isn't skipped, which then is passed, or the end, or a failure.
+fn next_event<S: Source>(block: &mut Block, source: &mut S, into: &mut [u8]) -> Got
+    requires { length into.old ≡ MAX_EVENT_BYTES }
+    ensures at { result.at < 2 ^ 48 }
+    ensures within { IsWithin result.what MAX_EVENT_BYTES }
+    ensures answer { Answers (to_come block.old (S.left source.old))
+        (to_come block.new (S.left source.new)) (event_of result.what into.new) result.at
+        (Rose (S.faults source.old) (S.faults source.new)) }
+    ensures later { S.faults source.old ≤ S.faults source.new }
+{
+    match find_unskipped(block, source) {
+        Found::Line { len } => {
+            let Some(got) = parse_event(&block.bytes()[..len], into) else {
+                return FAILED;
+            };
+            block.pass(len + 1);
+            return got;
+        }
+        Found::End => {
+            return Got {
+                what: What::End,
+                at: 0,
+            };
+        }
+        Found::Fault => return FAILED,
+        Found::Failed => return FAILED,
+    }
+}
+
+/// One more fault where the wire failed.
+fn count_fault(faults: u64, what: What) -> u64
+    ensures later { faults ≤ result }
+    ensures rose { OnFailed what (Rose faults result) }
+    ensures same { OnEvent what (result ≡ faults) }
+{
+    match what {
+        What::Failed => faults.saturating_add(1),
+        _ => faults,
+    }
+}
+
+impl<S: Source, K: Sink> Wire for ScriptHost<S, K> {
+    ghost acts = { λ host. told host.whole host.acts };
+
+    ghost moment = { λ host. length host.acts };
+
+    ghost faults = { λ host. host.faults };
+
+    ghost beside = { λ _ _. Unit {0} };
+
+    ghost beside_same = { λ _. tt };
+
+    ghost beside_then = { λ _ _ _ _ _. tt };
+
+    fn next(&mut self, into: &mut [u8]) -> Got
+        requires { length into.old ≡ MAX_EVENT_BYTES }
+        ensures at { result.at < 2 ^ 48 }
+        ensures within { IsWithin result.what MAX_EVENT_BYTES }
+        ensures acts { Adds (told self.old.whole self.old.acts) (length self.old.acts)
+            (told self.new.whole self.new.acts) (length self.new.acts) (taken result into.new) }
+        ensures later { self.old.faults ≤ self.new.faults }
+        ensures cause { OnFailed result.what (Rose self.old.faults self.new.faults) }
+        ensures beside { Unit {0} }
+
+        // What it answers is what the first line that isn't skipped says.
+        ensures answer { Answers (to_come self.old.ahead (S.left self.old.source))
+            (to_come self.new.ahead (S.left self.new.source)) (event_of result.what into.new) result.at
+            (Rose (S.faults self.old.source) (S.faults self.new.source)) }
+        ensures source { S.faults self.old.source ≤ S.faults self.new.source }
+        ensures no_fault { OnEvent result.what (self.new.faults ≡ self.old.faults) }
+        ensures sink { self.new.sink ≡ self.old.sink }
+    {
+        let got = next_event(&mut self.block, &mut self.source, into);
+        self.faults = count_fault(self.faults, got.what);
+        record_taken(self.alloc, &mut self.tape, got, into);
+        got
+    }
+
+    fn send(&mut self, out: &Out) -> Sent
+        ensures acts { Adds (told self.old.whole self.old.acts) (length self.old.acts)
+            (told self.new.whole self.new.acts) (length self.new.acts) (given out.now result) }
+        ensures faults { self.new.faults ≡ self.old.faults }
+        ensures beside { Unit {0} }
+
+        // The line is written, or a beginning of it where the sink failed.
+        ensures done { result ≡ Sent.Done → Appends (K.holds self.old.sink) (K.holds self.new.sink)
+            (line_of (owned_of out.now)) }
+        ensures lost { result ≡ Sent.Lost → AppendsBeginning (K.holds self.old.sink)
+            (K.holds self.new.sink) (line_of (owned_of out.now)) }
+        ensures lost_only { result ≡ Sent.Lost → Rose (K.faults self.old.sink) (K.faults self.new.sink) }
+        ensures sink { K.faults self.old.sink ≤ K.faults self.new.sink }
+        ensures source { self.new.source ≡ self.old.source }
+        ensures ahead { self.new.ahead ≡ self.old.ahead }
+    {
+        let sent = match write_line(&mut self.sink, self.room.as_mut_slice(), out) {
+            Ok(()) => Sent::Done,
+            Err(Failed) => Sent::Lost,
+        };
+        record_given(self.alloc, &mut self.tape, out, sent);
+        sent
+    }
+}
+
+impl<S: Source, K: Sink> Host for ScriptHost<S, K> {}
