@@ -14,6 +14,8 @@ mod lines;
 mod recording;
 mod script_host;
 mod send_line;
+#[cfg(test)]
+mod tests;
 mod write_all;
 
 pub use event_line::parse_event;

@@ -11,6 +11,9 @@ pub fn record_taken(alloc: Global, tape: &mut Tape, got: Got, room: &[u8])
     ensures { Adds (told tape.old.whole tape.old.acts) (length tape.old.acts)
         (told tape.new.whole tape.new.acts) (length tape.new.acts) (taken got room.now) }
 {
+    if !tape.is_whole() {
+        return;
+    }
     let Ok(event) = copy_event(alloc, got.what, room) else {
         tape.forget();
         return;
@@ -26,6 +29,9 @@ pub fn record_given(alloc: Global, tape: &mut Tape, out: &Out, sent: Sent)
     ensures { Adds (told tape.old.whole tape.old.acts) (length tape.old.acts)
         (told tape.new.whole tape.new.acts) (length tape.new.acts) (given out.now sent) }
 {
+    if !tape.is_whole() {
+        return;
+    }
     let Ok(out) = copy_out(alloc, out) else {
         tape.forget();
         return;

@@ -21,7 +21,7 @@ use std::marker::Model;
 /// A host whose events are the lines of a script and whose sends are written as lines. It records its calls.
 ///
 /// A call that can't be recorded for want of memory goes on, and from then on the acts are no longer told.
-#[derive(Drop)]
+#[derive(Debug, Drop)]
 pub struct ScriptHost<S, K> {
     alloc: Global,
     source: S,
