@@ -72,8 +72,8 @@ pub reaches : (what : Found) (a b left : Option (List ℕ)) (ahead : List ℕ) (
     → ((len : ℕ) → what ≡ found.Line len → ¬ (IsSkipped (take len ahead))) → Reaches a what ahead left other
 reaches (found.Line len) a b left ahead count other skips few kept finds unlike = (count, few, skips_kept a b _ count skips kept, finds, unlike len refl)
 reaches found.End a b left ahead count other skips few kept finds unlike = (count, few, skips_kept a b _ count skips kept, finds)
-reaches found.Fault a b left ahead count other skips few kept finds unlike = (count, skips_kept a b _ count skips kept, inr finds)
-reaches found.Failed a b left ahead count other skips few kept finds unlike = (count, skips_kept a b _ count skips kept, finds)
+reaches found.Fault a b left ahead count other skips few kept finds unlike = (count, omega arith, skips_kept a b _ count skips kept, inr finds)
+reaches found.Failed a b left ahead count other skips few kept finds unlike = (count, omega arith, skips_kept a b _ count skips kept, finds)
 
 -- ---- what a call answers
 
@@ -118,7 +118,7 @@ other_form (Some xs) ahead len has unlike none = inr (inr (record {
 
 pub answers_other : (a left : Option (List ℕ)) (ahead : List ℕ) (len : ℕ) (other : Type 0) → Reaches a (found.Line len) ahead left other
     → ((event : Event) (at : ℕ) → ¬ (IsEventLine (take len ahead) event at)) → Answers a (to_come ahead left) event.Failed 0 other
-answers_other a left ahead len other reach none = (reach.0, reach.2, inr (inl (other_form left ahead len reach.3 reach.4 none)))
+answers_other a left ahead len other reach none = ((reach.0, omega (arith, reach.1), reach.2, inr (inl (other_form left ahead len reach.3 reach.4 none))), refl)
 
 at_end : (left : Option (List ℕ)) (ahead : List ℕ) → HasNone ahead left → IsAtEnd (to_come ahead left)
 at_end None ahead none = tt
@@ -132,7 +132,7 @@ fault_of None fault = tt
 fault_of (Some t) fault = elim fault [ inl long ↦ inl long | inr cut ↦ inr (inl cut) ]
 
 pub answers_fault : (a left : Option (List ℕ)) (ahead : List ℕ) (other : Type 0) → Reaches a found.Fault ahead left other → Answers a (to_come ahead left) event.Failed 0 other
-answers_fault a left ahead other reach = (reach.0, reach.1, elim reach.2 [ inl full ↦ inl full | inr fault ↦ inr (inl (fault_of _ fault)) ])
+answers_fault a left ahead other reach = ((reach.0, reach.1, reach.2, elim reach.3 [ inl full ↦ inl full | inr fault ↦ inr (inl (fault_of _ fault)) ]), refl)
 
 pub answers_failed : (a left : Option (List ℕ)) (ahead : List ℕ) (other : Type 0) → Reaches a found.Failed ahead left other → Answers a (to_come ahead left) event.Failed 0 other
-answers_failed a left ahead other reach = (reach.0, reach.1, inr (inr reach.2))
+answers_failed a left ahead other reach = ((reach.0, reach.1, reach.2, inr (inr reach.3)), refl)

@@ -28,5 +28,5 @@ Finds found.Failed ahead left other = other
 abbrev pub Reaches : Option (List ℕ) → Found → List ℕ → Option (List ℕ) → Type 0 → Type 0
 Reaches old (found.Line len) ahead left other = (count : ℕ) × (count < 2 ^ 40) × Skips old (to_come ahead left) count × HasLine ahead len × (¬ (IsSkipped (take len ahead)))
 Reaches old found.End ahead left other = (count : ℕ) × (count < 2 ^ 40) × Skips old (to_come ahead left) count × HasNone ahead left
-Reaches old found.Fault ahead left other = (count : ℕ) × Skips old (to_come ahead left) count × ((count ≡ 2 ^ 40) ⊎ IfSome (to_come ahead left) (λ text. IsTooLong text ⊎ IsUnended text))
-Reaches old found.Failed ahead left other = (count : ℕ) × Skips old (to_come ahead left) count × other
+Reaches old found.Fault ahead left other = (count : ℕ) × (count ≤ 2 ^ 40) × Skips old (to_come ahead left) count × ((count ≡ 2 ^ 40) ⊎ IfSome (to_come ahead left) (λ text. IsTooLong text ⊎ IsUnended text))
+Reaches old found.Failed ahead left other = (count : ℕ) × (count ≤ 2 ^ 40) × Skips old (to_come ahead left) count × other

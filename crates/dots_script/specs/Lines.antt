@@ -66,9 +66,9 @@ pub record Takes (old new : Option (List ℕ)) (event : Event) (at : ℕ) : Type
   pub is_event : IsEventLine line event at
   pub passed : Consumes old new (with_feeds lines ++ with_feed line)
 
--- a call failed: 2^40 lines were skipped, or what is then known to come is a fault, or for the other reason
+-- a call failed once the lines that are skipped have passed: they were 2^40, or what is then known to come is a fault, or for the other reason
 abbrev pub Fails : Option (List ℕ) → Option (List ℕ) → Type 0 → Type 0
-Fails old new other = (count : ℕ) × Skips old new count × ((count ≡ 2 ^ 40) ⊎ (IfSome new IsFault ⊎ other))
+Fails old new other = (count : ℕ) × (count ≤ 2 ^ 40) × Skips old new count × ((count ≡ 2 ^ 40) ⊎ (IfSome new IsFault ⊎ other))
 
 -- nothing is known to come once the lines that are skipped, fewer than 2^40, have passed
 abbrev pub Ends : Option (List ℕ) → Option (List ℕ) → Type 0
@@ -76,7 +76,7 @@ Ends old new = (count : ℕ) × (count < 2 ^ 40) × Skips old new count × IsAtE
 
 -- The answer of a call, where what is known to come was old before it and is new after it. A line that is a fault stays.
 abbrev pub Answers : Option (List ℕ) → Option (List ℕ) → Event → ℕ → Type 0 → Type 0
-Answers old new event.Failed at other = Fails old new other
+Answers old new event.Failed at other = Fails old new other × (at ≡ 0)
 Answers old new event.End at other = Ends old new × (at ≡ 0)
 Answers old new event at other = Takes old new event at
 
