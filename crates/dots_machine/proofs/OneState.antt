@@ -1,5 +1,5 @@
 -- The sends of a step fix the state after it, so a list of acts fixes one state.
-use Rattle.std.proofs.Common.{◌≡◌, ℕ, [], Bool, true, false, List, ◌∷◌, inl, inr, refl, ◌==◌, sym, ap, ◌∙◌, subst, cond, arith}
+use Rattle.std.proofs.Common.{◌≡◌, ℕ, [], Bool, true, false, List, ◌∷◌, refl, sym, ap, ◌∙◌, subst, cond, arith}
 use Rattle.dots_host.specs.declared.event.Event.{Event}
 use Rattle.dots_host.specs.declared.event.Event.TheVariants as event
 use Rattle.dots_host.specs.declared.out.OwnedOut.{OwnedOut}

@@ -1,15 +1,15 @@
 -- How a run ends, with which status, and what it has done then.
-use Rattle.std.specs.Prelude.{⊤, ◌≡◌, ℕ, ◌^◌, List, [], ◌∷◌, ◌++◌, Bool, false, ◌&&◌, not, ◌==◌, bytes_eq, codes, decimal, take, IfSome, Option}
-use Rattle.std.specs.Io.KnownBytes.{Appends, Keeps}
+use Rattle.std.specs.Prelude.{⊤, ℕ, List, [], ◌∷◌, ◌++◌, Bool, false, ◌&&◌, not, ◌==◌, bytes_eq, codes, decimal, IfSome, Option}
+use Rattle.std.specs.Io.KnownBytes.{Appends}
 use Rattle.dots_host.specs.declared.event.Event.TheVariants as event
 use Rattle.dots_host.specs.Acts.{Timed}
-use Rattle.dots_host.specs.Runs.{resting, Trace, in_one_turn, GoOn, EndsBy, events_in}
+use Rattle.dots_host.specs.Runs.{resting, Trace, in_one_turn, EndsBy}
 use Rattle.dots_machine.specs.declared.settings.Settings.{Settings}
 use Rattle.dots_machine.specs.declared.settings.SettingsFault.{SettingsFault}
 use Rattle.dots_machine.specs.declared.settings.SettingsFault.TheVariants as fault
 use Rattle.dots_machine.specs.declared.ending.Ending.{Ending}
 use Rattle.dots_machine.specs.declared.ending.Ending.TheVariants as ending
-use Rattle.dots_machine.specs.SettingsFile.{SettingsAre, SettingsFail}
+use Rattle.dots_machine.specs.SettingsFile.{SettingsAre}
 use Rattle.dots_machine.specs.Machine.{State, begun, Step}
 use Rattle.dots_machine.specs.Report.{report_of}
 

@@ -1,7 +1,7 @@
 -- How many items an array has, and how many pairs a map.
-use Rattle.std.proofs.Common.{◌≡◌, ℕ, suc, List, [], ◌∷◌, length, map, Option, Some, None, refl, sym, ap, ◌∙◌, arith}
+use Rattle.std.proofs.Common.{◌≡◌, ℕ, suc, List, [], ◌∷◌, length, map, Some, refl, sym, ap, ◌∙◌}
 use Rattle.cbor_profile.specs.declared.item.Item.{Item}
-use Rattle.cbor_profile.specs.Tree.{Tree, unsigned, text, array, mapping, Trees, no_items, item, Pairs, no_pairs, pair, count, pair_count}
+use Rattle.cbor_profile.specs.Tree.{Tree, unsigned, text, array, mapping, Trees, Pairs, count, pair_count}
 use Rattle.cbor_profile.specs.View.{tree_of, items_of, pairs_of}
 use Rattle.cbor_profile.specs.Kind.{items_in, pairs_in, text_in}
 

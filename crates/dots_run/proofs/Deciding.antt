@@ -1,12 +1,12 @@
 -- What a server may do on a request.
-use Rattle.std.proofs.Common.{◌≡◌, ℕ, Bool, true, false, List, [], ◌∷◌, inl, inr, refl, sym, ap, ◌∙◌, ◌≤◌, length, subst, cond}
+use Rattle.std.proofs.Common.{◌≡◌, ℕ, Bool, true, false, List, [], ◌∷◌, inl, inr, refl, sym, ap, ◌∙◌, subst, cond}
 use Rattle.dots_lists.specs.Name.{is_name}
 use Rattle.dots_host.specs.declared.out.OwnedOut.{OwnedOut}
 use Rattle.dots_host.specs.declared.out.OwnedOut.TheVariants as owned
 use Rattle.dots_machine.specs.declared.settings.Settings.{Settings}
 use Rattle.dots_machine.specs.Requests.{Request, asked, Asks}
 use Rattle.dots_machine.specs.Replies.{not_implemented, unavailable}
-use Rattle.dots_machine.specs.Machine.{State, Verdict, refuse, accept, verdict, accepts, reply_to, entry_of, with_entry, Answers, Answered, by_verdict, for_want_of_memory}
+use Rattle.dots_machine.specs.Machine.{State, Verdict, refuse, accept, accepts, reply_to, entry_of, with_entry, Answers, Answered, by_verdict, for_want_of_memory}
 use Rattle.dots_run.specs.declared.request.Asked.{Asked}
 use Rattle.dots_run.specs.Hearing.{Decides, IsFit, request_of}
 

@@ -1,5 +1,5 @@
 -- What a datagram asks, by the parts of its message.
-use Rattle.std.proofs.Common.{◌≡◌, ◌≢◌, ◌≤◌, ℕ, List, refl, sym, ap, ◌∙◌, subst, Result, Ok, Err}
+use Rattle.std.proofs.Common.{◌≡◌, ◌≢◌, ℕ, List, refl, sym, ap, ◌∙◌, subst, Ok, Err}
 use Rattle.ip_scope.specs.Prefix.{PrefixValue}
 use Rattle.coap_message.specs.Message.{CoapMessage, IsMessage, spelling}
 use Rattle.coap_message.proofs.Whole.{one_message}
@@ -8,7 +8,7 @@ use Rattle.dots_machine.proofs.OneRequest.{request_is_message}
 use Rattle.dots_run.specs.declared.request_head.RequestHead.{RequestHead}
 use Rattle.dots_run.specs.declared.request.Asked.{Asked}
 use Rattle.dots_run.specs.Asking.{head_of, HasRequestHead}
-use Rattle.dots_run.specs.Hearing.{request_of, Begins}
+use Rattle.dots_run.specs.Hearing.{request_of}
 
 -- a datagram that asks is the spelling of a message
 pub asks_message : (datagram : List ℕ) (r : Request) (a : Asks datagram r) → IsMessage (request_message a.head a.payload) × (datagram ≡ spelling (request_message a.head a.payload))

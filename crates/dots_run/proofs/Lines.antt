@@ -1,7 +1,7 @@
 -- The first line of a text.
-use Rattle.std.proofs.Common.{◌≡◌, ◌≢◌, ◌==◌, ℕ, ◌+◌, ◌<◌, zero, suc, Bool, true, false, List, [], ◌∷◌, ◌++◌, length, get_or, take, drop, refl, sym, ap, ◌∙◌, arith, cond, add-one}
+use Rattle.std.proofs.Common.{◌≡◌, ◌≢◌, ◌==◌, ℕ, ◌<◌, zero, suc, true, false, List, [], ◌∷◌, length, get_or, take, drop, arith}
 use Rattle.std.proofs.lemmas.Bool.Decides.{nat_tests}
-use Rattle.dots_machine.specs.SettingsFile.{lines_of, onto_first}
+use Rattle.dots_machine.specs.SettingsFile.{lines_of}
 
 no_feed : (byte : ℕ) → byte ≢ 10 → (byte == 10) ≡ false
 no_feed byte ne = grind (arith, nat_tests)

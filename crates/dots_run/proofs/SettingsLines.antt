@@ -1,5 +1,5 @@
 -- What stands behind the parts of a settings line.
-use Rattle.std.proofs.Common.{◌≡◌, ◌≢◌, subst, ℕ, List, [], ◌∷◌, ◌++◌, codes, decimal, ◌<◌, ◌≤◌, ◌^◌, Option, Some, None, IfNone, arith, sym, ap, ◌∙◌, append_assoc}
+use Rattle.std.proofs.Common.{◌≡◌, ◌≢◌, subst, ℕ, List, ◌++◌, codes, decimal, ◌<◌, ◌≤◌, ◌^◌, Option, Some, None, IfNone, arith, sym, ◌∙◌, append_assoc}
 use Rattle.std.proofs.lemmas.Fmt.{decimal_injective}
 use Rattle.std.proofs.lemmas.List.{append_cancel_left, append_cancel_right}
 use Rattle.ip_scope.specs.Prefix.{PrefixValue}

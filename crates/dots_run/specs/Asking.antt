@@ -1,5 +1,5 @@
 -- What the code holds of a request, as the machine's words say it.
-use Rattle.std.specs.Prelude.{◌≡◌, ℕ, List}
+use Rattle.std.specs.Prelude.{◌≡◌}
 use Rattle.std.specs.Str.Parse.{digits_value}
 use Rattle.coap_message.specs.Message.{CoapMessage}
 use Rattle.dots_machine.specs.Requests.{Head, IsHead, request_message}

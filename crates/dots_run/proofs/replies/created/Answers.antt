@@ -1,4 +1,3 @@
-use Rattle.std.proofs.Common.{◌≡◌, ◌∙◌}
 use Rattle.dots_run.proofs.GrantedBody.{granted_short}
 use Rattle.dots_run.proofs.replies.created.Goals as goal
 

@@ -1,4 +1,4 @@
-use Rattle.std.proofs.Common.{◌≡◌, length, take, arith}
+use Rattle.std.proofs.Common.{◌≡◌, take, arith}
 use Rattle.std.proofs.lemmas.List.{take_all}
 use Rattle.dots_run.proofs.ReportLines.{all_standing}
 use Rattle.dots_run.proofs.report.put_standing.Goals as goal

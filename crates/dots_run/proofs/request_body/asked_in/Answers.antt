@@ -1,4 +1,4 @@
-use Rattle.std.proofs.Common.{◌≡◌, ◌≤◌, length, arith}
+use Rattle.std.proofs.Common.{arith}
 use Rattle.std.proofs.lemmas.Grind.{common_steps}
 use Rattle.dots_run.proofs.Bodies.{asked_bounds}
 use Rattle.dots_run.proofs.request_body.asked_in.Goals as goal

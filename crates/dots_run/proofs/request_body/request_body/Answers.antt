@@ -1,4 +1,3 @@
-use Rattle.cbor_profile.specs.View.{tree_of}
 use Rattle.dots_run.proofs.Bodies.{body_from, no_body, ok_some_then, ok_none_then}
 use Rattle.dots_machine.specs.Requests.{mitigation, request_scope}
 use Rattle.dots_run.proofs.request_body.request_body.Goals as goal

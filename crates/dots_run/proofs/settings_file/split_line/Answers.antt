@@ -1,7 +1,6 @@
-use Rattle.std.proofs.Common.{◌≡◌, ℕ, ◌+◌, ◌-◌, ◌<◌, length, take, drop, sym, ap, ◌∙◌, ◌∷◌, arith, add-one, length-drop}
+use Rattle.std.proofs.Common.{◌≡◌, ◌+◌, ◌-◌, ◌<◌, length, take, drop, arith, add-one, length-drop}
 use Rattle.std.proofs.lemmas.List.{take_all}
 use Rattle.std.proofs.lemmas.Grind.{common_steps}
-use Rattle.dots_machine.specs.SettingsFile.{lines_of}
 use Rattle.dots_run.proofs.Lines.{one_line, first_line}
 use Rattle.dots_run.proofs.settings_file.split_line.Goals as goal
 
