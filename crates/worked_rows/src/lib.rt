@@ -1,0 +1,12 @@
+//! Worked rows: whole runs of the program, with the bytes that are expected of them.
+//!
+//! Each row is run through `dots_run::run`, as a user would: over a script, or over a host in memory whose acts
+//! are looked at. The expected bytes come from the protocol's documents and not from the program.
+#![tactic(auto)]
+
+#[cfg(test)]
+mod memory_rows;
+#[cfg(test)]
+mod script_rows;
+#[cfg(test)]
+mod settings;
