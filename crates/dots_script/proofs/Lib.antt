@@ -3,3 +3,4 @@ pub mod HexPieces
 pub mod Splits
 pub mod EventLines
 pub mod Reading
+pub mod OneAnswer

@@ -10,6 +10,7 @@
 
 mod block;
 mod event_line;
+mod laws;
 mod lines;
 mod recording;
 mod script_host;
@@ -19,5 +20,6 @@ mod tests;
 mod write_all;
 
 pub use event_line::parse_event;
+pub use laws::a_script_has_one_answer;
 pub use lines::{MAX_LINE_BYTES, MAX_SKIPPED};
 pub use script_host::ScriptHost;
