@@ -7,7 +7,7 @@ use Rattle.std.specs.Str.Parse.{AllDigits}
 use Rattle.decimal_text.proofs.Decimals.{IsDecimal-decimal}
 use Rattle.dots_host.specs.declared.event.Event.{Event}
 use Rattle.dots_host.specs.declared.event.Event.TheVariants as event
-use Rattle.dots_script.specs.Script.{IsDatagramLine, IsEventLine, IsSkipped}
+use Rattle.dots_script.specs.Script.{IsDatagram, SaysEvent, IsEventLine, IsSkipped}
 use Rattle.dots_script.specs.Words.{HasNoSpace, IsAfterNumber}
 use Rattle.dots_script.proofs.Splits.{one_split}
 use Rattle.hex.specs.Hex.{decode_of}
@@ -48,74 +48,75 @@ one_number bytes a b x y first second =
     let same = number_is bytes (decimal a) x b y first.spelled (decimal_no_space a first.small) second in
     (decimal_injective a b (omega (arith, first.small)) (omega (arith, second.small)) same.0, same.1)
 
--- ---- the parts of a datagram's line, from the left
+-- ---- the parts of a line, from the left
 
-time_of : (line rest : List ℕ) (peer : ℕ) (bytes : List ℕ) (at : ℕ) (h : IsDatagramLine line peer bytes at) → line ≡ codes "at " ++ rest
-    → IsAfterNumber rest at (codes "from " ++ (decimal peer ++ (codes " " ++ h.digits)))
-time_of line rest peer bytes at h is = record {
+time_of : (line rest : List ℕ) (event : Event) (at : ℕ) (h : IsEventLine line event at) → line ≡ codes "at " ++ rest → IsAfterNumber rest at h.words
+time_of line rest event at h is = record {
   small = omega (arith, h.time);
   spelled = append_cancel_left (codes "at ") rest _ (sym is ∙ h.spelled);
 }
 
-pub time_is : (line rest : List ℕ) (time : ℕ) (behind : List ℕ) (peer : ℕ) (bytes : List ℕ) (at : ℕ) (h : IsDatagramLine line peer bytes at) → line ≡ codes "at " ++ rest → IsAfterNumber rest time behind
-    → (time ≡ at) × (behind ≡ codes "from " ++ (decimal peer ++ (codes " " ++ h.digits)))
-time_is line rest time behind peer bytes at h is after = one_number rest time at behind _ after (time_of line rest peer bytes at h is)
+pub time_is : (line rest : List ℕ) (time : ℕ) (behind : List ℕ) (event : Event) (at : ℕ) (h : IsEventLine line event at) → line ≡ codes "at " ++ rest → IsAfterNumber rest time behind
+    → (time ≡ at) × (behind ≡ h.words)
+time_is line rest time behind event at h is after = one_number rest time at behind h.words after (time_of line rest event at h is)
 
-pub from_of : (line behind rest : List ℕ) (peer : ℕ) (bytes : List ℕ) (at : ℕ) (h : IsDatagramLine line peer bytes at) → behind ≡ codes "from " ++ (decimal peer ++ (codes " " ++ h.digits))
-    → behind ≡ codes "from " ++ rest → IsAfterNumber rest peer h.digits
-from_of line behind rest peer bytes at h is split = record {
-  small = omega (arith, h.from);
-  spelled = append_cancel_left (codes "from ") rest _ (sym split ∙ is);
+pub from_of : (words rest : List ℕ) (peer : ℕ) (bytes : List ℕ) (h : IsDatagram words peer bytes) → words ≡ codes "from " ++ rest → IsAfterNumber rest peer h.digits
+from_of words rest peer bytes h is = record {
+  small = omega (arith, h.small);
+  spelled = append_cancel_left (codes "from ") rest _ (sym is ∙ h.spelled);
 }
 
-pub from_is : (line behind rest : List ℕ) (from : ℕ) (digits : List ℕ) (peer : ℕ) (bytes : List ℕ) (at : ℕ) (h : IsDatagramLine line peer bytes at)
-    → behind ≡ codes "from " ++ (decimal peer ++ (codes " " ++ h.digits)) → behind ≡ codes "from " ++ rest → IsAfterNumber rest from digits → (from ≡ peer) × (digits ≡ h.digits)
-from_is line behind rest from digits peer bytes at h is split after = one_number rest from peer digits h.digits after (from_of line behind rest peer bytes at h is split)
+pub from_is : (words rest : List ℕ) (from : ℕ) (digits : List ℕ) (peer : ℕ) (bytes : List ℕ) (h : IsDatagram words peer bytes) → words ≡ codes "from " ++ rest → IsAfterNumber rest from digits
+    → (from ≡ peer) × (digits ≡ h.digits)
+from_is words rest from digits peer bytes h is after = one_number rest from peer digits h.digits after (from_of words rest peer bytes h is)
 
--- where the line is of no datagram it is of no event
-pub no_event : (line : List ℕ) (event : Event) (at : ℕ) → ((peer : ℕ) (bytes : List ℕ) → IsDatagramLine line peer bytes at → ⊥) → IsEventLine line event at → ⊥
-no_event line (event.Datagram peer bytes) at none h = none peer bytes h
-no_event line (event.Opened conn peer) at none h = h
-no_event line (event.Piece conn bytes) at none h = h
-no_event line (event.Closed conn) at none h = h
-no_event line event.Tick at none h = h
-no_event line event.Restart at none h = h
-no_event line event.End at none h = h
-no_event line event.Failed at none h = h
+-- where the words are of no datagram they say no event
+pub no_words : (words : List ℕ) (event : Event) → ((peer : ℕ) (bytes : List ℕ) → IsDatagram words peer bytes → ⊥) → SaysEvent words event → ⊥
+no_words words (event.Datagram peer bytes) none h = none peer bytes h
+no_words words (event.Opened conn peer) none h = h
+no_words words (event.Piece conn bytes) none h = h
+no_words words (event.Closed conn) none h = h
+no_words words event.Tick none h = h
+no_words words event.Restart none h = h
+no_words words event.End none h = h
+no_words words event.Failed none h = h
 
--- ---- a line is of one event
+-- ---- a line says one event
 
-one_datagram : (line : List ℕ) (peer from : ℕ) (bytes others : List ℕ) (at time : ℕ) → IsDatagramLine line peer bytes at → IsDatagramLine line from others time → (peer ≡ from) × (bytes ≡ others) × (at ≡ time)
-one_datagram line peer from bytes others at time h g =
-    let behind = codes "from " ++ (decimal peer ++ (codes " " ++ h.digits)) in
-    let first : IsAfterNumber (decimal at ++ (codes " from " ++ (decimal peer ++ (codes " " ++ h.digits)))) at behind = record { small = omega (arith, h.time); spelled = refl } in
-    let times = time_is line _ at behind from others time g h.spelled first in
-    let second : IsAfterNumber (decimal peer ++ (codes " " ++ h.digits)) peer h.digits = record { small = omega (arith, h.from); spelled = refl } in
-    let peers = from_is line behind _ peer h.digits from others time g times.1 refl second in
+one_datagram : (words : List ℕ) (peer from : ℕ) (bytes others : List ℕ) → IsDatagram words peer bytes → IsDatagram words from others → (peer ≡ from) × (bytes ≡ others)
+one_datagram words peer from bytes others h g =
+    let first : IsAfterNumber (decimal peer ++ (codes " " ++ h.digits)) peer h.digits = record { small = omega (arith, h.small); spelled = refl } in
+    let peers = from_is words _ peer h.digits from others g h.spelled first in
     let read : decode_of h.digits ≡ Ok others = ap decode_of peers.1 ∙ g.read.bytes_are in
-    (peers.0, decode_of-same h.digits bytes others h.read.bytes_are read, times.0)
+    (peers.0, decode_of-same h.digits bytes others h.read.bytes_are read)
+
+one_saying : (words : List ℕ) (event other : Event) → SaysEvent words event → SaysEvent words other → event ≡ other
+one_saying words (event.Datagram peer bytes) (event.Datagram from others) h g =
+    let same = one_datagram words peer from bytes others h g in
+    ap (λ p. event.Datagram p bytes) same.0 ∙ ap (λ b. event.Datagram from b) same.1
+one_saying words (event.Datagram peer bytes) (event.Opened a b) h g = absurd g
+one_saying words (event.Datagram peer bytes) (event.Piece a b) h g = absurd g
+one_saying words (event.Datagram peer bytes) (event.Closed a) h g = absurd g
+one_saying words (event.Datagram peer bytes) event.Tick h g = absurd g
+one_saying words (event.Datagram peer bytes) event.Restart h g = absurd g
+one_saying words (event.Datagram peer bytes) event.End h g = absurd g
+one_saying words (event.Datagram peer bytes) event.Failed h g = absurd g
+one_saying words (event.Opened a b) other h g = absurd h
+one_saying words (event.Piece a b) other h g = absurd h
+one_saying words (event.Closed a) other h g = absurd h
+one_saying words event.Tick other h g = absurd h
+one_saying words event.Restart other h g = absurd h
+one_saying words event.End other h g = absurd h
+one_saying words event.Failed other h g = absurd h
 
 pub one_event : (line : List ℕ) (event other : Event) (at time : ℕ) → IsEventLine line event at → IsEventLine line other time → (event ≡ other) × (at ≡ time)
-one_event line (event.Datagram peer bytes) (event.Datagram from others) at time h g =
-    let same = one_datagram line peer from bytes others at time h g in
-    (ap (λ p. event.Datagram p bytes) same.0 ∙ ap (λ b. event.Datagram from b) same.1, same.2)
-one_event line (event.Datagram peer bytes) (event.Opened a b) at time h g = absurd g
-one_event line (event.Datagram peer bytes) (event.Piece a b) at time h g = absurd g
-one_event line (event.Datagram peer bytes) (event.Closed a) at time h g = absurd g
-one_event line (event.Datagram peer bytes) event.Tick at time h g = absurd g
-one_event line (event.Datagram peer bytes) event.Restart at time h g = absurd g
-one_event line (event.Datagram peer bytes) event.End at time h g = absurd g
-one_event line (event.Datagram peer bytes) event.Failed at time h g = absurd g
-one_event line (event.Opened a b) other at time h g = absurd h
-one_event line (event.Piece a b) other at time h g = absurd h
-one_event line (event.Closed a) other at time h g = absurd h
-one_event line event.Tick other at time h g = absurd h
-one_event line event.Restart other at time h g = absurd h
-one_event line event.End other at time h g = absurd h
-one_event line event.Failed other at time h g = absurd h
+one_event line event other at time h g =
+    let first : IsAfterNumber (decimal at ++ (codes " " ++ h.words)) at h.words = record { small = omega (arith, h.time); spelled = refl } in
+    let times = time_is line _ at h.words other time g h.spelled first in
+    (one_saying h.words event other h.says (subst (λ (words : List ℕ). SaysEvent words other) (sym times.1) g.says), times.0)
 
 -- no line of an event is skipped
 pub event_not_skipped : (line : List ℕ) (event : Event) (at : ℕ) → IsEventLine line event at → IsSkipped line → ⊥
-event_not_skipped line event at h skipped = no_event line event at (λ peer bytes is.
-    let first : 97 ≡ 35 = subst IsSkipped is.spelled skipped in
-    absurd (omega (arith, first))) h
+event_not_skipped line event at h skipped =
+    let first : 97 ≡ 35 = subst IsSkipped h.spelled skipped in
+    absurd (omega (arith, first))

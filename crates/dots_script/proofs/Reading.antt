@@ -96,8 +96,8 @@ answers_takes a b line (event.Piece conn bytes) at other is takes = takes
 answers_takes a b line (event.Closed conn) at other is takes = takes
 answers_takes a b line event.Tick at other is takes = takes
 answers_takes a b line event.Restart at other is takes = takes
-answers_takes a b line event.End at other is takes = absurd is
-answers_takes a b line event.Failed at other is takes = absurd is
+answers_takes a b line event.End at other is takes = absurd is.says
+answers_takes a b line event.Failed at other is takes = absurd is.says
 
 pub answers_line : (a left : Option (List ℕ)) (ahead : List ℕ) (len : ℕ) (event : Event) (at : ℕ) (other : Type 0) → Reaches a (found.Line len) ahead left other
     → IsEventLine (take len ahead) event at → Answers a (to_come (drop (len + 1) ahead) left) event at other

@@ -15,15 +15,21 @@ pub record IsHex (digits bytes : List ℕ) : Type 0 where
   pub some : 0 < length bytes
   pub few : length bytes ≤ 4096
 
--- `at T from PEER HEX`: at this time a datagram of these bytes comes from the peer
-pub record IsDatagramLine (line : List ℕ) (peer : ℕ) (bytes : List ℕ) (at : ℕ) : Type 0 where
+-- `from PEER HEX`: a datagram of these bytes comes from the peer
+pub record IsDatagram (words : List ℕ) (peer : ℕ) (bytes : List ℕ) : Type 0 where
   pub digits : List ℕ
-  pub spelled : line ≡ codes "at " ++ (decimal at ++ (codes " from " ++ (decimal peer ++ (codes " " ++ digits))))
-  pub time : at < 2 ^ 48
-  pub from : peer < 2 ^ 32
+  pub spelled : words ≡ codes "from " ++ (decimal peer ++ (codes " " ++ digits))
+  pub small : peer < 2 ^ 32
   pub read : IsHex digits bytes
 
--- the line is that of the event, with the time beside it
-abbrev pub IsEventLine : List ℕ → Event → ℕ → Type 0
-IsEventLine line (event.Datagram peer bytes) at = IsDatagramLine line peer bytes at
-IsEventLine line _ at = ⊥
+-- the words say the event
+abbrev pub SaysEvent : List ℕ → Event → Type 0
+SaysEvent words (event.Datagram peer bytes) = IsDatagram words peer bytes
+SaysEvent words _ = ⊥
+
+-- `at T` and the words of an event: it comes at this time
+pub record IsEventLine (line : List ℕ) (event : Event) (at : ℕ) : Type 0 where
+  pub words : List ℕ
+  pub spelled : line ≡ codes "at " ++ (decimal at ++ (codes " " ++ words))
+  pub time : at < 2 ^ 48
+  pub says : SaysEvent words event

@@ -2,14 +2,15 @@ ghost use Rattle.std.specs.Prelude.{◌≡◌, ◌≢◌, ℕ, List, ◌∷◌, 
 ghost use Rattle.dots_host.specs.Acts.{IsWithin, OnFailed, event_of};
 ghost use Rattle.dots_host.specs.declared.event.Event.{Event};
 ghost use Rattle.dots_host.specs.declared.TheConstants.{MAX_EVENT_BYTES};
-ghost use Rattle.dots_script.specs.Script.{IsEventLine, IsHex};
+ghost use Rattle.dots_script.specs.Script.{SaysEvent, IsEventLine, IsHex};
 ghost use Rattle.dots_script.specs.Words.{HasNoSpace, IsAfterNumber};
 
 use decimal_text::parse_decimal;
 use dots_host::{Got, MAX_EVENT_BYTES, What};
 use hex::decode_to_slice;
 
-/// The event of a script line and the time beside it, the event's bytes at the front of the room.
+/// The event of a script line and the time beside it, the event's bytes at the front of the room. Where there is
+/// none, what then stands in the room isn't said.
 pub fn parse_event(line: &[u8], into: &mut [u8]) -> Option<Got>
     requires { length into.old ≡ MAX_EVENT_BYTES }
     ensures some { IfSome result (λ got. IsEventLine line.now (event_of got.what into.new) got.at) }
@@ -21,13 +22,27 @@ pub fn parse_event(line: &[u8], into: &mut [u8]) -> Option<Got>
     let Some(rest) = after(line, b"at ") else {
         return None;
     };
-    let Some((at, rest)) = number_before_space(rest) else {
+    let Some((at, words)) = number_before_space(rest) else {
         return None;
     };
     if at >= 1 << 48 {
         return None;
     }
-    let Some(rest) = after(rest, b"from ") else {
+    let Some(what) = parse_words(words, into) else {
+        return None;
+    };
+    Some(Got { what, at })
+}
+
+/// The event that the words behind the time say, its bytes at the front of the room.
+fn parse_words(words: &[u8], into: &mut [u8]) -> Option<What>
+    requires { length into.old ≡ MAX_EVENT_BYTES }
+    ensures some { IfSome result (λ what. SaysEvent words.now (event_of what into.new)) }
+    ensures none { IfNone result ((event : Event) → ¬ (SaysEvent words.now event)) }
+    ensures within { IfSome result (λ what. IsWithin what MAX_EVENT_BYTES) }
+    ensures event { IfSome result (λ what. OnFailed what ⊥) }
+{
+    let Some(rest) = after(words, b"from ") else {
         return None;
     };
     let Some((from, digits)) = number_before_space(rest) else {
@@ -39,11 +54,10 @@ pub fn parse_event(line: &[u8], into: &mut [u8]) -> Option<Got>
     let Some(len) = read_hex(digits, into) else {
         return None;
     };
-    let what = What::Datagram {
+    Some(What::Datagram {
         from: from as u32,
         len,
-    };
-    Some(Got { what, at })
+    })
 }
 
 /// What follows the front, where the bytes begin with it.
