@@ -2,8 +2,7 @@
 #![tactic(auto)]
 
 use dots_host::{NoMemory, StdSink, StdSource};
-use dots_run::run;
-use dots_script::ScriptHost;
+use dots_run::{run, ScriptHost};
 use std::io::ErrorKind;
 use std::process::ExitCode;
 use std::{env, fs, io};

@@ -1,4 +1,4 @@
-//! The top call of the program, [`run`].
+//! The top call of the program, [`run`], and the host that serves it a script, [`ScriptHost`].
 #![tactic(auto)]
 
 mod affixes;
@@ -17,4 +17,5 @@ mod targets;
 mod words;
 mod writing;
 
+pub use dots_script::ScriptHost;
 pub use outcome::run;

@@ -1,7 +1,6 @@
 use crate::settings::{COMMAND, SETTINGS};
 use dots_host::{MemorySink, MemorySource, NoMemory};
-use dots_run::run;
-use dots_script::ScriptHost;
+use dots_run::{run, ScriptHost};
 use std::alloc::Global;
 use std::test::Fail;
 
