@@ -1,6 +1,6 @@
 use crate::settings::{COMMAND, SETTINGS};
 use dots_host::{MemorySink, MemorySource, NoMemory};
-use dots_run::{run, ScriptHost};
+use dots_run::{ScriptHost, run};
 use std::alloc::Global;
 use std::test::Fail;
 
