@@ -2,7 +2,7 @@
 #![tactic(auto)]
 
 use dots_host::{NoMemory, StdSink, StdSource};
-use dots_run::{run, ScriptHost};
+use dots_run::{ScriptHost, run};
 use std::io::ErrorKind;
 use std::process::ExitCode;
 use std::{env, fs, io};

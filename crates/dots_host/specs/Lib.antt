@@ -3,3 +3,4 @@ pub mod Calls
 pub mod Acts
 pub mod Runs
 pub mod Memory
+pub mod Writing

@@ -25,6 +25,7 @@ mod tape;
 #[cfg(test)]
 mod tests;
 mod wire;
+mod writing;
 
 pub use act::Act;
 pub use dots_lists::{Bytes, NoMemory};
@@ -39,6 +40,7 @@ pub use source::Source;
 pub use standard::{StdSink, StdSource};
 pub use tape::Tape;
 pub use wire::{Host, Wire};
+pub use writing::write_all;
 
 /// The greatest number of bytes of a datagram or of a piece of a connection.
 pub const MAX_EVENT_BYTES: usize = 4096;

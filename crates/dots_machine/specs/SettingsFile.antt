@@ -62,6 +62,10 @@ pub data AreAtFault (lines : List (List ℕ)) : ℕ → Type 0 where
   more_lines : (settings : Settings) → HasLine lines 0 (λ line. IsDomainLine line settings.domain) → HasLine lines 1 (λ line. IsPrefixLine line settings.domain settings.prefix)
       → HasLine lines 2 (λ line. IsClientLine line settings.domain settings.peer) → 3 < length lines → AreAtFault lines 4
 
+-- the lines differ as the fault says
+abbrev pub DifferBy : List (List ℕ) → SettingsFault → Type 0
+DifferBy lines (fault.Line number) = AreAtFault lines number
+
 -- No line past the 65,537th byte is looked at: a line in which that byte stands differs, as it is longer than any of the form.
 abbrev pub file_lines : List ℕ → List (List ℕ)
 file_lines bytes = lines_of (take (2 ^ 16 + 1) bytes)
@@ -71,4 +75,4 @@ abbrev pub SettingsAre : List ℕ → Settings → Type 0
 SettingsAre bytes settings = AreSettings (file_lines bytes) settings
 
 abbrev pub SettingsFail : List ℕ → SettingsFault → Type 0
-SettingsFail bytes (fault.Line number) = AreAtFault (file_lines bytes) number
+SettingsFail bytes fault = DifferBy (file_lines bytes) fault

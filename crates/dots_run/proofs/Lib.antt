@@ -6,6 +6,8 @@ pub mod GrantedBody
 pub mod HearingLemmas
 pub mod Lines
 pub mod ReportLines
+pub mod ThreeWrites
 pub mod SettingsBytes
 pub mod SettingsLines
+pub mod Differing
 pub mod AskedTexts

@@ -1,5 +1,5 @@
 -- The lines of a report, one more at a time.
-use Rattle.std.proofs.Common.{◌≡◌, ℕ, ◌<◌, zero, suc, Bool, true, false, List, [], ◌∷◌, ◌++◌, length, get_or, take, flat_map, cond, Option, Result, Ok, Err, OnOk, refl, sym, ap, ◌∙◌, subst, arith, append_assoc, append-nil}
+use Rattle.std.proofs.Common.{◌≡◌, ℕ, ◌<◌, zero, suc, Bool, true, false, List, [], ◌∷◌, ◌++◌, length, get_or, take, flat_map, cond, Option, refl, sym, ap, ◌∙◌, subst, arith, append_assoc, append-nil}
 use Rattle.std.specs.Io.KnownBytes.{Appends}
 use Rattle.std.proofs.KnownBytes.{Appends-trans}
 use Rattle.dots_machine.specs.declared.settings.Settings.{Settings}
@@ -34,8 +34,3 @@ pub all_standing : (settings : Settings) (time : ℕ) (history : List Entry) →
 all_standing settings time [] = refl
 all_standing settings time (entry ∷ history) =
     ap (λ rest. lines_standing settings time entry ++ rest) (all_standing settings time history) ∙ by_test settings (stands time entry) entry (standing time history)
-
--- three writes, of which the last went well
-pub three_writes : {E : Type 0} (r : Result (Unit {0}) E) (a b c d : Option (List ℕ)) (x y z : List ℕ) → Appends a b x → Appends b c y → OnOk r (Appends c d z) → OnOk r (Appends a d (x ++ y ++ z))
-three_writes (Ok u) a b c d x y z first second third = Appends-trans a c d (x ++ y) z (Appends-trans a b c x y first second) third
-three_writes (Err e) a b c d x y z first second third = tt

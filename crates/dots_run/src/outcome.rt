@@ -1,9 +1,10 @@
 //! The top call.
 
-ghost use Rattle.std.specs.Prelude.{◌≡◌, ◌≢◌, ◌≤◌, ◌⊎◌, [], ◌++◌, codes, decimal, map, false, string_bytes, vec_capacity, OnOk};
+ghost use Rattle.std.specs.Prelude.{◌≡◌, ◌≢◌, ◌≤◌, ◌⊎◌, ◌↔◌, [], ◌++◌, codes, decimal, map, false, string_bytes, vec_capacity, OnOk, OnErr};
 ghost use Rattle.std.specs.Io.KnownBytes.{Appends};
 ghost use Rattle.dots_host.specs.Causes.{Rose, HasCause};
 ghost use Rattle.dots_host.specs.Runs.{Added};
+ghost use Rattle.dots_host.specs.Writing.{AppendsBeginning};
 ghost use Rattle.dots_machine.specs.declared.ending.Ending as endings;
 ghost use Rattle.dots_machine.specs.Endings.{is_command, status_of, Behaves, fault_line};
 ghost use Rattle.dots_machine.specs.Report.{report_of};
@@ -15,8 +16,8 @@ use crate::report::write_report;
 use crate::server::Server;
 use crate::settings_source::{SettingsError, read_settings};
 use crate::words::is_command;
-use crate::writing::{BLOCK, write_all};
-use dots_host::{Failed, Host, MAX_EVENT_BYTES, Sink, Source};
+use crate::writing::BLOCK;
+use dots_host::{Failed, Host, MAX_EVENT_BYTES, Sink, Source, write_all};
 use dots_machine::{Ending, Settings, SettingsFault};
 use std::alloc::Global;
 
@@ -34,14 +35,15 @@ pub fn run<H: Host, S: Source, K: Sink>(
 ) -> u8
     // Which statuses there are, and the causes of some, whatever the host tells.
     ensures only { (ending : endings.Ending) × (result ≡ status_of ending) }
-    ensures words { result ≡ 2 → is_command (map string_bytes words.now) ≡ false }
+    ensures words { (result ≡ 2) ↔ (is_command (map string_bytes words.now) ≡ false) }
     ensures read { result ≡ 5 → Rose (S.faults settings.old) (S.faults settings.new)
         ⊎ Rose (H.faults host.old) (H.faults host.new) }
     ensures written { result ≡ 9 → Rose (K.faults report.old) (K.faults report.new) }
     // The run, where the host tells its acts.
     ensures machine { Added (H.acts host.old) (H.acts host.new) (λ more. (ending : endings.Ending)
         × (result ≡ status_of ending)
-        × Behaves ending (S.left settings.old) more (K.holds report.old) (K.holds report.new)) }
+        × Behaves ending (S.left settings.old) more (K.holds report.old) (K.holds report.new)
+        (Rose (K.faults report.old) (K.faults report.new))) }
 {
     ending_of(alloc, words, settings, host, report).status()
 }
@@ -54,12 +56,13 @@ fn ending_of<H: Host, S: Source, K: Sink>(
     host: &mut H,
     report: &mut K,
 ) -> Ending
-    ensures words { result ≡ Ending.WrongWords → is_command (map string_bytes words.now) ≡ false }
+    ensures words { (result ≡ Ending.WrongWords) ↔ (is_command (map string_bytes words.now) ≡ false) }
     ensures unread { result ≡ Ending.SettingsFailed → Rose (S.faults settings.old) (S.faults settings.new) }
     ensures failed { result ≡ Ending.NextFailed → Rose (H.faults host.old) (H.faults host.new) }
     ensures written { result ≡ Ending.ReportFailed → Rose (K.faults report.old) (K.faults report.new) }
     ensures machine { Added (H.acts host.old) (H.acts host.new)
-        (λ more. Behaves result (S.left settings.old) more (K.holds report.old) (K.holds report.new)) }
+        (λ more. Behaves result (S.left settings.old) more (K.holds report.old) (K.holds report.new)
+        (Rose (K.faults report.old) (K.faults report.new))) }
 {
     if !is_command(words) {
         let _ = write_all(report, b"words\n");
@@ -119,6 +122,7 @@ fn finish<K: Sink>(server: &Server, report: &mut K, block: &mut Vec<u8>) -> Endi
 /// Writes the line of a refusal of the settings.
 fn write_fault<K: Sink>(report: &mut K, fault: SettingsFault) -> Result<(), Failed>
     ensures ok { OnOk result (Appends (K.holds report.old) (K.holds report.new) (fault_line fault)) }
+    ensures err { OnErr result (AppendsBeginning (K.holds report.old) (K.holds report.new) (fault_line fault)) }
     ensures cause { HasCause (K.faults report.old) (K.faults report.new) result }
 {
     match fault {
@@ -129,6 +133,8 @@ fn write_fault<K: Sink>(report: &mut K, fault: SettingsFault) -> Result<(), Fail
 /// `settings line N`.
 fn write_line_fault<K: Sink>(report: &mut K, number: u32) -> Result<(), Failed>
     ensures ok { OnOk result (Appends (K.holds report.old) (K.holds report.new)
+        (codes "settings line " ++ decimal number ++ codes "\n")) }
+    ensures err { OnErr result (AppendsBeginning (K.holds report.old) (K.holds report.new)
         (codes "settings line " ++ decimal number ++ codes "\n")) }
     ensures cause { HasCause (K.faults report.old) (K.faults report.new) result }
 {

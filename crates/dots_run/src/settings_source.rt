@@ -1,8 +1,9 @@
 //! Reading the settings.
 
-ghost use Rattle.std.specs.Prelude.{◌≡◌, ◌≢◌, ◌+◌, ◌^◌, take, IfOk, IfSome};
+ghost use Rattle.std.specs.Prelude.{◌≡◌, ◌≢◌, ◌+◌, ◌^◌, ℕ, List, take, IfOk, IfErr, IfSome};
 ghost use Rattle.dots_host.specs.Causes.{Rose};
-ghost use Rattle.dots_machine.specs.SettingsFile.{lines_of, AreSettings, SettingsAre};
+ghost use Rattle.dots_machine.specs.SettingsFile.{lines_of, file_lines, AreSettings, SettingsAre};
+ghost use Rattle.dots_run.specs.Refusing.{RefusedBy};
 
 use crate::settings_file::{client_of, domain_name, prefix_of, split_line};
 use dots_host::Source;
@@ -29,6 +30,7 @@ const BLOCK: usize = 4096;
 /// The bytes of the file, or the first 65,537 of them.
 fn read_file<S: Source>(alloc: Global, source: &mut S) -> Result<Vec<u8>, SettingsError>
     ensures bytes { IfOk result (λ bytes. IfSome (S.left source.old) (λ left. bytes.items ≡ take (2 ^ 16 + 1) left)) }
+    ensures unread { IfErr result (λ error. (lines : List (List ℕ)) → RefusedBy lines error) }
     ensures cause { result ≡ Err SettingsError.Failed → Rose (S.faults source.old) (S.faults source.new) }
 {
     let mut block = [0; BLOCK];
@@ -51,6 +53,7 @@ fn read_file<S: Source>(alloc: Global, source: &mut S) -> Result<Vec<u8>, Settin
 /// The settings that the lines give.
 fn settings_of(alloc: Global, bytes: &[u8]) -> Result<Settings, SettingsError>
     ensures ok { IfOk result (AreSettings (lines_of bytes.now)) }
+    ensures refused { IfErr result (RefusedBy (lines_of bytes.now)) }
     ensures failed { result ≢ Err SettingsError.Failed }
 {
     let Some((first, rest)) = split_line(bytes) else {
@@ -94,6 +97,7 @@ fn fault(number: u32) -> SettingsError
 /// Reads the settings: the file is read to its end, or past 65,536 bytes, before a line is judged.
 pub fn read_settings<S: Source>(alloc: Global, source: &mut S) -> Result<Settings, SettingsError>
     ensures ok { IfOk result (λ settings. IfSome (S.left source.old) (λ bytes. SettingsAre bytes settings)) }
+    ensures refused { IfErr result (λ error. IfSome (S.left source.old) (λ bytes. RefusedBy (file_lines bytes) error)) }
     ensures cause { result ≡ Err SettingsError.Failed → Rose (S.faults source.old) (S.faults source.new) }
 {
     match read_file(alloc, source) {

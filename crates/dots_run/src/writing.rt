@@ -1,33 +1,13 @@
 //! Writing to a sink, in blocks.
 
-ghost use Rattle.std.specs.Prelude.{◌≡◌, ◌≤◌, [], length, drop, flat_map, OnOk, vec_capacity};
+ghost use Rattle.std.specs.Prelude.{◌≡◌, ◌≤◌, [], flat_map, OnOk, vec_capacity};
 ghost use Rattle.std.specs.Io.KnownBytes.{Appends, append_known};
 ghost use Rattle.dots_host.specs.Causes.{HasCause};
 
-use dots_host::{Failed, Sink};
+use dots_host::{Failed, Sink, write_all};
 
 /// How many bytes are gathered before they are written.
 pub const BLOCK: usize = 4096;
-
-/// Writes all of the bytes.
-pub fn write_all<K: Sink>(sink: &mut K, bytes: &[u8]) -> Result<(), Failed>
-    ensures ok { OnOk result (Appends (K.holds sink.old) (K.holds sink.new) bytes.now) }
-    ensures cause { HasCause (K.faults sink.old) (K.faults sink.new) result }
-{
-    let mut written = 0;
-    while written < bytes.len() {
-        written += sink.write(rest_of(bytes, written))?;
-    }
-    Ok(())
-}
-
-/// The bytes that stand after the first ones.
-fn rest_of(bytes: &[u8], written: usize) -> &[u8]
-    requires { written ≤ length bytes.now }
-    ensures { result.now ≡ drop written bytes.now }
-{
-    &bytes[written..]
-}
 
 /// Writes what the block has gathered.
 pub fn flush<K: Sink>(sink: &mut K, block: &mut Vec<u8>) -> Result<(), Failed>

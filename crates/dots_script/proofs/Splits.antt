@@ -1,7 +1,7 @@
 -- A text before the first of some byte, and behind it.
 use Rattle.std.proofs.Common.{◌≡◌, ◌≢◌, ℕ, ◌+◌, ◌-◌, ◌<◌, suc, List, [], ◌∷◌, ◌++◌, length, get_or, take, drop, refl, sym, ap, ◌∙◌, arith, length-take}
 use Rattle.std.proofs.lemmas.List.{drop_more, take-append-drop, get_or-take}
-use Rattle.dots_script.proofs.Known.{rest_of}
+use Rattle.dots_host.proofs.WriteLemmas.{rest_of}
 
 pub split_at : (text : List ℕ) (at byte : ℕ) → at < length text → get_or text at 0 ≡ byte → text ≡ take at text ++ (byte ∷ drop (at + 1) text)
 split_at text at byte within is =

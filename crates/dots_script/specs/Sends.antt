@@ -1,6 +1,5 @@
 -- The line that a send writes.
-use Rattle.std.specs.Prelude.{◌≡◌, ℕ, List, [], ◌∷◌, ◌++◌, codes, decimal, Option}
-use Rattle.std.specs.Io.KnownBytes.{Appends}
+use Rattle.std.specs.Prelude.{ℕ, List, [], ◌∷◌, ◌++◌, codes, decimal}
 use Rattle.hex.specs.Hex.{encode_lower}
 use Rattle.dots_host.specs.declared.out.OwnedOut.{OwnedOut}
 use Rattle.dots_host.specs.declared.out.OwnedOut.TheVariants as out
@@ -19,10 +18,3 @@ bytes_of (out.Close conn) = []
 -- `to PEER HEX`, `conn CONN HEX` or `close CONN`, the digits in lower case, and a line feed
 abbrev pub line_of : OwnedOut → List ℕ
 line_of out = head_of out ++ (encode_lower (bytes_of out) ++ 10 ∷ [])
-
--- what is known to be held grew by a beginning of the text, which may be empty
-pub record AppendsBeginning (old new : Option (List ℕ)) (text : List ℕ) : Type 0 where
-  pub front : List ℕ
-  pub rest : List ℕ
-  pub split : text ≡ front ++ rest
-  pub appends : Appends old new front

@@ -17,7 +17,6 @@ mod script_host;
 mod send_line;
 #[cfg(test)]
 mod tests;
-mod write_all;
 
 pub use event_line::parse_event;
 pub use laws::a_script_has_one_answer;

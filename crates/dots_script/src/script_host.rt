@@ -3,9 +3,10 @@ ghost use Rattle.std.specs.Io.KnownBytes.{Appends};
 ghost use Rattle.dots_host.specs.Causes.{Rose};
 ghost use Rattle.dots_host.specs.Acts.{IsWithin, OnFailed, OnEvent, Adds, taken, given, event_of, owned_of};
 ghost use Rattle.dots_host.specs.Memory.{told};
+ghost use Rattle.dots_host.specs.Writing.{AppendsBeginning};
 ghost use Rattle.dots_host.specs.declared.TheConstants.{MAX_EVENT_BYTES};
 ghost use Rattle.dots_script.specs.Lines.{to_come, Answers};
-ghost use Rattle.dots_script.specs.Sends.{line_of, AppendsBeginning};
+ghost use Rattle.dots_script.specs.Sends.{line_of};
 
 use crate::block::Block;
 use crate::event_line::parse_event;

@@ -3,10 +3,10 @@ ghost use Rattle.std.specs.Io.KnownBytes.{Appends};
 ghost use Rattle.hex.specs.Hex.{encode_lower};
 ghost use Rattle.dots_host.specs.Acts.{owned_of};
 ghost use Rattle.dots_host.specs.Causes.{HasCause};
-ghost use Rattle.dots_script.specs.Sends.{line_of, head_of, AppendsBeginning};
+ghost use Rattle.dots_host.specs.Writing.{AppendsBeginning};
+ghost use Rattle.dots_script.specs.Sends.{line_of, head_of};
 
-use crate::write_all::write_all;
-use dots_host::{Failed, MAX_EVENT_BYTES, Out, Sink};
+use dots_host::{Failed, MAX_EVENT_BYTES, Out, Sink, write_all};
 use hex::encode_to_slice;
 use itoa::Buffer;
 

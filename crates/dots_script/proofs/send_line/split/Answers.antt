@@ -1,6 +1,6 @@
 use Rattle.std.proofs.Common.{arith, sym, ap, ◌∙◌, ◌++◌, take, length-take}
 use Rattle.std.proofs.lemmas.List.{take-append-drop}
-use Rattle.dots_script.proofs.Known.{rest_of}
+use Rattle.dots_host.proofs.WriteLemmas.{rest_of}
 use Rattle.dots_script.proofs.send_line.split.Goals as goal
 
 pub slice_bounds-result-end : goal.slice_bounds-result-end

@@ -1,6 +1,6 @@
 use Rattle.std.proofs.Common.{arith}
-use Rattle.dots_script.proofs.Known.{wrote_more, wrote_front}
-use Rattle.dots_script.proofs.write_all.write_all.Goals as goal
+use Rattle.dots_host.proofs.WriteLemmas.{wrote_more, wrote_front}
+use Rattle.dots_host.proofs.writing.write_all.Goals as goal
 
 pub loop-written-preserved : goal.loop-written-preserved
 loop-written-preserved g c = record {
