@@ -1,0 +1,2 @@
+pub mod Lifetime
+pub mod Times
