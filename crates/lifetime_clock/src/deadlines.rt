@@ -1,5 +1,5 @@
-ghost use Rattle.std.specs.Prelude.{◌≡◌, ℕ, ◌<◌, ◌≤◌, ◌↔◌, [], None, IfOk, IfSome, IfNone, Some, length, slice_index_or};
-ghost use Rattle.lifetime_clock.specs.Times.{look_up, IsMap, HasRoomFor, Updates, NothingIsDue, IsNextDue};
+ghost use Rattle.std.specs.Prelude.{◌≡◌, ◌≢◌, ℕ, ◌<◌, ◌≤◌, ◌↔◌, [], None, IfOk, IfSome, IfNone, Some, length, slice_index_or};
+ghost use Rattle.lifetime_clock.specs.Times.{IsMap, HasRoomFor, Updates, NothingIsDue, IsNextDue};
 
 use dots_lists::NoMemory;
 use std::alloc::Global;
@@ -16,15 +16,15 @@ pub struct Deadlines {
 }
 
 impl Model for Deadlines {
-    ghost use Rattle.std.specs.Prelude.{◌≤◌, vec_len, vec_capacity};
-    ghost use Rattle.lifetime_clock.specs.Times.{Times, KeysDiffer};
+    ghost use Rattle.std.specs.Prelude.{◌≤◌, vec_capacity};
+    ghost use Rattle.lifetime_clock.specs.Times.{Times, IsMap};
 
     ghost Value = { Times };
 
     ghost view = { λ deadlines. record { room = deadlines.room; entries = deadlines.entries.items } };
 
     ghost invariant = { λ deadlines.
-        KeysDiffer deadlines.entries.items × (vec_len deadlines.entries ≤ deadlines.room)
+        IsMap (record { room = deadlines.room; entries = deadlines.entries.items })
         × (deadlines.room ≤ vec_capacity deadlines.entries) };
 }
 
@@ -84,7 +84,8 @@ impl Deadlines {
 fn place_of(entries: &[(u32, u64)], key: u32) -> Option<usize>
     ensures within { IfSome result (λ place. place < length entries.now) }
     ensures key { IfSome result (λ place. (slice_index_or entries.now place (0, 0)).0 ≡ key) }
-    ensures none { IfNone result (look_up entries.now key ≡ None) }
+    ensures none { IfNone result ((place : ℕ) → place < length entries.now
+        → (slice_index_or entries.now place (0, 0)).0 ≢ key) }
 {
     entries.iter().position(|entry| entry.0 == key)
 }

@@ -13,4 +13,3 @@ mod lifetime;
 
 pub use deadlines::Deadlines;
 pub use lifetime::grant;
-
