@@ -13,3 +13,6 @@ mod lifetime;
 
 pub use deadlines::Deadlines;
 pub use lifetime::grant;
+
+#[cfg(test)]
+mod tests;
