@@ -1,4 +1,4 @@
-ghost use Rattle.std.specs.Prelude.{◌≡◌, ◌≢◌, ℕ, ◌<◌, ◌≤◌, ◌↔◌, [], None, IfOk, IfSome, IfNone, Some, length, slice_index_or};
+ghost use Rattle.std.specs.Prelude.{◌≡◌, ◌≢◌, ℕ, ◌<◌, ◌≤◌, ◌↔◌, [], None, IfOk, IsOk, IfSome, IfNone, Some, length, slice_index_or};
 ghost use Rattle.lifetime_clock.specs.Times.{IsMap, HasRoomFor, Updates, NothingIsDue, IsNextDue};
 
 use dots_lists::NoMemory;
@@ -29,15 +29,16 @@ impl Model for Deadlines {
 }
 
 impl Deadlines {
-    /// No keys, and room for so many.
+    /// No keys, and room for so many; `NoMemory` only where that room isn't found. No room is always found.
     pub fn new(alloc: Global, room: usize) -> Result<Self, NoMemory>
-        ensures { IfOk result (λ made. made ≡ record { room = room; entries = [] }) }
+        ensures ok { IfOk result (λ made. made ≡ record { room = room; entries = [] }) }
+        ensures no_room { room ≡ 0 → IsOk result }
     {
         let entries = Vec::with_capacity(alloc, room)?;
         Ok(Deadlines { entries, room })
     }
 
-    /// Gives the key this time, in place of the one that it has. Takes no memory.
+    /// Gives the key this time, in place of the one that it has. The key is there, or there is room for one more.
     pub fn set(&mut self, key: u32, at: u64)
         requires { HasRoomFor self.old key }
         ensures updates { Updates self.old self.new key (Some at) }

@@ -1,5 +1,4 @@
-use Rattle.std.proofs.Common.{◌≡◌, ◌<◌, ◌≤◌, ℕ, length, ap, None, rules, arith, refl, get_or}
-use Rattle.lifetime_clock.specs.Times.{NothingIsDue, IsNextDue}
+use Rattle.std.proofs.Common.{◌<◌, ◌≤◌, ℕ, length, ap, rules, arith, refl, get_or}
 use Rattle.lifetime_clock.proofs.Entries.{IsKeyAt, IsLeast, entry_read, NothingIsDue-before, IsNextDue-least, not_nothing, Updates-remove, IsMap-remove}
 use Rattle.lifetime_clock.proofs.deadlines.Deadlines.due.Goals as goal
 

@@ -1,5 +1,5 @@
-use Rattle.std.proofs.Common.{◌≡◌, ◌<◌, None, rules, arith, refl, sym, ap, subst, length}
-use Rattle.lifetime_clock.specs.Times.{look_up, HasRoomFor}
+use Rattle.std.proofs.Common.{rules, arith, refl, sym, ap, subst, length}
+use Rattle.lifetime_clock.specs.Times.{HasRoomFor}
 use Rattle.lifetime_clock.proofs.Entries.{IsKeyAt, look_up-nowhere, room_left, Updates-set, IsMap-set, Updates-push, IsMap-push}
 use Rattle.lifetime_clock.proofs.deadlines.Deadlines.set.Goals as goal
 
