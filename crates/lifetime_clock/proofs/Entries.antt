@@ -1,5 +1,5 @@
 -- Look-ups in a list of keys with their times, after an entry was written, added or taken out.
-use Rattle.std.proofs.Common.{◌≡◌, ◌≢◌, ℕ, ◌+◌, ◌<◌, ◌≤◌, ◌==◌, if◌then◌else◌, List, [], ◌∷◌, ◌++◌, length, get_or, set, Option, Some, None, IsSome, zero, suc, rules, refl, sym, ◌∙◌, ap, arith, length-set, length-append, inl, inr}
+use Rattle.std.proofs.Common.{◌≡◌, ◌≢◌, ℕ, ◌+◌, ◌<◌, ◌≤◌, ◌==◌, if◌then◌else◌, List, [], ◌∷◌, ◌++◌, length, get_or, set, Option, Some, None, IsSome, zero, suc, rules, refl, sym, subst, ◌∙◌, ap, arith, length-set, length-append, inl, inr}
 use Rattle.std.specs.List.{remove}
 use Rattle.std.proofs.lemmas.List.{get_or_default}
 use Rattle.std.proofs.lemmas.List.Edits.{length-remove}
@@ -226,3 +226,28 @@ IsNextDue-least es room i now key map at least due = record {
 -- where a key is due, something is
 pub not_nothing : (times : Times) (now key : ℕ) → IsNextDue times now key → NothingIsDue times now → ⊥
 not_nothing times now key next nothing = omega (arith, next.due, nothing key next.time next.found)
+
+-- ---- how many keys there are
+
+some_since : (given : Option ℕ) (time : ℕ) → given ≡ Some time → IsSome given
+some_since None time is = absurd (some_is_not_none time (sym is))
+some_since (Some n) time is = search rules
+
+some_of : (given : Option ℕ) → IsSome given → (time : ℕ) × (given ≡ Some time)
+some_of None there = absurd (none_is_not_some None refl there)
+some_of (Some n) there = (n, refl)
+
+-- where a key is among the later ones, it isn't the first
+later_differs : (entry : ℕ × ℕ) (es : List (ℕ × ℕ)) (key : ℕ) → KeysDiffer (entry ∷ es) → IsSome (look_up es key) → entry.0 ≢ key
+later_differs entry es key differ there = let found = some_of _ there in apart entry es key found.0 differ.0 found.1
+
+pub length-le-keys : (es out : List (ℕ × ℕ)) → KeysDiffer es → KeysDiffer out → ((key : ℕ) → IsSome (look_up es key) → IsSome (look_up out key)) → length es ≤ length out
+length-le-keys [] out differ apart_out within = omega arith
+length-le-keys (entry ∷ es) out differ apart_out within =
+    let first = some_of _ (within entry.0 (some_since _ _ (at_its_key entry es entry.0 refl))) in
+    let there = look_up-found out entry.0 first.0 first.1 in
+    let rest = length-le-keys es (remove out there.place) differ.1 (KeysDiffer-remove out there.place apart_out there.within) (λ key later.
+    let other = later_differs entry es key differ later in
+    let found = some_of _ (within key (subst (λ (time : Option ℕ). IsSome time) (sym (at_another entry es key other)) later)) in
+    some_since _ _ (remove-others out there.place entry.0 key there.within there.key_is (λ same. other (sym same)) ∙ found.1)) in
+    omega (arith, rest, length-remove out there.place there.within)

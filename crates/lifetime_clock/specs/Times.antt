@@ -49,3 +49,7 @@ pub record IsNextDue (times : Times) (now key : ℕ) : Type 0 where
   pub found : time_of times key ≡ Some time
   pub due : time ≤ now
   pub least : (other later : ℕ) → time_of times other ≡ Some later → time ≤ later
+
+-- each key of the first is one of the second
+abbrev pub HasItsKeysIn : Times → Times → Type 0
+HasItsKeysIn times other = (key : ℕ) → IsSome (time_of times key) → IsSome (time_of other key)

@@ -5,10 +5,11 @@
 //! first. Contracts see it as `Times`: a finite map from keys to times, and its room. Only [`Deadlines::new`] takes
 //! memory.
 //!
-//! Start reading at `specs/Lifetime.antt` and `specs/Times.antt`.
+//! Start reading at `specs/Lifetime.antt` and `specs/Times.antt`. What the count of keys comes to is said in [`laws`].
 #![tactic(auto)]
 
 mod deadlines;
+pub mod laws;
 mod lifetime;
 
 pub use deadlines::Deadlines;
