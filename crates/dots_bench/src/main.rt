@@ -1,0 +1,58 @@
+//! The program `dots_bench`: `codec CASEFILE REPS` decodes the bytes of each case of a file so often. How long that
+//! takes is for the caller to measure.
+//!
+//! A case is a line `KIND.NAME HEX`, with the kind `coap` or `cbor`. For each the program prints its name and what
+//! its decodes add up to. It ends with status 0 only where there is a case and every decode of every case went well.
+#![tactic(auto)]
+
+mod codec;
+
+use anyhow::{Context, Result, bail, ensure};
+use codec::Codec;
+use std::{env, fs};
+
+/// The command line.
+const USAGE: &str = "usage: dots_bench codec CASEFILE REPS";
+
+/// The decimal number of repetitions, at least one.
+fn parse_repetitions(word: &str) -> Result<u64> {
+    let repetitions = word.parse::<u64>().context(USAGE)?;
+    ensure!(repetitions != 0, "{USAGE}");
+    Ok(repetitions)
+}
+
+/// Decodes the case of a line so often, and prints its name and the sum.
+fn run_case(rt: &HostRuntime, line: &str, repetitions: u64) -> Result<()> {
+    let Some((name, digits)) = line.split_once(' ') else {
+        bail!("a case is a line KIND.NAME HEX");
+    };
+    let Some(codec) = Codec::of_case(name) else {
+        bail!("no decoder for the case {name}");
+    };
+    let bytes = hex::decode(rt.alloc(), digits).context("reading the bytes of a case")?;
+    let sum = codec.decode_times(rt.alloc(), bytes.as_slice(), repetitions)?;
+    println!(rt; "{name} {sum}")?;
+    Ok(())
+}
+
+/// Runs the cases of a file, of which there is at least one.
+fn run_cases(rt: &HostRuntime, file: &str, repetitions: u64) -> Result<()> {
+    let text = fs::read_to_string(rt, file).context("reading the case file")?;
+    ensure!(!text.is_empty(), "the case file is empty");
+    for line in text.lines() {
+        run_case(rt, line, repetitions)?;
+    }
+    Ok(())
+}
+
+fn main(rt: HostRuntime) -> Result<()> {
+    let words = env::args(&rt)?.skip(1).collect::<Vec<String>>(rt.alloc())?;
+    match words.as_slice() {
+        [command, file, repetitions] if command.as_str() == "codec" => run_cases(
+            &rt,
+            file.as_str(),
+            parse_repetitions(repetitions.as_str())?,
+        ),
+        _ => bail!("{USAGE}"),
+    }
+}
