@@ -1,5 +1,9 @@
 //! Decoding the bytes of a case again and again.
 
+ghost use Rattle.std.specs.Prelude.{◌≡◌, ◌+◌, length, IfOk, IfErr};
+ghost use Rattle.coap_message.specs.Breaks.{Breaks};
+ghost use Rattle.coap_message.specs.Message.{CoapMessage, IsMessage, spelling};
+
 use anyhow::{Context, Result};
 use cbor_profile::{CborFault, Item};
 use coap_message::CoapFault;
@@ -23,37 +27,43 @@ impl Codec {
         }
     }
 
-    /// Decodes the bytes so often, and adds up what each decode read.
-    pub fn decode_times(self, alloc: Global, bytes: &[u8], times: u64) -> Result<u64> {
+    /// Decodes the bytes so often, and adds up what each decode read. The bytes are there twice, and the decodes
+    /// take turns, so that a compiler can't let one serve for the next.
+    pub fn decode_times(self, alloc: Global, copies: [&[u8]; 2], times: u64) -> Result<u64> {
+        let mut sum: u64 = 0;
+        for turn in 0..times {
+            let bytes = copies[(turn % 2) as usize];
+            sum = sum.wrapping_add(self.decode(alloc, bytes)?);
+        }
+        Ok(sum)
+    }
+
+    /// Decodes the bytes once, and answers a number that what was read gives.
+    fn decode(self, alloc: Global, bytes: &[u8]) -> Result<u64> {
         match self {
-            Codec::Coap => decode_coap(bytes, times).context("decoding CoAP"),
-            Codec::Cbor => decode_cbor(alloc, bytes, times).context("decoding CBOR"),
+            Codec::Coap => decode_coap(bytes).context("decoding CoAP"),
+            Codec::Cbor => decode_cbor(alloc, bytes).context("decoding CBOR"),
         }
     }
 }
 
-/// Decodes a CoAP message so often, and adds up the bytes of its payload and its identifier.
-fn decode_coap(bytes: &[u8], times: u64) -> Result<u64, CoapFault> {
-    let mut sum: u64 = 0;
-    for _ in 0..times {
-        let message = coap_message::decode(bytes)?;
-        sum = sum.wrapping_add(message.payload().len() as u64);
-        sum = sum.wrapping_add(u64::from(message.id()));
-    }
-    Ok(sum)
+/// The identifier of the message that the bytes spell and the lengths of its token and payload, added up.
+fn decode_coap(bytes: &[u8]) -> Result<u64, CoapFault>
+    ensures found { IfOk result (λ sum. (m : CoapMessage) × IsMessage m × (bytes.now ≡ spelling m)
+        × (sum ≡ m.identifier + length m.token + length m.payload)) }
+    ensures breaks { IfErr result (λ fault. Breaks bytes.now fault) }
+{
+    let message = coap_message::decode(bytes)?;
+    let lengths = message.token().len() as u64 + message.payload().len() as u64;
+    Ok(u64::from(message.id()) + lengths)
 }
 
-/// Decodes a CBOR item so often, and adds up how many parts it has.
-fn decode_cbor(alloc: Global, bytes: &[u8], times: u64) -> Result<u64, CborFault> {
-    let mut sum: u64 = 0;
-    for _ in 0..times {
-        let item = cbor_profile::decode(alloc, bytes)?;
-        sum = sum.wrapping_add(count_parts(&item) as u64);
-    }
-    Ok(sum)
+/// How many items or pairs stand directly in the item that the bytes encode; 1 for one that holds none.
+fn decode_cbor(alloc: Global, bytes: &[u8]) -> Result<u64, CborFault> {
+    let item = cbor_profile::decode(alloc, bytes)?;
+    Ok(count_parts(&item) as u64)
 }
 
-/// How many items or pairs stand directly in an item; 1 for one that holds none.
 fn count_parts(item: &Item) -> usize {
     match item {
         Item::Array(list) => list.items().len(),

@@ -21,6 +21,10 @@ fn parse_repetitions(word: &str) -> Result<u64> {
     Ok(repetitions)
 }
 
+fn decode_digits(rt: &HostRuntime, digits: &str) -> Result<Vec<u8>> {
+    hex::decode(rt.alloc(), digits).context("reading the bytes of a case")
+}
+
 /// Decodes the case of a line so often, and prints its name and the sum.
 fn run_case(rt: &HostRuntime, line: &str, repetitions: u64) -> Result<()> {
     let Some((name, digits)) = line.split_once(' ') else {
@@ -29,8 +33,10 @@ fn run_case(rt: &HostRuntime, line: &str, repetitions: u64) -> Result<()> {
     let Some(codec) = Codec::of_case(name) else {
         bail!("no decoder for the case {name}");
     };
-    let bytes = hex::decode(rt.alloc(), digits).context("reading the bytes of a case")?;
-    let sum = codec.decode_times(rt.alloc(), bytes.as_slice(), repetitions)?;
+    let first = decode_digits(rt, digits)?;
+    let second = decode_digits(rt, digits)?;
+    let copies = [first.as_slice(), second.as_slice()];
+    let sum = codec.decode_times(rt.alloc(), copies, repetitions)?;
     println!(rt; "{name} {sum}")?;
     Ok(())
 }
