@@ -30,21 +30,19 @@ impl Codec {
     /// Decodes the bytes so often, and adds up what each decode read. The bytes are there twice, and the decodes
     /// take turns, so that a compiler can't let one serve for the next.
     pub fn decode_times(self, alloc: Global, copies: [&[u8]; 2], times: u64) -> Result<u64> {
-        let mut sum: u64 = 0;
-        for turn in 0..times {
-            let bytes = copies[(turn % 2) as usize];
-            sum = sum.wrapping_add(self.decode(alloc, bytes)?);
-        }
-        Ok(sum)
-    }
-
-    /// Decodes the bytes once, and answers a number that what was read gives.
-    fn decode(self, alloc: Global, bytes: &[u8]) -> Result<u64> {
         match self {
-            Codec::Coap => decode_coap(bytes).context("decoding CoAP"),
-            Codec::Cbor => decode_cbor(alloc, bytes).context("decoding CBOR"),
+            Codec::Coap => repeat_coap(copies, times).context("decoding CoAP"),
+            Codec::Cbor => repeat_cbor(alloc, copies, times).context("decoding CBOR"),
         }
     }
+}
+
+fn repeat_coap(copies: [&[u8]; 2], times: u64) -> Result<u64, CoapFault> {
+    let mut sum: u64 = 0;
+    for turn in 0..times {
+        sum = sum.wrapping_add(decode_coap(copies[(turn % 2) as usize])?);
+    }
+    Ok(sum)
 }
 
 /// The identifier of the message that the bytes spell and the lengths of its token and payload, added up.
@@ -56,6 +54,14 @@ fn decode_coap(bytes: &[u8]) -> Result<u64, CoapFault>
     let message = coap_message::decode(bytes)?;
     let lengths = message.token().len() as u64 + message.payload().len() as u64;
     Ok(u64::from(message.id()) + lengths)
+}
+
+fn repeat_cbor(alloc: Global, copies: [&[u8]; 2], times: u64) -> Result<u64, CborFault> {
+    let mut sum: u64 = 0;
+    for turn in 0..times {
+        sum = sum.wrapping_add(decode_cbor(alloc, copies[(turn % 2) as usize])?);
+    }
+    Ok(sum)
 }
 
 /// How many items or pairs stand directly in the item that the bytes encode; 1 for one that holds none.
