@@ -7,6 +7,4 @@
 #[cfg(test)]
 mod memory_rows;
 #[cfg(test)]
-mod script_rows;
-#[cfg(test)]
 mod settings;

@@ -1,5 +1,5 @@
 use crate::settings::{COMMAND, SETTINGS};
-use dots_host::{Act, Bytes, Event, MemoryHost, MemorySink, MemorySource, NoMemory, OwnedOut};
+use dots_host::{Bytes, Event, MemoryHost, MemorySink, MemorySource, NoMemory};
 use dots_run::run;
 use std::alloc::Global;
 use std::process::Abort;
@@ -9,9 +9,7 @@ use std::test::Fail;
 const REQUEST: &str =
     "510300014abb2e77656c6c2d6b6e6f776e04646f7473086d697469676174650d0e637569643d647a3670486a6141446b614654626a72304a47427077076d69643d31323312010fffa101a10281a206816c3139322e302e322e302f32340e190e10";
 
-/// Its reply.
-const REPLY: &str = "514100014ac2010fffa101a10281a205187b0e190e10";
-
+/// The line of its filter.
 const ROW: &[u8] = b"scrub net1 dz6pHjaADkaFTbjr0JGBpw 123 192.0.2.0/24 any any\n";
 
 fn push(rt: &impl Abort, host: &mut MemoryHost, event: Event, at: u64) -> Result<(), NoMemory> {
@@ -34,38 +32,6 @@ fn replay(alloc: Global, host: &mut MemoryHost) -> Result<(u8, MemorySink), NoMe
     let mut report = MemorySink::new(alloc);
     let status = run(alloc, words.as_slice(), &mut settings, host, &mut report);
     Ok((status, report))
-}
-
-#[test]
-fn one_reply(rt: HostRuntime) -> Result<(), Fail> {
-    let alloc = rt.alloc();
-    let mut host = MemoryHost::new(alloc)?;
-    push(&rt, &mut host, datagram(alloc, 0, REQUEST)?, 1000)?;
-    // End moves no time, so the mitigation stands in the report.
-    push(&rt, &mut host, Event::End, 9999)?;
-    let (status, report) = replay(alloc, &mut host)?;
-    assert_eq!(rt; status, 0);
-    assert_eq!(rt; report.bytes(), ROW);
-    assert!(rt; host.whole());
-    let reply = hex::decode(alloc, REPLY)?;
-    let mut sends = 0;
-    for act in host.acts() {
-        if let Act::Gave { out, done } = act {
-            assert!(rt; *done);
-            assert!(rt; is_to(out, 0, reply.as_slice()));
-            sends += 1;
-            assert!(rt; sends < 2);
-        }
-    }
-    assert_eq!(rt; sends, 1);
-    Ok(())
-}
-
-fn is_to(out: &OwnedOut, to: u32, expected: &[u8]) -> bool {
-    match out {
-        OwnedOut::To { peer, bytes } => *peer == to && bytes.items() == expected,
-        _ => false,
-    }
 }
 
 #[test]
