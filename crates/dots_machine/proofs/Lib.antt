@@ -1,2 +1,3 @@
+pub mod Containment
 pub mod OneRequest
 pub mod OneState

@@ -1,5 +1,5 @@
 -- The sends of a step fix the state after it, so a list of acts fixes one state.
-use Rattle.std.proofs.Common.{◌≡◌, ℕ, [], Bool, true, false, List, ◌∷◌, refl, sym, ap, ◌∙◌, subst, cond, arith}
+use Rattle.std.proofs.Common.{◌≡◌, ℕ, [], Bool, true, false, List, ◌∷◌, Option, Some, None, refl, sym, ap, ◌∙◌, subst, arith}
 use Rattle.dots_host.specs.declared.event.Event.{Event}
 use Rattle.dots_host.specs.declared.event.Event.TheVariants as event
 use Rattle.dots_host.specs.declared.out.OwnedOut.{OwnedOut}
@@ -8,9 +8,11 @@ use Rattle.dots_host.specs.Acts.{Timed}
 use Rattle.dots_host.specs.Runs.{resting, Trace, in_one_turn}
 use Rattle.dots_host.proofs.RunLemmas.{one_run, one_turn_determined}
 use Rattle.dots_machine.specs.declared.settings.Settings.{Settings}
-use Rattle.dots_machine.specs.Requests.{Heard, short, other, asked}
-use Rattle.dots_machine.specs.Replies.{not_implemented, unavailable}
-use Rattle.dots_machine.specs.Machine.{State, moved, Verdict, silent, refuse, accept, verdict, accepts, reply_to, entry_of, Answers, Answered, by_silence, by_verdict, for_want_of_memory, Step}
+use Rattle.ip_scope.specs.Prefix.{PrefixValue}
+use Rattle.dots_machine.specs.Requests.{Request, Heard, short, other, asked}
+use Rattle.dots_machine.specs.Replies.{unavailable}
+use Rattle.dots_machine.specs.Targets.{first_fault}
+use Rattle.dots_machine.specs.Machine.{State, moved, Verdict, silent, refuse, accept, domain_of, conflicts, judged, verdict, Answers, Answered, by_silence, by_verdict, for_want_of_memory, Step}
 use Rattle.dots_machine.proofs.OneRequest.{one_heard}
 
 -- one verdict leads to one state
@@ -28,15 +30,15 @@ abbrev IsCreated : Verdict → Type 0
 IsCreated (accept reply entry) = code_of reply ≡ 0x41
 IsCreated _ = Unit {0}
 
-chosen_created : (b : Bool) (v w : Verdict) → IsCreated v → IsCreated w → IsCreated (cond b v w)
-chosen_created true v w a c = a
-chosen_created false v w a c = c
+judged_created : (state : State) (peer : ℕ) (r : Request) (fault : Option PrefixValue) (conflict : Bool) → IsCreated (judged state peer r fault conflict)
+judged_created state peer r (Some prefix) conflict = tt
+judged_created state peer r None true = tt
+judged_created state peer r None false = refl
 
 verdict_created : (settings : Settings) (state : State) (peer : ℕ) (heard : Heard) → IsCreated (verdict settings state peer heard)
 verdict_created settings state peer short = tt
 verdict_created settings state peer (other i) = tt
-verdict_created settings state peer (asked r) =
-    chosen_created (accepts settings state r) (accept (reply_to r) (entry_of peer state.time r)) (refuse (not_implemented r.identifier)) refl tt
+verdict_created settings state peer (asked r) = judged_created state peer r (first_fault (domain_of settings) r.prefixes) (conflicts state r)
 
 -- 5.00 changes nothing, and is no reply to an accepted request
 kept_or_created : (v : Verdict) (peer identifier : ℕ) (token : List ℕ) (state : State) (sends : List OwnedOut) (new last : State)

@@ -12,7 +12,7 @@ use Rattle.dots_machine.specs.declared.ending.Ending.{Ending}
 use Rattle.dots_machine.specs.declared.ending.Ending.TheVariants as ending
 use Rattle.dots_machine.specs.SettingsFile.{SettingsAre, SettingsFail}
 use Rattle.dots_machine.specs.Machine.{State, begun, Step}
-use Rattle.dots_machine.specs.Report.{report_of}
+use Rattle.dots_machine.specs.Report.{report_of, Contained}
 
 -- a word that can stand for a file: it isn't empty and doesn't begin with `-`
 abbrev pub is_file_word : List ℕ → Bool
@@ -38,11 +38,13 @@ status_of ending.TooMany = 11
 abbrev pub fault_line : SettingsFault → List ℕ
 fault_line (fault.Line number) = codes "settings line " ++ decimal number ++ codes "\n"
 
--- The settings are those of the file, where the source told its bytes, and the acts are a run of the machine with them, from the empty history to the state.
+-- The settings are those of the file, where the source told its bytes, and the acts are a run of the machine with them, from the
+-- empty history to the state, whose filters lie inside the domain.
 pub record Served (left : Option (List ℕ)) (acts : List Timed) (settings : Settings) (state : State) : Type 0 where
   pub told : IfSome left (λ bytes. SettingsAre bytes settings)
   pub trace : List State
   pub run : Trace (in_one_turn (Step settings)) (resting begun) acts trace (resting state)
+  pub contained : Contained settings state
 
 -- How the acts of a run that came to serve end, and what it wrote to the report after them. Of a report that couldn't be written nothing is said yet.
 abbrev pub Finishes : Ending → Settings → State → List Timed → Option (List ℕ) → Option (List ℕ) → Type 0

@@ -1,15 +1,17 @@
 -- The machine: its state, what it decides on a datagram, and a step.
-use Rattle.std.specs.Prelude.{◌≡◌, ◌≢◌, ℕ, Bool, true, false, ◌&&◌, min, max, if◌then◌else◌, List, [], ◌∷◌, ◌++◌}
-use Rattle.std.specs.List.{list_all}
+use Rattle.std.specs.Prelude.{◌≡◌, ◌≢◌, ℕ, Bool, true, false, ◌&&◌, ◌||◌, ◌==◌, bytes_eq, min, max, List, [], ◌∷◌, ◌++◌, Option, Some, None}
+use Rattle.std.specs.List.{list_any}
+use Rattle.ip_scope.specs.Prefix.{PrefixValue, meets}
 use Rattle.dots_host.specs.declared.event.Event.{Event}
 use Rattle.dots_host.specs.declared.event.Event.TheVariants as event
 use Rattle.dots_host.specs.declared.out.OwnedOut.{OwnedOut}
 use Rattle.dots_host.specs.declared.out.OwnedOut.TheVariants as owned
 use Rattle.dots_machine.specs.declared.settings.Settings.{Settings}
 use Rattle.dots_machine.specs.declared.entry.Entry.{Entry}
-use Rattle.dots_machine.specs.Targets.{may_be_asked}
+use Rattle.dots_machine.specs.Targets.{first_fault, fault_of}
 use Rattle.dots_machine.specs.Requests.{Head, Request, Heard, short, other, asked, Hears, HasHead}
-use Rattle.dots_machine.specs.Replies.{created, not_implemented, unavailable}
+use Rattle.dots_machine.specs.Replies.{created, not_implemented, unavailable, bad_request, conflicting}
+use Rattle.dots_machine.specs.History.{standing}
 
 -- the history, and the time of the last event
 pub record State : Type 0 where
@@ -47,13 +49,19 @@ entry_of peer time request = record {
   put = record { mid = request.mid; prefixes = request.prefixes; granted = granted request };
 }
 
-abbrev pub is_empty : List Entry → Bool
-is_empty [] = true
-is_empty (entry ∷ history) = false
+-- the prefixes of the client's domain
+abbrev pub domain_of : Settings → List PrefixValue
+domain_of settings = settings.prefix ∷ []
 
--- Accepted is the first request whose prefixes are targets inside the domain of the client.
-abbrev pub accepts : Settings → State → Request → Bool
-accepts settings state request = list_all (may_be_asked (settings.prefix ∷ [])) request.prefixes && is_empty state.history
+-- An accepted request is in the way of another with its mid and cuid, and of one of whose prefixes one meets one of its own.
+abbrev pub in_the_way : Request → Entry → Bool
+in_the_way request entry =
+    (entry.put.mid == request.mid && bytes_eq entry.cuid request.cuid)
+    || list_any (λ asked. list_any (λ held. meets asked held) entry.put.prefixes) request.prefixes
+
+-- a request that stands is in the way
+abbrev pub conflicts : State → Request → Bool
+conflicts state request = list_any (in_the_way request) (standing state.time state.history)
 
 -- what is decided: silence, a reply that changes nothing, or a reply to an accepted request
 pub data Verdict : Type 0 where
@@ -61,13 +69,19 @@ pub data Verdict : Type 0 where
   refuse : List ℕ → Verdict
   accept : List ℕ → Entry → Verdict
 
+-- On a request, by the first of its prefixes that may not be asked for, where there is one, and by whether it conflicts: it is
+-- refused for that prefix, else for the conflict, else it is accepted.
+abbrev pub judged : State → ℕ → Request → Option PrefixValue → Bool → Verdict
+judged state peer request (Some prefix) conflict = refuse (bad_request request.identifier request.token (fault_of prefix))
+judged state peer request None true = refuse (conflicting request.identifier request.token)
+judged state peer request None false = accept (reply_to request) (entry_of peer state.time request)
+
 -- on what a client sent
 abbrev pub verdict : Settings → State → ℕ → Heard → Verdict
 verdict settings state peer short = silent
 verdict settings state peer (other identifier) = refuse (not_implemented identifier)
 verdict settings state peer (asked request) =
-    if accepts settings state request then accept (reply_to request) (entry_of peer state.time request)
-    else refuse (not_implemented request.identifier)
+    judged state peer request (first_fault (domain_of settings) request.prefixes) (conflicts state request)
 
 -- the sends that a verdict makes, and the state after it
 abbrev pub Answers : Verdict → ℕ → State → List OwnedOut → State → Type 0

@@ -1,14 +1,16 @@
 -- The replies: NON messages with the Message ID and the token of the request (RFC 7252, section 5.2; RFC 9132, section 4.4.1.1).
-use Rattle.std.specs.Prelude.{ℕ, List, [], ◌∷◌}
+use Rattle.std.specs.Prelude.{ℕ, List, [], ◌∷◌, codes}
 use Rattle.cbor_profile.specs.Tree.{Tree, unsigned, mapping, no_pairs, pair}
 use Rattle.cbor_profile.specs.Canon.{canon}
 use Rattle.coap_message.specs.declared.kind.Kind.TheVariants.{Non}
 use Rattle.coap_message.specs.Message.{CoapMessage, spelling}
+use Rattle.dots_machine.specs.declared.target.TargetFault.{TargetFault}
+use Rattle.dots_machine.specs.Targets.{fault_text}
 use Rattle.dots_machine.specs.Requests.{mitigation, dots_cbor}
 
--- a reply of a code alone
-abbrev pub bare : ℕ → ℕ → List ℕ → CoapMessage
-bare code identifier token = record { kind = Non; code = code; identifier = identifier; token = token; options = []; payload = [] }
+-- a reply without options, whose payload is a text that says why, or empty (RFC 7252, section 5.5.2: a diagnostic payload)
+abbrev pub plain : ℕ → ℕ → List ℕ → List ℕ → CoapMessage
+plain code identifier token text = record { kind = Non; code = code; identifier = identifier; token = token; options = []; payload = text }
 
 -- {5: mid, 14: lifetime}: mid 5, lifetime 14
 abbrev pub granted_scope : ℕ → ℕ → Tree
@@ -31,8 +33,16 @@ created identifier token mid lifetime = spelling (created_message identifier tok
 
 -- 5.01 Not Implemented without a token, for what isn't served yet
 abbrev pub not_implemented : ℕ → List ℕ
-not_implemented identifier = spelling (bare 0xa1 identifier [])
+not_implemented identifier = spelling (plain 0xa1 identifier [] [])
 
 -- 5.00 Internal Server Error, for want of memory
 abbrev pub unavailable : ℕ → List ℕ → List ℕ
-unavailable identifier token = spelling (bare 0xa0 identifier token)
+unavailable identifier token = spelling (plain 0xa0 identifier token [])
+
+-- 4.00 Bad Request, for a prefix that may not be asked for
+abbrev pub bad_request : ℕ → List ℕ → TargetFault → List ℕ
+bad_request identifier token fault = spelling (plain 0x80 identifier token (fault_text fault))
+
+-- 4.09 Conflict, with a request that stands
+abbrev pub conflicting : ℕ → List ℕ → List ℕ
+conflicting identifier token = spelling (plain 0x89 identifier token (codes "conflict"))

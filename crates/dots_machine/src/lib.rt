@@ -11,8 +11,10 @@ mod ending;
 mod entry;
 mod law;
 mod settings;
+mod target;
 
 pub use ending::Ending;
 pub use entry::{Entry, Put};
 pub use law::one_state;
 pub use settings::{Settings, SettingsFault};
+pub use target::TargetFault;

@@ -1,25 +1,38 @@
 -- What a server may do on a request.
-use Rattle.std.proofs.Common.{◌≡◌, ℕ, Bool, true, false, List, [], ◌∷◌, inl, inr, refl, sym, ap, ◌∙◌, subst, cond}
+use Rattle.std.proofs.Common.{◌≡◌, ◌≢◌, ℕ, Option, true, false, List, [], ◌∷◌, Some, None, inl, inr, refl, sym, ap, ◌∙◌, subst}
+use Rattle.ip_scope.specs.Prefix.{PrefixValue}
 use Rattle.dots_lists.specs.Name.{is_name}
 use Rattle.dots_host.specs.declared.out.OwnedOut.{OwnedOut}
 use Rattle.dots_host.specs.declared.out.OwnedOut.TheVariants as owned
 use Rattle.dots_machine.specs.declared.settings.Settings.{Settings}
+use Rattle.dots_machine.specs.Targets.{first_fault, fault_of}
 use Rattle.dots_machine.specs.Requests.{Request, asked, Asks}
-use Rattle.dots_machine.specs.Replies.{not_implemented, unavailable}
-use Rattle.dots_machine.specs.Machine.{State, Verdict, refuse, accept, accepts, reply_to, entry_of, with_entry, Answers, Answered, by_verdict, for_want_of_memory}
+use Rattle.dots_machine.specs.Replies.{unavailable, bad_request, conflicting}
+use Rattle.dots_machine.specs.Machine.{State, domain_of, conflicts, judged, reply_to, entry_of, with_entry, Answers, Answered, by_verdict, for_want_of_memory}
 use Rattle.dots_run.specs.declared.request.Asked.{Asked}
 use Rattle.dots_run.specs.Hearing.{Decides, IsFit, request_of}
 
-abbrev chosen : Bool → State → ℕ → Request → Verdict
-chosen b state peer r = cond b (accept (reply_to r) (entry_of peer state.time r)) (refuse (not_implemented r.identifier))
+pub refused : (settings : Settings) (state : State) (peer : ℕ) (r : Request) (prefix : PrefixValue) → Some prefix ≡ first_fault (domain_of settings) r.prefixes
+    → Decides settings state peer r (owned.To peer (bad_request r.identifier r.token (fault_of prefix)) ∷ []) state
+refused settings state peer r prefix is =
+    inl (subst (λ fault. Answers (judged state peer r fault (conflicts state r)) peer state (owned.To peer (bad_request r.identifier r.token (fault_of prefix)) ∷ []) state) is (refl, refl))
 
-pub refused : (settings : Settings) (state : State) (peer : ℕ) (r : Request) → accepts settings state r ≡ false → Decides settings state peer r (owned.To peer (not_implemented r.identifier) ∷ []) state
-refused settings state peer r is = inl (subst (λ b. Answers (chosen b state peer r) peer state (owned.To peer (not_implemented r.identifier) ∷ []) state) (sym is) (refl, refl))
+pub in_conflict : (settings : Settings) (state : State) (peer : ℕ) (r : Request) → None ≡ first_fault (domain_of settings) r.prefixes → true ≡ conflicts state r
+    → Decides settings state peer r (owned.To peer (conflicting r.identifier r.token) ∷ []) state
+in_conflict settings state peer r is conflict =
+    inl (subst (λ fault. Answers (judged state peer r fault (conflicts state r)) peer state (owned.To peer (conflicting r.identifier r.token) ∷ []) state) is
+    (subst (λ b. Answers (judged state peer r None b) peer state (owned.To peer (conflicting r.identifier r.token) ∷ []) state) conflict (refl, refl)))
 
-pub accepted : (settings : Settings) (state : State) (peer : ℕ) (r : Request) → accepts settings state r ≡ true
+pub accepted : (settings : Settings) (state : State) (peer : ℕ) (r : Request) → None ≡ first_fault (domain_of settings) r.prefixes → false ≡ conflicts state r
     → Decides settings state peer r (owned.To peer (reply_to r) ∷ []) (with_entry state (entry_of peer state.time r))
-accepted settings state peer r is =
-    inl (subst (λ b. Answers (chosen b state peer r) peer state (owned.To peer (reply_to r) ∷ []) (with_entry state (entry_of peer state.time r))) (sym is) (refl, refl))
+accepted settings state peer r is conflict =
+    let new = with_entry state (entry_of peer state.time r) in
+    inl (subst (λ fault. Answers (judged state peer r fault (conflicts state r)) peer state (owned.To peer (reply_to r) ∷ []) new) is
+    (subst (λ b. Answers (judged state peer r None b) peer state (owned.To peer (reply_to r) ∷ []) new) conflict (refl, refl)))
+
+pub no_fault : {X : Type 0} (found : Option X) → ((x : X) → found ≢ Some x) → None ≡ found
+no_fault None none = refl
+no_fault (Some x) none = absurd (none x refl)
 
 pub lacking : (settings : Settings) (state : State) (peer : ℕ) (r : Request) → Decides settings state peer r (owned.To peer (unavailable r.identifier r.token) ∷ []) state
 lacking settings state peer r = inr (refl, refl)
@@ -29,6 +42,7 @@ fit_from datagram a asks =
     let small = asks.has_head.is_head.token in record {
       name = subst (λ name. is_name name ≡ true) (sym asks.cuid) asks.has_head.is_head.name;
       token = rw asks.token small;
+      lifetime = asks.body.positive;
     }
 
 pub decided_answered : (settings : Settings) (state new : State) (peer : ℕ) (datagram : List ℕ) (r : Request) (sends : List OwnedOut) → peer ≡ settings.peer → Asks datagram r

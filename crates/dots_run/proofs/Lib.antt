@@ -2,10 +2,13 @@ pub mod Bodies
 pub mod Counts
 pub mod Deciding
 pub mod Turns
+pub mod FirstFault
 pub mod GrantedBody
 pub mod HearingLemmas
+pub mod Keeping
 pub mod Lines
 pub mod ReportLines
+pub mod ServingLemmas
 pub mod ThreeWrites
 pub mod SettingsBytes
 pub mod SettingsLines

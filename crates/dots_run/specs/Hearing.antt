@@ -27,6 +27,7 @@ request_of a = record {
 pub record IsFit (a : Asked) : Type 0 where
   pub name : is_name a.head.cuid.now ≡ true
   pub token : length a.head.token.now ≤ 8
+  pub lifetime : 1 ≤ a.body.lifetime
 
 abbrev pub heard_of : Hearing → Heard
 heard_of hearing.Short = short
@@ -42,8 +43,3 @@ abbrev pub Decides : Settings → State → ℕ → Request → List OwnedOut �
 Decides settings state peer request sends new =
     Answers (verdict settings state peer (asked request)) peer state sends new
     ⊎ ((sends ≡ owned.To peer (unavailable request.identifier request.token) ∷ []) × (new ≡ state))
-
--- what a server keeps
-pub record Serving : Type 0 where
-  pub settings : Settings
-  pub state : State

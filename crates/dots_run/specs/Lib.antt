@@ -1,7 +1,7 @@
 pub mod Asking
 pub mod Hearing
+pub mod Keeping
 pub mod Scopes
 pub mod Refusing
 pub mod Serving
-pub mod Standing
 pub mod Stopping

@@ -6,13 +6,15 @@ use Rattle.dots_machine.specs.declared.settings.Settings.{Settings}
 use Rattle.dots_machine.specs.declared.ending.Ending.{Ending}
 use Rattle.dots_machine.specs.declared.ending.Ending.TheVariants as ending
 use Rattle.dots_machine.specs.Machine.{State, begun, Step}
+use Rattle.dots_machine.specs.Report.{Contained}
 use Rattle.dots_machine.specs.Endings.{Finishes}
 
--- the acts are a run from the empty history, which ends so
+-- the acts are a run from the empty history, which ends so, its filters inside the domain
 pub record Serves (how : Ending) (settings : Settings) (acts : List Timed) (old new : Option (List ℕ)) : Type 0 where
   pub state : State
   pub trace : List State
   pub run : Trace (in_one_turn (Step settings)) (resting begun) acts trace (resting state)
+  pub contained : Contained settings state
   pub finishes : Finishes how settings state acts old new
 
 -- without memory nothing was served

@@ -4,7 +4,8 @@ ghost use Rattle.std.specs.Prelude.{◌≡◌, ◌≤◌, length};
 ghost use Rattle.dots_host.specs.Causes.{Rose};
 ghost use Rattle.dots_host.specs.Runs.{Added};
 ghost use Rattle.dots_host.specs.declared.TheConstants.{MAX_EVENT_BYTES};
-ghost use Rattle.dots_machine.specs.Machine.{Step};
+ghost use Rattle.dots_machine.specs.Machine.{State, Step};
+ghost use Rattle.dots_run.specs.Keeping.{kept};
 ghost use Rattle.dots_run.specs.Stopping.{Ran};
 
 use crate::server::Server;
@@ -30,8 +31,9 @@ pub fn take_events<W: Wire>(server: &mut Server, wire: &mut W, room: &mut [u8]) 
     ensures settings { server.new.settings ≡ server.old.settings }
     ensures later { W.faults wire.old ≤ W.faults wire.new }
     ensures cause { result ≡ Stop.NextFailed → Rose (W.faults wire.old) (W.faults wire.new) }
-    ensures ran { Added (W.acts wire.old) (W.acts wire.new)
-        (Ran (Step server.old.settings) server.old.state server.new.state result) }
+    ensures ran { (state : State) → server.old ≡ kept server.old.settings state
+        → (new : State) × (server.new ≡ kept server.old.settings new)
+        × Added (W.acts wire.old) (W.acts wire.new) (Ran (Step server.old.settings) state new result) }
 {
     for _turn in 0..MAX_EVENTS {
         let got = wire.next(room);

@@ -2,8 +2,10 @@
 #![tactic(auto)]
 
 mod affixes;
+mod conflicts;
 mod events;
 mod outcome;
+mod refusals;
 mod replies;
 mod report;
 mod request;

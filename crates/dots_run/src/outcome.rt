@@ -1,13 +1,13 @@
 //! The top call.
 
-ghost use Rattle.std.specs.Prelude.{◌≡◌, ◌≢◌, ◌≤◌, ◌⊎◌, ◌↔◌, [], ◌++◌, codes, decimal, map, false, string_bytes, vec_capacity, OnOk, OnErr};
+ghost use Rattle.std.specs.Prelude.{◌≡◌, ◌≢◌, ◌≤◌, ◌⊎◌, ◌↔◌, [], ◌++◌, codes, decimal, map, flat_map, false, string_bytes, vec_capacity, OnOk, OnErr};
 ghost use Rattle.std.specs.Io.KnownBytes.{Appends};
 ghost use Rattle.dots_host.specs.Causes.{Rose, HasCause};
 ghost use Rattle.dots_host.specs.Runs.{Added};
 ghost use Rattle.dots_host.specs.Writing.{AppendsBeginning};
 ghost use Rattle.dots_machine.specs.declared.ending.Ending as endings;
 ghost use Rattle.dots_machine.specs.Endings.{is_command, status_of, Behaves, fault_line};
-ghost use Rattle.dots_machine.specs.Report.{report_of};
+ghost use Rattle.dots_machine.specs.Report.{scrub_lines};
 ghost use Rattle.dots_run.specs.Serving.{ServesTo};
 ghost use Rattle.dots_run.specs.declared.writing.TheConstants.{BLOCK};
 
@@ -110,7 +110,7 @@ fn finish<K: Sink>(server: &Server, report: &mut K, block: &mut Vec<u8>) -> Endi
     requires empty { block.old.items ≡ [] }
     ensures here { (result ≡ Ending.Whole) ⊎ (result ≡ Ending.ReportFailed) }
     ensures whole { result ≡ Ending.Whole → Appends (K.holds report.old) (K.holds report.new)
-        (report_of server.now.settings server.now.state) }
+        (flat_map (scrub_lines server.now.settings) server.now.standing) }
     ensures written { result ≡ Ending.ReportFailed → Rose (K.faults report.old) (K.faults report.new) }
 {
     match write_report(server, report, block) {

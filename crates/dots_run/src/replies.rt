@@ -6,29 +6,41 @@ ghost use Rattle.cbor_profile.specs.Canon.{canon};
 ghost use Rattle.cbor_profile.specs.View.{tree_of};
 ghost use Rattle.coap_message.specs.Message.{spelling};
 ghost use Rattle.dots_machine.specs.Requests.{mitigation};
-ghost use Rattle.dots_machine.specs.Replies.{bare, granted_scope, created_message, created};
+ghost use Rattle.dots_machine.specs.Replies.{plain, granted_scope, created_message, created};
 
 use cbor_profile::{Item, ItemList, PairList, encode};
 use coap_message::{Kind, OptionPart, Parts, encode_into, encoded_len};
 use dots_lists::{Bytes, NoMemory};
 use std::alloc::Global;
 
-/// 2.01 Created, 5.00 Internal Server Error and 5.01 Not Implemented (RFC 7252, section 12.1.2).
+/// 2.01 Created, 4.00 Bad Request, 4.09 Conflict, 5.00 Internal Server Error and 5.01 Not Implemented (RFC 7252,
+/// section 12.1.2; RFC 8132, section 4 for Conflict).
 const CREATED: u8 = 0x41;
+
+pub const BAD_REQUEST: u8 = 0x80;
+
+pub const CONFLICT: u8 = 0x89;
 
 pub const INTERNAL_SERVER_ERROR: u8 = 0xa0;
 
 pub const NOT_IMPLEMENTED: u8 = 0xa1;
 
-/// The most bytes of a reply without options and payload: a header and a token.
-pub const MAX_BARE: usize = 12;
+/// The most bytes of a reply without options: a header, a token, the marker, and a text of at most 16 bytes.
+pub const MAX_PLAIN: usize = 29;
 
-/// Writes a NON reply of a code alone in front of the bytes, and answers how many bytes it has.
-pub fn put_bare(into: &mut [u8; MAX_BARE], code: u8, identifier: u16, token: &[u8]) -> usize
+/// Writes a NON reply without options in front of the bytes, and answers how many bytes it has.
+pub fn put_plain(
+    into: &mut [u8; MAX_PLAIN],
+    code: u8,
+    identifier: u16,
+    token: &[u8],
+    text: &[u8],
+) -> usize
     requires code { code ≢ 0 }
     requires token { length token.now ≤ 8 }
-    ensures front { take result into.new ≡ spelling (bare code identifier token.now) }
-    ensures within { result ≤ 12 }
+    requires text { length text.now ≤ 16 }
+    ensures front { take result into.new ≡ spelling (plain code identifier token.now text.now) }
+    ensures within { result ≤ 29 }
 {
     let parts = Parts {
         kind: Kind::Non,
@@ -37,7 +49,7 @@ pub fn put_bare(into: &mut [u8; MAX_BARE], code: u8, identifier: u16, token: &[u
         token,
         options: &[],
         values: &[],
-        payload: &[],
+        payload: text,
     };
     encode_into(&parts, into)
 }

@@ -2,9 +2,9 @@ ghost use Rattle.std.specs.Prelude.{◌≡◌, ◌≢◌, ◌≤◌, [], ◌∷�
 ghost use Rattle.coap_message.specs.Message.{spelling};
 ghost use Rattle.dots_host.specs.Runs.{Added, Gives};
 ghost use Rattle.dots_host.specs.declared.out.OwnedOut.TheVariants as owned;
-ghost use Rattle.dots_machine.specs.Replies.{bare};
+ghost use Rattle.dots_machine.specs.Replies.{plain};
 
-use crate::replies::{MAX_BARE, put_bare};
+use crate::replies::{MAX_PLAIN, put_plain};
 use dots_host::{Out, Wire};
 
 /// Sends a datagram to a peer. Whether it left makes no difference.
@@ -15,15 +15,23 @@ pub fn send_to<W: Wire>(wire: &mut W, peer: u32, bytes: &[u8])
     let _ = wire.send(&Out::To { peer, bytes });
 }
 
-/// Sends a reply of a code alone.
-pub fn send_bare<W: Wire>(wire: &mut W, peer: u32, code: u8, identifier: u16, token: &[u8])
+/// Sends a reply without options, with a text that says why it isn't what was asked for, or an empty one.
+pub fn send_plain<W: Wire>(
+    wire: &mut W,
+    peer: u32,
+    code: u8,
+    identifier: u16,
+    token: &[u8],
+    text: &[u8],
+)
     requires code { code ≢ 0 }
     requires token { length token.now ≤ 8 }
+    requires text { length text.now ≤ 16 }
     ensures acts { Added (W.acts wire.old) (W.acts wire.new)
-        (Gives (owned.To peer (spelling (bare code identifier token.now)) ∷ [])) }
+        (Gives (owned.To peer (spelling (plain code identifier token.now text.now)) ∷ [])) }
     ensures faults { W.faults wire.new ≡ W.faults wire.old }
 {
-    let mut bytes = [0; MAX_BARE];
-    let len = put_bare(&mut bytes, code, identifier, token);
+    let mut bytes = [0; MAX_PLAIN];
+    let len = put_plain(&mut bytes, code, identifier, token, text);
     send_to(wire, peer, &bytes[..len]);
 }

@@ -1,53 +1,60 @@
-//! The server: the settings, the accepted requests and the time.
+//! The server: the settings, the requests that stand and the time.
 
-ghost use Rattle.std.specs.Prelude.{◌≡◌, ◌≢◌, ◌≤◌, ◌++◌, [], ◌∷◌, length, OnOk, OnErr, IfOk, List};
+ghost use Rattle.std.specs.Prelude.{◌≡◌, ◌≤◌, ◌++◌, [], ◌∷◌, length, max, OnOk, OnErr, IfOk, List};
+ghost use Rattle.std.specs.List.{list_any};
 ghost use Rattle.dots_host.specs.Acts.{IsWithin, event_of};
 ghost use Rattle.dots_host.specs.Runs.{Added, Gives};
 ghost use Rattle.dots_host.specs.declared.out.OwnedOut.{OwnedOut};
 ghost use Rattle.dots_host.specs.declared.out.OwnedOut.TheVariants as owned;
 ghost use Rattle.dots_machine.specs.declared.entry.Entry.{Entry};
-ghost use Rattle.dots_machine.specs.Machine.{begun, moved, with_entry, entry_of, accepts, Answered, Step};
+ghost use Rattle.dots_machine.specs.History.{standing};
+ghost use Rattle.dots_machine.specs.Targets.{first_fault};
+ghost use Rattle.dots_machine.specs.Machine.{State, begun, entry_of, domain_of, in_the_way, Answered, Step};
 ghost use Rattle.dots_run.specs.Hearing.{request_of, IsFit, Decides};
+ghost use Rattle.dots_run.specs.Keeping.{kept};
 
-use crate::replies::{INTERNAL_SERVER_ERROR, NOT_IMPLEMENTED, created};
+use crate::conflicts::{any_in_the_way, leave_standing};
+use crate::refusals::{send_bad_request, send_conflict, send_not_implemented, send_unavailable};
+use crate::replies::created;
 use crate::request::{Asked, Hearing, hear};
-use crate::sending::{send_bare, send_to};
-use crate::targets::may_all_be_asked;
+use crate::sending::send_to;
+use crate::targets::{fault_of, first_fault};
 use dots_host::{Got, What, Wire};
 use dots_lists::{Name, NoMemory};
 use dots_machine::{Entry, Put, Settings};
+use ip_scope::Prefix;
 use std::alloc::Global;
 use std::marker::Model;
 
 /// The greatest lifetime that is granted, in seconds.
 const CEILING: u32 = 86400;
 
-/// A server: its settings, the accepted requests in order, and the time of the last event.
+/// A server: its settings, the requests that stand in order of acceptance, and the time of the last event.
 #[derive(Debug, Drop)]
 pub struct Server {
     alloc: Global,
     settings: Settings,
-    history: Vec<Entry>,
+    standing: Vec<Entry>,
     time: u64,
 }
 
 impl Model for Server {
-    ghost use Rattle.dots_run.specs.Hearing.{Serving};
+    ghost use Rattle.dots_run.specs.Keeping.{Keeping};
 
-    ghost Value = { Serving };
+    ghost Value = { Keeping };
 
-    ghost view = { λ server. record { settings = server.settings; state = record { history = server.history.items; time = server.time } } };
+    ghost view = { λ server. record { settings = server.settings; standing = server.standing.items; time = server.time } };
 }
 
 impl Server {
     /// A server that has accepted nothing yet. Takes no memory.
     pub fn new(alloc: Global, settings: Settings) -> Self
-        ensures { result ≡ record { settings = settings; state = begun } }
+        ensures { result ≡ kept settings begun }
     {
         Server {
             alloc,
             settings,
-            history: Vec::new(alloc),
+            standing: Vec::new(alloc),
             time: 0,
         }
     }
@@ -58,47 +65,50 @@ impl Server {
         &self.settings
     }
 
-    /// The accepted requests in order of acceptance.
-    pub fn history(&self) -> &[Entry]
-        ensures { result.now ≡ self.now.state.history }
+    /// The requests that stand, in order of acceptance.
+    pub fn standing(&self) -> &[Entry]
+        ensures { result.now ≡ self.now.standing }
     {
-        self.history.as_slice()
+        self.standing.as_slice()
     }
 
-    /// The time of the last event, in seconds.
-    pub fn time(&self) -> u64
-        ensures { result ≡ self.now.state.time }
-    {
-        self.time
-    }
-
-    /// The time never falls.
+    /// The time never falls, and what has ended by then is forgotten.
     fn move_time(&mut self, at: u64)
-        ensures { self.new ≡ record self.old { state = moved self.old.state at } }
+        ensures settings { self.new.settings ≡ self.old.settings }
+        ensures time { self.new.time ≡ max at self.old.time }
+        ensures standing { self.new.standing ≡ standing (max at self.old.time) self.old.standing }
     {
-        self.time = at.max(self.time);
+        let time = at.max(self.time);
+        leave_standing(&mut self.standing, time);
+        self.time = time;
     }
 
-    /// Whether a request is accepted.
-    fn accepts(&self, asked: &Asked) -> bool
-        ensures { result ≡ accepts self.now.settings self.now.state (request_of asked.now) }
-    {
-        may_all_be_asked(&[self.settings.prefix], asked.body.prefixes.items())
-            && self.history.is_empty()
-    }
-
-    /// Adds an accepted request to the history.
+    /// Adds an accepted request.
     fn accept(&mut self, peer: u32, asked: Asked) -> Result<(), NoMemory>
         requires { IsFit asked }
         ensures ok { OnOk result (self.new ≡ record self.old {
-          state = with_entry self.old.state (entry_of peer self.old.state.time (request_of asked.entry));
+          standing = self.old.standing ++ entry_of peer self.old.time (request_of asked.entry) ∷ [];
         }) }
         ensures err { OnErr result (self.new ≡ self.old) }
     {
-        self.history.reserve(1)?;
+        self.standing.reserve(1)?;
         let entry = entry(self.alloc, peer, self.time, asked)?;
-        self.history.push_reserved(entry);
+        self.standing.push_reserved(entry);
         Ok(())
+    }
+
+    /// The first of the asked prefixes that the client may not ask for.
+    fn first_fault(&self, asked: &Asked) -> Option<Prefix>
+        ensures { result ≡ first_fault (domain_of self.now.settings) (request_of asked.now).prefixes }
+    {
+        first_fault(&[self.settings.prefix], asked.body.prefixes.items())
+    }
+
+    /// Whether a request that stands is in the way.
+    fn conflicts(&self, asked: &Asked) -> bool
+        ensures { result ≡ list_any (in_the_way (request_of asked.now)) self.now.standing }
+    {
+        any_in_the_way(asked, self.standing.as_slice())
     }
 
     /// Answers a request of the client.
@@ -106,26 +116,20 @@ impl Server {
         requires { IsFit asked }
         ensures settings { self.new.settings ≡ self.old.settings }
         ensures faults { W.faults wire.new ≡ W.faults wire.old }
-        ensures decided { (sends : List OwnedOut)
-            × Decides self.old.settings self.old.state peer (request_of asked.entry) sends self.new.state
+        ensures decided { (state : State) → self.old ≡ kept self.old.settings state → (sends : List OwnedOut) × (new : State)
+            × Decides self.old.settings state peer (request_of asked.entry) sends new × (self.new ≡ kept self.old.settings new)
             × Added (W.acts wire.old) (W.acts wire.new) (Gives sends) }
     {
         let head = asked.head;
-        if !self.accepts(&asked) {
-            send_bare(wire, peer, NOT_IMPLEMENTED, head.identifier, &[]);
-            return;
+        if let Some(prefix) = self.first_fault(&asked) {
+            return send_bad_request(wire, peer, &head, fault_of(&prefix));
+        }
+        if self.conflicts(&asked) {
+            return send_conflict(wire, peer, &head);
         }
         match self.accept(peer, asked) {
             Ok(()) => return self.send_last_reply(wire, peer),
-            Err(_) => {
-                return send_bare(
-                    wire,
-                    peer,
-                    INTERNAL_SERVER_ERROR,
-                    head.identifier,
-                    head.token,
-                );
-            }
+            Err(_) => return send_unavailable(wire, peer, &head),
         }
     }
 
@@ -134,25 +138,17 @@ impl Server {
         requires { peer ≡ self.old.settings.peer }
         ensures settings { self.new.settings ≡ self.old.settings }
         ensures faults { W.faults wire.new ≡ W.faults wire.old }
-        ensures answered { (sends : List OwnedOut)
-            × Answered self.old.settings peer datagram.now self.old.state sends self.new.state
+        ensures answered { (state : State) → self.old ≡ kept self.old.settings state → (sends : List OwnedOut) × (new : State)
+            × Answered self.old.settings peer datagram.now state sends new × (self.new ≡ kept self.old.settings new)
             × Added (W.acts wire.old) (W.acts wire.new) (Gives sends) }
     {
         match hear(self.alloc, datagram) {
             Ok(Hearing::Short) => return,
             Ok(Hearing::Other { identifier }) => {
-                return send_bare(wire, peer, NOT_IMPLEMENTED, identifier, &[]);
+                return send_not_implemented(wire, peer, identifier);
             }
             Ok(Hearing::Asked(asked)) => return self.decide(wire, peer, asked),
-            Err(head) => {
-                return send_bare(
-                    wire,
-                    peer,
-                    INTERNAL_SERVER_ERROR,
-                    head.identifier,
-                    head.token,
-                );
-            }
+            Err(head) => return send_unavailable(wire, peer, &head),
         }
     }
 
@@ -160,8 +156,8 @@ impl Server {
     fn answer<W: Wire>(&mut self, wire: &mut W, peer: u32, datagram: &[u8])
         ensures settings { self.new.settings ≡ self.old.settings }
         ensures faults { W.faults wire.new ≡ W.faults wire.old }
-        ensures answered { (sends : List OwnedOut)
-            × Answered self.old.settings peer datagram.now self.old.state sends self.new.state
+        ensures answered { (state : State) → self.old ≡ kept self.old.settings state → (sends : List OwnedOut) × (new : State)
+            × Answered self.old.settings peer datagram.now state sends new × (self.new ≡ kept self.old.settings new)
             × Added (W.acts wire.old) (W.acts wire.new) (Gives sends) }
     {
         if peer == self.settings.peer {
@@ -174,9 +170,9 @@ impl Server {
         requires { IsWithin got.now.what (length room.now) }
         ensures settings { self.new.settings ≡ self.old.settings }
         ensures faults { W.faults wire.new ≡ W.faults wire.old }
-        ensures step { (sends : List OwnedOut)
-            × Step self.old.settings self.old.state (event_of got.now.what room.now) got.now.at sends self.new.state
-            × Added (W.acts wire.old) (W.acts wire.new) (Gives sends) }
+        ensures step { (state : State) → self.old ≡ kept self.old.settings state → (sends : List OwnedOut) × (new : State)
+            × Step self.old.settings state (event_of got.now.what room.now) got.now.at sends new
+            × (self.new ≡ kept self.old.settings new) × Added (W.acts wire.old) (W.acts wire.new) (Gives sends) }
     {
         match got.what {
             What::Datagram { from, len } => {
@@ -195,10 +191,10 @@ impl Server {
     /// Sends the reply of the last accepted request.
     fn send_last_reply<W: Wire>(&self, wire: &mut W, peer: u32)
         ensures faults { W.faults wire.new ≡ W.faults wire.old }
-        ensures sent { (front : List Entry) (last : Entry) → self.now.state.history ≡ front ++ last ∷ []
+        ensures sent { (front : List Entry) (last : Entry) → self.now.standing ≡ front ++ last ∷ []
             → Added (W.acts wire.old) (W.acts wire.new) (Gives (owned.To peer last.reply ∷ [])) }
     {
-        if let Some(last) = self.history.last() {
+        if let Some(last) = self.standing.last() {
             send_to(wire, peer, last.reply.items());
         }
     }

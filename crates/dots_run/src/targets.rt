@@ -1,18 +1,35 @@
 //! Which prefixes may be asked for.
 
 ghost use Rattle.std.specs.Prelude.{◌≡◌, ◌≤◌, ◌<◌, ◌^◌, [], ◌∷◌};
-ghost use Rattle.std.specs.List.{list_all, list_any};
 ghost use Rattle.ip_scope.specs.Family.{width};
-ghost use Rattle.ip_scope.specs.Prefix.{prefix_of, meets, inside};
-ghost use Rattle.dots_machine.specs.Targets.{never_targets, is_target, may_be_asked};
+ghost use Rattle.ip_scope.specs.Prefix.{prefix_of};
+ghost use Rattle.dots_machine.specs.Targets.{never_targets, is_target, may_be_asked, first_fault, fault_of};
 
-use ip_scope::{Addr, Family, Prefix, inside_any, meets};
+use crate::conflicts::meets_any;
+use dots_machine::TargetFault;
+use ip_scope::{Addr, Family, Prefix, inside_any};
 
-/// Whether each prefix may be asked for by a client of a domain with these prefixes.
-pub fn may_all_be_asked(domain: &[Prefix], prefixes: &[Prefix]) -> bool
-    ensures { result ≡ list_all (may_be_asked domain.now) prefixes.now }
+/// The first of the prefixes that a client of a domain with these prefixes may not ask for.
+pub fn first_fault(domain: &[Prefix], prefixes: &[Prefix]) -> Option<Prefix>
+    ensures { result ≡ first_fault domain.now prefixes.now }
 {
-    prefixes.iter().all(|prefix| may_be_asked(domain, prefix))
+    for prefix in prefixes {
+        if !may_be_asked(domain, prefix) {
+            return Some(*prefix);
+        }
+    }
+    None
+}
+
+/// Why a prefix may not be asked for.
+pub fn fault_of(prefix: &Prefix) -> TargetFault
+    ensures { result ≡ fault_of prefix.now }
+{
+    if is_target(prefix) {
+        TargetFault::OutsideDomain
+    } else {
+        TargetFault::NotATarget
+    }
 }
 
 fn may_be_asked(domain: &[Prefix], prefix: &Prefix) -> bool
@@ -33,12 +50,6 @@ fn is_target(prefix: &Prefix) -> bool
         block(Family::V6, 255 << 120, 8),
     ];
     !meets_any(prefix, &never)
-}
-
-fn meets_any(prefix: &Prefix, list: &[Prefix]) -> bool
-    ensures { result ≡ list_any (λ other. meets prefix.now other) list.now }
-{
-    list.iter().any(|other| meets(prefix, other))
 }
 
 fn block(family: Family, number: u128, length: u8) -> Prefix

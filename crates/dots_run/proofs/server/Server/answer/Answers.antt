@@ -5,6 +5,6 @@ use Rattle.dots_machine.specs.Machine.{by_silence}
 use Rattle.dots_run.proofs.server.Server.answer.Goals as goal
 
 pub returns-else-peer-self-clause-answered : goal.returns-else-peer-self-clause-answered
-returns-else-peer-self-clause-answered g c =
-    let seen = ap (λ serving. serving.settings.peer) (sym c.self.view_is) in
-    ([], by_silence (λ client. c.if-peer-self.false (client ∙ seen)) refl refl, added_none _ (Gives []) tt)
+returns-else-peer-self-clause-answered g c = λ state is.
+    let seen = ap (λ keeping. keeping.settings.peer) (sym c.self.view_is) in
+    ([], state, by_silence (λ client. c.if-peer-self.false (client ∙ seen)) refl refl, is, added_none _ (Gives []) tt)

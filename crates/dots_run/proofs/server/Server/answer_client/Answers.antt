@@ -9,14 +9,14 @@ use Rattle.dots_run.proofs.Deciding.{fit_from, decided_answered}
 use Rattle.dots_run.proofs.server.Server.answer_client.Goals as goal
 
 pub returns-in-Ok-Short-clause-answered : goal.returns-in-Ok-Short-clause-answered
-returns-in-Ok-Short-clause-answered g c =
+returns-in-Ok-Short-clause-answered g c = λ state is.
     let heard = rw c.in-Ok-Short.field-0-is at c.in-Ok-Short.ensures.heard in
-    ([], by_verdict c.requires short heard (refl, refl), added_none _ (Gives []) tt)
+    ([], state, by_verdict c.requires short heard (refl, refl), is, added_none _ (Gives []) tt)
 
 pub returns-in-Ok-Other-clause-answered : goal.returns-in-Ok-Other-clause-answered
-returns-in-Ok-Other-clause-answered g c =
+returns-in-Ok-Other-clause-answered g c = λ state is.
     let heard = rw c.in-Ok-Other.field-0-is at c.in-Ok-Other.ensures.heard in
-    (_, by_verdict c.requires (other c.in-Ok-Other.identifier) heard (refl, refl), c.send_bare.ensures.acts)
+    (_, state, by_verdict c.requires (other c.in-Ok-Other.identifier) heard (refl, refl), is, c.send_not_implemented.ensures.acts)
 
 pub decide-requires : goal.decide-requires
 decide-requires g c =
@@ -24,14 +24,16 @@ decide-requires g c =
     fit_from c.args.datagram.now c.in-Ok-Asked.asked heard
 
 pub returns-in-Ok-Asked-clause-answered : goal.returns-in-Ok-Asked-clause-answered
-returns-in-Ok-Asked-clause-answered g c =
+returns-in-Ok-Asked-clause-answered g c = λ state is.
     let heard = rw c.in-Ok-Asked.field-0-is at c.in-Ok-Asked.ensures.heard in
-    let decided = c.decide.ensures.decided in
-    (decided.0, decided_answered _ _ _ _ _ (request_of c.in-Ok-Asked.asked) decided.0 c.requires heard decided.1, decided.2)
+    let decided = c.decide.ensures.decided state is in
+    (decided.0, decided.1, decided_answered _ _ _ _ _ (request_of c.in-Ok-Asked.asked) decided.0 c.requires heard decided.2, decided.3, decided.4)
 
 pub returns-in-Err-clause-answered : goal.returns-in-Err-clause-answered
-returns-in-Err-clause-answered g c = (
+returns-in-Err-clause-answered g c = λ state is. (
   _,
+  state,
   for_want_of_memory c.requires (head_of c.in-Err.head) c.in-Err.ensures.unread.0 c.in-Err.ensures.unread.1 refl refl,
-  c.send_bare-in-Err.ensures.acts,
+  is,
+  c.send_unavailable.ensures.acts,
 )

@@ -1,32 +1,52 @@
 use Rattle.std.proofs.Common.{◌∙◌, sym, ap, [], ◌∷◌}
-use Rattle.dots_machine.specs.Machine.{entry_of, reply_to}
-use Rattle.dots_machine.specs.Replies.{unavailable}
+use Rattle.dots_machine.specs.Machine.{entry_of, with_entry, in_the_way, reply_to}
+use Rattle.dots_machine.specs.Targets.{first_fault, fault_of}
+use Rattle.dots_machine.specs.Replies.{unavailable, bad_request, conflicting}
+use Rattle.std.specs.List.{list_any}
 use Rattle.dots_host.specs.declared.out.OwnedOut.TheVariants as owned
 use Rattle.dots_run.specs.Hearing.{request_of}
-use Rattle.dots_run.proofs.Deciding.{refused, accepted, lacking}
+use Rattle.dots_run.proofs.Deciding.{refused, in_conflict, accepted, lacking, no_fault}
+use Rattle.dots_run.proofs.Keeping.{kept_entry}
 use Rattle.dots_run.proofs.server.Server.decide.Goals as goal
 
-pub returns-then-not-accepts-clause-decided : goal.returns-then-not-accepts-clause-decided
-returns-then-not-accepts-clause-decided g c = (
+pub returns-in-Some-clause-decided : goal.returns-in-Some-clause-decided
+returns-in-Some-clause-decided g c = λ state is. (
   _,
-  refused c.args.self.now.settings c.args.self.now.state c.args.peer (request_of c.args.asked) (sym c.accepts.ensures ∙ c.if-not-accepts.true),
-  c.send_bare.ensures.acts,
+  state,
+  refused c.args.self.now.settings state c.args.peer (request_of c.args.asked) c.in-Some.prefix (sym c.in-Some.is ∙ c.first_fault.ensures),
+  is,
+  rw c.fault_of.ensures at c.send_bad_request.ensures.acts,
 )
 
-pub returns-in-Err-clause-decided : goal.returns-in-Err-clause-decided
-returns-in-Err-clause-decided g c =
-    let r = request_of c.args.asked in (
-      owned.To c.args.peer (unavailable r.identifier r.token) ∷ [],
-      rw (c.in-Err.ensures.err) (lacking c.args.self.now.settings c.args.self.now.state c.args.peer r),
-      c.send_bare-in-Err.ensures.acts,
+pub returns-then-conflicts-clause-decided : goal.returns-then-conflicts-clause-decided
+returns-then-conflicts-clause-decided g c = λ state is.
+    let r = request_of c.args.asked in
+    let held = ap (λ k. list_any (in_the_way r) k.standing) is in (
+      _,
+      state,
+      in_conflict c.args.self.now.settings state c.args.peer r (no_fault _ c.in_default.not-Some ∙ c.first_fault.ensures) (sym c.if-conflicts.true ∙ c.conflicts.ensures ∙ held),
+      is,
+      c.send_conflict.ensures.acts,
     )
 
+pub returns-in-Err-clause-decided : goal.returns-in-Err-clause-decided
+returns-in-Err-clause-decided g c = λ state is. (
+  _,
+  state,
+  lacking c.args.self.now.settings state c.args.peer (request_of c.args.asked),
+  c.in-Err.ensures.err ∙ is,
+  c.send_unavailable.ensures.acts,
+)
+
 pub returns-in-Ok-clause-decided : goal.returns-in-Ok-clause-decided
-returns-in-Ok-clause-decided g c =
-    let state = c.args.self.now.state in
+returns-in-Ok-clause-decided g c = λ state is.
+    let settings = c.args.self.now.settings in
     let r = request_of c.args.asked in
-    let entry = entry_of c.args.peer state.time r in (
+    let entry = entry_of c.args.peer c.args.self.now.time r in
+    let held = ap (λ k. list_any (in_the_way r) k.standing) is in (
       owned.To c.args.peer (reply_to r) ∷ [],
-      rw (c.in-Ok.ensures.ok) (accepted c.args.self.now.settings state c.args.peer r (sym c.accepts.ensures ∙ c.if-not-accepts.false)),
-      c.send_last_reply.ensures.sent state.history entry (ap (λ serving. serving.state.history) c.in-Ok.ensures.ok),
+      with_entry state (entry_of c.args.peer state.time r),
+      accepted settings state c.args.peer r (no_fault _ c.in_default.not-Some ∙ c.first_fault.ensures) (sym c.if-conflicts.false ∙ c.conflicts.ensures ∙ held),
+      kept_entry settings state c.args.peer r c.args.self.now c.accept.new.self c.requires.lifetime is c.in-Ok.ensures.ok,
+      c.send_last_reply.ensures.sent c.args.self.now.standing entry (ap (λ k. k.standing) c.in-Ok.ensures.ok),
     )

@@ -1,0 +1,23 @@
+ghost use Rattle.std.specs.Prelude.{◌≡◌};
+ghost use Rattle.dots_machine.specs.Targets.{fault_text};
+
+/// Why a prefix can't be asked for.
+#[derive(Clone, Copy, Debug, PartialEq, Eq)]
+pub enum TargetFault {
+    /// It meets loopback, multicast or limited broadcast.
+    NotATarget,
+    /// It doesn't lie inside a prefix of the client's domain.
+    OutsideDomain,
+}
+
+impl TargetFault {
+    /// The text of the refusal, its diagnostic payload (RFC 7252, section 5.5.2).
+    pub fn text(self) -> &'static [u8]
+        ensures { result.now ≡ fault_text self }
+    {
+        match self {
+            TargetFault::NotATarget => b"not a target",
+            TargetFault::OutsideDomain => b"outside domain",
+        }
+    }
+}
