@@ -7,4 +7,10 @@
 #[cfg(test)]
 mod memory_rows;
 #[cfg(test)]
-mod settings;
+mod replays;
+#[cfg(test)]
+mod rows;
+#[cfg(test)]
+mod script_rows;
+#[cfg(test)]
+mod status_rows;

@@ -1,37 +1,68 @@
-use crate::settings::{COMMAND, SETTINGS};
-use dots_host::{Bytes, Event, MemoryHost, MemorySink, MemorySource, NoMemory};
+use crate::replays::words_of;
+use crate::rows::{COMMAND, NONE, REPLY, REQUEST, ROW, SETTINGS};
+use dots_host::{Act, Bytes, Event, MemoryHost, MemorySink, MemorySource, NoMemory, OwnedOut};
 use dots_run::run;
 use std::alloc::Global;
 use std::process::Abort;
 use std::test::Fail;
-
-/// The datagram of a request for 192.0.2.0/24 with mid 123, in hexadecimal.
-const REQUEST: &str =
-    "510300014abb2e77656c6c2d6b6e6f776e04646f7473086d697469676174650d0e637569643d647a3670486a6141446b614654626a72304a47427077076d69643d31323312010fffa101a10281a206816c3139322e302e322e302f32340e190e10";
-
-/// The line of its filter.
-const ROW: &[u8] = b"scrub net1 dz6pHjaADkaFTbjr0JGBpw 123 192.0.2.0/24 any any\n";
 
 fn push(rt: &impl Abort, host: &mut MemoryHost, event: Event, at: u64) -> Result<(), NoMemory> {
     assert!(rt; event.is_given() && at < 0x1_0000_0000_0000);
     host.push(event, at)
 }
 
-fn datagram(alloc: Global, from: u32, text: &str) -> Result<Event, Fail> {
+fn datagram(alloc: Global, from: u32, text: &[u8]) -> Result<Event, Fail> {
     let bytes = Bytes::from_vec(hex::decode(alloc, text)?);
     Ok(Event::Datagram { from, bytes })
 }
 
 /// Runs over the events, and answers the status and the report.
 fn replay(alloc: Global, host: &mut MemoryHost) -> Result<(u8, MemorySink), NoMemory> {
-    let mut words = Vec::new(alloc);
-    for text in COMMAND {
-        words.push(String::from_str(alloc, text)?)?;
-    }
+    let words = words_of(alloc, &COMMAND)?;
     let mut settings = MemorySource::new(alloc, SETTINGS)?;
     let mut report = MemorySink::new(alloc);
     let status = run(alloc, words.as_slice(), &mut settings, host, &mut report);
     Ok((status, report))
+}
+
+/// Whether the act is a send of these bytes to the client, which was done.
+fn is_reply(act: &Act, expected: &[u8]) -> bool {
+    match act {
+        Act::Gave {
+            out: OwnedOut::To { peer, bytes },
+            done,
+        } => *done && *peer == 0 && bytes.items() == expected,
+        _ => false,
+    }
+}
+
+fn is_send(act: &Act) -> bool {
+    match act {
+        Act::Gave { .. } => true,
+        _ => false,
+    }
+}
+
+/// End has a time beside it, and moves none, so the mitigation stands in the report.
+#[test]
+fn one_reply(rt: HostRuntime) -> Result<(), Fail> {
+    let alloc = rt.alloc();
+    let mut host = MemoryHost::new(alloc)?;
+    push(&rt, &mut host, datagram(alloc, 0, REQUEST)?, 1000)?;
+    push(&rt, &mut host, Event::End, 9999)?;
+    let (status, report) = replay(alloc, &mut host)?;
+    assert_eq!(rt; status, 0);
+    assert_eq!(rt; report.bytes(), ROW);
+    assert!(rt; host.whole());
+    let reply = hex::decode(alloc, REPLY)?;
+    let mut sends = host.acts().iter().filter(|act| is_send(act));
+    assert!(rt;
+        sends
+            .next()
+            .is_some_and(|act| is_reply(act, reply.as_slice()))
+    );
+    assert!(rt; sends.next().is_none());
+    Ok(())
 }
 
 #[test]
@@ -39,10 +70,10 @@ fn a_stranger_moves_the_time(rt: HostRuntime) -> Result<(), Fail> {
     let alloc = rt.alloc();
     let mut host = MemoryHost::new(alloc)?;
     push(&rt, &mut host, datagram(alloc, 0, REQUEST)?, 1000)?;
-    push(&rt, &mut host, datagram(alloc, 77, "00")?, 5000)?;
+    push(&rt, &mut host, datagram(alloc, 77, b"00")?, 5000)?;
     let (status, report) = replay(alloc, &mut host)?;
     assert_eq!(rt; status, 0);
-    assert_eq!(rt; report.bytes(), b"".as_slice());
+    assert_eq!(rt; report.bytes(), NONE);
     Ok(())
 }
 
@@ -66,6 +97,6 @@ fn a_failing_host(rt: HostRuntime) -> Result<(), Fail> {
     host.stop_at(1);
     let (status, report) = replay(alloc, &mut host)?;
     assert_eq!(rt; status, 5);
-    assert_eq!(rt; report.bytes(), b"".as_slice());
+    assert_eq!(rt; report.bytes(), NONE);
     Ok(())
 }

@@ -1,0 +1,70 @@
+use crate::rows::{COMMAND, SETTINGS};
+use dots_host::{MemorySink, MemorySource, NoMemory};
+use dots_run::{ScriptHost, run};
+use std::alloc::Global;
+
+/// What a run over a script left.
+#[derive(Drop)]
+pub struct Replayed {
+    pub status: u8,
+    pub sends: Vec<u8>,
+    pub report: Vec<u8>,
+    /// Whether the host still tells its acts.
+    pub whole: bool,
+}
+
+/// Runs over the parts of a script, with the settings of all rows.
+pub fn replay(alloc: Global, script: &[&[u8]]) -> Result<Replayed, NoMemory> {
+    let settings = MemorySource::new(alloc, SETTINGS)?;
+    replay_over(alloc, &COMMAND, settings, script, MemorySink::new(alloc))
+}
+
+/// Runs with these words and settings over the parts of a script, and reports to the sink.
+pub fn replay_over(
+    alloc: Global,
+    command: &[&str],
+    mut settings: MemorySource,
+    script: &[&[u8]],
+    mut report: MemorySink,
+) -> Result<Replayed, NoMemory> {
+    let words = words_of(alloc, command)?;
+    let mut host = host_of(alloc, script)?;
+    let status = run(
+        alloc,
+        words.as_slice(),
+        &mut settings,
+        &mut host,
+        &mut report,
+    );
+    let whole = host.whole();
+    let sends = Vec::from_slice(alloc, host.sink().bytes())?;
+    let report = Vec::from_slice(alloc, report.bytes())?;
+    Ok(Replayed {
+        status,
+        sends,
+        report,
+        whole,
+    })
+}
+
+/// The words of a command line.
+pub fn words_of(alloc: Global, texts: &[&str]) -> Result<Vec<String>, NoMemory> {
+    let mut words = Vec::new(alloc);
+    for text in texts {
+        words.push(String::from_str(alloc, text)?)?;
+    }
+    Ok(words)
+}
+
+/// A host over the parts of a script, whose sends go to a list.
+fn host_of(
+    alloc: Global,
+    script: &[&[u8]],
+) -> Result<ScriptHost<MemorySource, MemorySink>, NoMemory> {
+    let mut whole = Vec::new(alloc);
+    for part in script {
+        whole.extend_from_slice(part)?;
+    }
+    let source = MemorySource::new(alloc, whole.as_slice())?;
+    ScriptHost::new(alloc, source, MemorySink::new(alloc))
+}
