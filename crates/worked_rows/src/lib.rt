@@ -7,6 +7,8 @@
 #[cfg(test)]
 mod memory_rows;
 #[cfg(test)]
+mod refusal_rows;
+#[cfg(test)]
 mod replays;
 #[cfg(test)]
 mod rows;

@@ -2,6 +2,7 @@ use crate::rows::{COMMAND, SETTINGS};
 use dots_host::{MemorySink, MemorySource, NoMemory};
 use dots_run::{ScriptHost, run};
 use std::alloc::Global;
+use std::process::Abort;
 
 /// What a run over a script left.
 #[derive(Drop)]
@@ -45,6 +46,26 @@ pub fn replay_over(
         report,
         whole,
     })
+}
+
+/// The run went well, sent these parts of a text and reported this.
+pub fn leaves(rt: &impl Abort, left: &Replayed, sends: &[&[u8]], report: &[u8]) {
+    assert_eq!(rt; left.status, 0);
+    assert!(rt; is_joined(left.sends.as_slice(), sends));
+    assert_eq!(rt; left.report.as_slice(), report);
+    assert!(rt; left.whole);
+}
+
+/// Whether the text is these parts.
+pub fn is_joined(text: &[u8], parts: &[&[u8]]) -> bool {
+    let mut rest = text;
+    for part in parts {
+        match rest.strip_prefix(*part) {
+            Some(behind) => rest = behind,
+            None => return false,
+        }
+    }
+    rest.is_empty()
 }
 
 /// The words of a command line.

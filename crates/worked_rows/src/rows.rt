@@ -14,5 +14,26 @@ pub const REPLY: &[u8] = b"514100014ac2010fffa101a10281a205187b0e190e10";
 /// The line of its filter.
 pub const ROW: &[u8] = b"scrub net1 dz6pHjaADkaFTbjr0JGBpw 123 192.0.2.0/24 any any\n";
 
+/// The front of a line at second 1000 from the client.
+pub const CLIENT: &[u8] = b"at 1000 from 0 ";
+
+pub const FEED: &[u8] = b"\n";
+
+/// The line of that reply to the client.
+pub const SENT: [&[u8]; 3] = [b"to 0 ", REPLY, FEED];
+
+/// That datagram up to its mid, and what stands between its mid and the array of its prefixes, and behind that.
+pub const HEAD: &[u8] =
+    b"510300014abb2e77656c6c2d6b6e6f776e04646f7473086d697469676174650d0e637569643d647a3670486a6141446b614654626a72304a47427077";
+
+pub const BODY: &[u8] = b"12010fffa101a10281a206";
+
+pub const LIFETIME: &[u8] = b"0e190e10";
+
+/// The options of mid 123 and mid 124.
+pub const MID_123: &[u8] = b"076d69643d313233";
+
+pub const MID_124: &[u8] = b"076d69643d313234";
+
 /// No bytes.
 pub const NONE: &[u8] = b"";

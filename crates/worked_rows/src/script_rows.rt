@@ -1,35 +1,6 @@
-use crate::replays::{Replayed, replay};
-use crate::rows::{NONE, REPLY, REQUEST, ROW};
-use std::process::Abort;
+use crate::replays::{is_joined, leaves, replay};
+use crate::rows::{CLIENT, FEED, NONE, REQUEST, ROW, SENT};
 use std::test::Fail;
-
-/// The front of a line at second 1000 from the client.
-const CLIENT: &[u8] = b"at 1000 from 0 ";
-
-const FEED: &[u8] = b"\n";
-
-/// The line of the reply to the client.
-const SENT: [&[u8]; 3] = [b"to 0 ", REPLY, FEED];
-
-/// The run went well, sent these parts of a text and reported this.
-fn leaves(rt: &impl Abort, left: &Replayed, sends: &[&[u8]], report: &[u8]) {
-    assert_eq!(rt; left.status, 0);
-    assert!(rt; is_joined(left.sends.as_slice(), sends));
-    assert_eq!(rt; left.report.as_slice(), report);
-    assert!(rt; left.whole);
-}
-
-/// Whether the text is these parts.
-fn is_joined(text: &[u8], parts: &[&[u8]]) -> bool {
-    let mut rest = text;
-    for part in parts {
-        match rest.strip_prefix(*part) {
-            Some(behind) => rest = behind,
-            None => return false,
-        }
-    }
-    rest.is_empty()
-}
 
 #[test]
 fn a_request_is_granted(rt: HostRuntime) -> Result<(), Fail> {
