@@ -4,7 +4,7 @@ use Rattle.std.specs.Io.KnownBytes.{Appends, Keeps}
 use Rattle.std.proofs.KnownBytes.{Appends-nil, Appends-trans, Appends-kept}
 use Rattle.std.proofs.lemmas.List.{take_all, take-append-drop, append-nil}
 use Rattle.std.proofs.Math.Seq.{take-add}
-use Rattle.dots_host.specs.Writing.{AppendsBeginning, Writes}
+use Rattle.dots_host.specs.Writing.{Owes, AppendsBeginning, Writes}
 
 pub rest_of : (text : List ℕ) (from : ℕ) → take (length text - from) (drop from text) ≡ drop from text
 rest_of text from = take_all _ _ (omega (arith, length-drop from text))
@@ -24,12 +24,6 @@ wrote_front a b c text written first kept = record {
   split = sym (take-append-drop written text);
   appends = Appends-kept a b c (take written text) first kept;
 }
-
--- what was written and what is owed are the text
-pub record Owes (a b : Option (List ℕ)) (text rest : List ℕ) : Type 0 where
-  pub front : List ℕ
-  pub split : text ≡ front ++ rest
-  pub appends : Appends a b front
 
 -- nothing was written yet
 pub owes_all : (a : Option (List ℕ)) (text : List ℕ) → Owes a a text text
@@ -53,6 +47,35 @@ owes_lost a b c text piece rest owes part = record {
   rest = part.rest ++ rest;
   split = owes.split ∙ ap (λ xs. owes.front ++ (xs ++ rest)) part.split ∙ ap (λ xs. owes.front ++ xs) (append_assoc part.front part.rest rest) ∙ sym (append_assoc owes.front part.front (part.rest ++ rest));
   appends = Appends-trans a b c owes.front part.front owes.appends part.appends;
+}
+
+-- a beginning of a text is one of the text that goes on
+pub begun_longer : (a b : Option (List ℕ)) (text more : List ℕ) → AppendsBeginning a b text → AppendsBeginning a b (text ++ more)
+begun_longer a b text more part = record {
+  front = part.front;
+  rest = part.rest ++ more;
+  split = ap (λ xs. xs ++ more) part.split ∙ append_assoc part.front part.rest more;
+  appends = part.appends;
+}
+
+same_text : (text front rest more : List ℕ) → text ≡ front ++ rest → text ++ more ≡ front ++ (rest ++ more)
+same_text text front rest more split = ap (λ xs. xs ++ more) split ∙ append_assoc front rest more
+
+-- more is gathered, after which other bytes are owed
+pub owes_then : (a b c : Option (List ℕ)) (text rest more owed : List ℕ) → Owes a b text rest → Owes b c (rest ++ more) owed → Owes a c (text ++ more) owed
+owes_then a b c text rest more owed first second = record {
+  front = first.front ++ second.front;
+  split = same_text text first.front rest more first.split ∙ ap (λ xs. first.front ++ xs) second.split ∙ sym (append_assoc first.front second.front owed);
+  appends = Appends-trans a b c first.front second.front first.appends second.appends;
+}
+
+-- more was to be gathered, and the sink failed
+pub owes_begun : (a b c : Option (List ℕ)) (text rest more : List ℕ) → Owes a b text rest → AppendsBeginning b c (rest ++ more) → AppendsBeginning a c (text ++ more)
+owes_begun a b c text rest more first part = record {
+  front = first.front ++ part.front;
+  rest = part.rest;
+  split = same_text text first.front rest more first.split ∙ ap (λ xs. first.front ++ xs) part.split ∙ sym (append_assoc first.front part.front part.rest);
+  appends = Appends-trans a b c first.front part.front first.appends part.appends;
 }
 
 -- a call that writes a text writes it, or a beginning of it where it failed

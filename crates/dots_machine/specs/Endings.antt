@@ -1,10 +1,10 @@
 -- How a run ends, with which status, and what it has done then.
-use Rattle.std.specs.Prelude.{◌≡◌, ℕ, ◌^◌, List, [], ◌∷◌, ◌++◌, Bool, false, ◌&&◌, not, ◌==◌, bytes_eq, codes, decimal, IfSome, Option}
+use Rattle.std.specs.Prelude.{◌≡◌, ℕ, ◌^◌, List, [], ◌∷◌, ◌++◌, Bool, false, ◌&&◌, not, ◌==◌, bytes_eq, codes, decimal, IfSome, Option, Some}
 use Rattle.std.specs.Io.KnownBytes.{Appends}
 use Rattle.dots_host.specs.declared.event.Event.TheVariants as event
 use Rattle.dots_host.specs.Acts.{Timed}
-use Rattle.dots_host.specs.Runs.{resting, Trace, in_one_turn, GoOn, EndsBy, events_in}
-use Rattle.dots_host.specs.Writing.{Writes}
+use Rattle.dots_host.specs.Runs.{resting, Trace, in_one_turn, Added, GoOn, EndsBy, events_in}
+use Rattle.dots_host.specs.Writing.{AppendsBeginning, Writes}
 use Rattle.dots_machine.specs.declared.settings.Settings.{Settings}
 use Rattle.dots_machine.specs.declared.settings.SettingsFault.{SettingsFault}
 use Rattle.dots_machine.specs.declared.settings.SettingsFault.TheVariants as fault
@@ -38,26 +38,59 @@ status_of ending.TooMany = 11
 abbrev pub fault_line : SettingsFault → List ℕ
 fault_line (fault.Line number) = codes "settings line " ++ decimal number ++ codes "\n"
 
--- The settings are those of the file, where the source told its bytes, and the acts are a run of the machine with them, from the
--- empty history to the state, whose filters lie inside the domain.
-pub record Served (left : Option (List ℕ)) (acts : List Timed) (settings : Settings) (state : State) : Type 0 where
-  pub told : IfSome left (λ bytes. SettingsAre bytes settings)
+-- How the acts of a run that came to serve end.
+abbrev pub EndsSo : Ending → List Timed → Type 0
+EndsSo ending.Whole acts = EndsBy event.End acts
+EndsSo ending.ReportFailed acts = EndsBy event.End acts
+EndsSo ending.NextFailed acts = EndsBy event.Failed acts
+EndsSo ending.TooMany acts = GoOn acts × (events_in acts ≡ 2 ^ 40)
+EndsSo _ acts = ⊥
+
+-- The acts are a run of the machine with these settings, from the empty history to the state, and end so. The filters of the
+-- state lie inside the domain.
+pub record RunsTo (how : Ending) (settings : Settings) (state : State) (acts : List Timed) : Type 0 where
   pub trace : List State
   pub run : Trace (in_one_turn (Step settings)) (resting begun) acts trace (resting state)
+  pub ends : EndsSo how acts
   pub contained : Contained settings state
 
--- How the acts of a run that came to serve end, and what it wrote to the report after them. Of a report that couldn't be written nothing is said yet.
-abbrev pub Finishes : Ending → Settings → State → List Timed → Option (List ℕ) → Option (List ℕ) → Type 0
-Finishes ending.Whole settings state acts old new = EndsBy event.End acts × Appends old new (report_of settings state)
-Finishes ending.ReportFailed settings state acts old new = EndsBy event.End acts
-Finishes ending.NextFailed settings state acts old new = EndsBy event.Failed acts × (new ≡ old)
-Finishes ending.TooMany settings state acts old new = GoOn acts × (events_in acts ≡ 2 ^ 40) × (new ≡ old)
-Finishes _ settings state acts old new = ⊥
+-- what such a run wrote to the report: the machine's report of its state, a beginning of it where the report failed, or nothing
+abbrev pub Reports : Ending → Settings → State → Option (List ℕ) → Option (List ℕ) → Type 0
+Reports ending.Whole settings state old new = Appends old new (report_of settings state)
+Reports ending.ReportFailed settings state old new = AppendsBeginning old new (report_of settings state)
+Reports ending.NextFailed settings state old new = new ≡ old
+Reports ending.TooMany settings state old new = new ≡ old
+Reports _ settings state old new = ⊥
 
--- What a run of this ending has done: the acts that it took, and what it wrote to the report. Of a line only a beginning is written where the report failed.
-abbrev pub Behaves : Ending → Option (List ℕ) → List Timed → Option (List ℕ) → Option (List ℕ) → Type 0 → Type 0
-Behaves ending.WrongWords left acts old new failed = (acts ≡ []) × Writes old new (codes "words\n") failed
-Behaves (ending.Refused fault) left acts old new failed = (acts ≡ []) × IfSome left (λ bytes. SettingsFail bytes fault) × Writes old new (fault_line fault) failed
-Behaves ending.NoMemory left acts old new failed = (acts ≡ []) × (new ≡ old)
-Behaves ending.SettingsFailed left acts old new failed = (acts ≡ []) × (new ≡ old)
-Behaves served left acts old new failed = (settings : Settings) × (state : State) × Served left acts settings state × Finishes served settings state acts old new
+-- A run that came to serve: its settings are those of the file, where the source told its bytes; its acts, where they are told,
+-- are a run of the machine; its report is of the state that the run ends in.
+pub record Served (how : Ending) (left : Option (List ℕ)) (acts_old acts_new : Option (List Timed)) (old new : Option (List ℕ)) : Type 0 where
+  pub settings : Settings
+  pub state : State
+  pub told : IfSome left (λ bytes. SettingsAre bytes settings)
+  pub ran : Added acts_old acts_new (RunsTo how settings state)
+  pub reports : Reports how settings state old new
+
+-- What a run of this ending has done: the acts that were added to those of the host, and what was written to the report. Where it
+-- didn't come to serve, the host was not called; of a line only a beginning is written where the report failed.
+abbrev pub Behaves : Ending → Option (List ℕ) → Option (List Timed) → Option (List Timed) → Option (List ℕ) → Option (List ℕ) → Type 0 → Type 0
+Behaves ending.WrongWords left acts_old acts_new old new failed = (acts_new ≡ acts_old) × Writes old new (codes "words\n") failed
+Behaves (ending.Refused fault) left acts_old acts_new old new failed =
+    (acts_new ≡ acts_old) × IfSome left (λ bytes. SettingsFail bytes fault) × Writes old new (fault_line fault) failed
+Behaves ending.NoMemory left acts_old acts_new old new failed = (acts_new ≡ acts_old) × (new ≡ old)
+Behaves ending.SettingsFailed left acts_old acts_new old new failed = (acts_new ≡ acts_old) × (new ≡ old)
+Behaves served left acts_old acts_new old new failed = Served served left acts_old acts_new old new
+
+-- the source tells its bytes, and they give settings
+pub record GivesSettings (left : Option (List ℕ)) : Type 0 where
+  pub bytes : List ℕ
+  pub told : left ≡ Some bytes
+  pub settings : Settings
+  pub are : SettingsAre bytes settings
+
+-- the source tells its bytes, and they are at fault
+pub record GivesFault (left : Option (List ℕ)) : Type 0 where
+  pub bytes : List ℕ
+  pub told : left ≡ Some bytes
+  pub fault : SettingsFault
+  pub fails : SettingsFail bytes fault

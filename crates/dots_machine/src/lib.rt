@@ -15,6 +15,6 @@ mod target;
 
 pub use ending::Ending;
 pub use entry::{Entry, Put};
-pub use law::one_state;
+pub use law::{one_state, settings_or_fault};
 pub use settings::{Settings, SettingsFault};
 pub use target::TargetFault;

@@ -1,5 +1,5 @@
 -- Where the lines of a settings file differ.
-use Rattle.std.proofs.Common.{◌≡◌, ℕ, ◌<◌, List, [], ◌∷◌, length, Option, Some, None, IfSome, is_some, true, refl, ap, subst, arith}
+use Rattle.std.proofs.Common.{◌≡◌, ℕ, List, [], ◌∷◌, length, Option, Some, None, IfSome, is_some, true, ap, subst, arith}
 use Rattle.std.specs.List.{slice_get}
 use Rattle.ip_scope.specs.Prefix.{PrefixValue}
 use Rattle.dots_machine.specs.declared.settings.SettingsFault.TheVariants as fault

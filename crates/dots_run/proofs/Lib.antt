@@ -1,7 +1,9 @@
+pub mod AskedTexts
 pub mod Bodies
+pub mod Completeness
 pub mod Counts
 pub mod Deciding
-pub mod Turns
+pub mod Differing
 pub mod FirstFault
 pub mod GrantedBody
 pub mod HearingLemmas
@@ -9,8 +11,7 @@ pub mod Keeping
 pub mod Lines
 pub mod ReportLines
 pub mod ServingLemmas
-pub mod ThreeWrites
 pub mod SettingsBytes
 pub mod SettingsLines
-pub mod Differing
-pub mod AskedTexts
+pub mod Turns
+pub mod WritesInTurn

@@ -1,12 +1,11 @@
 //! The top call.
 
-ghost use Rattle.std.specs.Prelude.{◌≡◌, ◌≢◌, ◌≤◌, ◌⊎◌, ◌↔◌, [], ◌++◌, codes, decimal, map, flat_map, false, string_bytes, vec_capacity, OnOk, OnErr};
+ghost use Rattle.std.specs.Prelude.{◌≡◌, ◌≢◌, ◌≤◌, ◌⊎◌, ◌↔◌, [], ◌++◌, codes, decimal, map, flat_map, true, false, string_bytes, vec_capacity, OnOk, OnErr};
 ghost use Rattle.std.specs.Io.KnownBytes.{Appends};
 ghost use Rattle.dots_host.specs.Causes.{Rose, HasCause};
-ghost use Rattle.dots_host.specs.Runs.{Added};
 ghost use Rattle.dots_host.specs.Writing.{AppendsBeginning};
 ghost use Rattle.dots_machine.specs.declared.ending.Ending as endings;
-ghost use Rattle.dots_machine.specs.Endings.{is_command, status_of, Behaves, fault_line};
+ghost use Rattle.dots_machine.specs.Endings.{is_command, status_of, Behaves, fault_line, GivesFault, GivesSettings};
 ghost use Rattle.dots_machine.specs.Report.{scrub_lines};
 ghost use Rattle.dots_run.specs.Serving.{ServesTo};
 ghost use Rattle.dots_run.specs.declared.writing.TheConstants.{BLOCK};
@@ -33,17 +32,21 @@ pub fn run<H: Host, S: Source, K: Sink>(
     host: &mut H,
     report: &mut K,
 ) -> u8
-    // Which statuses there are, and the causes of some, whatever the host tells.
-    ensures only { (ending : endings.Ending) × (result ≡ status_of ending) }
+    // What the run has done, by the ending that its status is of.
+    ensures machine { (ending : endings.Ending) × (result ≡ status_of ending)
+        × Behaves ending (S.left settings.old) (H.acts host.old) (H.acts host.new) (K.holds report.old) (K.holds report.new)
+        (Rose (K.faults report.old) (K.faults report.new)) }
+    // When the words are no command; which faults there must have been.
     ensures words { (result ≡ 2) ↔ (is_command (map string_bytes words.now) ≡ false) }
     ensures read { result ≡ 5 → Rose (S.faults settings.old) (S.faults settings.new)
         ⊎ Rose (H.faults host.old) (H.faults host.new) }
     ensures written { result ≡ 9 → Rose (K.faults report.old) (K.faults report.new) }
-    // The run, where the host tells its acts.
-    ensures machine { Added (H.acts host.old) (H.acts host.new) (λ more. (ending : endings.Ending)
-        × (result ≡ status_of ending)
-        × Behaves ending (S.left settings.old) more (K.holds report.old) (K.holds report.new)
-        (Rose (K.faults report.old) (K.faults report.new))) }
+    // When the settings are refused, and when a run must go well, want of memory aside.
+    ensures refused { is_command (map string_bytes words.now) ≡ true → GivesFault (S.left settings.old)
+        → ¬ (Rose (S.faults settings.old) (S.faults settings.new)) → (result ≡ 3) ⊎ (result ≡ 4) }
+    ensures complete { is_command (map string_bytes words.now) ≡ true → GivesSettings (S.left settings.old)
+        → ¬ (Rose (S.faults settings.old) (S.faults settings.new)) → ¬ (Rose (H.faults host.old) (H.faults host.new))
+        → ¬ (Rose (K.faults report.old) (K.faults report.new)) → (result ≡ 0) ⊎ (result ≡ 4) ⊎ (result ≡ 11) }
 {
     ending_of(alloc, words, settings, host, report).status()
 }
@@ -60,9 +63,8 @@ fn ending_of<H: Host, S: Source, K: Sink>(
     ensures unread { result ≡ Ending.SettingsFailed → Rose (S.faults settings.old) (S.faults settings.new) }
     ensures failed { result ≡ Ending.NextFailed → Rose (H.faults host.old) (H.faults host.new) }
     ensures written { result ≡ Ending.ReportFailed → Rose (K.faults report.old) (K.faults report.new) }
-    ensures machine { Added (H.acts host.old) (H.acts host.new)
-        (λ more. Behaves result (S.left settings.old) more (K.holds report.old) (K.holds report.new)
-        (Rose (K.faults report.old) (K.faults report.new))) }
+    ensures machine { Behaves result (S.left settings.old) (H.acts host.old) (H.acts host.new) (K.holds report.old) (K.holds report.new)
+        (Rose (K.faults report.old) (K.faults report.new)) }
 {
     if !is_command(words) {
         let _ = write_all(report, b"words\n");
@@ -89,8 +91,7 @@ fn serve<H: Host, K: Sink>(
     ensures here { (result ≢ Ending.WrongWords) × (result ≢ Ending.SettingsFailed) }
     ensures failed { result ≡ Ending.NextFailed → Rose (H.faults host.old) (H.faults host.new) }
     ensures written { result ≡ Ending.ReportFailed → Rose (K.faults report.old) (K.faults report.new) }
-    ensures machine { Added (H.acts host.old) (H.acts host.new)
-        (λ more. ServesTo result settings more (K.holds report.old) (K.holds report.new)) }
+    ensures machine { ServesTo result settings (H.acts host.old) (H.acts host.new) (K.holds report.old) (K.holds report.new) }
 {
     let Ok(mut block) = Vec::with_capacity(alloc, BLOCK) else {
         return Ending::NoMemory;
@@ -110,6 +111,8 @@ fn finish<K: Sink>(server: &Server, report: &mut K, block: &mut Vec<u8>) -> Endi
     requires empty { block.old.items ≡ [] }
     ensures here { (result ≡ Ending.Whole) ⊎ (result ≡ Ending.ReportFailed) }
     ensures whole { result ≡ Ending.Whole → Appends (K.holds report.old) (K.holds report.new)
+        (flat_map (scrub_lines server.now.settings) server.now.standing) }
+    ensures part { result ≡ Ending.ReportFailed → AppendsBeginning (K.holds report.old) (K.holds report.new)
         (flat_map (scrub_lines server.now.settings) server.now.standing) }
     ensures written { result ≡ Ending.ReportFailed → Rose (K.faults report.old) (K.faults report.new) }
 {

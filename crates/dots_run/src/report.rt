@@ -1,8 +1,9 @@
 //! The report: a line for each filter that stands.
 
-ghost use Rattle.std.specs.Prelude.{◌≡◌, ◌≤◌, [], ◌++◌, OnOk, vec_capacity, take, flat_map, codes, decimal};
-ghost use Rattle.std.specs.Io.KnownBytes.{Appends, append_known};
+ghost use Rattle.std.specs.Prelude.{◌≡◌, ◌≤◌, [], ◌++◌, OnOk, OnErr, vec_capacity, take, flat_map, codes, decimal};
+ghost use Rattle.std.specs.Io.KnownBytes.{Appends};
 ghost use Rattle.dots_host.specs.Causes.{HasCause};
+ghost use Rattle.dots_host.specs.Writing.{Owes, AppendsBeginning};
 ghost use Rattle.dots_machine.specs.Report.{scrub_line, scrub_lines};
 ghost use Rattle.dots_run.specs.declared.writing.TheConstants.{BLOCK};
 
@@ -22,6 +23,8 @@ pub fn write_report<K: Sink>(
     requires empty { block.old.items ≡ [] }
     ensures ok { OnOk result (Appends (K.holds sink.old) (K.holds sink.new)
         (flat_map (scrub_lines server.now.settings) server.now.standing)) }
+    ensures err { OnErr result (AppendsBeginning (K.holds sink.old) (K.holds sink.new)
+        (flat_map (scrub_lines server.now.settings) server.now.standing)) }
     ensures cause { HasCause (K.faults sink.old) (K.faults sink.new) result }
 {
     put_entries(server.settings(), server.standing(), sink, block)?;
@@ -37,8 +40,10 @@ fn put_entries<K: Sink>(
 ) -> Result<(), Failed>
     requires { BLOCK ≤ vec_capacity block.old }
     ensures room { BLOCK ≤ vec_capacity block.new }
-    ensures ok { OnOk result (Appends (append_known (K.holds sink.old) block.old.items)
-        (append_known (K.holds sink.new) block.new.items) (flat_map (scrub_lines settings.now) entries.now)) }
+    ensures ok { OnOk result (Owes (K.holds sink.old) (K.holds sink.new)
+        (block.old.items ++ flat_map (scrub_lines settings.now) entries.now) block.new.items) }
+    ensures err { OnErr result (AppendsBeginning (K.holds sink.old) (K.holds sink.new)
+        (block.old.items ++ flat_map (scrub_lines settings.now) entries.now)) }
     ensures cause { HasCause (K.faults sink.old) (K.faults sink.new) result }
 {
     for entry in entries {
@@ -56,8 +61,10 @@ fn put_entry<K: Sink>(
 ) -> Result<(), Failed>
     requires { BLOCK ≤ vec_capacity block.old }
     ensures room { BLOCK ≤ vec_capacity block.new }
-    ensures ok { OnOk result (Appends (append_known (K.holds sink.old) block.old.items)
-        (append_known (K.holds sink.new) block.new.items) (scrub_lines settings.now entry.now)) }
+    ensures ok { OnOk result (Owes (K.holds sink.old) (K.holds sink.new)
+        (block.old.items ++ scrub_lines settings.now entry.now) block.new.items) }
+    ensures err { OnErr result (AppendsBeginning (K.holds sink.old) (K.holds sink.new)
+        (block.old.items ++ scrub_lines settings.now entry.now)) }
     ensures cause { HasCause (K.faults sink.old) (K.faults sink.new) result }
 {
     for prefix in entry.put.prefixes.items() {
@@ -76,8 +83,10 @@ fn put_line<K: Sink>(
 ) -> Result<(), Failed>
     requires { BLOCK ≤ vec_capacity block.old }
     ensures room { BLOCK ≤ vec_capacity block.new }
-    ensures ok { OnOk result (Appends (append_known (K.holds sink.old) block.old.items)
-        (append_known (K.holds sink.new) block.new.items) (scrub_line settings.now entry.now prefix.now)) }
+    ensures ok { OnOk result (Owes (K.holds sink.old) (K.holds sink.new)
+        (block.old.items ++ scrub_line settings.now entry.now prefix.now) block.new.items) }
+    ensures err { OnErr result (AppendsBeginning (K.holds sink.old) (K.holds sink.new)
+        (block.old.items ++ scrub_line settings.now entry.now prefix.now)) }
     ensures cause { HasCause (K.faults sink.old) (K.faults sink.new) result }
 {
     let mut mid = itoa::Buffer::new();

@@ -1,19 +1,21 @@
 //! Writing to a sink, in blocks.
 
-ghost use Rattle.std.specs.Prelude.{◌≡◌, ◌≤◌, [], flat_map, OnOk, vec_capacity};
-ghost use Rattle.std.specs.Io.KnownBytes.{Appends, append_known};
+ghost use Rattle.std.specs.Prelude.{◌≡◌, ◌≤◌, [], ◌++◌, flat_map, OnOk, OnErr, vec_capacity};
+ghost use Rattle.std.specs.Io.KnownBytes.{Appends};
 ghost use Rattle.dots_host.specs.Causes.{HasCause};
+ghost use Rattle.dots_host.specs.Writing.{Owes, AppendsBeginning};
 
 use dots_host::{Failed, Sink, write_all};
 
 /// How many bytes are gathered before they are written.
 pub const BLOCK: usize = 4096;
 
-/// Writes what the block has gathered.
+/// Writes what the block has gathered, or a beginning of it where the sink fails.
 pub fn flush<K: Sink>(sink: &mut K, block: &mut Vec<u8>) -> Result<(), Failed>
     requires { BLOCK ≤ vec_capacity block.old }
     ensures room { BLOCK ≤ vec_capacity block.new }
     ensures ok { OnOk result (Appends (K.holds sink.old) (K.holds sink.new) block.old.items) }
+    ensures err { OnErr result (AppendsBeginning (K.holds sink.old) (K.holds sink.new) block.old.items) }
     ensures empty { OnOk result (block.new.items ≡ []) }
     ensures cause { HasCause (K.faults sink.old) (K.faults sink.new) result }
 {
@@ -22,29 +24,56 @@ pub fn flush<K: Sink>(sink: &mut K, block: &mut Vec<u8>) -> Result<(), Failed>
     Ok(())
 }
 
-/// Gathers the bytes in the block, which is written where they don't fit.
+/// Writes what the block has gathered where so many bytes more don't fit.
+fn make_room<K: Sink>(sink: &mut K, block: &mut Vec<u8>, count: usize) -> Result<(), Failed>
+    requires { BLOCK ≤ vec_capacity block.old }
+    ensures room { BLOCK ≤ vec_capacity block.new }
+    ensures ok { OnOk result (Owes (K.holds sink.old) (K.holds sink.new) block.old.items block.new.items) }
+    ensures err { OnErr result (AppendsBeginning (K.holds sink.old) (K.holds sink.new) block.old.items) }
+    ensures cause { HasCause (K.faults sink.old) (K.faults sink.new) result }
+{
+    if count > BLOCK - block.len().min(BLOCK) {
+        return flush(sink, block);
+    }
+    Ok(())
+}
+
+/// Adds the bytes to the block, or writes them behind it where they are more than it can have.
+fn add<K: Sink>(sink: &mut K, block: &mut Vec<u8>, bytes: &[u8]) -> Result<(), Failed>
+    requires { BLOCK ≤ vec_capacity block.old }
+    ensures room { BLOCK ≤ vec_capacity block.new }
+    ensures ok { OnOk result (Owes (K.holds sink.old) (K.holds sink.new) (block.old.items ++ bytes.now) block.new.items) }
+    ensures err { OnErr result (AppendsBeginning (K.holds sink.old) (K.holds sink.new) (block.old.items ++ bytes.now)) }
+    ensures cause { HasCause (K.faults sink.old) (K.faults sink.new) result }
+{
+    if block.extend_from_slice(bytes).is_ok() {
+        return Ok(());
+    }
+    flush(sink, block)?;
+    write_all(sink, bytes)
+}
+
+/// Gathers the bytes in the block, which is written where they don't fit. Of what the block had and the bytes all is
+/// written but what the block has then, or a beginning where the sink fails.
 fn put<K: Sink>(sink: &mut K, block: &mut Vec<u8>, bytes: &[u8]) -> Result<(), Failed>
     requires { BLOCK ≤ vec_capacity block.old }
     ensures room { BLOCK ≤ vec_capacity block.new }
-    ensures ok { OnOk result (Appends (append_known (K.holds sink.old) block.old.items)
-        (append_known (K.holds sink.new) block.new.items) bytes.now) }
+    ensures ok { OnOk result (Owes (K.holds sink.old) (K.holds sink.new) (block.old.items ++ bytes.now) block.new.items) }
+    ensures err { OnErr result (AppendsBeginning (K.holds sink.old) (K.holds sink.new) (block.old.items ++ bytes.now)) }
     ensures cause { HasCause (K.faults sink.old) (K.faults sink.new) result }
 {
-    if bytes.len() > BLOCK - block.len().min(BLOCK) {
-        flush(sink, block)?;
-    }
-    if block.extend_from_slice(bytes).is_err() {
-        return write_all(sink, bytes);
-    }
-    Ok(())
+    make_room(sink, block, bytes.len())?;
+    add(sink, block, bytes)
 }
 
 /// Gathers the pieces, one after the other.
 pub fn put_all<K: Sink>(sink: &mut K, block: &mut Vec<u8>, pieces: &[&[u8]]) -> Result<(), Failed>
     requires { BLOCK ≤ vec_capacity block.old }
     ensures room { BLOCK ≤ vec_capacity block.new }
-    ensures ok { OnOk result (Appends (append_known (K.holds sink.old) block.old.items)
-        (append_known (K.holds sink.new) block.new.items) (flat_map (λ piece. piece.now) pieces.now)) }
+    ensures ok { OnOk result (Owes (K.holds sink.old) (K.holds sink.new)
+        (block.old.items ++ flat_map (λ piece. piece.now) pieces.now) block.new.items) }
+    ensures err { OnErr result (AppendsBeginning (K.holds sink.old) (K.holds sink.new)
+        (block.old.items ++ flat_map (λ piece. piece.now) pieces.now)) }
     ensures cause { HasCause (K.faults sink.old) (K.faults sink.new) result }
 {
     for piece in pieces {

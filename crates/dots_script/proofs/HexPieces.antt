@@ -3,8 +3,8 @@ use Rattle.std.proofs.Common.{◌≡◌, ℕ, ◌/◌, ◌%◌, List, [], ◌∷
 use Rattle.std.specs.Prelude.{slice_index}
 use Rattle.std.specs.Io.KnownBytes.{Appends}
 use Rattle.hex.specs.Hex.{encode_with, encode_lower, lower_digits}
-use Rattle.dots_host.specs.Writing.{AppendsBeginning}
-use Rattle.dots_host.proofs.WriteLemmas.{Owes, owes_less, owes_none, owes_lost}
+use Rattle.dots_host.specs.Writing.{Owes, AppendsBeginning}
+use Rattle.dots_host.proofs.WriteLemmas.{owes_less, owes_none, owes_lost}
 
 encode_with-append : (t xs ys : List ℕ) → encode_with t (xs ++ ys) ≡ encode_with t xs ++ encode_with t ys
 unfolding encode_with

@@ -20,4 +20,4 @@ pub returns-in-Ended-clause-machine : goal.returns-in-Ended-clause-machine
 returns-in-Ended-clause-machine g c =
     let ran = c.take_events.ensures.ran begun (kept_with c.args.settings begun c.new-server.result c.new-server.ensures) in
     let now = rw (ap (λ k. k.settings) c.new-server.ensures, c.in-Ended.is) at ran in
-    ended c.args.settings now.0 _ _ _ _ c.finish.result c.take_events.new.server now.1 c.finish.ensures.here c.finish.ensures.whole now.2
+    ended c.args.settings now.0 _ _ _ _ c.finish.result c.take_events.new.server now.1 c.finish.ensures.here c.finish.ensures.whole c.finish.ensures.part now.2

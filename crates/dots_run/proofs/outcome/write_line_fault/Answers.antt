@@ -1,5 +1,5 @@
 use Rattle.std.proofs.Common.{codes, decimal}
-use Rattle.dots_run.proofs.ThreeWrites.{three_writes, for_an_error, first_lost, second_lost, third_lost}
+use Rattle.dots_run.proofs.WritesInTurn.{three_writes, for_an_error, first_lost, second_lost, third_lost}
 use Rattle.dots_run.proofs.outcome.write_line_fault.Goals as goal
 
 pub returns-clause-ok : goal.returns-clause-ok

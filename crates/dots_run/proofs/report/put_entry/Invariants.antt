@@ -1,5 +1,5 @@
-use Rattle.std.proofs.Common.{◌≡◌, ◌≤◌, take, flat_map, vec_capacity}
-use Rattle.std.specs.Io.KnownBytes.{Appends, append_known}
+use Rattle.std.proofs.Common.{◌≡◌, ◌≤◌, ◌++◌, take, flat_map, vec_capacity}
+use Rattle.dots_host.specs.Writing.{Owes}
 use Rattle.dots_machine.specs.Report.{scrub_line}
 use Rattle.dots_run.specs.declared.writing.TheConstants.{BLOCK}
 use Rattle.dots_run.proofs.report.put_entry.Given as goal
@@ -9,6 +9,5 @@ invariant-loop-prefix g l = record {
   items : l.prefix-items ≡ l.fn.entry.put.prefixes;
   room : BLOCK ≤ vec_capacity l.block;
   later : g.K.Sink.faults l.fn.sink ≤ g.K.Sink.faults l.sink;
-  wrote : Appends (append_known (g.K.Sink.holds l.fn.sink) l.fn.block.items) (append_known (g.K.Sink.holds l.sink) l.block.items)
-      (flat_map (scrub_line l.fn.settings l.fn.entry) (take l.prefix-index l.prefix-items));
+  wrote : Owes (g.K.Sink.holds l.fn.sink) (g.K.Sink.holds l.sink) (l.fn.block.items ++ flat_map (scrub_line l.fn.settings l.fn.entry) (take l.prefix-index l.prefix-items)) l.block.items;
 }

@@ -1,5 +1,5 @@
 use Rattle.std.proofs.Common.{◌≤◌, length, take}
-use Rattle.dots_host.proofs.WriteLemmas.{Owes}
+use Rattle.dots_host.specs.Writing.{Owes}
 use Rattle.dots_script.proofs.HexPieces.{owed}
 use Rattle.dots_script.proofs.send_line.write_hex.Given as goal
 

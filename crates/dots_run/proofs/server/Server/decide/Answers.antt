@@ -1,7 +1,5 @@
 use Rattle.std.proofs.Common.{◌∙◌, sym, ap, [], ◌∷◌}
 use Rattle.dots_machine.specs.Machine.{entry_of, with_entry, in_the_way, reply_to}
-use Rattle.dots_machine.specs.Targets.{first_fault, fault_of}
-use Rattle.dots_machine.specs.Replies.{unavailable, bad_request, conflicting}
 use Rattle.std.specs.List.{list_any}
 use Rattle.dots_host.specs.declared.out.OwnedOut.TheVariants as owned
 use Rattle.dots_run.specs.Hearing.{request_of}
