@@ -6,3 +6,4 @@ pub mod Writing
 pub mod Padding
 pub mod Salvage
 pub mod Breaks
+pub mod FaultText

@@ -1,3 +1,6 @@
+ghost use Rattle.std.specs.Prelude.{◌≡◌};
+ghost use Rattle.coap_message.specs.FaultText.{fault_place, fault_words};
+
 use std::error::Error;
 use std::fmt;
 
@@ -21,7 +24,9 @@ pub enum CoapFault {
 }
 
 impl CoapFault {
-    fn words(&self) -> &'static str {
+    fn words(&self) -> &'static str
+        ensures { result.now ≡ fault_words self.now }
+    {
         match self {
             CoapFault::Short { .. } => "the bytes end too early",
             CoapFault::Version { .. } => "the version isn't 1",
@@ -33,7 +38,9 @@ impl CoapFault {
         }
     }
 
-    fn place(&self) -> usize {
+    fn place(&self) -> usize
+        ensures { result ≡ fault_place self.now }
+    {
         match *self {
             CoapFault::Short { at }
             | CoapFault::Version { at }
@@ -47,6 +54,11 @@ impl CoapFault {
 }
 
 impl fmt::Display for CoapFault {
+    ghost use Rattle.std.specs.Prelude.{Some};
+    ghost use Rattle.coap_message.specs.FaultText.{fault_text};
+
+    ghost output = { λ fault. Some (fault_text fault) };
+
     fn fmt<W: fmt::Write>(&self, f: &mut fmt::Formatter<W>) -> fmt::Result {
         write!(f, "{} at {}", self.words(), self.place())
     }
