@@ -4,3 +4,6 @@ pub mod Splits
 pub mod EventLines
 pub mod Reading
 pub mod OneAnswer
+pub mod Making
+pub mod Accounting
+pub mod OneList

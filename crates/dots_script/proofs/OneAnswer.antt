@@ -11,7 +11,7 @@ use Rattle.dots_script.proofs.EventLines.{one_event, event_not_skipped}
 
 -- ---- one line at the front
 
-one_line : (a b x y : List ℕ) → IsLine a → IsLine b → with_feed a ++ x ≡ with_feed b ++ y → (a ≡ b) × (x ≡ y)
+pub one_line : (a b x y : List ℕ) → IsLine a → IsLine b → with_feed a ++ x ≡ with_feed b ++ y → (a ≡ b) × (x ≡ y)
 one_line a b x y first second same =
     one_split 10 a b x y first.whole second.whole (sym (append_assoc a (10 ∷ []) x) ∙ same ∙ append_assoc b (10 ∷ []) y)
 
@@ -19,7 +19,7 @@ feed_at : (line rest : List ℕ) → get_or (with_feed line ++ rest) (length lin
 feed_at [] rest = refl
 feed_at (byte ∷ line) rest = feed_at line rest
 
-long : (line rest : List ℕ) → length (with_feed line ++ rest) ≡ length line + 1 + length rest
+pub long : (line rest : List ℕ) → length (with_feed line ++ rest) ≡ length line + 1 + length rest
 long line rest = omega (arith, length-append (with_feed line) rest, length-append line (10 ∷ []))
 
 feed_in : (text line rest : List ℕ) → text ≡ with_feed line ++ rest → get_or text (length line) 0 ≡ 10
@@ -66,21 +66,21 @@ data Says (text : List ℕ) (count : ℕ) (rest : List ℕ) (got : Event) (at : 
   ends : count < 2 ^ 40 → text ≡ [] → rest ≡ text → got ≡ event.End → at ≡ 0 → Says text count rest got at
   takes : count < 2 ^ 40 → (line : List ℕ) → IsLine line → IsEventLine line got at → text ≡ with_feed line ++ rest → Says text count rest got at
 
-no_fault_at_end : (text : List ℕ) → text ≡ [] → IsFault text → ⊥
+pub no_fault_at_end : (text : List ℕ) → text ≡ [] → IsFault text → ⊥
 no_fault_at_end text none (inl too) = let size : length text ≡ 0 = ap length none in absurd (omega (arith, size, too.0))
 no_fault_at_end text none (inr (inl cut)) = let size : length text ≡ 0 = ap length none in absurd (omega (arith, size, cut.0))
 no_fault_at_end text none (inr (inr other)) =
     let size : 0 ≡ length other.line + 1 + length other.rest = sym (ap length none) ∙ ap length other.split ∙ long other.line other.rest in
     absurd (omega (arith, size))
 
-no_fault_at_event : (text line rest : List ℕ) (event : Event) (at : ℕ) → text ≡ with_feed line ++ rest → IsLine line → IsEventLine line event at → IsFault text → ⊥
+pub no_fault_at_event : (text line rest : List ℕ) (event : Event) (at : ℕ) → text ≡ with_feed line ++ rest → IsLine line → IsEventLine line event at → IsFault text → ⊥
 no_fault_at_event text line rest event at is is_line h (inl too) = no_line text line rest (inl too) is is_line
 no_fault_at_event text line rest event at is is_line h (inr (inl cut)) = no_line text line rest (inr cut) is is_line
 no_fault_at_event text line rest event at is is_line h (inr (inr other)) =
     let same = one_line line other.line rest other.rest is_line other.is_line (sym is ∙ other.split) in
     other.no_event event at (subst (λ (bytes : List ℕ). IsEventLine bytes event at) same.0 h)
 
-stops_at_fault : (text : List ℕ) → IsFault text → Stops text
+pub stops_at_fault : (text : List ℕ) → IsFault text → Stops text
 stops_at_fault text (inl too) line rest is is_line skipped = no_line text line rest (inl too) is is_line
 stops_at_fault text (inr (inl cut)) line rest is is_line skipped = no_line text line rest (inr cut) is is_line
 stops_at_fault text (inr (inr other)) line rest is is_line skipped =

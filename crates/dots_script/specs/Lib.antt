@@ -4,3 +4,4 @@ pub mod Lines
 pub mod Finding
 pub mod Sends
 pub mod Scripting
+pub mod Accounts

@@ -19,6 +19,6 @@ mod send_line;
 mod tests;
 
 pub use event_line::parse_event;
-pub use laws::a_script_has_one_answer;
+pub use laws::{a_fault_stays, a_script_has_one_answer, lines_say_one_list};
 pub use lines::{MAX_LINE_BYTES, MAX_SKIPPED};
 pub use script_host::ScriptHost;

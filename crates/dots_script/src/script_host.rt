@@ -7,6 +7,7 @@ ghost use Rattle.dots_host.specs.Writing.{AppendsBeginning};
 ghost use Rattle.dots_host.specs.declared.TheConstants.{MAX_EVENT_BYTES};
 ghost use Rattle.dots_script.specs.Lines.{to_come, Answers};
 ghost use Rattle.dots_script.specs.Sends.{line_of};
+ghost use Rattle.dots_script.specs.Accounts.{Standing, AccountsSince};
 
 use crate::block::Block;
 use crate::event_line::parse_event;
@@ -52,8 +53,11 @@ const FAILED: Got = Got {
 impl<S: Source + Drop, K: Sink + Drop> ScriptHost<S, K> {
     /// A host over the script that the source gives, whose sends go to the sink. Takes the room for lines.
     pub fn new(alloc: Global, source: S, sink: K) -> Result<Self, NoMemory>
-        ensures { IfOk result (λ host. host ≡
+        ensures host { IfOk result (λ host. host ≡
             record { source = source; ahead = []; sink = sink; acts = []; whole = true; faults = 0 }) }
+        // It has read and written nothing yet.
+        ensures accounts { IfOk result (λ host. AccountsSince S.left S.faults K.holds
+            (record { script = S.left source; held = K.holds sink; failures = S.faults source }) host) }
     {
         let block = Block::new(alloc)?;
         let room = vec![in alloc; 0u8; SEND_ROOM]?;
@@ -156,6 +160,10 @@ impl<S: Source, K: Sink> Wire for ScriptHost<S, K> {
         ensures source { S.faults self.old.source ≤ S.faults self.new.source }
         ensures no_fault { OnEvent result.what (self.new.faults ≡ self.old.faults) }
         ensures sink { self.new.sink ≡ self.old.sink }
+
+        // Whatever the start, the acts that it tells still are all that was read and written since.
+        ensures accounts { (start : Standing) → AccountsSince S.left S.faults K.holds start self.old →
+            AccountsSince S.left S.faults K.holds start self.new }
     {
         let got = next_event(&mut self.block, &mut self.source, into);
         self.faults = count_fault(self.faults, got.what);
@@ -178,6 +186,10 @@ impl<S: Source, K: Sink> Wire for ScriptHost<S, K> {
         ensures sink { K.faults self.old.sink ≤ K.faults self.new.sink }
         ensures source { self.new.source ≡ self.old.source }
         ensures ahead { self.new.ahead ≡ self.old.ahead }
+
+        // Whatever the start, the acts that it tells still are all that was read and written since.
+        ensures accounts { (start : Standing) → AccountsSince S.left S.faults K.holds start self.old →
+            AccountsSince S.left S.faults K.holds start self.new }
     {
         let sent = match write_line(&mut self.sink, self.room.as_mut_slice(), out) {
             Ok(()) => Sent::Done,
