@@ -9,17 +9,17 @@ use Rattle.lifetime_clock.specs.Times.{Times, look_up, KeysDiffer, IsMap, HasRoo
 some_is_not_none : (time : ℕ) → Some time ≢ None
 some_is_not_none time is = cc
 
-some_injective : (a b : ℕ) → Some a ≡ Some b → a ≡ b
+pub some_injective : (a b : ℕ) → Some a ≡ Some b → a ≡ b
 some_injective a b is = cc
 
-at_its_key : (entry : ℕ × ℕ) (es : List (ℕ × ℕ)) (key : ℕ) → entry.0 ≡ key → look_up (entry ∷ es) key ≡ Some entry.1
+pub at_its_key : (entry : ℕ × ℕ) (es : List (ℕ × ℕ)) (key : ℕ) → entry.0 ≡ key → look_up (entry ∷ es) key ≡ Some entry.1
 at_its_key entry es key is = rw (eq-eqb _ _ is) refl
 
-at_another : (entry : ℕ × ℕ) (es : List (ℕ × ℕ)) (key : ℕ) → entry.0 ≢ key → look_up (entry ∷ es) key ≡ look_up es key
+pub at_another : (entry : ℕ × ℕ) (es : List (ℕ × ℕ)) (key : ℕ) → entry.0 ≢ key → look_up (entry ∷ es) key ≡ look_up es key
 at_another entry es key is_not = rw (ne_eqb _ _ is_not) refl
 
 -- a step of a look-up, at equal look-ups in what follows
-behind : (entry : ℕ × ℕ) (es out : List (ℕ × ℕ)) (key : ℕ) → look_up es key ≡ look_up out key → look_up (entry ∷ es) key ≡ look_up (entry ∷ out) key
+pub behind : (entry : ℕ × ℕ) (es out : List (ℕ × ℕ)) (key : ℕ) → look_up es key ≡ look_up out key → look_up (entry ∷ es) key ≡ look_up (entry ∷ out) key
 behind entry es out key same = ap (λ time. if entry.0 == key then Some entry.1 else time) same
 
 apart : (entry : ℕ × ℕ) (es : List (ℕ × ℕ)) (key time : ℕ) → look_up es entry.0 ≡ None → look_up es key ≡ Some time → entry.0 ≢ key

@@ -11,6 +11,7 @@
 mod deadlines;
 pub mod laws;
 mod lifetime;
+mod tree;
 
 pub use deadlines::Deadlines;
 pub use lifetime::grant;
