@@ -1,3 +1,4 @@
 pub mod Entries
 pub mod Least
 pub mod Rising
+pub mod Splits

@@ -4,11 +4,11 @@ use Rattle.lifetime_clock.specs.Times.{look_up, KeysDiffer}
 use Rattle.lifetime_clock.specs.Tree.{KeysBelow, KeysAbove, KeysRise, SplitsAt, entry_at, Has}
 use Rattle.lifetime_clock.proofs.Entries.{at_its_key, at_another, behind}
 
-KeysAbove-further : (lower key : ℕ) (es : List (ℕ × ℕ)) → lower ≤ key → KeysAbove key es → KeysAbove lower es
+pub KeysAbove-further : (lower key : ℕ) (es : List (ℕ × ℕ)) → lower ≤ key → KeysAbove key es → KeysAbove lower es
 KeysAbove-further lower key [] less above = tt
 KeysAbove-further lower key (entry ∷ es) less above = (omega (arith, above.0), KeysAbove-further lower key es less above.1)
 
-KeysAbove-append : (key : ℕ) (l m : List (ℕ × ℕ)) → KeysAbove key l → KeysAbove key m → KeysAbove key (l ++ m)
+pub KeysAbove-append : (key : ℕ) (l m : List (ℕ × ℕ)) → KeysAbove key l → KeysAbove key m → KeysAbove key (l ++ m)
 KeysAbove-append key [] m above of_m = of_m
 KeysAbove-append key (entry ∷ l) m above of_m = (above.0, KeysAbove-append key l m above.1 of_m)
 
@@ -33,7 +33,7 @@ KeysRise-back [] m rise = rise
 KeysRise-back (entry ∷ l) m rise = KeysRise-back l m rise.1
 
 -- what stands before an entry has smaller keys
-KeysBelow-before : (l : List (ℕ × ℕ)) (entry : ℕ × ℕ) (m : List (ℕ × ℕ)) (key : ℕ) → entry.0 ≤ key → KeysRise (l ++ entry ∷ m) → KeysBelow key l
+pub KeysBelow-before : (l : List (ℕ × ℕ)) (entry : ℕ × ℕ) (m : List (ℕ × ℕ)) (key : ℕ) → entry.0 ≤ key → KeysRise (l ++ entry ∷ m) → KeysBelow key l
 KeysBelow-before [] entry m key less rise = tt
 KeysBelow-before (first ∷ l) entry m key less rise =
     (omega (arith, (KeysAbove-back first.0 l (entry ∷ m) rise.0).0), KeysBelow-before l entry m key less rise.1)

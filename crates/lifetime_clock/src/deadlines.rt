@@ -1,31 +1,38 @@
-ghost use Rattle.std.specs.Prelude.{◌≡◌, ◌≢◌, ℕ, ◌<◌, ◌≤◌, ◌↔◌, [], None, IfOk, IsOk, IfSome, IfNone, Some, length, slice_index_or};
+ghost use Rattle.std.specs.Prelude.{◌≡◌, ◌↔◌, [], None, IfOk, IsOk, IfSome, IfNone, Some};
 ghost use Rattle.lifetime_clock.specs.Times.{IsMap, HasRoomFor, Updates, NothingIsDue, IsNextDue};
 
+use crate::tree::{Branch, Split, Tree};
 use dots_lists::NoMemory;
 use std::alloc::Global;
 use std::marker::Model;
+use std::mem;
 
 /// The times at which keys are due, with room for a number of keys that is set at the start.
 ///
-/// A key is any number, and has at most one time. Times are in whatever unit the caller counts in.
+/// A key is any number, and has at most one time. Times are in whatever unit the caller counts in. Each call but `new`
+/// takes time that grows with the logarithm of the number of keys.
 #[derive(Debug, Drop)]
 pub struct Deadlines {
     /// Keys with their times.
-    entries: Vec<(u32, u64)>,
+    tree: Tree,
+    /// Branches that hold no key, one for each further key that there is room for.
+    spare: Vec<Box<Branch>>,
     room: usize,
 }
 
 impl Model for Deadlines {
-    ghost use Rattle.std.specs.Prelude.{◌≤◌, vec_capacity};
-    ghost use Rattle.lifetime_clock.specs.Times.{Times, IsMap};
+    ghost use Rattle.std.specs.Prelude.{◌≡◌, ◌+◌, ◌≤◌, length, vec_capacity};
+    ghost use Rattle.lifetime_clock.specs.Times.{Times};
+    ghost use Rattle.lifetime_clock.specs.Tree.{KeysRise};
 
     ghost Value = { Times };
 
-    ghost view = { λ deadlines. record { room = deadlines.room; entries = deadlines.entries.items } };
+    ghost view = { λ deadlines. record { room = deadlines.room; entries = deadlines.tree } };
 
     ghost invariant = { λ deadlines.
-        IsMap (record { room = deadlines.room; entries = deadlines.entries.items })
-        × (deadlines.room ≤ vec_capacity deadlines.entries) };
+        KeysRise deadlines.tree
+        × (length deadlines.tree + length deadlines.spare.items ≡ deadlines.room)
+        × (deadlines.room ≤ vec_capacity deadlines.spare) };
 }
 
 impl Deadlines {
@@ -34,8 +41,15 @@ impl Deadlines {
         ensures ok { IfOk result (λ made. made ≡ record { room = room; entries = [] }) }
         ensures no_room { room ≡ 0 → IsOk result }
     {
-        let entries = Vec::with_capacity(alloc, room)?;
-        Ok(Deadlines { entries, room })
+        let mut spare = Vec::with_capacity(alloc, room)?;
+        for _ in 0..room {
+            spare.push_reserved(Box::new(alloc, Branch::new())?);
+        }
+        Ok(Deadlines {
+            tree: Tree::new(),
+            spare,
+            room,
+        })
     }
 
     /// Gives the key this time, in place of the one that it has. The key is there, or there is room for one more.
@@ -44,9 +58,20 @@ impl Deadlines {
         ensures updates { Updates self.old self.new key (Some at) }
         ensures map { IsMap self.new }
     {
-        match place_of(self.entries.as_slice(), key) {
-            Some(place) => self.entries[place] = (key, at),
-            None => self.entries.push_reserved((key, at)),
+        let Split {
+            below,
+            found,
+            above,
+        } = mem::replace(&mut self.tree, Tree::new()).split(key);
+        match found {
+            Some(branch) => {
+                let branch = branch.holding(key, at);
+                self.tree.store(Tree::join(below, branch, above));
+            }
+            None => {
+                let branch = self.spare.pop().unwrap().holding(key, at);
+                self.tree.store(Tree::join(below, branch, above));
+            }
         }
     }
 
@@ -55,8 +80,14 @@ impl Deadlines {
         ensures updates { Updates self.old self.new key None }
         ensures map { IsMap self.new }
     {
-        if let Some(place) = place_of(self.entries.as_slice(), key) {
-            let _entry = self.entries.remove(place);
+        let Split {
+            below,
+            found,
+            above,
+        } = mem::replace(&mut self.tree, Tree::new()).split(key);
+        self.tree.store(Tree::merge(below, above));
+        if let Some(branch) = found {
+            self.spare.push_reserved(branch);
         }
     }
 
@@ -69,40 +100,14 @@ impl Deadlines {
         ensures taken { IfSome result (λ key. Updates self.old self.new key None) }
         ensures map { IsMap self.new }
     {
-        if self.entries.is_empty() {
+        if self.tree.is_empty() {
             return None;
         }
-        let place = least_place(self.entries.as_slice());
-        if self.entries[place].1 > now {
+        if self.tree.least() > now {
             return None;
         }
-        let (key, _at) = self.entries.remove(place);
+        let key = self.tree.least_key();
+        self.clear(key);
         Some(key)
     }
-}
-
-/// The place of the key's entry, or None where there is none.
-fn place_of(entries: &[(u32, u64)], key: u32) -> Option<usize>
-    ensures within { IfSome result (λ place. place < length entries.now) }
-    ensures key { IfSome result (λ place. (slice_index_or entries.now place (0, 0)).0 ≡ key) }
-    ensures none { IfNone result ((place : ℕ) → place < length entries.now
-        → (slice_index_or entries.now place (0, 0)).0 ≢ key) }
-{
-    entries.iter().position(|entry| entry.0 == key)
-}
-
-/// The place of an entry with the least time.
-fn least_place(entries: &[(u32, u64)]) -> usize
-    requires { 0 < length entries.now }
-    ensures within { result < length entries.now }
-    ensures least { (other : ℕ) → other < length entries.now
-        → (slice_index_or entries.now result (0, 0)).1 ≤ (slice_index_or entries.now other (0, 0)).1 }
-{
-    let mut least = 0;
-    for place in 1..entries.len() {
-        if entries[place].1 < entries[least].1 {
-            least = place;
-        }
-    }
-    least
 }

@@ -17,4 +17,6 @@ pub use deadlines::Deadlines;
 pub use lifetime::grant;
 
 #[cfg(test)]
+mod scan;
+#[cfg(test)]
 mod tests;

@@ -3,7 +3,7 @@
 //! Neither side of a branch is more than one level higher than the other. That only makes the tree fast: no clause
 //! speaks of heights.
 
-ghost use Rattle.std.specs.Prelude.{◌≡◌, ◌≢◌, [], ◌∷◌, ◌++◌, ℕ, ◌<◌, length, IfSome, IfNone};
+ghost use Rattle.std.specs.Prelude.{◌≡◌, ◌≢◌, [], ◌∷◌, ◌++◌, ℕ, ◌<◌, length, IfSome, IfNone, IsTrue, ◌↔◌};
 ghost use Rattle.lifetime_clock.specs.Tree.{entry_of, least_time, KeysRise, Has};
 ghost use Rattle.lifetime_clock.specs.Split.{IsSplit};
 
@@ -60,6 +60,15 @@ impl Branch {
             right: Tree::new(),
         }
     }
+
+    /// The branch with this key and time.
+    pub fn holding(mut self: Box<Self>, key: u32, at: u64) -> Box<Branch>
+        ensures { entry_of result.value ≡ (key, at) }
+    {
+        self.key = key;
+        self.at = at;
+        self
+    }
 }
 
 impl Tree {
@@ -68,6 +77,19 @@ impl Tree {
         ensures { result ≡ [] }
     {
         Tree { root: None }
+    }
+
+    /// Has the entries of `tree` in place of its own.
+    pub fn store(&mut self, tree: Tree)
+        ensures { self.new ≡ tree }
+    {
+        *self = tree;
+    }
+
+    pub fn is_empty(&self) -> bool
+        ensures { IsTrue result ↔ (self.now ≡ []) }
+    {
+        self.root.is_none()
     }
 
     /// The least of the times; the greatest u64 where there are no entries.

@@ -1,21 +1,29 @@
-use Rattle.std.proofs.Common.{rules, arith}
-use Rattle.lifetime_clock.proofs.Entries.{IsKeyAt, look_up-nowhere, Updates-nowhere, Updates-remove, IsMap-remove}
+use Rattle.std.proofs.Common.{◌≡◌, Some, None, is_some, ap, ◌∙◌, arith, rules}
+use Rattle.lifetime_clock.specs.Split.{time_found}
+use Rattle.lifetime_clock.proofs.Splits.{put, IsMap-rise}
 use Rattle.lifetime_clock.proofs.deadlines.Deadlines.clear.Goals as goal
 
 pub invariant_of-self : goal.invariant_of-self
-invariant_of-self c = (
-  IsMap-remove _ _ _ _ c.self.invariant.0 (search rules) c.remove-entry.ensures.items,
-  omega (arith, c.self.invariant.1, c.remove-entry.ensures.capacity),
-)
+invariant_of-self c =
+    let given = put c.self.inside.room {new = None} c.replace.ensures.value c.self.invariant.0 c.split-below.ensures (c.store.ensures ∙ c.merge.ensures) in
+    let found = ap is_some (ap time_found c.in-Some.is) in
+    let counted = rw found at given.counted in
+    (given.rise, omega (arith, counted, c.self.invariant.1, c.push_reserved.ensures.len), omega (arith, c.self.invariant.2, c.push_reserved.ensures.capacity))
 
 pub returns-in-Some-clause-updates : goal.returns-in-Some-clause-updates
 returns-in-Some-clause-updates c =
-    let at : IsKeyAt c.self.inside.entries.items c.in-Some.place c.args.key = record { within = search rules; is = search rules } in
-    rw (← c.self.view_is) (Updates-remove _ _ _ _ _ c.self.invariant.0 at c.remove-entry.ensures.items)
+    let given = put c.self.inside.room {new = None} c.replace.ensures.value c.self.invariant.0 c.split-below.ensures (c.store.ensures ∙ c.merge.ensures) in
+    rw (← c.self.view_is) given.updates
 
 pub returns-in-Some-clause-map : goal.returns-in-Some-clause-map
-returns-in-Some-clause-map c = IsMap-remove _ _ _ _ c.self.invariant.0 (search rules) c.remove-entry.ensures.items
+returns-in-Some-clause-map c = let kept = invariant_of-self c in IsMap-rise _ _ kept.0 (omega (arith, kept.1))
 
 pub returns-in_default-clause-updates : goal.returns-in_default-clause-updates
 returns-in_default-clause-updates c =
-    rw (← c.self.view_is) (Updates-nowhere _ _ _ (look_up-nowhere c.self.inside.entries.items c.args.key (search rules)))
+    let given = put c.self.inside.room {new = None} c.replace.ensures.value c.self.invariant.0 c.split-below.ensures (c.store.ensures ∙ c.merge.ensures) in
+    rw (← c.self.view_is) given.updates
+
+pub returns-in_default-clause-map : goal.returns-in_default-clause-map
+returns-in_default-clause-map c =
+    let given = put c.self.inside.room {new = None} c.replace.ensures.value c.self.invariant.0 c.split-below.ensures (c.store.ensures ∙ c.merge.ensures) in
+    IsMap-rise _ _ given.rise (omega (arith, given.counted, c.self.invariant.1))

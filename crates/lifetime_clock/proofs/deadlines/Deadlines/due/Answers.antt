@@ -1,40 +1,27 @@
-use Rattle.std.proofs.Common.{◌<◌, ◌≤◌, ℕ, length, ap, rules, arith, refl, get_or}
-use Rattle.lifetime_clock.proofs.Entries.{IsKeyAt, IsLeast, entry_read, NothingIsDue-before, IsNextDue-least, not_nothing, Updates-remove, IsMap-remove}
+use Rattle.std.proofs.Common.{◌≡◌, ◌<◌, ◌≤◌, ap, refl, arith, rules}
+use Rattle.lifetime_clock.specs.Tree.{least_time, Has}
+use Rattle.lifetime_clock.proofs.Entries.{not_nothing}
+use Rattle.lifetime_clock.proofs.Splits.{NothingIsDue-empty, NothingIsDue-least, IsNextDue-has, IsMap-rise}
 use Rattle.lifetime_clock.proofs.deadlines.Deadlines.due.Goals as goal
 
-pub returns-then-index-now-clause-none : goal.returns-then-index-now-clause-none
-returns-then-index-now-clause-none c =
-    let least : IsLeast c.self.inside.entries.items c.least_place-place.result = search rules in
-    let here : c.least_place-place.result < length c.self.inside.entries.items = search rules in
-    let time = ap (λ (entry : ℕ × ℕ). entry.1) (entry_read _ _ _ here c.index.ensures) in
-    let later : c.args.now < (get_or c.self.inside.entries.items c.least_place-place.result (0, 0)).1 = omega (arith, time, c.if-index-now.true) in
-    (λ _. rw (← c.self.view_is) (NothingIsDue-before c.self.inside.entries.items c.self.inside.room c.least_place-place.result c.args.now least later), λ _. refl)
+pub returns-then-is_empty-clause-none : goal.returns-then-is_empty-clause-none
+returns-then-is_empty-clause-none c =
+    (λ _. rw (← c.self.view_is) (NothingIsDue-empty c.self.inside.tree c.self.inside.room c.args.now (search rules)), λ _. refl)
 
-pub invariant_of-self : goal.invariant_of-self
-invariant_of-self c = (
-  IsMap-remove _ _ _ _ c.self.invariant.0 (search rules) c.remove-key.ensures.items,
-  omega (arith, c.self.invariant.1, c.remove-key.ensures.capacity),
-)
+pub returns-then-least-now-clause-none : goal.returns-then-least-now-clause-none
+returns-then-least-now-clause-none c =
+    (λ _. rw (← c.self.view_is) (NothingIsDue-least c.self.inside.tree c.self.inside.room c.args.now (omega (arith, c.least.ensures, c.if-least-now.true))), λ _. refl)
+
+pub returns-then-is_empty-clause-map : goal.returns-then-is_empty-clause-map
+returns-then-is_empty-clause-map c = rw (← c.self.view_is) (IsMap-rise c.self.inside.tree c.self.inside.room c.self.invariant.0 (omega (arith, c.self.invariant.1)))
 
 pub returns-clause-next : goal.returns-clause-next
 returns-clause-next c =
-    let here : c.least_place-place.result < length c.self.inside.entries.items = search rules in
-    let at : IsKeyAt c.self.inside.entries.items c.least_place-place.result c.remove-key.result.0 =
-    record { within = here; is = ap (λ (entry : ℕ × ℕ). entry.0) (entry_read _ _ _ here c.remove-key.ensures.value) } in
-    let least : IsLeast c.self.inside.entries.items c.least_place-place.result = search rules in
-    let time = ap (λ (entry : ℕ × ℕ). entry.1) (entry_read _ _ _ here c.index.ensures) in
-    let due : (get_or c.self.inside.entries.items c.least_place-place.result (0, 0)).1 ≤ c.args.now = omega (arith, time, c.if-index-now.false) in
-    rw (← c.self.view_is) (IsNextDue-least _ _ _ _ _ c.self.invariant.0 at least due)
+    let due : least_time c.self.inside.tree ≤ c.args.now = omega (arith, c.least.ensures, c.if-least-now.false) in
+    rw (← c.self.view_is) (IsNextDue-has c.self.inside.tree c.self.inside.room c.args.now c.least_key-key.result c.self.invariant.0 c.least_key-key.ensures due)
 
 pub returns-clause-none : goal.returns-clause-none
 returns-clause-none c = (λ is. absurd (cc), λ nothing. absurd (not_nothing _ _ _ (returns-clause-next c) nothing))
 
-pub returns-clause-taken : goal.returns-clause-taken
-returns-clause-taken c =
-    let here : c.least_place-place.result < length c.self.inside.entries.items = search rules in
-    let at : IsKeyAt c.self.inside.entries.items c.least_place-place.result c.remove-key.result.0 =
-    record { within = here; is = ap (λ (entry : ℕ × ℕ). entry.0) (entry_read _ _ _ here c.remove-key.ensures.value) } in
-    rw (← c.self.view_is) (Updates-remove _ _ _ _ _ c.self.invariant.0 at c.remove-key.ensures.items)
-
-pub returns-clause-map : goal.returns-clause-map
-returns-clause-map c = IsMap-remove _ _ _ _ c.self.invariant.0 (search rules) c.remove-key.ensures.items
+pub returns-then-least-now-clause-map : goal.returns-then-least-now-clause-map
+returns-then-least-now-clause-map c = rw (← c.self.view_is) (IsMap-rise c.self.inside.tree c.self.inside.room c.self.invariant.0 (omega (arith, c.self.invariant.1)))

@@ -1,5 +1,5 @@
 use Rattle.std.proofs.Common.{ℕ, ◌<◌, ◌≤◌, length, get_or}
-use Rattle.lifetime_clock.proofs.deadlines.least_place.Given as goal
+use Rattle.lifetime_clock.proofs.scan.least_place.Given as goal
 
 abbrev pub invariant-loop-place : goal.invariant-loop-place
 invariant-loop-place l = (l.least < length l.entries)
