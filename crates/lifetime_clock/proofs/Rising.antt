@@ -1,8 +1,6 @@
 -- Lists of entries whose keys rise, and what stands on the two sides of a key.
-use Rattle.std.proofs.Common.{◌≡◌, ◌≢◌, ℕ, ◌+◌, ◌<◌, ◌≤◌, if◌then◌else◌, List, [], ◌∷◌, ◌++◌, length, Option, Some, None, is_some, refl, sym, subst, ap, ◌∙◌, arith, append_assoc, length-append}
-use Rattle.lifetime_clock.specs.Times.{look_up, KeysDiffer}
-use Rattle.lifetime_clock.specs.Tree.{KeysBelow, KeysAbove, KeysRise, SplitsAt, entry_at, Has}
-use Rattle.lifetime_clock.proofs.Entries.{at_its_key, at_another, behind}
+use Rattle.std.proofs.Common.{◌≡◌, ℕ, ◌<◌, ◌≤◌, List, [], ◌∷◌, ◌++◌, Option, Some, None, sym, subst, ap, ◌∙◌, arith, append_assoc}
+use Rattle.lifetime_clock.specs.Tree.{KeysBelow, KeysAbove, KeysRise, SplitsAt, entry_at}
 
 pub KeysAbove-further : (lower key : ℕ) (es : List (ℕ × ℕ)) → lower ≤ key → KeysAbove key es → KeysAbove lower es
 KeysAbove-further lower key [] less above = tt

@@ -1,6 +1,6 @@
 -- The values that callers see where a list of entries is put together again around a key.
 use Rattle.std.proofs.Common.{◌≡◌, ◌≢◌, ℕ, ◌+◌, ◌<◌, ◌≤◌, if◌then◌else◌, List, [], ◌∷◌, ◌++◌, length, Option, Some, None, is_some, refl, sym, subst, ap, ◌∙◌, arith, length-append}
-use Rattle.lifetime_clock.specs.Times.{Times, look_up, KeysDiffer, IsMap, HasRoomFor, Updates, NothingIsDue, IsNextDue}
+use Rattle.lifetime_clock.specs.Times.{look_up, KeysDiffer, IsMap, HasRoomFor, Updates, NothingIsDue, IsNextDue}
 use Rattle.lifetime_clock.specs.Tree.{KeysBelow, KeysAbove, KeysRise, SplitsAt, Has, entry_at, least_time}
 use Rattle.lifetime_clock.proofs.Entries.{at_its_key, at_another, behind, times_of, room_left}
 use Rattle.lifetime_clock.proofs.Rising.{KeysBelow-before, KeysAbove-append, KeysAbove-further, KeysRise-front, KeysRise-back}

@@ -3,7 +3,6 @@ use Rattle.std.specs.Prelude.{◌≤◌, ◌∷◌, length, Option, None, Some, 
 use Rattle.std.specs.Global.{Global}
 use Rattle.std.proofs.Common.{arith, length-append}
 use Rattle.lifetime_clock.specs.declared.tree.Branch.{Branch}
-use Rattle.lifetime_clock.specs.declared.tree.Tree.TheInside.{Inside}
 use Rattle.lifetime_clock.specs.declared.tree.Tree.TheDeep.{deep-Tree}
 use Rattle.lifetime_clock.specs.Tree.{entry_of}
 use Rattle.lifetime_clock.specs.Rooted.{entries_of}

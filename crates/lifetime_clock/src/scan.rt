@@ -1,3 +1,5 @@
+//! Deadlines in a plain list, under the contracts of [`Deadlines`](crate::Deadlines): what the tree is compared with.
+
 ghost use Rattle.std.specs.Prelude.{◌≡◌, ◌≢◌, ℕ, ◌<◌, ◌≤◌, ◌↔◌, [], None, IfOk, IsOk, IfSome, IfNone, Some, length, slice_index_or};
 ghost use Rattle.lifetime_clock.specs.Times.{IsMap, HasRoomFor, Updates, NothingIsDue, IsNextDue};
 

@@ -1,4 +1,4 @@
-use Rattle.std.proofs.Common.{◌≡◌, Some, None, is_some, ap, ◌∙◌, arith, rules}
+use Rattle.std.proofs.Common.{None, is_some, ap, ◌∙◌, arith}
 use Rattle.lifetime_clock.specs.Split.{time_found}
 use Rattle.lifetime_clock.proofs.Splits.{put, IsMap-rise}
 use Rattle.lifetime_clock.proofs.deadlines.Deadlines.clear.Goals as goal

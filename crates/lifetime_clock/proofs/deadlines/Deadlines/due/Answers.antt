@@ -1,5 +1,5 @@
-use Rattle.std.proofs.Common.{◌≡◌, ◌<◌, ◌≤◌, ap, refl, arith, rules}
-use Rattle.lifetime_clock.specs.Tree.{least_time, Has}
+use Rattle.std.proofs.Common.{◌≤◌, refl, arith, rules}
+use Rattle.lifetime_clock.specs.Tree.{least_time}
 use Rattle.lifetime_clock.proofs.Entries.{not_nothing}
 use Rattle.lifetime_clock.proofs.Splits.{NothingIsDue-empty, NothingIsDue-least, IsNextDue-has, IsMap-rise}
 use Rattle.lifetime_clock.proofs.deadlines.Deadlines.due.Goals as goal

@@ -1,4 +1,4 @@
-use Rattle.std.proofs.Common.{◌≡◌, ◌<◌, [], ◌∷◌, Some, is_some, length, length-append, sym, subst, ap, ◌∙◌, arith, rules}
+use Rattle.std.proofs.Common.{[], ◌∷◌, Some, is_some, length, length-append, sym, subst, ap, ◌∙◌, arith, rules}
 use Rattle.lifetime_clock.specs.Times.{HasRoomFor}
 use Rattle.lifetime_clock.specs.Tree.{SplitsAt}
 use Rattle.lifetime_clock.specs.Split.{time_found}

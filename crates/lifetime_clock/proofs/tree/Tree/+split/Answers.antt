@@ -1,4 +1,4 @@
-use Rattle.std.proofs.Common.{◌≡◌, ◌∷◌, ◌++◌, length, ap, subst, arith, length-append, rules}
+use Rattle.std.proofs.Common.{◌≡◌, ◌∷◌, length, ap, subst, arith, length-append, rules}
 use Rattle.lifetime_clock.specs.declared.tree.Branch.{Branch}
 use Rattle.lifetime_clock.specs.Tree.{KeysRise, entry_of}
 use Rattle.lifetime_clock.proofs.Rising.{KeysRise-front, KeysRise-back, SplitsAt-left, SplitsAt-right, SplitsAt-here}
