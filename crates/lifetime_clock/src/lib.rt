@@ -19,6 +19,8 @@ pub use lifetime::grant;
 #[cfg(test)]
 mod compared;
 #[cfg(test)]
+mod heights;
+#[cfg(test)]
 mod scan;
 #[cfg(test)]
 mod tests;

@@ -16,7 +16,7 @@ use std::mem;
 pub struct Branch {
     pub key: u32,
     pub at: u64,
-    /// The least time in the tree whose root this is.
+    /// The least time and the levels of the tree whose root this is.
     least: u64,
     height: u32,
     left: Tree,
@@ -102,7 +102,8 @@ impl Tree {
         }
     }
 
-    fn height(&self) -> u32 {
+    /// The levels of the tree.
+    pub fn height(&self) -> u32 {
         match &self.root {
             None => 0,
             Some(branch) => branch.height,
