@@ -22,11 +22,12 @@ fn words_of(rt: &HostRuntime) -> Result<Vec<String>, NoMemory> {
     }
 }
 
-/// Calls [`run`] over the settings file that the second of two words names, and over standard input and output.
+/// Calls [`run`] over the settings file that the second of two words names behind `replay`, and over standard input and
+/// output.
 fn run_program(rt: &HostRuntime) -> Result<u8, NoMemory> {
     let words = words_of(rt)?;
     let reader = match words.as_slice() {
-        [_, name] => fs::open(rt, name.as_str()).ok(),
+        [command, name] if command.as_str() == "replay" => fs::open(rt, name.as_str()).ok(),
         _ => None,
     };
     let mut settings = StdSource::new(reader);

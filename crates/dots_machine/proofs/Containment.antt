@@ -1,6 +1,6 @@
 -- Each filter that stands lies inside the domain: what each step keeps a run keeps.
-use Rattle.std.proofs.Common.{◌≡◌, ℕ, [], Bool, true, false, not, ◌&&◌, List, ◌∷◌, ◌++◌, filter, Option, Some, None, refl, sym, ap, ◌∙◌, subst, cond}
-use Rattle.std.specs.List.{list_all, list_any, find}
+use Rattle.std.proofs.Common.{◌≡◌, ℕ, [], Bool, true, false, not, ◌&&◌, List, ◌∷◌, Option, Some, None, refl, sym, ap, ◌∙◌, subst, cond}
+use Rattle.std.specs.List.{list_all, list_any}
 use Rattle.std.proofs.lemmas.List.Folds.{list_all-append}
 use Rattle.dots_host.specs.declared.event.Event.{Event}
 use Rattle.dots_host.specs.declared.event.Event.TheVariants as event
@@ -10,7 +10,7 @@ use Rattle.dots_host.specs.Runs.{Owing, resting, ToldStep, Trace, in_one_turn}
 use Rattle.ip_scope.specs.Prefix.{PrefixValue, inside}
 use Rattle.dots_machine.specs.declared.settings.Settings.{Settings}
 use Rattle.dots_machine.specs.declared.entry.Entry.{Entry}
-use Rattle.dots_machine.specs.Targets.{is_target, may_be_asked, first_fault}
+use Rattle.dots_machine.specs.Targets.{is_target, first_fault}
 use Rattle.dots_machine.specs.Requests.{Request, Heard, short, other, asked}
 use Rattle.dots_machine.specs.History.{stands, standing}
 use Rattle.dots_machine.specs.Machine.{State, begun, moved, with_entry, entry_of, domain_of, conflicts, judged, verdict, Answers, Answered, by_silence, by_verdict, for_want_of_memory, Step}

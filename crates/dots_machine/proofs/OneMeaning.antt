@@ -1,5 +1,5 @@
 -- A settings file gives settings or is at fault, never both, and the fault is one.
-use Rattle.std.proofs.Common.{◌≡◌, ℕ, ◌<◌, ◌≤◌, suc, zero, List, [], ◌∷◌, ◌++◌, length, codes, slice_get, Some, None, ◌⊎◌, inl, inr, refl, sym, ap, ◌∙◌, subst, arith}
+use Rattle.std.proofs.Common.{◌≡◌, ℕ, ◌<◌, ◌≤◌, suc, zero, List, [], ◌∷◌, ◌++◌, length, codes, slice_get, Some, ◌⊎◌, inl, inr, refl, sym, ap, ◌∙◌, subst, arith}
 use Rattle.ip_scope.specs.Prefix.{PrefixValue}
 use Rattle.dots_machine.specs.declared.settings.Settings.{Settings}
 use Rattle.dots_machine.specs.declared.settings.SettingsFault.{SettingsFault}

@@ -1,5 +1,5 @@
 -- How a run ends, with which status, and what it has done then.
-use Rattle.std.specs.Prelude.{◌≡◌, ℕ, ◌^◌, List, [], ◌∷◌, ◌++◌, Bool, false, ◌&&◌, not, ◌==◌, bytes_eq, codes, decimal, IfSome, Option, Some}
+use Rattle.std.specs.Prelude.{◌≡◌, ℕ, ◌^◌, List, ◌++◌, true, false, codes, decimal, IfSome, Option, Some}
 use Rattle.std.specs.Io.KnownBytes.{Appends}
 use Rattle.dots_host.specs.declared.event.Event.TheVariants as event
 use Rattle.dots_host.specs.Acts.{Timed}
@@ -10,28 +10,26 @@ use Rattle.dots_machine.specs.declared.settings.SettingsFault.{SettingsFault}
 use Rattle.dots_machine.specs.declared.settings.SettingsFault.TheVariants as fault
 use Rattle.dots_machine.specs.declared.ending.Ending.{Ending}
 use Rattle.dots_machine.specs.declared.ending.Ending.TheVariants as ending
+use Rattle.hex_text.specs.HexText.{IsHex}
+use Rattle.coap_message.specs.Message.{CoapMessage, IsMessage, spelling}
+use Rattle.message_text.specs.declared.showing.Shown.TheVariants as shown
+use Rattle.message_text.specs.Showing.{IsShown}
+use Rattle.dots_machine.specs.Commands.{is_replay, is_show, is_command, second_of}
 use Rattle.dots_machine.specs.SettingsFile.{SettingsAre, SettingsFail}
 use Rattle.dots_machine.specs.Machine.{State, begun, Step}
 use Rattle.dots_machine.specs.Report.{report_of, Contained}
 
--- a word that can stand for a file: it isn't empty and doesn't begin with `-`
-abbrev pub is_file_word : List ℕ → Bool
-is_file_word [] = false
-is_file_word (first ∷ word) = not (first == 45)
-
--- `replay SETTINGS`
-abbrev pub is_command : List (List ℕ) → Bool
-is_command (command ∷ file ∷ []) = bytes_eq command (codes "replay") && is_file_word file
-is_command _ = false
-
 abbrev pub status_of : Ending → ℕ
 status_of ending.Whole = 0
+status_of ending.Shown = 0
+status_of ending.Unreadable = 1
 status_of ending.WrongWords = 2
 status_of (ending.Refused fault) = 3
 status_of ending.NoMemory = 4
 status_of ending.SettingsFailed = 5
 status_of ending.NextFailed = 5
 status_of ending.ReportFailed = 9
+status_of ending.NotShown = 9
 status_of ending.TooMany = 11
 
 -- the line that a refusal of the settings prints
@@ -71,15 +69,27 @@ pub record Served (how : Ending) (left : Option (List ℕ)) (acts_old acts_new :
   pub ran : Added acts_old acts_new (RunsTo how settings state)
   pub reports : Reports how settings state old new
 
--- What a run of this ending has done: the acts that were added to those of the host, and what was written to the report. Where it
--- didn't come to serve, the host was not called; of a line only a beginning is written where the report failed.
-abbrev pub Behaves : Ending → Option (List ℕ) → Option (List Timed) → Option (List Timed) → Option (List ℕ) → Option (List ℕ) → Type 0 → Type 0
-Behaves ending.WrongWords left acts_old acts_new old new failed = (acts_new ≡ acts_old) × Writes old new (codes "words\n") failed
-Behaves (ending.Refused fault) left acts_old acts_new old new failed =
-    (acts_new ≡ acts_old) × IfSome left (λ bytes. SettingsFail bytes fault) × Writes old new (fault_line fault) failed
-Behaves ending.NoMemory left acts_old acts_new old new failed = (acts_new ≡ acts_old) × (new ≡ old)
-Behaves ending.SettingsFailed left acts_old acts_new old new failed = (acts_new ≡ acts_old) × (new ≡ old)
-Behaves served left acts_old acts_new old new failed = Served served left acts_old acts_new old new
+-- What a run of this ending has done with these words: the acts that were added to those of the host, and what was written to
+-- the report. Where it didn't come to serve, the host was not called. Where the report failed only a beginning was written.
+abbrev pub Behaves : Ending → List (List ℕ) → Option (List ℕ) → Option (List Timed) → Option (List Timed) → Option (List ℕ) → Option (List ℕ) → Type 0 → Type 0
+Behaves ending.WrongWords words left acts_old acts_new old new failed = (is_command words ≡ false) × (acts_new ≡ acts_old) × Writes old new (codes "words\n") failed
+Behaves ending.Shown words left acts_old acts_new old new failed =
+    (is_show words ≡ true) × (acts_new ≡ acts_old) × (text : List ℕ) × IsShown (second_of words) (shown.Message text) × Appends old new text
+Behaves ending.NotShown words left acts_old acts_new old new failed =
+    (is_show words ≡ true) × (acts_new ≡ acts_old) × (text : List ℕ) × IsShown (second_of words) (shown.Message text) × AppendsBeginning old new text
+Behaves ending.Unreadable words left acts_old acts_new old new failed =
+    (is_show words ≡ true) × (acts_new ≡ acts_old) × (text : List ℕ) × IsShown (second_of words) (shown.Fault text) × Writes old new text failed
+Behaves (ending.Refused fault) words left acts_old acts_new old new failed =
+    (is_replay words ≡ true) × (acts_new ≡ acts_old) × IfSome left (λ bytes. SettingsFail bytes fault) × Writes old new (fault_line fault) failed
+Behaves ending.NoMemory words left acts_old acts_new old new failed = (is_command words ≡ true) × (acts_new ≡ acts_old) × (new ≡ old)
+Behaves ending.SettingsFailed words left acts_old acts_new old new failed = (is_replay words ≡ true) × (acts_new ≡ acts_old) × (new ≡ old)
+Behaves served words left acts_old acts_new old new failed = (is_replay words ≡ true) × Served served left acts_old acts_new old new
+
+-- the word is hexadecimal and writes the spelling of a message
+pub record IsReadable (word : List ℕ) : Type 0 where
+  pub message : CoapMessage
+  pub is : IsMessage message
+  pub writes : IsHex word (spelling message)
 
 -- the source tells its bytes, and they give settings
 pub record GivesSettings (left : Option (List ℕ)) : Type 0 where

@@ -5,4 +5,5 @@ pub mod Replies
 pub mod History
 pub mod Machine
 pub mod Report
+pub mod Commands
 pub mod Endings

@@ -8,6 +8,12 @@ use crate::settings::SettingsFault;
 pub enum Ending {
     /// End was reached and the report is written whole.
     Whole,
+    /// The lines of a message are shown.
+    Shown,
+    /// They couldn't be written.
+    NotShown,
+    /// The word that was to be shown writes no message, and its fault is shown.
+    Unreadable,
     /// The words are no command.
     WrongWords,
     /// The settings were read and are refused.
@@ -30,12 +36,13 @@ impl Ending {
         ensures { result ≡ status_of self }
     {
         match self {
-            Ending::Whole => 0,
+            Ending::Whole | Ending::Shown => 0,
+            Ending::Unreadable => 1,
             Ending::WrongWords => 2,
             Ending::Refused(_) => 3,
             Ending::NoMemory => 4,
             Ending::SettingsFailed | Ending::NextFailed => 5,
-            Ending::ReportFailed => 9,
+            Ending::ReportFailed | Ending::NotShown => 9,
             Ending::TooMany => 11,
         }
     }

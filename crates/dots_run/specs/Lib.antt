@@ -4,4 +4,5 @@ pub mod Keeping
 pub mod Scopes
 pub mod Refusing
 pub mod Serving
+pub mod ShowingWords
 pub mod Stopping

@@ -5,26 +5,30 @@ ghost use Rattle.std.specs.Io.KnownBytes.{Appends};
 ghost use Rattle.dots_host.specs.Causes.{Rose, HasCause};
 ghost use Rattle.dots_host.specs.Writing.{AppendsBeginning};
 ghost use Rattle.dots_machine.specs.declared.ending.Ending as endings;
-ghost use Rattle.dots_machine.specs.Endings.{is_command, status_of, Behaves, fault_line, GivesFault, GivesSettings};
+ghost use Rattle.dots_machine.specs.Commands.{is_replay, is_show, is_command, second_of};
+ghost use Rattle.dots_machine.specs.Endings.{status_of, Behaves, fault_line, GivesFault, GivesSettings, IsReadable};
 ghost use Rattle.dots_machine.specs.Report.{scrub_lines};
 ghost use Rattle.dots_run.specs.Serving.{ServesTo};
+ghost use Rattle.dots_run.specs.ShowingWords.{ShowsTo};
 ghost use Rattle.dots_run.specs.declared.writing.TheConstants.{BLOCK};
 
 use crate::events::{Stop, take_events};
 use crate::report::write_report;
 use crate::server::Server;
 use crate::settings_source::{SettingsError, read_settings};
-use crate::words::is_command;
+use crate::words::{is_replay, word_to_show};
 use crate::writing::BLOCK;
 use dots_host::{Failed, Host, MAX_EVENT_BYTES, Sink, Source, write_all};
 use dots_machine::{Ending, Settings, SettingsFault};
+use message_text::{Shown, show};
 use std::alloc::Global;
 
 /// Does all that the program does, and answers its exit status.
 ///
-/// `words` are the command line's words without the program's name: `replay SETTINGS`. The settings are read
+/// `words` are the command line's words without the program's name. With `replay SETTINGS` the settings are read
 /// from the source, the events are taken from the host, and at End the filters that stand are written to the
-/// report.
+/// report. With `show HEX` the lines of a message are written to the report, or that of its fault, and neither source
+/// nor host is called.
 pub fn run<H: Host, S: Source, K: Sink>(
     alloc: Global,
     words: &[String],
@@ -34,7 +38,7 @@ pub fn run<H: Host, S: Source, K: Sink>(
 ) -> u8
     // What the run has done, by the ending that its status is of.
     ensures machine { (ending : endings.Ending) × (result ≡ status_of ending)
-        × Behaves ending (S.left settings.old) (H.acts host.old) (H.acts host.new) (K.holds report.old) (K.holds report.new)
+        × Behaves ending (map string_bytes words.now) (S.left settings.old) (H.acts host.old) (H.acts host.new) (K.holds report.old) (K.holds report.new)
         (Rose (K.faults report.old) (K.faults report.new)) }
     // When the words are no command; which faults there must have been.
     ensures words { (result ≡ 2) ↔ (is_command (map string_bytes words.now) ≡ false) }
@@ -42,11 +46,16 @@ pub fn run<H: Host, S: Source, K: Sink>(
         ⊎ Rose (H.faults host.old) (H.faults host.new) }
     ensures written { result ≡ 9 → Rose (K.faults report.old) (K.faults report.new) }
     // When the settings are refused, and when a run must go well, want of memory aside.
-    ensures refused { is_command (map string_bytes words.now) ≡ true → GivesFault (S.left settings.old)
+    ensures refused { is_replay (map string_bytes words.now) ≡ true → GivesFault (S.left settings.old)
         → ¬ (Rose (S.faults settings.old) (S.faults settings.new)) → (result ≡ 3) ⊎ (result ≡ 4) }
-    ensures complete { is_command (map string_bytes words.now) ≡ true → GivesSettings (S.left settings.old)
+    ensures complete { is_replay (map string_bytes words.now) ≡ true → GivesSettings (S.left settings.old)
         → ¬ (Rose (S.faults settings.old) (S.faults settings.new)) → ¬ (Rose (H.faults host.old) (H.faults host.new))
         → ¬ (Rose (K.faults report.old) (K.faults report.new)) → (result ≡ 0) ⊎ (result ≡ 4) ⊎ (result ≡ 11) }
+    // When a message is shown, and when a fault is, want of memory aside.
+    ensures readable { is_show (map string_bytes words.now) ≡ true → IsReadable (second_of (map string_bytes words.now))
+        → ¬ (Rose (K.faults report.old) (K.faults report.new)) → (result ≡ 0) ⊎ (result ≡ 4) }
+    ensures unreadable { is_show (map string_bytes words.now) ≡ true → ¬ (IsReadable (second_of (map string_bytes words.now)))
+        → (result ≡ 1) ⊎ (result ≡ 4) }
 {
     ending_of(alloc, words, settings, host, report).status()
 }
@@ -63,10 +72,14 @@ fn ending_of<H: Host, S: Source, K: Sink>(
     ensures unread { result ≡ Ending.SettingsFailed → Rose (S.faults settings.old) (S.faults settings.new) }
     ensures failed { result ≡ Ending.NextFailed → Rose (H.faults host.old) (H.faults host.new) }
     ensures written { result ≡ Ending.ReportFailed → Rose (K.faults report.old) (K.faults report.new) }
-    ensures machine { Behaves result (S.left settings.old) (H.acts host.old) (H.acts host.new) (K.holds report.old) (K.holds report.new)
+    ensures shown { result ≡ Ending.NotShown → Rose (K.faults report.old) (K.faults report.new) }
+    ensures machine { Behaves result (map string_bytes words.now) (S.left settings.old) (H.acts host.old) (H.acts host.new) (K.holds report.old) (K.holds report.new)
         (Rose (K.faults report.old) (K.faults report.new)) }
 {
-    if !is_command(words) {
+    if let Some(word) = word_to_show(words) {
+        return show_word(alloc, word, report);
+    }
+    if !is_replay(words) {
         let _ = write_all(report, b"words\n");
         return Ending::WrongWords;
     }
@@ -78,6 +91,25 @@ fn ending_of<H: Host, S: Source, K: Sink>(
         }
         Err(SettingsError::Failed) => return Ending::SettingsFailed,
         Err(SettingsError::NoMemory) => return Ending::NoMemory,
+    }
+}
+
+/// Shows the message that a word writes, or its fault.
+fn show_word<K: Sink>(alloc: Global, word: &[u8], report: &mut K) -> Ending
+    ensures shown { result ≡ Ending.NotShown → Rose (K.faults report.old) (K.faults report.new) }
+    ensures machine { ShowsTo result word.now (K.holds report.old) (K.holds report.new)
+        (Rose (K.faults report.old) (K.faults report.new)) }
+{
+    match show(alloc, word) {
+        Ok(Shown::Message(text)) => match write_all(report, text.items()) {
+            Ok(()) => return Ending::Shown,
+            Err(_) => return Ending::NotShown,
+        },
+        Ok(Shown::Fault(text)) => {
+            let _ = write_all(report, text.items());
+            return Ending::Unreadable;
+        }
+        Err(_) => return Ending::NoMemory,
     }
 }
 

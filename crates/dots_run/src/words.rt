@@ -1,19 +1,45 @@
-ghost use Rattle.std.specs.Prelude.{◌≡◌, map, string_bytes};
-ghost use Rattle.dots_machine.specs.Endings.{is_command, is_file_word};
+//! The words of the command line, without the program's name.
 
-/// Whether the words of the command line, without the program's name, are `replay SETTINGS`.
-pub fn is_command(words: &[String]) -> bool
-    ensures { result ≡ is_command (map string_bytes words.now) }
+ghost use Rattle.std.specs.Prelude.{◌≡◌, map, string_bytes, true, false, MatchOption};
+ghost use Rattle.dots_machine.specs.Commands.{is_replay, is_show, is_word, second_of};
+
+/// Whether they are `replay SETTINGS`.
+pub fn is_replay(words: &[String]) -> bool
+    ensures { result ≡ is_replay (map string_bytes words.now) }
 {
     match words {
-        [command, file] => command.as_str() == "replay" && is_file_word(file.as_bytes()),
+        [name, file] => name.as_str() == "replay" && is_word(file.as_bytes()),
         _ => false,
     }
 }
 
-/// Whether a word can stand for a file: it isn't empty and doesn't begin with `-`.
-fn is_file_word(word: &[u8]) -> bool
-    ensures { result ≡ is_file_word word.now }
+/// Whether they are `show HEX`.
+fn is_show(words: &[String]) -> bool
+    ensures { result ≡ is_show (map string_bytes words.now) }
+{
+    match words {
+        [name, hex] => name.as_str() == "show" && is_word(hex.as_bytes()),
+        _ => false,
+    }
+}
+
+/// The second word, where they are `show HEX`.
+pub fn word_to_show(words: &[String]) -> Option<&[u8]>
+    ensures { MatchOption result (is_show (map string_bytes words.now) ≡ false)
+        (λ word. (is_show (map string_bytes words.now) ≡ true) × (word.now ≡ second_of (map string_bytes words.now))) }
+{
+    if !is_show(words) {
+        return None;
+    }
+    match words {
+        [_, word] => Some(word.as_bytes()),
+        _ => None,
+    }
+}
+
+/// Whether a word isn't empty and doesn't begin with `-`.
+fn is_word(word: &[u8]) -> bool
+    ensures { result ≡ is_word word.now }
 {
     match word {
         [] => false,

@@ -1,6 +1,6 @@
 -- Script lines: what comes to a server, one event a line, each line ended by a line feed.
-use Rattle.std.specs.Prelude.{◌≡◌, ℕ, ◌^◌, ◌<◌, ◌≤◌, List, [], ◌∷◌, ◌++◌, length, codes, decimal, Ok}
-use Rattle.hex.specs.Hex.{decode_of}
+use Rattle.std.specs.Prelude.{◌≡◌, ℕ, ◌^◌, ◌<◌, List, [], ◌∷◌, ◌++◌, codes, decimal}
+use Rattle.hex_text.specs.HexText.{IsHex}
 use Rattle.dots_host.specs.declared.event.Event.{Event}
 use Rattle.dots_host.specs.declared.event.Event.TheVariants as event
 
@@ -8,12 +8,6 @@ use Rattle.dots_host.specs.declared.event.Event.TheVariants as event
 abbrev pub IsSkipped : List ℕ → Type 0
 IsSkipped [] = Unit {0}
 IsSkipped (byte ∷ line) = byte ≡ 35
-
--- the bytes, 1 to 4,096, that pairs of hexadecimal digits of either case write
-pub record IsHex (digits bytes : List ℕ) : Type 0 where
-  pub bytes_are : decode_of digits ≡ Ok bytes
-  pub some : 0 < length bytes
-  pub few : length bytes ≤ 4096
 
 -- `from PEER HEX`: a datagram of these bytes comes from the peer
 pub record IsDatagram (words : List ℕ) (peer : ℕ) (bytes : List ℕ) : Type 0 where

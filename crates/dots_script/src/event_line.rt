@@ -2,12 +2,12 @@ ghost use Rattle.std.specs.Prelude.{◌≡◌, ◌≢◌, ℕ, List, ◌∷◌, 
 ghost use Rattle.dots_host.specs.Acts.{IsWithin, OnFailed, event_of};
 ghost use Rattle.dots_host.specs.declared.event.Event.{Event};
 ghost use Rattle.dots_host.specs.declared.TheConstants.{MAX_EVENT_BYTES};
-ghost use Rattle.dots_script.specs.Script.{SaysEvent, IsEventLine, IsHex};
+ghost use Rattle.dots_script.specs.Script.{SaysEvent, IsEventLine};
 ghost use Rattle.dots_script.specs.Words.{HasNoSpace, IsAfterNumber};
 
 use decimal_text::parse_decimal;
 use dots_host::{Got, MAX_EVENT_BYTES, What};
-use hex::decode_to_slice;
+use hex_text::read_hex;
 
 /// The event of a script line and the time beside it, the event's bytes at the front of the room. Where there is
 /// none, what then stands in the room isn't said.
@@ -93,24 +93,4 @@ fn split_at_space(bytes: &[u8]) -> Option<(&[u8], &[u8])>
         }
     }
     None
-}
-
-/// Puts the bytes that the digits write to the front of the room, and answers how many they are.
-fn read_hex(digits: &[u8], into: &mut [u8]) -> Option<usize>
-    requires { length into.old ≡ MAX_EVENT_BYTES }
-    ensures some { IfSome result (λ len. IsHex digits.now (take len into.new)) }
-    ensures none { IfNone result ((bytes : List ℕ) → ¬ (IsHex digits.now bytes)) }
-    ensures few { IfSome result (λ len. len ≤ MAX_EVENT_BYTES) }
-{
-    let len = digits.len() / 2;
-    if len == 0 {
-        return None;
-    }
-    if len > MAX_EVENT_BYTES {
-        return None;
-    }
-    match decode_to_slice(digits, &mut into[..len]) {
-        Ok(()) => return Some(len),
-        Err(_) => return None,
-    }
 }

@@ -15,4 +15,6 @@ mod rows;
 #[cfg(test)]
 mod script_rows;
 #[cfg(test)]
+mod show_rows;
+#[cfg(test)]
 mod status_rows;

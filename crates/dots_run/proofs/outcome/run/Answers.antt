@@ -1,18 +1,23 @@
-use Rattle.std.proofs.Common.{sym, ◌∙◌, ◌≡◌, true, false}
-use Rattle.dots_run.proofs.Completeness.{ends_refused, ends_well}
+use Rattle.dots_run.proofs.Completeness.{ends_refused, ends_well, ends_shown, ends_unreadable}
 use Rattle.dots_run.proofs.outcome.run.Goals as goal
 
-true_is_false : true ≡ false → ⊥
-true_is_false e = cc
-
 pub returns-clause-refused : goal.returns-clause-refused
-returns-clause-refused g c = λ command given unread.
-    let ends = ends_refused _ _ _ _ _ _ c.ending_of.result (λ wrong. true_is_false (sym command ∙ c.ending_of.ensures.words.0 wrong)) (λ e. unread (c.ending_of.ensures.unread e)) given
-    c.ending_of.ensures.machine in
+returns-clause-refused g c = λ replay given unread.
+    let ends = ends_refused _ _ _ _ _ _ _ c.ending_of.result replay (λ e. unread (c.ending_of.ensures.unread e)) given c.ending_of.ensures.machine in
     rw c.status.ensures ends
 
 pub returns-clause-complete : goal.returns-clause-complete
-returns-clause-complete g c = λ command given unread failed written.
-    let ends = ends_well _ _ _ _ _ _ c.ending_of.result (λ wrong. true_is_false (sym command ∙ c.ending_of.ensures.words.0 wrong)) (λ e. unread (c.ending_of.ensures.unread e))
-    (λ e. failed (c.ending_of.ensures.failed e)) (λ e. written (c.ending_of.ensures.written e)) given c.ending_of.ensures.machine in
+returns-clause-complete g c = λ replay given unread failed written.
+    let ends = ends_well _ _ _ _ _ _ _ c.ending_of.result replay (λ e. unread (c.ending_of.ensures.unread e)) (λ e. failed (c.ending_of.ensures.failed e))
+    (λ e. written (c.ending_of.ensures.written e)) given c.ending_of.ensures.machine in
+    rw c.status.ensures ends
+
+pub returns-clause-readable : goal.returns-clause-readable
+returns-clause-readable g c = λ show readable written.
+    let ends = ends_shown _ _ _ _ _ _ _ c.ending_of.result show readable (λ e. written (c.ending_of.ensures.shown e)) c.ending_of.ensures.machine in
+    rw c.status.ensures ends
+
+pub returns-clause-unreadable : goal.returns-clause-unreadable
+returns-clause-unreadable g c = λ show none.
+    let ends = ends_unreadable _ _ _ _ _ _ _ c.ending_of.result show none c.ending_of.ensures.machine in
     rw c.status.ensures ends

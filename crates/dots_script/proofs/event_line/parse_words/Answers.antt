@@ -1,5 +1,5 @@
 use Rattle.std.proofs.Common.{arith, sym, subst, List, ℕ}
-use Rattle.dots_script.specs.Script.{IsHex}
+use Rattle.hex_text.specs.HexText.{IsHex}
 use Rattle.dots_script.proofs.EventLines.{no_words, from_of, from_is}
 use Rattle.dots_script.proofs.event_line.parse_words.Goals as goal
 

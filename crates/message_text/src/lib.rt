@@ -1,0 +1,14 @@
+//! The text of a CoAP message: what a command prints of bytes, for people who look at a capture.
+//!
+//! [`show`] takes the bytes in hexadecimal and answers the lines that say the message that they spell, or the one
+//! that names their first fault. The definitions are in `specs/`: `MessageText` (the lines) and `Showing`. The words are
+//! those of RFC 7252.
+#![tactic(auto)]
+
+mod message_lines;
+mod pieces;
+mod showing;
+#[cfg(test)]
+mod tests;
+
+pub use showing::{Shown, show};
