@@ -1,5 +1,5 @@
 -- A datagram asks one thing at most.
-use Rattle.std.proofs.Common.{◌≡◌, ℕ, ◌≤◌, ◌<◌, true, List, [], ◌∷◌, ◌++◌, length, refl, sym, ap, ◌∙◌, subst, arith}
+use Rattle.std.proofs.Common.{◌≡◌, ℕ, ◌≤◌, true, List, [], ◌∷◌, ◌++◌, length, Some, None, refl, sym, ap, ◌∙◌, subst, arith}
 use Rattle.std.proofs.lemmas.Bool.Decides.{nat_tests}
 use Rattle.std.specs.Str.Parse.{digits_value}
 use Rattle.dots_lists.specs.Name.{is_name}
@@ -7,9 +7,12 @@ use Rattle.ip_scope.specs.Prefix.{PrefixValue, prefix_of}
 use Rattle.ip_scope.specs.PrefixText.{Reads}
 use Rattle.ip_scope.proofs.PrefixTexts.{IsPrefixText_unique}
 use Rattle.cbor_profile.proofs.Spellings.{one_spelling}
-use Rattle.coap_message.specs.Message.{IsMessage}
+use Rattle.coap_message.specs.declared.kind.Kind.{Kind}
+use Rattle.coap_message.specs.Message.{CoapMessage, IsMessage, spelling}
 use Rattle.coap_message.proofs.Whole.{one_message}
-use Rattle.dots_machine.specs.Requests.{Head, Request, IsHead, IsBody, HasHead, Asks, Heard, short, other, asked, Hears, ReadEach, text_items, request_message, mitigation, request_scope}
+use Rattle.coap_message.proofs.Faults.{breaks_no_message}
+use Rattle.dots_machine.specs.Exchanges.{Exchange, exchange_in, settled}
+use Rattle.dots_machine.specs.Requests.{Head, Request, exchange_of, IsHead, IsBody, HasHead, Asks, Heard, at_once, unserved, asked, Requests, Hears, broken, settled_at_once, requested, ReadEach, text_items, request_message, mitigation, request_scope}
 
 name_length : (name : List ℕ) → is_name name ≡ true → length name ≤ 64
 name_length name h = grind (arith, nat_tests)
@@ -80,26 +83,27 @@ one_body payload ps qs m n a b =
     let texts = same_texts a.texts b.texts items in
     (same_prefixes b.texts ps qs (subst (λ ts. ReadEach ts ps) texts a.read) b.read, cc trees)
 
-abbrev head_from : ℕ → List ℕ → List ℕ → List ℕ → Head
-head_from identifier token cuid digits = record { identifier = identifier; token = token; cuid = cuid; digits = digits }
+abbrev head_from : Kind → ℕ → List ℕ → List ℕ → List ℕ → Head
+head_from kind identifier token cuid digits = record { kind = kind; identifier = identifier; token = token; cuid = cuid; digits = digits }
 
 pub one_head : (datagram : List ℕ) (a b : Head) (p q : List ℕ) → HasHead datagram a p → HasHead datagram b q → (a ≡ b) × (p ≡ q)
 one_head datagram a b p q h j =
     let same = one_message (request_message a p) (request_message b q) (request_is_message a p h.is_head) (request_is_message b q j.is_head) (sym h.spelled ∙ j.spelled) in
+    let kind : a.kind ≡ b.kind = ap (λ m. m.kind) same in
     let identifier : a.identifier ≡ b.identifier = ap (λ m. m.identifier) same in
     let token : a.token ≡ b.token = ap (λ m. m.token) same in
     let options = ap (λ m. m.options) same in
     let cuid : a.cuid ≡ b.cuid = cc options in
     let digits : a.digits ≡ b.digits = cc options in (
-      ap (λ i. head_from i a.token a.cuid a.digits) identifier ∙ ap (λ t. head_from b.identifier t a.cuid a.digits) token
-          ∙ ap (λ c. head_from b.identifier b.token c a.digits) cuid ∙ ap (λ d. head_from b.identifier b.token b.cuid d) digits,
+      ap (λ k. head_from k a.identifier a.token a.cuid a.digits) kind ∙ ap (λ i. head_from b.kind i a.token a.cuid a.digits) identifier
+          ∙ ap (λ t. head_from b.kind b.identifier t a.cuid a.digits) token ∙ ap (λ c. head_from b.kind b.identifier b.token c a.digits) cuid
+          ∙ ap (λ d. head_from b.kind b.identifier b.token b.cuid d) digits,
       ap (λ m. m.payload) same,
     )
 
 abbrev request_from : Head → List PrefixValue → ℕ → Request
 request_from head prefixes lifetime = record {
-  identifier = head.identifier;
-  token = head.token;
+  exchange = exchange_of head;
   cuid = head.cuid;
   mid = digits_value 10 head.digits;
   prefixes = prefixes;
@@ -108,11 +112,10 @@ request_from head prefixes lifetime = record {
 
 from_head : (datagram : List ℕ) (r : Request) (a : Asks datagram r) → r ≡ request_from a.head r.prefixes r.lifetime
 from_head datagram r a =
-    ap (λ i. made i r.token r.cuid r.mid) a.identifier ∙ ap (λ t. made a.head.identifier t r.cuid r.mid) a.token
-    ∙ ap (λ c. made a.head.identifier a.head.token c r.mid) a.cuid ∙ ap (λ m. made a.head.identifier a.head.token a.head.cuid m) a.mid
+    ap (λ x. made x r.cuid r.mid) a.exchange ∙ ap (λ c. made (exchange_of a.head) c r.mid) a.cuid ∙ ap (λ m. made (exchange_of a.head) a.head.cuid m) a.mid
   where
-    made : ℕ → List ℕ → List ℕ → ℕ → Request
-    made identifier token cuid mid = record { identifier = identifier; token = token; cuid = cuid; mid = mid; prefixes = r.prefixes; lifetime = r.lifetime }
+    made : Exchange → List ℕ → ℕ → Request
+    made exchange cuid mid = record { exchange = exchange; cuid = cuid; mid = mid; prefixes = r.prefixes; lifetime = r.lifetime }
 
 pub one_request : (datagram : List ℕ) (r q : Request) → Asks datagram r → Asks datagram q → r ≡ q
 one_request datagram r q a b =
@@ -121,16 +124,34 @@ one_request datagram r q a b =
     from_head datagram r a ∙ ap (λ h. request_from h r.prefixes r.lifetime) heads.0 ∙ ap (λ ps. request_from b.head ps r.lifetime) bodies.0
     ∙ ap (λ n. request_from b.head q.prefixes n) bodies.1 ∙ sym (from_head datagram q b)
 
-pub asks_four : (datagram : List ℕ) (r : Request) → Asks datagram r → 4 ≤ length datagram
-asks_four datagram r a = rw (a.has_head.spelled) (omega arith)
+same_message : (datagram : List ℕ) (m n : CoapMessage) → IsMessage m → IsMessage n → datagram ≡ spelling m → datagram ≡ spelling n → m ≡ n
+same_message datagram m n a b s t = one_message m n a b (sym s ∙ t)
+
+some_same : {X : Type 0} (x y : X) → Some x ≡ Some y → x ≡ y
+some_same x y e = cc
+
+some_or_none : {X : Type 0} (x : X) → Some x ≡ None → ⊥
+some_or_none x e = cc
+
+one_asked : (datagram : List ℕ) (exchange : Exchange) (h g : Heard) → Requests datagram exchange h → Requests datagram exchange g → h ≡ g
+one_asked datagram exchange (at_once x) g a b = absurd a
+one_asked datagram exchange (unserved x) (at_once y) a b = absurd b
+one_asked datagram exchange (asked r) (at_once y) a b = absurd b
+one_asked datagram exchange (unserved x) (unserved y) a b = ap unserved (a.0 ∙ sym b.0)
+one_asked datagram exchange (unserved x) (asked r) a b = absurd (a.1 r b)
+one_asked datagram exchange (asked r) (unserved x) a b = absurd (b.1 r a)
+one_asked datagram exchange (asked r) (asked q) a b = ap asked (one_request datagram r q a b)
 
 pub one_heard : (datagram : List ℕ) (h g : Heard) → Hears datagram h → Hears datagram g → h ≡ g
-one_heard datagram short short a b = refl
-one_heard datagram short (other i) a b = let few : length datagram < 4 = a in let enough : 4 ≤ length datagram = b.0 in absurd (omega arith)
-one_heard datagram short (asked r) a b = let few : length datagram < 4 = a in let enough : 4 ≤ length datagram = asks_four datagram r b in absurd (omega arith)
-one_heard datagram (other i) short a b = let few : length datagram < 4 = b in let enough : 4 ≤ length datagram = a.0 in absurd (omega arith)
-one_heard datagram (other i) (other j) a b = ap other (a.1 ∙ sym b.1)
-one_heard datagram (other i) (asked r) a b = absurd (a.2 r b)
-one_heard datagram (asked r) short a b = let few : length datagram < 4 = b in let enough : 4 ≤ length datagram = asks_four datagram r a in absurd (omega arith)
-one_heard datagram (asked r) (other j) a b = absurd (b.2 r a)
-one_heard datagram (asked r) (asked q) a b = ap asked (one_request datagram r q a b)
+one_heard datagram h g (broken f d e) (broken f2 d2 e2) = e ∙ sym e2
+one_heard datagram h g (broken f d e) (settled_at_once m x is s t e2) = absurd (breaks_no_message datagram f m d is s)
+one_heard datagram h g (broken f d e) (requested m is s t r) = absurd (breaks_no_message datagram f m d is s)
+one_heard datagram h g (settled_at_once m x is s t e) (broken f d e2) = absurd (breaks_no_message datagram f m d is s)
+one_heard datagram h g (requested m is s t r) (broken f d e2) = absurd (breaks_no_message datagram f m d is s)
+one_heard datagram h g (settled_at_once m x is s t e) (settled_at_once n y is2 s2 t2 e2) =
+    let answers = some_same x y (sym t ∙ ap settled (same_message datagram m n is is2 s s2) ∙ t2) in
+    e ∙ ap at_once answers ∙ sym e2
+one_heard datagram h g (settled_at_once m x is s t e) (requested n is2 s2 t2 r) = absurd (some_or_none x (sym t ∙ ap settled (same_message datagram m n is is2 s s2) ∙ t2))
+one_heard datagram h g (requested n is2 s2 t2 r) (settled_at_once m x is s t e) = absurd (some_or_none x (sym t ∙ ap settled (same_message datagram m n is is2 s s2) ∙ t2))
+one_heard datagram h g (requested m is s t r) (requested n is2 s2 t2 q) =
+    one_asked datagram (exchange_in n) h g (subst (λ m. Requests datagram (exchange_in m) h) (same_message datagram m n is is2 s s2) r) q

@@ -9,7 +9,8 @@ use Rattle.dots_host.specs.Runs.{resting, Trace, in_one_turn}
 use Rattle.dots_host.proofs.RunLemmas.{one_run, one_turn_determined}
 use Rattle.dots_machine.specs.declared.settings.Settings.{Settings}
 use Rattle.ip_scope.specs.Prefix.{PrefixValue}
-use Rattle.dots_machine.specs.Requests.{Request, Heard, short, other, asked}
+use Rattle.dots_machine.specs.Exchanges.{Exchange, unheard, reset, bad_option}
+use Rattle.dots_machine.specs.Requests.{Request, exchange_of, Heard, at_once, unserved, asked}
 use Rattle.dots_machine.specs.Replies.{unavailable}
 use Rattle.dots_machine.specs.Targets.{first_fault}
 use Rattle.dots_machine.specs.Machine.{State, moved, Verdict, silent, refuse, accept, domain_of, conflicts, judged, verdict, Answers, Answered, by_silence, by_verdict, for_want_of_memory, Step}
@@ -36,18 +37,20 @@ judged_created state peer r None true = tt
 judged_created state peer r None false = refl
 
 verdict_created : (settings : Settings) (state : State) (peer : ℕ) (heard : Heard) → IsCreated (verdict settings state peer heard)
-verdict_created settings state peer short = tt
-verdict_created settings state peer (other i) = tt
+verdict_created settings state peer (at_once unheard) = tt
+verdict_created settings state peer (at_once (reset i)) = tt
+verdict_created settings state peer (at_once (bad_option x n)) = tt
+verdict_created settings state peer (unserved x) = tt
 verdict_created settings state peer (asked r) = judged_created state peer r (first_fault (domain_of settings) r.prefixes) (conflicts state r)
 
 -- 5.00 changes nothing, and is no reply to an accepted request
-kept_or_created : (v : Verdict) (peer identifier : ℕ) (token : List ℕ) (state : State) (sends : List OwnedOut) (new last : State)
-    → IsCreated v → Answers v peer state sends new → sends ≡ owned.To peer (unavailable identifier token) ∷ [] → last ≡ state → new ≡ last
-kept_or_created silent peer identifier token state sends new last c a sent kept = a.1 ∙ sym kept
-kept_or_created (refuse reply) peer identifier token state sends new last c a sent kept = a.1 ∙ sym kept
-kept_or_created (accept reply entry) peer identifier token state sends new last c a sent kept =
-    let same : reply ≡ unavailable identifier token = cc (sym a.0 ∙ sent) in
-    let code : 0x41 ≡ code_of (unavailable identifier token) = sym c ∙ ap code_of same in
+kept_or_created : (v : Verdict) (peer : ℕ) (exchange : Exchange) (state : State) (sends : List OwnedOut) (new last : State)
+    → IsCreated v → Answers v peer state sends new → sends ≡ owned.To peer (unavailable exchange) ∷ [] → last ≡ state → new ≡ last
+kept_or_created silent peer exchange state sends new last c a sent kept = a.1 ∙ sym kept
+kept_or_created (refuse reply) peer exchange state sends new last c a sent kept = a.1 ∙ sym kept
+kept_or_created (accept reply entry) peer exchange state sends new last c a sent kept =
+    let same : reply ≡ unavailable exchange = cc (sym a.0 ∙ sent) in
+    let code : 0x41 ≡ code_of (unavailable exchange) = sym c ∙ ap code_of same in
     absurd (omega arith)
 
 answered_once : (settings : Settings) (peer : ℕ) (datagram : List ℕ) (state : State) (sends : List OwnedOut) (new last : State)
@@ -60,10 +63,10 @@ answered_once settings peer datagram state sends new last (by_verdict m h r a) (
     let same = one_heard datagram h g r q in
     same_answer (verdict settings state peer g) peer state sends sends new last (subst (λ heard. Answers (verdict settings state peer heard) peer state sends new) same a) b
 answered_once settings peer datagram state sends new last (by_verdict m h r a) (for_want_of_memory n g p q t j) =
-    kept_or_created (verdict settings state peer h) peer g.identifier g.token state sends new last (verdict_created settings state peer h) a t j
+    kept_or_created (verdict settings state peer h) peer (exchange_of g) state sends new last (verdict_created settings state peer h) a t j
 answered_once settings peer datagram state sends new last (for_want_of_memory m h p r t j) (by_silence n s k) = absurd (n m)
 answered_once settings peer datagram state sends new last (for_want_of_memory m h p r t j) (by_verdict n g q a) =
-    sym (kept_or_created (verdict settings state peer g) peer h.identifier h.token state sends last new (verdict_created settings state peer g) a t j)
+    sym (kept_or_created (verdict settings state peer g) peer (exchange_of h) state sends last new (verdict_created settings state peer g) a t j)
 answered_once settings peer datagram state sends new last (for_want_of_memory m h p r t j) (for_want_of_memory n g o q u k) = j ∙ sym k
 
 step_once : (settings : Settings) (old : State) (event : Event) (at : ℕ) (sends : List OwnedOut) (new last : State) → Step settings old event at sends new → Step settings old event at sends last → new ≡ last

@@ -1,5 +1,6 @@
 pub mod Targets
 pub mod SettingsFile
+pub mod Exchanges
 pub mod Requests
 pub mod Replies
 pub mod History

@@ -9,8 +9,9 @@ use Rattle.dots_host.specs.declared.out.OwnedOut.TheVariants as owned
 use Rattle.dots_machine.specs.declared.settings.Settings.{Settings}
 use Rattle.dots_machine.specs.declared.entry.Entry.{Entry}
 use Rattle.dots_machine.specs.Targets.{first_fault, fault_of}
-use Rattle.dots_machine.specs.Requests.{Head, Request, Heard, short, other, asked, Hears, HasHead}
-use Rattle.dots_machine.specs.Replies.{created, not_implemented, unavailable, bad_request, conflicting}
+use Rattle.dots_machine.specs.Exchanges.{unheard, reset, bad_option}
+use Rattle.dots_machine.specs.Requests.{Head, Request, exchange_of, Heard, at_once, unserved, asked, Hears, HasHead}
+use Rattle.dots_machine.specs.Replies.{created, not_implemented, unavailable, reset_message, refused_for_option, bad_request, conflicting}
 use Rattle.dots_machine.specs.History.{standing}
 
 -- the history, and the time of the last event
@@ -36,7 +37,7 @@ abbrev pub granted : Request → ℕ
 granted request = min request.lifetime ceiling
 
 abbrev pub reply_to : Request → List ℕ
-reply_to request = created request.identifier request.token request.mid (granted request)
+reply_to request = created request.exchange request.mid (granted request)
 
 -- what is kept of an accepted request
 abbrev pub entry_of : ℕ → ℕ → Request → Entry
@@ -44,7 +45,7 @@ entry_of peer time request = record {
   time = time;
   peer = peer;
   cuid = request.cuid;
-  identifier = request.identifier;
+  identifier = request.exchange.identifier;
   reply = reply_to request;
   put = record { mid = request.mid; prefixes = request.prefixes; granted = granted request };
 }
@@ -72,14 +73,16 @@ pub data Verdict : Type 0 where
 -- On a request, by the first of its prefixes that may not be asked for, where there is one, and by whether it conflicts: it is
 -- refused for that prefix, else for the conflict, else it is accepted.
 abbrev pub judged : State → ℕ → Request → Option PrefixValue → Bool → Verdict
-judged state peer request (Some prefix) conflict = refuse (bad_request request.identifier request.token (fault_of prefix))
-judged state peer request None true = refuse (conflicting request.identifier request.token)
+judged state peer request (Some prefix) conflict = refuse (bad_request request.exchange (fault_of prefix))
+judged state peer request None true = refuse (conflicting request.exchange)
 judged state peer request None false = accept (reply_to request) (entry_of peer state.time request)
 
 -- on what a client sent
 abbrev pub verdict : Settings → State → ℕ → Heard → Verdict
-verdict settings state peer short = silent
-verdict settings state peer (other identifier) = refuse (not_implemented identifier)
+verdict settings state peer (at_once unheard) = silent
+verdict settings state peer (at_once (reset identifier)) = refuse (reset_message identifier)
+verdict settings state peer (at_once (bad_option exchange number)) = refuse (refused_for_option exchange number)
+verdict settings state peer (unserved exchange) = refuse (not_implemented exchange)
 verdict settings state peer (asked request) =
     judged state peer request (first_fault (domain_of settings) request.prefixes) (conflicts state request)
 
@@ -96,7 +99,7 @@ pub data Answered (settings : Settings) (peer : ℕ) (datagram : List ℕ) (stat
   by_verdict : peer ≡ settings.peer → (heard : Heard) → Hears datagram heard → Answers (verdict settings state peer heard) peer state sends new
       → Answered settings peer datagram state sends new
   for_want_of_memory : peer ≡ settings.peer → (head : Head) (payload : List ℕ) → HasHead datagram head payload
-      → sends ≡ owned.To peer (unavailable head.identifier head.token) ∷ [] → new ≡ state → Answered settings peer datagram state sends new
+      → sends ≡ owned.To peer (unavailable (exchange_of head)) ∷ [] → new ≡ state → Answered settings peer datagram state sends new
 
 -- One event: its sends, and the state after it. End and a failure of the host move no time; what isn't served yet moves the time and no more.
 abbrev pub Step : Settings → State → Event → ℕ → List OwnedOut → State → Type 0

@@ -1,5 +1,5 @@
--- What a datagram asks: a mitigation for IPv4 prefixes, in a NON PUT of one form (RFC 9132, sections 4.4.1 and 6; RFC 7252, section 5.10).
-use Rattle.std.specs.Prelude.{◌≡◌, ℕ, ◌+◌, ◌*◌, ◌^◌, ◌<◌, ◌≤◌, true, false, ◌==◌, List, [], ◌∷◌, ◌++◌, length, codes, slice_index}
+-- What a datagram asks: a mitigation for IPv4 prefixes, in a PUT of one form (RFC 9132, sections 4.4.1 and 6; RFC 7252, section 5.10).
+use Rattle.std.specs.Prelude.{◌≡◌, ℕ, ◌^◌, ◌<◌, ◌≤◌, true, false, ◌==◌, List, [], ◌∷◌, ◌++◌, length, codes, Some, None}
 use Rattle.std.specs.List.{list_any}
 use Rattle.std.specs.Str.Parse.{AllDigits, digits_value}
 use Rattle.dots_lists.specs.Name.{is_name}
@@ -9,11 +9,16 @@ use Rattle.ip_scope.specs.PrefixText.{Reads}
 use Rattle.cbor_profile.specs.Tree.{Tree, unsigned, text, array, mapping, Trees, no_items, item, no_pairs, pair}
 use Rattle.cbor_profile.specs.Canon.{canon}
 use Rattle.cbor_profile.specs.Valid.{IsValid}
-use Rattle.coap_message.specs.declared.kind.Kind.TheVariants.{Non}
-use Rattle.coap_message.specs.Message.{CoapOption, CoapMessage, spelling}
+use Rattle.coap_message.specs.declared.kind.Kind.{Kind}
+use Rattle.coap_message.specs.declared.fault.CoapFault.{CoapFault}
+use Rattle.coap_message.specs.Message.{CoapOption, CoapMessage, IsMessage, spelling}
+use Rattle.coap_message.specs.Breaks.{Breaks}
+use Rattle.coap_message.specs.Salvage.{salvaged}
+use Rattle.dots_machine.specs.Exchanges.{Exchange, exchange_in, Settled, may_ask, settled, rejected_unread}
 
 -- what a readable request says before its body
 pub record Head : Type 0 where
+  pub kind : Kind
   pub identifier : ℕ
   pub token : List ℕ
   pub cuid : List ℕ
@@ -21,15 +26,15 @@ pub record Head : Type 0 where
 
 -- a mitigation request
 pub record Request : Type 0 where
-  pub identifier : ℕ
-  pub token : List ℕ
+  pub exchange : Exchange
   pub cuid : List ℕ
   pub mid : ℕ
   pub prefixes : List PrefixValue
   pub lifetime : ℕ
 
--- A cuid is a name without a slash; a mid is 1 to 10 decimal digits below 2^32.
+-- A request is confirmable or not. A cuid is a name without a slash; a mid is 1 to 10 decimal digits below 2^32.
 pub record IsHead (head : Head) : Type 0 where
+  pub kind : may_ask head.kind ≡ true
   pub identifier : head.identifier < 2 ^ 16
   pub token : length head.token ≤ 8
   pub name : is_name head.cuid ≡ true
@@ -38,6 +43,9 @@ pub record IsHead (head : Head) : Type 0 where
   pub ten_digits : length head.digits ≤ 10
   pub all_digits : AllDigits 10 head.digits
   pub number : digits_value 10 head.digits < 2 ^ 32
+
+abbrev pub exchange_of : Head → Exchange
+exchange_of head = record { kind = head.kind; identifier = head.identifier; token = head.token }
 
 -- options by their numbers: Uri-Path 11 and Content-Format 12, whose value 271 is application/dots+cbor
 abbrev pub path : List ℕ → CoapOption
@@ -52,10 +60,10 @@ request_options cuid digits =
     path (codes ".well-known") ∷ path (codes "dots") ∷ path (codes "mitigate")
     ∷ path (codes "cuid=" ++ cuid) ∷ path (codes "mid=" ++ digits) ∷ dots_cbor ∷ []
 
--- a NON PUT (code 0.03)
+-- a PUT (code 0.03)
 abbrev pub request_message : Head → List ℕ → CoapMessage
 request_message head payload = record {
-  kind = Non;
+  kind = head.kind;
   code = 3;
   identifier = head.identifier;
   token = head.token;
@@ -106,20 +114,25 @@ pub record Asks (datagram : List ℕ) (request : Request) : Type 0 where
   pub payload : List ℕ
   pub has_head : HasHead datagram head payload
   pub body : IsBody payload request.prefixes request.lifetime
-  pub identifier : request.identifier ≡ head.identifier
-  pub token : request.token ≡ head.token
+  pub exchange : request.exchange ≡ exchange_of head
   pub cuid : request.cuid ≡ head.cuid
   pub mid : request.mid ≡ digits_value 10 head.digits
 
--- What a datagram is: less than a header, a request, or anything else, of which the Message ID alone is read.
+-- What a datagram is: something that is settled at once, a request that isn't served, or one that is.
 pub data Heard : Type 0 where
-  short : Heard
-  other : ℕ → Heard
+  at_once : Settled → Heard
+  unserved : Exchange → Heard
   asked : Request → Heard
 
-abbrev pub Hears : List ℕ → Heard → Type 0
-Hears datagram short = length datagram < 4
-Hears datagram (other identifier) =
-    (4 ≤ length datagram) × (identifier ≡ 256 * slice_index datagram 2 + slice_index datagram 3)
-    × ((request : Request) → ¬ (Asks datagram request))
-Hears datagram (asked request) = Asks datagram request
+-- a request that isn't settled at once
+abbrev pub Requests : List ℕ → Exchange → Heard → Type 0
+Requests datagram exchange (at_once answer) = ⊥
+Requests datagram exchange (unserved other) = (other ≡ exchange) × ((request : Request) → ¬ (Asks datagram request))
+Requests datagram exchange (asked request) = Asks datagram request
+
+pub data Hears (datagram : List ℕ) (heard : Heard) : Type 0 where
+  broken : (fault : CoapFault) → Breaks datagram fault → heard ≡ at_once (rejected_unread (salvaged datagram)) → Hears datagram heard
+  settled_at_once : (message : CoapMessage) (answer : Settled) → IsMessage message → datagram ≡ spelling message → settled message ≡ Some answer → heard ≡ at_once answer
+      → Hears datagram heard
+  requested : (message : CoapMessage) → IsMessage message → datagram ≡ spelling message → settled message ≡ None → Requests datagram (exchange_in message) heard
+      → Hears datagram heard

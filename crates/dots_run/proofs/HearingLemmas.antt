@@ -1,5 +1,5 @@
 -- What a datagram asks, by the parts of its message.
-use Rattle.std.proofs.Common.{◌≡◌, ◌≢◌, ℕ, List, refl, sym, ap, ◌∙◌, subst, Ok, Err}
+use Rattle.std.proofs.Common.{◌≡◌, ◌≢◌, ℕ, List, refl, sym, ap, ◌∙◌, subst}
 use Rattle.ip_scope.specs.Prefix.{PrefixValue}
 use Rattle.coap_message.specs.Message.{CoapMessage, IsMessage, spelling}
 use Rattle.coap_message.proofs.Whole.{one_message}
@@ -41,12 +41,7 @@ asks datagram message a spelled h body = record {
   payload = message.payload;
   has_head = has_head datagram message a.head spelled h;
   body = body;
-  identifier = refl;
-  token = refl;
+  exchange = refl;
   cuid = refl;
   mid = h.mid;
 }
-
--- an error is no answer
-pub err_is_no_ok : {A E : Type 0} (e : E) (x : A) → Err e ≡ Ok x → ⊥
-err_is_no_ok e x same = cc

@@ -7,7 +7,7 @@ use Rattle.dots_run.specs.declared.request_head.RequestHead.{RequestHead}
 
 -- the head that the code's stands for
 abbrev pub head_of : RequestHead → Head
-head_of head = record { identifier = head.identifier; token = head.token.now; cuid = head.cuid.now; digits = head.digits.now }
+head_of head = record { kind = head.exchange.kind; identifier = head.exchange.identifier; token = head.exchange.token.now; cuid = head.cuid.now; digits = head.digits.now }
 
 -- the message has this head, and its mid is worth that
 pub record HasRequestHead (message : CoapMessage) (head : RequestHead) : Type 0 where

@@ -1,8 +1,10 @@
 pub mod Asking
+pub mod Exchanging
 pub mod Hearing
 pub mod Keeping
 pub mod Scopes
 pub mod Refusing
+pub mod Sends
 pub mod Serving
 pub mod ShowingWords
 pub mod Stopping

@@ -4,6 +4,7 @@
 mod affixes;
 mod conflicts;
 mod events;
+mod exchange;
 mod outcome;
 mod refusals;
 mod replies;
@@ -15,6 +16,7 @@ mod sending;
 mod server;
 mod settings_file;
 mod settings_source;
+mod settling;
 mod targets;
 mod words;
 mod writing;

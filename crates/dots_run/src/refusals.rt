@@ -1,54 +1,87 @@
-//! The replies that say why a datagram isn't accepted.
+//! The replies that say why a request isn't accepted.
 
-ghost use Rattle.std.specs.Prelude.{◌≡◌, ◌≤◌, [], ◌∷◌, length};
+ghost use Rattle.std.specs.Prelude.{◌≡◌, ◌≤◌, [], ◌∷◌, ◌++◌, length, take, codes, decimal};
 ghost use Rattle.dots_host.specs.Runs.{Added, Gives};
 ghost use Rattle.dots_host.specs.declared.out.OwnedOut.TheVariants as owned;
-ghost use Rattle.dots_machine.specs.Replies.{not_implemented, unavailable, bad_request, conflicting};
+ghost use Rattle.dots_machine.specs.Replies.{not_implemented, unavailable, refused_for_option, bad_request, conflicting};
+ghost use Rattle.dots_run.specs.Exchanging.{exchange_view};
 
-use crate::replies::{BAD_REQUEST, CONFLICT, INTERNAL_SERVER_ERROR, NOT_IMPLEMENTED};
-use crate::request_head::RequestHead;
+use crate::exchange::Exchange;
+use crate::replies::{BAD_OPTION, BAD_REQUEST, CONFLICT, INTERNAL_SERVER_ERROR, NOT_IMPLEMENTED};
 use crate::sending::send_plain;
 use dots_host::Wire;
 use dots_machine::TargetFault;
 
 /// 5.01, for what isn't served.
-pub fn send_not_implemented<W: Wire>(wire: &mut W, peer: u32, identifier: u16)
+pub fn send_not_implemented<W: Wire>(wire: &mut W, peer: u32, exchange: &Exchange<'_>)
+    requires { length exchange.now.token.now ≤ 8 }
     ensures acts { Added (W.acts wire.old) (W.acts wire.new)
-        (Gives (owned.To peer (not_implemented identifier) ∷ [])) }
+        (Gives (owned.To peer (not_implemented (exchange_view exchange.now)) ∷ [])) }
     ensures faults { W.faults wire.new ≡ W.faults wire.old }
 {
-    send_plain(wire, peer, NOT_IMPLEMENTED, identifier, &[], &[]);
+    send_plain(wire, peer, NOT_IMPLEMENTED, exchange, &[]);
 }
 
 /// 5.00, for want of memory.
-pub fn send_unavailable<W: Wire>(wire: &mut W, peer: u32, head: &RequestHead)
-    requires { length head.now.token.now ≤ 8 }
+pub fn send_unavailable<W: Wire>(wire: &mut W, peer: u32, exchange: &Exchange<'_>)
+    requires { length exchange.now.token.now ≤ 8 }
     ensures acts { Added (W.acts wire.old) (W.acts wire.new)
-        (Gives (owned.To peer (unavailable head.now.identifier head.now.token.now) ∷ [])) }
+        (Gives (owned.To peer (unavailable (exchange_view exchange.now)) ∷ [])) }
     ensures faults { W.faults wire.new ≡ W.faults wire.old }
 {
-    let code = INTERNAL_SERVER_ERROR;
-    send_plain(wire, peer, code, head.identifier, head.token, &[]);
+    send_plain(wire, peer, INTERNAL_SERVER_ERROR, exchange, &[]);
+}
+
+/// 4.02, for a critical option that isn't recognised.
+pub fn send_bad_option<W: Wire>(wire: &mut W, peer: u32, exchange: &Exchange<'_>, number: u16)
+    requires { length exchange.now.token.now ≤ 8 }
+    ensures acts { Added (W.acts wire.old) (W.acts wire.new)
+        (Gives (owned.To peer (refused_for_option (exchange_view exchange.now) number) ∷ [])) }
+    ensures faults { W.faults wire.new ≡ W.faults wire.old }
+{
+    let mut text = [0; MAX_OPTION_TEXT];
+    let len = put_option_text(&mut text, number);
+    send_plain(wire, peer, BAD_OPTION, exchange, &text[..len]);
+}
+
+/// The most bytes of `option N`.
+const MAX_OPTION_TEXT: usize = 12;
+
+/// Puts `option N` to the front of the bytes, and answers how many bytes it has.
+fn put_option_text(into: &mut [u8; MAX_OPTION_TEXT], number: u16) -> usize
+    ensures front { take result into.new ≡ codes "option " ++ decimal number }
+    ensures within { result ≤ 12 }
+{
+    let word = b"option ";
+    let mut buffer = itoa::Buffer::new();
+    let digits = buffer.format(number).as_bytes();
+    let (front, rest) = into.split_at_mut(word.len());
+    front.copy_from_slice(word);
+    rest[..digits.len()].copy_from_slice(digits);
+    word.len() + digits.len()
 }
 
 /// 4.00, for a prefix that may not be asked for.
-pub fn send_bad_request<W: Wire>(wire: &mut W, peer: u32, head: &RequestHead, fault: TargetFault)
-    requires { length head.now.token.now ≤ 8 }
+pub fn send_bad_request<W: Wire>(
+    wire: &mut W,
+    peer: u32,
+    exchange: &Exchange<'_>,
+    fault: TargetFault,
+)
+    requires { length exchange.now.token.now ≤ 8 }
     ensures acts { Added (W.acts wire.old) (W.acts wire.new)
-        (Gives (owned.To peer (bad_request head.now.identifier head.now.token.now fault) ∷ [])) }
+        (Gives (owned.To peer (bad_request (exchange_view exchange.now) fault) ∷ [])) }
     ensures faults { W.faults wire.new ≡ W.faults wire.old }
 {
-    let text = fault.text();
-    send_plain(wire, peer, BAD_REQUEST, head.identifier, head.token, text);
+    send_plain(wire, peer, BAD_REQUEST, exchange, fault.text());
 }
 
 /// 4.09, for a request in the way of which another stands.
-pub fn send_conflict<W: Wire>(wire: &mut W, peer: u32, head: &RequestHead)
-    requires { length head.now.token.now ≤ 8 }
+pub fn send_conflict<W: Wire>(wire: &mut W, peer: u32, exchange: &Exchange<'_>)
+    requires { length exchange.now.token.now ≤ 8 }
     ensures acts { Added (W.acts wire.old) (W.acts wire.new)
-        (Gives (owned.To peer (conflicting head.now.identifier head.now.token.now) ∷ [])) }
+        (Gives (owned.To peer (conflicting (exchange_view exchange.now)) ∷ [])) }
     ensures faults { W.faults wire.new ≡ W.faults wire.old }
 {
-    let text = b"conflict";
-    send_plain(wire, peer, CONFLICT, head.identifier, head.token, text);
+    send_plain(wire, peer, CONFLICT, exchange, b"conflict");
 }

@@ -6,18 +6,22 @@ ghost use Rattle.cbor_profile.specs.Canon.{canon};
 ghost use Rattle.cbor_profile.specs.View.{tree_of};
 ghost use Rattle.coap_message.specs.Message.{spelling};
 ghost use Rattle.dots_machine.specs.Requests.{mitigation};
-ghost use Rattle.dots_machine.specs.Replies.{plain, granted_scope, created_message, created};
+ghost use Rattle.dots_run.specs.Exchanging.{exchange_view};
+ghost use Rattle.dots_machine.specs.Replies.{reset_message, plain, granted_scope, created_message, created};
 
+use crate::exchange::Exchange;
 use cbor_profile::{Item, ItemList, PairList, encode};
 use coap_message::{Kind, OptionPart, Parts, encode_into, encoded_len};
 use dots_lists::{Bytes, NoMemory};
 use std::alloc::Global;
 
-/// 2.01 Created, 4.00 Bad Request, 4.09 Conflict, 5.00 Internal Server Error and 5.01 Not Implemented (RFC 7252,
+/// 2.01 Created, 4.00 Bad Request, 4.02 Bad Option, 4.09 Conflict, 5.00 Internal Server Error and 5.01 Not Implemented (RFC 7252,
 /// section 12.1.2; RFC 8132, section 4 for Conflict).
 const CREATED: u8 = 0x41;
 
 pub const BAD_REQUEST: u8 = 0x80;
+
+pub const BAD_OPTION: u8 = 0x82;
 
 pub const CONFLICT: u8 = 0x89;
 
@@ -28,25 +32,24 @@ pub const NOT_IMPLEMENTED: u8 = 0xa1;
 /// The most bytes of a reply without options: a header, a token, the marker, and a text of at most 16 bytes.
 pub const MAX_PLAIN: usize = 29;
 
-/// Writes a NON reply without options in front of the bytes, and answers how many bytes it has.
+/// Writes a reply without options in front of the bytes, and answers how many bytes it has.
 pub fn put_plain(
     into: &mut [u8; MAX_PLAIN],
     code: u8,
-    identifier: u16,
-    token: &[u8],
+    exchange: &Exchange<'_>,
     text: &[u8],
 ) -> usize
     requires code { code ≢ 0 }
-    requires token { length token.now ≤ 8 }
+    requires token { length exchange.now.token.now ≤ 8 }
     requires text { length text.now ≤ 16 }
-    ensures front { take result into.new ≡ spelling (plain code identifier token.now text.now) }
+    ensures front { take result into.new ≡ spelling (plain code (exchange_view exchange.now) text.now) }
     ensures within { result ≤ 29 }
 {
     let parts = Parts {
-        kind: Kind::Non,
+        kind: exchange.reply_kind(),
         code,
-        id: identifier,
-        token,
+        id: exchange.identifier,
+        token: exchange.token,
         options: &[],
         values: &[],
         payload: text,
@@ -54,36 +57,47 @@ pub fn put_plain(
     encode_into(&parts, into)
 }
 
+/// An empty reset (RFC 7252, section 4.2).
+pub fn put_reset(into: &mut [u8; MAX_PLAIN], identifier: u16) -> usize
+    ensures front { take result into.new ≡ reset_message identifier }
+    ensures within { result ≤ 29 }
+{
+    let parts = Parts {
+        kind: Kind::Rst,
+        code: 0,
+        id: identifier,
+        token: &[],
+        options: &[],
+        values: &[],
+        payload: &[],
+    };
+    encode_into(&parts, into)
+}
+
 /// 2.01 with the mid and the granted lifetime (RFC 9132, section 4.4.1.1).
 pub fn created(
     alloc: Global,
-    identifier: u16,
-    token: &[u8],
+    exchange: &Exchange<'_>,
     mid: u32,
     lifetime: u32,
 ) -> Result<Bytes, NoMemory>
-    requires { length token.now ≤ 8 }
-    ensures { IfOk result (λ reply. reply ≡ created identifier token.now mid lifetime) }
+    requires { length exchange.now.token.now ≤ 8 }
+    ensures { IfOk result (λ reply. reply ≡ created (exchange_view exchange.now) mid lifetime) }
 {
     let body = granted_body(alloc, mid, lifetime)?;
-    created_with(alloc, identifier, token, body.items())
+    created_with(alloc, exchange, body.items())
 }
 
-fn created_with(
-    alloc: Global,
-    identifier: u16,
-    token: &[u8],
-    payload: &[u8],
-) -> Result<Bytes, NoMemory>
-    requires token { length token.now ≤ 8 }
+fn created_with(alloc: Global, exchange: &Exchange<'_>, payload: &[u8]) -> Result<Bytes, NoMemory>
+    requires token { length exchange.now.token.now ≤ 8 }
     requires payload { length payload.now ≤ 128 }
-    ensures { IfOk result (λ reply. reply ≡ spelling (created_message identifier token.now payload.now)) }
+    ensures { IfOk result (λ reply. reply ≡ spelling (created_message (exchange_view exchange.now) payload.now)) }
 {
     let parts = Parts {
-        kind: Kind::Non,
+        kind: exchange.reply_kind(),
         code: CREATED,
-        id: identifier,
-        token,
+        id: exchange.identifier,
+        token: exchange.token,
         options: &[OptionPart {
             number: 12,
             length: 2,

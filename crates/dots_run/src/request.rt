@@ -1,12 +1,15 @@
 //! What a client's datagram asks.
 
-ghost use Rattle.std.specs.Prelude.{◌≡◌, ◌<◌, ◌≤◌, ◌+◌, ◌*◌, length, slice_index, MatchOption, IfOk, IfErr};
+ghost use Rattle.std.specs.Prelude.{IfOk, IfErr};
+ghost use Rattle.coap_message.specs.Message.{IsMessage, spelling};
 ghost use Rattle.dots_machine.specs.Requests.{Hears};
-ghost use Rattle.dots_run.specs.Hearing.{heard_of, Begins};
+ghost use Rattle.dots_run.specs.Hearing.{heard_of, CanBeAnswered, Begins};
 
+use crate::exchange::Exchange;
 use crate::request_body::{RequestBody, request_body};
 use crate::request_head::{RequestHead, request_head};
-use coap_message::decode;
+use crate::settling::{AtOnce, settled, unread};
+use coap_message::{Message, decode};
 use std::alloc::Global;
 
 /// A mitigation request.
@@ -19,10 +22,10 @@ pub struct Asked<'a> {
 /// What a datagram is.
 #[derive(Debug, Drop)]
 pub enum Hearing<'a> {
-    /// Fewer bytes than a header has.
-    Short,
-    /// No request that is served, with its Message ID.
-    Other { identifier: u16 },
+    /// Something that is settled at once.
+    AtOnce(AtOnce<'a>),
+    /// A request that isn't served.
+    Unserved(Exchange<'a>),
     /// A mitigation request.
     Asked(Asked<'a>),
 }
@@ -30,32 +33,32 @@ pub enum Hearing<'a> {
 /// What the datagram is. For want of memory the head of the request is answered whose body couldn't be read.
 pub fn hear<'a>(alloc: Global, datagram: &'a [u8]) -> Result<Hearing<'a>, RequestHead<'a>>
     ensures heard { IfOk result (λ hearing. Hears datagram.now (heard_of hearing)) }
+    ensures answerable { IfOk result CanBeAnswered }
     ensures unread { IfErr result (Begins datagram.now) }
 {
-    let Some(identifier) = identifier_of(datagram) else {
-        return Ok(Hearing::Short);
-    };
-    let Ok(message) = decode(datagram) else {
-        return Ok(Hearing::Other { identifier });
-    };
-    let Some(head) = request_head(&message) else {
-        return Ok(Hearing::Other { identifier });
-    };
-    match request_body(alloc, message.payload()) {
-        Ok(Some(body)) => Ok(Hearing::Asked(Asked { head, body })),
-        Ok(None) => Ok(Hearing::Other { identifier }),
-        Err(_) => Err(head),
+    match decode(datagram) {
+        Ok(message) => hear_message(alloc, &message),
+        Err(_) => Ok(Hearing::AtOnce(unread(datagram))),
     }
 }
 
-/// The bytes of the Message ID, where there is a header (RFC 7252, section 3).
-fn identifier_of(datagram: &[u8]) -> Option<u16>
-    ensures { MatchOption result (length datagram.now < 4)
-        (λ identifier. (4 ≤ length datagram.now)
-        × (identifier ≡ 256 * slice_index datagram.now 2 + slice_index datagram.now 3)) }
+/// What a message is.
+fn hear_message<'a>(alloc: Global, message: &Message<'a>) -> Result<Hearing<'a>, RequestHead<'a>>
+    requires { IsMessage message.now }
+    ensures heard { IfOk result (λ hearing. Hears (spelling message.now) (heard_of hearing)) }
+    ensures answerable { IfOk result CanBeAnswered }
+    ensures unread { IfErr result (Begins (spelling message.now)) }
 {
-    match datagram {
-        [_, _, high, low, ..] => Some(u16::from(*high) * 256 + u16::from(*low)),
-        _ => None,
+    if let Some(answer) = settled(message) {
+        return Ok(Hearing::AtOnce(answer));
+    }
+    let exchange = Exchange::of(message);
+    let Some(head) = request_head(message) else {
+        return Ok(Hearing::Unserved(exchange));
+    };
+    match request_body(alloc, message.payload()) {
+        Ok(Some(body)) => Ok(Hearing::Asked(Asked { head, body })),
+        Ok(None) => Ok(Hearing::Unserved(exchange)),
+        Err(_) => Err(head),
     }
 }

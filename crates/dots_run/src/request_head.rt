@@ -5,11 +5,12 @@ ghost use Rattle.std.specs.List.{list_any};
 ghost use Rattle.std.specs.Str.Parse.{AllDigits, digits_value};
 ghost use Rattle.dots_lists.specs.Name.{is_name};
 ghost use Rattle.coap_message.specs.Message.{CoapOption, CoapMessage};
-ghost use Rattle.coap_message.specs.declared.kind.Kind.TheVariants.{Non};
+ghost use Rattle.dots_machine.specs.Exchanges.{may_ask};
 ghost use Rattle.dots_run.specs.Asking.{HasRequestHead};
 ghost use Rattle.dots_machine.specs.Requests.{Head, IsHead, path, dots_cbor, request_options, request_message};
 
 use crate::affixes::after;
+use crate::exchange::Exchange;
 use coap_message::{Kind, Message, Options};
 use decimal_text::value_of;
 use dots_lists::is_name;
@@ -17,9 +18,7 @@ use dots_lists::is_name;
 /// What a request says before its body.
 #[derive(Clone, Copy, Debug)]
 pub struct RequestHead<'a> {
-    /// The Message ID.
-    pub identifier: u16,
-    pub token: &'a [u8],
+    pub exchange: Exchange<'a>,
     pub cuid: &'a [u8],
     /// The decimal digits of the mid, as they came.
     pub digits: &'a [u8],
@@ -139,12 +138,13 @@ fn mid_of(digits: &[u8]) -> Option<u32>
     Some(mid as u32)
 }
 
+/// Whether this is a request with the method PUT.
 fn is_put(message: &Message) -> bool
-    ensures { IsTrue result ↔ ((message.now.kind ≡ Non) × (message.now.code ≡ 3)) }
+    ensures { IsTrue result ↔ ((may_ask message.now.kind ≡ true) × (message.now.code ≡ 3)) }
 {
     match message.kind() {
-        Kind::Non => message.code() == PUT,
-        _ => false,
+        Kind::Con | Kind::Non => message.code() == PUT,
+        Kind::Ack | Kind::Rst => false,
     }
 }
 
@@ -168,8 +168,7 @@ pub fn request_head<'a>(message: &Message<'a>) -> Option<RequestHead<'a>>
         return None;
     };
     Some(RequestHead {
-        identifier: message.id(),
-        token: message.token(),
+        exchange: Exchange::of(message),
         cuid,
         digits,
         mid,

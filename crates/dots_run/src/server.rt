@@ -12,12 +12,17 @@ ghost use Rattle.dots_machine.specs.Targets.{first_fault};
 ghost use Rattle.dots_machine.specs.Machine.{State, begun, entry_of, domain_of, in_the_way, Answered, Step};
 ghost use Rattle.dots_run.specs.Hearing.{request_of, IsFit, Decides};
 ghost use Rattle.dots_run.specs.Keeping.{kept};
+ghost use Rattle.dots_run.specs.Exchanging.{settled_view, IsAnswerable};
+ghost use Rattle.dots_run.specs.Sends.{sends_at_once};
 
 use crate::conflicts::{any_in_the_way, leave_standing};
-use crate::refusals::{send_bad_request, send_conflict, send_not_implemented, send_unavailable};
+use crate::refusals::{
+    send_bad_option, send_bad_request, send_conflict, send_not_implemented, send_unavailable,
+};
 use crate::replies::created;
 use crate::request::{Asked, Hearing, hear};
-use crate::sending::send_to;
+use crate::sending::{send_reset, send_to};
+use crate::settling::AtOnce;
 use crate::targets::{fault_of, first_fault};
 use dots_host::{Got, What, Wire};
 use dots_lists::{Name, NoMemory};
@@ -122,14 +127,14 @@ impl Server {
     {
         let head = asked.head;
         if let Some(prefix) = self.first_fault(&asked) {
-            return send_bad_request(wire, peer, &head, fault_of(&prefix));
+            return send_bad_request(wire, peer, &head.exchange, fault_of(&prefix));
         }
         if self.conflicts(&asked) {
-            return send_conflict(wire, peer, &head);
+            return send_conflict(wire, peer, &head.exchange);
         }
         match self.accept(peer, asked) {
             Ok(()) => return self.send_last_reply(wire, peer),
-            Err(_) => return send_unavailable(wire, peer, &head),
+            Err(_) => return send_unavailable(wire, peer, &head.exchange),
         }
     }
 
@@ -143,12 +148,10 @@ impl Server {
             × Added (W.acts wire.old) (W.acts wire.new) (Gives sends) }
     {
         match hear(self.alloc, datagram) {
-            Ok(Hearing::Short) => return,
-            Ok(Hearing::Other { identifier }) => {
-                return send_not_implemented(wire, peer, identifier);
-            }
+            Ok(Hearing::AtOnce(answer)) => return settle(wire, peer, &answer),
+            Ok(Hearing::Unserved(exchange)) => return send_not_implemented(wire, peer, &exchange),
             Ok(Hearing::Asked(asked)) => return self.decide(wire, peer, asked),
-            Err(head) => return send_unavailable(wire, peer, &head),
+            Err(head) => return send_unavailable(wire, peer, &head.exchange),
         }
     }
 
@@ -200,6 +203,19 @@ impl Server {
     }
 }
 
+/// Does what is done at once.
+fn settle<W: Wire>(wire: &mut W, peer: u32, answer: &AtOnce<'_>)
+    requires { IsAnswerable answer.now }
+    ensures acts { Added (W.acts wire.old) (W.acts wire.new) (Gives (sends_at_once peer (settled_view answer.now))) }
+    ensures faults { W.faults wire.new ≡ W.faults wire.old }
+{
+    match answer {
+        AtOnce::Unheard => {}
+        AtOnce::Reset { identifier } => send_reset(wire, peer, *identifier),
+        AtOnce::BadOption { exchange, number } => send_bad_option(wire, peer, exchange, *number),
+    }
+}
+
 /// What is kept of an accepted request.
 fn entry(alloc: Global, peer: u32, time: u64, asked: Asked) -> Result<Entry, NoMemory>
     requires { IsFit asked }
@@ -207,7 +223,7 @@ fn entry(alloc: Global, peer: u32, time: u64, asked: Asked) -> Result<Entry, NoM
 {
     let head = asked.head;
     let granted = asked.body.lifetime.min(CEILING);
-    let reply = created(alloc, head.identifier, head.token, head.mid, granted)?;
+    let reply = created(alloc, &head.exchange, head.mid, granted)?;
     let cuid = match Name::new(alloc, head.cuid)? {
         Some(cuid) => cuid,
         None => unreachable!(),
@@ -216,7 +232,7 @@ fn entry(alloc: Global, peer: u32, time: u64, asked: Asked) -> Result<Entry, NoM
         time,
         peer,
         cuid,
-        identifier: head.identifier,
+        identifier: head.exchange.identifier,
         reply,
         put: Put {
             mid: head.mid,

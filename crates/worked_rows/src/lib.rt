@@ -5,6 +5,8 @@
 #![tactic(auto)]
 
 #[cfg(test)]
+mod datagram_rows;
+#[cfg(test)]
 mod memory_rows;
 #[cfg(test)]
 mod refusal_rows;

@@ -1,0 +1,63 @@
+use crate::replays::{leaves, replay};
+use crate::rows::{FEED, NONE, ROW};
+use std::test::Fail;
+
+/// Messages that ask for nothing that is served, each from the client and then from a stranger, who is never answered.
+#[test]
+fn datagrams_that_ask_for_nothing(rt: HostRuntime) -> Result<(), Fail> {
+    for (datagram, sends) in [
+        // a ping, and a confirmable message that can't be read
+        (b"40001234".as_slice(), b"to 0 70001234\n".as_slice()),
+        (b"40011235ff", b"to 0 70001235\n"),
+        // three bytes; a non-confirmable request with an option that isn't known
+        (b"400112", NONE),
+        (b"5001123690", NONE),
+        (b"4001123790", b"to 0 60821237ff6f7074696f6e2039\n"),
+        // another version, an empty non-confirmable message, an acknowledgement, a response
+        (b"00011235", NONE),
+        (b"50001234", NONE),
+        (b"60001234", NONE),
+        (b"40451238", b"to 0 70001238\n"),
+        (b"50451238", NONE),
+        // an option that isn't known and is critical, a second Content-Format, and a Uri-Host
+        (b"41011239aa1133", b"to 0 61821239aaff6f7074696f6e2031\n"),
+        (b"41031239aac000", b"to 0 61a11239aa\n"),
+        (b"41031239aac00000", b"to 0 61a11239aa\n"),
+        (b"41031239aa3100", b"to 0 61a11239aa\n"),
+        // Accept of three bytes, and twice
+        (
+            b"41031239aad304010203",
+            b"to 0 61821239aaff6f7074696f6e203137\n",
+        ),
+        (
+            b"41031239aad10400010f",
+            b"to 0 61821239aaff6f7074696f6e203137\n",
+        ),
+        // methods and paths that aren't served, with their tokens
+        (b"5103000249", b"to 0 51a1000249\n"),
+        (b"52050002494a", b"to 0 52a10002494a\n"),
+    ] {
+        let script = [
+            b"at 1000 from 0 ".as_slice(),
+            datagram,
+            FEED,
+            b"at 1000 from 77 ",
+            datagram,
+            FEED,
+        ];
+        let left = replay(rt.alloc(), &script)?;
+        leaves(&rt, &left, &[sends], NONE);
+    }
+    Ok(())
+}
+
+/// The request of all rows, confirmable: it is acknowledged with the same reply.
+#[test]
+fn a_confirmable_request(rt: HostRuntime) -> Result<(), Fail> {
+    let request =
+        b"at 1000 from 0 410300014abb2e77656c6c2d6b6e6f776e04646f7473086d697469676174650d0e637569643d647a3670486a6141446b614654626a72304a47427077076d69643d31323312010fffa101a10281a206816c3139322e302e322e302f32340e190e10\n".as_slice();
+    let reply = b"to 0 614100014ac2010fffa101a10281a205187b0e190e10\n".as_slice();
+    let left = replay(rt.alloc(), &[request])?;
+    leaves(&rt, &left, &[reply], ROW);
+    Ok(())
+}
