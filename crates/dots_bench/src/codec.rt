@@ -3,6 +3,11 @@
 ghost use Rattle.std.specs.Prelude.{◌≡◌, ◌+◌, length, IfOk, IfErr};
 ghost use Rattle.coap_message.specs.Breaks.{Breaks};
 ghost use Rattle.coap_message.specs.Message.{CoapMessage, IsMessage, spelling};
+ghost use Rattle.cbor_profile.specs.Tree.{Tree};
+ghost use Rattle.cbor_profile.specs.Canon.{canon};
+ghost use Rattle.cbor_profile.specs.Valid.{IsValid};
+ghost use Rattle.cbor_profile.specs.View.{tree_of};
+ghost use Rattle.dots_bench.specs.Parts.{parts_in};
 
 use anyhow::{Context, Result};
 use cbor_profile::{CborFault, Item};
@@ -65,12 +70,17 @@ fn repeat_cbor(alloc: Global, copies: [&[u8]; 2], times: u64) -> Result<u64, Cbo
 }
 
 /// How many items or pairs stand directly in the item that the bytes encode; 1 for one that holds none.
-fn decode_cbor(alloc: Global, bytes: &[u8]) -> Result<u64, CborFault> {
+fn decode_cbor(alloc: Global, bytes: &[u8]) -> Result<u64, CborFault>
+    ensures found { IfOk result (λ sum. (tree : Tree) × IsValid tree × (bytes.now ≡ canon tree)
+        × (sum ≡ parts_in tree)) }
+{
     let item = cbor_profile::decode(alloc, bytes)?;
     Ok(count_parts(&item) as u64)
 }
 
-fn count_parts(item: &Item) -> usize {
+fn count_parts(item: &Item) -> usize
+    ensures { result ≡ parts_in (tree_of item.now) }
+{
     match item {
         Item::Array(list) => list.items().len(),
         Item::Map(list) => list.items().len(),
