@@ -32,6 +32,10 @@ status_of ending.ReportFailed = 9
 status_of ending.NotShown = 9
 status_of ending.TooMany = 11
 
+-- what is printed of a fault of the settings
+abbrev pub fault_text : SettingsFault → List ℕ
+fault_text (fault.Line number) = codes "settings line " ++ decimal number
+
 -- the line that a refusal of the settings prints
 abbrev pub fault_line : SettingsFault → List ℕ
 fault_line (fault.Line number) = codes "settings line " ++ decimal number ++ codes "\n"

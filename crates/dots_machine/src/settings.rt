@@ -21,6 +21,11 @@ pub enum SettingsFault {
 }
 
 impl fmt::Display for SettingsFault {
+    ghost use Rattle.std.specs.Prelude.{Some};
+    ghost use Rattle.dots_machine.specs.Endings.{fault_text};
+
+    ghost output = { λ fault. Some (fault_text fault) };
+
     fn fmt<W: fmt::Write>(&self, f: &mut fmt::Formatter<W>) -> fmt::Result {
         match self {
             SettingsFault::Line { number } => write!(f, "settings line {number}"),
