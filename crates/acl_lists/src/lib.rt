@@ -1,0 +1,28 @@
+//! What the data channel holds, as values: what a request names as its targets, aliases, access lists, and the
+//! packets that an access list is asked about.
+//!
+//! [`Asked`] is the targets of a mitigation request (RFC 9132, section 4.4.1) or of an alias (RFC 8783, section
+//! 6.1), [`Alias`] an alias and [`Acl`] an access list with its entries, [`Ace`] (RFC 8783, sections 6.1 and 6.2).
+//! When an entry matches a packet is defined in `specs/Matching.antt`, and [`ace_matches`] is by it.
+//!
+//! The `copy` of each type answers an equal value, or `NoMemory`, and changes nothing.
+#![tactic(auto)]
+
+mod ace;
+mod acl;
+mod alias;
+mod asked;
+mod matching;
+mod packet;
+mod port_test;
+
+pub use ace::Ace;
+pub use acl::{AceList, Acl, Activation};
+pub use alias::Alias;
+pub use asked::{Asked, ByteList, NameList, PortList, PrefixList};
+pub use matching::ace_matches;
+pub use packet::Packet;
+pub use port_test::PortTest;
+
+#[cfg(test)]
+mod tests;
