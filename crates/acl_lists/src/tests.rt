@@ -151,11 +151,14 @@ fn an_alias_is_copied(rt: HostRuntime) -> Result<(), Fail> {
         },
     };
     let copy = alias.copy(rt.alloc())?;
-    assert_eq!(rt; copy.name.bytes(), b"web");
+    assert_eq!(rt; copy.name.bytes(), b"web".as_slice());
     assert_eq!(rt; copy.asked.prefixes.items(), alias.asked.prefixes.items());
     assert_eq!(rt; copy.asked.protocols.items(), [6, 17].as_slice());
     assert_eq!(rt; copy.asked.names.items().len(), 2);
-    assert_eq!(rt; copy.asked.names.items()[1].bytes(), b"example.net");
+    assert_eq!(rt;
+        copy.asked.names.items()[1].bytes(),
+        b"example.net".as_slice()
+    );
     Ok(())
 }
 
@@ -168,7 +171,7 @@ fn a_list_is_copied(rt: HostRuntime) -> Result<(), Fail> {
     acl.aces.push(ace)?;
     acl.aces.push(entry(rt.alloc())?)?;
     let copy = acl.copy(rt.alloc())?;
-    assert_eq!(rt; copy.name.bytes(), b"list");
+    assert_eq!(rt; copy.name.bytes(), b"list".as_slice());
     assert_eq!(rt; copy.activation, Activation::Immediate);
     assert_eq!(rt; copy.aces.items().len(), 2);
     assert_eq!(rt; copy.aces.items()[0].destination_port, PortTest::Eq(123));

@@ -1,0 +1,4 @@
+pub mod Bounds
+pub mod Entries
+pub mod Histories
+pub mod Places

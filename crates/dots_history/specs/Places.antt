@@ -1,0 +1,34 @@
+-- What a history means, by places in the list of its entries, which are numbered from 0.
+use Rattle.std.specs.Prelude.{◌≡◌, ℕ, ◌+◌, ◌<◌, ◌⊎◌, Bool, true, false, List, Some, slice_get}
+use Rattle.dots_history.specs.declared.entry.Entry.{Entry}
+use Rattle.dots_history.specs.Entries.{ends, withdraws, runs}
+
+-- no entry after place i ends this one
+abbrev pub IsNotEnded : List Entry → ℕ → Entry → Type 0
+IsNotEnded entries i put = (j : ℕ) (e : Entry) → i < j → slice_get entries j ≡ Some e → ends put e ≡ false
+
+-- At place i is a mitigation that stands at time t: no later one ends it, none of the later entries withdraws it, and
+-- its lifetime isn't over (RFC 9132, section 4.4.1).
+pub record Stands (entries : List Entry) (i t : ℕ) (put : Entry) : Type 0 where
+  pub there : slice_get entries i ≡ Some put
+  pub not_ended : IsNotEnded entries i put
+  pub not_withdrawn : (j : ℕ) (e : Entry) → i < j → slice_get entries j ≡ Some e → withdraws put e ≡ false
+  pub granted : runs t put ≡ true
+
+-- At place i is a mitigation that no later one ends, and that is terminating at time t: the first later entry that
+-- withdraws it came while its lifetime wasn't over, less than 120 seconds ago (RFC 9132, section 4.4.4).
+pub record Terminating (entries : List Entry) (i t : ℕ) (put : Entry) : Type 0 where
+  pub there : slice_get entries i ≡ Some put
+  pub not_ended : IsNotEnded entries i put
+  pub place : ℕ
+  pub withdrawal : Entry
+  pub later : i < place
+  pub found : slice_get entries place ≡ Some withdrawal
+  pub is_withdrawal : withdraws put withdrawal ≡ true
+  pub first : (j : ℕ) (e : Entry) → i < j → j < place → slice_get entries j ≡ Some e → withdraws put e ≡ false
+  pub ran : runs withdrawal.time put ≡ true
+  pub before : t < withdrawal.time + 120
+
+-- the mitigation at place i is live at time t
+abbrev pub Live : List Entry → ℕ → ℕ → Entry → Type 0
+Live entries i t put = Stands entries i t put ⊎ Terminating entries i t put

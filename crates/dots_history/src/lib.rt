@@ -1,0 +1,32 @@
+//! Histories: the accepted changes in order, and what they come to at a time.
+//!
+//! An [`Entry`] is one accepted [`Change`] with its time, its peer, its client, the message that asked for it and the
+//! reply that it got. A history is a list of entries whose times don't fall. The definitions are in `specs/`, each
+//! with the section of the standard that it comes from: `Entries` (what entries are to each other: of one client,
+//! overlapping, ending, withdrawing, undoing), `Histories` (what a list of entries comes to at a time) and `Places`
+//! (the same in the words of a reader, by places in the list). `Bounds` says which entries are within bounds.
+//!
+//! The programs here are plain and slow: each scans the entries, and its contract is the definition.
+#![tactic(auto)]
+
+mod bounds;
+mod change;
+mod config;
+mod entry;
+mod lives;
+mod overlap;
+mod put;
+mod relations;
+mod reply;
+mod status;
+
+pub use bounds::is_within_bounds;
+pub use change::Change;
+pub use config::{Config, Values};
+pub use entry::{Entry, MessageKey};
+pub use lives::{is_granted_at, is_live, is_live_after, status_after};
+pub use overlap::overlaps;
+pub use put::{Put, Target, TargetList};
+pub use relations::{ends, is_same_client, withdraws};
+pub use reply::{is_remembered, remembered};
+pub use status::Status;
