@@ -129,10 +129,10 @@ IsPart [] ys = Unit {0}
 IsPart (x ∷ xs) [] = ⊥
 IsPart (x ∷ xs) (y ∷ ys) = ((x ≡ y) × IsPart xs ys) ⊎ IsPart (x ∷ xs) ys
 
--- part is a part of whole with the same view at time t, when n messages of a peer and domain are remembered
-pub record Kept (n t : ℕ) (part whole : List Entry) : Type 0 where
-  pub part : IsPart part whole
-  pub view : view n t part ≡ view n t whole
+-- few is a part of all with the same view at time t, when n messages of a peer and domain are remembered
+pub record Kept (n t : ℕ) (few all : List Entry) : Type 0 where
+  pub is_part : IsPart few all
+  pub same_view : view n t few ≡ view n t all
 
 -- the entries of a domain alone
 abbrev pub alone : ℕ → List Entry → List Entry

@@ -1,4 +1,5 @@
 ghost use Rattle.std.specs.Prelude.{◌≡◌, ◌^◌, nat_le};
+ghost use Rattle.std.specs.List.{list_all};
 ghost use Rattle.dots_history.specs.Bounds.{within_bounds, change_within, put_within, target_within, alias_within, asked_within, values_within, prefix_count};
 
 use crate::change::Change;
@@ -58,8 +59,14 @@ fn is_put_within(put: &Put) -> bool
 {
     is_asked_within(&put.asked)
         && put.targets.items().len() <= MAX_TARGETS
-        && put.targets.items().iter().all(is_target_within)
+        && are_targets_within(put.targets.items())
         && are_few(put.targets.items())
+}
+
+fn are_targets_within(targets: &[Target]) -> bool
+    ensures { result ≡ list_all target_within targets.now }
+{
+    targets.iter().all(|target| is_target_within(target))
 }
 
 /// Whether the targets have at most the resolved prefixes of one mitigation.
