@@ -13,6 +13,7 @@ mod bounds;
 mod change;
 mod config;
 mod entry;
+pub mod laws;
 mod lives;
 mod overlap;
 mod put;
