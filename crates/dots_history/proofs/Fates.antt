@@ -1,5 +1,5 @@
 -- What the later entries are, by the status that they leave a mitigation.
-use Rattle.std.proofs.Common.{◌≡◌, ℕ, ◌<◌, Bool, true, false, cond, List, [], ◌∷◌, Some, None, zero, suc, refl, sym, ap, ◌∙◌, subst, arith}
+use Rattle.std.proofs.Common.{◌≡◌, ℕ, ◌<◌, Bool, true, false, cond, List, [], ◌∷◌, Some, zero, suc, refl, sym, ap, ◌∙◌, subst, arith}
 use Rattle.std.specs.Prelude.{slice_get}
 use Rattle.std.proofs.lemmas.Bool.{cond_both}
 use Rattle.std.proofs.lemmas.Option.{none-some, same_Some}
@@ -7,7 +7,7 @@ use Rattle.dots_history.specs.declared.entry.Entry.{Entry}
 use Rattle.dots_history.specs.declared.status.Status.{Status}
 use Rattle.dots_history.specs.declared.status.Status.TheVariants.{Ended, Open, Withdrawn}
 use Rattle.dots_history.specs.Entries.{ends, withdraws}
-use Rattle.dots_history.specs.Histories.{step, status}
+use Rattle.dots_history.specs.Histories.{status}
 
 -- no entry of the list passes the test
 abbrev pub NoneIs : (Entry → Bool) → List Entry → Type 0
@@ -55,23 +55,23 @@ first_shift test e later n out first (suc j) x less found = first j x (omega (ar
 
 first_more : (test : Entry → Bool) (e : Entry) (later : List Entry) (at : ℕ) → test e ≡ false → HasFirst test later at → HasFirst test (e ∷ later) at
 first_more test e later at out one = record {
-    place = suc one.place;
-    entry = one.entry;
-    found = one.found;
-    passes = one.passes;
-    time = one.time;
-    first = first_shift test e later one.place out one.first;
-  }
+  place = suc one.place;
+  entry = one.entry;
+  found = one.found;
+  passes = one.passes;
+  time = one.time;
+  first = first_shift test e later one.place out one.first;
+}
 
 first_here : (test : Entry → Bool) (e : Entry) (later : List Entry) (at : ℕ) → test e ≡ true → e.time ≡ at → HasFirst test (e ∷ later) at
 first_here test e later at is time = record {
-    place = 0;
-    entry = e;
-    found = refl;
-    passes = is;
-    time = time;
-    first = λ j x less found. absurd (omega (arith, less));
-  }
+  place = 0;
+  entry = e;
+  found = refl;
+  passes = is;
+  time = time;
+  first = λ j x less found. absurd (omega (arith, less));
+}
 
 -- what is ended stays ended
 pub ended_stays : (put : Entry) (later : List Entry) → status put Ended later ≡ Ended
@@ -123,10 +123,10 @@ fate_of put (e ∷ later) =
     (λ s. Fate put (e ∷ later) (status put s later))
     (λ is. subst (Fate put (e ∷ later)) (sym (ended_stays put later)) (one_here (ends put) e later is))
     (λ out.
-      cond_both
-      (withdraws put e)
-      (Withdrawn e.time)
-      Open
-      (λ s. Fate put (e ∷ later) (status put s later))
-      (λ taken. from_after put e later (status put (Withdrawn e.time) later) out taken (after_withdrawal put e.time later))
-      (λ untaken. fate_more put e later (status put Open later) out untaken (fate_of put later)))
+    cond_both
+    (withdraws put e)
+    (Withdrawn e.time)
+    Open
+    (λ s. Fate put (e ∷ later) (status put s later))
+    (λ taken. from_after put e later (status put (Withdrawn e.time) later) out taken (after_withdrawal put e.time later))
+    (λ untaken. fate_more put e later (status put Open later) out untaken (fate_of put later)))

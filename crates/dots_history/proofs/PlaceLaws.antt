@@ -1,5 +1,5 @@
 -- A mitigation is live by its status exactly where it is by the places of the entries.
-use Rattle.std.proofs.Common.{◌≡◌, ℕ, ◌+◌, ◌-◌, ◌<◌, ◌⊎◌, inl, inr, Bool, true, false, List, [], ◌∷◌, drop, Some, None, zero, suc, refl, sym, ap, ◌∙◌, zero-add, arith}
+use Rattle.std.proofs.Common.{◌≡◌, ℕ, ◌+◌, ◌-◌, ◌<◌, inl, inr, Bool, true, false, List, [], ◌∷◌, drop, Some, zero, suc, refl, sym, ap, ◌∙◌, zero-add, arith}
 use Rattle.std.specs.Prelude.{slice_get}
 use Rattle.std.proofs.lemmas.Bool.{false≢true, both_ways, and_parts, and_from, or_cases, or_left, ltb-true, lt-ltb, cases_order}
 use Rattle.std.proofs.lemmas.Option.{same_Some}
@@ -9,7 +9,7 @@ use Rattle.dots_history.specs.declared.status.Status.TheVariants.{Ended, Open, W
 use Rattle.dots_history.specs.Entries.{ends, withdraws, runs}
 use Rattle.dots_history.specs.Histories.{status, live}
 use Rattle.dots_history.specs.Places.{Stands, Terminating, Live}
-use Rattle.dots_history.proofs.Fates.{NoneIs, HasOne, HasFirst, Fate, fate_of}
+use Rattle.dots_history.proofs.Fates.{NoneIs, HasFirst, Fate, fate_of}
 
 slice_get-drop : (n : ℕ) (xs : List Entry) (k : ℕ) → slice_get (drop n xs) k ≡ slice_get xs (n + k)
 slice_get-drop zero xs k = ap (slice_get xs) (sym (zero-add k))
@@ -38,11 +38,11 @@ live_there entries i t put Ended there fate is = absurd (false≢true is)
 live_there entries i t put Open there fate is =
     elim (or_cases (runs t put) false is) [
       | inl now ↦ inl (record {
-          there = there;
-          not_ended = none_beyond (ends put) i entries fate.0;
-          not_withdrawn = none_beyond (withdraws put) i entries fate.1;
-          granted = now;
-        })
+        there = there;
+        not_ended = none_beyond (ends put) i entries fate.0;
+        not_withdrawn = none_beyond (withdraws put) i entries fate.1;
+        granted = now;
+      })
       | inr never ↦ absurd (false≢true never)
     ]
 live_there entries i t put (Withdrawn at) there fate is =
@@ -89,18 +89,18 @@ same_time entries i t at put te taken =
           absurd (both_ways (withdraws put taken.entry) (te.first (suc i + taken.place) taken.entry (omega arith) less found) taken.passes)
       | inr (inr more) ↦
           absurd (both_ways
-            (withdraws put te.withdrawal)
-            (taken.first (te.place - suc i) te.withdrawal (omega (arith, more, beyond)) (to_after i entries te.place te.withdrawal beyond te.found))
-            te.is_withdrawal)
+          (withdraws put te.withdrawal)
+          (taken.first (te.place - suc i) te.withdrawal (omega (arith, more, beyond)) (to_after i entries te.place te.withdrawal beyond te.found))
+          te.is_withdrawal)
     ]
 
 terminating_is_live : (entries : List Entry) (i t : ℕ) (put : Entry) (s : Status) → Terminating entries i t put → Fate put (drop (suc i) entries) s → live t put s ≡ true
 terminating_is_live entries i t put Ended te fate = absurd (not_beyond (ends put) i entries te.not_ended fate.place fate.entry fate.found fate.passes)
 terminating_is_live entries i t put Open te fate =
     absurd (both_ways
-      (withdraws put te.withdrawal)
-      (fate.1 (te.place - suc i) te.withdrawal (to_after i entries te.place te.withdrawal te.later te.found))
-      te.is_withdrawal)
+    (withdraws put te.withdrawal)
+    (fate.1 (te.place - suc i) te.withdrawal (to_after i entries te.place te.withdrawal te.later te.found))
+    te.is_withdrawal)
 terminating_is_live entries i t put (Withdrawn at) te fate =
     let time : te.withdrawal.time ≡ at = same_time entries i t at put te fate.1 in
     let soon : t < te.withdrawal.time + 120 = te.before in

@@ -114,24 +114,44 @@ is_held (change.SetAcl acl) = true
 is_held (change.SetConfig sid config) = true
 is_held _ = false
 
--- Of two changes of one client, the later undoes the earlier: it deletes or writes anew the alias or the access list
--- of its name, or the client leaves and takes them along (RFC 8783, sections 5.3, 6.1 and 7.3).
-unfoldable pub undoes_of_client : Change → Change → Bool
-undoes_of_client change.Register change.Deregister = true
-undoes_of_client (change.SetAlias alias) (change.SetAlias other) = bytes_eq alias.name other.name
-undoes_of_client (change.SetAlias alias) (change.DropAlias name) = bytes_eq alias.name name
-undoes_of_client (change.SetAlias alias) change.Deregister = true
-undoes_of_client (change.SetAcl acl) (change.SetAcl other) = bytes_eq acl.name other.name
-undoes_of_client (change.SetAcl acl) (change.DropAcl name) = bytes_eq acl.name name
-undoes_of_client (change.SetAcl acl) change.Deregister = true
-undoes_of_client _ _ = false
+-- the later change takes the alias of this name away: it writes it anew or deletes it, or its client leaves (RFC 8783,
+-- sections 5.3, 6.1 and 6.3)
+unfoldable pub undoes_alias : List ℕ → Change → Bool
+undoes_alias name (change.SetAlias other) = bytes_eq name other.name
+undoes_alias name (change.DropAlias other) = bytes_eq name other
+undoes_alias name change.Deregister = true
+undoes_alias name _ = false
 
--- Of two changes of one peer, the later undoes the earlier: a peer has one session configuration at most (RFC 9132,
--- sections 4.5.2 and 4.5.4).
+-- the same of the access list of this name (RFC 8783, sections 5.3, 7.2 and 7.4)
+unfoldable pub undoes_acl : List ℕ → Change → Bool
+undoes_acl name (change.SetAcl other) = bytes_eq name other.name
+undoes_acl name (change.DropAcl other) = bytes_eq name other
+undoes_acl name change.Deregister = true
+undoes_acl name _ = false
+
+-- the client leaves (RFC 8783, section 5.3)
+unfoldable pub is_leave : Change → Bool
+is_leave change.Deregister = true
+is_leave _ = false
+
+-- of two changes of one client, the later undoes the earlier
+unfoldable pub undoes_of_client : Change → Change → Bool
+undoes_of_client change.Register later = is_leave later
+undoes_of_client (change.SetAlias alias) later = undoes_alias alias.name later
+undoes_of_client (change.SetAcl acl) later = undoes_acl acl.name later
+undoes_of_client _ later = false
+
+-- another session configuration takes the place of the one before, or it is deleted: a peer has one at most (RFC 9132,
+-- sections 4.5.2 and 4.5.4)
+unfoldable pub is_configuration : Change → Bool
+is_configuration (change.SetConfig sid config) = true
+is_configuration change.ClearConfig = true
+is_configuration _ = false
+
+-- of two changes of one peer, the later undoes the earlier
 unfoldable pub undoes_of_peer : Change → Change → Bool
-undoes_of_peer (change.SetConfig sid config) (change.SetConfig other values) = true
-undoes_of_peer (change.SetConfig sid config) change.ClearConfig = true
-undoes_of_peer _ _ = false
+undoes_of_peer (change.SetConfig sid config) later = is_configuration later
+undoes_of_peer _ later = false
 
 -- the later entry changes the session configuration that the earlier set
 unfoldable pub reconfigures : Entry → Entry → Bool

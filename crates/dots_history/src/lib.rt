@@ -3,8 +3,10 @@
 //! An [`Entry`] is one accepted [`Change`] with its time, its peer, its client, the message that asked for it and the
 //! reply that it got. A history is a list of entries whose times don't fall. The definitions are in `specs/`, each
 //! with the section of the standard that it comes from: `Entries` (what entries are to each other: of one client,
-//! overlapping, ending, withdrawing, undoing), `Histories` (what a list of entries comes to at a time) and `Places`
-//! (the same in the words of a reader, by places in the list). `Bounds` says which entries are within bounds.
+//! overlapping, ending, withdrawing, undoing), `Histories` (what a list of entries comes to at a time), `Places` (which
+//! mitigations are live, in the words of a reader, by places in the list) and `Rows` (the rows of the filter table, and
+//! the fate of a packet). `Bounds` says which entries are within bounds. What the definitions come to is said by the
+//! contracts in [`laws`].
 //!
 //! The programs here are plain and slow: each scans the entries, and its contract is the definition.
 #![tactic(auto)]
@@ -13,21 +15,25 @@ mod bounds;
 mod change;
 mod config;
 mod entry;
+mod held;
 pub mod laws;
 mod lives;
 mod overlap;
 mod put;
 mod relations;
 mod reply;
+mod scrubbing;
 mod status;
 
 pub use bounds::is_within_bounds;
 pub use change::Change;
 pub use config::{Config, Values};
 pub use entry::{Entry, MessageKey};
+pub use held::{is_still_held, undoes};
 pub use lives::{is_granted_at, is_live, is_live_after, status_after};
 pub use overlap::overlaps;
 pub use put::{Put, Target, TargetList};
 pub use relations::{ends, is_same_client, withdraws};
 pub use reply::{is_remembered, remembered};
+pub use scrubbing::scrubs;
 pub use status::Status;
