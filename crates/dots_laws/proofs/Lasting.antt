@@ -50,7 +50,7 @@ live_no_more t u put (Withdrawn at) less out =
     ]
 
 -- over an entry
-dead_step : (put : Entry) (s : Status) (e : Entry) → live e.time put s ≡ false → live e.time put (step put s e) ≡ false
+pub dead_step : (put : Entry) (s : Status) (e : Entry) → live e.time put s ≡ false → live e.time put (step put s e) ≡ false
 dead_step put Ended e out = refl
 dead_step put Open e out =
     cond_both

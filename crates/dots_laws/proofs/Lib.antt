@@ -1,2 +1,4 @@
 pub mod Lasting
 pub mod Ageing
+pub mod Adding
+pub mod Apart

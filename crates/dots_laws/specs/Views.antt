@@ -1,6 +1,8 @@
--- What time makes of a view.
-use Rattle.std.specs.Prelude.{ℕ, List, filter}
-use Rattle.dots_history.specs.Histories.{Held, View, live}
+-- What time and one more entry make of a view, and the part of a domain in it.
+use Rattle.std.specs.Prelude.{ℕ, ◌==◌, List, [], ◌∷◌, ◌++◌, filter, map}
+use Rattle.dots_history.specs.declared.entry.Entry.{Entry}
+use Rattle.dots_history.specs.declared.status.Status.TheVariants.{Open}
+use Rattle.dots_history.specs.Histories.{Held, View, live, step}
 
 -- those of the mitigations that are live at the time
 abbrev pub mitigations_at : ℕ → List Held → List Held
@@ -14,3 +16,15 @@ view_at u v =
       things = v.things;
       last = v.last;
     }
+
+-- what one more entry does to a mitigation
+abbrev pub moved : Entry → Held → Held
+moved e m = record { put = m.put; status = step m.put m.status e }
+
+-- what one more entry makes of the live mitigations, at its time
+abbrev pub mitigations_with : Entry → List Held → List Held
+mitigations_with e ms = mitigations_at e.time (map (moved e) ms ++ record { put = e; status = Open } ∷ [])
+
+-- those of a domain
+abbrev pub mitigations_of : ℕ → List Held → List Held
+mitigations_of domain ms = filter (λ (m : Held). m.put.domain == domain) ms
