@@ -1,4 +1,4 @@
--- When an entry of an access list matches a packet (RFC 8519, section 4.2; RFC 8783, section 6.2): where each field
+-- When an entry of an access list matches a packet (RFC 8519, section 4.2; RFC 8783, section 7.2): where each field
 -- that the entry has matches.
 use Rattle.std.specs.Prelude.{ℕ, Bool, true, false, not, ◌&&◌, ◌==◌, nat_le, List, Option, Some, None, option_map}
 use Rattle.std.specs.List.{list_any}

@@ -8,7 +8,7 @@ use std::alloc::Global;
 /// The entries of an access list, in order.
 pub type AceList = List<Ace>;
 
-/// An access list (RFC 8783, section 6.2).
+/// An access list (RFC 8783, section 7.2).
 #[derive(Debug, Drop)]
 pub struct Acl {
     pub name: Name,
@@ -19,7 +19,7 @@ pub struct Acl {
     pub aces: AceList,
 }
 
-/// When an access list is active: its `activation-type` (RFC 8783, section 6.2).
+/// When an access list is active: its `activation-type` (RFC 8783, section 7.2).
 #[derive(Clone, Copy, Debug, PartialEq, Eq)]
 pub enum Activation {
     /// While a mitigation of its client is live.

@@ -2,7 +2,7 @@
 //! packets that an access list is asked about.
 //!
 //! [`Asked`] is the targets of a mitigation request (RFC 9132, section 4.4.1) or of an alias (RFC 8783, section
-//! 6.1), [`Alias`] an alias and [`Acl`] an access list with its entries, [`Ace`] (RFC 8783, sections 6.1 and 6.2).
+//! 6.1), [`Alias`] an alias and [`Acl`] an access list with its entries, [`Ace`] (RFC 8783, section 7.2).
 //! When an entry matches a packet is defined in `specs/Matching.antt`, and [`ace_matches`] is by it.
 //!
 //! The `copy` of each type answers an equal value, or `NoMemory`, and changes nothing.

@@ -106,7 +106,7 @@ may_repeat t id at (key.Non other) = (id == other) && nat_le t (at + 145)
 may_repeat t id at (key.Con other) = (id == other) && nat_le t (at + 247)
 
 -- what is held until a later change undoes it: registrations, aliases and access lists (RFC 8783, sections 5.1, 6.1
--- and 6.2), and session configurations (RFC 9132, section 4.5.2)
+-- and 7.2), and session configurations (RFC 9132, section 4.5.2)
 unfoldable pub is_held : Change → Bool
 is_held change.Register = true
 is_held (change.SetAlias alias) = true
@@ -115,21 +115,21 @@ is_held (change.SetConfig sid config) = true
 is_held _ = false
 
 -- the later change takes the alias of this name away: it writes it anew or deletes it, or its client leaves (RFC 8783,
--- sections 5.3, 6.1 and 6.3)
+-- sections 5.2, 6.1 and 6.3)
 unfoldable pub undoes_alias : List ℕ → Change → Bool
 undoes_alias name (change.SetAlias other) = bytes_eq name other.name
 undoes_alias name (change.DropAlias other) = bytes_eq name other
 undoes_alias name change.Deregister = true
 undoes_alias name _ = false
 
--- the same of the access list of this name (RFC 8783, sections 5.3, 7.2 and 7.4)
+-- the same of the access list of this name (RFC 8783, sections 5.2, 7.2 and 7.4)
 unfoldable pub undoes_acl : List ℕ → Change → Bool
 undoes_acl name (change.SetAcl other) = bytes_eq name other.name
 undoes_acl name (change.DropAcl other) = bytes_eq name other
 undoes_acl name change.Deregister = true
 undoes_acl name _ = false
 
--- the client leaves (RFC 8783, section 5.3)
+-- the client leaves (RFC 8783, section 5.2)
 unfoldable pub is_leave : Change → Bool
 is_leave change.Deregister = true
 is_leave _ = false

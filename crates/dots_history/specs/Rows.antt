@@ -50,7 +50,7 @@ list_rows entries = filter (λ e. option_any (λ acl. true) (acl_of e.change)) (
 abbrev pub is_mitigating : ℕ → List Entry → Entry → Bool
 is_mitigating t entries e = list_any (λ m. same_client e m.put) (mitigations t entries)
 
--- a list that was written by this entry is active (RFC 8783, section 6.2: `activation-type`)
+-- a list that was written by this entry is active (RFC 8783, section 7.2: `activation-type`)
 abbrev pub is_active : ℕ → List Entry → Entry → Activation → Bool
 is_active t entries e Immediate = true
 is_active t entries e WhenMitigating = is_mitigating t entries e
