@@ -1,0 +1,181 @@
+-- Requests stay where bytes follow, and are one list.
+use Rattle.std.proofs.Common.{◌≡◌, ℕ, ◌+◌, ◌-◌, ◌<◌, ◌≤◌, List, [], ◌∷◌, ◌++◌, length, take, drop, refl, sym, ap, subst, ◌∙◌, append_assoc, arith, inl, inr}
+use Rattle.std.specs.Prelude.{nat_le, if◌then◌else◌, Result, Ok, Err, Option, Some, None}
+use Rattle.std.proofs.lemmas.Bool.{cond-true, le-leb, leb-true, cases_Bool, cases_lt}
+use Rattle.std.proofs.Math.Seq.{take-append_seam, take-append-add}
+use Rattle.std.proofs.lemmas.List.{length-append, append-nil, take-append-le, drop-append-le, nil_from_length}
+use Rattle.httparse.specs.Grammar.{RequestHead, print_request, print_end}
+use Rattle.httparse.proofs.GrammarLemmas.{request_unique, ReadsRequest-append}
+use Rattle.http_cut.specs.declared.fault.HttpFault.{HttpFault}
+use Rattle.http_cut.specs.declared.request.Cut as code
+use Rattle.http_cut.specs.declared.request.Cut.TheVariants as cuts
+use Rattle.http_cut.specs.Fields.{framing}
+use Rattle.http_cut.specs.Requests.{BeginsWith, HasNoHead, NeverHasHead, HasEmptyLine, IsOver, IsHeadless, Head, Request, request_of, Outcome, takes, waits, refuses, IsCut, by_framing, with_body, outcome_behind, head_of, outcome_of, request_view}
+use Rattle.http_cut.specs.Streams.{IfRequest, IsFirst, AreRequests, IsStream, EndsWith}
+use Rattle.http_cut.proofs.Ends.{ends_empty}
+use Rattle.http_cut.proofs.Windows.{some_head}
+
+begins_append : (bytes : List ℕ) (h : RequestHead) (rest more : List ℕ) → BeginsWith bytes h rest → BeginsWith (bytes ++ more) h (rest ++ more)
+begins_append bytes h rest more x = record { reads = ReadsRequest-append bytes h rest more x.reads; size = x.size }
+
+abbrev taken : Request → Outcome → Request
+taken instead (takes request) = request
+taken instead waits = instead
+taken instead (refuses fault) = instead
+
+-- whether an outcome is a request, a wait or a refusal
+abbrev kind : Outcome → ℕ
+kind (takes request) = 0
+kind waits = 1
+kind (refuses fault) = 2
+
+-- a request that is there whole, by its length
+record Whole (head : Head) (rest : List ℕ) (request : Request) : Type 0 where
+  n : ℕ
+  framed : framing head.fields ≡ Ok n
+  fits : n ≤ length rest
+  is : request ≡ request_of head n rest
+
+whole_by : (head : Head) (rest : List ℕ) (request : Request) (r : Result ℕ HttpFault) → framing head.fields ≡ r → takes request ≡ by_framing head rest r → Whole head rest request
+whole_by head rest request (Err fault) is e = absurd (omega (arith, ap kind e))
+whole_by head rest request (Ok n) is e = elim (cases_Bool (nat_le n (length rest))) [
+  | inl fits ↦ record {
+    n = n;
+    framed = is;
+    fits = leb-true n (length rest) fits;
+    is = ap (taken request) (e ∙ ap (λ b. if b then takes (request_of head n rest) else waits) fits);
+  }
+  | inr short ↦ absurd (omega (arith, ap kind (e ∙ ap (λ b. if b then takes (request_of head n rest) else waits) short)))
+]
+
+whole : (head : Head) (rest : List ℕ) (request : Request) → takes request ≡ outcome_behind head rest → Whole head rest request
+unfolding outcome_behind
+whole head rest request e = whole_by head rest request (framing head.fields) refl e
+
+taken_by : (head : Head) (rest : List ℕ) (n : ℕ) → framing head.fields ≡ Ok n → n ≤ length rest → takes (request_of head n rest) ≡ outcome_behind head rest
+unfolding outcome_behind
+taken_by head rest n framed fits =
+    sym (ap (λ (r : Result ℕ HttpFault). by_framing head rest r) framed ∙ cond-true (nat_le n (length rest)) _ _ (le-leb n (length rest) fits))
+
+-- a request has a head, and isn't longer than the bytes
+pub first_size : (bytes : List ℕ) (request : Request) → IsFirst bytes request → (0 < request.size) × (request.size ≤ length bytes)
+first_size bytes request x =
+    let w = whole (head_of x.0) x.1 request x.3 in
+    let all : length bytes ≡ length (print_request x.0 ++ x.1) = ap (λ (y : List ℕ). length y) x.2.reads.1 in
+    let size : request.size ≡ length (print_request x.0) + w.n = ap (λ (y : Request). y.size) w.is in
+    (omega (arith, size, some_head x.0), omega (arith, size, all, length-append (print_request x.0) x.1, w.fits))
+
+-- the same request with another body
+abbrev with_bytes : Head → ℕ → List ℕ → Request
+with_bytes head n bytes = record (request_of head n []) { body = bytes }
+
+pub first_append : (bytes more : List ℕ) (request : Request) → IsFirst bytes request → IsFirst (bytes ++ more) request
+first_append bytes more request x =
+    let head = head_of x.0 in
+    let w = whole head x.1 request x.3 in
+    let fits : w.n ≤ length (x.1 ++ more) = omega (arith, w.fits, length-append x.1 more) in
+    let same : request ≡ request_of head w.n (x.1 ++ more) = w.is ∙ ap (λ (b : List ℕ). with_bytes head w.n b) (sym (take-append-le w.n x.1 more w.fits)) in
+    (x.0, x.1 ++ more, begins_append bytes x.0 x.1 more x.2, ap takes same ∙ taken_by head (x.1 ++ more) w.n w.framed fits)
+
+pub requests_append : (bytes more : List ℕ) (requests : List Request) (rest : List ℕ) → AreRequests bytes requests rest → AreRequests (bytes ++ more) requests (rest ++ more)
+requests_append bytes more [] rest e = ap (λ (y : List ℕ). y ++ more) e
+requests_append bytes more (r ∷ requests) rest x =
+    let behind : drop r.size (bytes ++ more) ≡ drop r.size bytes ++ more = drop-append-le r.size bytes more (first_size bytes r x.0).1 in
+    (first_append bytes more r x.0, subst (λ (y : List ℕ). AreRequests y requests (rest ++ more)) (sym behind) (requests_append (drop r.size bytes) more requests rest x.1))
+
+pub requests_join : (bytes middle rest : List ℕ) (first second : List Request) → AreRequests bytes first middle → AreRequests middle second rest → AreRequests bytes (first ++ second) rest
+requests_join bytes middle rest [] second e y = subst (λ (z : List ℕ). AreRequests z second rest) (sym e) y
+requests_join bytes middle rest (r ∷ first) second x y = (x.0, requests_join (drop r.size bytes) middle rest first second x.1 y)
+
+-- ---- one list
+
+one_first : (bytes : List ℕ) (r s : Request) → IsFirst bytes r → IsFirst bytes s → r ≡ s
+one_first bytes r s x y =
+    let same = request_unique bytes x.0 y.0 x.1 y.1 x.2.reads y.2.reads in
+    ap (taken r) (x.3 ∙ (λ i. outcome_behind (head_of (same.0 i)) (same.1 i)) ∙ sym y.3)
+
+one_list : (bytes : List ℕ) (rs ss : List Request) (a b : List ℕ) → AreRequests bytes rs a → AreRequests bytes ss b → ((r : Request) → ¬ (IsFirst a r)) → ((r : Request) → ¬ (IsFirst b r)) → (rs ≡ ss) × (a ≡ b)
+one_list bytes [] [] a b x y none_a none_b = (refl, sym x ∙ y)
+one_list bytes [] (s ∷ ss) a b x y none_a none_b = absurd (none_a s (subst (λ (z : List ℕ). IsFirst z s) x y.0))
+one_list bytes (r ∷ rs) [] a b x y none_a none_b = absurd (none_b r (subst (λ (z : List ℕ). IsFirst z r) y x.0))
+one_list bytes (r ∷ rs) (s ∷ ss) a b x y none_a none_b =
+    let same = one_first bytes r s x.0 y.0 in
+    let later = one_list (drop r.size bytes) rs ss a b x.1 (subst (λ (z : Request). AreRequests (drop z.size bytes) ss b) (sym same) y.1) none_a none_b in
+    (λ i. same i ∷ later.0 i, later.1)
+
+pub one_stream : (bytes : List ℕ) (rs ss : List Request) (a b : List ℕ) → IsStream bytes rs a → IsStream bytes ss b → (rs ≡ ss) × (a ≡ b)
+one_stream bytes rs ss a b x y = one_list bytes rs ss a b x.whole y.whole x.all y.all
+
+-- ---- what is refused stays refused
+
+refused_by : (head : Head) (rest other : List ℕ) (fault : HttpFault) (r : Result ℕ HttpFault) → refuses fault ≡ by_framing head rest r → refuses fault ≡ by_framing head other r
+refused_by head rest other fault (Err f) e = e
+refused_by head rest other fault (Ok n) e = elim (cases_Bool (nat_le n (length rest))) [
+  | inl fits ↦ absurd (omega (arith, ap kind (e ∙ ap (λ b. if b then takes (request_of head n rest) else waits) fits)))
+  | inr short ↦ absurd (omega (arith, ap kind (e ∙ ap (λ b. if b then takes (request_of head n rest) else waits) short)))
+]
+
+refused : (head : Head) (rest other : List ℕ) (fault : HttpFault) → refuses fault ≡ outcome_behind head rest → refuses fault ≡ outcome_behind head other
+unfolding outcome_behind
+refused head rest other fault e = refused_by head rest other fault (framing head.fields) e
+
+-- a head of more bytes that ends in the first of them
+shorter : (held more : List ℕ) (h : RequestHead) (rest : List ℕ) → BeginsWith (held ++ more) h rest → length (print_request h) ≤ length held → (behind : List ℕ) × BeginsWith held h behind
+shorter held more h rest x fits =
+    let text = print_request h in
+    let k = length held - length text in
+    let size : length held ≡ length text + k = omega (arith, fits) in
+    let front : held ≡ text ++ take k rest = sym (take-append_seam held more) ∙ ap (λ (y : List ℕ). take (length held) y) x.reads.1 ∙ ap (λ (n : ℕ). take n (text ++ rest)) size ∙ take-append-add text rest k in
+    (take k rest, record { reads = (x.reads.0, front); size = x.size })
+
+over_never : (held : List ℕ) → HasNoHead held → IsOver held → NeverHasHead held
+over_never held none (inl full) = λ more h rest x.
+    let short = shorter held more h rest x (omega (arith, x.size, full)) in
+    none h short.0 short.1
+over_never held none (inr line) = λ more h rest x. elim (cases_lt (length held) (length (print_request h))) [
+  | inr fits ↦ (let short = shorter held more h rest x fits in none h short.0 short.1)
+  | inl longer ↦ beyond held more h rest x line longer
+]
+  where
+    beyond : (held more : List ℕ) (h : RequestHead) (rest : List ℕ) → BeginsWith (held ++ more) h rest → HasEmptyLine held → length held < length (print_request h) → ⊥
+    beyond held more h rest x line longer =
+        let text = print_request h in
+        let k = length text - length held in
+        let size : length text ≡ length held + k = omega (arith, longer) in
+        let part : text ≡ held ++ take k more = sym (take-append_seam text rest) ∙ ap (λ (y : List ℕ). take (length text) y) (sym x.reads.1) ∙ ap (λ (n : ℕ). take n (held ++ more)) size ∙ take-append-add held more k in
+        let front = line.0 in
+        let end = line.1 in
+        let back = line.2 in
+        let both : text ≡ front ++ 10 ∷ (print_end end ++ (back ++ take k more)) =
+        part ∙ ap (λ (y : List ℕ). y ++ take k more) line.4 ∙ append_assoc front (10 ∷ (print_end end ++ back)) (take k more) ∙ ap (λ (y : List ℕ). front ++ 10 ∷ y) (append_assoc (print_end end) back (take k more)) in
+        let nothing = ends_empty h x.reads.0 front end (back ++ take k more) line.3 both in
+        let none : length (back ++ take k more) ≡ 0 = ap (λ (y : List ℕ). length y) nothing in
+        absurd (omega (arith, none, length-append back (take k more), ap (λ (y : List ℕ). length y) part, length-append held (take k more), longer))
+
+pub no_first_refused : (held left : List ℕ) (fault : HttpFault) → IsCut held (refuses fault) → (request : Request) → ¬ (IsFirst (held ++ left) request)
+no_first_refused held left fault (inl cut) request x =
+    let same = request_unique (held ++ left) cut.0 x.0 (cut.1 ++ left) x.1 (ReadsRequest-append held cut.0 cut.1 left cut.2.reads) x.2.reads in
+    let still = refused (head_of cut.0) cut.1 x.1 fault cut.3 ∙ ap (λ (h : RequestHead). outcome_behind (head_of h) x.1) same.0 ∙ sym x.3 in
+    absurd (omega (arith, ap kind still))
+no_first_refused held left fault (inr cut) request x = elim cut.1.1 [
+  | inl over ↦ over_never held cut.0 over left x.0 x.1 x.2
+  | inr never ↦ never left x.0 x.1 x.2
+]
+
+pub no_first_waits : (held : List ℕ) → IsCut held waits → (request : Request) → ¬ (IsFirst held request)
+no_first_waits held (inl cut) request x =
+    let same = request_unique held cut.0 x.0 cut.1 x.1 cut.2.reads x.2.reads in
+    absurd (omega (arith, ap kind (cut.3 ∙ (λ i. outcome_behind (head_of (same.0 i)) (same.1 i)) ∙ sym x.3)))
+no_first_waits held (inr cut) request x = cut.0 x.0 x.1 x.2
+
+-- behind all requests that there are stands none
+pub stream_of : (bytes : List ℕ) (requests : List Request) (rest held : List ℕ) (fault : Option HttpFault) → AreRequests bytes requests rest → EndsWith rest held fault → IsStream bytes requests rest
+stream_of bytes requests rest held None x ends = record { whole = x; all = λ r first. no_first_waits held ends.1 r (subst (λ (y : List ℕ). IsFirst y r) ends.0 first) }
+stream_of bytes requests rest held (Some fault) x ends = record { whole = x; all = λ r first. no_first_refused held ends.0 fault ends.2 r (subst (λ (y : List ℕ). IsFirst y r) ends.1 first) }
+
+-- a request that is cut isn't longer than what is held
+pub cut_size : (held : List ℕ) (cut : code.Cut) → IsCut held (outcome_of cut) → IfRequest cut (λ request. (0 < request.length) × (request.length ≤ length held))
+cut_size held (cuts.Request request) (inl x) = first_size held (request_view request) x
+cut_size held (cuts.Request request) (inr x) = absurd x.1
+cut_size held cuts.More x = tt
+cut_size held (cuts.Refused fault) x = tt

@@ -1,0 +1,6 @@
+pub mod Fields
+pub mod Requests
+pub mod Views
+pub mod Streams
+pub mod Reply
+pub mod Writing

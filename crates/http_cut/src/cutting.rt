@@ -1,0 +1,102 @@
+ghost use Rattle.std.specs.Prelude.{◌≡◌, ◌+◌, ◌^◌, ◌<◌, ◌≤◌, length, take, All};
+ghost use Rattle.httparse.specs.Spans.{IsHeaderWithin, IsWithin};
+ghost use Rattle.http_cut.specs.Requests.{IsCut, outcome_of, outcome_behind, with_body, closes};
+ghost use Rattle.http_cut.specs.Views.{head_at};
+
+use crate::fault::HttpFault;
+use crate::fields::{asks_to_close, first_media, framing};
+use crate::request::{Cut, HttpRequest};
+use httparse::Status;
+use httparse::spans::{HeaderSpan, RequestSpans, parse_request};
+
+/// The greatest number of bytes of a head.
+const GREATEST_HEAD: usize = 8_192;
+
+/// The bytes in which a head may stand.
+fn window(held: &[u8]) -> &[u8]
+    ensures value { result.now ≡ take 8192 held.now }
+    ensures size { length held.now ≤ 8192 → result.now ≡ held.now }
+{
+    if held.len() <= GREATEST_HEAD {
+        return held;
+    }
+    &held[..GREATEST_HEAD]
+}
+
+fn closes(bytes: &[u8], head: &RequestSpans, fields: &[HeaderSpan]) -> bool
+    requires { All (IsHeaderWithin (length bytes.now)) fields.now }
+    ensures { result ≡ closes (head_at bytes.now head.now fields.now) }
+{
+    if head.version == 0 {
+        return true;
+    }
+    asks_to_close(bytes, fields)
+}
+
+/// The outcome where a body of this size may be there whole.
+fn cut_body<'a>(
+    bytes: &'a [u8],
+    rest: &'a [u8],
+    head: &RequestSpans,
+    fields: &[HeaderSpan],
+    size: usize,
+) -> Cut<'a>
+    requires method { IsWithin (length bytes.now) head.now.method }
+    requires path { IsWithin (length bytes.now) head.now.path }
+    requires fields { All (IsHeaderWithin (length bytes.now)) fields.now }
+    requires size { head.now.len + size < 2 ^ 64 }
+    ensures { outcome_of result ≡ with_body (head_at bytes.now head.now fields.now) rest.now size }
+{
+    if rest.len() < size {
+        return Cut::More;
+    }
+    let request = HttpRequest {
+        method: head.method.of(bytes),
+        target: head.path.of(bytes),
+        media: first_media(bytes, fields),
+        close: closes(bytes, head, fields),
+        body: &rest[..size],
+        length: head.len + size,
+    };
+    Cut::Request(request)
+}
+
+/// The outcome where the head is there, with the bytes behind it.
+fn cut_behind<'a>(
+    bytes: &'a [u8],
+    rest: &'a [u8],
+    head: &RequestSpans,
+    fields: &[HeaderSpan],
+) -> Cut<'a>
+    requires method { IsWithin (length bytes.now) head.now.method }
+    requires path { IsWithin (length bytes.now) head.now.path }
+    requires fields { All (IsHeaderWithin (length bytes.now)) fields.now }
+    requires size { head.now.len ≤ 8192 }
+    ensures { outcome_of result ≡ outcome_behind (head_at bytes.now head.now fields.now) rest.now }
+{
+    match framing(bytes, fields) {
+        Ok(size) => return cut_body(bytes, rest, head, fields, size),
+        Err(fault) => return Cut::Refused(fault),
+    }
+}
+
+/// What stands at the front of the held bytes.
+pub(crate) fn cut_held<'a>(held: &'a [u8], spans: &mut [HeaderSpan]) -> Cut<'a>
+    requires { length spans.old ≡ 2731 }
+    ensures { IsCut held.now (outcome_of result) }
+{
+    let bytes = window(held);
+    match parse_request(bytes, spans) {
+        Ok(Status::Complete(head)) => {
+            let (_, rest) = held.split_at(head.len);
+            return cut_behind(bytes, rest, &head, &spans[..head.headers]);
+        }
+        Ok(Status::Partial) => {
+            if held.len() < GREATEST_HEAD {
+                return Cut::More;
+            }
+            return Cut::Refused(HttpFault::BadHead);
+        }
+        Err(_) => return Cut::Refused(HttpFault::BadHead),
+    }
+}

@@ -1,0 +1,29 @@
+//! Requests of a stream, however it is cut, and the heads of replies.
+//!
+//! A [`Stream`] holds what came of a connection and isn't answered yet. [`Stream::take`] appends a piece,
+//! [`Stream::cut`] answers what stands at the front (a request, nothing whole yet, or a refusal), and
+//! [`Stream::discard`] drops a request that is answered. [`write_head`] writes the head of a reply (RFC 9112,
+//! section 4): exactly the lines of `specs/Reply.antt`, in their order. Only the two `new` take memory.
+//!
+//! Contracts see a stream as the bytes that it holds. Start reading at `specs/Requests.antt`, which says what stands at
+//! the front of some bytes, over the grammar of heads in `httparse`; `specs/Fields.antt` says what the fields mean.
+#![tactic(auto)]
+
+mod cutting;
+mod fault;
+mod fields;
+mod reply_head;
+mod request;
+mod room;
+mod stream;
+mod text;
+mod writing;
+
+pub use fault::HttpFault;
+pub use reply_head::{ReplyHead, write_head};
+pub use request::{Cut, HttpRequest};
+pub use room::HeadRoom;
+pub use stream::Stream;
+
+#[cfg(test)]
+mod tests;
