@@ -3,14 +3,14 @@ use Rattle.std.proofs.Common.{◌≡◌, ℕ, ◌+◌, ◌-◌, ◌<◌, ◌≤�
 use Rattle.std.specs.Prelude.{nat_le, if◌then◌else◌, Result, Ok, Err, Option, Some, None}
 use Rattle.std.proofs.lemmas.Bool.{cond-true, le-leb, leb-true, cases_Bool, cases_lt}
 use Rattle.std.proofs.Math.Seq.{take-append_seam, take-append-add}
-use Rattle.std.proofs.lemmas.List.{length-append, append-nil, take-append-le, drop-append-le, nil_from_length}
+use Rattle.std.proofs.lemmas.List.{length-append, take-append-le, drop-append-le}
 use Rattle.httparse.specs.Grammar.{RequestHead, print_request, print_end}
 use Rattle.httparse.proofs.GrammarLemmas.{request_unique, ReadsRequest-append}
 use Rattle.http_cut.specs.declared.fault.HttpFault.{HttpFault}
 use Rattle.http_cut.specs.declared.request.Cut as code
 use Rattle.http_cut.specs.declared.request.Cut.TheVariants as cuts
 use Rattle.http_cut.specs.Fields.{framing}
-use Rattle.http_cut.specs.Requests.{BeginsWith, HasNoHead, NeverHasHead, HasEmptyLine, IsOver, IsHeadless, Head, Request, request_of, Outcome, takes, waits, refuses, IsCut, by_framing, with_body, outcome_behind, head_of, outcome_of, request_view}
+use Rattle.http_cut.specs.Requests.{BeginsWith, HasNoHead, NeverHasHead, HasEmptyLine, IsOver, Head, Request, request_of, Outcome, takes, waits, refuses, IsCut, by_framing, outcome_behind, head_of, outcome_of, request_view}
 use Rattle.http_cut.specs.Streams.{IfRequest, IsFirst, AreRequests, IsStream, EndsWith}
 use Rattle.http_cut.proofs.Ends.{ends_empty}
 use Rattle.http_cut.proofs.Windows.{some_head}

@@ -1,5 +1,5 @@
 -- A head lies in the first 8,192 bytes, and has fewer fields than there is room for.
-use Rattle.std.proofs.Common.{◌≡◌, ℕ, ◌+◌, ◌-◌, ◌*◌, ◌<◌, ◌≤◌, List, [], ◌∷◌, ◌++◌, length, take, drop, refl, sym, ap, subst, ◌∙◌, append_assoc, arith}
+use Rattle.std.proofs.Common.{◌≡◌, ℕ, ◌+◌, ◌-◌, ◌*◌, ◌<◌, ◌≤◌, List, [], ◌∷◌, ◌++◌, length, take, drop, sym, ap, subst, ◌∙◌, append_assoc, arith}
 use Rattle.std.specs.Prelude.{All}
 use Rattle.std.specs.List.{flat_map}
 use Rattle.std.proofs.lemmas.List.{length-append, append-nil, take-append-drop}
@@ -10,7 +10,7 @@ use Rattle.httparse.specs.declared.spans.RequestSpans.{RequestSpans}
 use Rattle.httparse.specs.Grammar.{LineEnd, crlf, lf, print_end, print_blank, print_version, print_field, print_section, Field, IsField, RequestHead, IsRequestHead, print_request, ReadsRequest, HasNoRequest}
 use Rattle.httparse.specs.Spans.{IsRequestAt, RequestOverflows}
 use Rattle.httparse.proofs.GrammarLemmas.{ReadsRequest-append}
-use Rattle.http_cut.specs.Requests.{BeginsWith, HasNoHead, NeverHasHead, Head, head_of}
+use Rattle.http_cut.specs.Requests.{BeginsWith, HasNoHead, NeverHasHead, head_of}
 use Rattle.http_cut.specs.Views.{head_at}
 
 pub into_window : (held : List ℕ) (h : RequestHead) (rest : List ℕ) → BeginsWith held h rest

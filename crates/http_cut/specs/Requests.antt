@@ -1,5 +1,5 @@
 -- Requests at the front of the bytes of a stream (RFC 9112, sections 2 to 6 and 9).
-use Rattle.std.specs.Prelude.{◌≡◌, ◌⊎◌, ℕ, ◌+◌, ◌≤◌, ◌==◌, ◌||◌, not, Bool, List, [], ◌∷◌, ◌++◌, map, length, take, drop, nat_le, if◌then◌else◌, codes, Result, Ok, Err, Option, option_map, IsTrue}
+use Rattle.std.specs.Prelude.{◌≡◌, ◌⊎◌, ℕ, ◌+◌, ◌≤◌, ◌==◌, ◌||◌, not, Bool, List, ◌∷◌, ◌++◌, map, length, take, nat_le, if◌then◌else◌, codes, Result, Ok, Err, Option, option_map, IsTrue}
 use Rattle.std.specs.List.{list_any}
 use Rattle.httparse.specs.Ascii.{line_feed, carriage_return}
 use Rattle.httparse.specs.Grammar.{LineEnd, print_end, RequestHead, print_request, ReadsRequest}

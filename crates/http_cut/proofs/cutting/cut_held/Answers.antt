@@ -1,4 +1,4 @@
-use Rattle.std.proofs.Common.{◌≡◌, ℕ, ◌≤◌, List, length, take, ap, subst, ◌∙◌, arith}
+use Rattle.std.proofs.Common.{ℕ, ◌≤◌, List, take, ap, subst, ◌∙◌, arith}
 use Rattle.httparse.specs.Spans.{RequestOverflows}
 use Rattle.http_cut.specs.Requests.{outcome_of, outcome_behind}
 use Rattle.http_cut.specs.Views.{head_at}

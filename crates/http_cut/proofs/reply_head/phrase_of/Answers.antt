@@ -1,4 +1,4 @@
-use Rattle.std.proofs.Common.{◌≡◌, ℕ, ◌≤◌, List, length, refl, sym, ap, subst, ◌∙◌}
+use Rattle.std.proofs.Common.{ℕ, ◌≤◌, List, length, refl, sym, ap, subst, ◌∙◌}
 use denote.Ref.{Bor}
 use Rattle.http.specs.StatusCode.{reason_phrase}
 use Rattle.http_cut.proofs.Statuses.{reply_status, phrase_is}

@@ -1,4 +1,4 @@
-use Rattle.std.proofs.Common.{◌≡◌, ℕ, List, ◌++◌, ap, subst, sym, ◌∙◌}
+use Rattle.std.proofs.Common.{◌++◌, sym, ◌∙◌}
 use Rattle.std.specs.Prelude.{codes}
 use Rattle.http.specs.StatusCode.{code_digits}
 use Rattle.http_cut.specs.Reply.{status_line, phrase_of}
