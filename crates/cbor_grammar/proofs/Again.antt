@@ -1,21 +1,19 @@
 -- What is spelled is read.
-use Rattle.std.proofs.Common.{◌≡◌, ℕ, zero, suc, ◌+◌, ◌*◌, ◌-◌, ◌/◌, ◌%◌, ◌<◌, ◌≤◌, Bool, true, false, cond, List, [], ◌∷◌, ◌++◌, length, Option, Some, None, Result, Ok, Err, refl, sym, ap, ◌∙◌, subst, inl, inr, arith, append_assoc}
-use Rattle.std.specs.Prelude.{nat_lt, ◌==◌, ◌⊎◌, not}
-use Rattle.std.specs.Int.{byte_len, from_be_bytes}
+use Rattle.std.proofs.Common.{◌≡◌, ℕ, zero, suc, ◌+◌, ◌*◌, ◌-◌, ◌/◌, ◌%◌, ◌<◌, ◌≤◌, true, false, List, [], ◌∷◌, ◌++◌, length, Option, Ok, refl, sym, ap, ◌∙◌, arith, append_assoc}
+use Rattle.std.specs.Prelude.{◌==◌}
 use Rattle.std.proofs.lemmas.Bool.{lt-ltb, le-ltb, ne_eqb, eq-eqb, and_from}
-use Rattle.std.proofs.lemmas.List.{append-nil, take_at, drop_at, length-append}
+use Rattle.std.proofs.lemmas.List.{take_at, drop_at, length-append}
 use Rattle.std.proofs.lemmas.Str.{is_utf8-from_IsUtf8}
-use Rattle.cbor_grammar.specs.declared.fault.CborFault.{CborFault}
 use Rattle.cbor_grammar.specs.declared.head.Major.{Major}
 use Rattle.cbor_grammar.specs.declared.head.Major.TheVariants as major_type
 use Rattle.cbor_grammar.specs.declared.head.Start.TheVariants as start
 use Rattle.cbor_grammar.specs.Parts.{number_of}
-use Rattle.cbor_grammar.specs.Tree.{Tree, unsigned, negative, byte_string, text, array, mapping, tag, boolean, null, Trees, no_items, item, Pairs, items_of, pairs_of, count}
-use Rattle.cbor_grammar.specs.Spelling.{width, begin, break, IsArgument, itself, follows, IsHead, Fits, IsString, AreParts, SpellsString, SpellsItems, SpellsPairs, Holds, IsInOrder, SpellsPlain, SpellsNest, SpellsWithin}
+use Rattle.cbor_grammar.specs.Tree.{Tree, unsigned, negative, byte_string, text, array, mapping, tag, boolean, null, Trees, no_items, item, items_of, count}
+use Rattle.cbor_grammar.specs.Spelling.{width, begin, break, IsArgument, itself, follows, IsHead, Fits, AreParts, SpellsString, SpellsItems, SpellsPairs, SpellsPlain}
 use Rattle.cbor_grammar.specs.Reading.{parts_of, Read, ◌>>=◌, argument_at, content_at, checked, string_at, is_part, parts_at, items_at, open_items_at, pair_at, pairs_at, open_pairs_at, value_at, indefinite_at, item_at, start_of, start_with, has_key, put, begun_at}
 use Rattle.cbor_grammar.proofs.Heads.{number_reads}
-use Rattle.cbor_grammar.proofs.Firsts.{HasArgument, start_at, item_begins, value_begins, open_begins, info_small, Starts, Starts-append, read_starts}
-use Rattle.cbor_grammar.proofs.Ordered.{Runs, in_order_runs}
+use Rattle.cbor_grammar.proofs.Firsts.{HasArgument, start_at, item_begins, value_begins, open_begins, info_small, Starts, Starts-append}
+use Rattle.cbor_grammar.proofs.Ordered.{Runs}
 
 -- ---- heads and strings
 
@@ -26,7 +24,7 @@ argument_again end info n following rest argument = elim argument [
   | follows least most len is ↦ let e = le-ltb info 24 least in rw e (number_reads end (width info) following rest len ∙ ap (λ (m : ℕ). Ok (m, rest)) (sym is))
 ]
 
-checked_again : (a : Major) (at : ℕ) (string rest : List ℕ) → Fits (number_of a) string → checked a at (string, rest) ≡ Ok (string, rest)
+pub checked_again : (a : Major) (at : ℕ) (string rest : List ℕ) → Fits (number_of a) string → checked a at (string, rest) ≡ Ok (string, rest)
 checked_again major_type.Unsigned at string rest fits = refl
 checked_again major_type.Negative at string rest fits = refl
 checked_again major_type.Bytes at string rest fits = refl

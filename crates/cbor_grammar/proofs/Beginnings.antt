@@ -1,14 +1,14 @@
 -- What a byte begins, by its major type and its additional information.
-use Rattle.std.proofs.Common.{◌≡◌, ℕ, suc, zero, ◌+◌, ◌*◌, ◌-◌, ◌/◌, ◌%◌, ◌<◌, ◌≤◌, Bool, true, false, cond, List, [], ◌∷◌, ◌++◌, length, refl, sym, ap, ◌∙◌, subst, inl, inr, arith}
-use Rattle.std.specs.Prelude.{nat_lt, nat_le, ◌==◌, ◌⊎◌, ◌&&◌}
-use Rattle.std.proofs.lemmas.Bool.{lt-ltb, le-ltb, le-leb, lt-leb, cases_lt, cases_eq, ne_eqb, eq-eqb, and_from, and_left, and_right}
+use Rattle.std.proofs.Common.{◌≡◌, ℕ, suc, zero, ◌+◌, ◌*◌, ◌/◌, ◌%◌, ◌<◌, ◌≤◌, Bool, true, false, List, [], ◌∷◌, ◌++◌, refl, sym, ◌∙◌, subst, inl, inr, arith}
+use Rattle.std.specs.Prelude.{◌⊎◌}
+use Rattle.std.proofs.lemmas.Bool.{lt-ltb, le-ltb, le-leb, lt-leb, cases_lt, cases_eq, ne_eqb, eq-eqb}
 use Rattle.cbor_grammar.specs.declared.head.Major.{Major}
 use Rattle.cbor_grammar.specs.declared.head.Major.TheVariants as major_type
 use Rattle.cbor_grammar.specs.declared.head.Start.{Start}
 use Rattle.cbor_grammar.specs.declared.head.Start.TheVariants as start
 use Rattle.cbor_grammar.specs.Parts.{number_of}
-use Rattle.cbor_grammar.specs.Reading.{major_of, simple_start, sized_start, start_with, start_of}
-use Rattle.cbor_grammar.proofs.Firsts.{HasArgument, start_at}
+use Rattle.cbor_grammar.specs.Reading.{major_of, simple_start, sized_start, start_with}
+use Rattle.cbor_grammar.proofs.Firsts.{HasArgument}
 
 abbrev pub AreBytes : List ℕ → Type 0
 AreBytes [] = Unit {0}

@@ -1,28 +1,27 @@
 -- Where no item is read, the bytes break.
-use Rattle.std.proofs.Common.{◌≡◌, ℕ, zero, suc, ◌+◌, ◌*◌, ◌-◌, ◌/◌, ◌%◌, ◌<◌, ◌≤◌, List, [], ◌∷◌, ◌++◌, length, Option, Some, None, Result, Ok, Err, refl, sym, ap, ◌∙◌, subst, inl, inr, arith, append_assoc}
+use Rattle.std.proofs.Common.{◌≡◌, ℕ, zero, suc, ◌+◌, ◌*◌, ◌-◌, ◌/◌, ◌%◌, ◌<◌, ◌≤◌, List, [], ◌∷◌, ◌++◌, length, Option, Ok, Err, refl, sym, ap, ◌∙◌, subst, inl, inr, arith}
 use Rattle.std.specs.Prelude.{◌⊎◌}
-use Rattle.std.proofs.lemmas.Bool.{cases_eq, cases_lt}
+use Rattle.std.proofs.lemmas.Bool.{cases_eq}
 use Rattle.std.proofs.lemmas.List.{length-append}
 use Rattle.cbor_grammar.specs.declared.fault.CborFault.{CborFault}
 use Rattle.cbor_grammar.specs.declared.fault.CborFault.TheVariants.{Short, Reserved, Unsupported, Deep}
 use Rattle.cbor_grammar.specs.declared.head.Major.{Major}
 use Rattle.cbor_grammar.specs.declared.head.Major.TheVariants as major_type
 use Rattle.cbor_grammar.specs.declared.head.Start.{Start}
-use Rattle.cbor_grammar.specs.declared.head.Start.TheVariants as start
 use Rattle.cbor_grammar.specs.Parts.{number_of}
-use Rattle.cbor_grammar.specs.Tree.{Tree, unsigned, negative, byte_string, text, array, mapping, tag, items_of, pairs_of, count}
-use Rattle.cbor_grammar.specs.Spelling.{begin, break, IsHead, SpellsWithin}
-use Rattle.cbor_grammar.specs.Breaking.{IsReserved, IsUnsupported, IsNesting, IsCut, BreaksPlain, BreaksNest, GoesOn, IsDeep, IsNumber, IsStringType, BreaksWithin}
-use Rattle.cbor_grammar.specs.Reading.{parts_of, Read, ◌>>=◌, argument_at, string_at, parts_at, items_at, open_items_at, pairs_at, open_pairs_at, major_of, start_of, start_with, simple, value_at, indefinite_at, begun_at, item_at}
+use Rattle.cbor_grammar.specs.Tree.{Tree, unsigned, negative, byte_string, text, array, mapping, tag, items_of, pairs_of}
+use Rattle.cbor_grammar.specs.Spelling.{begin, SpellsWithin}
+use Rattle.cbor_grammar.specs.Breaking.{IsReserved, IsUnsupported, IsNesting, BreaksPlain, BreaksNest, GoesOn, IsNumber, IsStringType, BreaksWithin}
+use Rattle.cbor_grammar.specs.Reading.{parts_of, Read, ◌>>=◌, argument_at, string_at, parts_at, items_at, open_items_at, pairs_at, open_pairs_at, major_of, start_of, simple, value_at, indefinite_at, begun_at, item_at}
 use Rattle.cbor_grammar.proofs.Results.{bind_err, err_is, not_both, broken}
 use Rattle.cbor_grammar.proofs.Firsts.{HasArgument, item_begins, nothing_short}
-use Rattle.cbor_grammar.proofs.Beginnings.{AreBytes, byte_is, HasOpen, Begins, begins}
+use Rattle.cbor_grammar.proofs.Beginnings.{byte_is, HasOpen, Begins, begins}
 use Rattle.cbor_grammar.proofs.Nested.{within_starts}
 use Rattle.cbor_grammar.proofs.Taken.{Argument, argument_taken}
 use Rattle.cbor_grammar.proofs.Spelled.{within_taken}
 use Rattle.cbor_grammar.proofs.Sound.{Held, held_rest, within_sound}
-use Rattle.cbor_grammar.proofs.Faults.{end_after, cut, string_broken, parts_broken, head_of}
-use Rattle.cbor_grammar.proofs.PartFaults.{Faults, ItemsBreak, PairsBreak, NoEnd, items_broken, open_items_broken, pairs_broken, open_pairs_broken, pairs_break}
+use Rattle.cbor_grammar.proofs.Faults.{cut, string_broken, parts_broken, head_of}
+use Rattle.cbor_grammar.proofs.PartFaults.{Faults, items_broken, open_items_broken, pairs_broken, open_pairs_broken, pairs_break}
 
 abbrev whole : Tree × List ℕ → Read Tree
 whole x = Ok x

@@ -1,25 +1,21 @@
 -- Where a head, a string or parts one after the other are not read, they break.
-use Rattle.std.proofs.Common.{◌≡◌, ℕ, zero, suc, ◌+◌, ◌*◌, ◌-◌, ◌/◌, ◌%◌, ◌<◌, ◌≤◌, Bool, true, false, cond, ltb, List, [], ◌∷◌, ◌++◌, length, take, drop, Option, Some, None, Result, Ok, Err, refl, sym, ap, ◌∙◌, subst, inl, inr, arith, append_assoc}
-use Rattle.std.specs.Prelude.{nat_lt, ◌==◌, ◌⊎◌, not, ◌&&◌, IsUtf8}
-use Rattle.std.specs.Int.{byte_len, from_be_bytes}
+use Rattle.std.proofs.Common.{◌≡◌, ℕ, zero, suc, ◌+◌, ◌*◌, ◌-◌, ◌/◌, ◌%◌, ◌<◌, ◌≤◌, true, false, cond, ltb, List, [], ◌∷◌, ◌++◌, length, Ok, Err, refl, sym, ap, ◌∙◌, subst, inl, inr, arith, append_assoc}
+use Rattle.std.specs.Prelude.{nat_lt, ◌==◌, not, IsUtf8}
+use Rattle.std.specs.Int.{byte_len}
 use Rattle.std.specs.Str.{is_utf8}
-use Rattle.std.proofs.lemmas.Bool.{ltb-true, ltb-false, eqb-false, not-false, not-true, cases_Bool, lt-ltb, eq-eqb, and_from}
+use Rattle.std.proofs.lemmas.Bool.{ltb-true, ltb-false, eqb-false, not-false, not-true, lt-ltb, eq-eqb, and_from}
 use Rattle.std.proofs.lemmas.List.{length-append, nil_from_length}
 use Rattle.std.proofs.lemmas.Str.{is_utf8-from_IsUtf8}
 use Rattle.cbor_grammar.specs.declared.fault.CborFault.{CborFault}
-use Rattle.cbor_grammar.specs.declared.fault.CborFault.TheVariants.{Short, Reserved, NotUtf8, Duplicate, Unsupported, Deep}
+use Rattle.cbor_grammar.specs.declared.fault.CborFault.TheVariants.{Short, Reserved, NotUtf8}
 use Rattle.cbor_grammar.specs.declared.head.Major.{Major}
 use Rattle.cbor_grammar.specs.declared.head.Major.TheVariants as major_type
 use Rattle.cbor_grammar.specs.Parts.{number_of}
-use Rattle.cbor_grammar.specs.Tree.{Tree, Trees, no_items, item, items_of, count}
-use Rattle.cbor_grammar.specs.Spelling.{width, begin, break, IsHead, IsString, AreParts, SpellsItems, SpellsPairs}
+use Rattle.cbor_grammar.specs.Spelling.{width, break, IsHead, AreParts}
 use Rattle.cbor_grammar.specs.Breaking.{IsCut, BreaksString, BreaksPart}
-use Rattle.cbor_grammar.specs.Reading.{Read, ◌>>=◌, argument_at, number_at, content_at, checked, string_at, is_part, parts_at, items_at, open_items_at, pair_at, pairs_at, open_pairs_at, has_key, put}
-use Rattle.cbor_grammar.proofs.Results.{bind_ok, bind_err, ok_is, err_is, not_both, chosen, done, broken}
-use Rattle.cbor_grammar.proofs.Again.{IsStringMajor}
-use Rattle.cbor_grammar.proofs.Beginnings.{AreBytes, bytes_rest}
-use Rattle.cbor_grammar.proofs.Ordered.{Runs}
-use Rattle.cbor_grammar.proofs.Taken.{Argument, argument_taken, content_taken, String, string_taken, one_part, part_is, Took, Takes, Pair, pair_taken}
+use Rattle.cbor_grammar.specs.Reading.{Read, ◌>>=◌, argument_at, number_at, content_at, checked, string_at, is_part, parts_at}
+use Rattle.cbor_grammar.proofs.Results.{bind_err, err_is, not_both, chosen, done, broken}
+use Rattle.cbor_grammar.proofs.Taken.{Argument, argument_taken, content_taken, String, string_taken, one_part, part_is}
 
 -- ---- places
 

@@ -1,9 +1,7 @@
 -- What the first byte of an item begins.
-use Rattle.std.proofs.Common.{◌≡◌, ℕ, suc, zero, ◌+◌, ◌*◌, ◌-◌, ◌/◌, ◌%◌, ◌<◌, ◌≤◌, Bool, true, false, List, [], ◌∷◌, ◌++◌, length, Option, Some, None, Result, Ok, Err, refl, sym, ap, ◌∙◌, subst, inl, inr, arith}
-use Rattle.std.specs.Prelude.{nat_lt, ◌==◌, ◌⊎◌}
+use Rattle.std.proofs.Common.{◌≡◌, ℕ, suc, zero, ◌+◌, ◌*◌, ◌-◌, ◌/◌, ◌%◌, ◌<◌, false, List, [], ◌∷◌, ◌++◌, length, Ok, Err, refl, sym, ap, ◌∙◌, inl, inr, arith}
+use Rattle.std.specs.Prelude.{◌==◌, ◌⊎◌}
 use Rattle.std.proofs.lemmas.Bool.{lt-ltb, cases_eq, ne_eqb}
-use Rattle.std.proofs.lemmas.List.{append-nil}
-use Rattle.cbor_grammar.specs.declared.fault.CborFault.{CborFault}
 use Rattle.cbor_grammar.specs.declared.fault.CborFault.TheVariants.{Short, Reserved}
 use Rattle.cbor_grammar.specs.declared.head.Major.{Major}
 use Rattle.cbor_grammar.specs.declared.head.Major.TheVariants as major_type
@@ -11,8 +9,8 @@ use Rattle.cbor_grammar.specs.declared.head.Start.{Start}
 use Rattle.cbor_grammar.specs.declared.head.Start.TheVariants as start
 use Rattle.cbor_grammar.specs.Parts.{number_of}
 use Rattle.cbor_grammar.specs.Tree.{Tree}
-use Rattle.cbor_grammar.specs.Spelling.{break, IsArgument, itself, follows, IsHead}
-use Rattle.cbor_grammar.specs.Reading.{Read, major_of, start_with, start_of, begun_at, value_at, indefinite_at, item_with, item_at, parts_of}
+use Rattle.cbor_grammar.specs.Spelling.{break, IsArgument, itself, follows}
+use Rattle.cbor_grammar.specs.Reading.{major_of, start_with, start_of, begun_at, value_at, indefinite_at, item_with, item_at, parts_of}
 use Rattle.cbor_grammar.proofs.Results.{not_both}
 
 -- major types other than 7

@@ -1,16 +1,14 @@
 -- A head is taken apart in one way.
-use Rattle.std.proofs.Common.{slice_index_or, ◌≡◌, ℕ, ◌+◌, ◌*◌, ◌/◌, ◌%◌, ◌^◌, ◌<◌, ◌≤◌, inl, inr, cond, List, [], ◌∷◌, ◌++◌, length, get_or, take, drop, Result, Ok, refl, sym, ap, ◌∙◌, arith}
-use Rattle.std.specs.Prelude.{nat_lt, ◌==◌}
+use Rattle.std.proofs.Common.{slice_index_or, ◌≡◌, ℕ, ◌+◌, ◌*◌, ◌^◌, ◌<◌, ◌≤◌, inl, inr, cond, List, [], ◌∷◌, ◌++◌, length, get_or, drop, Ok, refl, sym, ap, ◌∙◌, arith}
+use Rattle.std.specs.Prelude.{◌==◌}
 use Rattle.std.specs.Int.{Width, w8, w16, w32, w64, byte_len, to_be_bytes, from_be_bytes}
 use Rattle.std.proofs.lemmas.Bool.{cases_lt, le-ltb, lt-ltb}
 use Rattle.std.proofs.lemmas.Nat.{from_be_bytes-to_be_bytes_2, from_be_bytes-to_be_bytes_4, from_be_bytes-to_be_bytes_8}
 use Rattle.std.proofs.lemmas.List.{take_at, drop_at, length-append}
 use Rattle.cbor_grammar.specs.Parts.{number_of}
-use Rattle.cbor_grammar.specs.declared.fault.CborFault.{CborFault}
 use Rattle.cbor_grammar.specs.declared.head.Major.{Major}
 use Rattle.cbor_grammar.specs.declared.head.Major.TheVariants as major_type
 use Rattle.cbor_grammar.specs.Head.{information, following, head}
-use Rattle.cbor_grammar.specs.Spelling.{width}
 use Rattle.cbor_grammar.specs.Reading.{argument_at, number_at}
 use Rattle.cbor_grammar.proofs.Results.{ok_is}
 
@@ -107,3 +105,76 @@ one_head a b m n x y f g e =
     let j : information n < 28 = information_small n in
     let same = one_argument m n x y f g (omega arith) rest in
     (number_same a b (omega arith), same.0, same.1)
+
+-- ---- the head that is written
+
+pub head_none : (major n : ℕ) → n < 24 → head major n ≡ (32 * major + n) ∷ []
+unfolding head
+head_none major n h = elim (size_of n) [
+  | none below i b ↦ rw (i, b) refl
+  | one over below i b ↦ absurd (omega arith)
+  | two over below i b ↦ absurd (omega arith)
+  | four over below i b ↦ absurd (omega arith)
+  | eight over i b ↦ absurd (omega arith)
+]
+
+pub head_one : (major n : ℕ) → 24 ≤ n → n < 2 ^ 8 → head major n ≡ (32 * major + 24) ∷ n ∷ []
+unfolding head
+head_one major n g h = elim (size_of n) [
+  | none below i b ↦ absurd (omega arith)
+  | one over below i b ↦ rw (i, b) refl
+  | two over below i b ↦ absurd (omega arith)
+  | four over below i b ↦ absurd (omega arith)
+  | eight over i b ↦ absurd (omega arith)
+]
+
+pub head_two : (major n : ℕ) → 2 ^ 8 ≤ n → n < 2 ^ 16 → head major n ≡ (32 * major + 25) ∷ to_be_bytes w16 n
+unfolding head
+head_two major n g h = elim (size_of n) [
+  | none below i b ↦ absurd (omega arith)
+  | one over below i b ↦ absurd (omega arith)
+  | two over below i b ↦ rw (i, b) refl
+  | four over below i b ↦ absurd (omega arith)
+  | eight over i b ↦ absurd (omega arith)
+]
+
+pub head_four : (major n : ℕ) → 2 ^ 16 ≤ n → n < 2 ^ 32 → head major n ≡ (32 * major + 26) ∷ to_be_bytes w32 n
+unfolding head
+head_four major n g h = elim (size_of n) [
+  | none below i b ↦ absurd (omega arith)
+  | one over below i b ↦ absurd (omega arith)
+  | two over below i b ↦ absurd (omega arith)
+  | four over below i b ↦ rw (i, b) refl
+  | eight over i b ↦ absurd (omega arith)
+]
+
+pub head_eight : (major n : ℕ) → 2 ^ 32 ≤ n → head major n ≡ (32 * major + 27) ∷ to_be_bytes w64 n
+unfolding head
+head_eight major n g = elim (size_of n) [
+  | none below i b ↦ absurd (omega arith)
+  | one over below i b ↦ absurd (omega arith)
+  | two over below i b ↦ absurd (omega arith)
+  | four over below i b ↦ absurd (omega arith)
+  | eight over i b ↦ rw (i, b) refl
+]
+
+-- ---- the same in an array
+
+pub array_none : (kind major n : ℕ) → kind ≡ major → n < 24 → (32 * kind + n) ∷ [] ≡ head major n
+array_none kind major n is h = rw (is, head_none major n h) refl
+
+pub array_one : (kind major n : ℕ) → kind ≡ major → 24 ≤ n → n < 2 ^ 8 → (32 * kind + 24) ∷ n ∷ [] ≡ head major n
+array_one kind major n is g h = rw (is, head_one major n g h) refl
+
+pub array_two : (kind major n : ℕ) (r : List ℕ) → kind ≡ major → 2 ^ 8 ≤ n → n < 2 ^ 16 → r ≡ to_be_bytes w16 n
+    → (32 * kind + 25) ∷ slice_index_or r 0 0 ∷ slice_index_or r 1 0 ∷ [] ≡ head major n
+array_two kind major n r is g h e = rw (is, head_two major n g h, e) refl
+
+pub array_four : (kind major n : ℕ) (r : List ℕ) → kind ≡ major → 2 ^ 16 ≤ n → n < 2 ^ 32 → r ≡ to_be_bytes w32 n
+    → (32 * kind + 26) ∷ slice_index_or r 0 0 ∷ slice_index_or r 1 0 ∷ slice_index_or r 2 0 ∷ slice_index_or r 3 0 ∷ [] ≡ head major n
+array_four kind major n r is g h e = rw (is, head_four major n g h, e) refl
+
+pub array_eight : (kind major n : ℕ) (r : List ℕ) → kind ≡ major → 2 ^ 32 ≤ n → r ≡ to_be_bytes w64 n
+    → (32 * kind + 27) ∷ slice_index_or r 0 0 ∷ slice_index_or r 1 0 ∷ slice_index_or r 2 0 ∷ slice_index_or r 3 0
+    ∷ slice_index_or r 4 0 ∷ slice_index_or r 5 0 ∷ slice_index_or r 6 0 ∷ slice_index_or r 7 0 ∷ [] ≡ head major n
+array_eight kind major n r is g e = rw (is, head_eight major n g, e) refl

@@ -65,7 +65,7 @@ pub has_true_key : (ps : List (Tree × Tree)) (k : Tree) → AllByRecursion KeyS
 has_true_key [] k all sound e = absurd (false_true e)
 has_true_key (p ∷ ps) k all sound e = has_step (key_order p.0 k) p.0 k ps refl all.0 sound e (has_true_key ps k all.1 sound)
 
-or_true : (b c : Bool) → c ≡ true → cond b true c ≡ true
+pub or_true : (b c : Bool) → c ≡ true → cond b true c ≡ true
 or_true true c e = refl
 or_true false c e = e
 

@@ -1,13 +1,20 @@
 pub mod Again
 pub mod Beginnings
 pub mod Broken
+pub mod Compared
+pub mod Decoded
 pub mod Faults
 pub mod Firsts
 pub mod Heads
+pub mod Inside
 pub mod Keys
+pub mod Levels
+pub mod Loops
 pub mod Nested
 pub mod Ordered
+pub mod Paired
 pub mod PartFaults
+pub mod Places
 pub mod Readings
 pub mod Refusals
 pub mod Refused
@@ -16,3 +23,6 @@ pub mod Sound
 pub mod Spelled
 pub mod Spellings
 pub mod Taken
+pub mod Texts
+pub mod Views
+pub mod Written

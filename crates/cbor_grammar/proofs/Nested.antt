@@ -1,15 +1,12 @@
 -- What is spelled is read, however deep it nests.
-use Rattle.std.proofs.Common.{◌≡◌, ℕ, zero, suc, ◌+◌, ◌*◌, ◌-◌, ◌<◌, ◌≤◌, List, [], ◌∷◌, ◌++◌, length, Option, Some, None, Result, Ok, Err, refl, sym, ap, ◌∙◌, subst, inl, inr, arith, append_assoc}
+use Rattle.std.proofs.Common.{◌≡◌, ℕ, zero, suc, List, [], ◌∷◌, ◌++◌, length, Some, Ok, refl, sym, ap, ◌∙◌, subst, inl, inr, arith, append_assoc}
 use Rattle.std.specs.Prelude.{◌⊎◌}
 use Rattle.std.proofs.lemmas.List.{append-nil}
-use Rattle.cbor_grammar.specs.declared.head.Major.{Major}
 use Rattle.cbor_grammar.specs.declared.head.Major.TheVariants as major_type
-use Rattle.cbor_grammar.specs.declared.head.Start.TheVariants as start
-use Rattle.cbor_grammar.specs.Parts.{number_of}
-use Rattle.cbor_grammar.specs.Tree.{Tree, unsigned, negative, byte_string, text, array, mapping, tag, boolean, null, Trees, Pairs, items_of, pairs_of, count}
-use Rattle.cbor_grammar.specs.Spelling.{begin, break, IsHead, SpellsItems, SpellsPairs, Holds, IsInOrder, SpellsPlain, SpellsNest, SpellsWithin}
-use Rattle.cbor_grammar.specs.Reading.{parts_of, Read, ◌>>=◌, argument_at, items_at, open_items_at, pairs_at, open_pairs_at, value_at, indefinite_at, item_at, start_with}
-use Rattle.cbor_grammar.proofs.Firsts.{start_at, open_begins, Starts, read_starts}
+use Rattle.cbor_grammar.specs.Tree.{Tree, unsigned, negative, byte_string, text, array, mapping, tag, boolean, null, Trees, Pairs, count}
+use Rattle.cbor_grammar.specs.Spelling.{begin, break, SpellsItems, SpellsPairs, Holds, IsInOrder, SpellsPlain, SpellsNest, SpellsWithin}
+use Rattle.cbor_grammar.specs.Reading.{Read, argument_at, items_at, pairs_at, value_at, indefinite_at, item_at, start_with}
+use Rattle.cbor_grammar.proofs.Firsts.{open_begins, Starts, read_starts}
 use Rattle.cbor_grammar.proofs.Again.{argument_again, head_begins, plain_again, list_of, items_list, items_again, open_items_again, pairs_again, open_pairs_again}
 use Rattle.cbor_grammar.proofs.Ordered.{Runs, in_order_runs}
 

@@ -1,18 +1,17 @@
 -- Pairs in the order of their keys.
-use Rattle.std.proofs.Common.{◌≡◌, ℕ, ◌+◌, ◌≤◌, Bool, true, false, cond, List, [], ◌∷◌, ◌++◌, refl, sym, ap, subst, ◌∙◌, inl, inr, arith, append_assoc}
+use Rattle.std.proofs.Common.{◌≡◌, ℕ, ◌+◌, ◌≤◌, Bool, true, false, cond, List, [], ◌∷◌, ◌++◌, refl, sym, ap, subst, ◌∙◌, inl, inr, arith}
 use Rattle.std.specs.Prelude.{◌⊎◌, IsPermutation, sum_by}
 use Rattle.std.specs.List.{AllByRecursion}
 use Rattle.std.specs.declared.cmp.Ordering.{Ordering}
-use Rattle.std.specs.Ordering.{nat_cmp, is_eq, is_lt, ordering_reverse}
+use Rattle.std.specs.Ordering.{is_eq, is_lt, ordering_reverse}
 use Rattle.std.specs.declared.cmp.Ordering.TheVariants.{Less, Equal, Greater}
-use Rattle.std.specs.Cmp.Lexicographic.{slice_cmp}
 use Rattle.std.proofs.lemmas.Cmp.{nat_list_cmp_total}
 use Rattle.std.proofs.lemmas.Bool.{cond_both}
 use Rattle.std.proofs.lemmas.List.{append-nil}
 use Rattle.std.proofs.lemmas.List.Sums.{sum_by-cons}
 use Rattle.std.proofs.lemmas.List.Sorted.{IsPermutation-refl, IsPermutation-sym, IsPermutation-trans, IsPermutation-cons, IsPermutation-middle, IsPermutation-append_left, sum_by-IsPermutation, All-permutation}
 use Rattle.std.proofs.lemmas.List.Elements.{All-from_recursion, recursion_from_All}
-use Rattle.cbor_grammar.specs.Tree.{Tree, unsigned, negative, byte_string, text, array, mapping, tag, boolean, null, Pairs, pairs_of}
+use Rattle.cbor_grammar.specs.Tree.{Tree, unsigned, negative, byte_string, text, array, mapping, tag, boolean, null, pairs_of}
 use Rattle.cbor_grammar.specs.Head.{head}
 use Rattle.cbor_grammar.specs.Canon.{canon}
 use Rattle.cbor_grammar.specs.Valid.{IsBefore, RiseFrom}
@@ -33,10 +32,10 @@ after_nothing null = refl
 
 -- ---- the order
 
-order_then : (a b c : Tree) → key_order a b ≡ Less → key_order b c ≡ Less → key_order a c ≡ Less
+pub order_then : (a b c : Tree) → key_order a b ≡ Less → key_order b c ≡ Less → key_order a c ≡ Less
 order_then a b c = nat_list_cmp_total.trans (canon a) (canon b) (canon c)
 
-order_flip : (a b : Tree) → key_order b a ≡ ordering_reverse (key_order a b)
+pub order_flip : (a b : Tree) → key_order b a ≡ ordering_reverse (key_order a b)
 order_flip a b = nat_list_cmp_total.antisymm (canon b) (canon a)
 
 order_congr : (a b c : Tree) → key_order a b ≡ Equal → key_order a c ≡ key_order b c

@@ -1,25 +1,23 @@
 -- Where items or pairs one after the other are not read, one of them breaks.
-use Rattle.std.proofs.Common.{◌≡◌, ℕ, zero, suc, ◌+◌, ◌-◌, ◌<◌, ◌≤◌, Bool, true, false, cond, List, [], ◌∷◌, ◌++◌, length, get_or, Result, Ok, Err, refl, sym, ap, ◌∙◌, subst, inl, inr, arith, append_assoc}
-use Rattle.std.specs.Prelude.{◌==◌, ◌⊎◌}
+use Rattle.std.proofs.Common.{◌≡◌, ℕ, zero, suc, ◌+◌, ◌-◌, ◌<◌, ◌≤◌, true, false, cond, List, [], ◌∷◌, ◌++◌, length, get_or, Ok, Err, refl, sym, ap, ◌∙◌, subst, inl, inr, arith, append_assoc}
+use Rattle.std.specs.Prelude.{◌==◌}
 use Rattle.std.specs.List.{AllByRecursion}
 use Rattle.std.proofs.lemmas.Bool.{eqb-false}
 use Rattle.std.proofs.lemmas.List.{length-append, nil_from_length}
 use Rattle.cbor_grammar.specs.declared.fault.CborFault.{CborFault}
 use Rattle.cbor_grammar.specs.declared.fault.CborFault.TheVariants.{Short, Duplicate}
 use Rattle.cbor_grammar.specs.Tree.{Tree, Trees, no_items, item, count}
-use Rattle.cbor_grammar.specs.Valid.{IsSound}
 use Rattle.cbor_grammar.specs.Spelling.{break, SpellsItems, SpellsPairs}
-use Rattle.cbor_grammar.specs.Breaking.{HasKey, AreDistinct, BreaksPair}
+use Rattle.cbor_grammar.specs.Breaking.{AreDistinct, BreaksPair}
 use Rattle.cbor_grammar.specs.Reading.{Read, ◌>>=◌, items_at, open_items_at, pair_at, pairs_at, open_pairs_at, has_key, put}
-use Rattle.cbor_grammar.proofs.Results.{bind_err, bind_ok, err_is, not_both, chosen, broken}
-use Rattle.cbor_grammar.proofs.Beginnings.{AreBytes, bytes_rest}
+use Rattle.cbor_grammar.proofs.Results.{bind_err, err_is, not_both, chosen, broken}
 use Rattle.cbor_grammar.proofs.Firsts.{Starts}
 use Rattle.cbor_grammar.proofs.Nested.{PartStarts}
 use Rattle.cbor_grammar.proofs.Ordered.{Runs, runs_in_order}
 use Rattle.cbor_grammar.proofs.Taken.{Took, Takes, Pair, pair_taken}
 use Rattle.cbor_grammar.proofs.Faults.{end_after}
 use Rattle.cbor_grammar.proofs.Sound.{Held, held_front, held_rest, PartSound, PairSound, pairs_sound}
-use Rattle.cbor_grammar.proofs.Keys.{KeySound, key_permutation, has_true_key, key_has_true, fresh_not, runs_distinct, runs_sound}
+use Rattle.cbor_grammar.proofs.Keys.{KeySound, key_permutation, has_true_key, fresh_not, runs_distinct, runs_sound}
 use Rattle.std.proofs.lemmas.List.Sorted.{IsPermutation-sym}
 
 abbrev pub Faults : (ℕ → List ℕ → CborFault → Type 0) → (List ℕ → Read Tree) → ℕ → Type 0

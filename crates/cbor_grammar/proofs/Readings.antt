@@ -1,7 +1,7 @@
 -- What reading all of the bytes says of their spelling.
-use Rattle.std.proofs.Common.{◌≡◌, ℕ, zero, suc, ◌+◌, ◌-◌, ◌<◌, ◌≤◌, ◌^◌, Bool, true, false, cond, List, [], ◌∷◌, ◌++◌, length, get_or, take, Result, Ok, Err, refl, sym, ap, ◌∙◌, subst, inl, inr, arith}
+use Rattle.std.proofs.Common.{◌≡◌, ℕ, suc, ◌-◌, ◌<◌, ◌^◌, cond, List, [], ◌∷◌, ◌++◌, length, get_or, take, Result, Ok, Err, refl, sym, ap, ◌∙◌, subst, inl, inr, arith}
 use Rattle.std.specs.Prelude.{◌==◌, ◌⊎◌}
-use Rattle.std.proofs.lemmas.Bool.{eqb-true, eqb-false, ne_eqb, eq-eqb}
+use Rattle.std.proofs.lemmas.Bool.{eqb-true, eqb-false, ne_eqb}
 use Rattle.std.proofs.lemmas.List.{length-append, append-nil, nil_from_length, take_at}
 use Rattle.cbor_grammar.specs.declared.fault.CborFault.{CborFault}
 use Rattle.cbor_grammar.specs.declared.fault.CborFault.TheVariants.{Trailing}
@@ -9,14 +9,14 @@ use Rattle.cbor_grammar.specs.Tree.{Tree}
 use Rattle.cbor_grammar.specs.Canon.{canon}
 use Rattle.cbor_grammar.specs.Valid.{IsValid}
 use Rattle.cbor_grammar.specs.Spelling.{Spells, SpellsWithin}
-use Rattle.cbor_grammar.specs.Breaking.{Breaks, BreaksWithin, IsTrailing, Refuses}
-use Rattle.cbor_grammar.specs.Reading.{Read, ◌>>=◌, item_at, whole}
+use Rattle.cbor_grammar.specs.Breaking.{Breaks, IsTrailing, Refuses}
+use Rattle.cbor_grammar.specs.Reading.{Read, item_at, whole}
 use Rattle.cbor_grammar.proofs.Results.{bind_ok, bind_err, chosen, ok_is, err_is, not_both, done, broken}
 use Rattle.cbor_grammar.proofs.Beginnings.{AreBytes}
 use Rattle.cbor_grammar.proofs.Nested.{within_again}
 use Rattle.cbor_grammar.proofs.Spellings.{canon_spells}
 use Rattle.cbor_grammar.proofs.Spelled.{within_taken}
-use Rattle.cbor_grammar.proofs.Sound.{Held, held_front, within_sound}
+use Rattle.cbor_grammar.proofs.Sound.{Held, within_sound}
 use Rattle.cbor_grammar.proofs.Broken.{within_broken}
 use Rattle.cbor_grammar.proofs.Refusals.{within_refused}
 

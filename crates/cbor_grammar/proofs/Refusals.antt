@@ -1,5 +1,5 @@
 -- What breaks is not read, however deep it nests, and the fault is that.
-use Rattle.std.proofs.Common.{◌≡◌, ℕ, zero, suc, ◌+◌, ◌*◌, ◌-◌, ◌/◌, ◌%◌, ◌<◌, ◌≤◌, List, [], ◌∷◌, ◌++◌, length, Option, Some, None, Result, Ok, Err, refl, sym, ap, ◌∙◌, subst, inl, inr, arith, append_assoc}
+use Rattle.std.proofs.Common.{◌≡◌, ℕ, zero, suc, ◌+◌, ◌*◌, ◌-◌, ◌<◌, ◌≤◌, List, [], ◌∷◌, ◌++◌, length, Some, None, Ok, Err, refl, sym, ap, ◌∙◌, subst, inl, inr, arith}
 use Rattle.std.specs.Prelude.{◌⊎◌}
 use Rattle.std.proofs.lemmas.Bool.{cases_eq}
 use Rattle.std.proofs.lemmas.List.{length-append}
@@ -10,18 +10,17 @@ use Rattle.cbor_grammar.specs.declared.head.Major.TheVariants as major_type
 use Rattle.cbor_grammar.specs.declared.head.Start.TheVariants as start
 use Rattle.cbor_grammar.specs.Parts.{number_of}
 use Rattle.cbor_grammar.specs.Tree.{Tree, unsigned, negative, byte_string, text, array, mapping, tag, items_of, pairs_of}
-use Rattle.cbor_grammar.specs.Spelling.{begin, break, IsHead, AreParts, SpellsItems, SpellsPairs, SpellsWithin}
+use Rattle.cbor_grammar.specs.Spelling.{begin, AreParts, SpellsItems, SpellsPairs, SpellsWithin}
 use Rattle.cbor_grammar.specs.Breaking.{IsNesting, IsCut, BreaksString, BreaksPart, BreaksPlain, BreaksPair, BreaksNest, GoesOn, AreDistinct, IsDeep, IsNumber, IsStringType, BreaksWithin}
-use Rattle.cbor_grammar.specs.Reading.{parts_of, Read, ◌>>=◌, argument_at, string_at, parts_at, items_at, open_items_at, pair_at, pairs_at, open_pairs_at, start_of, start_with, value_at, indefinite_at, item_at}
-use Rattle.cbor_grammar.proofs.Results.{broken}
-use Rattle.cbor_grammar.proofs.Firsts.{HasArgument, value_begins, open_begins, nothing_short, info_small, start_at}
+use Rattle.cbor_grammar.specs.Reading.{parts_of, Read, argument_at, string_at, parts_at, items_at, open_items_at, pairs_at, open_pairs_at, start_of, start_with, value_at, indefinite_at, item_at}
+use Rattle.cbor_grammar.proofs.Firsts.{HasArgument, value_begins, open_begins, nothing_short}
 use Rattle.cbor_grammar.proofs.Again.{argument_again, head_begins, IsStringMajor}
 use Rattle.cbor_grammar.proofs.Nested.{within_again, within_starts}
 use Rattle.cbor_grammar.proofs.Keys.{distinct_runs}
 use Rattle.cbor_grammar.proofs.Sound.{Held, held_front, held_rest, within_sound}
 use Rattle.cbor_grammar.proofs.Faults.{end_after}
-use Rattle.cbor_grammar.proofs.PartFaults.{NoEnd, read_sounds}
-use Rattle.cbor_grammar.proofs.Refused.{Refuse, short_end, first_reserved, first_unsupported, reserved_refused, unsupported_refused, argument_refused, StringRefused, string_refused, parts_refused, items_refused, open_items_refused, pairs_refused, open_pairs_refused, pair_refused}
+use Rattle.cbor_grammar.proofs.PartFaults.{read_sounds}
+use Rattle.cbor_grammar.proofs.Refused.{Refuse, short_end, first_reserved, first_unsupported, reserved_refused, unsupported_refused, argument_refused, string_refused, parts_refused, items_refused, open_items_refused, pairs_refused, open_pairs_refused, pair_refused}
 
 abbrev tree_fault : CborFault → Read Tree
 tree_fault f = Err f

@@ -1,13 +1,13 @@
 -- What breaks is not read, and the fault is that.
-use Rattle.std.proofs.Common.{◌≡◌, ℕ, zero, suc, ◌+◌, ◌*◌, ◌-◌, ◌/◌, ◌%◌, ◌<◌, ◌≤◌, Bool, true, false, cond, List, [], ◌∷◌, ◌++◌, length, take, drop, Option, Some, None, Result, Ok, Err, refl, sym, ap, ◌∙◌, subst, inl, inr, arith, append_assoc}
-use Rattle.std.specs.Prelude.{nat_lt, ◌==◌, ◌⊎◌, not, ◌&&◌, IsUtf8}
+use Rattle.std.proofs.Common.{◌≡◌, ℕ, zero, suc, ◌+◌, ◌*◌, ◌-◌, ◌/◌, ◌%◌, ◌<◌, ◌≤◌, true, false, List, [], ◌∷◌, ◌++◌, length, Ok, Err, refl, sym, ap, ◌∙◌, subst, inl, inr, arith, append_assoc}
+use Rattle.std.specs.Prelude.{nat_lt, ◌==◌, ◌⊎◌, IsUtf8}
 use Rattle.std.specs.Int.{byte_len}
 use Rattle.std.specs.Str.{is_utf8}
-use Rattle.std.proofs.lemmas.Bool.{lt-ltb, le-ltb, ne_eqb, eqb-true, eqb-false, cases_Bool, cases_eq, and_parts, ltb-true}
-use Rattle.std.proofs.lemmas.List.{length-append, take_at, drop_at, append-nil, nil_from_length}
+use Rattle.std.proofs.lemmas.Bool.{lt-ltb, le-ltb, ne_eqb, eqb-true, cases_Bool, and_parts, ltb-true}
+use Rattle.std.proofs.lemmas.List.{length-append, take_at, drop_at, nil_from_length}
 use Rattle.std.proofs.lemmas.Str.{IsUtf8-from_is_utf8}
 use Rattle.cbor_grammar.specs.declared.fault.CborFault.{CborFault}
-use Rattle.cbor_grammar.specs.declared.fault.CborFault.TheVariants.{Short, Reserved, NotUtf8, Duplicate, Unsupported, Deep}
+use Rattle.cbor_grammar.specs.declared.fault.CborFault.TheVariants.{Short, Reserved, NotUtf8, Unsupported}
 use Rattle.cbor_grammar.specs.declared.head.Major.{Major}
 use Rattle.cbor_grammar.specs.declared.head.Major.TheVariants as major_type
 use Rattle.cbor_grammar.specs.declared.head.Start.{Start}
@@ -15,17 +15,17 @@ use Rattle.cbor_grammar.specs.declared.head.Start.TheVariants as start
 use Rattle.cbor_grammar.specs.Parts.{number_of}
 use Rattle.cbor_grammar.specs.Tree.{Tree, Trees, no_items, item, count}
 use Rattle.cbor_grammar.specs.Spelling.{width, begin, break, IsArgument, IsHead, IsString, AreParts, SpellsItems, SpellsPairs, SpellsWithin}
-use Rattle.cbor_grammar.specs.Breaking.{IsReserved, IsUnsupported, IsNesting, IsCut, BreaksString, BreaksPart, BreaksPlain, BreaksPair, BreaksNest, GoesOn, IsDeep, HasKey, BreaksWithin}
-use Rattle.cbor_grammar.specs.Reading.{parts_of, Read, ◌>>=◌, argument_at, number_at, content_at, checked, string_at, is_part, parts_at, items_at, open_items_at, pair_at, pairs_at, open_pairs_at, has_key, put, start_of, start_with, major_of, begun_at, value_at, indefinite_at, item_at}
+use Rattle.cbor_grammar.specs.Breaking.{IsReserved, IsUnsupported, BreaksString, BreaksPart, BreaksPair}
+use Rattle.cbor_grammar.specs.Reading.{Read, ◌>>=◌, argument_at, content_at, checked, string_at, is_part, parts_at, items_at, open_items_at, pair_at, pairs_at, open_pairs_at, has_key, put, start_of, start_with, major_of, begun_at, item_at}
 use Rattle.cbor_grammar.proofs.Results.{broken, err_is}
-use Rattle.cbor_grammar.proofs.Firsts.{HasArgument, item_begins, value_begins, open_begins, nothing_short, info_small, Starts, Starts-append, start_at}
-use Rattle.cbor_grammar.proofs.Beginnings.{HasOpen, Begins, begins}
-use Rattle.cbor_grammar.proofs.Again.{argument_again, head_begins, head_parts, IsStringMajor, part_begins, string_again}
-use Rattle.cbor_grammar.proofs.Nested.{Reads, PartStarts, within_again, within_starts}
+use Rattle.cbor_grammar.proofs.Firsts.{item_begins, info_small, Starts, Starts-append}
+use Rattle.cbor_grammar.proofs.Beginnings.{Begins, begins}
+use Rattle.cbor_grammar.proofs.Again.{argument_again, head_parts, IsStringMajor, part_begins, string_again}
+use Rattle.cbor_grammar.proofs.Nested.{Reads, PartStarts}
 use Rattle.cbor_grammar.proofs.Ordered.{Runs, runs_in_order}
-use Rattle.cbor_grammar.proofs.Sound.{Held, held_front, held_rest, PartSound, within_sound}
-use Rattle.cbor_grammar.proofs.Keys.{key_permutation, not_has, key_has_true, distinct_runs}
-use Rattle.cbor_grammar.proofs.PartFaults.{NoEnd, read_sounds}
+use Rattle.cbor_grammar.proofs.Sound.{Held, held_front, held_rest, PartSound}
+use Rattle.cbor_grammar.proofs.Keys.{key_permutation, not_has, key_has_true}
+use Rattle.cbor_grammar.proofs.PartFaults.{NoEnd}
 use Rattle.cbor_grammar.proofs.Faults.{end_after}
 use Rattle.std.specs.List.{AllByRecursion}
 use Rattle.std.proofs.lemmas.List.Sorted.{IsPermutation-sym}
@@ -111,7 +111,7 @@ bad_utf8 : (string : List ℕ) → (IsUtf8 string → ⊥) → (is_utf8 string �
 bad_utf8 string bad (inl good) = absurd (bad (IsUtf8-from_is_utf8 string good))
 bad_utf8 string bad (inr is) = is
 
-checked_refused : (a : Major) (at : ℕ) (string rest : List ℕ) → number_of a ≡ 3 → (IsUtf8 string → ⊥) → checked a at (string, rest) ≡ Err (NotUtf8 at)
+pub checked_refused : (a : Major) (at : ℕ) (string rest : List ℕ) → number_of a ≡ 3 → (IsUtf8 string → ⊥) → checked a at (string, rest) ≡ Err (NotUtf8 at)
 checked_refused major_type.Text at string rest is bad = let e = bad_utf8 string bad (cases_Bool (is_utf8 string)) in rw e refl
 checked_refused major_type.Unsigned at string rest is bad = absurd (omega arith)
 checked_refused major_type.Negative at string rest is bad = absurd (omega arith)

@@ -1,6 +1,6 @@
 -- What is spelled is sound, and nests no deeper than it may.
-use Rattle.std.proofs.Common.{◌≡◌, ℕ, zero, suc, ◌+◌, ◌*◌, ◌^◌, ◌<◌, ◌≤◌, Bool, true, false, List, [], ◌∷◌, ◌++◌, length, get_or, refl, sym, ap, ◌∙◌, subst, inl, inr, arith}
-use Rattle.std.specs.Prelude.{◌⊎◌, ◌==◌, IsUtf8, IsPermutation}
+use Rattle.std.proofs.Common.{◌≡◌, ℕ, zero, suc, ◌+◌, ◌*◌, ◌^◌, ◌<◌, ◌≤◌, true, false, List, [], ◌∷◌, ◌++◌, length, get_or, refl, sym, ap, subst, inl, inr, arith}
+use Rattle.std.specs.Prelude.{◌⊎◌, ◌==◌, IsUtf8}
 use Rattle.std.specs.List.{AllByRecursion}
 use Rattle.std.specs.Int.{Width, w8, w16, w32, w64, from_be_bytes}
 use Rattle.std.proofs.lemmas.Bool.{cond_both}
@@ -10,7 +10,7 @@ use Rattle.std.proofs.lemmas.List.Sorted.{All-permutation, length_permutation}
 use Rattle.std.proofs.lemmas.Str.{IsUtf8-append}
 use Rattle.cbor_grammar.specs.Tree.{Tree, unsigned, negative, byte_string, text, array, mapping, tag, boolean, null, Trees, no_items, item, pairs_of, count, pair_count}
 use Rattle.cbor_grammar.specs.Valid.{IsSound, AreSound, ArePairsSound, depth, items_depth, pairs_depth}
-use Rattle.cbor_grammar.specs.Spelling.{width, begin, break, IsArgument, itself, follows, IsHead, IsString, AreParts, SpellsString, Holds, SpellsItems, SpellsPairs, IsInOrder, SpellsPlain, SpellsNest, SpellsWithin}
+use Rattle.cbor_grammar.specs.Spelling.{width, begin, break, IsArgument, itself, follows, IsHead, AreParts, SpellsString, Holds, SpellsItems, SpellsPairs, IsInOrder, SpellsPlain, SpellsNest, SpellsWithin}
 use Rattle.cbor_grammar.proofs.Firsts.{Starts}
 use Rattle.cbor_grammar.proofs.Beginnings.{AreBytes, AreBytes-rest}
 use Rattle.cbor_grammar.proofs.Nested.{PartStarts, within_starts}

@@ -1,22 +1,20 @@
 -- What is read was spelled, however deep it nests.
-use Rattle.std.proofs.Common.{◌≡◌, ℕ, zero, suc, ◌+◌, ◌*◌, ◌-◌, ◌/◌, ◌%◌, ◌<◌, ◌≤◌, List, [], ◌∷◌, ◌++◌, length, Option, Some, None, Result, Ok, Err, refl, sym, ap, ◌∙◌, subst, inl, inr, arith, append_assoc}
-use Rattle.std.specs.Prelude.{◌⊎◌}
+use Rattle.std.proofs.Common.{◌≡◌, ℕ, zero, suc, ◌+◌, ◌*◌, ◌-◌, ◌/◌, ◌%◌, ◌<◌, ◌≤◌, List, [], ◌∷◌, ◌++◌, length, Option, Ok, refl, sym, ap, ◌∙◌, subst, inl, inr, arith, append_assoc}
 use Rattle.std.proofs.lemmas.Bool.{cases_eq}
 use Rattle.cbor_grammar.specs.declared.fault.CborFault.TheVariants.{Short, Reserved, Unsupported, Deep}
 use Rattle.cbor_grammar.specs.declared.head.Major.{Major}
 use Rattle.cbor_grammar.specs.declared.head.Major.TheVariants as major_type
 use Rattle.cbor_grammar.specs.declared.head.Start.{Start}
-use Rattle.cbor_grammar.specs.declared.head.Start.TheVariants as start
 use Rattle.cbor_grammar.specs.Parts.{number_of}
-use Rattle.cbor_grammar.specs.Tree.{Tree, unsigned, negative, byte_string, text, array, mapping, tag, boolean, null, items_of, pairs_of, count}
-use Rattle.cbor_grammar.specs.Spelling.{begin, break, IsHead, SpellsString, Holds, SpellsItems, SpellsPairs, IsInOrder, SpellsPlain, SpellsWithin}
-use Rattle.cbor_grammar.specs.Reading.{parts_of, Read, ◌>>=◌, argument_at, string_at, parts_at, items_at, open_items_at, pairs_at, open_pairs_at, major_of, start_of, start_with, simple, value_at, indefinite_at, begun_at, item_at}
+use Rattle.cbor_grammar.specs.Tree.{Tree, unsigned, negative, byte_string, text, array, mapping, tag, items_of, pairs_of, count}
+use Rattle.cbor_grammar.specs.Spelling.{begin, break, IsHead, SpellsString, Holds, SpellsPlain, SpellsWithin}
+use Rattle.cbor_grammar.specs.Reading.{parts_of, Read, ◌>>=◌, argument_at, string_at, parts_at, items_at, open_items_at, pairs_at, open_pairs_at, major_of, start_of, simple, value_at, indefinite_at, begun_at, item_at}
 use Rattle.cbor_grammar.proofs.Results.{done, bind_ok, ok_is, not_both}
 use Rattle.cbor_grammar.proofs.Firsts.{HasArgument, item_begins, nothing_short}
 use Rattle.cbor_grammar.proofs.Beginnings.{AreBytes, bytes_rest, byte_is, HasOpen, Begins, begins}
 use Rattle.cbor_grammar.proofs.Ordered.{runs_in_order}
 use Rattle.cbor_grammar.proofs.Spellings.{plain_within, nest_within}
-use Rattle.cbor_grammar.proofs.Taken.{Argument, argument_taken, String, string_taken, Parts, parts_taken, one_part, Took, Takes, items_taken, open_items_taken, pairs_taken, open_pairs_taken}
+use Rattle.cbor_grammar.proofs.Taken.{Argument, argument_taken, string_taken, parts_taken, one_part, Took, Takes, items_taken, open_items_taken, pairs_taken, open_pairs_taken}
 
 -- what is known of the parts of an item
 abbrev pub Inner : ℕ → ℕ → Type 0

@@ -1,14 +1,12 @@
 -- The deterministic encoding is a spelling, and no encoding is the front of another.
-use Rattle.std.proofs.Common.{◌≡◌, ℕ, zero, suc, ◌+◌, ◌^◌, ◌<◌, ◌≤◌, List, [], ◌∷◌, ◌++◌, length, take, drop, Ok, refl, sym, ap, ◌∙◌, subst, inl, inr, append_assoc, arith, Bool, true, false}
-use Rattle.std.specs.Prelude.{◌⊎◌}
-use Rattle.std.specs.Int.{w8, w16, w32, w64, to_be_bytes}
+use Rattle.std.proofs.Common.{◌≡◌, ℕ, zero, suc, ◌+◌, ◌^◌, ◌<◌, ◌≤◌, List, [], ◌∷◌, ◌++◌, length, refl, sym, ap, ◌∙◌, inl, inr, append_assoc, arith, true, false}
 use Rattle.std.proofs.lemmas.Nat.{from_be_bytes-to_be_bytes_2, from_be_bytes-to_be_bytes_4, from_be_bytes-to_be_bytes_8}
 use Rattle.std.proofs.lemmas.List.Sorted.{IsPermutation-refl}
 use Rattle.cbor_grammar.specs.Tree.{Tree, unsigned, negative, byte_string, text, array, mapping, tag, boolean, null, Trees, no_items, item, Pairs, no_pairs, pair, count, pair_count, pairs_of}
 use Rattle.cbor_grammar.specs.Head.{head, information, following}
 use Rattle.cbor_grammar.specs.Canon.{canon, canon_items, canon_pairs}
 use Rattle.cbor_grammar.specs.Parts.{number_of, major, argument, content}
-use Rattle.cbor_grammar.specs.Valid.{IsSound, AreSound, ArePairsSound, KeysRise, depth, items_depth, pairs_depth}
+use Rattle.cbor_grammar.specs.Valid.{IsSound, AreSound, ArePairsSound, depth, items_depth, pairs_depth}
 use Rattle.cbor_grammar.specs.Spelling.{IsArgument, itself, follows, IsHead, Fits, SpellsString, Holds, SpellsItems, SpellsPairs, SpellsPlain, SpellsNest, SpellsWithin}
 use Rattle.cbor_grammar.specs.Reading.{item_at}
 use Rattle.cbor_grammar.proofs.Results.{ok_is}

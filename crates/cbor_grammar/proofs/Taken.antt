@@ -1,21 +1,19 @@
 -- What is read was spelled.
-use Rattle.std.proofs.Common.{◌≡◌, ℕ, zero, suc, ◌+◌, ◌*◌, ◌-◌, ◌/◌, ◌%◌, ◌<◌, ◌≤◌, Bool, true, false, cond, ltb, List, [], ◌∷◌, ◌++◌, length, take, drop, Option, Some, None, Result, Ok, Err, refl, sym, ap, ◌∙◌, subst, inl, inr, arith, append_assoc}
-use Rattle.std.specs.Prelude.{nat_lt, ◌==◌, ◌⊎◌, not, ◌&&◌}
+use Rattle.std.proofs.Common.{◌≡◌, ℕ, zero, suc, ◌+◌, ◌*◌, ◌-◌, ◌/◌, ◌%◌, ◌<◌, ◌≤◌, true, false, cond, ltb, List, [], ◌∷◌, ◌++◌, length, take, drop, Ok, Err, refl, sym, ap, ◌∙◌, subst, inl, inr, arith, append_assoc}
+use Rattle.std.specs.Prelude.{nat_lt, ◌==◌, not}
 use Rattle.std.specs.Int.{byte_len, from_be_bytes}
 use Rattle.std.specs.Str.{is_utf8}
-use Rattle.std.proofs.lemmas.Bool.{ltb-true, ltb-false, eqb-true, eqb-false, not-false, not-true, and_parts, cases_Bool}
-use Rattle.std.proofs.lemmas.List.{append-nil, take-append-drop, length-take, length-append}
+use Rattle.std.proofs.lemmas.Bool.{ltb-true, ltb-false, eqb-true, not-false, and_parts}
+use Rattle.std.proofs.lemmas.List.{take-append-drop, length-take}
 use Rattle.std.proofs.lemmas.Str.{IsUtf8-from_is_utf8}
-use Rattle.cbor_grammar.specs.declared.fault.CborFault.{CborFault}
-use Rattle.cbor_grammar.specs.declared.fault.CborFault.TheVariants.{Short, Reserved, NotUtf8, Duplicate, Unsupported, Deep}
+use Rattle.cbor_grammar.specs.declared.fault.CborFault.TheVariants.{Short, Reserved, NotUtf8, Duplicate}
 use Rattle.cbor_grammar.specs.declared.head.Major.{Major}
 use Rattle.cbor_grammar.specs.declared.head.Major.TheVariants as major_type
 use Rattle.cbor_grammar.specs.Parts.{number_of}
-use Rattle.cbor_grammar.specs.Tree.{Tree, Trees, item, items_of, pairs_of, count}
-use Rattle.cbor_grammar.specs.Spelling.{width, begin, break, IsArgument, itself, follows, IsHead, Fits, IsString, AreParts, SpellsItems, SpellsPairs}
+use Rattle.cbor_grammar.specs.Tree.{Tree, items_of, count}
+use Rattle.cbor_grammar.specs.Spelling.{width, break, IsArgument, itself, follows, Fits, IsString, AreParts, SpellsItems, SpellsPairs}
 use Rattle.cbor_grammar.specs.Reading.{Read, ◌>>=◌, argument_at, number_at, content_at, checked, string_at, is_part, parts_at, items_at, open_items_at, pair_at, pairs_at, open_pairs_at, has_key, put}
 use Rattle.cbor_grammar.proofs.Results.{bind_ok, ok_is, not_both, chosen, done, broken}
-use Rattle.cbor_grammar.proofs.Again.{IsStringMajor}
 use Rattle.cbor_grammar.proofs.Beginnings.{AreBytes, bytes_rest}
 use Rattle.cbor_grammar.proofs.Ordered.{Runs}
 

@@ -1,16 +1,25 @@
-//! The grammar of CBOR (RFC 8949), as far as items are unsigned and negative numbers, byte strings, texts, arrays,
-//! maps, tags, false, true and null, nested sixteen deep at most.
-//!
-//! Start at `specs/Tree.antt`, what an item is, and go on with `specs/Spelling.antt`, when bytes spell it, and
-//! `specs/Breaking.antt`, the first fault of bytes that spell none. `specs/Canon.antt` is the deterministic encoding,
-//! and `specs/Valid.antt` says which items have one. The laws tie them together: [`one_spelling`], [`one_reading`]
-//! and [`encoding_spells`].
+//! Data items of CBOR (RFC 8949).
 #![tactic(auto)]
 
+mod argument;
 mod fault;
 mod head;
+mod head_bytes;
+mod item;
 mod law;
+mod order;
+mod place;
+mod reading;
+mod strings;
+mod validity;
+mod writing;
 
 pub use fault::CborFault;
-pub use head::{Major, Start};
+pub use item::{Item, ItemList, PairList};
 pub use law::{encoding_spells, one_reading, one_spelling};
+pub use reading::{MAX_DEPTH, decode};
+pub use validity::is_valid;
+pub use writing::encode;
+
+#[cfg(test)]
+mod tests;
