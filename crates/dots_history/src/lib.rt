@@ -37,6 +37,3 @@ pub use relations::{ends, is_same_client, withdraws};
 pub use reply::{is_remembered, remembered};
 pub use scrubbing::scrubs;
 pub use status::Status;
-
-#[cfg(test)]
-mod tests;
