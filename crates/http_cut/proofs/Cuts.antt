@@ -7,9 +7,6 @@ use Rattle.httparse.specs.Grammar.{HasNoRequest, MayBecomeRequest}
 use Rattle.httparse.specs.Spans.{IsRequestOf, RequestOverflows}
 use Rattle.http_cut.specs.declared.fault.HttpFault.TheVariants.{BadHead}
 use Rattle.http_cut.specs.Requests.{Head, Outcome, waits, refuses, IsCut, outcome_behind}
-use Rattle.http_cut.specs.declared.request.Cut as code
-use Rattle.http_cut.specs.declared.request.Cut.TheVariants as cuts
-use Rattle.http_cut.specs.Streams.{OnMore}
 use Rattle.http_cut.specs.Views.{head_at}
 use Rattle.http_cut.proofs.Ends.{no_empty_line}
 use Rattle.http_cut.proofs.Windows.{begins, head_is, no_head, never, never_now}
@@ -48,8 +45,3 @@ pub cut_never : (held window : List ℕ) → window ≡ take 8192 held → Reque
 cut_never held window is over =
     let none = never held (subst (λ (y : List ℕ). RequestOverflows 2731 y) is over) in
     inr (never_now held none, (refl, inr none))
-
-pub more_weaker : (cut : code.Cut) (P Q : Type 0) → (P → Q) → OnMore cut P → OnMore cut Q
-more_weaker (cuts.Request request) P Q weaker holds = tt
-more_weaker cuts.More P Q weaker holds = weaker holds
-more_weaker (cuts.Refused fault) P Q weaker holds = tt

@@ -6,4 +6,3 @@ pub mod Windows
 pub mod Values
 pub mod Cuts
 pub mod Streams
-pub mod Takings

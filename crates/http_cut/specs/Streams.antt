@@ -32,20 +32,3 @@ abbrev pub IfRequest : code.Cut → (HttpRequest → Type 0) → Type 0
 IfRequest (cuts.Request request) P = P request
 IfRequest cuts.More P = ⊤
 IfRequest (cuts.Refused fault) P = ⊤
-
--- some requests were taken from bytes and put behind those that were there before; the rest stands behind them
-pub record AreTaken (bytes : List ℕ) (before after : List Request) (rest : List ℕ) : Type 0 where
-  pub requests : List Request
-  pub added : after ≡ before ++ requests
-  pub whole : AreRequests bytes requests rest
-
--- what is held begins with no request: more is waited for, or it is refused
-abbrev pub IsAtRest : List ℕ → Option HttpFault → Type 0
-IsAtRest held None = IsCut held waits
-IsAtRest held (Some fault) = IsCut held (refuses fault)
-
--- P, where more is waited for
-abbrev pub OnMore : code.Cut → Type 0 → Type 0
-OnMore (cuts.Request request) P = ⊤
-OnMore cuts.More P = P
-OnMore (cuts.Refused fault) P = ⊤

@@ -1,7 +1,6 @@
 ghost use Rattle.std.specs.Prelude.{◌≡◌, ◌+◌, ◌^◌, ◌<◌, ◌≤◌, length, take, All};
 ghost use Rattle.httparse.specs.Spans.{IsHeaderWithin, IsWithin};
 ghost use Rattle.http_cut.specs.Requests.{IsCut, outcome_of, outcome_behind, with_body, closes};
-ghost use Rattle.http_cut.specs.Streams.{OnMore};
 ghost use Rattle.http_cut.specs.Views.{head_at};
 
 use crate::fault::HttpFault;
@@ -46,8 +45,7 @@ fn cut_body<'a>(
     requires path { IsWithin (length bytes.now) head.now.path }
     requires fields { All (IsHeaderWithin (length bytes.now)) fields.now }
     requires size { head.now.len + size < 2 ^ 64 }
-    ensures outcome { outcome_of result ≡ with_body (head_at bytes.now head.now fields.now) rest.now size }
-    ensures more { OnMore result (length rest.now < size) }
+    ensures { outcome_of result ≡ with_body (head_at bytes.now head.now fields.now) rest.now size }
 {
     if rest.len() < size {
         return Cut::More;
@@ -74,8 +72,7 @@ fn cut_behind<'a>(
     requires path { IsWithin (length bytes.now) head.now.path }
     requires fields { All (IsHeaderWithin (length bytes.now)) fields.now }
     requires size { head.now.len ≤ 8192 }
-    ensures outcome { outcome_of result ≡ outcome_behind (head_at bytes.now head.now fields.now) rest.now }
-    ensures more { OnMore result (length rest.now < 8192) }
+    ensures { outcome_of result ≡ outcome_behind (head_at bytes.now head.now fields.now) rest.now }
 {
     match framing(bytes, fields) {
         Ok(size) => return cut_body(bytes, rest, head, fields, size),
@@ -86,8 +83,7 @@ fn cut_behind<'a>(
 /// What stands at the front of the held bytes.
 pub(crate) fn cut_held<'a>(held: &'a [u8], spans: &mut [HeaderSpan]) -> Cut<'a>
     requires { length spans.old ≡ 2731 }
-    ensures cut { IsCut held.now (outcome_of result) }
-    ensures room { OnMore result (length held.now < 16384) }
+    ensures { IsCut held.now (outcome_of result) }
 {
     let bytes = window(held);
     match parse_request(bytes, spans) {
