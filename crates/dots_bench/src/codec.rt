@@ -3,14 +3,13 @@
 ghost use Rattle.std.specs.Prelude.{◌≡◌, ◌+◌, length, IfOk, IfErr};
 ghost use Rattle.coap_message.specs.Breaks.{Breaks};
 ghost use Rattle.coap_message.specs.Message.{CoapMessage, IsMessage, spelling};
-ghost use Rattle.cbor_profile.specs.Tree.{Tree};
-ghost use Rattle.cbor_profile.specs.Canon.{canon};
-ghost use Rattle.cbor_profile.specs.Valid.{IsValid};
-ghost use Rattle.cbor_profile.specs.View.{tree_of};
+ghost use Rattle.cbor_grammar.specs.Tree.{Tree};
+ghost use Rattle.cbor_grammar.specs.Spelling.{Spells};
+ghost use Rattle.cbor_grammar.specs.View.{tree_of};
 ghost use Rattle.dots_bench.specs.Parts.{parts_in};
 
 use anyhow::{Context, Result};
-use cbor_profile::{CborFault, Item};
+use cbor_grammar::{CborFault, Item};
 use coap_message::CoapFault;
 use std::alloc::Global;
 
@@ -69,12 +68,11 @@ fn repeat_cbor(alloc: Global, copies: [&[u8]; 2], times: u64) -> Result<u64, Cbo
     Ok(sum)
 }
 
-/// How many items or pairs stand directly in the item that the bytes encode; 1 for one that holds none.
+/// How many items or pairs stand directly in the item that the bytes spell; 1 for one that holds none.
 fn decode_cbor(alloc: Global, bytes: &[u8]) -> Result<u64, CborFault>
-    ensures found { IfOk result (λ sum. (tree : Tree) × IsValid tree × (bytes.now ≡ canon tree)
-        × (sum ≡ parts_in tree)) }
+    ensures found { IfOk result (λ sum. (tree : Tree) × Spells bytes.now tree 0 × (sum ≡ parts_in tree)) }
 {
-    let item = cbor_profile::decode(alloc, bytes)?;
+    let item = cbor_grammar::decode(alloc, bytes)?;
     Ok(count_parts(&item) as u64)
 }
 

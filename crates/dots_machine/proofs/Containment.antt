@@ -12,7 +12,7 @@ use Rattle.dots_machine.specs.declared.settings.Settings.{Settings}
 use Rattle.dots_machine.specs.declared.entry.Entry.{Entry}
 use Rattle.dots_machine.specs.Targets.{is_target, first_fault}
 use Rattle.dots_machine.specs.Exchanges.{unheard, reset, bad_option}
-use Rattle.dots_machine.specs.Requests.{Request, Heard, at_once, unserved, asked}
+use Rattle.dots_machine.specs.Requests.{Request, Heard, at_once, undecodable, unserved, asked}
 use Rattle.dots_machine.specs.History.{stands, standing}
 use Rattle.dots_machine.specs.Machine.{State, begun, moved, with_entry, entry_of, domain_of, conflicts, judged, verdict, Answers, Answered, by_silence, by_verdict, for_want_of_memory, Step}
 use Rattle.dots_machine.specs.Report.{lies_inside, Contained}
@@ -59,6 +59,7 @@ module _ (settings : Settings) where
   verdict_keeps state peer (at_once unheard) sends new all a = subst AllInside (sym a.1) all
   verdict_keeps state peer (at_once (reset i)) sends new all a = subst AllInside (sym a.1) all
   verdict_keeps state peer (at_once (bad_option x n)) sends new all a = subst AllInside (sym a.1) all
+  verdict_keeps state peer (undecodable x) sends new all a = subst AllInside (sym a.1) all
   verdict_keeps state peer (unserved x) sends new all a = subst AllInside (sym a.1) all
   verdict_keeps state peer (asked r) sends new all a = judged_keeps state peer r (first_fault (domain_of settings) r.prefixes) (conflicts state r) sends new refl all a
 

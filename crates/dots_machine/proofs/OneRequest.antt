@@ -1,18 +1,20 @@
 -- A datagram asks one thing at most.
-use Rattle.std.proofs.Common.{◌≡◌, ℕ, ◌≤◌, true, List, [], ◌∷◌, ◌++◌, length, Some, None, refl, sym, ap, ◌∙◌, subst, arith}
+use Rattle.std.proofs.Common.{◌≡◌, ℕ, ◌≤◌, true, List, [], ◌∷◌, length, Some, None, refl, sym, ap, ◌∙◌, subst, arith}
 use Rattle.std.proofs.lemmas.Bool.Decides.{nat_tests}
 use Rattle.std.specs.Str.Parse.{digits_value}
 use Rattle.dots_lists.specs.Name.{is_name}
 use Rattle.ip_scope.specs.Prefix.{PrefixValue, prefix_of}
 use Rattle.ip_scope.specs.PrefixText.{Reads}
 use Rattle.ip_scope.proofs.PrefixTexts.{IsPrefixText_unique}
-use Rattle.cbor_profile.proofs.Spellings.{one_spelling}
+use Rattle.cbor_grammar.specs.Tree.{Tree}
+use Rattle.cbor_grammar.specs.Spelling.{Spells}
+use Rattle.cbor_grammar.proofs.Readings.{same_reading}
 use Rattle.coap_message.specs.declared.kind.Kind.{Kind}
 use Rattle.coap_message.specs.Message.{CoapMessage, IsMessage, spelling}
 use Rattle.coap_message.proofs.Whole.{one_message}
 use Rattle.coap_message.proofs.Faults.{breaks_no_message}
 use Rattle.dots_machine.specs.Exchanges.{Exchange, exchange_in, settled}
-use Rattle.dots_machine.specs.Requests.{Head, Request, exchange_of, IsHead, IsBody, HasHead, Asks, Heard, at_once, unserved, asked, Requests, Hears, broken, settled_at_once, requested, ReadEach, text_items, request_message, mitigation, request_scope}
+use Rattle.dots_machine.specs.Requests.{Head, Request, exchange_of, IsHead, IsBody, HasHead, Asks, HasNoCbor, Heard, at_once, undecodable, unserved, asked, Requests, Hears, broken, settled_at_once, requested, ReadEach, text_items, request_message, mitigation, request_scope}
 
 name_length : (name : List ℕ) → is_name name ≡ true → length name ≤ 64
 name_length name h = grind (arith, nat_tests)
@@ -76,9 +78,13 @@ same_texts (t ∷ ts) (o ∷ os) e =
     let rest : text_items ts ≡ text_items os = cc in
     ap (λ x. x ∷ ts) first ∙ ap (λ xs. o ∷ xs) (same_texts ts os rest)
 
+-- no bytes spell two items
+pub same_tree : (payload : List ℕ) (s t : Tree) → Spells payload s 0 → Spells payload t 0 → s ≡ t
+same_tree payload s t a b = (same_reading payload payload [] [] s t 16 a.1 b.1 refl).0
+
 pub one_body : (payload : List ℕ) (ps qs : List PrefixValue) (m n : ℕ) → IsBody payload ps m → IsBody payload qs n → (ps ≡ qs) × (m ≡ n)
 one_body payload ps qs m n a b =
-    let trees = (one_spelling (mitigation (request_scope a.texts m)) (mitigation (request_scope b.texts n)) [] [] a.valid.sound b.valid.sound (ap (λ bytes. bytes ++ []) (sym a.spelled ∙ b.spelled))).0 in
+    let trees = same_tree payload (mitigation (request_scope a.texts m)) (mitigation (request_scope b.texts n)) a.spelled b.spelled in
     let items : text_items a.texts ≡ text_items b.texts = cc trees in
     let texts = same_texts a.texts b.texts items in
     (same_prefixes b.texts ps qs (subst (λ ts. ReadEach ts ps) texts a.read) b.read, cc trees)
@@ -133,9 +139,21 @@ some_same x y e = cc
 some_or_none : {X : Type 0} (x : X) → Some x ≡ None → ⊥
 some_or_none x e = cc
 
+-- a body that is asked in is spelled
+never_both : (datagram : List ℕ) (r : Request) → HasNoCbor datagram → Asks datagram r → ⊥
+never_both datagram r body a =
+    let payloads = (one_head datagram a.head body.head a.payload body.payload a.has_head body.has_head).1 in
+    body.none (mitigation (request_scope a.body.texts r.lifetime)) (subst (λ bytes. Spells bytes (mitigation (request_scope a.body.texts r.lifetime)) 0) payloads a.body.spelled)
+
 one_asked : (datagram : List ℕ) (exchange : Exchange) (h g : Heard) → Requests datagram exchange h → Requests datagram exchange g → h ≡ g
 one_asked datagram exchange (at_once x) g a b = absurd a
 one_asked datagram exchange (unserved x) (at_once y) a b = absurd b
+one_asked datagram exchange (undecodable x) (at_once y) a b = absurd b
+one_asked datagram exchange (undecodable x) (undecodable y) a b = ap undecodable (a.0 ∙ sym b.0)
+one_asked datagram exchange (undecodable x) (unserved y) a b = absurd (b.2 a.1)
+one_asked datagram exchange (unserved x) (undecodable y) a b = absurd (a.2 b.1)
+one_asked datagram exchange (undecodable x) (asked r) a b = absurd (never_both datagram r a.1 b)
+one_asked datagram exchange (asked r) (undecodable x) a b = absurd (never_both datagram r b.1 a)
 one_asked datagram exchange (asked r) (at_once y) a b = absurd b
 one_asked datagram exchange (unserved x) (unserved y) a b = ap unserved (a.0 ∙ sym b.0)
 one_asked datagram exchange (unserved x) (asked r) a b = absurd (a.1 r b)

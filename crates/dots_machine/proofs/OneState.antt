@@ -10,7 +10,7 @@ use Rattle.dots_host.proofs.RunLemmas.{one_run, one_turn_determined}
 use Rattle.dots_machine.specs.declared.settings.Settings.{Settings}
 use Rattle.ip_scope.specs.Prefix.{PrefixValue}
 use Rattle.dots_machine.specs.Exchanges.{Exchange, unheard, reset, bad_option}
-use Rattle.dots_machine.specs.Requests.{Request, exchange_of, Heard, at_once, unserved, asked}
+use Rattle.dots_machine.specs.Requests.{Request, exchange_of, Heard, at_once, undecodable, unserved, asked}
 use Rattle.dots_machine.specs.Replies.{unavailable}
 use Rattle.dots_machine.specs.Targets.{first_fault}
 use Rattle.dots_machine.specs.Machine.{State, moved, Verdict, silent, refuse, accept, domain_of, conflicts, judged, verdict, Answers, Answered, by_silence, by_verdict, for_want_of_memory, Step}
@@ -40,6 +40,7 @@ verdict_created : (settings : Settings) (state : State) (peer : ℕ) (heard : He
 verdict_created settings state peer (at_once unheard) = tt
 verdict_created settings state peer (at_once (reset i)) = tt
 verdict_created settings state peer (at_once (bad_option x n)) = tt
+verdict_created settings state peer (undecodable x) = tt
 verdict_created settings state peer (unserved x) = tt
 verdict_created settings state peer (asked r) = judged_created state peer r (first_fault (domain_of settings) r.prefixes) (conflicts state r)
 

@@ -10,8 +10,8 @@ use Rattle.dots_machine.specs.declared.settings.Settings.{Settings}
 use Rattle.dots_machine.specs.declared.entry.Entry.{Entry}
 use Rattle.dots_machine.specs.Targets.{first_fault, fault_of}
 use Rattle.dots_machine.specs.Exchanges.{unheard, reset, bad_option}
-use Rattle.dots_machine.specs.Requests.{Head, Request, exchange_of, Heard, at_once, unserved, asked, Hears, HasHead}
-use Rattle.dots_machine.specs.Replies.{created, not_implemented, unavailable, reset_message, refused_for_option, bad_request, conflicting}
+use Rattle.dots_machine.specs.Requests.{Head, Request, exchange_of, Heard, at_once, undecodable, unserved, asked, Hears, HasHead}
+use Rattle.dots_machine.specs.Replies.{created, not_implemented, unavailable, reset_message, refused_for_option, bad_request, no_cbor, conflicting}
 use Rattle.dots_machine.specs.History.{standing}
 
 -- the history, and the time of the last event
@@ -82,6 +82,7 @@ abbrev pub verdict : Settings → State → ℕ → Heard → Verdict
 verdict settings state peer (at_once unheard) = silent
 verdict settings state peer (at_once (reset identifier)) = refuse (reset_message identifier)
 verdict settings state peer (at_once (bad_option exchange number)) = refuse (refused_for_option exchange number)
+verdict settings state peer (undecodable exchange) = refuse (no_cbor exchange)
 verdict settings state peer (unserved exchange) = refuse (not_implemented exchange)
 verdict settings state peer (asked request) =
     judged state peer request (first_fault (domain_of settings) request.prefixes) (conflicts state request)

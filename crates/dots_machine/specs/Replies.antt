@@ -1,7 +1,7 @@
 -- The replies: messages with the Message ID and the token of the request (RFC 7252, section 5.2; RFC 9132, section 4.4.1.1).
 use Rattle.std.specs.Prelude.{ℕ, List, [], ◌∷◌, ◌++◌, codes, decimal}
-use Rattle.cbor_profile.specs.Tree.{Tree, unsigned, mapping, no_pairs, pair}
-use Rattle.cbor_profile.specs.Canon.{canon}
+use Rattle.cbor_grammar.specs.Tree.{Tree, unsigned, mapping, no_pairs, pair}
+use Rattle.cbor_grammar.specs.Canon.{canon}
 use Rattle.coap_message.specs.declared.kind.Kind.{Kind}
 use Rattle.coap_message.specs.declared.kind.Kind.TheVariants.{Con, Non, Ack, Rst}
 use Rattle.coap_message.specs.Message.{CoapMessage, spelling}
@@ -64,6 +64,10 @@ refused_for_option exchange number = spelling (plain 0x82 exchange (codes "optio
 -- 4.00 Bad Request, for a prefix that may not be asked for
 abbrev pub bad_request : Exchange → TargetFault → List ℕ
 bad_request exchange fault = spelling (plain 0x80 exchange (fault_text fault))
+
+-- 4.00 Bad Request, for a body that can't be decoded
+abbrev pub no_cbor : Exchange → List ℕ
+no_cbor exchange = spelling (plain 0x80 exchange (codes "cbor"))
 
 -- 4.09 Conflict, with a request that stands
 abbrev pub conflicting : Exchange → List ℕ

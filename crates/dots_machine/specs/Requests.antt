@@ -6,9 +6,8 @@ use Rattle.dots_lists.specs.Name.{is_name}
 use Rattle.ip_scope.specs.declared.family.Family.TheVariants.{V4}
 use Rattle.ip_scope.specs.Prefix.{PrefixValue}
 use Rattle.ip_scope.specs.PrefixText.{Reads}
-use Rattle.cbor_profile.specs.Tree.{Tree, unsigned, text, array, mapping, Trees, no_items, item, no_pairs, pair}
-use Rattle.cbor_profile.specs.Canon.{canon}
-use Rattle.cbor_profile.specs.Valid.{IsValid}
+use Rattle.cbor_grammar.specs.Tree.{Tree, unsigned, text, array, mapping, Trees, no_items, item, no_pairs, pair}
+use Rattle.cbor_grammar.specs.Spelling.{Spells}
 use Rattle.coap_message.specs.declared.kind.Kind.{Kind}
 use Rattle.coap_message.specs.declared.fault.CoapFault.{CoapFault}
 use Rattle.coap_message.specs.Message.{CoapOption, CoapMessage, IsMessage, spelling}
@@ -92,7 +91,7 @@ ReadEach (t ∷ ts) (p ∷ ps) = Reads t p × (p.family ≡ V4) × ReadEach ts p
 ReadEach [] (p ∷ ps) = ⊥
 ReadEach (t ∷ ts) [] = ⊥
 
--- the body {1: {2: [{6: [1 to 16 IPv4 prefixes], 14: 1 to 2147483647}]}} in its deterministic encoding
+-- the body {1: {2: [{6: [1 to 16 IPv4 prefixes], 14: 1 to 2147483647}]}} in any spelling (RFC 8949, section 3)
 pub record IsBody (payload : List ℕ) (prefixes : List PrefixValue) (lifetime : ℕ) : Type 0 where
   pub texts : List (List ℕ)
   pub read : ReadEach texts prefixes
@@ -100,8 +99,7 @@ pub record IsBody (payload : List ℕ) (prefixes : List PrefixValue) (lifetime :
   pub most : length texts ≤ 16
   pub positive : 1 ≤ lifetime
   pub greatest : lifetime < 2 ^ 31
-  pub valid : IsValid (mitigation (request_scope texts lifetime))
-  pub spelled : payload ≡ canon (mitigation (request_scope texts lifetime))
+  pub spelled : Spells payload (mitigation (request_scope texts lifetime)) 0
 
 -- the header and the options of a datagram are those of a request
 pub record HasHead (datagram : List ℕ) (head : Head) (payload : List ℕ) : Type 0 where
@@ -118,16 +116,25 @@ pub record Asks (datagram : List ℕ) (request : Request) : Type 0 where
   pub cuid : request.cuid ≡ head.cuid
   pub mid : request.mid ≡ digits_value 10 head.digits
 
--- What a datagram is: something that is settled at once, a request that isn't served, or one that is.
+-- The header and the options are those of a request, and its payload spells no item.
+pub record HasNoCbor (datagram : List ℕ) : Type 0 where
+  pub head : Head
+  pub payload : List ℕ
+  pub has_head : HasHead datagram head payload
+  pub none : (tree : Tree) → ¬ (Spells payload tree 0)
+
+-- What a datagram is: something that is settled at once, a request whose body can't be decoded, one that isn't served, or one that is.
 pub data Heard : Type 0 where
   at_once : Settled → Heard
+  undecodable : Exchange → Heard
   unserved : Exchange → Heard
   asked : Request → Heard
 
 -- a request that isn't settled at once
 abbrev pub Requests : List ℕ → Exchange → Heard → Type 0
 Requests datagram exchange (at_once answer) = ⊥
-Requests datagram exchange (unserved other) = (other ≡ exchange) × ((request : Request) → ¬ (Asks datagram request))
+Requests datagram exchange (undecodable other) = (other ≡ exchange) × HasNoCbor datagram
+Requests datagram exchange (unserved other) = (other ≡ exchange) × ((request : Request) → ¬ (Asks datagram request)) × (¬ (HasNoCbor datagram))
 Requests datagram exchange (asked request) = Asks datagram request
 
 pub data Hears (datagram : List ℕ) (heard : Heard) : Type 0 where

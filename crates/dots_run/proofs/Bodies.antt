@@ -1,14 +1,13 @@
 -- The body of a request, by its tree and by its bytes.
-use Rattle.std.proofs.Common.{◌≡◌, ◌≤◌, ◌<◌, ◌^◌, ℕ, List, [], ◌∷◌, ◌++◌, length, map, Option, Some, None, Result, Ok, Err, IfOk, IfSome, IfNone, refl, sym, ap, ◌∙◌, subst, arith}
+use Rattle.std.proofs.Common.{◌≡◌, ◌≤◌, ◌<◌, ◌^◌, ℕ, List, [], ◌∷◌, length, map, refl, sym, ap, ◌∙◌, subst, arith}
 use Rattle.std.proofs.lemmas.List.{length-map}
 use Rattle.ip_scope.specs.Prefix.{PrefixValue}
-use Rattle.cbor_profile.specs.declared.item.Item.{Item}
-use Rattle.cbor_profile.specs.Tree.{Tree, Trees}
-use Rattle.cbor_profile.specs.Canon.{canon}
-use Rattle.cbor_profile.specs.Valid.{IsValid}
-use Rattle.cbor_profile.specs.View.{tree_of, items_of}
-use Rattle.cbor_profile.proofs.Spellings.{one_spelling}
+use Rattle.cbor_grammar.specs.declared.item.Item.{Item}
+use Rattle.cbor_grammar.specs.Tree.{Tree, Trees}
+use Rattle.cbor_grammar.specs.Spelling.{Spells}
+use Rattle.cbor_grammar.specs.View.{tree_of, items_of}
 use Rattle.dots_machine.specs.Requests.{IsBody, mitigation, request_scope}
+use Rattle.dots_machine.proofs.OneRequest.{same_tree}
 use Rattle.dots_run.specs.Scopes.{scope_with, ReadItems, Asked}
 use Rattle.dots_run.proofs.AskedTexts.{texts_of, items_read}
 
@@ -38,8 +37,8 @@ asked_bounds body xs lifetime asked ps found a =
     let greatest = a.greatest in
     (omega arith, omega arith, omega arith, omega arith, subst (λ ts. ReadItems ts ps) (sym items) a.read)
 
-pub body_from : (payload : List ℕ) (tree : Tree) (ps : List PrefixValue) (lifetime : ℕ) → IsValid tree → payload ≡ canon tree → Asked tree ps lifetime → IsBody payload ps lifetime
-body_from payload tree ps lifetime valid spelled a =
+pub body_from : (payload : List ℕ) (tree : Tree) (ps : List PrefixValue) (lifetime : ℕ) → Spells payload tree 0 → Asked tree ps lifetime → IsBody payload ps lifetime
+body_from payload tree ps lifetime spelled a =
     let texts = texts_of a.items ps a.read in
     let is : tree ≡ mitigation (request_scope texts.0 lifetime) = a.is ∙ ap (λ items. scope_with items lifetime) texts.1 in
     let count = texts.3 in
@@ -51,13 +50,12 @@ body_from payload tree ps lifetime valid spelled a =
       most = omega arith;
       positive = a.positive;
       greatest = a.greatest;
-      valid = subst IsValid is valid;
-      spelled = spelled ∙ ap canon is;
+      spelled = subst (λ tree. Spells payload tree 0) is spelled;
     }
 
-pub asked_from : (payload : List ℕ) (tree : Tree) (ps : List PrefixValue) (lifetime : ℕ) → IsValid tree → payload ≡ canon tree → IsBody payload ps lifetime → Asked tree ps lifetime
-asked_from payload tree ps lifetime valid spelled b =
-    let one = one_spelling tree (mitigation (request_scope b.texts lifetime)) [] [] valid.sound b.valid.sound (ap (λ bytes. bytes ++ []) (sym spelled ∙ b.spelled)) in
+pub asked_from : (payload : List ℕ) (tree : Tree) (ps : List PrefixValue) (lifetime : ℕ) → Spells payload tree 0 → IsBody payload ps lifetime → Asked tree ps lifetime
+asked_from payload tree ps lifetime spelled b =
+    let one = same_tree payload tree (mitigation (request_scope b.texts lifetime)) spelled b.spelled in
     let items = items_read b.texts ps b.read in
     let count = items.2 in
     let some = b.some in
@@ -68,19 +66,9 @@ asked_from payload tree ps lifetime valid spelled b =
       most = omega arith;
       positive = b.positive;
       greatest = b.greatest;
-      is = one.0 ∙ ap (λ ts. scope_with ts lifetime) (sym items.1);
+      is = one ∙ ap (λ ts. scope_with ts lifetime) (sym items.1);
     }
 
-pub no_body : (payload : List ℕ) (tree : Tree) → IsValid tree → payload ≡ canon tree → ((ps : List PrefixValue) (lifetime : ℕ) → ¬ (Asked tree ps lifetime))
+pub no_body : (payload : List ℕ) (tree : Tree) → Spells payload tree 0 → ((ps : List PrefixValue) (lifetime : ℕ) → ¬ (Asked tree ps lifetime))
     → (ps : List PrefixValue) (lifetime : ℕ) → ¬ (IsBody payload ps lifetime)
-no_body payload tree valid spelled none ps lifetime b = none ps lifetime (asked_from payload tree ps lifetime valid spelled b)
-
-pub ok_some_then : {X E : Type 0} (r : Result (Option X) E) (P Q : X → Type 0) → IfOk r (λ found. IfSome found P) → ((x : X) → P x → Q x) → IfOk r (λ found. IfSome found Q)
-ok_some_then (Ok (Some x)) P Q p then_q = then_q x p
-ok_some_then (Ok None) P Q p then_q = tt
-ok_some_then (Err e) P Q p then_q = tt
-
-pub ok_none_then : {X E : Type 0} (r : Result (Option X) E) (P Q : Type 0) → IfOk r (λ found. IfNone found P) → (P → Q) → IfOk r (λ found. IfNone found Q)
-ok_none_then (Ok (Some x)) P Q p then_q = tt
-ok_none_then (Ok None) P Q p then_q = then_q p
-ok_none_then (Err e) P Q p then_q = tt
+no_body payload tree spelled none ps lifetime b = none ps lifetime (asked_from payload tree ps lifetime spelled b)

@@ -4,7 +4,7 @@ use Rattle.dots_lists.specs.Name.{is_name}
 use Rattle.dots_host.specs.declared.out.OwnedOut.{OwnedOut}
 use Rattle.dots_host.specs.declared.out.OwnedOut.TheVariants as owned
 use Rattle.dots_machine.specs.declared.settings.Settings.{Settings}
-use Rattle.dots_machine.specs.Requests.{Request, Heard, at_once, unserved, asked, HasHead}
+use Rattle.dots_machine.specs.Requests.{Request, Heard, at_once, undecodable, unserved, asked, HasHead}
 use Rattle.dots_machine.specs.Replies.{unavailable}
 use Rattle.dots_machine.specs.Machine.{State, verdict, Answers}
 use Rattle.dots_run.specs.declared.request_head.RequestHead.{RequestHead}
@@ -31,12 +31,14 @@ pub record IsFit (a : Asked) : Type 0 where
 
 abbrev pub heard_of : Hearing → Heard
 heard_of (hearing.AtOnce answer) = at_once (settled_view answer)
+heard_of (hearing.Undecodable exchange) = undecodable (exchange_view exchange)
 heard_of (hearing.Unserved exchange) = unserved (exchange_view exchange)
 heard_of (hearing.Asked a) = asked (request_of a)
 
 -- a reply can carry the token
 abbrev pub CanBeAnswered : Hearing → Type 0
 CanBeAnswered (hearing.AtOnce answer) = IsAnswerable answer
+CanBeAnswered (hearing.Undecodable exchange) = length exchange.token.now ≤ 8
 CanBeAnswered (hearing.Unserved exchange) = length exchange.token.now ≤ 8
 CanBeAnswered (hearing.Asked a) = length a.head.exchange.token.now ≤ 8
 

@@ -2,6 +2,7 @@ pub mod Asking
 pub mod Exchanging
 pub mod Hearing
 pub mod Keeping
+pub mod Payloads
 pub mod Scopes
 pub mod Refusing
 pub mod Sends

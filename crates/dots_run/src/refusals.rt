@@ -3,7 +3,7 @@
 ghost use Rattle.std.specs.Prelude.{◌≡◌, ◌≤◌, [], ◌∷◌, ◌++◌, length, take, codes, decimal};
 ghost use Rattle.dots_host.specs.Runs.{Added, Gives};
 ghost use Rattle.dots_host.specs.declared.out.OwnedOut.TheVariants as owned;
-ghost use Rattle.dots_machine.specs.Replies.{not_implemented, unavailable, refused_for_option, bad_request, conflicting};
+ghost use Rattle.dots_machine.specs.Replies.{not_implemented, unavailable, refused_for_option, bad_request, no_cbor, conflicting};
 ghost use Rattle.dots_run.specs.Exchanging.{exchange_view};
 
 use crate::exchange::Exchange;
@@ -74,6 +74,16 @@ pub fn send_bad_request<W: Wire>(
     ensures faults { W.faults wire.new ≡ W.faults wire.old }
 {
     send_plain(wire, peer, BAD_REQUEST, exchange, fault.text());
+}
+
+/// 4.00, for a body that can't be decoded.
+pub fn send_no_cbor<W: Wire>(wire: &mut W, peer: u32, exchange: &Exchange<'_>)
+    requires { length exchange.now.token.now ≤ 8 }
+    ensures acts { Added (W.acts wire.old) (W.acts wire.new)
+        (Gives (owned.To peer (no_cbor (exchange_view exchange.now)) ∷ [])) }
+    ensures faults { W.faults wire.new ≡ W.faults wire.old }
+{
+    send_plain(wire, peer, BAD_REQUEST, exchange, b"cbor");
 }
 
 /// 4.09, for a request in the way of which another stands.

@@ -6,7 +6,7 @@ ghost use Rattle.dots_machine.specs.Requests.{Hears};
 ghost use Rattle.dots_run.specs.Hearing.{heard_of, CanBeAnswered, Begins};
 
 use crate::exchange::Exchange;
-use crate::request_body::{RequestBody, request_body};
+use crate::request_body::{Payload, RequestBody, request_body};
 use crate::request_head::{RequestHead, request_head};
 use crate::settling::{AtOnce, settled, unread};
 use coap_message::{Message, decode};
@@ -24,6 +24,8 @@ pub struct Asked<'a> {
 pub enum Hearing<'a> {
     /// Something that is settled at once.
     AtOnce(AtOnce<'a>),
+    /// A request whose body can't be decoded.
+    Undecodable(Exchange<'a>),
     /// A request that isn't served.
     Unserved(Exchange<'a>),
     /// A mitigation request.
@@ -57,8 +59,9 @@ fn hear_message<'a>(alloc: Global, message: &Message<'a>) -> Result<Hearing<'a>,
         return Ok(Hearing::Unserved(exchange));
     };
     match request_body(alloc, message.payload()) {
-        Ok(Some(body)) => Ok(Hearing::Asked(Asked { head, body })),
-        Ok(None) => Ok(Hearing::Unserved(exchange)),
+        Ok(Payload::Asked(body)) => Ok(Hearing::Asked(Asked { head, body })),
+        Ok(Payload::Other) => Ok(Hearing::Unserved(exchange)),
+        Ok(Payload::NoCbor) => Ok(Hearing::Undecodable(exchange)),
         Err(_) => Err(head),
     }
 }

@@ -4,13 +4,14 @@ ghost use Rattle.std.specs.Prelude.{◌≡◌, ◌≢◌, ◌≤◌, ◌<◌, �
 ghost use Rattle.ip_scope.specs.Prefix.{PrefixValue};
 ghost use Rattle.ip_scope.specs.PrefixText.{Reads};
 ghost use Rattle.ip_scope.specs.declared.family.Family.TheVariants.{V4};
-ghost use Rattle.cbor_profile.specs.Tree.{Tree, Trees, unsigned, text, array, mapping, no_items, item, no_pairs, pair};
-ghost use Rattle.cbor_profile.specs.View.{tree_of, items_of};
-ghost use Rattle.dots_machine.specs.Requests.{IsBody, ReadEach, text_items, mitigation};
+ghost use Rattle.cbor_grammar.specs.Tree.{Tree, Trees, unsigned, text, array, mapping, no_items, item, no_pairs, pair};
+ghost use Rattle.cbor_grammar.specs.View.{tree_of, items_of};
+ghost use Rattle.dots_machine.specs.Requests.{ReadEach, text_items, mitigation};
+ghost use Rattle.dots_run.specs.Payloads.{IsPayload};
 ghost use Rattle.dots_run.specs.Scopes.{scope_with, ReadItems, Asked};
 
 use crate::settings_file::ipv4_prefix;
-use cbor_profile::{CborFault, Item, decode};
+use cbor_grammar::{CborFault, Item, decode};
 use dots_lists::NoMemory;
 use ip_scope::Prefix;
 use std::alloc::Global;
@@ -21,6 +22,17 @@ pub struct RequestBody {
     pub prefixes: dots_lists::List<Prefix>,
     /// The asked lifetime in seconds.
     pub lifetime: u32,
+}
+
+/// What the payload of a message is.
+#[derive(Debug, Drop)]
+pub enum Payload {
+    /// The body of a mitigation request.
+    Asked(RequestBody),
+    /// Another item.
+    Other,
+    /// No item at all.
+    NoCbor,
 }
 
 /// The keys of RFC 9132, section 6.
@@ -172,18 +184,18 @@ fn prefixes_in(
     Ok(Some(prefixes))
 }
 
-/// What the payload asks for, where it is the body of a mitigation request.
-pub fn request_body(alloc: Global, payload: &[u8]) -> Result<Option<RequestBody>, NoMemory>
-    ensures some { IfOk result (λ found. IfSome found (λ body. IsBody payload.now body.prefixes body.lifetime)) }
-    ensures none { IfOk result (λ found. IfNone found ((prefixes : List PrefixValue) (lifetime : ℕ)
-        → ¬ (IsBody payload.now prefixes lifetime))) }
+/// What the payload is.
+pub fn request_body(alloc: Global, payload: &[u8]) -> Result<Payload, NoMemory>
+    ensures { IfOk result (IsPayload payload.now) }
 {
-    let body = match decode(alloc, payload) {
-        Ok(body) => body,
-        Err(CborFault::Unread) => return Ok(None),
-        Err(CborFault::NoMemory) => return Err(NoMemory),
-    };
-    asked_in(alloc, &body)
+    match decode(alloc, payload) {
+        Ok(body) => match asked_in(alloc, &body)? {
+            Some(asked) => Ok(Payload::Asked(asked)),
+            None => Ok(Payload::Other),
+        },
+        Err(CborFault::NoMemory) => Err(NoMemory),
+        Err(_) => Ok(Payload::NoCbor),
+    }
 }
 
 /// What a body asks for, where it is that of a mitigation request.

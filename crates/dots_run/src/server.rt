@@ -17,7 +17,8 @@ ghost use Rattle.dots_run.specs.Sends.{sends_at_once};
 
 use crate::conflicts::{any_in_the_way, leave_standing};
 use crate::refusals::{
-    send_bad_option, send_bad_request, send_conflict, send_not_implemented, send_unavailable,
+    send_bad_option, send_bad_request, send_conflict, send_no_cbor, send_not_implemented,
+    send_unavailable,
 };
 use crate::replies::created;
 use crate::request::{Asked, Hearing, hear};
@@ -149,6 +150,7 @@ impl Server {
     {
         match hear(self.alloc, datagram) {
             Ok(Hearing::AtOnce(answer)) => return settle(wire, peer, &answer),
+            Ok(Hearing::Undecodable(exchange)) => return send_no_cbor(wire, peer, &exchange),
             Ok(Hearing::Unserved(exchange)) => return send_not_implemented(wire, peer, &exchange),
             Ok(Hearing::Asked(asked)) => return self.decide(wire, peer, asked),
             Err(head) => return send_unavailable(wire, peer, &head.exchange),

@@ -1,5 +1,5 @@
 use crate::replays::{leaves, replay};
-use crate::rows::{FEED, NONE, ROW};
+use crate::rows::{CLIENT, FEED, HEAD, MID_123, NONE, ROW, SENT};
 use std::test::Fail;
 
 /// Messages that ask for nothing that is served, each from the client and then from a stranger, who is never answered.
@@ -59,5 +59,43 @@ fn a_confirmable_request(rt: HostRuntime) -> Result<(), Fail> {
     let reply = b"to 0 614100014ac2010fffa101a10281a205187b0e190e10\n".as_slice();
     let left = replay(rt.alloc(), &[request])?;
     leaves(&rt, &left, &[reply], ROW);
+    Ok(())
+}
+
+/// The request of all rows with its body in another spelling: longer arguments, indefinite lengths and a text in parts.
+#[test]
+fn a_body_in_another_spelling(rt: HostRuntime) -> Result<(), Fail> {
+    let body =
+        b"bf1801bf18029fbf18069f780c3139322e302e322e302f3234ff180e1a00000e10ffffffff".as_slice();
+    let script = [CLIENT, HEAD, MID_123, b"12010fff", body, FEED];
+    let left = replay(rt.alloc(), &script)?;
+    leaves(&rt, &left, &SENT, ROW);
+    Ok(())
+}
+
+/// Bodies that can't be decoded: two lifetimes, a body that is cut, one with a byte behind it; and none at all. Items that
+/// aren't the body of a request aren't served.
+#[test]
+fn bodies_that_are_refused(rt: HostRuntime) -> Result<(), Fail> {
+    let no_cbor = b"518000014aff63626f72".as_slice();
+    let unserved = b"51a100014a".as_slice();
+    for (body, reply) in [
+        (
+            b"12010fffa101a10281a306816c3139322e302e322e302f32340e190e100e190e10".as_slice(),
+            no_cbor,
+        ),
+        (b"12010fffa101a10281a2", no_cbor),
+        (b"12010fff0000", no_cbor),
+        (b"12010f", no_cbor),
+        (b"12010fff00", unserved),
+        (
+            b"12010fffa101a10281a206816c3139322e302e322e302f32340e00",
+            unserved,
+        ),
+    ] {
+        let script = [CLIENT, HEAD, MID_123, body, FEED];
+        let left = replay(rt.alloc(), &script)?;
+        leaves(&rt, &left, &[b"to 0 ", reply, FEED], NONE);
+    }
     Ok(())
 }

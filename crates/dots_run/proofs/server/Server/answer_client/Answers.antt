@@ -1,5 +1,5 @@
 use Rattle.std.proofs.Common.{refl}
-use Rattle.dots_machine.specs.Requests.{unserved}
+use Rattle.dots_machine.specs.Requests.{undecodable, unserved}
 use Rattle.dots_machine.specs.Machine.{by_verdict, for_want_of_memory}
 use Rattle.dots_run.specs.Asking.{head_of}
 use Rattle.dots_run.specs.Exchanging.{exchange_view, settled_view}
@@ -16,6 +16,11 @@ pub returns-in-Ok-Unserved-clause-answered : goal.returns-in-Ok-Unserved-clause-
 returns-in-Ok-Unserved-clause-answered g c = λ state is.
     let heard = rw c.in-Ok-Unserved.field-0-is at c.in-Ok-Unserved.ensures.heard in
     (_, state, by_verdict c.requires (unserved (exchange_view c.in-Ok-Unserved.exchange)) heard (refl, refl), is, c.send_not_implemented.ensures.acts)
+
+pub returns-in-Ok-Undecodable-clause-answered : goal.returns-in-Ok-Undecodable-clause-answered
+returns-in-Ok-Undecodable-clause-answered g c = λ state is.
+    let heard = rw c.in-Ok-Undecodable.field-0-is at c.in-Ok-Undecodable.ensures.heard in
+    (_, state, by_verdict c.requires (undecodable (exchange_view c.in-Ok-Undecodable.exchange)) heard (refl, refl), is, c.send_no_cbor.ensures.acts)
 
 pub decide-requires : goal.decide-requires
 decide-requires g c =

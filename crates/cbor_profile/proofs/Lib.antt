@@ -1,9 +1,0 @@
-pub mod Compared
-pub mod Contents
-pub mod Heads
-pub mod Levels
-pub mod Options
-pub mod Rows
-pub mod Spellings
-pub mod Views
-pub mod Written
