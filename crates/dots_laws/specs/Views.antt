@@ -1,8 +1,9 @@
 -- What time and one more entry make of a view, and the part of a domain in it.
-use Rattle.std.specs.Prelude.{ℕ, ◌==◌, List, [], ◌∷◌, ◌++◌, filter, map}
+use Rattle.std.specs.Prelude.{ℕ, ◌==◌, not, if◌then◌else◌, List, [], ◌∷◌, ◌++◌, filter, map}
 use Rattle.dots_history.specs.declared.entry.Entry.{Entry}
 use Rattle.dots_history.specs.declared.status.Status.TheVariants.{Open}
-use Rattle.dots_history.specs.Histories.{Held, View, live, step}
+use Rattle.dots_history.specs.Entries.{is_held, undoes}
+use Rattle.dots_history.specs.Histories.{Held, View, live, step, recent}
 
 -- those of the mitigations that are live at the time
 abbrev pub mitigations_at : ℕ → List Held → List Held
@@ -24,6 +25,20 @@ moved e m = record { put = m.put; status = step m.put m.status e }
 -- what one more entry makes of the live mitigations, at its time
 abbrev pub mitigations_with : Entry → List Held → List Held
 mitigations_with e ms = mitigations_at e.time (map (moved e) ms ++ record { put = e; status = Open } ∷ [])
+
+-- what it makes of what is held
+abbrev pub things_with : Entry → List Entry → List Entry
+things_with e es = filter (λ x. not (undoes x e)) es ++ (if is_held e.change then e ∷ [] else [])
+
+-- what it makes of a view
+abbrev pub view_with : ℕ → Entry → View → View
+view_with n e v =
+    record {
+      mitigations = mitigations_with e v.mitigations;
+      recent = recent n (v.recent ++ e ∷ []);
+      things = things_with e v.things;
+      last = e ∷ [];
+    }
 
 -- those of a domain
 abbrev pub mitigations_of : ℕ → List Held → List Held

@@ -5,7 +5,7 @@ ghost use Rattle.dots_history.specs.declared.entry.Entry.{Entry};
 ghost use Rattle.dots_history.specs.declared.status.Status.{Status};
 ghost use Rattle.dots_history.specs.declared.status.Status.TheVariants.{Ended};
 ghost use Rattle.dots_history.specs.Histories.{Within, status, live, view, mitigations, alone};
-ghost use Rattle.dots_laws.specs.Views.{view_at, mitigations_with, mitigations_of};
+ghost use Rattle.dots_laws.specs.Views.{view_at, view_with, mitigations_of};
 
 /// A mitigation that is ended stays ended whatever is appended, and one that isn't live is never live again, whatever
 /// comes later.
@@ -15,16 +15,13 @@ pub fn what_is_over_stays_over()
         → live low put s ≡ false → Within low later high → live high put (status put s later) ≡ false }
 {}
 
-/// The view at a later time is a function of the view now: the mitigations that are no longer live are left out. So
-/// views that are equal at a time stay equal.
-pub fn views_age()
-    ensures { (n t u : ℕ) (entries : List Entry) → t ≤ u → view n u entries ≡ view_at u (view n t entries) }
-{}
-
-/// The live mitigations after one more entry, at its time, are a function of those that were live before, at any time
-/// up to that, and of the entry.
-pub fn mitigations_go_on()
-    ensures { (t : ℕ) (e : Entry) (entries : List Entry) → t ≤ e.time → mitigations e.time (entries ++ e ∷ []) ≡ mitigations_with e (mitigations t entries) }
+/// Views go on: the view at a later time is a function of the view now, in which the mitigations that are no longer live
+/// are left out; the view with one more entry, at its time, is a function of the view at any time up to that, and of the
+/// entry. So histories whose views are equal at a time keep equal views, whatever is appended to both.
+pub fn views_go_on()
+    ensures ageing { (n t u : ℕ) (entries : List Entry) → t ≤ u → view n u entries ≡ view_at u (view n t entries) }
+    ensures adding { (n t : ℕ) (e : Entry) (entries : List Entry) → t ≤ e.time → view n e.time (entries ++ e ∷ []) ≡ view_with n e (view n t entries) }
+    ensures going_on { (n t u : ℕ) (xs ys more : List Entry) → view n t xs ≡ view n t ys → Within t more u → view n u (xs ++ more) ≡ view n u (ys ++ more) }
 {}
 
 /// The live mitigations of a domain are those of its entries alone.
