@@ -5,3 +5,7 @@ pub mod Apart
 pub mod Sieves
 pub mod Recents
 pub mod GoingOn
+pub mod Touching
+pub mod Members
+pub mod Keeping
+pub mod Dropping

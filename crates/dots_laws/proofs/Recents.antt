@@ -108,7 +108,7 @@ same_recent n (x ∷ part) (y ∷ whole) (inl has) =
 same_recent n (x ∷ part) (y ∷ whole) (inr has) = left_recent n y whole (recent n (x ∷ part)) has.0 (same_recent n (x ∷ part) whole has.1)
 
 -- the recent ones are such a part
-left_here : (n : ℕ) (part : List Entry) (y : Entry) (whole : List Entry) → is_recent n y whole ≡ false → HasRecent n part whole → HasRecent n part (y ∷ whole)
+pub left_here : (n : ℕ) (part : List Entry) (y : Entry) (whole : List Entry) → is_recent n y whole ≡ false → HasRecent n part whole → HasRecent n part (y ∷ whole)
 left_here n [] y whole old has = (old, has)
 left_here n (x ∷ part) y whole old has = inr (old, has)
 

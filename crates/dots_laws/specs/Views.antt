@@ -3,7 +3,8 @@ use Rattle.std.specs.Prelude.{ℕ, ◌==◌, not, if◌then◌else◌, List, [],
 use Rattle.dots_history.specs.declared.entry.Entry.{Entry}
 use Rattle.dots_history.specs.declared.status.Status.TheVariants.{Open}
 use Rattle.dots_history.specs.Entries.{is_held, undoes}
-use Rattle.dots_history.specs.Histories.{Held, View, live, step, recent}
+use Rattle.dots_history.specs.Histories.{Held, View, live, recent}
+use Rattle.dots_laws.specs.Keeping.{moved, pass}
 
 -- those of the mitigations that are live at the time
 abbrev pub mitigations_at : ℕ → List Held → List Held
@@ -18,13 +19,9 @@ view_at u v =
       last = v.last;
     }
 
--- what one more entry does to a mitigation
-abbrev pub moved : Entry → Held → Held
-moved e m = record { put = m.put; status = step m.put m.status e }
-
 -- what one more entry makes of the live mitigations, at its time
 abbrev pub mitigations_with : Entry → List Held → List Held
-mitigations_with e ms = mitigations_at e.time (map (moved e) ms ++ record { put = e; status = Open } ∷ [])
+mitigations_with e ms = mitigations_at e.time (pass ms e)
 
 -- what it makes of what is held
 abbrev pub things_with : Entry → List Entry → List Entry
