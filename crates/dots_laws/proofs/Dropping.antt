@@ -70,12 +70,12 @@ pub held_dead : (t : ℕ) (put : Entry) (s : Status) → live t put s ≡ false 
 held_dead t put s dead = ap (λ b. cond b (Some (record { put = put; status = s })) None) dead
 
 -- what has ended isn't live in the end
-ended_dead : (t : ℕ) (put : Entry) (s : Status) (later : List Entry) → s ≡ Ended → live t put (status put s later) ≡ true → ⊥
+pub ended_dead : (t : ℕ) (put : Entry) (s : Status) (later : List Entry) → s ≡ Ended → live t put (status put s later) ≡ true → ⊥
 ended_dead t put s later ended is =
     false≢true (sym (ap (live t put) (ap (λ x. status put x later) ended ∙ ended_stays put later)) ∙ is)
 
 -- an entry that isn't named changes nothing of what is live in the end
-no_change : (n t : ℕ) (put : Entry) (s : Status) (passed : List Held) (e : Entry) (later : List Entry) → In (record { put = put; status = s }) passed
+pub no_change : (n t : ℕ) (put : Entry) (s : Status) (passed : List Held) (e : Entry) (later : List Entry) → In (record { put = put; status = s }) passed
     → list_any (is_first t e later) passed ≡ false → live t put (status put (step put s e) later) ≡ true → step put s e ≡ s
 no_change n t put Ended passed e later there out is = refl
 no_change n t put Open passed e later there out is =
@@ -98,7 +98,7 @@ no_change n t put (Withdrawn at) passed e later there out is =
       | inr not_ended ↦ ap (λ b. cond b Ended (Withdrawn at)) not_ended
     ]
 
-still_there : (put : Entry) (s : Status) (passed : List Held) (e : Entry) → In (record { put = put; status = s }) passed
+pub still_there : (put : Entry) (s : Status) (passed : List Held) (e : Entry) → In (record { put = put; status = s }) passed
     → In (record { put = put; status = step put s e }) (pass passed e)
 still_there put s passed e there =
     in_front (record { put = put; status = step put s e }) (map (moved e) passed) (record { put = e; status = Open } ∷ []) (in_map (moved e) (record { put = put; status = s }) passed there)
@@ -123,7 +123,7 @@ live_kept n t put s passed (e ∷ later) there is =
     ∙ go)
 
 -- fewer signal entries come after an entry than before it
-fewer : (n : ℕ) (test : Entry → Bool) (e : Entry) (later : List Entry) → nat_lt (tally test (e ∷ later)) n ≡ true → nat_lt (tally test later) n ≡ true
+pub fewer : (n : ℕ) (test : Entry → Bool) (e : Entry) (later : List Entry) → nat_lt (tally test (e ∷ later)) n ≡ true → nat_lt (tally test later) n ≡ true
 fewer n test e later few =
     let less : tally test (e ∷ later) < n = ltb-true (tally test (e ∷ later)) n few in
     cond_both
@@ -151,7 +151,7 @@ still_recent n peer domain e later is few =
     (subst (λ p. nat_lt (tally (signals p domain) later) n ≡ true) (sym parts.1) after))
 
 -- an entry that isn't named changes nothing of what is among the last and live
-unchanged : (n t : ℕ) (put : Entry) (s : Status) (passed : List Held) (e : Entry) (later : List Entry)
+pub unchanged : (n t : ℕ) (put : Entry) (s : Status) (passed : List Held) (e : Entry) (later : List Entry)
     → nat_lt (tally (signals put.peer put.domain) (e ∷ later)) n ≡ true → (touches put e ≡ true → e.peer ≡ put.peer)
     → is_recent n e later ≡ false → step put s e ≡ s
 unchanged n t put s passed e later few peers old =

@@ -9,3 +9,4 @@ pub mod Touching
 pub mod Members
 pub mod Keeping
 pub mod Dropping
+pub mod Views

@@ -32,6 +32,11 @@ withdrawal_no_put : (c : Change) (mid : ℕ) → withdrawn_mid c ≡ Some mid �
 withdrawal_no_put (change.Withdraw m) mid is = refl
 withdrawal_no_put _ mid is = absurd (none-some mid is)
 
+withdrawal_not_held : (c : Change) (mid : ℕ) → withdrawn_mid c ≡ Some mid → is_held c ≡ false
+unfolding is_held
+withdrawal_not_held (change.Withdraw m) mid is = refl
+withdrawal_not_held _ mid is = absurd (none-some mid is)
+
 pub held_no_put : (c : Change) → is_held c ≡ true → put_of c ≡ None
 unfolding is_held
 held_no_put (change.Put p) is = absurd (false≢true is)
@@ -55,12 +60,13 @@ ends_parts put e is =
     let there = second_there (λ (a b : Put). (a.mid == b.mid) || overlaps true a b) (put_of put.change) (put_of e.change) parts.1 in
     (parts.0, put_signals e.change there.0 there.1)
 
-pub withdraws_parts : (put e : Entry) → withdraws put e ≡ true → (same_client put e ≡ true) × (is_signal e.change ≡ true) × (put_of e.change ≡ None)
+pub withdraws_parts : (put e : Entry) → withdraws put e ≡ true
+    → (same_client put e ≡ true) × (is_signal e.change ≡ true) × (put_of e.change ≡ None) × (is_held e.change ≡ false)
 unfolding withdraws takes_back
 withdraws_parts put e is =
     let parts = and_parts (same_client put e) (takes_back put.change e.change) is in
     let there = second_there (λ (p : Put) mid. p.mid == mid) (put_of put.change) (withdrawn_mid e.change) parts.1 in
-    (parts.0, withdrawal_signals e.change there.0 there.1, withdrawal_no_put e.change there.0 there.1)
+    (parts.0, withdrawal_signals e.change there.0 there.1, withdrawal_no_put e.change there.0 there.1, withdrawal_not_held e.change there.0 there.1)
 
 -- a client has one domain
 pub one_domain : (a b : Entry) → same_client a b ≡ true → b.domain ≡ a.domain
