@@ -166,13 +166,13 @@ unchanged n t put s passed e later few peers old =
     ]
 
 -- a mitigation among the last is live in the end as it was
-pub recent_fate : (n t low : ℕ) (put : Entry) (s : Status) (passed : List Held) (later : List Entry)
-    → nat_lt (tally (signals put.peer put.domain) later) n ≡ true → OnePeer put s later → Within low later t
-    → held t put (status put s (kept_by (names n t) passed later)) ≡ held t put (status put s later)
-recent_fate n t low put s passed [] few one within = refl
-recent_fate n t low put s passed (e ∷ later) few one within =
+pub recent_fate : (n t u low : ℕ) (put : Entry) (s : Status) (passed : List Held) (later : List Entry)
+    → nat_lt (tally (signals put.peer put.domain) later) n ≡ true → OnePeer put s later → Within low later u
+    → held u put (status put s (kept_by (names n t) passed later)) ≡ held u put (status put s later)
+recent_fate n t u low put s passed [] few one within = refl
+recent_fate n t u low put s passed (e ∷ later) few one within =
     let go =
-      recent_fate n t e.time put (step put s e) (pass passed e) later (fewer n (signals put.peer put.domain) e later few) one.1 within.1 in
+      recent_fate n t u e.time put (step put s e) (pass passed e) later (fewer n (signals put.peer put.domain) e later few) one.1 within.1 in
     elim (cases_Bool (live e.time put s)) [
       | inl now ↦
           by_first
@@ -180,19 +180,19 @@ recent_fate n t low put s passed (e ∷ later) few one within =
           passed
           e
           later
-          (λ es. held t put (status put s es) ≡ held t put (status put (step put s e) later))
+          (λ es. held u put (status put s es) ≡ held u put (status put (step put s e) later))
           (λ kept. go)
           (λ out.
           ap
-          (λ x. held t put (status put x (kept_by (names n t) (pass passed e) later)))
+          (λ x. held u put (status put x (kept_by (names n t) (pass passed e) later)))
           (sym (unchanged n t put s passed e later few (one.0 now) (unnamed n t passed e later out).old))
           ∙ go)
       | inr dead ↦
-          let whole : Within e.time (e ∷ later) t = (le_refl e.time, within.1) in
+          let whole : Within e.time (e ∷ later) u = (le_refl e.time, within.1) in
           held_dead
-          t
+          u
           put
           (status put s (kept_by (names n t) passed (e ∷ later)))
-          (dead_for_good put s e.time t (kept_by (names n t) passed (e ∷ later)) dead (kept_within (names n t) passed e.time t (e ∷ later) whole))
-          ∙ sym (held_dead t put (status put s (e ∷ later)) (dead_for_good put s e.time t (e ∷ later) dead whole))
+          (dead_for_good put s e.time u (kept_by (names n t) passed (e ∷ later)) dead (kept_within (names n t) passed e.time u (e ∷ later) whole))
+          ∙ sym (held_dead u put (status put s (e ∷ later)) (dead_for_good put s e.time u (e ∷ later) dead whole))
     ]

@@ -10,3 +10,4 @@ pub mod Members
 pub mod Keeping
 pub mod Dropping
 pub mod Views
+pub mod Calmness

@@ -18,7 +18,7 @@ use Rattle.dots_laws.proofs.Keeping.{by_first, keeps_recent, kept_is_part}
 use Rattle.dots_laws.proofs.Dropping.{Named, lives, withdrawal, among_last, at_end, holds, named, unnamed, held_dead, live_kept, recent_fate, fewer, still_recent}
 use Rattle.dots_laws.proofs.GoingOn.{same_view}
 
-nil_is : {A : Type 0} → (xs : List A) → is_nil xs ≡ true → xs ≡ []
+pub nil_is : {A : Type 0} → (xs : List A) → is_nil xs ≡ true → xs ≡ []
 nil_is [] is = refl
 nil_is (x ∷ xs) is = absurd (false≢true is)
 
@@ -32,23 +32,23 @@ first_withdraws t e later m is =
 dead_both : (t : ℕ) (e : Entry) (s u : Status) → put_of e.change ≡ None → held t e s ≡ held t e u
 dead_both t e s u none = held_dead t e s (never_live t e s none) ∙ sym (held_dead t e u (never_live t e u none))
 
-same_held_by : (n t low : ℕ) (passed : List Held) (e : Entry) (later : List Entry) → Named n t passed e later → OnePeer e Open later → Within low (e ∷ later) t
-    → held t e (status e Open (kept_by (names n t) (pass passed e) later)) ≡ held t e (status e Open later)
-same_held_by n t low passed e later (lives now) one within =
-    ap (held t e) (live_kept n t e Open (pass passed e) later (in_back (record { put = e; status = Open }) (map (moved e) passed) (record { put = e; status = Open } ∷ []) (inl refl)) now)
-same_held_by n t low passed e later (withdrawal first) one within =
+pub same_held_by : (n t u low : ℕ) (passed : List Held) (e : Entry) (later : List Entry) → Named n t passed e later → OnePeer e Open later → Within low (e ∷ later) u
+    → held u e (status e Open (kept_by (names n t) (pass passed e) later)) ≡ held u e (status e Open later)
+same_held_by n t u low passed e later (lives now) one within =
+    ap (held u e) (live_kept n t e Open (pass passed e) later (in_back (record { put = e; status = Open }) (map (moved e) passed) (record { put = e; status = Open } ∷ []) (inl refl)) now)
+same_held_by n t u low passed e later (withdrawal first) one within =
     let m = any_has (is_first t e later) passed first in
-    dead_both t e (status e Open (kept_by (names n t) (pass passed e) later)) (status e Open later) (withdraws_parts m.0.put e (first_withdraws t e later m.0 m.1)).2
-same_held_by n t low passed e later (among_last recent) one within =
-    recent_fate n t e.time e Open (pass passed e) later (and_parts (is_signal e.change) (nat_lt (tally (signals e.peer e.domain) later) n) recent).1 one within.1
-same_held_by n t low passed e later (at_end nothing) one within =
+    dead_both u e (status e Open (kept_by (names n t) (pass passed e) later)) (status e Open later) (withdraws_parts m.0.put e (first_withdraws t e later m.0 m.1)).2
+same_held_by n t u low passed e later (among_last recent) one within =
+    recent_fate n t u e.time e Open (pass passed e) later (and_parts (is_signal e.change) (nat_lt (tally (signals e.peer e.domain) later) n) recent).1 one within.1
+same_held_by n t u low passed e later (at_end nothing) one within =
     subst
-    (λ l. held t e (status e Open (kept_by (names n t) (pass passed e) l)) ≡ held t e (status e Open l))
+    (λ l. held u e (status e Open (kept_by (names n t) (pass passed e) l)) ≡ held u e (status e Open l))
     (sym (nil_is later nothing))
     refl
-same_held_by n t low passed e later (holds still) one within =
+same_held_by n t u low passed e later (holds still) one within =
     dead_both
-    t
+    u
     e
     (status e Open (kept_by (names n t) (pass passed e) later))
     (status e Open later)
@@ -66,7 +66,7 @@ kept_mitigations n t low passed (e ∷ later) within calm =
     later
     (λ es. mitigations t es ≡ mitigations t (e ∷ later))
     (λ is.
-    ap (λ o. option_to_list o ++ mitigations t (kept_by (names n t) (pass passed e) later)) (same_held_by n t low passed e later (named n t passed e later is) calm.0 within)
+    ap (λ o. option_to_list o ++ mitigations t (kept_by (names n t) (pass passed e) later)) (same_held_by n t t low passed e later (named n t passed e later is) calm.0 within)
     ∙ ap (λ ms. option_to_list (held t e (status e Open later)) ++ ms) go)
     (λ out.
     go ∙ sym (ap (λ o. option_to_list o ++ mitigations t later) (held_dead t e (status e Open later) (unnamed n t passed e later out).dead)))
@@ -143,7 +143,7 @@ still_undone n t e passed (x ∷ later) signal one few is =
     ]
 
 -- what passes a test in a part passes it in the whole
-any_part : (test : Entry → Bool) (xs ys : List Entry) → IsPart xs ys → list_any test ys ≡ false → list_any test xs ≡ false
+pub any_part : (test : Entry → Bool) (xs ys : List Entry) → IsPart xs ys → list_any test ys ≡ false → list_any test xs ≡ false
 any_part test [] ys part none = refl
 any_part test (x ∷ xs) [] part none = absurd part
 any_part test (x ∷ xs) (y ∷ ys) (inl part) none =
