@@ -11,3 +11,4 @@ pub mod Keeping
 pub mod Dropping
 pub mod Views
 pub mod Calmness
+pub mod Counting
