@@ -12,3 +12,4 @@ pub mod Dropping
 pub mod Views
 pub mod Calmness
 pub mod Counting
+pub mod Fitting

@@ -9,7 +9,7 @@ use Rattle.dots_history.specs.declared.change.Change.TheVariants as change
 use Rattle.dots_history.specs.declared.status.Status.{Status}
 use Rattle.dots_history.specs.declared.status.Status.TheVariants.{Ended, Open, Withdrawn}
 use Rattle.dots_history.specs.Entries.{put_of, withdraws, is_signal, signals, is_held, undoes, same_client, undoes_of_client, reconfigures, undoes_of_peer, is_configuration}
-use Rattle.dots_history.specs.Histories.{Held, View, view, Within, IsPart, OnePeer, OneDomain, Calm, live, held, status, step, tally, is_recent, recent, is_nil, stays, things, last, mitigations}
+use Rattle.dots_history.specs.Histories.{Held, View, view, Kept, Within, IsPart, OnePeer, OneDomain, Calm, live, held, status, step, tally, is_recent, recent, is_nil, stays, things, last, mitigations}
 use Rattle.dots_laws.specs.Keeping.{is_open, is_first, names, moved, pass, kept_by, kept}
 use Rattle.dots_laws.proofs.Recents.{same_recent}
 use Rattle.dots_laws.proofs.Touching.{withdraws_parts, held_no_put, never_live, as_signal}
@@ -241,14 +241,15 @@ pub kept_recent : (n t : ℕ) (passed : List Held) (entries : List Entry) → re
 kept_recent n t passed entries =
     same_recent n (kept_by (names n t) passed entries) entries (keeps_recent n (names n t) passed entries (λ before e later out. (unnamed n t before e later out).old))
 
-pub dropping : (n t : ℕ) (entries : List Entry) → Within 0 entries t → Calm entries
-    → IsPart (kept n t entries) entries × (view n t (kept n t entries) ≡ view n t entries)
-dropping n t entries within calm =
-    (kept_is_part (names n t) [] entries,
+pub dropping : (n t : ℕ) (entries : List Entry) → Within 0 entries t → Calm entries → Kept n t (kept n t entries) entries
+dropping n t entries within calm = record {
+  is_part = kept_is_part (names n t) [] entries;
+  same_view =
     same_view
     (view n t (kept n t entries))
     (view n t entries)
     (kept_mitigations n t 0 [] entries within calm)
     (kept_recent n t [] entries)
     (kept_things n t [] entries calm)
-    (kept_last n t [] entries))
+    (kept_last n t [] entries);
+}

@@ -1,11 +1,11 @@
 -- Which entries of a history matter from a time on: those that its view names.
-use Rattle.std.specs.Prelude.{ℕ, ◌+◌, Bool, true, false, ◌&&◌, ◌||◌, if◌then◌else◌, List, [], ◌∷◌, ◌++◌, map, Some}
-use Rattle.std.specs.List.{list_any}
+use Rattle.std.specs.Prelude.{◌≡◌, ℕ, ◌+◌, Bool, true, false, ◌&&◌, ◌||◌, if◌then◌else◌, List, [], ◌∷◌, ◌++◌, map, Some}
+use Rattle.std.specs.List.{list_any, All}
 use Rattle.dots_history.specs.declared.entry.Entry.{Entry}
 use Rattle.dots_history.specs.declared.status.Status.{Status}
 use Rattle.dots_history.specs.declared.status.Status.TheVariants.{Ended, Open, Withdrawn}
-use Rattle.dots_history.specs.Entries.{withdraws}
-use Rattle.dots_history.specs.Histories.{Held, sieve, live, status, step, is_recent, is_nil, stays}
+use Rattle.dots_history.specs.Entries.{ends, withdraws, reconfigures}
+use Rattle.dots_history.specs.Histories.{Held, sieve, live, status, step, mitigations, is_recent, is_nil, stays}
 
 abbrev pub is_open : Status → Bool
 is_open Open = true
@@ -50,3 +50,9 @@ kept_places keep passed at (e ∷ later) =
 -- each entry with what those after it have done to it
 abbrev pub tracks : List Entry → List Held
 tracks entries = sieve (λ e later. Some (record { put = e; status = status e Open later })) entries
+
+-- An entry fits those before it where it has the peer of each live mitigation that it ends or withdraws, and the domain
+-- of each session configuration that it changes.
+pub record Fits (entries : List Entry) (e : Entry) : Type 0 where
+  pub one_peer : All (λ (m : Held). ends m.put e || withdraws m.put e ≡ true → e.peer ≡ m.put.peer) (mitigations e.time entries)
+  pub one_domain : All (λ (x : Entry). reconfigures x e ≡ true → e.domain ≡ x.domain) entries

@@ -1,10 +1,11 @@
 //! What time and later entries make of a history.
 
-ghost use Rattle.std.specs.Prelude.{◌≡◌, ◌≤◌, ◌++◌, ◌∷◌, [], ℕ, false, List};
+ghost use Rattle.std.specs.Prelude.{◌≡◌, ◌≤◌, ◌+◌, ◌*◌, ◌++◌, ◌∷◌, [], ℕ, false, List, length};
 ghost use Rattle.dots_history.specs.declared.entry.Entry.{Entry};
 ghost use Rattle.dots_history.specs.declared.status.Status.{Status};
 ghost use Rattle.dots_history.specs.declared.status.Status.TheVariants.{Ended};
-ghost use Rattle.dots_history.specs.Histories.{Within, status, live, view, mitigations, alone};
+ghost use Rattle.dots_history.specs.Histories.{Within, IsPart, Kept, Calm, status, live, view, mitigations, recent, things, last, alone};
+ghost use Rattle.dots_laws.specs.Keeping.{kept, Fits};
 ghost use Rattle.dots_laws.specs.Views.{view_at, view_with, mitigations_of};
 
 /// A mitigation that is ended stays ended whatever is appended, and one that isn't live is never live again, whatever
@@ -22,6 +23,23 @@ pub fn views_go_on()
     ensures ageing { (n t u : ℕ) (entries : List Entry) → t ≤ u → view n u entries ≡ view_at u (view n t entries) }
     ensures adding { (n t : ℕ) (e : Entry) (entries : List Entry) → t ≤ e.time → view n e.time (entries ++ e ∷ []) ≡ view_with n e (view n t entries) }
     ensures going_on { (n t u : ℕ) (xs ys more : List Entry) → view n t xs ≡ view n t ys → Within t more u → view n u (xs ++ more) ≡ view n u (ys ++ more) }
+{}
+
+/// Dropping what a view doesn't name: of a calm history the entries that its view names are a part with the same view,
+/// calm again, and no mitigation is live by them, then or at any later time, which isn't live by all of them. They are
+/// at most two for each live mitigation, and one for each of the others that the view has.
+pub fn what_is_named_has_the_view()
+    ensures view { (n t : ℕ) (entries : List Entry) → Within 0 entries t → Calm entries → Kept n t (kept n t entries) entries }
+    ensures calm { (n t high : ℕ) (entries : List Entry) → Within 0 entries high → Calm entries → Calm (kept n t entries) }
+    ensures lives { (n t u : ℕ) (entries : List Entry) → Within 0 entries u → Calm entries → IsPart (mitigations u (kept n t entries)) (mitigations u entries) }
+    ensures few { (n t : ℕ) (entries : List Entry)
+        → length (kept n t entries) ≤ 2 * length (mitigations t entries) + length (recent n entries) + length (things entries) + length (last entries) }
+{}
+
+/// The empty history is calm, and an entry that fits keeps a history calm.
+pub fn calm_goes_on()
+    ensures empty { Calm [] }
+    ensures more { (entries : List Entry) (e : Entry) → Calm entries → Fits entries e → Calm (entries ++ e ∷ []) }
 {}
 
 /// The live mitigations of a domain are those of its entries alone.
