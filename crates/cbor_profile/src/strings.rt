@@ -1,13 +1,13 @@
 //! Byte strings and texts, of definite length or in parts (RFC 8949, sections 3.1 and 3.2.3).
 
-ghost use Rattle.std.specs.Prelude.{◌≡◌, ◌≤◌, ◌<◌, ◌+◌, ℕ, length, IfOk, string_bytes};
+ghost use Rattle.std.specs.Prelude.{◌≡◌, ◌≤◌, ◌<◌, ◌+◌, ℕ, length, IfOk};
 ghost use Rattle.cbor_profile.specs.declared.head.Major.TheVariants as major_type;
 ghost use Rattle.cbor_profile.specs.Reading.{Gives, argument_at, content_at, raw_at, string_at, is_part, parts_at};
 
 use crate::argument::read_argument;
 use crate::fault::CborFault;
 use crate::head::{BREAK, Major};
-use dots_lists::{Bytes, NoMemory, Text};
+use dots_lists::{Bytes, Text};
 use std::alloc::Global;
 use std::str;
 
@@ -106,7 +106,7 @@ pub(crate) fn read_text_parts(
             return Err(CborFault::Short { at: end });
         };
         if *first == BREAK {
-            return Ok((text_of(alloc, &string)?, behind));
+            return Ok((Text::from_string(string), behind));
         }
         if !is_part(Major::Text, *first) {
             return Err(CborFault::Reserved {
@@ -118,16 +118,6 @@ pub(crate) fn read_text_parts(
         rest = after;
     }
     Err(CborFault::Short { at: end })
-}
-
-/// The text that a string is.
-fn text_of(alloc: Global, string: &String) -> Result<Text, NoMemory>
-    ensures { IfOk result (λ text. text ≡ string_bytes string.now) }
-{
-    match Text::new(alloc, string.as_bytes())? {
-        Some(text) => Ok(text),
-        None => unreachable!(),
-    }
 }
 
 /// Whether an initial byte begins a string of this type and of definite length.

@@ -11,7 +11,7 @@ returns-in_default-clause-value c = parts_short (length c.args.bytes.now - c.loo
 pub returns-then-first-clause-value : goal.returns-then-first-clause-value
 returns-then-first-clause-value c =
     let end = parts_end (length c.args.bytes.now - c.loop.counter) c.args.end major_type.Text (string_bytes c.loop.string) c.loop.rest.now c.in-Some.behind.now c.in-Some.first.now _ (omega (arith, c.loop-test.true)) c.in-Some.ensures.cases.0 c.if-first.true c.loop.invariant.read in
-    rw c.in_ok-text_of.ensures end
+    rw c.from_string.ensures end
 
 pub returns-then-not-is_part-clause-value : goal.returns-then-not-is_part-clause-value
 returns-then-not-is_part-clause-value c =
@@ -21,7 +21,7 @@ returns-then-not-is_part-clause-value c =
 pub returns-in_err-part-clause-value : goal.returns-in_err-part-clause-value
 returns-in_err-part-clause-value c =
     let part = sym c.is_part.ensures ∙ c.if-not-is_part.false in
-    let p = err_from_is_err_and c.from_residual-in_err-part.result c.from_residual-in_err-part.ensures.1 in
+    let p = err_from_is_err_and c.from_residual.result c.from_residual.ensures.1 in
     rw (p.1, p.2) (
     parts_fail c.in_err-part.field-0.0 (length c.args.bytes.now - c.loop.counter) c.args.end major_type.Text (string_bytes c.loop.string) c.loop.rest.now c.in-Some.behind.now c.in-Some.first.now _ (omega (arith, c.loop-test.true)) c.in-Some.ensures.cases.0
     c.if-first.false part c.in_err-part.ensures.value c.loop.invariant.read
