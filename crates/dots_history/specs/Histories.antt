@@ -1,11 +1,12 @@
 -- What a list of entries comes to at a time, by what the later entries have done to each. `Places` says the same by
 -- places in the list.
-use Rattle.std.specs.Prelude.{◌≡◌, ℕ, ◌+◌, ◌≤◌, ◌<◌, ◌^◌, Bool, true, false, ◌&&◌, ◌||◌, ◌==◌, not, if◌then◌else◌, nat_lt, List, [], ◌∷◌, ◌++◌, filter, Option, Some, None, option_to_list, ◌⊎◌}
+use Rattle.std.specs.Prelude.{◌≡◌, ℕ, zero, ℤ, pos, negsuc, ◌+ℤ◌, ◌-ℤ◌, ◌+◌, ◌≤◌, ◌<◌, ◌^◌, Bool, true, false, ◌&&◌, ◌||◌, ◌==◌, not, if◌then◌else◌, nat_lt, List, [], ◌∷◌, ◌++◌, filter, Option, Some, None, option_to_list, ◌⊎◌}
 use Rattle.std.specs.List.{list_any}
 use Rattle.dots_history.specs.declared.entry.Entry.{Entry}
 use Rattle.dots_history.specs.declared.status.Status.{Status}
 use Rattle.dots_history.specs.declared.status.Status.TheVariants.{Ended, Open, Withdrawn}
-use Rattle.dots_history.specs.Entries.{ends, withdraws, runs, is_signal, signals, may_repeat, is_held, undoes, reconfigures}
+use Rattle.dots_history.specs.declared.put.Put.{Put}
+use Rattle.dots_history.specs.Entries.{put_of, ends, withdraws, runs, is_signal, signals, may_repeat, is_held, undoes, reconfigures}
 
 -- times don't fall, from one bound to the other
 abbrev pub Within : ℕ → List Entry → ℕ → Type 0
@@ -62,6 +63,22 @@ held t put s = if live t put s then Some (record { put = put; status = s }) else
 -- the live mitigations, each with its status
 abbrev pub mitigations : ℕ → List Entry → List Held
 mitigations t entries = sieve (λ e later. held t e (status e Open later)) entries
+
+-- the seconds until a lifetime granted at this time is over, or -1 where it is indefinite
+abbrev pub seconds_of : ℕ → ℕ → ℤ → ℤ
+seconds_of t at (negsuc zero) = negsuc zero
+seconds_of t at granted = pos at +ℤ granted -ℤ pos t
+
+abbrev pub seconds_of_grant : ℕ → ℕ → Option Put → ℤ
+seconds_of_grant t at None = pos 0
+seconds_of_grant t at (Some put) = seconds_of t at put.granted
+
+-- The seconds left of a live mitigation: of its lifetime where it stands, else until 120 seconds after its withdrawal (RFC
+-- 9132, sections 4.4.2 and 4.4.4).
+abbrev pub seconds_left : ℕ → Entry → Status → ℤ
+seconds_left t put Open = seconds_of_grant t put.time (put_of put.change)
+seconds_left t put (Withdrawn at) = pos (at + 120) -ℤ pos t
+seconds_left t put Ended = pos 0
 
 -- how many pass
 abbrev pub tally : {A : Type 0} → (A → Bool) → List A → ℕ

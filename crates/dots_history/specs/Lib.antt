@@ -1,5 +1,7 @@
 pub mod Bounds
 pub mod Entries
 pub mod Histories
+pub mod Keeping
 pub mod Places
 pub mod Rows
+pub mod Viewing

@@ -24,6 +24,7 @@ mod relations;
 mod reply;
 mod scrubbing;
 mod status;
+mod views;
 
 pub use bounds::is_within_bounds;
 pub use change::Change;
@@ -37,3 +38,4 @@ pub use relations::{ends, is_same_client, withdraws};
 pub use reply::{is_remembered, remembered};
 pub use scrubbing::scrubs;
 pub use status::Status;
+pub use views::{Mitigation, mitigations, recent, seconds_left, things};

@@ -2,7 +2,7 @@
 
 ghost use Rattle.std.specs.Prelude.{◌≡◌, ◌+◌, nat_lt};
 ghost use Rattle.dots_history.specs.Entries.{granted_at, lasts, runs};
-ghost use Rattle.dots_history.specs.Histories.{step, status, live};
+ghost use Rattle.dots_history.specs.Histories.{step, status, live, seconds_of};
 ghost use Rattle.dots_history.specs.declared.status.Status.TheVariants.{Open};
 
 use crate::change::Change;
@@ -22,6 +22,16 @@ pub fn is_granted_at(t: u64, at: u64, granted: i32) -> bool
     ensures { result ≡ granted_at t at granted }
 {
     granted == INDEFINITE || i128::from(t) < i128::from(at) + i128::from(granted)
+}
+
+/// The seconds from the time t until a lifetime granted at one time is over, or -1 where it is indefinite.
+pub(crate) fn seconds_of(t: u64, at: u64, granted: i32) -> i128
+    ensures { result ≡ seconds_of t at granted }
+{
+    if granted == INDEFINITE {
+        return -1;
+    }
+    i128::from(at) + i128::from(granted) - i128::from(t)
 }
 
 #[tactic(auto, unfolding(crate::specs::Entries::lasts))]

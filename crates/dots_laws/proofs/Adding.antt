@@ -6,7 +6,7 @@ use Rattle.dots_history.specs.declared.entry.Entry.{Entry}
 use Rattle.dots_history.specs.declared.status.Status.{Status}
 use Rattle.dots_history.specs.declared.status.Status.TheVariants.{Open}
 use Rattle.dots_history.specs.Histories.{Held, live, held, status, step, mitigations}
-use Rattle.dots_laws.specs.Keeping.{moved}
+use Rattle.dots_history.specs.Keeping.{moved}
 use Rattle.dots_laws.specs.Views.{mitigations_at, mitigations_with}
 use Rattle.dots_laws.proofs.Lasting.{live_no_more, dead_step, status-append}
 

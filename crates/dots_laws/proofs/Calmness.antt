@@ -8,7 +8,7 @@ use Rattle.dots_history.specs.declared.status.Status.{Status}
 use Rattle.dots_history.specs.declared.status.Status.TheVariants.{Ended, Open, Withdrawn}
 use Rattle.dots_history.specs.Entries.{put_of, is_signal, signals, is_held, undoes, reconfigures}
 use Rattle.dots_history.specs.Histories.{Held, Within, IsPart, OnePeer, OneDomain, Calm, live, held, status, step, tally, mitigations}
-use Rattle.dots_laws.specs.Keeping.{is_first, names, moved, pass, kept_by, kept}
+use Rattle.dots_history.specs.Keeping.{is_first, names, moved, pass, kept_by, kept}
 use Rattle.dots_laws.proofs.Lasting.{live_no_more, dead_step}
 use Rattle.dots_laws.proofs.Touching.{withdraws_parts, held_no_put, never_live}
 use Rattle.dots_laws.proofs.Members.{In, in_back, any_has}

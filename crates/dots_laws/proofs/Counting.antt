@@ -9,7 +9,7 @@ use Rattle.dots_history.specs.declared.status.Status.TheVariants.{Ended, Open, W
 use Rattle.dots_history.specs.Entries.{ends, withdraws}
 use Rattle.dots_history.specs.Histories.{Held, live, held, status, step, tally, is_recent, recent, is_nil, stays, things, last, mitigations}
 use Rattle.dots_history.proofs.Fates.{ended_stays}
-use Rattle.dots_laws.specs.Keeping.{is_open, is_first, names, moved, pass, kept_by, kept}
+use Rattle.dots_history.specs.Keeping.{is_open, is_first, names, moved, pass, kept_by, kept}
 use Rattle.dots_laws.proofs.Keeping.{by_first}
 use Rattle.dots_laws.proofs.Dropping.{Named, lives, withdrawal, among_last, at_end, holds, named, unnamed, ended_dead}
 

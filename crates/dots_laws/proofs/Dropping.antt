@@ -9,7 +9,7 @@ use Rattle.dots_history.specs.declared.status.Status.TheVariants.{Ended, Open, W
 use Rattle.dots_history.specs.Entries.{ends, withdraws, is_signal, signals, is_held}
 use Rattle.dots_history.specs.Histories.{Held, Within, OnePeer, live, held, status, step, tally, is_recent, is_nil, stays}
 use Rattle.dots_history.proofs.Fates.{ended_stays}
-use Rattle.dots_laws.specs.Keeping.{is_open, is_first, names, moved, pass, kept_by}
+use Rattle.dots_history.specs.Keeping.{is_open, is_first, names, moved, pass, kept_by}
 use Rattle.dots_laws.proofs.Lasting.{dead_for_good}
 use Rattle.dots_laws.proofs.Recents.{signal_parts}
 use Rattle.dots_laws.proofs.Touching.{touches, touch_signals, untouched, withdraws_parts, held_no_put, never_live}

@@ -9,7 +9,7 @@ use Rattle.dots_history.specs.declared.status.Status.{Status}
 use Rattle.dots_history.specs.declared.status.Status.TheVariants.{Open}
 use Rattle.dots_history.specs.Entries.{ends, withdraws, reconfigures}
 use Rattle.dots_history.specs.Histories.{Held, OnePeer, OneDomain, Calm, live, held, status, step, mitigations}
-use Rattle.dots_laws.specs.Keeping.{Fits}
+use Rattle.dots_history.specs.Keeping.{Fits}
 
 push_one_peer : (put : Entry) (s : Status) (later : List Entry) (e : Entry) → OnePeer put s later
     → (live e.time put (status put s later) ≡ true → ends put e || withdraws put e ≡ true → e.peer ≡ put.peer)

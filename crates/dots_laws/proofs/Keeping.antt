@@ -8,7 +8,7 @@ use Rattle.dots_history.specs.declared.status.Status.{Status}
 use Rattle.dots_history.specs.declared.status.Status.TheVariants.{Open}
 use Rattle.dots_history.specs.Entries.{is_held, undoes}
 use Rattle.dots_history.specs.Histories.{Held, Within, IsPart, live, held, status, is_recent, recent, stays, things, mitigations, is_nil, last}
-use Rattle.dots_laws.specs.Keeping.{pass, kept_by}
+use Rattle.dots_history.specs.Keeping.{pass, kept_by}
 use Rattle.dots_laws.proofs.Recents.{HasRecent, left_here}
 
 abbrev pub Keeper : Type 0

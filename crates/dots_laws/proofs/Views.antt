@@ -10,7 +10,7 @@ use Rattle.dots_history.specs.declared.status.Status.{Status}
 use Rattle.dots_history.specs.declared.status.Status.TheVariants.{Ended, Open, Withdrawn}
 use Rattle.dots_history.specs.Entries.{put_of, withdraws, is_signal, signals, is_held, undoes, same_client, undoes_of_client, reconfigures, undoes_of_peer, is_configuration}
 use Rattle.dots_history.specs.Histories.{Held, View, view, Kept, Within, IsPart, OnePeer, OneDomain, Calm, live, held, status, step, tally, is_recent, recent, is_nil, stays, things, last, mitigations}
-use Rattle.dots_laws.specs.Keeping.{is_open, is_first, names, moved, pass, kept_by, kept}
+use Rattle.dots_history.specs.Keeping.{is_open, is_first, names, moved, pass, kept_by, kept}
 use Rattle.dots_laws.proofs.Recents.{same_recent}
 use Rattle.dots_laws.proofs.Touching.{withdraws_parts, held_no_put, never_live, as_signal}
 use Rattle.dots_laws.proofs.Members.{in_back, any_has}

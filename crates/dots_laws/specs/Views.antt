@@ -4,7 +4,7 @@ use Rattle.dots_history.specs.declared.entry.Entry.{Entry}
 use Rattle.dots_history.specs.declared.status.Status.TheVariants.{Open}
 use Rattle.dots_history.specs.Entries.{is_held, undoes}
 use Rattle.dots_history.specs.Histories.{Held, View, live, recent}
-use Rattle.dots_laws.specs.Keeping.{moved, pass}
+use Rattle.dots_history.specs.Keeping.{moved, pass}
 
 -- those of the mitigations that are live at the time
 abbrev pub mitigations_at : ℕ → List Held → List Held

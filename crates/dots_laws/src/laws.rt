@@ -5,7 +5,7 @@ ghost use Rattle.dots_history.specs.declared.entry.Entry.{Entry};
 ghost use Rattle.dots_history.specs.declared.status.Status.{Status};
 ghost use Rattle.dots_history.specs.declared.status.Status.TheVariants.{Ended};
 ghost use Rattle.dots_history.specs.Histories.{Within, IsPart, Kept, Calm, status, live, view, mitigations, recent, things, last, alone};
-ghost use Rattle.dots_laws.specs.Keeping.{kept, Fits};
+ghost use Rattle.dots_history.specs.Keeping.{kept, Fits};
 ghost use Rattle.dots_laws.specs.Views.{view_at, view_with, mitigations_of};
 
 /// A mitigation that is ended stays ended whatever is appended, and one that isn't live is never live again, whatever
