@@ -3,7 +3,7 @@
 ghost use Rattle.std.specs.Prelude.{◌≡◌, ◌++◌, true, IfOk, map, option_copied, flat_map};
 ghost use Rattle.std.specs.List.{list_any};
 ghost use Rattle.dots_history.specs.Entries.{option_any};
-ghost use Rattle.dots_history.specs.Rows.{rows_of, scrub_rows, list_rows, is_mitigating, is_active, targets_of, acl_of};
+ghost use Rattle.dots_history.specs.Rows.{rows_of, scrub_rows, list_rows, is_mitigating, is_active, targets_of, acl_of, row_matches};
 ghost use Rattle.dots_history.specs.Viewing.{row_of};
 
 use crate::change::Change;
@@ -12,9 +12,10 @@ use crate::held::is_still_held;
 use crate::lives::is_live_after;
 use crate::put::Target;
 use crate::relations::is_same_client;
-use acl_lists::{Acl, Activation};
+use crate::scrubbing::{has_port, has_protocol};
+use acl_lists::{Acl, Activation, Packet};
 use dots_lists::NoMemory;
-use ip_scope::Prefix;
+use ip_scope::{Prefix, holds};
 use std::alloc::Global;
 
 /// A row of a live mitigation: one prefix of one of its targets.
@@ -91,6 +92,15 @@ pub(crate) fn acl_of(change: &Change) -> Option<&Acl>
         | Change::SetConfig { .. }
         | Change::ClearConfig => None,
     }
+}
+
+/// Whether the packet goes to the row's prefix, by its protocols, to its ports.
+pub fn row_matches(row: &ScrubRow<'_>, packet: &Packet) -> bool
+    ensures { result ≡ row_matches (row_of row.now) packet.now }
+{
+    holds(row.prefix, &packet.destination)
+        && has_protocol(row.target.protocols.items(), packet)
+        && has_port(row.target.ports.items(), packet.ports)
 }
 
 /// The entries that wrote the access lists which are held, in order.

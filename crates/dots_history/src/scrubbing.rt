@@ -27,7 +27,7 @@ fn any_holds(prefixes: &[Prefix], address: &Addr) -> bool
 }
 
 #[tactic(auto, unfolding(crate::specs::Rows::has_protocol))]
-fn has_protocol(protocols: &[u8], packet: &Packet) -> bool
+pub(crate) fn has_protocol(protocols: &[u8], packet: &Packet) -> bool
     ensures { result ≡ has_protocol protocols.now packet.now }
 {
     if protocols.is_empty() {
@@ -43,7 +43,7 @@ fn is_listed(protocols: &[u8], wanted: u8) -> bool
 }
 
 #[tactic(auto, unfolding(crate::specs::Rows::has_port))]
-fn has_port(ranges: &[PortRange], ports: Option<(u16, u16)>) -> bool
+pub(crate) fn has_port(ranges: &[PortRange], ports: Option<(u16, u16)>) -> bool
     ensures { result ≡ has_port ranges.now ports }
 {
     if ranges.is_empty() {

@@ -1,0 +1,10 @@
+-- what the lists of the rest say, those of all say
+use Rattle.std.proofs.Common.{◌≡◌, drop}
+use Rattle.dots_history.specs.Rows.{decision_of_lists, list_rows}
+use Rattle.dots_history.specs.Viewing.{prefixes_in}
+use Rattle.dots_history.proofs.packet_fate.decision_of_lists.Given as goal
+
+abbrev pub invariant-loop-place : goal.invariant-loop-place
+invariant-loop-place l =
+    decision_of_lists (prefixes_in l.domains) l.t l.entries l.packet (list_rows (drop l.place l.entries))
+    ≡ decision_of_lists (prefixes_in l.domains) l.t l.entries l.packet (list_rows l.entries)
