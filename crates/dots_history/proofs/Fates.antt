@@ -34,10 +34,10 @@ Fate put later Ended = HasOne (ends put) later
 Fate put later Open = NoneIs (ends put) later × NoneIs (withdraws put) later
 Fate put later (Withdrawn at) = NoneIs (ends put) later × HasFirst (withdraws put) later at
 
-none_of_none : (test : Entry → Bool) → NoneIs test []
+pub none_of_none : (test : Entry → Bool) → NoneIs test []
 none_of_none test k e found = absurd (none-some e found)
 
-none_more : (test : Entry → Bool) (e : Entry) (later : List Entry) → test e ≡ false → NoneIs test later → NoneIs test (e ∷ later)
+pub none_more : (test : Entry → Bool) (e : Entry) (later : List Entry) → test e ≡ false → NoneIs test later → NoneIs test (e ∷ later)
 none_more test e later out none zero x found = ap test (sym (same_Some e x found)) ∙ out
 none_more test e later out none (suc k) x found = none k x found
 

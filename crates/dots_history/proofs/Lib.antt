@@ -1,3 +1,5 @@
 pub mod Fates
 pub mod Greatest
 pub mod PlaceLaws
+pub mod Remembering
+pub mod Holding

@@ -19,7 +19,7 @@ slice_get-drop (suc n) (x ∷ xs) k =
     slice_get-drop n xs k ∙ ap (slice_get (x ∷ xs)) same
 
 -- the place k of what comes after place i
-after_place : (i : ℕ) (xs : List Entry) (k : ℕ) (e : Entry) → slice_get (drop (suc i) xs) k ≡ Some e → slice_get xs (suc i + k) ≡ Some e
+pub after_place : (i : ℕ) (xs : List Entry) (k : ℕ) (e : Entry) → slice_get (drop (suc i) xs) k ≡ Some e → slice_get xs (suc i + k) ≡ Some e
 after_place i xs k e found = sym (slice_get-drop (suc i) xs k) ∙ found
 
 -- a place j beyond i, among what comes after place i
@@ -28,7 +28,7 @@ to_after i xs j e less found =
     let same : suc i + (j - suc i) ≡ j = omega (arith, less) in
     slice_get-drop (suc i) xs (j - suc i) ∙ ap (slice_get xs) same ∙ found
 
-none_beyond : (test : Entry → Bool) (i : ℕ) (xs : List Entry) → NoneIs test (drop (suc i) xs)
+pub none_beyond : (test : Entry → Bool) (i : ℕ) (xs : List Entry) → NoneIs test (drop (suc i) xs)
     → (j : ℕ) (e : Entry) → i < j → slice_get xs j ≡ Some e → test e ≡ false
 none_beyond test i xs none j e less found = none (j - suc i) e (to_after i xs j e less found)
 

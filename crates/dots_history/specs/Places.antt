@@ -1,7 +1,8 @@
 -- What a history means, by places in the list of its entries, which are numbered from 0.
-use Rattle.std.specs.Prelude.{◌≡◌, ℕ, ◌+◌, ◌<◌, ◌⊎◌, true, false, List, Some, slice_get}
+use Rattle.std.specs.Prelude.{◌≡◌, ℕ, ◌+◌, ◌-◌, ◌<◌, ◌⊎◌, true, false, List, [], ◌∷◌, length, drop, filter, Option, Some, None, slice_get}
 use Rattle.dots_history.specs.declared.entry.Entry.{Entry}
-use Rattle.dots_history.specs.Entries.{ends, withdraws, runs}
+use Rattle.dots_history.specs.Entries.{ends, withdraws, runs, signals, may_repeat, is_held, undoes}
+use Rattle.dots_history.specs.Histories.{or_else}
 
 -- no entry after place i ends this one
 abbrev pub IsNotEnded : List Entry → ℕ → Entry → Type 0
@@ -32,3 +33,24 @@ pub record Terminating (entries : List Entry) (i t : ℕ) (put : Entry) : Type 0
 -- the mitigation at place i is live at time t
 abbrev pub Live : List Entry → ℕ → ℕ → Entry → Type 0
 Live entries i t put = Stands entries i t put ⊎ Terminating entries i t put
+
+-- At place i something was written that is held until it is undone, and no later entry undoes it.
+pub record IsHeld (entries : List Entry) (i : ℕ) (e : Entry) : Type 0 where
+  pub there : slice_get entries i ≡ Some e
+  pub written : is_held e.change ≡ true
+  pub not_undone : (j : ℕ) (x : Entry) → i < j → slice_get entries j ≡ Some x → undoes e x ≡ false
+
+-- the last n
+abbrev pub lasts : {A : Type 0} → ℕ → List A → List A
+lasts n xs = drop (length xs - n) xs
+
+-- the last, where there is one
+abbrev pub last_of : {A : Type 0} → List A → Option A
+last_of [] = None
+last_of (x ∷ xs) = or_else (last_of xs) (Some x)
+
+-- The entry whose reply the repeat of a message gets: of the last n signal entries of this peer and domain those are taken whose
+-- message had this Message ID and may still be repeated at time t, and of these the last (RFC 7252, section 4.5).
+abbrev pub last_repeated : ℕ → ℕ → ℕ → ℕ → ℕ → List Entry → Option Entry
+last_repeated n t peer domain id entries =
+    last_of (filter (λ (e : Entry). may_repeat t id e.time e.key) (lasts n (filter (signals peer domain) entries)))

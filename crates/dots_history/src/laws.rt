@@ -3,8 +3,8 @@
 ghost use Rattle.std.specs.Prelude.{◌≡◌, ℕ, suc, true, List, drop, Some, slice_get};
 ghost use Rattle.dots_history.specs.declared.entry.Entry.{Entry};
 ghost use Rattle.dots_history.specs.declared.status.Status.TheVariants.{Open};
-ghost use Rattle.dots_history.specs.Histories.{status, live};
-ghost use Rattle.dots_history.specs.Places.{Live};
+ghost use Rattle.dots_history.specs.Histories.{status, live, stays, remembered};
+ghost use Rattle.dots_history.specs.Places.{Live, IsHeld, last_repeated};
 
 /// By the status that the later entries leave a mitigation it is live exactly where it stands or is terminating by the
 /// places of the entries.
@@ -13,4 +13,16 @@ pub fn live_by_places()
         → live t put (status put Open (drop (suc i) entries)) ≡ true → Live entries i t put }
     ensures back { (entries : List Entry) (i t : ℕ) (put : Entry) → Live entries i t put
         → live t put (status put Open (drop (suc i) entries)) ≡ true }
+{}
+
+/// What was written stays by the later entries exactly where it is held by the places of the entries.
+pub fn held_by_places()
+    ensures there { (entries : List Entry) (i : ℕ) (e : Entry) → slice_get entries i ≡ Some e → stays e (drop (suc i) entries) ≡ true → IsHeld entries i e }
+    ensures back { (entries : List Entry) (i : ℕ) (e : Entry) → IsHeld entries i e → stays e (drop (suc i) entries) ≡ true }
+{}
+
+/// The remembered reply is that of the last entry which the message may be that of, among the last n signal entries of its peer and
+/// domain: those are taken first, and of them those whose message it may be.
+pub fn remembered_by_lasts()
+    ensures { (n t peer domain id : ℕ) (entries : List Entry) → remembered n t peer domain id entries ≡ last_repeated n t peer domain id entries }
 {}
