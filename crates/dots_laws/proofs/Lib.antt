@@ -13,3 +13,4 @@ pub mod Views
 pub mod Calmness
 pub mod Counting
 pub mod Fitting
+pub mod Reading

@@ -6,6 +6,7 @@ ghost use Rattle.dots_history.specs.declared.status.Status.{Status};
 ghost use Rattle.dots_history.specs.declared.status.Status.TheVariants.{Ended};
 ghost use Rattle.dots_history.specs.Histories.{Within, IsPart, Kept, Calm, status, live, view, mitigations, recent, things, last, alone};
 ghost use Rattle.dots_history.specs.Keeping.{kept, Fits};
+ghost use Rattle.dots_laws.specs.Reading.{SaySame};
 ghost use Rattle.dots_laws.specs.Views.{view_at, view_with, mitigations_of};
 
 /// A mitigation that is ended stays ended whatever is appended, and one that isn't live is never live again, whatever
@@ -23,6 +24,11 @@ pub fn views_go_on()
     ensures ageing { (n t u : ℕ) (entries : List Entry) → t ≤ u → view n u entries ≡ view_at u (view n t entries) }
     ensures adding { (n t : ℕ) (e : Entry) (entries : List Entry) → t ≤ e.time → view n e.time (entries ++ e ∷ []) ≡ view_with n e (view n t entries) }
     ensures going_on { (n t u : ℕ) (xs ys more : List Entry) → view n t xs ≡ view n t ys → Within t more u → view n u (xs ++ more) ≡ view n u (ys ++ more) }
+{}
+
+/// What is read of a history is a function of its view: histories of one view say the same.
+pub fn views_are_read()
+    ensures { (n t : ℕ) (xs ys : List Entry) → view n t xs ≡ view n t ys → SaySame n t xs ys }
 {}
 
 /// Dropping what a view doesn't name: of a calm history the entries that its view names are a part with the same view,

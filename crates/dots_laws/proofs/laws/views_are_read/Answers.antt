@@ -1,0 +1,5 @@
+use Rattle.dots_laws.proofs.Reading.{read_of_view}
+use Rattle.dots_laws.proofs.laws.views_are_read.Goals as goal
+
+pub returns : goal.returns
+returns c = read_of_view
