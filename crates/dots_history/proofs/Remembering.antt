@@ -86,7 +86,7 @@ recent_are_lasts n peer domain (e ∷ later) =
     dropped_signal true out = cond-false (signals peer domain e) (e ∷ filter (signals peer domain) (recent n later)) (filter (signals peer domain) (recent n later)) out
     dropped_signal false out = refl
 
-or_none : {A : Type 0} → (o : Option A) → or_else o None ≡ o
+pub or_none : {A : Type 0} → (o : Option A) → or_else o None ≡ o
 or_none (Some x) = refl
 or_none None = refl
 

@@ -25,7 +25,7 @@ untouched p e Open apart =
     ∙ cond-false (withdraws p e) (Withdrawn e.time) Open (withdraws_none p e apart)
 untouched p e (Withdrawn at) apart = cond-false (ends p e) Ended (Withdrawn at) (ends_none p e apart)
 
-other_domain : (domain : ℕ) (p e : Entry) → (p.domain == domain) ≡ true → (e.domain == domain) ≡ false → (p.domain == e.domain) ≡ false
+pub other_domain : (domain : ℕ) (p e : Entry) → (p.domain == domain) ≡ true → (e.domain == domain) ≡ false → (p.domain == e.domain) ≡ false
 other_domain domain p e own other =
     ne_eqb p.domain e.domain (λ same. eqb-false e.domain domain other (sym same ∙ eqb-true p.domain domain own))
 

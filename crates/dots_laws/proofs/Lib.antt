@@ -14,3 +14,5 @@ pub mod Calmness
 pub mod Counting
 pub mod Fitting
 pub mod Reading
+pub mod Alone
+pub mod Inside

@@ -1,13 +1,15 @@
 //! What time and later entries make of a history.
 
-ghost use Rattle.std.specs.Prelude.{◌≡◌, ◌≤◌, ◌+◌, ◌*◌, ◌++◌, ◌∷◌, [], ℕ, false, List, length};
+ghost use Rattle.std.specs.Prelude.{◌≡◌, ◌≤◌, ◌+◌, ◌*◌, ◌++◌, ◌∷◌, [], ℕ, true, false, ◌==◌, List, length, filter};
+ghost use Rattle.std.specs.List.{list_all};
 ghost use Rattle.dots_history.specs.declared.entry.Entry.{Entry};
 ghost use Rattle.dots_history.specs.declared.status.Status.{Status};
 ghost use Rattle.dots_history.specs.declared.status.Status.TheVariants.{Ended};
-ghost use Rattle.dots_history.specs.Histories.{Within, IsPart, Kept, Calm, status, live, view, mitigations, recent, things, last, alone};
+ghost use Rattle.dots_history.specs.Histories.{Within, IsPart, Kept, Calm, status, live, view, mitigations, recent, things, last, remembered, alone};
+ghost use Rattle.dots_history.specs.Rows.{scrub_rows, list_rows};
 ghost use Rattle.dots_history.specs.Keeping.{kept, Fits};
 ghost use Rattle.dots_laws.specs.Reading.{SaySame};
-ghost use Rattle.dots_laws.specs.Views.{view_at, view_with, mitigations_of};
+ghost use Rattle.dots_laws.specs.Views.{view_at, view_with, mitigations_of, lies_inside};
 
 /// A mitigation that is ended stays ended whatever is appended, and one that isn't live is never live again, whatever
 /// comes later.
@@ -48,7 +50,18 @@ pub fn calm_goes_on()
     ensures more { (entries : List Entry) (e : Entry) → Calm entries → Fits entries e → Calm (entries ++ e ∷ []) }
 {}
 
-/// The live mitigations of a domain are those of its entries alone.
+/// The live mitigations of a domain, the replies to its repeats, its scrub rows and its access lists are those of its own
+/// entries alone.
 pub fn domains_are_apart()
-    ensures { (domain t : ℕ) (entries : List Entry) → mitigations t (alone domain entries) ≡ mitigations_of domain (mitigations t entries) }
+    ensures mitigations { (domain t : ℕ) (entries : List Entry) → mitigations t (alone domain entries) ≡ mitigations_of domain (mitigations t entries) }
+    ensures replies { (n t peer domain id : ℕ) (entries : List Entry)
+        → remembered n t peer domain id (alone domain entries) ≡ remembered n t peer domain id entries }
+    ensures rows { (domain t : ℕ) (entries : List Entry)
+        → scrub_rows t (alone domain entries) ≡ filter (λ row. row.put.domain == domain) (scrub_rows t entries) }
+    ensures lists { (domain : ℕ) (entries : List Entry) → list_rows (alone domain entries) ≡ alone domain (list_rows entries) }
+{}
+
+/// Each scrub row lies inside a prefix of its mitigation's targets, which were fixed when it was accepted.
+pub fn rows_lie_inside()
+    ensures { (t : ℕ) (entries : List Entry) → list_all lies_inside (scrub_rows t entries) ≡ true }
 {}
