@@ -3,3 +3,4 @@ pub mod Greatest
 pub mod PlaceLaws
 pub mod Remembering
 pub mod Holding
+pub mod Tracks

@@ -51,7 +51,7 @@ fn runs(t: u64, entry: &Entry) -> bool
     lasts(t, entry.time, &entry.change)
 }
 
-fn step(put: &Entry, old: Status, entry: &Entry) -> Status
+pub(crate) fn step(put: &Entry, old: Status, entry: &Entry) -> Status
     ensures { result ≡ step put.now old entry.now }
 {
     match old {
