@@ -45,3 +45,6 @@ pub use rows::{ScrubRow, is_active, is_mitigating, list_rows, row_matches, scrub
 pub use scrubbing::scrubs;
 pub use status::Status;
 pub use views::{Mitigation, mitigations, recent, seconds_left, things};
+
+#[cfg(test)]
+mod tests;
