@@ -16,3 +16,5 @@ pub mod Fitting
 pub mod Reading
 pub mod Alone
 pub mod Inside
+pub mod Keyed
+pub mod Bounding
