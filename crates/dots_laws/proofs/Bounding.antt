@@ -165,3 +165,199 @@ by_kind (e ∷ xs) all =
     let own = of_a_kind e.change parts.0 in
     let go = by_kind xs parts.1 in
     omega (arith, own, go)
+
+-- ---- how many of each kind
+things_belong : (room : Capacities) (entries : List Entry) → list_all (belongs room) entries ≡ true → list_all (belongs room) (things entries) ≡ true
+things_belong room [] all = refl
+things_belong room (e ∷ later) all =
+    let parts = and_parts (belongs room e) (list_all (belongs room) later) all in
+    some_or_none (stays e later) (belongs room) e (things later) (λ is. parts.0) (things_belong room later parts.1)
+
+filter_all : (keep test want : Entry → Bool) → ((x : Entry) → keep x ≡ true → test x ≡ true → want x ≡ true) → (xs : List Entry)
+    → list_all test xs ≡ true → list_all want (filter keep xs) ≡ true
+filter_all keep test want leads [] all = refl
+filter_all keep test want leads (x ∷ xs) all =
+    let parts = and_parts (test x) (list_all test xs) all in
+    let go = filter_all keep test want leads xs parts.1 in
+    cond_both
+    (keep x)
+    (x ∷ filter keep xs)
+    (filter keep xs)
+    (λ ys. list_all want ys ≡ true)
+    (λ is. and_from (want x) (list_all want (filter keep xs)) (leads x is parts.0) go)
+    (λ out. go)
+
+any_filter : (keep test : Entry → Bool) (xs : List Entry) → list_any (λ x. keep x && test x) xs ≡ true → list_any test (filter keep xs) ≡ true
+any_filter keep test [] is = is
+any_filter keep test (x ∷ xs) is =
+    elim (or_cases (keep x && test x) (list_any (λ y. keep y && test y) xs) is) [
+      | inl here ↦
+          let parts = and_parts (keep x) (test x) here in
+          ap (λ b. list_any test (cond b (x ∷ filter keep xs) (filter keep xs))) parts.0 ∙ or_left (test x) (list_any test (filter keep xs)) parts.1
+      | inr beyond ↦
+          let go = any_filter keep test xs beyond in
+          cond_both
+          (keep x)
+          (x ∷ filter keep xs)
+          (filter keep xs)
+          (λ ys. list_any test ys ≡ true)
+          (λ is. or_right (test x) (list_any test (filter keep xs)) go)
+          (λ out. go)
+    ]
+
+abbrev registration : Entry → Bool
+registration e = is_registration e.change
+
+registration_no_configuration : (c : Change) → is_registration c ≡ true → is_configuration c ≡ false
+unfolding is_registration is_configuration
+registration_no_configuration change.Register is = refl
+registration_no_configuration _ is = absurd (false≢true is)
+
+few_registered : (room : Capacities) (t : ℕ) (entries : List Entry) → KeepsCapacities room t entries
+    → length (filter registration (things entries)) ≤ length room.domains * room.clients
+few_registered room t entries keeps =
+    by_keys
+    (λ domain (e : Entry). e.domain == domain)
+    room.clients
+    room.domains
+    (filter registration (things entries))
+    (filter_all
+    registration
+    (belongs room)
+    (has_domain room)
+    (λ x is belong. domain_of room x belong (registration_no_configuration x.change is))
+    (things entries)
+    (things_belong room entries keeps.belong))
+    (λ domain. subst (λ k. k ≤ room.clients) (sym (tally_filter registration (λ (e : Entry). e.domain == domain) (things entries))) (keeps.registered domain))
+
+-- what belongs to clients
+owned_by : (held : List Entry) (e : Entry) → has_client held e ≡ true → is_alias e.change || is_list e.change ≡ true
+    → list_any (λ r. same_client r e) (filter registration held) ≡ true
+owned_by held e has is =
+    elim (or_cases (not (is_alias e.change || is_list e.change)) (list_any (λ r. is_registration r.change && same_client r e) held) has) [
+      | inl out ↦ absurd (both_ways (not (is_alias e.change || is_list e.change)) (not_from_true (is_alias e.change || is_list e.change) is) out)
+      | inr there ↦ any_filter registration (λ r. same_client r e) held there
+    ]
+
+few_of_clients : (kind : Entry → Bool) (most : ℕ) (held : List Entry) → ((e : Entry) → kind e ≡ true → is_alias e.change || is_list e.change ≡ true)
+    → list_all (has_client held) held ≡ true → ((client : Entry) → tally (λ (e : Entry). kind e && same_client client e) held ≤ most)
+    → length (filter kind held) ≤ length (filter registration held) * most
+few_of_clients kind most held leads owned each =
+    by_keys
+    (λ (client : Entry) e. same_client client e)
+    most
+    (filter registration held)
+    (filter kind held)
+    (filter_all
+    kind
+    (has_client held)
+    (λ e. list_any (λ r. same_client r e) (filter registration held))
+    (λ e is has. owned_by held e has (leads e is))
+    held
+    owned)
+    (λ client. subst (λ k. k ≤ most) (sym (tally_filter kind (same_client client) held)) (each client))
+
+-- a peer has one session configuration at most
+setting_configures : (c : Change) → is_setting c ≡ true → is_configuration c ≡ true
+unfolding is_setting is_configuration
+setting_configures (change.SetConfig sid config) is = refl
+setting_configures _ is = absurd (false≢true is)
+
+setting_undone : (c later : Change) → is_setting c ≡ true → is_configuration later ≡ true → undoes_of_peer c later ≡ true
+unfolding is_setting undoes_of_peer
+setting_undone (change.SetConfig sid config) later is configures = configures
+setting_undone _ later is configures = absurd (false≢true is)
+
+undone_by_setting : (e x : Entry) (peer : ℕ) → is_setting e.change ≡ true → e.peer ≡ peer → is_setting x.change && (x.peer == peer) ≡ true → undoes e x ≡ true
+unfolding undoes reconfigures
+undone_by_setting e x peer is own later =
+    let parts = and_parts (is_setting x.change) (x.peer == peer) later in
+    let same : e.peer ≡ x.peer = own ∙ sym (eqb-true x.peer peer parts.1) in
+    or_right
+    (same_client e x && undoes_of_client e.change x.change)
+    ((e.peer == x.peer) && undoes_of_peer e.change x.change)
+    (and_from
+    (e.peer == x.peer)
+    (undoes_of_peer e.change x.change)
+    (eq-eqb e.peer x.peer same)
+    (setting_undone e.change x.change is (setting_configures x.change parts.0)))
+
+abbrev setting_of : ℕ → Entry → Bool
+setting_of peer e = is_setting e.change && (e.peer == peer)
+
+no_more : (e : Entry) (peer : ℕ) (later : List Entry) → is_setting e.change ≡ true → e.peer ≡ peer → list_any (undoes e) later ≡ false
+    → tally (setting_of peer) (things later) ≤ 0
+no_more e peer [] is own none = omega arith
+no_more e peer (x ∷ later) is own none =
+    let parts = or_parts (undoes e x) (list_any (undoes e) later) none in
+    let go = no_more e peer later is own parts.1 in
+    let out : one (setting_of peer x) ≤ 0 =
+      cond_both
+      (setting_of peer x)
+      1
+      0
+      (λ k. k ≤ 0)
+      (λ same. absurd (both_ways (undoes e x) parts.0 (undone_by_setting e x peer is own same)))
+      (λ other. omega arith) in
+    cond_both
+    (stays x later)
+    (Some x)
+    None
+    (λ o. tally (setting_of peer) (option_to_list o ++ things later) ≤ 0)
+    (λ stay. omega (arith, go, out))
+    (λ gone. go)
+
+one_setting : (peer : ℕ) (entries : List Entry) → tally (setting_of peer) (things entries) ≤ 1
+one_setting peer [] = omega arith
+one_setting peer (e ∷ later) =
+    let go = one_setting peer later in
+    elim (cases_Bool (stays e later)) [
+      | inl stay ↦
+          let parts = and_parts (is_held e.change) (not (list_any (undoes e) later)) stay in
+          subst
+          (λ o. tally (setting_of peer) (option_to_list o ++ things later) ≤ 1)
+          (sym (ap (λ b. cond b (Some e) None) stay))
+          (cond_both
+          (setting_of peer e)
+          1
+          0
+          (λ k. k + tally (setting_of peer) (things later) ≤ 1)
+          (λ is.
+          let own = and_parts (is_setting e.change) (e.peer == peer) is in
+          let rest = no_more e peer later own.0 (eqb-true e.peer peer own.1) (not_is (list_any (undoes e) later) parts.1) in
+          omega (arith, rest))
+          (λ out. omega (arith, go)))
+      | inr gone ↦
+          subst
+          (λ o. tally (setting_of peer) (option_to_list o ++ things later) ≤ 1)
+          (sym (ap (λ b. cond b (Some e) None) gone))
+          go
+    ]
+  where
+    not_is : (b : Bool) → not b ≡ true → b ≡ false
+    not_is true is = absurd (false≢true is)
+    not_is false is = refl
+
+abbrev setting : Entry → Bool
+setting e = is_setting e.change
+
+few_settings : (room : Capacities) (entries : List Entry) → list_all (belongs room) entries ≡ true → length (filter setting (things entries)) ≤ length room.peers * 1
+few_settings room entries belong =
+    by_keys
+    (λ peer (e : Entry). e.peer == peer)
+    1
+    room.peers
+    (filter setting (things entries))
+    (filter_all
+    setting
+    (belongs room)
+    (λ e. list_any (λ peer. e.peer == peer) room.peers)
+    (λ x is own. peer_of room x own (setting_configures x.change is))
+    (things entries)
+    (things_belong room entries belong))
+    (λ peer. subst (λ k. k ≤ 1) (sym (tally_filter setting (λ (e : Entry). e.peer == peer) (things entries))) (one_setting peer entries))
+
+few_last : (entries : List Entry) → length (last entries) ≤ 1
+few_last [] = omega arith
+few_last (e ∷ []) = omega arith
+few_last (e ∷ x ∷ later) = few_last (x ∷ later)
