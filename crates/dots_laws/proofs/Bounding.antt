@@ -1,5 +1,5 @@
 -- How many entries the view of a history names that keeps its capacities.
-use Rattle.std.proofs.Common.{◌≡◌, ℕ, ◌+◌, ◌*◌, ◌-◌, ◌≤◌, Bool, true, false, cond, not, ◌&&◌, ◌||◌, List, [], ◌∷◌, ◌++◌, length, filter, drop, length-drop, Option, Some, None, inl, inr, refl, sym, ap, ◌∙◌, subst, le_trans, le_of_eq, arith}
+use Rattle.std.proofs.Common.{◌≡◌, ℕ, ◌+◌, ◌*◌, ◌-◌, ◌≤◌, Bool, true, false, cond, not, ◌&&◌, ◌||◌, List, [], ◌∷◌, ◌++◌, length, filter, drop, length-drop, Option, Some, None, inl, inr, refl, sym, ap, ◌∙◌, subst, mul-add, mul_assoc, mul_comm, mul-le-mul_right, arith}
 use Rattle.std.specs.Prelude.{option_to_list, ◌==◌}
 use Rattle.std.specs.List.{list_any, list_all}
 use Rattle.std.proofs.lemmas.Bool.{false≢true, true≢false, both_ways, cond_both, cases_Bool, and_parts, and_from, and_left, and_right, or_parts, or_cases, or_left, or_right, not_from_true, not_from_false, eqb-true, eq-eqb}
@@ -361,3 +361,37 @@ few_last : (entries : List Entry) → length (last entries) ≤ 1
 few_last [] = omega arith
 few_last (e ∷ []) = omega arith
 few_last (e ∷ x ∷ later) = few_last (x ∷ later)
+
+-- ---- all together
+times_all : (d m c a l : ℕ) → 2 * (d * m) + d * c + d * c * a + d * c * l ≡ d * (2 * m + c + c * (a + l))
+times_all d m c a l =
+    let whole = mul-add d (2 * m + c) (c * (a + l)) in
+    let front = mul-add d (2 * m) c in
+    let twice : d * (2 * m) ≡ 2 * (d * m) = sym (mul_assoc d 2 m) ∙ ap (λ k. k * m) (mul_comm d 2) ∙ mul_assoc 2 d m in
+    let back : d * (c * (a + l)) ≡ d * c * a + d * c * l = sym (mul_assoc d c (a + l)) ∙ mul-add (d * c) a l in
+    omega (arith, whole, front, twice, back)
+
+times_less : (x y k : ℕ) → x ≤ y → x * k ≤ y * k
+times_less x y k less = mul-le-mul_right k less
+
+pub named_few : (room : Capacities) (n t : ℕ) (entries : List Entry) → KeepsCapacities room t entries → length (kept n t entries) ≤ most_named room n
+named_few room n t entries keeps =
+    let held = things entries in
+    let d = length room.domains in
+    let all = few n t entries in
+    let ms = few_live room t entries keeps in
+    let rs = few_recent room n entries keeps.belong in
+    let kinds = by_kind held (all_held entries) in
+    let regs = few_registered room t entries keeps in
+    let als = few_of_clients (λ (e : Entry). is_alias e.change) room.aliases held (λ e is. or_left (is_alias e.change) (is_list e.change) is) keeps.owned keeps.aliased in
+    let ls = few_of_clients (λ (e : Entry). is_list e.change) room.acls held (λ e is. or_right (is_alias e.change) (is_list e.change) is) keeps.owned keeps.listed in
+    let ss = few_settings room entries keeps.belong in
+    let end = few_last entries in
+    let r = length_filter registration held in
+    let a = length_filter (λ (e : Entry). is_alias e.change) held in
+    let l = length_filter (λ (e : Entry). is_list e.change) held in
+    let s = length_filter setting held in
+    let more_aliases = times_less (length (filter registration held)) (d * room.clients) room.aliases regs in
+    let more_lists = times_less (length (filter registration held)) (d * room.clients) room.acls regs in
+    let whole = times_all d room.mitigations room.clients room.aliases room.acls in
+    omega (arith, all, ms, rs, kinds, regs, als, ls, ss, end, r, a, l, s, more_aliases, more_lists, whole)

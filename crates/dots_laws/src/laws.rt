@@ -8,6 +8,7 @@ ghost use Rattle.dots_history.specs.declared.status.Status.TheVariants.{Ended};
 ghost use Rattle.dots_history.specs.Histories.{Within, IsPart, Kept, Calm, status, live, view, mitigations, recent, things, last, remembered, alone};
 ghost use Rattle.dots_history.specs.Rows.{scrub_rows, list_rows};
 ghost use Rattle.dots_history.specs.Keeping.{kept, Fits};
+ghost use Rattle.dots_laws.specs.Capacities.{Capacities, KeepsCapacities, most_named};
 ghost use Rattle.dots_laws.specs.Reading.{SaySame};
 ghost use Rattle.dots_laws.specs.Views.{view_at, view_with, mitigations_of, lies_inside};
 
@@ -42,6 +43,13 @@ pub fn what_is_named_has_the_view()
     ensures lives { (n t u : ℕ) (entries : List Entry) → Within 0 entries u → Calm entries → IsPart (mitigations u (kept n t entries)) (mitigations u entries) }
     ensures few { (n t : ℕ) (entries : List Entry)
         → length (kept n t entries) ≤ 2 * length (mitigations t entries) + length (recent n entries) + length (things entries) + length (last entries) }
+{}
+
+/// A history that keeps its capacities has a view that names at most so many entries: for each domain two for each live
+/// mitigation, one for each registered client and one for each alias and access list of those; the remembered messages of
+/// each peer and domain; one session configuration of each peer; and the last entry.
+pub fn capacities_bound_what_is_named()
+    ensures { (room : Capacities) (n t : ℕ) (entries : List Entry) → KeepsCapacities room t entries → length (kept n t entries) ≤ most_named room n }
 {}
 
 /// The empty history is calm, and an entry that fits keeps a history calm.
