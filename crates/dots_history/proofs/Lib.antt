@@ -4,3 +4,5 @@ pub mod PlaceLaws
 pub mod Remembering
 pub mod Holding
 pub mod Tracks
+pub mod Placing
+pub mod CalmPlaces

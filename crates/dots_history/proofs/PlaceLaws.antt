@@ -23,7 +23,7 @@ pub after_place : (i : ℕ) (xs : List Entry) (k : ℕ) (e : Entry) → slice_ge
 after_place i xs k e found = sym (slice_get-drop (suc i) xs k) ∙ found
 
 -- a place j beyond i, among what comes after place i
-to_after : (i : ℕ) (xs : List Entry) (j : ℕ) (e : Entry) → i < j → slice_get xs j ≡ Some e → slice_get (drop (suc i) xs) (j - suc i) ≡ Some e
+pub to_after : (i : ℕ) (xs : List Entry) (j : ℕ) (e : Entry) → i < j → slice_get xs j ≡ Some e → slice_get (drop (suc i) xs) (j - suc i) ≡ Some e
 to_after i xs j e less found =
     let same : suc i + (j - suc i) ≡ j = omega (arith, less) in
     slice_get-drop (suc i) xs (j - suc i) ∙ ap (slice_get xs) same ∙ found

@@ -4,4 +4,5 @@ pub mod Histories
 pub mod Keeping
 pub mod Places
 pub mod Rows
+pub mod Slots
 pub mod Viewing

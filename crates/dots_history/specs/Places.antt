@@ -1,7 +1,7 @@
 -- What a history means, by places in the list of its entries, which are numbered from 0.
-use Rattle.std.specs.Prelude.{◌≡◌, ℕ, ◌+◌, ◌-◌, ◌<◌, ◌⊎◌, true, false, List, [], ◌∷◌, length, drop, filter, Option, Some, None, slice_get}
+use Rattle.std.specs.Prelude.{◌≡◌, ℕ, ◌+◌, ◌-◌, ◌<◌, ◌⊎◌, true, false, List, [], ◌∷◌, length, take, drop, filter, ◌||◌, Option, Some, None, slice_get}
 use Rattle.dots_history.specs.declared.entry.Entry.{Entry}
-use Rattle.dots_history.specs.Entries.{ends, withdraws, runs, signals, may_repeat, is_held, undoes}
+use Rattle.dots_history.specs.Entries.{ends, withdraws, runs, signals, may_repeat, is_held, undoes, reconfigures}
 use Rattle.dots_history.specs.Histories.{or_else}
 
 -- no entry after place i ends this one
@@ -54,3 +54,12 @@ last_of (x ∷ xs) = or_else (last_of xs) (Some x)
 abbrev pub last_repeated : ℕ → ℕ → ℕ → ℕ → ℕ → List Entry → Option Entry
 last_repeated n t peer domain id entries =
     last_of (filter (λ (e : Entry). may_repeat t id e.time e.key) (lasts n (filter (signals peer domain) entries)))
+
+-- A history is calm where what ends or withdraws a mitigation that was live just before it, at its time, has its peer, and where
+-- the session configurations of one peer are of one domain.
+pub record IsCalm (entries : List Entry) : Type 0 where
+  pub peers :
+    (i j : ℕ) (put e : Entry) → i < j → slice_get entries i ≡ Some put → slice_get entries j ≡ Some e → Live (take j entries) i e.time put
+    → ends put e || withdraws put e ≡ true → e.peer ≡ put.peer
+  pub domains :
+    (i j : ℕ) (e x : Entry) → i < j → slice_get entries i ≡ Some e → slice_get entries j ≡ Some x → reconfigures e x ≡ true → x.domain ≡ e.domain

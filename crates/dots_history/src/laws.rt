@@ -3,8 +3,8 @@
 ghost use Rattle.std.specs.Prelude.{◌≡◌, ℕ, suc, true, List, drop, Some, slice_get};
 ghost use Rattle.dots_history.specs.declared.entry.Entry.{Entry};
 ghost use Rattle.dots_history.specs.declared.status.Status.TheVariants.{Open};
-ghost use Rattle.dots_history.specs.Histories.{status, live, stays, remembered};
-ghost use Rattle.dots_history.specs.Places.{Live, IsHeld, last_repeated};
+ghost use Rattle.dots_history.specs.Histories.{status, live, stays, remembered, Calm};
+ghost use Rattle.dots_history.specs.Places.{Live, IsHeld, IsCalm, last_repeated};
 
 /// By the status that the later entries leave a mitigation it is live exactly where it stands or is terminating by the
 /// places of the entries.
@@ -25,4 +25,10 @@ pub fn held_by_places()
 /// domain: those are taken first, and of them those whose message it may be.
 pub fn remembered_by_lasts()
     ensures { (n t peer domain id : ℕ) (entries : List Entry) → remembered n t peer domain id entries ≡ last_repeated n t peer domain id entries }
+{}
+
+/// A history is calm by its entries, each with those after it, exactly where it is by their places.
+pub fn calm_by_places()
+    ensures there { (entries : List Entry) → Calm entries → IsCalm entries }
+    ensures back { (entries : List Entry) → IsCalm entries → Calm entries }
 {}

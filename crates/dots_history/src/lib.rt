@@ -26,6 +26,7 @@ mod relations;
 mod reply;
 mod rows;
 mod scrubbing;
+mod slots;
 mod status;
 mod views;
 
@@ -43,6 +44,7 @@ pub use relations::{ends, is_same_client, withdraws};
 pub use reply::{is_remembered, remembered};
 pub use rows::{ScrubRow, is_active, is_mitigating, list_rows, row_matches, scrub_rows};
 pub use scrubbing::scrubs;
+pub use slots::SlotList;
 pub use status::Status;
 pub use views::{Mitigation, mitigations, recent, seconds_left, things};
 

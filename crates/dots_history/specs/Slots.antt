@@ -1,0 +1,18 @@
+-- Lists of slots, which rise strictly.
+use Rattle.std.specs.Prelude.{ℕ, ◌<◌, Bool, ◌==◌, nat_lt, if◌then◌else◌, List, [], ◌∷◌}
+
+pub record Slots : Type 0 where
+  pub items : List ℕ
+  -- how many there may be
+  pub room : ℕ
+
+-- each is below the one behind it
+abbrev pub Rises : List ℕ → Type 0
+Rises [] = Unit {0}
+Rises (x ∷ []) = Unit {0}
+Rises (x ∷ y ∷ ys) = (x < y) × Rises (y ∷ ys)
+
+-- the list with this slot in its place
+abbrev pub placed : ℕ → List ℕ → List ℕ
+placed slot [] = slot ∷ []
+placed slot (x ∷ xs) = if nat_lt x slot then x ∷ placed slot xs else (if x == slot then x ∷ xs else slot ∷ x ∷ xs)
