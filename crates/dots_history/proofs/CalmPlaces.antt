@@ -1,5 +1,5 @@
 -- A history is calm exactly where it is by the places of its entries.
-use Rattle.std.proofs.Common.{◌≡◌, ℕ, ◌+◌, ◌-◌, ◌<◌, ◌≤◌, zero, suc, Bool, true, false, ◌||◌, List, [], ◌∷◌, take, drop, Some, refl, sym, ap, ◌∙◌, subst, arith}
+use Rattle.std.proofs.Common.{◌≡◌, ℕ, ◌+◌, ◌-◌, ◌<◌, zero, suc, true, ◌||◌, List, [], ◌∷◌, take, drop, Some, refl, sym, ap, ◌∙◌, subst, arith}
 use Rattle.std.specs.Prelude.{slice_get}
 use Rattle.std.proofs.lemmas.List.{drop-take}
 use Rattle.std.proofs.lemmas.Option.{none-some, same_Some}
@@ -8,7 +8,7 @@ use Rattle.dots_history.specs.declared.status.Status.{Status}
 use Rattle.dots_history.specs.declared.status.Status.TheVariants.{Open}
 use Rattle.dots_history.specs.Entries.{ends, withdraws, reconfigures}
 use Rattle.dots_history.specs.Histories.{status, step, live, OnePeer, OneDomain, Calm}
-use Rattle.dots_history.specs.Places.{Live, IsCalm}
+use Rattle.dots_history.specs.Places.{IsCalm}
 use Rattle.dots_history.proofs.PlaceLaws.{after_place, to_after, live_at_place, place_is_live}
 
 -- what comes after a mitigation, place by place
@@ -59,52 +59,53 @@ in_front (suc n) (suc i) (x ∷ xs) e less found = in_front n i xs e (omega (ari
 pub calm_places : (entries : List Entry) → Calm entries → IsCalm entries
 calm_places entries calm = record {
   peers = λ i j put e less at_i at_j is_live touches.
-    let k = j - suc i in
-    let place : suc i + k ≡ j = omega (arith, less) in
-    let cut : drop (suc i) (take j entries) ≡ take k (drop (suc i) entries) =
+      let k = j - suc i in
+      let place : suc i + k ≡ j = omega (arith, less) in
+      let cut : drop (suc i) (take j entries) ≡ take k (drop (suc i) entries) =
       ap (λ n. drop (suc i) (take n entries)) (sym place) ∙ drop-take (suc i) k entries in
-    one_peer_at
-    put
-    Open
-    (drop (suc i) entries)
-    (calm_at entries calm i put at_i).0
-    k
-    e
-    (to_after i entries j e less at_j)
-    (sym (ap (λ es. live e.time put (status put Open es)) cut) ∙ place_is_live (take j entries) i e.time put is_live)
-    touches;
+      one_peer_at
+      put
+      Open
+      (drop (suc i) entries)
+      (calm_at entries calm i put at_i).0
+      k
+      e
+      (to_after i entries j e less at_j)
+      (sym (ap (λ es. live e.time put (status put Open es)) cut) ∙ place_is_live (take j entries) i e.time put is_live)
+      touches;
   domains = λ i j e x less at_i at_j again.
-    one_domain_at e (drop (suc i) entries) (calm_at entries calm i e at_i).1 (j - suc i) x (to_after i entries j x less at_j) again;
+      one_domain_at e (drop (suc i) entries) (calm_at entries calm i e at_i).1 (j - suc i) x (to_after i entries j x less at_j) again;
 }
 
 pub places_calm : (entries : List Entry) → IsCalm entries → Calm entries
 places_calm entries calm =
     calm_from
     entries
-    (λ i put at_i.
-    (one_peer_from
-    put
-    Open
-    (drop (suc i) entries)
-    (λ k e at_k is_live touches.
-    let j = suc i + k in
-    calm.peers
-    i
-    j
-    put
-    e
-    (omega arith)
-    at_i
-    (after_place i entries k e at_k)
-    (live_at_place
-    (take j entries)
-    i
-    e.time
-    put
-    (in_front j i entries put (omega arith) at_i)
-    (ap (λ es. live e.time put (status put Open es)) (drop-take (suc i) k entries) ∙ is_live))
-    touches),
-    one_domain_from
-    put
-    (drop (suc i) entries)
-    (λ k x at_k again. calm.domains i (suc i + k) put x (omega arith) at_i (after_place i entries k x at_k) again)))
+    (λ i put at_i. (
+      one_peer_from
+          put
+          Open
+          (drop (suc i) entries)
+          (λ k e at_k is_live touches.
+          let j = suc i + k in
+          calm.peers
+          i
+          j
+          put
+          e
+          (omega arith)
+          at_i
+          (after_place i entries k e at_k)
+          (live_at_place
+          (take j entries)
+          i
+          e.time
+          put
+          (in_front j i entries put (omega arith) at_i)
+          (ap (λ es. live e.time put (status put Open es)) (drop-take (suc i) k entries) ∙ is_live))
+          touches),
+      one_domain_from
+          put
+          (drop (suc i) entries)
+          (λ k x at_k again. calm.domains i (suc i + k) put x (omega arith) at_i (after_place i entries k x at_k) again),
+    ))

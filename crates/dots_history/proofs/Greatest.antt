@@ -1,5 +1,5 @@
 -- The greater of a number that may be there and of the greatest of some.
-use Rattle.std.proofs.Common.{◌≡◌, ℕ, max, Option, Some, None, refl, ap, arith}
+use Rattle.std.proofs.Common.{◌≡◌, ℕ, Option, Some, None, refl, ap, arith}
 use Rattle.dots_history.specs.Rows.{greatest_from}
 
 abbrev pub greater_of : Option ℕ → Option ℕ → Option ℕ

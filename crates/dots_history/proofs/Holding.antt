@@ -1,8 +1,8 @@
 -- What stays is held by the places of the entries, and back.
-use Rattle.std.proofs.Common.{◌≡◌, ℕ, ◌+◌, ◌-◌, ◌<◌, zero, suc, Bool, true, false, ◌&&◌, ◌||◌, not, List, [], ◌∷◌, drop, Some, refl, sym, ap, ◌∙◌, arith}
+use Rattle.std.proofs.Common.{◌≡◌, ℕ, ◌+◌, suc, Bool, true, false, not, List, [], ◌∷◌, drop, Some, refl, arith}
 use Rattle.std.specs.Prelude.{slice_get}
 use Rattle.std.specs.List.{list_any}
-use Rattle.std.proofs.lemmas.Bool.{false≢true, and_parts, and_from, or_parts, or_from, not_from_false, cases_Bool, both_ways, not_from_true}
+use Rattle.std.proofs.lemmas.Bool.{false≢true, and_parts, and_from, or_parts, or_from, not_from_false}
 use Rattle.dots_history.specs.declared.entry.Entry.{Entry}
 use Rattle.dots_history.specs.Entries.{is_held, undoes}
 use Rattle.dots_history.specs.Histories.{stays}
@@ -31,7 +31,7 @@ held_at_place entries i e there is =
       there = there;
       written = parts.0;
       not_undone =
-        none_beyond (undoes e) i entries (none_from_any (undoes e) (drop (suc i) entries) (not_is (list_any (undoes e) (drop (suc i) entries)) parts.1));
+          none_beyond (undoes e) i entries (none_from_any (undoes e) (drop (suc i) entries) (not_is (list_any (undoes e) (drop (suc i) entries)) parts.1));
     }
 
 pub place_is_held : (entries : List Entry) (i : ℕ) (e : Entry) → IsHeld entries i e → stays e (drop (suc i) entries) ≡ true

@@ -1,7 +1,7 @@
 -- The remembered reply is that of the last entry that answers, among the last signal entries of its peer and domain.
-use Rattle.std.proofs.Common.{◌≡◌, ℕ, ◌+◌, ◌-◌, ◌<◌, ◌≤◌, zero, suc, Bool, true, false, cond, ◌&&◌, List, [], ◌∷◌, ◌++◌, length, drop, filter, Option, Some, None, inl, inr, refl, sym, ap, ◌∙◌, subst, arith}
+use Rattle.std.proofs.Common.{◌≡◌, ℕ, ◌+◌, ◌-◌, ◌<◌, ◌≤◌, zero, suc, Bool, true, false, cond, ◌&&◌, List, [], ◌∷◌, ◌++◌, length, drop, filter, Option, Some, None, inl, inr, refl, sym, ap, ◌∙◌, arith}
 use Rattle.std.specs.Prelude.{option_to_list, nat_lt, ◌==◌}
-use Rattle.std.proofs.lemmas.Bool.{cond_both, cond-true, cond-false, cases_Bool, and_left, and_from, and_parts, eqb-true, ltb-true, ltb-false, lt-ltb, le-ltb}
+use Rattle.std.proofs.lemmas.Bool.{cond_both, cond-true, cond-false, cases_Bool, and_parts, eqb-true, ltb-true, ltb-false}
 use Rattle.dots_history.specs.declared.entry.Entry.{Entry}
 use Rattle.dots_history.specs.Entries.{is_signal, signals, may_repeat}
 use Rattle.dots_history.specs.Histories.{tally, is_recent, recent, or_else, remembered}
@@ -78,9 +78,10 @@ recent_are_lasts n peer domain (e ∷ later) =
   where
     kept_signal : (b : Bool) → signals peer domain e ≡ true
         → filter (signals peer domain) (option_to_list (cond b (Some e) None) ++ recent n later)
-          ≡ option_to_list (cond b (Some e) None) ++ filter (signals peer domain) (recent n later)
+        ≡ option_to_list (cond b (Some e) None) ++ filter (signals peer domain) (recent n later)
     kept_signal true is = cond-true (signals peer domain e) (e ∷ filter (signals peer domain) (recent n later)) (filter (signals peer domain) (recent n later)) is
     kept_signal false is = refl
+
     dropped_signal : (b : Bool) → signals peer domain e ≡ false
         → filter (signals peer domain) (option_to_list (cond b (Some e) None) ++ recent n later) ≡ filter (signals peer domain) (recent n later)
     dropped_signal true out = cond-false (signals peer domain e) (e ∷ filter (signals peer domain) (recent n later)) (filter (signals peer domain) (recent n later)) out
@@ -96,7 +97,7 @@ answering t peer domain id entries = filter (λ (e : Entry). may_repeat t id e.t
 
 one_more : (s r m : Bool) (e : Entry) (rest : List Entry) (test : Entry → Bool) → test e ≡ m
     → or_else (last_of (filter test rest)) (cond (s && (r && m)) (Some e) None)
-      ≡ last_of (filter test (cond (r && s) (e ∷ rest) rest))
+    ≡ last_of (filter test (cond (r && s) (e ∷ rest) rest))
 one_more true true true e rest test is = ap last_of (sym (cond-true (test e) (e ∷ filter test rest) (filter test rest) is))
 one_more true true false e rest test is =
     or_none (last_of (filter test rest)) ∙ ap last_of (sym (cond-false (test e) (e ∷ filter test rest) (filter test rest) is))

@@ -1,12 +1,12 @@
 -- The places to keep, one entry after the other.
-use Rattle.std.proofs.Common.{◌≡◌, ℕ, ◌+◌, ◌-◌, ◌<◌, zero, suc, Bool, true, false, cond, List, [], ◌∷◌, ◌++◌, map, length, take, drop, get_or, Some, refl, sym, ap, ◌∙◌, le_of_eq, append_assoc, take_all, length-drop, arith}
+use Rattle.std.proofs.Common.{◌≡◌, ℕ, ◌+◌, ◌-◌, ◌<◌, zero, suc, Bool, true, false, cond, List, [], ◌∷◌, ◌++◌, length, take, drop, get_or, Some, refl, sym, ap, ◌∙◌, le_of_eq, append_assoc, take_all, length-drop, arith}
 use Rattle.std.specs.Prelude.{slice_get}
 use Rattle.std.proofs.lemmas.Option.{none-some, same_Some, slice_get_read}
 use Rattle.dots_history.specs.declared.entry.Entry.{Entry}
 use Rattle.dots_history.specs.declared.status.Status.{Status}
 use Rattle.dots_history.specs.declared.status.Status.TheVariants.{Open}
-use Rattle.dots_history.specs.Histories.{Held, status, step}
-use Rattle.dots_history.specs.Keeping.{names, moved, pass, tracks, kept_places}
+use Rattle.dots_history.specs.Histories.{status, step}
+use Rattle.dots_history.specs.Keeping.{names, pass, tracks, kept_places}
 
 status_push : (put : Entry) (s : Status) (later : List Entry) (e : Entry) → status put s (later ++ e ∷ []) ≡ step put (status put s later) e
 status_push put s [] e = refl
@@ -35,8 +35,8 @@ cons_or_not false i places = refl
 -- the places from i on are i, where its entry is named, and those beyond
 pub places_step : (n t i : ℕ) (entries : List Entry) (e : Entry) → slice_get entries i ≡ Some e
     → kept_places (names n t) (tracks (take i entries)) i (drop i entries)
-      ≡ cond (names n t (tracks (take i entries)) e (drop (suc i) entries)) (i ∷ []) []
-        ++ kept_places (names n t) (tracks (take (suc i) entries)) (suc i) (drop (suc i) entries)
+    ≡ cond (names n t (tracks (take i entries)) e (drop (suc i) entries)) (i ∷ []) []
+    ++ kept_places (names n t) (tracks (take (suc i) entries)) (suc i) (drop (suc i) entries)
 places_step n t i entries e found =
     ap (kept_places (names n t) (tracks (take i entries)) i) (drop_next i entries e found)
     ∙ cons_or_not
@@ -61,7 +61,7 @@ kept_next n t i entries e places all b inside at said so_far =
     let next : i + 1 ≡ suc i = omega arith in
     let found : slice_get entries i ≡ Some e = slice_get_read entries (length entries) i e refl inside at in
     let whole : take (length entries - (i + 1)) (drop (i + 1) entries) ≡ drop (i + 1) entries =
-      take_all (length entries - (i + 1)) (drop (i + 1) entries) (le_of_eq (length-drop (i + 1) entries)) in
+    take_all (length entries - (i + 1)) (drop (i + 1) entries) (le_of_eq (length-drop (i + 1) entries)) in
     append_assoc places (cond b (i ∷ []) []) (kept_places (names n t) (tracks (take (i + 1) entries)) (i + 1) (drop (i + 1) entries))
     ∙ ap
     (λ k. places ++ (cond b (i ∷ []) [] ++ kept_places (names n t) (tracks (take k entries)) k (drop k entries)))

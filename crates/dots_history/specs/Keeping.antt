@@ -3,7 +3,7 @@ use Rattle.std.specs.Prelude.{◌≡◌, ℕ, ◌+◌, Bool, true, false, ◌&&�
 use Rattle.std.specs.List.{list_any, All}
 use Rattle.dots_history.specs.declared.entry.Entry.{Entry}
 use Rattle.dots_history.specs.declared.status.Status.{Status}
-use Rattle.dots_history.specs.declared.status.Status.TheVariants.{Ended, Open, Withdrawn}
+use Rattle.dots_history.specs.declared.status.Status.TheVariants.{Open}
 use Rattle.dots_history.specs.Entries.{ends, withdraws, reconfigures}
 use Rattle.dots_history.specs.Histories.{Held, sieve, live, status, step, mitigations, is_recent, is_nil, stays}
 

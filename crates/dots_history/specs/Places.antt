@@ -59,7 +59,7 @@ last_repeated n t peer domain id entries =
 -- the session configurations of one peer are of one domain.
 pub record IsCalm (entries : List Entry) : Type 0 where
   pub peers :
-    (i j : ℕ) (put e : Entry) → i < j → slice_get entries i ≡ Some put → slice_get entries j ≡ Some e → Live (take j entries) i e.time put
-    → ends put e || withdraws put e ≡ true → e.peer ≡ put.peer
+      (i j : ℕ) (put e : Entry) → i < j → slice_get entries i ≡ Some put → slice_get entries j ≡ Some e → Live (take j entries) i e.time put
+      → ends put e || withdraws put e ≡ true → e.peer ≡ put.peer
   pub domains :
-    (i j : ℕ) (e x : Entry) → i < j → slice_get entries i ≡ Some e → slice_get entries j ≡ Some x → reconfigures e x ≡ true → x.domain ≡ e.domain
+      (i j : ℕ) (e x : Entry) → i < j → slice_get entries i ≡ Some e → slice_get entries j ≡ Some x → reconfigures e x ≡ true → x.domain ≡ e.domain

@@ -1,5 +1,5 @@
 -- Lists of slots, which rise strictly.
-use Rattle.std.specs.Prelude.{ℕ, ◌<◌, Bool, ◌==◌, nat_lt, if◌then◌else◌, List, [], ◌∷◌}
+use Rattle.std.specs.Prelude.{ℕ, ◌<◌, ◌==◌, nat_lt, if◌then◌else◌, List, [], ◌∷◌}
 
 pub record Slots : Type 0 where
   pub items : List ℕ

@@ -1,5 +1,5 @@
 -- What the programs hand out of a history, as the definitions say it.
-use Rattle.std.specs.Prelude.{ℕ, List, [], ◌∷◌, map, Option, Some, None, slice_get}
+use Rattle.std.specs.Prelude.{ℕ, List, [], Option, Some, None, slice_get}
 use Rattle.ip_scope.specs.Prefix.{PrefixValue}
 use Rattle.dots_history.specs.declared.views.Mitigation.{Mitigation}
 use Rattle.dots_history.specs.declared.rows.ScrubRow.{ScrubRow}

@@ -52,7 +52,11 @@ fn rows_of<'a>(alloc: Global, put: &'a Entry) -> Result<Vec<ScrubRow<'a>>, NoMem
     let mut list = Vec::new(alloc);
     for target in targets_of(&put.change) {
         for prefix in target.prefixes.items() {
-            list.push(ScrubRow { put, target, prefix })?;
+            list.push(ScrubRow {
+                put,
+                target,
+                prefix,
+            })?;
         }
     }
     Ok(list)

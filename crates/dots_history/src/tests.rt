@@ -1,8 +1,8 @@
 use crate::{
-    Change, Entry, MessageKey, Put, Target, ends, is_live_after, is_still_held, is_within_bounds,
-    remembered,
+    Change, Entry, MessageKey, Put, SlotList, Target, ends, is_live_after, is_within_bounds,
+    places_to_keep, remembered, scrub_rows, things,
 };
-use acl_lists::Asked;
+use acl_lists::{Alias, Asked};
 use dots_lists::{Bytes, List, Name, Text};
 use ip_scope::parse_prefix;
 use std::alloc::Global;
@@ -45,6 +45,9 @@ fn target(alloc: Global, prefix: &str) -> Result<Target, Fail> {
         protocols: Bytes::new(alloc),
     })
 }
+
+/// Two networks that don't meet.
+const HOSTS: [&str; 2] = ["192.0.2.0/24", "198.51.100.0/24"];
 
 /// A mitigation for an hour.
 fn mitigation(alloc: Global, time: u64, mid: u32, prefix: &str) -> Result<Entry, Fail> {
@@ -127,25 +130,52 @@ fn replies_are_remembered(rt: HostRuntime) -> Result<(), Fail> {
     Ok(())
 }
 
-/// RFC 8783, section 5.2: a client that leaves takes its aliases along.
+fn alias(alloc: Global, name: Name) -> Change {
+    Change::SetAlias(Alias {
+        name,
+        asked: asked(alloc),
+    })
+}
+
+fn name(alloc: Global, text: &str) -> Result<Name, Fail> {
+    match Name::new(alloc, text.as_bytes())? {
+        Some(name) => Ok(name),
+        None => Err(Fail::from("a name")),
+    }
+}
+
+/// RFC 8783, section 6.3.
 #[test]
-fn what_is_written_is_held(rt: HostRuntime) -> Result<(), Fail> {
-    let Some(name) = Name::new(rt.alloc(), b"web")? else {
-        return Err(Fail::from("a name"));
-    };
-    let alias = acl_lists::Alias {
-        name: name.copy()?,
-        asked: asked(rt.alloc()),
-    };
-    let http = MessageKey::Http;
-    let written = entry(rt.alloc(), 1000, http, Change::SetAlias(alias))?;
-    let dropped = [entry(rt.alloc(), 1001, http, Change::DropAlias { name })?];
-    let left = [entry(rt.alloc(), 1001, http, Change::Deregister)?];
-    let came = [entry(rt.alloc(), 1001, http, Change::Register)?];
-    assert!(rt; is_still_held(&written, &[]));
-    assert!(rt; is_still_held(&written, &came));
-    assert!(rt; !is_still_held(&written, &dropped));
-    assert!(rt; !is_still_held(&written, &left));
+fn a_deleted_alias_is_gone(rt: HostRuntime) -> Result<(), Fail> {
+    let web = name(rt.alloc(), "web")?;
+    let mut entries = List::new(rt.alloc());
+    entries.push(entry(
+        rt.alloc(),
+        1000,
+        MessageKey::Http,
+        alias(rt.alloc(), web.copy()?),
+    )?)?;
+    assert_eq!(rt; things(rt.alloc(), entries.items())?.len(), 1);
+    entries.push(entry(
+        rt.alloc(),
+        1001,
+        MessageKey::Http,
+        Change::DropAlias { name: web },
+    )?)?;
+    assert_eq!(rt; things(rt.alloc(), entries.items())?.len(), 0);
+    Ok(())
+}
+
+/// RFC 8783, section 5.2: a client that leaves takes its aliases along, and they don't come back with it.
+#[test]
+fn a_client_leaves_with_its_aliases(rt: HostRuntime) -> Result<(), Fail> {
+    let web = name(rt.alloc(), "web")?;
+    let mut entries = List::new(rt.alloc());
+    entries.push(entry(rt.alloc(), 1000, MessageKey::Http, alias(rt.alloc(), web))?)?;
+    entries.push(entry(rt.alloc(), 1001, MessageKey::Http, Change::Deregister)?)?;
+    entries.push(entry(rt.alloc(), 1002, MessageKey::Http, Change::Register)?)?;
+    let held = things(rt.alloc(), entries.items())?;
+    assert_eq!(rt; held.len(), 1);
     Ok(())
 }
 
@@ -155,5 +185,31 @@ fn bounds(rt: HostRuntime) -> Result<(), Fail> {
         let put = mitigation(rt.alloc(), time, 123, "192.0.2.0/24")?;
         assert_eq!(rt; is_within_bounds(&put), want, "at {time}");
     }
+    Ok(())
+}
+
+/// Seventeen mitigations, of which the last ends the first: each of the others has its row, and none of them may be dropped.
+#[test]
+fn rows_of_many(rt: HostRuntime) -> Result<(), Fail> {
+    let mut entries = List::new(rt.alloc());
+    for mid in 1..17 {
+        entries.push(mitigation(rt.alloc(), 1000, mid, HOSTS[mid as usize % 2])?)?;
+    }
+    let rows = scrub_rows(rt.alloc(), 1000, entries.items())?;
+    assert_eq!(rt; rows.len(), 2);
+    let places = places_to_keep(rt.alloc(), 1, 1000, entries.items())?;
+    assert_eq!(rt; places.as_slice(), [14, 15].as_slice());
+    Ok(())
+}
+
+#[test]
+fn slots_rise(rt: HostRuntime) -> Result<(), Fail> {
+    let mut list = SlotList::new(rt.alloc(), 3)?;
+    list.put(7);
+    list.put(1);
+    list.put(7);
+    assert_eq!(rt; list.items(), [1, 7].as_slice());
+    list.clear();
+    assert!(rt; list.items().is_empty());
     Ok(())
 }

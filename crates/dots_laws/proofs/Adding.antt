@@ -1,13 +1,12 @@
 -- The live mitigations after one more entry, by those before.
-use Rattle.std.proofs.Common.{◌≡◌, ℕ, ◌≤◌, Bool, true, false, cond, List, [], ◌∷◌, ◌++◌, filter, map, Option, Some, None, refl, sym, ap, ◌∙◌}
+use Rattle.std.proofs.Common.{◌≡◌, ℕ, ◌≤◌, Bool, true, false, cond, List, [], ◌∷◌, ◌++◌, filter, map, Some, None, refl, sym, ap, ◌∙◌}
 use Rattle.std.specs.Prelude.{option_to_list}
 use Rattle.std.proofs.lemmas.Bool.{true≢false, cond-true, cond-false}
 use Rattle.dots_history.specs.declared.entry.Entry.{Entry}
-use Rattle.dots_history.specs.declared.status.Status.{Status}
 use Rattle.dots_history.specs.declared.status.Status.TheVariants.{Open}
 use Rattle.dots_history.specs.Histories.{Held, live, held, status, step, mitigations}
 use Rattle.dots_history.specs.Keeping.{moved}
-use Rattle.dots_laws.specs.Views.{mitigations_at, mitigations_with}
+use Rattle.dots_laws.specs.Views.{mitigations_with}
 use Rattle.dots_laws.proofs.Lasting.{live_no_more, dead_step, status-append}
 
 -- one entry before it, live then or not and live now or not

@@ -1,5 +1,5 @@
 -- What a domain has of remembered replies and of rows comes from its own entries.
-use Rattle.std.proofs.Common.{◌≡◌, ℕ, ◌+◌, Bool, true, false, cond, ◌&&◌, ◌||◌, not, List, [], ◌∷◌, ◌++◌, filter, map, Option, Some, None, inl, inr, refl, sym, ap, ◌∙◌, arith}
+use Rattle.std.proofs.Common.{◌≡◌, ℕ, ◌+◌, Bool, true, false, cond, ◌&&◌, ◌||◌, not, List, [], ◌∷◌, ◌++◌, filter, map, Some, None, inl, inr, refl, sym, ap, ◌∙◌, arith}
 use Rattle.std.specs.Prelude.{option_to_list, nat_lt, bytes_eq, ◌==◌}
 use Rattle.std.specs.List.{list_any, flat_map}
 use Rattle.std.proofs.lemmas.Bool.{false≢true, both_ways, cond_both, cond-true, cond-false, cases_Bool, and_left, and_right, or_from, eqb-true, eq-eqb, false_from_ne_true}
@@ -7,7 +7,6 @@ use Rattle.ip_scope.specs.Prefix.{PrefixValue}
 use Rattle.acl_lists.specs.declared.acl.Acl.{Acl}
 use Rattle.dots_history.specs.declared.entry.Entry.{Entry}
 use Rattle.dots_history.specs.declared.put.Target.{Target}
-use Rattle.dots_history.specs.declared.status.Status.TheVariants.{Open}
 use Rattle.dots_history.specs.declared.change.Change.{Change}
 use Rattle.dots_history.specs.declared.change.Change.TheVariants as change
 use Rattle.dots_history.specs.Entries.{same_client, is_signal, signals, may_repeat, is_held, undoes, undoes_of_client, undoes_of_peer, reconfigures, option_any}

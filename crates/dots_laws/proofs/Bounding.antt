@@ -1,8 +1,8 @@
 -- How many entries the view of a history names that keeps its capacities.
-use Rattle.std.proofs.Common.{◌≡◌, ℕ, ◌+◌, ◌*◌, ◌-◌, ◌≤◌, Bool, true, false, cond, not, ◌&&◌, ◌||◌, List, [], ◌∷◌, ◌++◌, length, filter, drop, length-drop, Option, Some, None, inl, inr, refl, sym, ap, ◌∙◌, subst, mul-add, mul_assoc, mul_comm, mul-le-mul_right, arith}
+use Rattle.std.proofs.Common.{◌≡◌, ℕ, ◌+◌, ◌*◌, ◌-◌, ◌≤◌, Bool, true, false, cond, not, ◌&&◌, ◌||◌, List, [], ◌∷◌, ◌++◌, length, filter, length-drop, Option, Some, None, inl, inr, refl, sym, ap, ◌∙◌, subst, mul-add, mul_assoc, mul_comm, mul-le-mul_right, arith}
 use Rattle.std.specs.Prelude.{option_to_list, ◌==◌}
 use Rattle.std.specs.List.{list_any, list_all}
-use Rattle.std.proofs.lemmas.Bool.{false≢true, true≢false, both_ways, cond_both, cases_Bool, and_parts, and_from, and_left, and_right, or_parts, or_cases, or_left, or_right, not_from_true, not_from_false, eqb-true, eq-eqb}
+use Rattle.std.proofs.lemmas.Bool.{false≢true, both_ways, cond_both, cases_Bool, and_parts, and_from, or_parts, or_cases, or_left, or_right, not_from_true, eqb-true, eq-eqb}
 use Rattle.std.proofs.lemmas.Option.{none-some}
 use Rattle.dots_history.specs.declared.entry.Entry.{Entry}
 use Rattle.dots_history.specs.declared.put.Put.{Put}
@@ -11,7 +11,7 @@ use Rattle.dots_history.specs.declared.status.Status.TheVariants.{Open}
 use Rattle.dots_history.specs.declared.change.Change.{Change}
 use Rattle.dots_history.specs.declared.change.Change.TheVariants as change
 use Rattle.dots_history.specs.Entries.{put_of, same_client, is_signal, signals, is_held, is_configuration, undoes, undoes_of_client, undoes_of_peer, reconfigures}
-use Rattle.dots_history.specs.Histories.{Held, tally, live, held, status, is_recent, recent, is_nil, stays, things, last, mitigations}
+use Rattle.dots_history.specs.Histories.{Held, tally, live, held, status, is_recent, recent, stays, things, last, mitigations}
 use Rattle.dots_history.specs.Keeping.{kept}
 use Rattle.dots_history.specs.Places.{lasts}
 use Rattle.dots_history.proofs.Remembering.{recent_are_lasts}
@@ -50,25 +50,25 @@ has_domain room e = list_any (λ domain. e.domain == domain) room.domains
 domain_of : (room : Capacities) (e : Entry) → belongs room e ≡ true → is_configuration e.change ≡ false → has_domain room e ≡ true
 domain_of room e belong out =
     let parts = and_parts
-      (not (is_signal e.change) || list_any (λ (actor : ℕ × ℕ). signals actor.0 actor.1 e) room.actors)
-      (cond (is_configuration e.change) (list_any (λ peer. e.peer == peer) room.peers) (has_domain room e))
-      belong in
+    (not (is_signal e.change) || list_any (λ (actor : ℕ × ℕ). signals actor.0 actor.1 e) room.actors)
+    (cond (is_configuration e.change) (list_any (λ peer. e.peer == peer) room.peers) (has_domain room e))
+    belong in
     sym (ap (λ b. cond b (list_any (λ peer. e.peer == peer) room.peers) (has_domain room e)) out) ∙ parts.1
 
 peer_of : (room : Capacities) (e : Entry) → belongs room e ≡ true → is_configuration e.change ≡ true → list_any (λ peer. e.peer == peer) room.peers ≡ true
 peer_of room e belong is =
     let parts = and_parts
-      (not (is_signal e.change) || list_any (λ (actor : ℕ × ℕ). signals actor.0 actor.1 e) room.actors)
-      (cond (is_configuration e.change) (list_any (λ peer. e.peer == peer) room.peers) (has_domain room e))
-      belong in
+    (not (is_signal e.change) || list_any (λ (actor : ℕ × ℕ). signals actor.0 actor.1 e) room.actors)
+    (cond (is_configuration e.change) (list_any (λ peer. e.peer == peer) room.peers) (has_domain room e))
+    belong in
     sym (ap (λ b. cond b (list_any (λ peer. e.peer == peer) room.peers) (has_domain room e)) is) ∙ parts.1
 
 actor_of : (room : Capacities) (e : Entry) → belongs room e ≡ true → is_signal e.change ≡ true → list_any (λ (actor : ℕ × ℕ). signals actor.0 actor.1 e) room.actors ≡ true
 actor_of room e belong is =
     let parts = and_parts
-      (not (is_signal e.change) || list_any (λ (actor : ℕ × ℕ). signals actor.0 actor.1 e) room.actors)
-      (cond (is_configuration e.change) (list_any (λ peer. e.peer == peer) room.peers) (has_domain room e))
-      belong in
+    (not (is_signal e.change) || list_any (λ (actor : ℕ × ℕ). signals actor.0 actor.1 e) room.actors)
+    (cond (is_configuration e.change) (list_any (λ peer. e.peer == peer) room.peers) (has_domain room e))
+    belong in
     elim (or_cases (not (is_signal e.change)) (list_any (λ (actor : ℕ × ℕ). signals actor.0 actor.1 e) room.actors) parts.0) [
       | inl out ↦ absurd (both_ways (not (is_signal e.change)) (not_from_true (is_signal e.change) is) out)
       | inr there ↦ there
@@ -157,8 +157,8 @@ all_held (e ∷ later) =
 
 by_kind : (xs : List Entry) → list_all (λ (e : Entry). is_held e.change) xs ≡ true
     → length xs
-      ≤ tally (λ (e : Entry). is_registration e.change) xs + tally (λ (e : Entry). is_alias e.change) xs + tally (λ (e : Entry). is_list e.change) xs
-        + tally (λ (e : Entry). is_setting e.change) xs
+    ≤ tally (λ (e : Entry). is_registration e.change) xs + tally (λ (e : Entry). is_alias e.change) xs + tally (λ (e : Entry). is_list e.change) xs
+    + tally (λ (e : Entry). is_setting e.change) xs
 by_kind [] all = omega arith
 by_kind (e ∷ xs) all =
     let parts = and_parts (is_held e.change) (list_all (λ (x : Entry). is_held x.change) xs) all in
@@ -292,13 +292,13 @@ no_more e peer (x ∷ later) is own none =
     let parts = or_parts (undoes e x) (list_any (undoes e) later) none in
     let go = no_more e peer later is own parts.1 in
     let out : one (setting_of peer x) ≤ 0 =
-      cond_both
-      (setting_of peer x)
-      1
-      0
-      (λ k. k ≤ 0)
-      (λ same. absurd (both_ways (undoes e x) parts.0 (undone_by_setting e x peer is own same)))
-      (λ other. omega arith) in
+    cond_both
+    (setting_of peer x)
+    1
+    0
+    (λ k. k ≤ 0)
+    (λ same. absurd (both_ways (undoes e x) parts.0 (undone_by_setting e x peer is own same)))
+    (λ other. omega arith) in
     cond_both
     (stays x later)
     (Some x)

@@ -1,11 +1,11 @@
 -- What is named of a calm history is calm, and none of it is revived.
-use Rattle.std.proofs.Common.{◌≡◌, ℕ, ◌≤◌, ◌⊎◌, Bool, true, false, cond, ◌&&◌, ◌||◌, not, List, [], ◌∷◌, ◌++◌, map, Option, Some, None, inl, inr, refl, sym, ap, ◌∙◌, subst, le_refl}
+use Rattle.std.proofs.Common.{◌≡◌, ℕ, true, false, not, List, [], ◌∷◌, ◌++◌, map, Option, Some, None, inl, inr, refl, sym, subst, le_refl}
 use Rattle.std.specs.Prelude.{option_to_list, nat_lt}
 use Rattle.std.specs.List.{list_any}
-use Rattle.std.proofs.lemmas.Bool.{false≢true, true≢false, both_ways, cases_Bool, and_parts}
+use Rattle.std.proofs.lemmas.Bool.{both_ways, cases_Bool, and_parts}
 use Rattle.dots_history.specs.declared.entry.Entry.{Entry}
 use Rattle.dots_history.specs.declared.status.Status.{Status}
-use Rattle.dots_history.specs.declared.status.Status.TheVariants.{Ended, Open, Withdrawn}
+use Rattle.dots_history.specs.declared.status.Status.TheVariants.{Open}
 use Rattle.dots_history.specs.Entries.{put_of, is_signal, signals, is_held, undoes, reconfigures}
 use Rattle.dots_history.specs.Histories.{Held, Within, IsPart, OnePeer, OneDomain, Calm, live, held, status, step, tally, mitigations}
 use Rattle.dots_history.specs.Keeping.{is_first, names, moved, pass, kept_by, kept}
@@ -20,9 +20,10 @@ use Rattle.dots_laws.proofs.Views.{nil_is, first_withdraws, same_held_by}
 dead_one_peer : (put : Entry) (s : Status) (low high : ℕ) (later : List Entry) → live low put s ≡ false → Within low later high → OnePeer put s later
 dead_one_peer put s low high [] dead within = record {}
 dead_one_peer put s low high (e ∷ later) dead within =
-    let now = live_no_more low e.time put s within.0 dead in
-    (λ is touched. absurd (both_ways (live e.time put s) now is),
-    dead_one_peer put (step put s e) e.time high later (dead_step put s e now) within.1)
+    let now = live_no_more low e.time put s within.0 dead in (
+      λ is touched. absurd (both_ways (live e.time put s) now is),
+      dead_one_peer put (step put s e) e.time high later (dead_step put s e now) within.1,
+    )
 
 no_put_one_peer : (e : Entry) (s : Status) (later : List Entry) → put_of e.change ≡ None → OnePeer e s later
 no_put_one_peer e s [] none = record {}
@@ -53,7 +54,7 @@ recent_one_peer : (n t low high : ℕ) (put : Entry) (s : Status) (passed : List
 recent_one_peer n t low high put s passed [] few within one = record {}
 recent_one_peer n t low high put s passed (e ∷ later) few within one =
     let go =
-      recent_one_peer n t e.time high put (step put s e) (pass passed e) later (fewer n (signals put.peer put.domain) e later few) within.1 one.1 in
+    recent_one_peer n t e.time high put (step put s e) (pass passed e) later (fewer n (signals put.peer put.domain) e later few) within.1 one.1 in
     elim (cases_Bool (live e.time put s)) [
       | inl now ↦
           by_first
@@ -108,10 +109,11 @@ kept_calm n t low high passed (e ∷ later) within calm =
     e
     later
     Calm
-    (λ is.
-    (named_one_peer n t low high passed e later (named n t passed e later is) within calm.0,
-    part_one_domain e (kept_by (names n t) (pass passed e) later) later (kept_is_part (names n t) (pass passed e) later) calm.1,
-    go))
+    (λ is. (
+      named_one_peer n t low high passed e later (named n t passed e later is) within calm.0,
+      part_one_domain e (kept_by (names n t) (pass passed e) later) later (kept_is_part (names n t) (pass passed e) later) calm.1,
+      go,
+    ))
     (λ out. go)
 
 pub kept_is_calm : (n t high : ℕ) (entries : List Entry) → Within 0 entries high → Calm entries → Calm (kept n t entries)

@@ -1,17 +1,17 @@
 -- How many entries a view names at most.
-use Rattle.std.proofs.Common.{◌≡◌, ℕ, ◌+◌, ◌*◌, ◌≤◌, Bool, true, false, cond, ◌&&◌, ◌||◌, not, List, [], ◌∷◌, ◌++◌, map, length, Option, Some, None, inl, inr, refl, sym, ap, ◌∙◌, subst, le_refl, arith}
+use Rattle.std.proofs.Common.{◌≡◌, ℕ, ◌+◌, ◌*◌, ◌≤◌, Bool, true, false, cond, ◌&&◌, not, List, [], ◌∷◌, ◌++◌, map, length, Some, None, inl, inr, refl, ap, ◌∙◌, arith}
 use Rattle.std.specs.Prelude.{option_to_list}
 use Rattle.std.specs.List.{list_any}
-use Rattle.std.proofs.lemmas.Bool.{false≢true, true≢false, both_ways, cond_both, cases_Bool, and_parts, and_from, and_left, and_right, or_cases, not_from_false}
+use Rattle.std.proofs.lemmas.Bool.{false≢true, true≢false, cond_both, cases_Bool, and_parts, and_from, and_left, or_cases, not_from_false}
 use Rattle.dots_history.specs.declared.entry.Entry.{Entry}
 use Rattle.dots_history.specs.declared.status.Status.{Status}
 use Rattle.dots_history.specs.declared.status.Status.TheVariants.{Ended, Open, Withdrawn}
 use Rattle.dots_history.specs.Entries.{ends, withdraws}
-use Rattle.dots_history.specs.Histories.{Held, live, held, status, step, tally, is_recent, recent, is_nil, stays, things, last, mitigations}
+use Rattle.dots_history.specs.Histories.{Held, live, status, step, tally, is_recent, recent, is_nil, stays, things, last, mitigations}
 use Rattle.dots_history.proofs.Fates.{ended_stays}
 use Rattle.dots_history.specs.Keeping.{is_open, is_first, names, moved, pass, kept_by, kept}
 use Rattle.dots_laws.proofs.Keeping.{by_first}
-use Rattle.dots_laws.proofs.Dropping.{Named, lives, withdrawal, among_last, at_end, holds, named, unnamed, ended_dead}
+use Rattle.dots_laws.proofs.Dropping.{Named, lives, withdrawal, among_last, at_end, holds, named, ended_dead}
 
 abbrev one : Bool → ℕ
 one b = cond b 1 0
@@ -79,13 +79,14 @@ first_ends t e later put Open is =
           absurd (ended_dead t put (step put Open e) later (ap (λ b. cond b Ended (cond (withdraws put e) (Withdrawn e.time) Open)) ended) parts.1)
       | inr not_ended ↦
           let now : step put Open e ≡ Withdrawn e.time =
-            ap (λ b. cond b Ended (cond (withdraws put e) (Withdrawn e.time) Open)) not_ended ∙ ap (λ b. cond b (Withdrawn e.time) Open) parts.0 in
-          (and_from
-          (live t put (status put (step put Open e) later))
-          (not (is_open (status put (step put Open e) later)))
-          parts.1
-          (not_from_false (is_open (status put (step put Open e) later)) (ap (λ s. is_open (status put s later)) now ∙ not_open put e.time later)),
-          ap is_open now)
+          ap (λ b. cond b Ended (cond (withdraws put e) (Withdrawn e.time) Open)) not_ended ∙ ap (λ b. cond b (Withdrawn e.time) Open) parts.0 in (
+            and_from
+                (live t put (status put (step put Open e) later))
+                (not (is_open (status put (step put Open e) later)))
+                parts.1
+                (not_from_false (is_open (status put (step put Open e) later)) (ap (λ s. is_open (status put s later)) now ∙ not_open put e.time later)),
+            ap is_open now,
+          )
     ]
 
 less_by_one : (x y : Bool) (a b : ℕ) → x ≡ false → y ≡ true → a ≤ b → 1 + (one x + a) ≤ one y + b
@@ -154,7 +155,7 @@ one_of b is = ap one is
 -- what one more entry adds, by why it is named
 adds : (n t : ℕ) (passed : List Held) (e : Entry) (later : List Entry) → Named n t passed e later
     → 1 + tally (waiting t later) (map (moved e) passed)
-      ≤ one (live t e (status e Open later)) + one (is_recent n e later) + one (stays e later) + one (is_nil later) + tally (waiting t (e ∷ later)) passed
+    ≤ one (live t e (status e Open later)) + one (is_recent n e later) + one (stays e later) + one (is_nil later) + tally (waiting t (e ∷ later)) passed
 adds n t passed e later (lives now) =
     let is = one_of (live t e (status e Open later)) now in let rest = waits t e later passed in omega (arith, is, rest)
 adds n t passed e later (withdrawal first) = let rest = first_waits t e later passed first in omega (arith, rest)
@@ -167,7 +168,7 @@ adds n t passed e later (holds still) =
 
 at_most : (n t : ℕ) (passed : List Held) (entries : List Entry)
     → length (kept_by (names n t) passed entries)
-      ≤ 2 * length (mitigations t entries) + length (recent n entries) + length (things entries) + length (last entries) + tally (waiting t entries) passed
+    ≤ 2 * length (mitigations t entries) + length (recent n entries) + length (things entries) + length (last entries) + tally (waiting t entries) passed
 at_most n t passed [] = omega arith
 at_most n t passed (e ∷ later) =
     let go = at_most n t (pass passed e) later in
@@ -184,7 +185,7 @@ at_most n t passed (e ∷ later) =
     later
     (λ es.
     length es
-      ≤ 2 * length (mitigations t (e ∷ later)) + length (recent n (e ∷ later)) + length (things (e ∷ later)) + length (last (e ∷ later)) + tally (waiting t (e ∷ later)) passed)
+    ≤ 2 * length (mitigations t (e ∷ later)) + length (recent n (e ∷ later)) + length (things (e ∷ later)) + length (last (e ∷ later)) + tally (waiting t (e ∷ later)) passed)
     (λ is. let step = adds n t passed e later (named n t passed e later is) in omega (arith, go, back, ms, rs, hs, ls, ready, step))
     (λ out. let step = waits t e later passed in omega (arith, go, back, ms, rs, hs, ls, ready, step))
 

@@ -1,19 +1,19 @@
 -- The entries that the view of a calm history names have its view.
-use Rattle.std.proofs.Common.{◌≡◌, ℕ, ◌+◌, ◌<◌, ◌≤◌, ◌⊎◌, Bool, true, false, cond, ◌&&◌, ◌||◌, not, List, [], ◌∷◌, ◌++◌, map, Option, Some, None, inl, inr, refl, sym, ap, ◌∙◌, subst, le_refl, arith}
-use Rattle.std.specs.Prelude.{option_to_list, nat_lt}
+use Rattle.std.proofs.Common.{◌≡◌, ℕ, ◌+◌, ◌<◌, Bool, true, false, cond, ◌||◌, List, [], ◌∷◌, map, Some, None, inl, inr, refl, sym, ap, ◌∙◌, subst, le_refl, arith}
+use Rattle.std.specs.Prelude.{nat_lt}
 use Rattle.std.specs.List.{list_any}
-use Rattle.std.proofs.lemmas.Bool.{false≢true, true≢false, both_ways, cond_both, cases_Bool, and_parts, and_from, or_parts, or_cases, or_left, or_right, ltb-true, lt-ltb}
+use Rattle.std.proofs.lemmas.Bool.{false≢true, both_ways, cond_both, cases_Bool, and_from, or_parts, or_cases, ltb-true, lt-ltb}
 use Rattle.dots_history.specs.declared.entry.Entry.{Entry}
 use Rattle.dots_history.specs.declared.status.Status.{Status}
 use Rattle.dots_history.specs.declared.status.Status.TheVariants.{Ended, Open, Withdrawn}
-use Rattle.dots_history.specs.Entries.{ends, withdraws, is_signal, signals, is_held}
+use Rattle.dots_history.specs.Entries.{ends, withdraws, is_signal, signals}
 use Rattle.dots_history.specs.Histories.{Held, Within, OnePeer, live, held, status, step, tally, is_recent, is_nil, stays}
 use Rattle.dots_history.proofs.Fates.{ended_stays}
-use Rattle.dots_history.specs.Keeping.{is_open, is_first, names, moved, pass, kept_by}
+use Rattle.dots_history.specs.Keeping.{is_first, names, moved, pass, kept_by}
 use Rattle.dots_laws.proofs.Lasting.{dead_for_good}
 use Rattle.dots_laws.proofs.Recents.{signal_parts}
-use Rattle.dots_laws.proofs.Touching.{touches, touch_signals, untouched, withdraws_parts, held_no_put, never_live}
-use Rattle.dots_laws.proofs.Members.{In, in_map, in_front, in_back, any_of, any_has}
+use Rattle.dots_laws.proofs.Touching.{touches, touch_signals, untouched}
+use Rattle.dots_laws.proofs.Members.{In, in_map, in_front, any_of}
 use Rattle.dots_laws.proofs.Keeping.{by_first, kept_within}
 
 -- why the view doesn't name an entry
@@ -27,9 +27,9 @@ pub record Unnamed (n t : ℕ) (passed : List Held) (e : Entry) (later : List En
 pub unnamed : (n t : ℕ) (passed : List Held) (e : Entry) (later : List Entry) → names n t passed e later ≡ false → Unnamed n t passed e later
 unnamed n t passed e later out =
     let halves = or_parts
-      (live t e (status e Open later) || list_any (is_first t e later) passed)
-      ((is_recent n e later || is_nil later) || stays e later)
-      out in
+    (live t e (status e Open later) || list_any (is_first t e later) passed)
+    ((is_recent n e later || is_nil later) || stays e later)
+    out in
     let mitigation = or_parts (live t e (status e Open later)) (list_any (is_first t e later) passed) halves.0 in
     let others = or_parts (is_recent n e later || is_nil later) (stays e later) halves.1 in
     let ends = or_parts (is_recent n e later) (is_nil later) others.0 in
@@ -46,9 +46,9 @@ pub data Named (n t : ℕ) (passed : List Held) (e : Entry) (later : List Entry)
 pub named : (n t : ℕ) (passed : List Held) (e : Entry) (later : List Entry) → names n t passed e later ≡ true → Named n t passed e later
 named n t passed e later is =
     elim (or_cases
-      (live t e (status e Open later) || list_any (is_first t e later) passed)
-      ((is_recent n e later || is_nil later) || stays e later)
-      is) [
+    (live t e (status e Open later) || list_any (is_first t e later) passed)
+    ((is_recent n e later || is_nil later) || stays e later)
+    is) [
       | inl mitigation ↦
           elim (or_cases (live t e (status e Open later)) (list_any (is_first t e later) passed) mitigation) [
             | inl now ↦ lives now
@@ -172,7 +172,7 @@ pub recent_fate : (n t u low : ℕ) (put : Entry) (s : Status) (passed : List He
 recent_fate n t u low put s passed [] few one within = refl
 recent_fate n t u low put s passed (e ∷ later) few one within =
     let go =
-      recent_fate n t u e.time put (step put s e) (pass passed e) later (fewer n (signals put.peer put.domain) e later few) one.1 within.1 in
+    recent_fate n t u e.time put (step put s e) (pass passed e) later (fewer n (signals put.peer put.domain) e later few) one.1 within.1 in
     elim (cases_Bool (live e.time put s)) [
       | inl now ↦
           by_first

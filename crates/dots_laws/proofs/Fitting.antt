@@ -1,14 +1,14 @@
 -- An entry that fits keeps a history calm.
-use Rattle.std.proofs.Common.{◌≡◌, ℕ, Bool, true, false, cond, ◌||◌, List, [], ◌∷◌, ◌++◌, Some, None, refl, sym, ap, ◌∙◌}
+use Rattle.std.proofs.Common.{◌≡◌, Bool, true, false, cond, ◌||◌, List, [], ◌∷◌, ◌++◌, Some, None}
 use Rattle.std.specs.Prelude.{option_to_list}
 use Rattle.std.specs.List.{All}
 use Rattle.std.proofs.lemmas.List.Elements.{All-head, All-tail}
-use Rattle.std.proofs.lemmas.Bool.{false≢true, cases_Bool}
+use Rattle.std.proofs.lemmas.Bool.{false≢true}
 use Rattle.dots_history.specs.declared.entry.Entry.{Entry}
 use Rattle.dots_history.specs.declared.status.Status.{Status}
 use Rattle.dots_history.specs.declared.status.Status.TheVariants.{Open}
 use Rattle.dots_history.specs.Entries.{ends, withdraws, reconfigures}
-use Rattle.dots_history.specs.Histories.{Held, OnePeer, OneDomain, Calm, live, held, status, step, mitigations}
+use Rattle.dots_history.specs.Histories.{Held, OnePeer, OneDomain, Calm, live, status, step, mitigations}
 use Rattle.dots_history.specs.Keeping.{Fits}
 
 push_one_peer : (put : Entry) (s : Status) (later : List Entry) (e : Entry) → OnePeer put s later
@@ -37,14 +37,15 @@ pub push_calm : (entries : List Entry) (e : Entry) → Calm entries → Fits ent
 push_calm [] e calm fits = (record {}, record {}, record {})
 push_calm (x ∷ later) e calm fits =
     let m : Held = record { put = x; status = status x Open later } in
-    let now = live e.time x (status x Open later) in
-    (push_one_peer x Open later e calm.0 (of_first now e m (mitigations e.time later) fits.one_peer),
-    push_one_domain x later e calm.1 (All-head (λ (y : Entry). reconfigures y e ≡ true → e.domain ≡ y.domain) x later fits.one_domain),
-    push_calm
-    later
-    e
-    calm.2
-    (record {
-      one_peer = of_others now e m (mitigations e.time later) fits.one_peer;
-      one_domain = All-tail (λ (y : Entry). reconfigures y e ≡ true → e.domain ≡ y.domain) x later fits.one_domain;
-    }))
+    let now = live e.time x (status x Open later) in (
+      push_one_peer x Open later e calm.0 (of_first now e m (mitigations e.time later) fits.one_peer),
+      push_one_domain x later e calm.1 (All-head (λ (y : Entry). reconfigures y e ≡ true → e.domain ≡ y.domain) x later fits.one_domain),
+      push_calm
+          later
+          e
+          calm.2
+          (record {
+            one_peer = of_others now e m (mitigations e.time later) fits.one_peer;
+            one_domain = All-tail (λ (y : Entry). reconfigures y e ≡ true → e.domain ≡ y.domain) x later fits.one_domain;
+          }),
+    )

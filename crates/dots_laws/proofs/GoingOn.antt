@@ -1,11 +1,11 @@
 -- Views after more entries, by the views before.
-use Rattle.std.proofs.Common.{◌≡◌, ℕ, ◌≤◌, Bool, true, false, cond, not, ◌&&◌, ◌||◌, List, [], ◌∷◌, ◌++◌, filter, Some, None, refl, sym, ap, ◌∙◌, append_assoc, append-nil, subst}
+use Rattle.std.proofs.Common.{◌≡◌, ℕ, ◌≤◌, Bool, true, false, cond, not, ◌&&◌, ◌||◌, List, [], ◌∷◌, ◌++◌, filter, Some, None, refl, sym, ap, ◌∙◌, append_assoc, append-nil}
 use Rattle.std.specs.Prelude.{option_to_list}
 use Rattle.std.specs.List.{list_any}
 use Rattle.dots_history.specs.declared.entry.Entry.{Entry}
 use Rattle.dots_history.specs.Entries.{is_held, undoes}
-use Rattle.dots_history.specs.Histories.{Held, View, view, Within, mitigations, recent, stays, things, last}
-use Rattle.dots_laws.specs.Views.{view_at, mitigations_with, things_with, view_with}
+use Rattle.dots_history.specs.Histories.{Held, View, view, Within, stays, things, last}
+use Rattle.dots_laws.specs.Views.{view_at, things_with, view_with}
 use Rattle.dots_laws.proofs.Ageing.{ageing}
 use Rattle.dots_laws.proofs.Adding.{adding}
 use Rattle.dots_laws.proofs.Sieves.{kept_push}

@@ -1,5 +1,5 @@
 -- Each scrub row lies inside the prefixes of its mitigation.
-use Rattle.std.proofs.Common.{◌≡◌, ℕ, Bool, true, List, [], ◌∷◌, ◌++◌, map, inl, inr, refl, sym, ap, ◌∙◌}
+use Rattle.std.proofs.Common.{◌≡◌, ℕ, Bool, true, List, [], ◌∷◌, map, inl, inr, refl, ◌∙◌}
 use Rattle.std.specs.List.{list_any, list_all, flat_map}
 use Rattle.std.proofs.lemmas.Bool.{and_from}
 use Rattle.std.proofs.lemmas.List.Folds.{list_all-append}
@@ -7,7 +7,6 @@ use Rattle.ip_scope.specs.Prefix.{PrefixValue, inside}
 use Rattle.ip_scope.proofs.Prefixes.{inside-itself}
 use Rattle.dots_history.specs.declared.entry.Entry.{Entry}
 use Rattle.dots_history.specs.declared.put.Target.{Target}
-use Rattle.dots_history.specs.Entries.{some_prefix}
 use Rattle.dots_history.specs.Histories.{Held, mitigations}
 use Rattle.dots_history.specs.Rows.{Row, rows_of, targets_of, scrub_rows}
 use Rattle.dots_laws.specs.Views.{lies_inside}

@@ -1,13 +1,8 @@
 -- What a keeper keeps of a list of entries.
-use Rattle.std.proofs.Common.{◌≡◌, ℕ, ◌≤◌, ◌⊎◌, Bool, true, false, cond, ◌&&◌, ◌||◌, not, List, [], ◌∷◌, ◌++◌, Some, None, inl, inr, refl, sym, ap, ◌∙◌, le_trans}
-use Rattle.std.specs.Prelude.{option_to_list}
-use Rattle.std.specs.List.{list_any}
-use Rattle.std.proofs.lemmas.Bool.{false≢true, true≢false, both_ways, cond_both, cases_Bool, or_parts, or_from, and_parts}
+use Rattle.std.proofs.Common.{◌≡◌, ℕ, ◌≤◌, Bool, true, false, List, [], ◌∷◌, inl, inr, refl, le_trans}
+use Rattle.std.proofs.lemmas.Bool.{cond_both}
 use Rattle.dots_history.specs.declared.entry.Entry.{Entry}
-use Rattle.dots_history.specs.declared.status.Status.{Status}
-use Rattle.dots_history.specs.declared.status.Status.TheVariants.{Open}
-use Rattle.dots_history.specs.Entries.{is_held, undoes}
-use Rattle.dots_history.specs.Histories.{Held, Within, IsPart, live, held, status, is_recent, recent, stays, things, mitigations, is_nil, last}
+use Rattle.dots_history.specs.Histories.{Held, Within, IsPart, is_recent}
 use Rattle.dots_history.specs.Keeping.{pass, kept_by}
 use Rattle.dots_laws.proofs.Recents.{HasRecent, left_here}
 

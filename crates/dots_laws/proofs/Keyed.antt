@@ -1,7 +1,7 @@
 -- How long a list is by how many of it have each key.
-use Rattle.std.proofs.Common.{◌≡◌, ℕ, ◌+◌, ◌*◌, ◌≤◌, Bool, true, false, cond, not, ◌&&◌, ◌||◌, List, [], ◌∷◌, ◌++◌, length, filter, inl, inr, refl, sym, ap, ◌∙◌, le_trans, arith}
+use Rattle.std.proofs.Common.{◌≡◌, ℕ, ◌+◌, ◌*◌, ◌≤◌, Bool, true, false, cond, not, ◌&&◌, ◌||◌, List, [], ◌∷◌, length, filter, inl, inr, refl, sym, ap, ◌∙◌, le_trans, arith}
 use Rattle.std.specs.List.{list_any, list_all}
-use Rattle.std.proofs.lemmas.Bool.{false≢true, cond_both, cases_Bool, and_parts, and_from, or_cases, or_left, or_right}
+use Rattle.std.proofs.lemmas.Bool.{false≢true, cond_both, cases_Bool, and_parts, and_from}
 use Rattle.dots_history.specs.Histories.{tally}
 
 abbrev one : Bool → ℕ
@@ -12,14 +12,14 @@ module _ {A : Type 0} where
   pub fewer_left : (keep test : A → Bool) (xs : List A) → tally test (filter keep xs) ≤ tally test xs
   fewer_left keep test [] = omega arith
   fewer_left keep test (x ∷ xs) =
-    let rest = fewer_left keep test xs in
-    cond_both
-    (keep x)
-    (x ∷ filter keep xs)
-    (filter keep xs)
-    (λ ys. tally test ys ≤ one (test x) + tally test xs)
-    (λ is. omega (arith, rest))
-    (λ out. omega (arith, rest))
+      let rest = fewer_left keep test xs in
+      cond_both
+      (keep x)
+      (x ∷ filter keep xs)
+      (filter keep xs)
+      (λ ys. tally test ys ≤ one (test x) + tally test xs)
+      (λ is. omega (arith, rest))
+      (λ out. omega (arith, rest))
 
   -- those that pass and those that don't
   pub split_length : (test : A → Bool) (xs : List A) → length xs ≡ tally test xs + length (filter (λ x. not (test x)) xs)

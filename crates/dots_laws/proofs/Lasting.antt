@@ -1,5 +1,5 @@
 -- What isn't live is never live again.
-use Rattle.std.proofs.Common.{◌≡◌, ℕ, ◌+◌, ◌≤◌, ℤ, pos, negsuc, ◌+ℤ◌, zero, suc, Bool, true, false, cond, ◌&&◌, ◌||◌, List, [], ◌∷◌, ◌++◌, Option, Some, None, inl, inr, refl, sym, ap, ◌∙◌, arith}
+use Rattle.std.proofs.Common.{◌≡◌, ℕ, ◌+◌, ◌≤◌, ℤ, pos, negsuc, ◌+ℤ◌, zero, suc, false, cond, List, [], ◌∷◌, ◌++◌, Option, Some, None, inl, inr, refl, ap, ◌∙◌, arith}
 use Rattle.std.specs.Prelude.{int_lt, nat_lt}
 use Rattle.std.proofs.lemmas.Bool.{true≢false, cond_both, or_parts, or_from, and_cases, and_left, and_right, ltb-false, le-ltb}
 use Rattle.dots_history.specs.declared.entry.Entry.{Entry}

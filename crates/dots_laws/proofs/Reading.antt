@@ -1,5 +1,5 @@
 -- What is read of a history is a function of its view.
-use Rattle.std.proofs.Common.{◌≡◌, ℕ, Bool, true, false, cond, List, [], ◌∷◌, filter, map, Option, Some, None, refl, sym, ap, ◌∙◌}
+use Rattle.std.proofs.Common.{◌≡◌, ℕ, Bool, true, cond, List, [], ◌∷◌, filter, map, Option, Some, None, refl, sym, ap, ◌∙◌}
 use Rattle.std.specs.Prelude.{◌==◌}
 use Rattle.std.specs.List.{list_any, flat_map}
 use Rattle.ip_scope.specs.Prefix.{PrefixValue}
@@ -9,8 +9,8 @@ use Rattle.acl_lists.specs.declared.acl.Activation.TheVariants.{WhenMitigating, 
 use Rattle.acl_lists.specs.declared.packet.Packet.{Packet}
 use Rattle.dots_history.specs.declared.entry.Entry.{Entry}
 use Rattle.dots_history.specs.Entries.{same_client, signals, may_repeat, option_any}
-use Rattle.dots_history.specs.Histories.{Held, View, view, or_else, mitigations, seconds_left, things, recent, last, remembered}
-use Rattle.dots_history.specs.Rows.{Row, rows_of, acl_of, mid_of, row_matches, scrub_rows, list_rows, is_mitigating, is_active, decision, decision_of_active, decision_of_lists, greatest, fate_by, fate}
+use Rattle.dots_history.specs.Histories.{Held, View, view, or_else, mitigations, seconds_left, things, recent, remembered}
+use Rattle.dots_history.specs.Rows.{Row, rows_of, acl_of, mid_of, row_matches, scrub_rows, list_rows, is_active, decision, decision_of_active, decision_of_lists, greatest, fate_by, fate}
 use Rattle.dots_history.specs.Places.{last_of}
 use Rattle.dots_history.proofs.Remembering.{by_recent}
 use Rattle.dots_laws.specs.Reading.{SaySame}

@@ -1,7 +1,7 @@
 -- The last so many signal entries of each peer and domain are those of themselves, with more entries too.
-use Rattle.std.proofs.Common.{◌≡◌, ℕ, ◌+◌, ◌≤◌, ◌<◌, ◌⊎◌, zero, suc, Bool, true, false, cond, ◌&&◌, List, [], ◌∷◌, ◌++◌, Some, None, inl, inr, refl, sym, ap, ◌∙◌, subst, arith}
+use Rattle.std.proofs.Common.{◌≡◌, ℕ, ◌+◌, ◌≤◌, ◌⊎◌, Bool, true, false, cond, ◌&&◌, List, [], ◌∷◌, ◌++◌, Some, None, inl, inr, refl, sym, ap, ◌∙◌, subst, arith}
 use Rattle.std.specs.Prelude.{option_to_list, nat_lt, ◌==◌}
-use Rattle.std.proofs.lemmas.Bool.{true≢false, both_ways, cond_both, and_parts, and_cases, and_left, and_right, ltb-true, lt-ltb, ltb-false, le-ltb, eqb-true}
+use Rattle.std.proofs.lemmas.Bool.{both_ways, cond_both, and_parts, and_cases, and_left, and_right, ltb-false, le-ltb, eqb-true}
 use Rattle.dots_history.specs.declared.entry.Entry.{Entry}
 use Rattle.dots_history.specs.Entries.{is_signal, signals}
 use Rattle.dots_history.specs.Histories.{tally, is_recent, recent}

@@ -1,15 +1,15 @@
 -- The view of the entries that the view names.
-use Rattle.std.proofs.Common.{◌≡◌, ℕ, ◌≤◌, ◌⊎◌, Bool, true, false, cond, ◌&&◌, ◌||◌, not, List, [], ◌∷◌, ◌++◌, map, Option, Some, None, inl, inr, refl, sym, ap, ◌∙◌, subst}
+use Rattle.std.proofs.Common.{◌≡◌, ℕ, Bool, true, false, cond, ◌&&◌, not, List, [], ◌∷◌, ◌++◌, map, Some, None, inl, inr, refl, sym, ap, ◌∙◌, subst}
 use Rattle.std.specs.Prelude.{option_to_list, nat_lt, ◌==◌}
 use Rattle.std.specs.List.{list_any}
-use Rattle.std.proofs.lemmas.Bool.{false≢true, true≢false, both_ways, cond_both, cases_Bool, and_parts, and_from, and_cases, and_left, and_right, or_parts, or_from, or_cases, or_left, or_right, not_from_true, not_from_false, eqb-true}
+use Rattle.std.proofs.lemmas.Bool.{false≢true, true≢false, both_ways, cases_Bool, and_parts, and_left, or_parts, or_from, or_cases, or_left, or_right, not_from_true, eqb-true}
 use Rattle.dots_history.specs.declared.entry.Entry.{Entry}
 use Rattle.dots_history.specs.declared.change.Change.{Change}
 use Rattle.dots_history.specs.declared.change.Change.TheVariants as change
 use Rattle.dots_history.specs.declared.status.Status.{Status}
-use Rattle.dots_history.specs.declared.status.Status.TheVariants.{Ended, Open, Withdrawn}
+use Rattle.dots_history.specs.declared.status.Status.TheVariants.{Open}
 use Rattle.dots_history.specs.Entries.{put_of, withdraws, is_signal, signals, is_held, undoes, same_client, undoes_of_client, reconfigures, undoes_of_peer, is_configuration}
-use Rattle.dots_history.specs.Histories.{Held, View, view, Kept, Within, IsPart, OnePeer, OneDomain, Calm, live, held, status, step, tally, is_recent, recent, is_nil, stays, things, last, mitigations}
+use Rattle.dots_history.specs.Histories.{Held, view, Kept, Within, IsPart, OnePeer, OneDomain, Calm, live, held, status, step, tally, is_recent, recent, is_nil, stays, things, last, mitigations}
 use Rattle.dots_history.specs.Keeping.{is_open, is_first, names, moved, pass, kept_by, kept}
 use Rattle.dots_laws.proofs.Recents.{same_recent}
 use Rattle.dots_laws.proofs.Touching.{withdraws_parts, held_no_put, never_live, as_signal}
@@ -245,11 +245,11 @@ pub dropping : (n t : ℕ) (entries : List Entry) → Within 0 entries t → Cal
 dropping n t entries within calm = record {
   is_part = kept_is_part (names n t) [] entries;
   same_view =
-    same_view
-    (view n t (kept n t entries))
-    (view n t entries)
-    (kept_mitigations n t 0 [] entries within calm)
-    (kept_recent n t [] entries)
-    (kept_things n t [] entries calm)
-    (kept_last n t [] entries);
+      same_view
+      (view n t (kept n t entries))
+      (view n t entries)
+      (kept_mitigations n t 0 [] entries within calm)
+      (kept_recent n t [] entries)
+      (kept_things n t [] entries calm)
+      (kept_last n t [] entries);
 }

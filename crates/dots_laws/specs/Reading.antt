@@ -14,9 +14,9 @@ use Rattle.dots_history.specs.Rows.{scrub_rows, list_rows, is_mitigating, is_act
 pub record SaySame (n t : ℕ) (xs ys : List Entry) : Type 0 where
   pub live : mitigations t xs ≡ mitigations t ys
   pub seconds :
-    map (λ (m : Held). seconds_left t m.put m.status) (mitigations t xs) ≡ map (λ (m : Held). seconds_left t m.put m.status) (mitigations t ys)
+      map (λ (m : Held). seconds_left t m.put m.status) (mitigations t xs) ≡ map (λ (m : Held). seconds_left t m.put m.status) (mitigations t ys)
   pub peers :
-    (peer : ℕ) → list_any (λ (m : Held). m.put.peer == peer) (mitigations t xs) ≡ list_any (λ (m : Held). m.put.peer == peer) (mitigations t ys)
+      (peer : ℕ) → list_any (λ (m : Held). m.put.peer == peer) (mitigations t xs) ≡ list_any (λ (m : Held). m.put.peer == peer) (mitigations t ys)
   pub clients : (e : Entry) → is_mitigating t xs e ≡ is_mitigating t ys e
   pub written : things xs ≡ things ys
   pub rows : scrub_rows t xs ≡ scrub_rows t ys

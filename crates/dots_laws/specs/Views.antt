@@ -1,11 +1,10 @@
 -- What time and one more entry make of a view, and the part of a domain in it.
-use Rattle.std.specs.Prelude.{ℕ, Bool, ◌==◌, not, if◌then◌else◌, List, [], ◌∷◌, ◌++◌, filter, map}
+use Rattle.std.specs.Prelude.{ℕ, Bool, ◌==◌, not, if◌then◌else◌, List, [], ◌∷◌, ◌++◌, filter}
 use Rattle.dots_history.specs.declared.entry.Entry.{Entry}
-use Rattle.dots_history.specs.declared.status.Status.TheVariants.{Open}
 use Rattle.ip_scope.specs.Prefix.{inside}
 use Rattle.dots_history.specs.Entries.{is_held, undoes, some_prefix}
 use Rattle.dots_history.specs.Histories.{Held, View, live, recent}
-use Rattle.dots_history.specs.Keeping.{moved, pass}
+use Rattle.dots_history.specs.Keeping.{pass}
 use Rattle.dots_history.specs.Rows.{Row, targets_of}
 
 -- those of the mitigations that are live at the time

@@ -1,4 +1,4 @@
-use Rattle.std.proofs.Common.{◌≡◌, ℕ, ◌+◌, Bool, cond, List, [], ◌∷◌, ◌++◌, Vec, Global, take, drop, append-nil, sym, ap, ◌∙◌}
+use Rattle.std.proofs.Common.{ℕ, ◌+◌, cond, List, [], ◌∷◌, ◌++◌, Vec, Global, take, drop, append-nil, sym, ap, ◌∙◌}
 use Rattle.dots_history.specs.declared.entry.Entry.{Entry}
 use Rattle.dots_history.specs.Keeping.{kept_places, names, tracks}
 use Rattle.dots_history.proofs.Tracks.{kept_next}
@@ -14,19 +14,19 @@ loop-place-preserved c =
     let places = c.loop-place.places.items in
     let rest = beyond c.args.count c.args.t place c.args.entries.now in
     let next =
-      kept_next
-      c.args.count
-      c.args.t
-      place
-      c.args.entries.now
-      c.index-entries-place.result
-      places
-      (kept_places (names c.args.count c.args.t) [] 0 c.args.entries.now)
-      c.is_named.result
-      c.loop-place-test.true
-      c.index-entries-place.is
-      c.is_named.ensures
-      c.loop-place.invariant in
+    kept_next
+    c.args.count
+    c.args.t
+    place
+    c.args.entries.now
+    c.index-entries-place.result
+    places
+    (kept_places (names c.args.count c.args.t) [] 0 c.args.entries.now)
+    c.is_named.result
+    c.loop-place-test.true
+    c.index-entries-place.is
+    c.is_named.ensures
+    c.loop-place.invariant in
     elim c.if-is_named.branch [
       | then-is_named+in_ok-push w ↦
           ap
