@@ -2,5 +2,6 @@ pub mod Fields
 pub mod Requests
 pub mod Views
 pub mod Streams
+pub mod Owned
 pub mod Reply
 pub mod Writing

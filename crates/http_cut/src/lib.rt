@@ -12,18 +12,22 @@
 mod cutting;
 mod fault;
 mod fields;
+mod owned;
 mod reply_head;
 mod request;
 mod room;
 mod stream;
+mod taking;
 mod text;
 mod writing;
 
 pub use fault::HttpFault;
+pub use owned::{OwnedRequest, RequestList};
 pub use reply_head::{ReplyHead, write_head};
 pub use request::{Cut, HttpRequest};
 pub use room::HeadRoom;
 pub use stream::Stream;
+pub use taking::{Taken, take_requests};
 
 #[cfg(test)]
 mod tests;

@@ -1,5 +1,5 @@
 ghost use Rattle.std.specs.Prelude.{◌≡◌, ◌<◌, ◌≤◌, ◌-◌, ◌++◌, [], length, min, take, drop, IfOk};
-ghost use Rattle.http_cut.specs.Requests.{IsCut, outcome_of};
+ghost use Rattle.http_cut.specs.Requests.{IsCut, outcome_of, waits};
 ghost use Rattle.http_cut.specs.Streams.{IfRequest};
 
 use crate::cutting::cut_held;
@@ -52,6 +52,8 @@ impl Stream {
     /// that comes in small pieces costs at most its heads times their pieces. Takes no memory.
     pub fn cut<'a>(&'a self, room: &mut HeadRoom) -> Cut<'a>
         ensures cut { IsCut self.now (outcome_of result) }
+        // Where more is waited for, there is room for it.
+        ensures room { outcome_of result ≡ waits → length self.now < 16384 }
         ensures size { IfRequest result (λ request. (0 < request.length) × (request.length ≤ length self.now)) }
     {
         cut_held(self.bytes.as_slice(), room.spans.as_mut_slice())
