@@ -1,4 +1,5 @@
 pub mod Fields
+pub mod FaultText
 pub mod Requests
 pub mod Views
 pub mod Streams
