@@ -8,6 +8,7 @@ ghost use Rattle.cbor_profile.specs.Spelling.{Spells};
 ghost use Rattle.cbor_profile.specs.View.{tree_of};
 ghost use Rattle.dots_bench.specs.Parts.{parts_in};
 
+use crate::fronts::repeat_cut;
 use anyhow::{Context, Result};
 use cbor_profile::{CborFault, Item};
 use coap_message::CoapFault;
@@ -18,6 +19,7 @@ use std::alloc::Global;
 pub enum Codec {
     Coap,
     Cbor,
+    Http,
 }
 
 impl Codec {
@@ -27,6 +29,7 @@ impl Codec {
         match kind {
             "coap" => Some(Codec::Coap),
             "cbor" => Some(Codec::Cbor),
+            "http" => Some(Codec::Http),
             _ => None,
         }
     }
@@ -37,6 +40,7 @@ impl Codec {
         match self {
             Codec::Coap => repeat_coap(copies, times).context("decoding CoAP"),
             Codec::Cbor => repeat_cbor(alloc, copies, times).context("decoding CBOR"),
+            Codec::Http => repeat_cut(alloc, copies, times).context("cutting HTTP"),
         }
     }
 }

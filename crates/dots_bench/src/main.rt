@@ -1,11 +1,12 @@
 //! The program `dots_bench`: `codec CASEFILE REPS` decodes the bytes of each case of a file so often. How long that
 //! takes is for the caller to measure.
 //!
-//! A case is a line `KIND.NAME HEX`, with the kind `coap` or `cbor`. For each the program prints its name and what
+//! A case is a line `KIND.NAME HEX`, with the kind `coap`, `cbor` or `http`. For each the program prints its name and what
 //! its decodes add up to. It ends with status 0 only where there is a case and every decode of every case went well.
 #![tactic(auto)]
 
 mod codec;
+mod fronts;
 
 use anyhow::{Context, Result, bail, ensure};
 use codec::Codec;

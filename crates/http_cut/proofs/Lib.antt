@@ -6,3 +6,4 @@ pub mod Windows
 pub mod Values
 pub mod Cuts
 pub mod Streams
+pub mod Takings

@@ -1,6 +1,7 @@
 -- Requests stay where bytes follow, and are one list.
-use Rattle.std.proofs.Common.{◌≡◌, ℕ, ◌+◌, ◌-◌, ◌<◌, ◌≤◌, List, [], ◌∷◌, ◌++◌, length, take, drop, refl, sym, ap, subst, ◌∙◌, append_assoc, arith, inl, inr}
-use Rattle.std.specs.Prelude.{nat_le, if◌then◌else◌, Result, Ok, Err, Option, Some, None}
+use Rattle.std.specs.Str.Parse.{digits_value}
+use Rattle.std.proofs.Common.{◌≡◌, ℕ, Bool, true, false, ◌+◌, ◌-◌, ◌<◌, ◌≤◌, List, [], ◌∷◌, ◌++◌, length, take, drop, refl, sym, ap, subst, ◌∙◌, append_assoc, arith, inl, inr}
+use Rattle.std.specs.Prelude.{◌⊎◌, nat_le, if◌then◌else◌, codes, IfOk, Result, Ok, Err, Option, Some, None}
 use Rattle.std.proofs.lemmas.Bool.{cond-true, le-leb, leb-true, cases_Bool, cases_lt}
 use Rattle.std.proofs.Math.Seq.{take-append_seam, take-append-add}
 use Rattle.std.proofs.lemmas.List.{length-append, take-append-le, drop-append-le}
@@ -9,9 +10,10 @@ use Rattle.httparse.proofs.GrammarLemmas.{request_unique, ReadsRequest-append}
 use Rattle.http_cut.specs.declared.fault.HttpFault.{HttpFault}
 use Rattle.http_cut.specs.declared.request.Cut as code
 use Rattle.http_cut.specs.declared.request.Cut.TheVariants as cuts
-use Rattle.http_cut.specs.Fields.{framing}
-use Rattle.http_cut.specs.Requests.{BeginsWith, HasNoHead, NeverHasHead, HasEmptyLine, IsOver, Head, Request, request_of, Outcome, takes, waits, refuses, IsCut, by_framing, outcome_behind, head_of, outcome_of, request_view}
-use Rattle.http_cut.specs.Streams.{IfRequest, IsFirst, AreRequests, IsStream, EndsWith}
+use Rattle.http_cut.specs.Fields.{values_of, is_length, announced, body_length, framed, framing}
+use Rattle.http_cut.specs.declared.fault.HttpFault.TheVariants.{BadHead, BodyTooLong}
+use Rattle.http_cut.specs.Requests.{BeginsWith, HasNoHead, NeverHasHead, HasEmptyLine, IsOver, IsHeadless, Head, Request, request_of, Outcome, takes, waits, refuses, IsCut, by_framing, outcome_behind, head_of, outcome_of, request_view}
+use Rattle.http_cut.specs.Streams.{IfRequest, IsFirst, AreRequests, IsStream, IsOpen, ending}
 use Rattle.http_cut.proofs.Ends.{ends_empty}
 use Rattle.http_cut.proofs.Windows.{some_head}
 
@@ -103,9 +105,6 @@ one_list bytes (r ∷ rs) (s ∷ ss) a b x y none_a none_b =
     let later = one_list (drop r.size bytes) rs ss a b x.1 (subst (λ (z : Request). AreRequests (drop z.size bytes) ss b) (sym same) y.1) none_a none_b in
     (λ i. same i ∷ later.0 i, later.1)
 
-pub one_stream : (bytes : List ℕ) (rs ss : List Request) (a b : List ℕ) → IsStream bytes rs a → IsStream bytes ss b → (rs ≡ ss) × (a ≡ b)
-one_stream bytes rs ss a b x y = one_list bytes rs ss a b x.whole y.whole x.all y.all
-
 -- ---- what is refused stays refused
 
 refused_by : (head : Head) (rest other : List ℕ) (fault : HttpFault) (r : Result ℕ HttpFault) → refuses fault ≡ by_framing head rest r → refuses fault ≡ by_framing head other r
@@ -152,26 +151,70 @@ over_never held none (inr line) = λ more h rest x. elim (cases_lt (length held)
         let none : length (back ++ take k more) ≡ 0 = ap (λ (y : List ℕ). length y) nothing in
         absurd (omega (arith, none, length-append back (take k more), ap (λ (y : List ℕ). length y) part, length-append held (take k more), longer))
 
-pub no_first_refused : (held left : List ℕ) (fault : HttpFault) → IsCut held (refuses fault) → (request : Request) → ¬ (IsFirst (held ++ left) request)
-no_first_refused held left fault (inl cut) request x =
-    let same = request_unique (held ++ left) cut.0 x.0 (cut.1 ++ left) x.1 (ReadsRequest-append held cut.0 cut.1 left cut.2.reads) x.2.reads in
-    let still = refused (head_of cut.0) cut.1 x.1 fault cut.3 ∙ ap (λ (h : RequestHead). outcome_behind (head_of h) x.1) same.0 ∙ sym x.3 in
-    absurd (omega (arith, ap kind still))
-no_first_refused held left fault (inr cut) request x = elim cut.1.1 [
-  | inl over ↦ over_never held cut.0 over left x.0 x.1 x.2
-  | inr never ↦ never left x.0 x.1 x.2
+-- a refusal stays where bytes follow
+pub refused_still : (held left : List ℕ) (fault : HttpFault) → IsCut held (refuses fault) → IsCut (held ++ left) (refuses fault)
+refused_still held left fault (inl x) = inl (x.0, x.1 ++ left, begins_append held x.0 x.1 left x.2, refused (head_of x.0) x.1 (x.1 ++ left) fault x.3)
+refused_still held left fault (inr x) = elim x.1.1 [
+  | inl over ↦ stays (over_never held x.0 over) x.1.0
+  | inr never ↦ stays never x.1.0
 ]
+  where
+    stays : NeverHasHead held → fault ≡ BadHead → IsCut (held ++ left) (refuses fault)
+    stays never is = inr (never left, (is, inr (λ more. subst (λ (y : List ℕ). HasNoHead y) (sym (append_assoc held left more)) (never (left ++ more)))))
 
-pub no_first_waits : (held : List ℕ) → IsCut held waits → (request : Request) → ¬ (IsFirst held request)
+no_first_refused : (held : List ℕ) (fault : HttpFault) → IsCut held (refuses fault) → (request : Request) → ¬ (IsFirst held request)
+no_first_refused held fault (inl cut) request x =
+    let same = request_unique held cut.0 x.0 cut.1 x.1 cut.2.reads x.2.reads in
+    absurd (omega (arith, ap kind (cut.3 ∙ (λ i. outcome_behind (head_of (same.0 i)) (same.1 i)) ∙ sym x.3)))
+no_first_refused held fault (inr cut) request x = cut.0 x.0 x.1 x.2
+
+no_first_waits : (held : List ℕ) → IsCut held waits → (request : Request) → ¬ (IsFirst held request)
 no_first_waits held (inl cut) request x =
     let same = request_unique held cut.0 x.0 cut.1 x.1 cut.2.reads x.2.reads in
     absurd (omega (arith, ap kind (cut.3 ∙ (λ i. outcome_behind (head_of (same.0 i)) (same.1 i)) ∙ sym x.3)))
 no_first_waits held (inr cut) request x = cut.0 x.0 x.1 x.2
 
--- behind all requests that there are stands none
-pub stream_of : (bytes : List ℕ) (requests : List Request) (rest held : List ℕ) (fault : Option HttpFault) → AreRequests bytes requests rest → EndsWith rest held fault → IsStream bytes requests rest
-stream_of bytes requests rest held None x ends = record { whole = x; all = λ r first. no_first_waits held ends.1 r (subst (λ (y : List ℕ). IsFirst y r) ends.0 first) }
-stream_of bytes requests rest held (Some fault) x ends = record { whole = x; all = λ r first. no_first_refused held ends.0 fault ends.2 r (subst (λ (y : List ℕ). IsFirst y r) ends.1 first) }
+-- where more is waited for or the stream is refused, no request stands in front
+pub no_first : (rest : List ℕ) (fault : Option HttpFault) → IsCut rest (ending fault) → (request : Request) → ¬ (IsFirst rest request)
+no_first rest None cut request x = no_first_waits rest cut request x
+no_first rest (Some fault) cut request x = no_first_refused rest fault cut request x
+
+-- ---- one end
+
+abbrev fault_of : Outcome → Option HttpFault
+fault_of (takes request) = None
+fault_of waits = None
+fault_of (refuses fault) = Some fault
+
+fault_ends : (fault : Option HttpFault) → fault_of (ending fault) ≡ fault
+fault_ends None = refl
+fault_ends (Some fault) = refl
+
+headless_end : (rest : List ℕ) (a b : Option HttpFault) → IsHeadless rest (ending a) → IsHeadless rest (ending b) → (a ≡ b) ⊎ IsOpen rest
+headless_end rest None None x y = inl refl
+headless_end rest None (Some g) x y = elim y.1 [
+  | inl over ↦ absurd (x over)
+  | inr never ↦ inr (never, x)
+]
+headless_end rest (Some f) None x y = elim x.1 [
+  | inl over ↦ absurd (y over)
+  | inr never ↦ inr (never, y)
+]
+headless_end rest (Some f) (Some g) x y = inl (ap Some (x.0 ∙ sym y.0))
+
+pub one_end : (rest : List ℕ) (a b : Option HttpFault) → IsCut rest (ending a) → IsCut rest (ending b) → (a ≡ b) ⊎ IsOpen rest
+one_end rest a b (inl x) (inl y) =
+    let same = request_unique rest x.0 y.0 x.1 y.1 x.2.reads y.2.reads in
+    let ends : ending a ≡ ending b = x.3 ∙ (λ i. outcome_behind (head_of (same.0 i)) (same.1 i)) ∙ sym y.3 in
+    inl (sym (fault_ends a) ∙ ap fault_of ends ∙ fault_ends b)
+one_end rest a b (inl x) (inr y) = absurd (y.0 x.0 x.1 x.2)
+one_end rest a b (inr x) (inl y) = absurd (x.0 y.0 y.1 y.2)
+one_end rest a b (inr x) (inr y) = headless_end rest a b x.1 y.1
+
+pub one_stream : (bytes : List ℕ) (rs ss : List Request) (f g : Option HttpFault) (a b : List ℕ) → IsStream bytes rs f a → IsStream bytes ss g b → (rs ≡ ss) × ((f ≡ g) ⊎ IsOpen b)
+one_stream bytes rs ss f g a b x y =
+    let same = one_list bytes rs ss a b x.whole y.whole x.all y.all in
+    (same.0, one_end b f g (subst (λ (z : List ℕ). IsCut z (ending f)) same.1 x.end) y.end)
 
 -- a request that is cut isn't longer than what is held
 pub cut_size : (held : List ℕ) (cut : code.Cut) → IsCut held (outcome_of cut) → IfRequest cut (λ request. (0 < request.length) × (request.length ≤ length held))
@@ -179,3 +222,46 @@ cut_size held (cuts.Request request) (inl x) = first_size held (request_view req
 cut_size held (cuts.Request request) (inr x) = absurd x.1
 cut_size held cuts.More x = tt
 cut_size held (cuts.Refused fault) x = tt
+
+-- ---- a stream that waits has room
+
+size_or : (b c : Bool) (n : ℕ) (e f : HttpFault) → nat_le n 8192 ≡ c → IfOk (if b then (if c then Ok n else Err e) else Err f) (λ size. size ≤ 8192)
+size_or true true n e f is = leb-true n 8192 is
+size_or true false n e f is = tt
+size_or false c n e f is = tt
+
+announced_fits : (value : List ℕ) → IfOk (announced value) (λ size. size ≤ 8192)
+unfolding announced
+announced_fits value = size_or (is_length value) (nat_le (digits_value 10 value) 8192) (digits_value 10 value) BodyTooLong BadHead refl
+
+body_fits : (values : List (List ℕ)) → IfOk (body_length values) (λ size. size ≤ 8192)
+unfolding body_length
+body_fits [] = omega arith
+body_fits (value ∷ []) = announced_fits value
+body_fits (value ∷ other ∷ values) = tt
+
+framed_fits : (encodings : List (List ℕ)) (r : Result ℕ HttpFault) → IfOk r (λ size. size ≤ 8192) → IfOk (framed encodings r) (λ size. size ≤ 8192)
+unfolding framed
+framed_fits [] r fits = fits
+framed_fits (encoding ∷ encodings) r fits = tt
+
+waits_by : (head : Head) (rest : List ℕ) (r : Result ℕ HttpFault) → IfOk r (λ size. size ≤ 8192) → waits ≡ by_framing head rest r → length rest < 8192
+waits_by head rest (Err fault) fits e = absurd (omega (arith, ap kind e))
+waits_by head rest (Ok n) fits e = elim (cases_lt (length rest) n) [
+  | inl short ↦ omega (arith, short, fits)
+  | inr whole ↦ absurd (omega (arith, ap kind (e ∙ ap (λ b. if b then takes (request_of head n rest) else waits) (le-leb n (length rest) whole))))
+]
+
+waits_behind : (head : Head) (rest : List ℕ) → waits ≡ outcome_behind head rest → length rest < 8192
+unfolding outcome_behind
+waits_behind head rest e =
+    waits_by head rest (framing head.fields) (framed_fits (values_of (codes "transfer-encoding") head.fields) (body_length (values_of (codes "content-length") head.fields)) (body_fits (values_of (codes "content-length") head.fields))) e
+
+pub waits_room : (held : List ℕ) → IsCut held waits → length held < 16384
+waits_room held (inl x) =
+    let all : length held ≡ length (print_request x.0 ++ x.1) = ap (λ (y : List ℕ). length y) x.2.reads.1 in
+    omega (arith, all, length-append (print_request x.0) x.1, x.2.size, waits_behind (head_of x.0) x.1 x.3)
+waits_room held (inr x) = elim (cases_lt (length held) 8192) [
+  | inl short ↦ omega (arith, short)
+  | inr full ↦ absurd (x.1 (inl full))
+]

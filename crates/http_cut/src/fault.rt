@@ -1,3 +1,6 @@
+use std::error::Error;
+use std::fmt;
+
 /// Why a stream is refused. Its connection is closed behind the reply.
 #[derive(Clone, Copy, Debug, PartialEq, Eq)]
 pub enum HttpFault {
@@ -9,3 +12,21 @@ pub enum HttpFault {
     /// The head announces a body of more than 8,192 bytes (RFC 9110, section 15.5.14): status 413.
     BodyTooLong,
 }
+
+/// The name of the fault, for an operator.
+impl fmt::Display for HttpFault {
+    ghost use Rattle.std.specs.Prelude.{Some};
+    ghost use Rattle.http_cut.specs.FaultText.{fault_text};
+
+    ghost output = { λ fault. Some (fault_text fault) };
+
+    fn fmt<W: fmt::Write>(&self, f: &mut fmt::Formatter<W>) -> fmt::Result {
+        f.write_str(match self {
+            HttpFault::BadHead => "bad head",
+            HttpFault::LengthRequired => "length required",
+            HttpFault::BodyTooLong => "body too long",
+        })
+    }
+}
+
+impl Error for HttpFault {}

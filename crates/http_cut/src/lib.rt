@@ -2,28 +2,37 @@
 //!
 //! A [`Stream`] holds what came of a connection and isn't answered yet. [`Stream::take`] appends a piece,
 //! [`Stream::cut`] answers what stands at the front (a request, nothing whole yet, or a refusal), and
-//! [`Stream::discard`] drops a request that is answered. [`write_head`] writes the head of a reply (RFC 9112,
-//! section 4): exactly the lines of `specs/Reply.antt`, in their order. Only the two `new` take memory.
+//! [`Stream::discard`] drops a request that is answered. [`take_requests`] does that for a list of pieces and copies the
+//! requests out. [`write_head`] writes the head of a reply (RFC 9112, section 4): exactly the lines of
+//! `specs/Reply.antt`, in their order. Only the two `new` and [`take_requests`] take memory.
+//!
+//! One cut goes through the head once, looks up a few of its fields, and reads no byte of the body. So a stream that
+//! comes byte by byte costs at most the bytes of its heads times their pieces.
 //!
 //! Contracts see a stream as the bytes that it holds. Start reading at `specs/Requests.antt`, which says what stands at
-//! the front of some bytes, over the grammar of heads in `httparse`; `specs/Fields.antt` says what the fields mean.
+//! the front of some bytes, over the grammar of heads in `httparse`; `specs/Fields.antt` says what the fields mean, and
+//! `specs/Streams.antt` which requests all bytes of a stream have.
 #![tactic(auto)]
 
 mod cutting;
 mod fault;
 mod fields;
+mod owned;
 mod reply_head;
 mod request;
 mod room;
 mod stream;
+mod taking;
 mod text;
 mod writing;
 
 pub use fault::HttpFault;
+pub use owned::{OwnedRequest, RequestList};
 pub use reply_head::{ReplyHead, write_head};
 pub use request::{Cut, HttpRequest};
 pub use room::HeadRoom;
 pub use stream::Stream;
+pub use taking::{Taken, take_requests};
 
 #[cfg(test)]
 mod tests;

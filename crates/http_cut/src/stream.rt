@@ -1,5 +1,5 @@
 ghost use Rattle.std.specs.Prelude.{◌≡◌, ◌<◌, ◌≤◌, ◌-◌, ◌++◌, [], length, min, take, drop, IfOk};
-ghost use Rattle.http_cut.specs.Requests.{IsCut, outcome_of};
+ghost use Rattle.http_cut.specs.Requests.{IsCut, outcome_of, waits};
 ghost use Rattle.http_cut.specs.Streams.{IfRequest};
 
 use crate::cutting::cut_held;
@@ -48,10 +48,14 @@ impl Stream {
         count
     }
 
-    /// What stands at the front of the bytes that are held. It reads a head once, and no byte of a body, so a stream
-    /// that comes in small pieces costs at most its heads times their pieces. Takes no memory.
+    /// What stands at the front of the bytes that are held. Takes no memory.
+    ///
+    /// It goes through the head once, at most 8,192 bytes, looks up a few of its fields, and reads no byte of the body. So
+    /// a stream that comes byte by byte costs at most the bytes of its heads times their pieces.
     pub fn cut<'a>(&'a self, room: &mut HeadRoom) -> Cut<'a>
         ensures cut { IsCut self.now (outcome_of result) }
+        // Where more is waited for, there is room for it.
+        ensures room { outcome_of result ≡ waits → length self.now < 16384 }
         ensures size { IfRequest result (λ request. (0 < request.length) × (request.length ≤ length self.now)) }
     {
         cut_held(self.bytes.as_slice(), room.spans.as_mut_slice())

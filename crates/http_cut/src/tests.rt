@@ -1,2 +1,3 @@
 mod cuts;
 mod replies;
+mod streams;

@@ -1,0 +1,40 @@
+//! Cutting the front of a stream again and again.
+
+ghost use Rattle.std.specs.Prelude.{◌≡◌, IfOk, IfErr};
+ghost use Rattle.http_cut.specs.Requests.{Outcome, IsCut, refuses};
+ghost use Rattle.dots_bench.specs.Fronts.{size_in};
+
+use anyhow::{Result, ensure};
+use http_cut::{Cut, HeadRoom, HttpFault, Stream};
+use std::alloc::Global;
+
+/// A stream of which these bytes came.
+fn stream_of(alloc: Global, bytes: &[u8]) -> Result<Stream> {
+    let mut stream = Stream::new(alloc)?;
+    let count = stream.take(bytes);
+    ensure!(count == bytes.len(), "more bytes than a stream holds");
+    Ok(stream)
+}
+
+/// Cuts two streams that hold the bytes, in turns, so often, and adds up what stands at their fronts.
+pub fn repeat_cut(alloc: Global, copies: [&[u8]; 2], times: u64) -> Result<u64> {
+    let mut room = HeadRoom::new(alloc)?;
+    let streams = [stream_of(alloc, copies[0])?, stream_of(alloc, copies[1])?];
+    let mut sum: u64 = 0;
+    for turn in 0..times {
+        sum = sum.wrapping_add(cut_front(&streams[(turn % 2) as usize], &mut room)?);
+    }
+    Ok(sum)
+}
+
+/// How many bytes the request at the front has; 0 where it isn't there whole.
+fn cut_front(stream: &Stream, room: &mut HeadRoom) -> Result<u64, HttpFault>
+    ensures found { IfOk result (λ size. (outcome : Outcome) × IsCut stream.now outcome × (size ≡ size_in outcome)) }
+    ensures refused { IfErr result (λ fault. IsCut stream.now (refuses fault)) }
+{
+    match stream.cut(room) {
+        Cut::Request(request) => return Ok(request.length as u64),
+        Cut::More => return Ok(0),
+        Cut::Refused(fault) => return Err(fault),
+    }
+}
