@@ -1,6 +1,5 @@
 -- An item beside its tree.
-use Rattle.std.proofs.Common.{◌≡◌, ℕ, zero, suc, List, [], ◌∷◌, length, map, refl, sym, ap, subst, ◌∙◌, rules}
-use Rattle.std.specs.Prelude.{insert}
+use Rattle.std.proofs.Common.{◌≡◌, suc, List, [], ◌∷◌, length, map, refl, sym, ap, subst, ◌∙◌, rules}
 use Rattle.cbor_profile.specs.declared.item.Item.{Item, Array, Map, the_lemmas}
 use Rattle.cbor_profile.specs.declared.item.ItemList.{ItemList, the_lemmas as items_lemmas}
 use Rattle.cbor_profile.specs.declared.item.PairList.{PairList, the_lemmas as pairs_lemmas}
@@ -66,13 +65,3 @@ array_length t u xs ys is js e = sym (count_is xs) ∙ ap argument (sym is) ∙ 
 
 pub map_length : (t u : Tree) (xs ys : List (Item × Item)) → t ≡ mapping (pairs_view xs) → u ≡ mapping (pairs_view ys) → argument t ≡ argument u → length xs ≡ length ys
 map_length t u xs ys is js e = sym (pair_count_is xs) ∙ ap argument (sym is) ∙ e ∙ ap argument js ∙ pair_count_is ys
-
-pub map_insert : {X Y : Type 0} (f : X → Y) (xs : List X) (i : ℕ) (x : X) → map f (insert xs i x) ≡ insert (map f xs) i (f x)
-map_insert f xs zero x = refl
-map_insert f [] (suc i) x = refl
-map_insert f (y ∷ ys) (suc i) x = ap (λ l. f y ∷ l) (map_insert f ys i x)
-
-pub inserted : (old new : PairList) (place : ℕ) (p : Item × Item) → new.items.items ≡ insert old.items.items place p → tree_pairs new ≡ insert (tree_pairs old) place (tree_of p.0, tree_of p.1)
-inserted old new place p is =
-    sym (tree_pairs_are new) ∙ ap (map (λ (q : Item × Item). (tree_of q.0, tree_of q.1))) is ∙ map_insert (λ (q : Item × Item). (tree_of q.0, tree_of q.1)) old.items.items place p
-    ∙ ap (λ (l : List (Tree × Tree)). insert l place (tree_of p.0, tree_of p.1)) (tree_pairs_are old)

@@ -7,16 +7,17 @@ ghost use Rattle.cbor_profile.specs.declared.fault.CborFault.TheVariants.{NoMemo
 ghost use Rattle.cbor_profile.specs.Tree.{Tree, pairs_of};
 ghost use Rattle.cbor_profile.specs.Valid.{IsValid, IsSound, KeysRise};
 ghost use Rattle.cbor_profile.specs.View.{tree_of, trees, tree_pairs, item_read, items_read, pairs_read};
+ghost use Rattle.cbor_profile.specs.Gathering.{gathered, gathered_read, IsGathered};
 ghost use Rattle.cbor_profile.specs.Spelling.{Spells};
 ghost use Rattle.cbor_profile.specs.Breaking.{Refuses};
 ghost use Rattle.cbor_profile.specs.Reading.{Gives, simple, items_at, open_items_at, pair_at, pairs_at, open_pairs_at, array_at, map_at, tag_at, open_array_at, open_map_at, value_at, indefinite_at, item_at, parts_of, whole};
 
 use crate::argument::read_argument;
 use crate::fault::CborFault;
+use crate::gathering::Gathered;
 use crate::head::{BREAK, Major, Start, start_of};
 use crate::head_bytes::{FALSE, TRUE};
 use crate::item::{Item, ItemList, PairList};
-use crate::place::place_of;
 use crate::strings::{read_byte_parts, read_byte_string, read_text, read_text_parts};
 use std::alloc::Global;
 
@@ -276,13 +277,14 @@ fn read_pairs(
     ensures value { Gives pairs_read result (pairs_at (item_at levels end) end count [] bytes.now) }
     ensures shorter { IfOk result (λ read. length read.1.now ≤ length bytes.now) }
 {
-    let mut pairs = PairList::new(alloc);
+    let mut pairs = Gathered::new(alloc);
     let mut rest = bytes;
     for _ in 0..count {
-        let after = read_pair(alloc, end, &mut pairs, rest, levels)?;
+        let (more, after) = read_pair(alloc, end, pairs, rest, levels)?;
+        pairs = more;
         rest = after;
     }
-    Ok((pairs, rest))
+    Ok((pairs.into_list(alloc)?, rest))
 }
 
 #[cycle(reader)]
@@ -312,48 +314,46 @@ fn read_open_pairs(
     ensures value { Gives pairs_read result (open_pairs_at (item_at levels end) (length bytes.now) end [] bytes.now) }
     ensures shorter { IfOk result (λ read. length read.1.now ≤ length bytes.now) }
 {
-    let mut pairs = PairList::new(alloc);
+    let mut pairs = Gathered::new(alloc);
     let mut rest = bytes;
     for _ in 0..bytes.len() {
         let Some((first, behind)) = rest.split_first() else {
             return Err(CborFault::Short { at: end });
         };
         if *first == BREAK {
-            return Ok((pairs, behind));
+            return Ok((pairs.into_list(alloc)?, behind));
         }
-        let after = read_pair(alloc, end, &mut pairs, rest, levels)?;
+        let (more, after) = read_pair(alloc, end, pairs, rest, levels)?;
+        pairs = more;
         rest = after;
     }
     Err(CborFault::Short { at: end })
 }
 
-/// Puts the next pair in its place among those before it, and answers the bytes behind it.
+/// The pairs with the next one, and the bytes behind it.
 #[cycle(reader)]
 #[tactic(auto, unfolding(crate::specs::Reading::pair_at))]
-fn read_pair<'a>(
+fn read_pair(
     alloc: Global,
     end: usize,
-    pairs: &mut PairList,
-    bytes: &'a [u8],
+    pairs: Gathered,
+    bytes: &[u8],
     levels: u8,
-) -> Result<&'a [u8], CborFault>
+) -> Result<(Gathered, &[u8]), CborFault>
     requires within { length bytes.now ≤ end }
-    requires rise { KeysRise (pairs_of (tree_pairs pairs.old)) }
-    requires sound { AllByRecursion (λ p. IsSound p.0) (tree_pairs pairs.old) }
-    ensures value { Gives (λ rest. (tree_pairs pairs.new, rest.now)) result (pair_at (item_at levels end) end (tree_pairs pairs.old) bytes.now) }
-    ensures rise { IfOk result (λ _. KeysRise (pairs_of (tree_pairs pairs.new))) }
-    ensures sound { IfOk result (λ _. AllByRecursion (λ p. IsSound p.0) (tree_pairs pairs.new)) }
-    ensures shorter { IfOk result (λ rest. length rest.now ≤ length bytes.now) }
+    requires gathered { IsGathered pairs }
+    ensures value { Gives gathered_read result (pair_at (item_at levels end) end (gathered pairs) bytes.now) }
+    ensures gathered { IfOk result (λ read. IsGathered read.0) }
+    ensures shorter { IfOk result (λ read. length read.1.now ≤ length bytes.now) }
 {
     let (key, after_key) = read_item(alloc, end, bytes, levels)?;
-    let Some(place) = place_of(pairs.items(), &key) else {
+    let Some(slot) = pairs.slot(alloc, key)? else {
         return Err(CborFault::Duplicate {
             at: end - bytes.len(),
         });
     };
     let (value, rest) = read_item(alloc, end, after_key, levels)?;
-    pairs.insert(place, (key, value))?;
-    Ok(rest)
+    Ok((slot.fill(value)?, rest))
 }
 
 /// The item that the bytes spell, all of them (RFC 8949, section 3). The pairs of a map stand in bytewise order of
