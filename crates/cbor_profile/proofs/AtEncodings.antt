@@ -11,20 +11,20 @@ use Rattle.std.specs.declared.cmp.Ordering.TheVariants.{Less, Equal, Greater}
 use Rattle.std.specs.Cmp.Lexicographic.{slice_cmp}
 use Rattle.cbor_profile.specs.declared.item.Item.{Item}
 use Rattle.cbor_profile.specs.declared.item.PairList.{PairList}
-use Rattle.cbor_profile.specs.declared.gathering.Slot.{Slot}
-use Rattle.cbor_profile.specs.declared.gathering.Slot.TheVariants.{Behind}
+use Rattle.cbor_profile.specs.declared.gathering.Gathered.{Gathered}
+use Rattle.cbor_profile.specs.declared.gathering.Gathered.TheVariants.{Rising}
 use Rattle.cbor_profile.specs.Tree.{Tree, pairs_of}
 use Rattle.cbor_profile.specs.Canon.{canon}
 use Rattle.cbor_profile.specs.Valid.{RiseFrom}
 use Rattle.cbor_profile.specs.View.{tree_of, tree_pairs, pair_of}
 use Rattle.cbor_profile.specs.Reading.{key_order, has_key, put}
-use Rattle.cbor_profile.specs.Gathering.{encoded_pairs, AreEncoded, AllBefore, slot_key, slot_pairs, IsSlot}
+use Rattle.cbor_profile.specs.Gathering.{encoded_pairs, AreEncoded, AllBefore, gathered, IsOpenFor}
 use Rattle.cbor_profile.proofs.Ordered.{order_flip}
 use Rattle.cbor_profile.proofs.Places.{IsGreater, greater_all, greater_none}
 
 -- ---- behind pairs whose keys come before
 
-pub behind_fresh : (k : Tree) (ps : List (Tree × Tree)) → AllBefore k ps → has_key k ps ≡ false
+behind_fresh : (k : Tree) (ps : List (Tree × Tree)) → AllBefore k ps → has_key k ps ≡ false
 behind_fresh k [] all = refl
 behind_fresh k (p ∷ ps) all = ap (λ (o : Ordering). cond (is_eq o) true (has_key k ps)) all.0 ∙ behind_fresh k ps all.1
 
@@ -33,9 +33,12 @@ behind_put k v [] all = refl
 behind_put k v (p ∷ ps) all =
     ap (λ (o : Ordering). cond (is_lt o) (p ∷ put k v ps) ((k, v) ∷ p ∷ ps)) all.0 ∙ ap (λ (l : List (Tree × Tree)). p ∷ l) (behind_put k v ps all.1)
 
-pub behind_filled : (slot : Slot) (list : PairList) (key : Item) (v : Tree) (new : List (Tree × Tree)) → slot ≡ Behind list key → IsSlot slot → new ≡ tree_pairs list ++ (tree_of key, v) ∷ [] → new ≡ put (slot_key slot) v (slot_pairs slot)
-behind_filled slot list key v new is opens pushed =
-    pushed ∙ sym (behind_put (tree_of key) v (tree_pairs list) (subst IsSlot is opens)) ∙ ap (λ (s : Slot). put (slot_key s) v (slot_pairs s)) (sym is)
+pub behind_pushed : (pairs : Gathered) (list : PairList) (k v : Tree) (new : List (Tree × Tree)) → pairs ≡ Rising list → IsOpenFor pairs k → new ≡ tree_pairs list ++ (k, v) ∷ [] → new ≡ put k v (gathered pairs)
+behind_pushed pairs list k v new is opens pushed =
+    pushed ∙ sym (behind_put k v (tree_pairs list) (subst (λ (g : Gathered). IsOpenFor g k) is opens)) ∙ ap (λ (g : Gathered). put k v (gathered g)) (sym is)
+
+pub behind_new : (pairs : Gathered) (list : PairList) (k : Tree) → pairs ≡ Rising list → AllBefore k (tree_pairs list) → has_key k (gathered pairs) ≡ false
+behind_new pairs list k is all = subst (λ (g : Gathered). has_key k (gathered g) ≡ false) (sym is) (behind_fresh k (tree_pairs list) all)
 
 -- ---- in front of pairs whose keys come after
 

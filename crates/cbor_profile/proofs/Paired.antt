@@ -1,14 +1,12 @@
 -- The next pair of a map, read and put in its place.
-use Rattle.std.proofs.Common.{◌≡◌, ℕ, ◌-◌, true, false, List, [], length, Option, Some, Ok, Err, refl, sym, ap, ◌∙◌, subst}
+use Rattle.std.proofs.Common.{◌≡◌, ℕ, ◌-◌, true, false, List, [], length, Ok, Err, refl, sym, ap, ◌∙◌, subst}
 use Rattle.std.specs.List.{AllByRecursion}
-use Rattle.std.specs.Prelude.{IfSome}
 use Rattle.cbor_profile.specs.declared.fault.CborFault.{CborFault}
 use Rattle.cbor_profile.specs.declared.fault.CborFault.TheVariants.{Duplicate}
 use Rattle.cbor_profile.specs.Tree.{Tree, pairs_of}
 use Rattle.cbor_profile.specs.Valid.{IsSound, KeysRise}
 use Rattle.cbor_profile.specs.declared.gathering.Gathered.{Gathered}
-use Rattle.cbor_profile.specs.declared.gathering.Slot.{Slot}
-use Rattle.cbor_profile.specs.Gathering.{gathered, slot_key, slot_pairs, IsGathered, IsKept, IsSlotOf}
+use Rattle.cbor_profile.specs.Gathering.{gathered, IsGathered, IsKept}
 use Rattle.cbor_profile.specs.Reading.{Read, Fails, item_at, pair_at, has_key, put}
 use Rattle.cbor_profile.proofs.Loops.{fails_then}
 use Rattle.cbor_profile.proofs.Ordered.{after_nothing, put_rises}
@@ -39,19 +37,18 @@ pub pair_made : (read : List ℕ → Read Tree) (end : ℕ) (pairs new : List (T
 unfolding pair_at
 pair_made read end pairs new bytes after rest key value good fresh second is = rw (good, fresh, second) (ap (λ (l : List (Tree × Tree)). Ok (l, rest)) (sym is))
 
--- ---- a slot that was found, and filled
+-- ---- one more pair
 
-pub found_slot : (found : Option Slot) (slot : Slot) (pairs : List (Tree × Tree)) (key : Tree) → found ≡ Some slot → IfSome found (IsSlotOf pairs key) → IsSlotOf pairs key slot
-found_slot found slot pairs key is h = subst (λ (o : Option Slot). IfSome o (IsSlotOf pairs key)) is h
+pub same_gathered : (old new : Gathered) → IsGathered old → gathered new ≡ gathered old → IsKept new → IsGathered new
+same_gathered old new before same kept = record {
+  kept = kept;
+  rise = subst (λ (l : List (Tree × Tree)). KeysRise (pairs_of l)) (sym same) before.rise;
+  sound = subst (AllByRecursion (λ p. IsSound p.0)) (sym same) before.sound;
+}
 
-filled_pairs : (pairs new : List (Tree × Tree)) (key value : Tree) (slot : Slot) → IsSlotOf pairs key slot → new ≡ put (slot_key slot) value (slot_pairs slot) → new ≡ put key value pairs
-filled_pairs pairs new key value slot of is = is ∙ ap (λ (k : Tree). put k value (slot_pairs slot)) of.key_is ∙ ap (put key value) of.pairs_are
-
-pub filled_gathered : (old new : Gathered) (key value : Tree) (slot : Slot) → IsGathered old → IsSound key → IsSlotOf (gathered old) key slot → gathered new ≡ put (slot_key slot) value (slot_pairs slot) → IsKept new → IsGathered new
-filled_gathered old new key value slot before sound of is kept =
-    let put_is = filled_pairs (gathered old) (gathered new) key value slot of is in
-    record {
-      kept = kept;
-      rise = subst (λ (l : List (Tree × Tree)). KeysRise (pairs_of l)) (sym put_is) (put_rises [] (gathered old) key value before.rise (after_nothing key) of.fresh);
-      sound = subst (AllByRecursion (λ p. IsSound p.0)) (sym put_is) (put_sound (gathered old) key value before.sound sound);
-    }
+pub put_gathered : (old new : Gathered) (key value : Tree) → IsGathered old → IsSound key → has_key key (gathered old) ≡ false → gathered new ≡ put key value (gathered old) → IsKept new → IsGathered new
+put_gathered old new key value before sound fresh is kept = record {
+  kept = kept;
+  rise = subst (λ (l : List (Tree × Tree)). KeysRise (pairs_of l)) (sym is) (put_rises [] (gathered old) key value before.rise (after_nothing key) fresh);
+  sound = subst (AllByRecursion (λ p. IsSound p.0)) (sym is) (put_sound (gathered old) key value before.sound sound);
+}

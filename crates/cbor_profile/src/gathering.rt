@@ -1,6 +1,6 @@
 //! The pairs of a map while it is read.
 
-ghost use Rattle.std.specs.Prelude.{◌≡◌, [], true, false, map, IfOk, OnOk, IfSome, IfNone};
+ghost use Rattle.std.specs.Prelude.{◌≡◌, [], true, false, map, IfOk, OnOk};
 ghost use Rattle.std.specs.List.{AllByRecursion};
 ghost use Rattle.std.specs.declared.cmp.Ordering.TheVariants.{Less, Equal};
 ghost use Rattle.cbor_profile.specs.Tree.{pairs_of};
@@ -8,7 +8,7 @@ ghost use Rattle.cbor_profile.specs.Canon.{canon};
 ghost use Rattle.cbor_profile.specs.Valid.{IsSound, KeysRise};
 ghost use Rattle.cbor_profile.specs.View.{tree_of, tree_pairs, pair_of};
 ghost use Rattle.cbor_profile.specs.Reading.{has_key, put};
-ghost use Rattle.cbor_profile.specs.Gathering.{encoded_pairs, AreEncoded, gathered, IsGathered, IsKept, AllBefore, IsSlot, IsSlotOf, slot_key, slot_pairs};
+ghost use Rattle.cbor_profile.specs.Gathering.{encoded_pairs, AreEncoded, gathered, IsGathered, IsKept, AllBefore, IsOpenFor};
 
 use crate::item::{Item, PairList};
 use crate::order::compare;
@@ -30,15 +30,6 @@ pub(crate) enum Gathered {
     ByEncoding(EncodedPairs),
 }
 
-/// Where a key goes that none of the pairs has. Its value is still to come.
-#[derive(Drop)]
-pub(crate) enum Slot {
-    /// Behind the pairs.
-    Behind(PairList, Item),
-    /// At the key's encoding.
-    Among(EncodedPairs, Vec<u8>, Item),
-}
-
 impl Gathered {
     /// No pairs. Takes no memory.
     pub(crate) fn new(alloc: Global) -> Self
@@ -48,16 +39,44 @@ impl Gathered {
         Gathered::Rising(PairList::new(alloc))
     }
 
-    /// Where the key goes, or None exactly where one of the pairs has it.
-    pub(crate) fn slot(self, alloc: Global, key: Item) -> Result<Option<Slot>, NoMemory>
-        requires gathered { IsGathered self }
-        requires key_sound { IsSound (tree_of key) }
-        ensures some { IfOk result (λ found. IfSome found (IsSlotOf (gathered self) (tree_of key))) }
-        ensures none { IfOk result (λ found. IfNone found (has_key (tree_of key) (gathered self) ≡ true)) }
+    /// Whether one of the pairs has the key. If none has, a pair with the key can be put among them.
+    pub(crate) fn has_key(&mut self, alloc: Global, key: &Item) -> Result<bool, NoMemory>
+        requires gathered { IsGathered self.old }
+        requires key_sound { IsSound (tree_of key.now) }
+        ensures value { IfOk result (λ found. found ≡ has_key (tree_of key.now) (gathered self.old)) }
+        ensures same { OnOk result (gathered self.new ≡ gathered self.old) }
+        ensures kept { OnOk result (IsKept self.new) }
+        ensures open { IfOk result (λ found. found ≡ false → IsOpenFor self.new (tree_of key.now)) }
     {
         match self {
-            Gathered::Rising(list) => slot_behind(alloc, list, key),
-            Gathered::ByEncoding(pairs) => slot_among(alloc, pairs, key),
+            Gathered::Rising(list) => match compare_to_last(list.items(), key) {
+                Ordering::Less => Ok(false),
+                Ordering::Equal => Ok(true),
+                Ordering::Greater => {
+                    let pairs = by_encoding(alloc, list)?;
+                    let found = is_among(alloc, &pairs, key)?;
+                    *self = Gathered::ByEncoding(pairs);
+                    Ok(found)
+                }
+            },
+            Gathered::ByEncoding(pairs) => is_among(alloc, pairs, key),
+        }
+    }
+
+    /// Puts a pair with a new key in its place.
+    pub(crate) fn put(&mut self, alloc: Global, key: Item, value: Item) -> Result<(), NoMemory>
+        requires kept { IsKept self.old }
+        requires fresh { has_key (tree_of key) (gathered self.old) ≡ false }
+        requires open { IsOpenFor self.old (tree_of key) }
+        ensures pairs { OnOk result (gathered self.new ≡ put (tree_of key) (tree_of value) (gathered self.old)) }
+        ensures kept { OnOk result (IsKept self.new) }
+    {
+        match self {
+            Gathered::Rising(list) => list.push((key, value)),
+            Gathered::ByEncoding(pairs) => {
+                let encoding = encoding_of(alloc, &key)?;
+                insert_pair(pairs, encoding, (key, value))
+            }
         }
     }
 
@@ -68,26 +87,6 @@ impl Gathered {
         match self {
             Gathered::Rising(list) => Ok(list),
             Gathered::ByEncoding(pairs) => list_of(alloc, pairs),
-        }
-    }
-}
-
-impl Slot {
-    /// The pairs with the key and this value.
-    pub(crate) fn fill(self, value: Item) -> Result<Gathered, NoMemory>
-        requires { IsSlot self }
-        ensures pairs { IfOk result (λ filled. gathered filled ≡ put (slot_key self) (tree_of value) (slot_pairs self)) }
-        ensures kept { IfOk result (λ filled. IsKept filled) }
-    {
-        match self {
-            Slot::Behind(mut list, key) => {
-                list.push((key, value))?;
-                Ok(Gathered::Rising(list))
-            }
-            Slot::Among(mut pairs, encoding, key) => {
-                insert_pair(&mut pairs, encoding, (key, value))?;
-                Ok(Gathered::ByEncoding(pairs))
-            }
         }
     }
 }
@@ -108,21 +107,6 @@ fn insert_pair(
     Ok(())
 }
 
-/// The slot of the key where the keys have come in order so far.
-fn slot_behind(alloc: Global, list: PairList, key: Item) -> Result<Option<Slot>, NoMemory>
-    requires rise { KeysRise (pairs_of (tree_pairs list)) }
-    requires sound { AllByRecursion (λ p. IsSound p.0) (tree_pairs list) }
-    requires key_sound { IsSound (tree_of key) }
-    ensures some { IfOk result (λ found. IfSome found (IsSlotOf (tree_pairs list) (tree_of key))) }
-    ensures none { IfOk result (λ found. IfNone found (has_key (tree_of key) (tree_pairs list) ≡ true)) }
-{
-    match compare_to_last(list.items(), &key) {
-        Ordering::Less => Ok(Some(Slot::Behind(list, key))),
-        Ordering::Equal => Ok(None),
-        Ordering::Greater => slot_among(alloc, by_encoding(alloc, list)?, key),
-    }
-}
-
 /// How the last pair's key compares with this one. No key comes before any.
 fn compare_to_last(pairs: &[(Item, Item)], key: &Item) -> Ordering
     requires rise { KeysRise (pairs_of (map pair_of pairs.now)) }
@@ -137,32 +121,27 @@ fn compare_to_last(pairs: &[(Item, Item)], key: &Item) -> Ordering
     }
 }
 
-/// The pairs of a list whose keys rise, each at its key's encoding.
-fn by_encoding(alloc: Global, list: PairList) -> Result<EncodedPairs, NoMemory>
-    requires { KeysRise (pairs_of (tree_pairs list)) }
-    ensures pairs { IfOk result (λ pairs. encoded_pairs pairs.entries ≡ tree_pairs list) }
+/// Takes the pairs of a list, whose keys rise, and keeps each at its key's encoding.
+fn by_encoding(alloc: Global, list: &mut PairList) -> Result<EncodedPairs, NoMemory>
+    requires { KeysRise (pairs_of (tree_pairs list.old)) }
+    ensures pairs { IfOk result (λ pairs. encoded_pairs pairs.entries ≡ tree_pairs list.old) }
     ensures kept { IfOk result (λ pairs. AreEncoded pairs.entries) }
 {
-    let mut items = list.items;
     let mut pairs = BTreeMap::new(alloc);
-    while let Some(pair) = items.pop() {
+    while let Some(pair) = list.items.pop() {
         let encoding = encoding_of(alloc, &pair.0)?;
         insert_pair(&mut pairs, encoding, pair)?;
     }
     Ok(pairs)
 }
 
-/// The slot of the key at its encoding.
-fn slot_among(alloc: Global, pairs: EncodedPairs, key: Item) -> Result<Option<Slot>, NoMemory>
-    requires kept { AreEncoded pairs.entries }
-    ensures some { IfOk result (λ found. IfSome found (IsSlotOf (encoded_pairs pairs.entries) (tree_of key))) }
-    ensures none { IfOk result (λ found. IfNone found (has_key (tree_of key) (encoded_pairs pairs.entries) ≡ true)) }
+/// Whether one of the pairs has the key.
+fn is_among(alloc: Global, pairs: &EncodedPairs, key: &Item) -> Result<bool, NoMemory>
+    requires kept { AreEncoded pairs.now.entries }
+    ensures { IfOk result (λ found. found ≡ has_key (tree_of key.now) (encoded_pairs pairs.now.entries)) }
 {
-    let encoding = encoding_of(alloc, &key)?;
-    if pairs.contains_key(encoding.as_slice()) {
-        return Ok(None);
-    }
-    Ok(Some(Slot::Among(pairs, encoding, key)))
+    let encoding = encoding_of(alloc, key)?;
+    Ok(pairs.contains_key(encoding.as_slice()))
 }
 
 /// The deterministic encoding of a key.

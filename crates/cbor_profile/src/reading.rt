@@ -1,13 +1,13 @@
 //! Reading an item from any of its spellings.
 
-ghost use Rattle.std.specs.Prelude.{◌≡◌, ◌≢◌, ◌≤◌, ◌<◌, ◌+◌, ◌^◌, ◌⊎◌, ℕ, List, [], length, map, IfOk, IfErr, Ok, Err, Some};
+ghost use Rattle.std.specs.Prelude.{◌≡◌, ◌≢◌, ◌≤◌, ◌<◌, ◌+◌, ◌^◌, ◌⊎◌, ℕ, List, [], length, map, IfOk, OnOk, IfErr, Ok, Err, Some};
 ghost use Rattle.std.specs.List.{AllByRecursion};
 ghost use Rattle.cbor_profile.specs.declared.fault.CborFault.{CborFault};
 ghost use Rattle.cbor_profile.specs.declared.fault.CborFault.TheVariants.{NoMemory};
 ghost use Rattle.cbor_profile.specs.Tree.{Tree, pairs_of};
 ghost use Rattle.cbor_profile.specs.Valid.{IsValid, IsSound, KeysRise};
 ghost use Rattle.cbor_profile.specs.View.{tree_of, trees, tree_pairs, item_read, items_read, pairs_read};
-ghost use Rattle.cbor_profile.specs.Gathering.{gathered, gathered_read, IsGathered};
+ghost use Rattle.cbor_profile.specs.Gathering.{gathered, IsGathered};
 ghost use Rattle.cbor_profile.specs.Spelling.{Spells};
 ghost use Rattle.cbor_profile.specs.Breaking.{Refuses};
 ghost use Rattle.cbor_profile.specs.Reading.{Gives, simple, items_at, open_items_at, pair_at, pairs_at, open_pairs_at, array_at, map_at, tag_at, open_array_at, open_map_at, value_at, indefinite_at, item_at, parts_of, whole};
@@ -280,8 +280,7 @@ fn read_pairs(
     let mut pairs = Gathered::new(alloc);
     let mut rest = bytes;
     for _ in 0..count {
-        let (more, after) = read_pair(alloc, end, pairs, rest, levels)?;
-        pairs = more;
+        let after = read_pair(alloc, end, &mut pairs, rest, levels)?;
         rest = after;
     }
     Ok((pairs.into_list(alloc)?, rest))
@@ -323,37 +322,37 @@ fn read_open_pairs(
         if *first == BREAK {
             return Ok((pairs.into_list(alloc)?, behind));
         }
-        let (more, after) = read_pair(alloc, end, pairs, rest, levels)?;
-        pairs = more;
+        let after = read_pair(alloc, end, &mut pairs, rest, levels)?;
         rest = after;
     }
     Err(CborFault::Short { at: end })
 }
 
-/// The pairs with the next one, and the bytes behind it.
+/// Puts the next pair in its place among those before it, and answers the bytes behind it.
 #[cycle(reader)]
 #[tactic(auto, unfolding(crate::specs::Reading::pair_at))]
-fn read_pair(
+fn read_pair<'a>(
     alloc: Global,
     end: usize,
-    pairs: Gathered,
-    bytes: &[u8],
+    pairs: &mut Gathered,
+    bytes: &'a [u8],
     levels: u8,
-) -> Result<(Gathered, &[u8]), CborFault>
+) -> Result<&'a [u8], CborFault>
     requires within { length bytes.now ≤ end }
-    requires gathered { IsGathered pairs }
-    ensures value { Gives gathered_read result (pair_at (item_at levels end) end (gathered pairs) bytes.now) }
-    ensures gathered { IfOk result (λ read. IsGathered read.0) }
-    ensures shorter { IfOk result (λ read. length read.1.now ≤ length bytes.now) }
+    requires gathered { IsGathered pairs.old }
+    ensures value { Gives (λ rest. (gathered pairs.new, rest.now)) result (pair_at (item_at levels end) end (gathered pairs.old) bytes.now) }
+    ensures gathered { OnOk result (IsGathered pairs.new) }
+    ensures shorter { IfOk result (λ rest. length rest.now ≤ length bytes.now) }
 {
     let (key, after_key) = read_item(alloc, end, bytes, levels)?;
-    let Some(slot) = pairs.slot(alloc, key)? else {
+    if pairs.has_key(alloc, &key)? {
         return Err(CborFault::Duplicate {
             at: end - bytes.len(),
         });
-    };
+    }
     let (value, rest) = read_item(alloc, end, after_key, levels)?;
-    Ok((slot.fill(value)?, rest))
+    pairs.put(alloc, key, value)?;
+    Ok(rest)
 }
 
 /// The item that the bytes spell, all of them (RFC 8949, section 3). The pairs of a map stand in bytewise order of
