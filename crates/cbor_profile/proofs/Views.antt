@@ -4,8 +4,7 @@ use Rattle.cbor_profile.specs.declared.item.Item.{Item, Array, Map, the_lemmas}
 use Rattle.cbor_profile.specs.declared.item.ItemList.{ItemList, the_lemmas as items_lemmas}
 use Rattle.cbor_profile.specs.declared.item.PairList.{PairList, the_lemmas as pairs_lemmas}
 use Rattle.cbor_profile.specs.Tree.{Tree, Trees, Pairs, array, mapping, count, pair_count}
-use Rattle.cbor_profile.specs.Head.{head}
-use Rattle.cbor_profile.specs.Parts.{number_of, major, argument}
+use Rattle.cbor_profile.specs.Parts.{argument}
 use Rattle.cbor_profile.specs.Valid.{IsSound, AreSound, ArePairsSound}
 use Rattle.cbor_profile.specs.View.{tree_of, trees, tree_pairs, items_of, pairs_of}
 
@@ -42,11 +41,11 @@ array_is it list xs is same = ap tree_of is ∙ tree_of-Array list ∙ ap (λ (t
 pub map_is : (it : Item) (list : PairList) (xs : List (Item × Item)) → it ≡ Map list → map (λ p. (tree_of p.0, tree_of p.1)) xs ≡ tree_pairs list → tree_of it ≡ mapping (pairs_view xs)
 map_is it list xs is same = ap tree_of is ∙ tree_of-Map list ∙ ap (λ (ps : List (Tree × Tree)). mapping (pairs_of ps)) (sym same)
 
-pub array_head : (t : Tree) (xs : List Item) → t ≡ array (items_view xs) → head 4 (length xs) ≡ head (number_of (major t)) (argument t)
-array_head t xs is = ap (head 4) (sym (count_is xs)) ∙ ap (λ (u : Tree). head (number_of (major u)) (argument u)) (sym is)
+pub array_argument : (t : Tree) (xs : List Item) → t ≡ array (items_view xs) → length xs ≡ argument t
+array_argument t xs is = sym (count_is xs) ∙ ap argument (sym is)
 
-pub map_head : (t : Tree) (xs : List (Item × Item)) → t ≡ mapping (pairs_view xs) → head 5 (length xs) ≡ head (number_of (major t)) (argument t)
-map_head t xs is = ap (head 5) (sym (pair_count_is xs)) ∙ ap (λ (u : Tree). head (number_of (major u)) (argument u)) (sym is)
+pub map_argument : (t : Tree) (xs : List (Item × Item)) → t ≡ mapping (pairs_view xs) → length xs ≡ argument t
+map_argument t xs is = sym (pair_count_is xs) ∙ ap argument (sym is)
 
 pub items_are : (list : ItemList) (xs : List Item) → xs ≡ list.items.items → map tree_of xs ≡ trees list
 items_are list xs is = ap (map tree_of) is ∙ trees_are list
