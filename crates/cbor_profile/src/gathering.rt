@@ -92,6 +92,8 @@ impl Gathered {
 }
 
 /// Puts a pair whose key is new at its key's encoding.
+#[cold]
+#[inline(never)]
 fn insert_pair(
     pairs: &mut EncodedPairs,
     encoding: Vec<u8>,
@@ -122,6 +124,8 @@ fn compare_to_last(pairs: &[(Item, Item)], key: &Item) -> Ordering
 }
 
 /// Takes the pairs of a list, whose keys rise, and keeps each at its key's encoding.
+#[cold]
+#[inline(never)]
 fn by_encoding(alloc: Global, list: &mut PairList) -> Result<EncodedPairs, NoMemory>
     requires { KeysRise (pairs_of (tree_pairs list.old)) }
     ensures pairs { IfOk result (λ pairs. encoded_pairs pairs.entries ≡ tree_pairs list.old) }
@@ -136,6 +140,8 @@ fn by_encoding(alloc: Global, list: &mut PairList) -> Result<EncodedPairs, NoMem
 }
 
 /// Whether one of the pairs has the key.
+#[cold]
+#[inline(never)]
 fn is_among(alloc: Global, pairs: &EncodedPairs, key: &Item) -> Result<bool, NoMemory>
     requires kept { AreEncoded pairs.now.entries }
     ensures { IfOk result (λ found. found ≡ has_key (tree_of key.now) (encoded_pairs pairs.now.entries)) }
@@ -154,6 +160,8 @@ fn encoding_of(alloc: Global, key: &Item) -> Result<Vec<u8>, NoMemory>
 }
 
 /// The list of the pairs, in the order of their encodings.
+#[cold]
+#[inline(never)]
 fn list_of(alloc: Global, pairs: EncodedPairs) -> Result<PairList, NoMemory>
     ensures { IfOk result (λ list. tree_pairs list ≡ encoded_pairs pairs.entries) }
 {
