@@ -1,4 +1,5 @@
-//! The pairs of a map while it is read.
+//! The pairs of a map while it is read. Senders mostly put them in the order of their keys, so what another order
+//! needs is marked as cold.
 
 ghost use Rattle.std.specs.Prelude.{◌≡◌, [], true, false, map, IfOk, OnOk};
 ghost use Rattle.std.specs.List.{AllByRecursion};
