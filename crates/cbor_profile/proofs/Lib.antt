@@ -1,4 +1,5 @@
 pub mod Again
+pub mod AtEncodings
 pub mod Beginnings
 pub mod Broken
 pub mod Compared

@@ -1,13 +1,12 @@
 -- The next pair of a map, read and put in its place.
-use Rattle.std.proofs.Common.{◌≡◌, ℕ, ◌-◌, ◌≤◌, true, false, List, [], length, map, Ok, Err, refl, sym, ap, ◌∙◌, subst}
+use Rattle.std.proofs.Common.{◌≡◌, ℕ, ◌-◌, true, false, List, [], length, Ok, Err, refl, sym, ap, subst}
 use Rattle.std.specs.List.{AllByRecursion}
-use Rattle.std.specs.Prelude.{insert}
 use Rattle.cbor_profile.specs.declared.fault.CborFault.{CborFault}
 use Rattle.cbor_profile.specs.declared.fault.CborFault.TheVariants.{Duplicate}
 use Rattle.cbor_profile.specs.Tree.{Tree, pairs_of}
 use Rattle.cbor_profile.specs.Valid.{IsSound, KeysRise}
-use Rattle.cbor_profile.specs.View.{pair_of}
-use Rattle.cbor_profile.specs.declared.item.Item.{Item}
+use Rattle.cbor_profile.specs.declared.gathering.Gathered.{Gathered}
+use Rattle.cbor_profile.specs.Gathering.{gathered, IsGathered, IsKept}
 use Rattle.cbor_profile.specs.Reading.{Read, Fails, item_at, pair_at, has_key, put}
 use Rattle.cbor_profile.proofs.Loops.{fails_then}
 use Rattle.cbor_profile.proofs.Ordered.{after_nothing, put_rises}
@@ -33,20 +32,23 @@ pub value_fails : (e : CborFault) (read : List ℕ → Read Tree) (end : ℕ) (p
 unfolding pair_at
 value_fails e read end pairs bytes after key good fresh h = fails_then e (read after) (pair_at read end pairs bytes) (λ f bad. rw (good, fresh, bad) refl) h
 
-pub pair_made : (read : List ℕ → Read Tree) (end place : ℕ) (pairs new : List (Tree × Tree)) (bytes after rest : List ℕ) (key value : Tree) → read bytes ≡ Ok (key, after) → has_key key pairs ≡ false → read after ≡ Ok (value, rest)
-    → new ≡ insert pairs place (key, value) → put key value pairs ≡ insert pairs place (key, value) → pair_at read end pairs bytes ≡ Ok (new, rest)
+pub pair_made : (read : List ℕ → Read Tree) (end : ℕ) (pairs new : List (Tree × Tree)) (bytes after rest : List ℕ) (key value : Tree) → read bytes ≡ Ok (key, after) → has_key key pairs ≡ false → read after ≡ Ok (value, rest)
+    → new ≡ put key value pairs → pair_at read end pairs bytes ≡ Ok (new, rest)
 unfolding pair_at
-pair_made read end place pairs new bytes after rest key value good fresh second is put_is = rw (good, fresh, second) (ap (λ (l : List (Tree × Tree)). Ok (l, rest)) (put_is ∙ sym is))
+pair_made read end pairs new bytes after rest key value good fresh second is = rw (good, fresh, second) (ap (λ (l : List (Tree × Tree)). Ok (l, rest)) (sym is))
 
-pub new_rises : (place : ℕ) (pairs new : List (Tree × Tree)) (key value : Tree) → KeysRise (pairs_of pairs) → has_key key pairs ≡ false → new ≡ insert pairs place (key, value) → put key value pairs ≡ insert pairs place (key, value) → KeysRise (pairs_of new)
-new_rises place pairs new key value rise fresh is put_is = subst (λ (l : List (Tree × Tree)). KeysRise (pairs_of l)) (put_is ∙ sym is) (put_rises [] pairs key value rise (after_nothing key) fresh)
+-- ---- one more pair
 
-pub new_sound : (place : ℕ) (pairs new : List (Tree × Tree)) (key value : Tree) → AllByRecursion (λ p. IsSound p.0) pairs → IsSound key → new ≡ insert pairs place (key, value) → put key value pairs ≡ insert pairs place (key, value)
-    → AllByRecursion (λ p. IsSound p.0) new
-new_sound place pairs new key value all sound is put_is = subst (AllByRecursion (λ p. IsSound p.0)) (put_is ∙ sym is) (put_sound pairs key value all sound)
+pub same_gathered : (old new : Gathered) → IsGathered old → gathered new ≡ gathered old → IsKept new → IsGathered new
+same_gathered old new before same kept = record {
+  kept = kept;
+  rise = subst (λ (l : List (Tree × Tree)). KeysRise (pairs_of l)) (sym same) before.rise;
+  sound = subst (AllByRecursion (λ p. IsSound p.0)) (sym same) before.sound;
+}
 
--- the place among the items is that among their trees
-pub placed : (xs : List (Item × Item)) (pairs : List (Tree × Tree)) (place : ℕ) (k v : Tree) → map pair_of xs ≡ pairs
-    → (place ≤ length xs) × (has_key k (map pair_of xs) ≡ false) × ((value : Tree) → put k value (map pair_of xs) ≡ insert (map pair_of xs) place (k, value))
-    → (has_key k pairs ≡ false) × (put k v pairs ≡ insert pairs place (k, v))
-placed xs pairs place k v same h = subst (λ (ps : List (Tree × Tree)). (has_key k ps ≡ false) × (put k v ps ≡ insert ps place (k, v))) same (h.1, h.2 v)
+pub put_gathered : (old new : Gathered) (key value : Tree) → IsGathered old → IsSound key → has_key key (gathered old) ≡ false → gathered new ≡ put key value (gathered old) → IsKept new → IsGathered new
+put_gathered old new key value before sound fresh is kept = record {
+  kept = kept;
+  rise = subst (λ (l : List (Tree × Tree)). KeysRise (pairs_of l)) (sym is) (put_rises [] (gathered old) key value before.rise (after_nothing key) fresh);
+  sound = subst (AllByRecursion (λ p. IsSound p.0)) (sym is) (put_sound (gathered old) key value before.sound sound);
+}

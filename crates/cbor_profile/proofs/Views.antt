@@ -1,12 +1,10 @@
 -- An item beside its tree.
-use Rattle.std.proofs.Common.{◌≡◌, ℕ, zero, suc, List, [], ◌∷◌, length, map, refl, sym, ap, subst, ◌∙◌, rules}
-use Rattle.std.specs.Prelude.{insert}
+use Rattle.std.proofs.Common.{◌≡◌, suc, List, [], ◌∷◌, length, map, refl, sym, ap, subst, ◌∙◌, rules}
 use Rattle.cbor_profile.specs.declared.item.Item.{Item, Array, Map, the_lemmas}
 use Rattle.cbor_profile.specs.declared.item.ItemList.{ItemList, the_lemmas as items_lemmas}
 use Rattle.cbor_profile.specs.declared.item.PairList.{PairList, the_lemmas as pairs_lemmas}
 use Rattle.cbor_profile.specs.Tree.{Tree, Trees, Pairs, array, mapping, count, pair_count}
-use Rattle.cbor_profile.specs.Head.{head}
-use Rattle.cbor_profile.specs.Parts.{number_of, major, argument}
+use Rattle.cbor_profile.specs.Parts.{argument}
 use Rattle.cbor_profile.specs.Valid.{IsSound, AreSound, ArePairsSound}
 use Rattle.cbor_profile.specs.View.{tree_of, trees, tree_pairs, items_of, pairs_of}
 
@@ -43,11 +41,11 @@ array_is it list xs is same = ap tree_of is ∙ tree_of-Array list ∙ ap (λ (t
 pub map_is : (it : Item) (list : PairList) (xs : List (Item × Item)) → it ≡ Map list → map (λ p. (tree_of p.0, tree_of p.1)) xs ≡ tree_pairs list → tree_of it ≡ mapping (pairs_view xs)
 map_is it list xs is same = ap tree_of is ∙ tree_of-Map list ∙ ap (λ (ps : List (Tree × Tree)). mapping (pairs_of ps)) (sym same)
 
-pub array_head : (t : Tree) (xs : List Item) → t ≡ array (items_view xs) → head 4 (length xs) ≡ head (number_of (major t)) (argument t)
-array_head t xs is = ap (head 4) (sym (count_is xs)) ∙ ap (λ (u : Tree). head (number_of (major u)) (argument u)) (sym is)
+pub array_argument : (t : Tree) (xs : List Item) → t ≡ array (items_view xs) → length xs ≡ argument t
+array_argument t xs is = sym (count_is xs) ∙ ap argument (sym is)
 
-pub map_head : (t : Tree) (xs : List (Item × Item)) → t ≡ mapping (pairs_view xs) → head 5 (length xs) ≡ head (number_of (major t)) (argument t)
-map_head t xs is = ap (head 5) (sym (pair_count_is xs)) ∙ ap (λ (u : Tree). head (number_of (major u)) (argument u)) (sym is)
+pub map_argument : (t : Tree) (xs : List (Item × Item)) → t ≡ mapping (pairs_view xs) → length xs ≡ argument t
+map_argument t xs is = sym (pair_count_is xs) ∙ ap argument (sym is)
 
 pub items_are : (list : ItemList) (xs : List Item) → xs ≡ list.items.items → map tree_of xs ≡ trees list
 items_are list xs is = ap (map tree_of) is ∙ trees_are list
@@ -66,13 +64,3 @@ array_length t u xs ys is js e = sym (count_is xs) ∙ ap argument (sym is) ∙ 
 
 pub map_length : (t u : Tree) (xs ys : List (Item × Item)) → t ≡ mapping (pairs_view xs) → u ≡ mapping (pairs_view ys) → argument t ≡ argument u → length xs ≡ length ys
 map_length t u xs ys is js e = sym (pair_count_is xs) ∙ ap argument (sym is) ∙ e ∙ ap argument js ∙ pair_count_is ys
-
-pub map_insert : {X Y : Type 0} (f : X → Y) (xs : List X) (i : ℕ) (x : X) → map f (insert xs i x) ≡ insert (map f xs) i (f x)
-map_insert f xs zero x = refl
-map_insert f [] (suc i) x = refl
-map_insert f (y ∷ ys) (suc i) x = ap (λ l. f y ∷ l) (map_insert f ys i x)
-
-pub inserted : (old new : PairList) (place : ℕ) (p : Item × Item) → new.items.items ≡ insert old.items.items place p → tree_pairs new ≡ insert (tree_pairs old) place (tree_of p.0, tree_of p.1)
-inserted old new place p is =
-    sym (tree_pairs_are new) ∙ ap (map (λ (q : Item × Item). (tree_of q.0, tree_of q.1))) is ∙ map_insert (λ (q : Item × Item). (tree_of q.0, tree_of q.1)) old.items.items place p
-    ∙ ap (λ (l : List (Tree × Tree)). insert l place (tree_of p.0, tree_of p.1)) (tree_pairs_are old)

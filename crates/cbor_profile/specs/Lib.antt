@@ -1,5 +1,7 @@
 pub mod Breaking
 pub mod Canon
+pub mod FaultText
+pub mod Gathering
 pub mod Head
 pub mod Kind
 pub mod Parts

@@ -1,3 +1,6 @@
+ghost use Rattle.std.specs.Prelude.{◌≡◌};
+ghost use Rattle.cbor_profile.specs.FaultText.{fault_place, fault_words};
+
 use dots_lists::NoMemory;
 use std::alloc::{AllocError, AllocFailed};
 use std::error::Error;
@@ -26,7 +29,9 @@ pub enum CborFault {
 }
 
 impl CborFault {
-    fn words(&self) -> &'static str {
+    fn words(&self) -> &'static str
+        ensures { result.now ≡ fault_words self.now }
+    {
         match self {
             CborFault::Short { .. } => "the input ends inside the item",
             CborFault::Reserved { .. } => "a byte that means nothing",
@@ -39,7 +44,9 @@ impl CborFault {
         }
     }
 
-    fn place(&self) -> Option<usize> {
+    fn place(&self) -> Option<usize>
+        ensures { result ≡ fault_place self.now }
+    {
         match *self {
             CborFault::Short { at }
             | CborFault::Reserved { at }
@@ -54,6 +61,11 @@ impl CborFault {
 }
 
 impl fmt::Display for CborFault {
+    ghost use Rattle.std.specs.Prelude.{Some};
+    ghost use Rattle.cbor_profile.specs.FaultText.{fault_text};
+
+    ghost output = { λ fault. Some (fault_text fault) };
+
     fn fmt<W: fmt::Write>(&self, f: &mut fmt::Formatter<W>) -> fmt::Result {
         match self.place() {
             Some(at) => write!(f, "{} at {}", self.words(), at),

@@ -1,4 +1,4 @@
-ghost use Rattle.std.specs.Prelude.{◌≡◌, ◌≤◌, [], ◌∷◌, ◌++◌, length, insert, OnOk, OnErr, map, option_map};
+ghost use Rattle.std.specs.Prelude.{◌≡◌, [], ◌∷◌, ◌++◌, OnOk, OnErr, map, option_map};
 ghost use Rattle.cbor_profile.specs.Kind.{number_in, text_in, items_in, pairs_in};
 ghost use Rattle.cbor_profile.specs.View.{tree_of, trees, tree_pairs, items_of, pairs_of};
 
@@ -125,16 +125,6 @@ impl PairList {
         ensures err { OnErr result (tree_pairs self.new ≡ tree_pairs self.old) }
     {
         self.items.push(pair)?;
-        Ok(())
-    }
-
-    /// Inserts a pair in front of that at the place.
-    pub(crate) fn insert(&mut self, place: usize, pair: (Item, Item)) -> Result<(), NoMemory>
-        requires { place ≤ length (tree_pairs self.old) }
-        ensures ok { OnOk result (tree_pairs self.new ≡ insert (tree_pairs self.old) place (tree_of pair.0, tree_of pair.1)) }
-        ensures err { OnErr result (tree_pairs self.new ≡ tree_pairs self.old) }
-    {
-        self.items.insert(place, pair)?;
         Ok(())
     }
 }

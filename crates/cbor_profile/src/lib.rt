@@ -3,12 +3,12 @@
 
 mod argument;
 mod fault;
+mod gathering;
 mod head;
 mod head_bytes;
 mod item;
 mod law;
 mod order;
-mod place;
 mod reading;
 mod strings;
 mod validity;

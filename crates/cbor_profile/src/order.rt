@@ -1,6 +1,6 @@
 //! The bytewise order of the deterministic encodings of items.
 
-ghost use Rattle.std.specs.Prelude.{◌≡◌, length, map};
+ghost use Rattle.std.specs.Prelude.{◌≡◌, ◌<◌, ◌+◌, ◌*◌, length, map};
 ghost use Rattle.std.specs.Ordering.{nat_cmp};
 ghost use Rattle.std.specs.Cmp.Lexicographic.{slice_cmp};
 ghost use Rattle.cbor_profile.specs.Head.{head};
@@ -32,25 +32,41 @@ fn compare_heads(left: &Item, right: &Item) -> Ordering
         (head (number_of (major (tree_of left.now))) (argument (tree_of left.now)))
         (head (number_of (major (tree_of right.now))) (argument (tree_of right.now))) }
 {
-    let left = head_bytes(left);
-    let right = head_bytes(right);
+    let (left_major, left_argument) = head_of(left);
+    let (right_major, right_argument) = head_of(right);
+    if left_argument < 24 && right_argument < 24 {
+        let left = short_head(left_major, left_argument);
+        return left.cmp(&short_head(right_major, right_argument));
+    }
+    let left = HeadBytes::new(left_major, left_argument);
+    let right = HeadBytes::new(right_major, right_argument);
     left.as_slice().cmp(right.as_slice())
 }
 
-fn head_bytes(item: &Item) -> HeadBytes
-    ensures { result ≡ head (number_of (major (tree_of item.now))) (argument (tree_of item.now)) }
+/// The head of an argument that the initial byte holds itself (RFC 8949, section 3).
+fn short_head(major: Major, argument: u64) -> u8
+    requires { argument < 24 }
+    ensures { result ≡ 32 * number_of major + argument }
+{
+    32 * major.number() + argument as u8
+}
+
+/// The major type and the argument of an item's encoding.
+fn head_of(item: &Item) -> (Major, u64)
+    ensures kind { result.0 ≡ major (tree_of item.now) }
+    ensures number { result.1 ≡ argument (tree_of item.now) }
 {
     match item {
-        Item::Unsigned(number) => HeadBytes::new(Major::Unsigned, *number),
-        Item::Negative(number) => HeadBytes::new(Major::Negative, *number),
-        Item::Bytes(bytes) => HeadBytes::new(Major::Bytes, bytes.items().len() as u64),
-        Item::Text(text) => HeadBytes::new(Major::Text, text.bytes().len() as u64),
-        Item::Array(list) => HeadBytes::new(Major::Array, list.items().len() as u64),
-        Item::Map(list) => HeadBytes::new(Major::Map, list.items().len() as u64),
-        Item::Tag(number, _) => HeadBytes::new(Major::Tag, *number),
-        Item::Bool(false) => HeadBytes::new(Major::Simple, FALSE),
-        Item::Bool(true) => HeadBytes::new(Major::Simple, TRUE),
-        Item::Null => HeadBytes::new(Major::Simple, NULL),
+        Item::Unsigned(number) => (Major::Unsigned, *number),
+        Item::Negative(number) => (Major::Negative, *number),
+        Item::Bytes(bytes) => (Major::Bytes, bytes.items().len() as u64),
+        Item::Text(text) => (Major::Text, text.bytes().len() as u64),
+        Item::Array(list) => (Major::Array, list.items().len() as u64),
+        Item::Map(list) => (Major::Map, list.items().len() as u64),
+        Item::Tag(number, _) => (Major::Tag, *number),
+        Item::Bool(false) => (Major::Simple, FALSE),
+        Item::Bool(true) => (Major::Simple, TRUE),
+        Item::Null => (Major::Simple, NULL),
     }
 }
 

@@ -1,22 +1,23 @@
 //! Reading an item from any of its spellings.
 
-ghost use Rattle.std.specs.Prelude.{◌≡◌, ◌≢◌, ◌≤◌, ◌<◌, ◌+◌, ◌^◌, ◌⊎◌, ℕ, List, [], length, map, IfOk, IfErr, Ok, Err, Some};
+ghost use Rattle.std.specs.Prelude.{◌≡◌, ◌≢◌, ◌≤◌, ◌<◌, ◌+◌, ◌^◌, ◌⊎◌, ℕ, List, [], length, map, IfOk, OnOk, IfErr, Ok, Err, Some};
 ghost use Rattle.std.specs.List.{AllByRecursion};
 ghost use Rattle.cbor_profile.specs.declared.fault.CborFault.{CborFault};
 ghost use Rattle.cbor_profile.specs.declared.fault.CborFault.TheVariants.{NoMemory};
 ghost use Rattle.cbor_profile.specs.Tree.{Tree, pairs_of};
 ghost use Rattle.cbor_profile.specs.Valid.{IsValid, IsSound, KeysRise};
 ghost use Rattle.cbor_profile.specs.View.{tree_of, trees, tree_pairs, item_read, items_read, pairs_read};
+ghost use Rattle.cbor_profile.specs.Gathering.{gathered, IsGathered};
 ghost use Rattle.cbor_profile.specs.Spelling.{Spells};
 ghost use Rattle.cbor_profile.specs.Breaking.{Refuses};
 ghost use Rattle.cbor_profile.specs.Reading.{Gives, simple, items_at, open_items_at, pair_at, pairs_at, open_pairs_at, array_at, map_at, tag_at, open_array_at, open_map_at, value_at, indefinite_at, item_at, parts_of, whole};
 
 use crate::argument::read_argument;
 use crate::fault::CborFault;
+use crate::gathering::Gathered;
 use crate::head::{BREAK, Major, Start, start_of};
 use crate::head_bytes::{FALSE, TRUE};
 use crate::item::{Item, ItemList, PairList};
-use crate::place::place_of;
 use crate::strings::{read_byte_parts, read_byte_string, read_text, read_text_parts};
 use std::alloc::Global;
 
@@ -276,13 +277,13 @@ fn read_pairs(
     ensures value { Gives pairs_read result (pairs_at (item_at levels end) end count [] bytes.now) }
     ensures shorter { IfOk result (λ read. length read.1.now ≤ length bytes.now) }
 {
-    let mut pairs = PairList::new(alloc);
+    let mut pairs = Gathered::new(alloc);
     let mut rest = bytes;
     for _ in 0..count {
         let after = read_pair(alloc, end, &mut pairs, rest, levels)?;
         rest = after;
     }
-    Ok((pairs, rest))
+    Ok((pairs.into_list(alloc)?, rest))
 }
 
 #[cycle(reader)]
@@ -312,14 +313,14 @@ fn read_open_pairs(
     ensures value { Gives pairs_read result (open_pairs_at (item_at levels end) (length bytes.now) end [] bytes.now) }
     ensures shorter { IfOk result (λ read. length read.1.now ≤ length bytes.now) }
 {
-    let mut pairs = PairList::new(alloc);
+    let mut pairs = Gathered::new(alloc);
     let mut rest = bytes;
     for _ in 0..bytes.len() {
         let Some((first, behind)) = rest.split_first() else {
             return Err(CborFault::Short { at: end });
         };
         if *first == BREAK {
-            return Ok((pairs, behind));
+            return Ok((pairs.into_list(alloc)?, behind));
         }
         let after = read_pair(alloc, end, &mut pairs, rest, levels)?;
         rest = after;
@@ -333,26 +334,24 @@ fn read_open_pairs(
 fn read_pair<'a>(
     alloc: Global,
     end: usize,
-    pairs: &mut PairList,
+    pairs: &mut Gathered,
     bytes: &'a [u8],
     levels: u8,
 ) -> Result<&'a [u8], CborFault>
     requires within { length bytes.now ≤ end }
-    requires rise { KeysRise (pairs_of (tree_pairs pairs.old)) }
-    requires sound { AllByRecursion (λ p. IsSound p.0) (tree_pairs pairs.old) }
-    ensures value { Gives (λ rest. (tree_pairs pairs.new, rest.now)) result (pair_at (item_at levels end) end (tree_pairs pairs.old) bytes.now) }
-    ensures rise { IfOk result (λ _. KeysRise (pairs_of (tree_pairs pairs.new))) }
-    ensures sound { IfOk result (λ _. AllByRecursion (λ p. IsSound p.0) (tree_pairs pairs.new)) }
+    requires gathered { IsGathered pairs.old }
+    ensures value { Gives (λ rest. (gathered pairs.new, rest.now)) result (pair_at (item_at levels end) end (gathered pairs.old) bytes.now) }
+    ensures gathered { OnOk result (IsGathered pairs.new) }
     ensures shorter { IfOk result (λ rest. length rest.now ≤ length bytes.now) }
 {
     let (key, after_key) = read_item(alloc, end, bytes, levels)?;
-    let Some(place) = place_of(pairs.items(), &key) else {
+    if pairs.has_key(alloc, &key)? {
         return Err(CborFault::Duplicate {
             at: end - bytes.len(),
         });
-    };
+    }
     let (value, rest) = read_item(alloc, end, after_key, levels)?;
-    pairs.insert(place, (key, value))?;
+    pairs.put(alloc, key, value)?;
     Ok(rest)
 }
 

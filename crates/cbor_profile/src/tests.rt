@@ -19,7 +19,7 @@ const FILTER: &[u8] = b"\xa1\x01\xa1\x02\x81\xa2\x06\x81\x6c192.0.2.0/24\x0e\x19
 const TWO_LIFETIMES: &[u8] =
     b"\xa1\x01\xa1\x02\x81\xa3\x06\x81\x6c192.0.2.0/24\x0e\x19\x0e\x10\x0e\x19\x0e\x10";
 
-const FAULTS: [(&[u8], CborFault); 22] = [
+const FAULTS: [(&[u8], CborFault); 25] = [
     (b"", CborFault::Short { at: 0 }),
     (b"\x82\x01\x19", CborFault::Short { at: 3 }),
     (b"\x81\x62a", CborFault::Short { at: 3 }),
@@ -41,6 +41,19 @@ const FAULTS: [(&[u8], CborFault); 22] = [
     (b"\xa2\x01\x01\x01\x1c", CborFault::Duplicate { at: 3 }),
     // The same key in another spelling.
     (b"\xa2\x01\x01\x18\x01\x00", CborFault::Duplicate { at: 3 }),
+    // Keys that don't rise: the last again, one before it, and one that came late.
+    (
+        b"\xa3\x02\x00\x01\x00\x01\x1c",
+        CborFault::Duplicate { at: 5 },
+    ),
+    (
+        b"\xa3\x02\x00\x01\x00\x02\x1c",
+        CborFault::Duplicate { at: 5 },
+    ),
+    (
+        b"\xbf\x02\x00\x01\x00\x03\x00\x18\x01\x1c",
+        CborFault::Duplicate { at: 7 },
+    ),
     (TWO_LIFETIMES, CborFault::Duplicate { at: 25 }),
     (b"\x82\x01\xe0", CborFault::Unsupported { at: 2 }),
     (b"\x81\xf3", CborFault::Unsupported { at: 1 }),
@@ -136,12 +149,25 @@ fn nested(alloc: Global, depth: usize) -> Result<Item, NoMemory> {
     Ok(item)
 }
 
+/// A number behind this many tags.
+fn tagged(alloc: Global, depth: usize) -> Result<Item, NoMemory> {
+    let mut item = Item::Unsigned(0);
+    for _ in 0..depth {
+        item = Item::Tag(24, Box::new(alloc, item)?);
+    }
+    Ok(item)
+}
+
 #[test]
 fn valid_items_nest_sixteen_deep(rt: HostRuntime) -> Result<(), Fail> {
     let deepest = nested(rt.alloc(), 16)?;
     assert!(rt; is_valid(&deepest));
     assert_eq!(rt; encode(rt.alloc(), &deepest)?.items(), DEEPEST);
-    assert!(rt; !is_valid(&nested(rt.alloc(), 17)?));
+    for depth in [17, 18, 1000] {
+        assert!(rt; !is_valid(&nested(rt.alloc(), depth)?), "{depth}");
+    }
+    assert!(rt; is_valid(&tagged(rt.alloc(), 16)?));
+    assert!(rt; !is_valid(&tagged(rt.alloc(), 17)?));
     Ok(())
 }
 

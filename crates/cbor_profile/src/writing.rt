@@ -25,7 +25,7 @@ pub fn encode(alloc: Global, item: &Item) -> Result<Bytes, NoMemory>
 }
 
 #[cycle(writer)]
-fn write_item(out: &mut Vec<u8>, item: &Item) -> Result<(), NoMemory>
+pub(crate) fn write_item(out: &mut Vec<u8>, item: &Item) -> Result<(), NoMemory>
     ensures { OnOk result (out.new.items ≡ out.old.items ++ canon (tree_of item.now)) }
 {
     match item {
@@ -61,7 +61,7 @@ fn write_array(out: &mut Vec<u8>, list: &ItemList) -> Result<(), NoMemory>
 }
 
 #[cycle(writer)]
-fn write_items(out: &mut Vec<u8>, items: &[Item]) -> Result<(), NoMemory>
+pub(crate) fn write_items(out: &mut Vec<u8>, items: &[Item]) -> Result<(), NoMemory>
     ensures { OnOk result (out.new.items ≡ out.old.items ++ canon_items (items_of (map tree_of items.now))) }
 {
     for item in items {

@@ -48,8 +48,8 @@ pub(super) const DETERMINISTIC: [&[u8]; 44] = [
     b"\xa5\x61\x61\x61\x41\x61\x62\x61\x42\x61\x63\x61\x43\x61\x64\x61\x44\x61\x65\x61\x45",
 ];
 
-/// Other spellings, each with the deterministic encoding of what it spells. The last seven are not of the appendix.
-pub(super) const OTHERS: [(&[u8], &[u8]); 18] = [
+/// Other spellings, each with the deterministic encoding of what it spells. The last ten are not of the appendix.
+pub(super) const OTHERS: [(&[u8], &[u8]); 21] = [
     (
         b"\x5f\x42\x01\x02\x43\x03\x04\x05\xff",
         b"\x45\x01\x02\x03\x04\x05",
@@ -101,6 +101,16 @@ pub(super) const OTHERS: [(&[u8], &[u8]); 18] = [
     ),
     (b"\x5f\xff", b"\x40"),
     (b"\xbf\xff", b"\xa0"),
+    // Keys that fall, that come in no order, and that are longer than they need be.
+    (
+        b"\xa3\x03\x00\x02\x01\x01\x02",
+        b"\xa3\x01\x02\x02\x01\x03\x00",
+    ),
+    (
+        b"\xbf\x02\x00\x61\x62\x01\x20\x02\x01\x03\x61\x61\x04\x81\x00\x05\x61\x63\x06\xff",
+        b"\xa7\x01\x03\x02\x00\x20\x02\x61\x61\x04\x61\x62\x01\x61\x63\x06\x81\x00\x05",
+    ),
+    (b"\xa2\x18\x01\x00\x19\x00\x00\x01", b"\xa2\x00\x01\x01\x00"),
 ];
 
 /// The examples that are floats and other simple values.

@@ -1,10 +1,11 @@
-use Rattle.std.proofs.Common.{◌-◌, ◌+◌, length, sym, arith}
+use Rattle.std.proofs.Common.{◌-◌, ◌+◌, length, sym, ap, ◌∙◌, arith}
 use Rattle.std.proofs.lemmas.Result.{err_from_is_err_and}
-use Rattle.cbor_profile.specs.View.{tree_of, trees, tree_pairs, item_read}
-use Rattle.cbor_profile.specs.Reading.{item_at}
+use Rattle.cbor_profile.specs.View.{tree_of, trees, item_read}
+use Rattle.cbor_profile.specs.Gathering.{gathered}
+use Rattle.cbor_profile.specs.Reading.{item_at, has_key}
 use Rattle.cbor_profile.proofs.Readings.{held}
 use Rattle.cbor_profile.proofs.Inside.{item_short, value_begun, indefinite_begun, reserved_begun, unsupported_begun, gives_same}
-use Rattle.cbor_profile.proofs.Paired.{key_sound, placed, new_rises, new_sound}
+use Rattle.cbor_profile.proofs.Paired.{key_sound, same_gathered, put_gathered}
 use Rattle.cbor_profile.proofs.Loops.{items_fail, items_go, items_done, open_items_short, open_items_spent, open_items_end, open_items_fail, open_items_go, pairs_fail, pairs_go, pairs_done, open_pairs_short, open_pairs_spent, open_pairs_end, open_pairs_fail, open_pairs_go}
 use Rattle.cbor_profile.proofs.reading.+reader.Goals as goal
 
@@ -84,72 +85,69 @@ read_open_items-returns-clause-value t c =
 
 -- ---- pairs
 
-pub read_pair-place_of-requires-clause-key_sound : goal.read_pair-place_of-requires-clause-key_sound
-read_pair-place_of-requires-clause-key_sound t c =
+pub read_pair-has_key-requires-clause-key_sound : goal.read_pair-has_key-requires-clause-key_sound
+read_pair-has_key-requires-clause-key_sound t c =
     key_sound c.args.levels c.args.end c.args.bytes.now c.in_ok-key.after_key.now (tree_of c.in_ok-key.key)
     (held c.args.bytes.now (λ i. omega (arith, c.type_inv.bytes i)) (omega (arith, c.requires.within, c.ranges.end.fits))) c.in_ok-key.ensures.value
 
-pub read_pair-returns-clause-rise : goal.read_pair-returns-clause-rise
-read_pair-returns-clause-rise t c =
-    let place = placed c.items.result.now (tree_pairs c.args.pairs.now) c.in-Some.place (tree_of c.in_ok-key.key) (tree_of c.in_ok-value.value) c.items.ensures c.in-Some.ensures.some in
-    new_rises c.in-Some.place (tree_pairs c.args.pairs.now) (tree_pairs c.insert.new.self) (tree_of c.in_ok-key.key) (tree_of c.in_ok-value.value) c.requires.rise place.0 c.in_ok-insert.ensures.ok place.1
-
-pub read_pair-returns-clause-sound : goal.read_pair-returns-clause-sound
-read_pair-returns-clause-sound t c =
-    let place = placed c.items.result.now (tree_pairs c.args.pairs.now) c.in-Some.place (tree_of c.in_ok-key.key) (tree_of c.in_ok-value.value) c.items.ensures c.in-Some.ensures.some in
+pub read_pair-returns-clause-gathered : goal.read_pair-returns-clause-gathered
+read_pair-returns-clause-gathered t c =
     let sound =
     key_sound c.args.levels c.args.end c.args.bytes.now c.in_ok-key.after_key.now (tree_of c.in_ok-key.key)
     (held c.args.bytes.now (λ i. omega (arith, c.type_inv.bytes i)) (omega (arith, c.requires.within, c.ranges.end.fits))) c.in_ok-key.ensures.value in
-    new_sound c.in-Some.place (tree_pairs c.args.pairs.now) (tree_pairs c.insert.new.self) (tree_of c.in_ok-key.key) (tree_of c.in_ok-value.value) c.requires.sound sound c.in_ok-insert.ensures.ok place.1
+    let same = same_gathered c.args.pairs.now c.has_key.new.self c.requires.gathered c.in_ok-has_key.ensures.same c.in_ok-has_key.ensures.kept in
+    let fresh = ap (has_key (tree_of c.in_ok-key.key)) c.in_ok-has_key.ensures.same ∙ sym c.in_ok-has_key.ensures.value ∙ c.if-branch.false in
+    put_gathered c.has_key.new.self c.put.new.self (tree_of c.in_ok-key.key) (tree_of c.in_ok-value.value) same sound fresh c.in_ok-put.ensures.pairs c.in_ok-put.ensures.kept
 
 pub read_pairs-returns-in_err-after-clause-value : goal.read_pairs-returns-in_err-after-clause-value
 read_pairs-returns-in_err-after-clause-value t c =
     let p = err_from_is_err_and c.from_residual.result c.from_residual.ensures.1 in
     rw (p.1, p.2) (
-    pairs_fail c.in_err-after.field-0.0 (item_at c.args.levels c.args.end) c.args.end (c.args.count - c.loop.counter) (tree_pairs c.loop.pairs) c.loop.rest.now _ (omega (arith, c.loop-test.true)) c.in_err-after.ensures.value
+    pairs_fail c.in_err-after.field-0.0 (item_at c.args.levels c.args.end) c.args.end (c.args.count - c.loop.counter) (gathered c.loop.pairs) c.loop.rest.now _ (omega (arith, c.loop-test.true)) c.in_err-after.ensures.value
     c.loop.invariant.read
     )
 
 pub read_pairs-loop-preserved : goal.read_pairs-loop-preserved
 read_pairs-loop-preserved t c = record {
   read =
-      pairs_go (item_at c.args.levels c.args.end) c.args.end (c.args.count - c.loop.counter) (c.args.count - (c.loop.counter + 1)) (tree_pairs c.loop.pairs) (tree_pairs c.read_pair.new.pairs) c.loop.rest.now c.in_ok-after.after.now _
+      pairs_go (item_at c.args.levels c.args.end) c.args.end (c.args.count - c.loop.counter) (c.args.count - (c.loop.counter + 1)) (gathered c.loop.pairs) (gathered c.read_pair.new.pairs) c.loop.rest.now c.in_ok-after.after.now _
       (omega (arith, c.loop-test.true)) c.in_ok-after.ensures.value c.loop.invariant.read;
-  rise = c.in_ok-after.ensures.rise;
-  sound = c.in_ok-after.ensures.sound;
+  gathered = c.in_ok-after.ensures.gathered;
   shorter = omega (arith, c.in_ok-after.ensures.shorter, c.loop.invariant.shorter);
 }
 
 pub read_pairs-returns-clause-value : goal.read_pairs-returns-clause-value
-read_pairs-returns-clause-value t c = pairs_done (item_at c.args.levels c.args.end) c.args.end (c.args.count - c.loop.counter) (tree_pairs c.loop.pairs) c.loop.rest.now _ (omega (arith, c.loop-test.false)) c.loop.invariant.read
+read_pairs-returns-clause-value t c =
+    rw c.in_ok-into_list.ensures (pairs_done (item_at c.args.levels c.args.end) c.args.end (c.args.count - c.loop.counter) (gathered c.loop.pairs) c.loop.rest.now _ (omega (arith, c.loop-test.false)) c.loop.invariant.read)
 
 pub read_open_pairs-returns-in_default-clause-value : goal.read_open_pairs-returns-in_default-clause-value
 read_open_pairs-returns-in_default-clause-value t c =
-    open_pairs_short (item_at c.args.levels c.args.end) (length c.args.bytes.now - c.loop.counter) c.args.end (tree_pairs c.loop.pairs) c.loop.rest.now _ c.in_default.ensures.cases c.loop.invariant.read
+    open_pairs_short (item_at c.args.levels c.args.end) (length c.args.bytes.now - c.loop.counter) c.args.end (gathered c.loop.pairs) c.loop.rest.now _ c.in_default.ensures.cases c.loop.invariant.read
 
 pub read_open_pairs-returns-then-first-clause-value : goal.read_open_pairs-returns-then-first-clause-value
 read_open_pairs-returns-then-first-clause-value t c =
-    open_pairs_end (item_at c.args.levels c.args.end) (length c.args.bytes.now - c.loop.counter) c.args.end (tree_pairs c.loop.pairs) c.loop.rest.now c.in-Some.behind.now c.in-Some.first.now _
+    rw c.in_ok-into_list.ensures (
+    open_pairs_end (item_at c.args.levels c.args.end) (length c.args.bytes.now - c.loop.counter) c.args.end (gathered c.loop.pairs) c.loop.rest.now c.in-Some.behind.now c.in-Some.first.now _
     (omega (arith, c.loop-test.true)) c.in-Some.ensures.cases.0 c.if-first.true c.loop.invariant.read
+    )
 
 pub read_open_pairs-returns-in_err-after-clause-value : goal.read_open_pairs-returns-in_err-after-clause-value
 read_open_pairs-returns-in_err-after-clause-value t c =
-    let p = err_from_is_err_and c.from_residual.result c.from_residual.ensures.1 in
+    let p = err_from_is_err_and c.from_residual-in_err-after.result c.from_residual-in_err-after.ensures.1 in
     rw (p.1, p.2) (
-    open_pairs_fail c.in_err-after.field-0.0 (item_at c.args.levels c.args.end) (length c.args.bytes.now - c.loop.counter) c.args.end (tree_pairs c.loop.pairs) c.loop.rest.now c.in-Some.behind.now c.in-Some.first.now _
+    open_pairs_fail c.in_err-after.field-0.0 (item_at c.args.levels c.args.end) (length c.args.bytes.now - c.loop.counter) c.args.end (gathered c.loop.pairs) c.loop.rest.now c.in-Some.behind.now c.in-Some.first.now _
     (omega (arith, c.loop-test.true)) c.in-Some.ensures.cases.0 c.if-first.false c.in_err-after.ensures.value c.loop.invariant.read
     )
 
 pub read_open_pairs-loop-preserved : goal.read_open_pairs-loop-preserved
 read_open_pairs-loop-preserved t c = record {
   read =
-      open_pairs_go (item_at c.args.levels c.args.end) (length c.args.bytes.now - c.loop.counter) (length c.args.bytes.now - (c.loop.counter + 1)) c.args.end (tree_pairs c.loop.pairs) (tree_pairs c.read_pair.new.pairs) c.loop.rest.now
+      open_pairs_go (item_at c.args.levels c.args.end) (length c.args.bytes.now - c.loop.counter) (length c.args.bytes.now - (c.loop.counter + 1)) c.args.end (gathered c.loop.pairs) (gathered c.read_pair.new.pairs) c.loop.rest.now
       c.in-Some.behind.now c.in_ok-after.after.now c.in-Some.first.now _ (omega (arith, c.loop-test.true)) c.in-Some.ensures.cases.0 c.if-first.false c.in_ok-after.ensures.value c.loop.invariant.read;
-  rise = c.in_ok-after.ensures.rise;
-  sound = c.in_ok-after.ensures.sound;
+  gathered = c.in_ok-after.ensures.gathered;
   shorter = omega (arith, c.in_ok-after.ensures.shorter, c.loop.invariant.shorter);
 }
 
 pub read_open_pairs-returns-clause-value : goal.read_open_pairs-returns-clause-value
 read_open_pairs-returns-clause-value t c =
-    open_pairs_spent (item_at c.args.levels c.args.end) (length c.args.bytes.now - c.loop.counter) c.args.end (tree_pairs c.loop.pairs) c.loop.rest.now _ (omega (arith, c.loop-test.false)) c.loop.invariant.read
+    open_pairs_spent (item_at c.args.levels c.args.end) (length c.args.bytes.now - c.loop.counter) c.args.end (gathered c.loop.pairs) c.loop.rest.now _ (omega (arith, c.loop-test.false)) c.loop.invariant.read

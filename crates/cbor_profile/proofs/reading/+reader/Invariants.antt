@@ -1,8 +1,6 @@
 use Rattle.std.proofs.Common.{◌≡◌, ◌+◌, ◌-◌, ◌*◌, ◌≤◌, [], length}
-use Rattle.std.specs.List.{AllByRecursion}
-use Rattle.cbor_profile.specs.Tree.{pairs_of}
-use Rattle.cbor_profile.specs.Valid.{IsSound, KeysRise}
-use Rattle.cbor_profile.specs.View.{trees, tree_pairs}
+use Rattle.cbor_profile.specs.View.{trees}
+use Rattle.cbor_profile.specs.Gathering.{gathered, IsGathered}
 use Rattle.cbor_profile.specs.Reading.{items_at, open_items_at, pairs_at, open_pairs_at, item_at}
 use Rattle.cbor_profile.proofs.Loops.{with_front}
 use Rattle.cbor_profile.proofs.reading.+reader.Given as goal
@@ -62,16 +60,14 @@ invariant-read_open_items-loop l = record {
 
 abbrev pub invariant-read_pairs-loop : goal.invariant-read_pairs-loop
 invariant-read_pairs-loop l = record {
-  read : pairs_at (item_at l.levels l.fn.end) l.fn.end (l.count - l.counter) (tree_pairs l.pairs) l.rest ≡ pairs_at (item_at l.levels l.fn.end) l.fn.end l.count [] l.bytes;
-  rise : KeysRise (pairs_of (tree_pairs l.pairs));
-  sound : AllByRecursion (λ p. IsSound p.0) (tree_pairs l.pairs);
+  read : pairs_at (item_at l.levels l.fn.end) l.fn.end (l.count - l.counter) (gathered l.pairs) l.rest ≡ pairs_at (item_at l.levels l.fn.end) l.fn.end l.count [] l.bytes;
+  gathered : IsGathered l.pairs;
   shorter : length l.rest ≤ length l.bytes;
 }
 
 abbrev pub invariant-read_open_pairs-loop : goal.invariant-read_open_pairs-loop
 invariant-read_open_pairs-loop l = record {
-  read : open_pairs_at (item_at l.levels l.fn.end) (length l.bytes - l.counter) l.fn.end (tree_pairs l.pairs) l.rest ≡ open_pairs_at (item_at l.levels l.fn.end) (length l.bytes) l.fn.end [] l.bytes;
-  rise : KeysRise (pairs_of (tree_pairs l.pairs));
-  sound : AllByRecursion (λ p. IsSound p.0) (tree_pairs l.pairs);
+  read : open_pairs_at (item_at l.levels l.fn.end) (length l.bytes - l.counter) l.fn.end (gathered l.pairs) l.rest ≡ open_pairs_at (item_at l.levels l.fn.end) (length l.bytes) l.fn.end [] l.bytes;
+  gathered : IsGathered l.pairs;
   shorter : length l.rest ≤ length l.bytes;
 }
