@@ -25,13 +25,13 @@ const DEFAULT_CEILING: u32 = 86_400;
 
 impl Draft {
     /// The settings, with this digest.
-    pub fn finish(self, alloc: Global, digest: [u8; 32]) -> Result<Settings, NoMemory>
+    pub fn finish(self, digest: [u8; 32]) -> Result<Settings, NoMemory>
         requires { IsSound (draft_value self) }
         ensures { IfOk result (λ settings. settings ≡ settings_by (draft_value self) digest) }
     {
-        let domains = self.make_domains(alloc)?;
-        let peers = self.make_peers(alloc)?;
-        let names = self.make_names(alloc)?;
+        let domains = self.make_domains()?;
+        let peers = self.make_peers()?;
+        let names = self.make_names()?;
         let limits = self.make_limits();
         Ok(Settings {
             domains,
@@ -45,31 +45,31 @@ impl Draft {
         })
     }
 
-    fn make_domains(&self, alloc: Global) -> Result<IndexMap<Vec<u8>, PrefixList>, NoMemory>
+    fn make_domains(&self) -> Result<IndexMap<Vec<u8>, PrefixList>, NoMemory>
         requires { AreDistinct [] (draft_value self.now).domains }
         ensures { IfOk result (λ domains.
             map domain_value domains.entries ≡ map (domain_of (draft_value self.now)) (draft_value self.now).domains) }
     {
-        let mut domains = IndexMap::new(alloc);
+        let mut domains = IndexMap::new(self.alloc);
         for name in &self.domains {
-            let prefixes = self.make_prefixes(alloc, name.items())?;
-            domains.insert(Vec::from_slice(alloc, name.items())?, prefixes)?;
+            let prefixes = self.make_prefixes(name.items())?;
+            domains.insert(Vec::from_slice(self.alloc, name.items())?, prefixes)?;
         }
         Ok(domains)
     }
 
-    fn make_prefixes(&self, alloc: Global, name: &[u8]) -> Result<PrefixList, NoMemory>
+    fn make_prefixes(&self, name: &[u8]) -> Result<PrefixList, NoMemory>
         ensures { IfOk result (λ prefixes. prefixes ≡ prefixes_of (draft_value self.now) name.now) }
     {
-        let prefixes = prefixes_among(alloc, &self.scopes, name)?;
+        let prefixes = prefixes_among(self.alloc, &self.scopes, name)?;
         Ok(List::from_vec(prefixes))
     }
 
-    fn make_peers(&self, alloc: Global) -> Result<Vec<PeerRow>, NoMemory>
+    fn make_peers(&self) -> Result<Vec<PeerRow>, NoMemory>
         requires { length (draft_value self.now).domains ≤ 16 }
         ensures { IfOk result (λ peers. peers.items ≡ map (peer_row_of (draft_value self.now)) (draft_value self.now).peers) }
     {
-        let mut peers = Vec::new(alloc);
+        let mut peers = Vec::new(self.alloc);
         for peer in &self.peers {
             peers.push(PeerRow {
                 peer: peer.number,
@@ -100,22 +100,22 @@ impl Draft {
             .position(|domain| name == domain.items())
     }
 
-    fn make_names(&self, alloc: Global) -> Result<Vec<NameRow>, NoMemory>
+    fn make_names(&self) -> Result<Vec<NameRow>, NoMemory>
         ensures { IfOk result (λ names. names.items ≡ map (name_row_of (draft_value self.now)) (draft_value self.now).names) }
     {
-        let mut names = Vec::new(alloc);
+        let mut names = Vec::new(self.alloc);
         for fqdn in &self.names {
-            let prefixes = self.make_addresses(alloc, fqdn.bytes())?;
+            let prefixes = self.make_addresses(fqdn.bytes())?;
             let name = fqdn.copy()?;
             names.push(NameRow { name, prefixes })?;
         }
         Ok(names)
     }
 
-    fn make_addresses(&self, alloc: Global, fqdn: &[u8]) -> Result<PrefixList, NoMemory>
+    fn make_addresses(&self, fqdn: &[u8]) -> Result<PrefixList, NoMemory>
         ensures { IfOk result (λ prefixes. prefixes ≡ addresses_of (draft_value self.now) fqdn.now) }
     {
-        let prefixes = addresses_among(alloc, &self.addresses, fqdn)?;
+        let prefixes = addresses_among(self.alloc, &self.addresses, fqdn)?;
         Ok(List::from_vec(prefixes))
     }
 

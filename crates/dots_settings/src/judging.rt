@@ -13,19 +13,25 @@ use crate::fault::SettingsFault;
 use crate::form::Form;
 use ip_scope::{Prefix, meets};
 
-/// The most domains of a file, prefixes of a domain, peers, gateways, host names, prefixes of a host name and packets.
+/// The most domains that a file has.
 const MAX_DOMAINS: usize = 16;
 
+/// The most prefixes of one domain.
 const MAX_PREFIXES: usize = 16;
 
+/// The most peers, clients and gateways together.
 const MAX_PEERS: usize = 64;
 
+/// The most gateways.
 const MAX_GATEWAYS: usize = 4;
 
+/// The most host names.
 const MAX_NAMES: usize = 64;
 
+/// The most prefixes of one host name.
 const MAX_ADDRESSES: usize = 4;
 
+/// The most sample packets.
 const MAX_PACKETS: usize = 256;
 
 impl Draft {
