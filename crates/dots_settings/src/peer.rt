@@ -5,7 +5,7 @@ pub enum Role {
     Stranger,
     /// A client of the domain of this number.
     Client(u16),
-    /// A server-domain gateway (RFC 8811, section 2.2.2), which speaks for clients of every domain.
+    /// A server-domain gateway (RFC 8811, section 2.2.3), which speaks for clients of every domain.
     Gateway,
 }
 
