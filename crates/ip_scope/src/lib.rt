@@ -1,7 +1,7 @@
 //! IP addresses and prefixes, port ranges, and the text of prefixes.
 //!
 //! The words are those of RFC 4632, section 3.1 and RFC 4291, section 2.3 for prefixes, of RFC 4291, section 2.2 for
-//! the text that [`parse_prefix`] reads, and of RFC 5952, section 4 for the text that [`write_prefix`] writes.
+//! the text that [`parse_prefix`] and [`parse_address`] read, and of RFC 5952, section 4 for the text that [`write_prefix`] writes.
 //! Contracts see a [`Prefix`] as a `PrefixValue`: a family, a number whose host bits are zero, and a length.
 //! No call takes memory.
 //!
@@ -25,7 +25,7 @@ pub use address::Addr;
 pub use bad_prefix::BadPrefix;
 pub use containment::{holds, inside, inside_any, meets};
 pub use family::Family;
-pub use parse::parse_prefix;
+pub use parse::{parse_address, parse_prefix};
 pub use port_range::PortRange;
 pub use prefix::Prefix;
 pub use put::MAX_PREFIX_TEXT;

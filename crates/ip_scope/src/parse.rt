@@ -109,8 +109,9 @@ fn value_of(digits: &[u8]) -> Option<u16>
     Some(number)
 }
 
-/// The address of either family that the text writes.
-fn parse_address(text: &[u8]) -> Option<Addr>
+/// The address of either family that the text writes (RFC 4291, section 2.2; dotted decimal with no leading zeros), or
+/// None where it writes none.
+pub fn parse_address(text: &[u8]) -> Option<Addr>
     ensures found { IfSome result (λ a. IsAddressText text.now a.family a.number) }
     ensures none { IfNone result ((family : families.Family) (number : ℕ) → ¬ (IsAddressText text.now family number)) }
 {

@@ -1,0 +1,18 @@
+-- The bytes of a source that are read.
+use Rattle.std.proofs.Common.{◌≡◌, ◌≤◌, ◌<◌, ℕ, List, [], ◌++◌, length, take, Option, Some, None, IfSome, sym, ap, ◌∙◌, arith, append-nil}
+use Rattle.std.proofs.lemmas.List.{take_all, take-append-le}
+use Rattle.std.specs.Io.KnownBytes.{Consumes, IsAtEnd}
+
+-- what was read to the end is the source, as much of it as counts
+pub read_to_end : (old new : Option (List ℕ)) (bytes : List ℕ) (most : ℕ) → Consumes old new bytes → IsAtEnd new → length bytes < most → IfSome old (λ left. bytes ≡ take most left)
+read_to_end None new bytes most c e small = tt
+read_to_end (Some xs) None bytes most c e small = absurd c
+read_to_end (Some xs) (Some ys) bytes most c e small =
+    let all : xs ≡ bytes = c ∙ ap (λ rest. bytes ++ rest) e ∙ append-nil bytes in
+    sym all ∙ sym (take_all most xs (omega (arith, ap length all)))
+
+-- what was read and is long enough is the front of the source
+pub read_enough : (old new : Option (List ℕ)) (bytes : List ℕ) (most : ℕ) → Consumes old new bytes → most ≤ length bytes → IfSome old (λ left. take most bytes ≡ take most left)
+read_enough None new bytes most c long = tt
+read_enough (Some xs) None bytes most c long = absurd c
+read_enough (Some xs) (Some ys) bytes most c long = sym (ap (take most) c ∙ take-append-le most bytes ys long)

@@ -1,0 +1,15 @@
+pub mod Splits
+pub mod Numbers
+pub mod Rows
+pub mod HostNames
+pub mod Drafts
+pub mod Bytes
+pub mod Capacities
+pub mod Domains
+pub mod ReadTo
+pub mod Takes
+pub mod Apart
+pub mod Sound
+pub mod Files
+pub mod OneForm
+pub mod OneFile

@@ -1,0 +1,12 @@
+pub mod Capacity
+pub mod Lines
+pub mod Form
+pub mod Row
+pub mod Draft
+pub mod Faults
+pub mod Settings
+pub mod File
+pub mod Admitting
+pub mod Reading
+pub mod FaultText
+pub mod Taking

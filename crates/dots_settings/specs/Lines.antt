@@ -1,0 +1,21 @@
+-- The lines of a file and the fields of a line.
+use Rattle.std.specs.Prelude.{ℕ, ◌+◌, ◌^◌, Bool, true, false, ◌==◌, ◌&&◌, ◌||◌, nat_le, if◌then◌else◌, List, [], ◌∷◌, ◌++◌, length, take}
+use Rattle.std.specs.List.{list_all, slice_split, onto_first}
+
+-- the lines of a text, each without the line feed that ends it; the last may lack it
+abbrev pub lines_of : List ℕ → List (List ℕ)
+lines_of [] = []
+lines_of (byte ∷ bytes) = if byte == 10 then [] ∷ lines_of bytes else onto_first byte (lines_of bytes)
+
+-- the parts of a line between its spaces
+abbrev pub fields_of : List ℕ → List (List ℕ)
+fields_of line = slice_split (λ byte. byte == 32) line
+
+-- an empty line says nothing, nor does one that begins with `#`
+abbrev pub is_skipped : List ℕ → Bool
+is_skipped [] = true
+is_skipped (byte ∷ bytes) = byte == 35
+
+-- What of a file is read: its first 65,537 bytes. Where there are as many the last stands in the last of their lines.
+abbrev pub content_of : List ℕ → List ℕ
+content_of file = take (2 ^ 16 + 1) file

@@ -1,0 +1,18 @@
+/// What a peer is in the settings.
+#[derive(Clone, Copy, Debug, PartialEq, Eq)]
+pub enum Role {
+    /// The settings don't name it.
+    Stranger,
+    /// A client of the domain of this number.
+    Client(u16),
+    /// A server-domain gateway (RFC 8811, section 2.2.3), which speaks for clients of every domain.
+    Gateway,
+}
+
+/// A peer that the settings name.
+#[derive(Clone, Copy, Debug, PartialEq, Eq)]
+pub struct PeerRow {
+    pub peer: u32,
+    /// A client or a gateway.
+    pub role: Role,
+}

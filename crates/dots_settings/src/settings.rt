@@ -1,0 +1,181 @@
+ghost use Rattle.std.specs.Prelude.{◌≡◌, ◌<◌, ◌≤◌, pos, ◌==◌, [], Some, length, slice_get, find, unwrap_or, position, bytes_eq, IfSome};
+ghost use Rattle.std.specs.List.{AllByRecursion};
+ghost use Rattle.std.specs.Option.{option_map, option_copied};
+ghost use Rattle.dots_settings.specs.Draft.{same_name};
+ghost use Rattle.dots_settings.specs.Settings.{AreApart, AreLimits, IsKnown};
+ghost use Rattle.dots_settings.specs.declared.peer.Role.TheVariants as role;
+
+use crate::judging::is_same_name;
+use crate::limits::Limits;
+use crate::names::NameRow;
+use crate::peer::{PeerRow, Role};
+use acl_lists::{Packet, PrefixList};
+use indexmap::IndexMap;
+use ip_scope::Prefix;
+use std::marker::Model;
+
+/// What the settings file of a server says. Domains are numbered from 0, in the file's order.
+#[derive(Drop)]
+pub struct Settings {
+    pub(crate) domains: IndexMap<Vec<u8>, PrefixList>,
+    pub(crate) peers: Vec<PeerRow>,
+    pub(crate) names: Vec<NameRow>,
+    pub(crate) ceiling: u32,
+    pub(crate) indefinite: bool,
+    pub(crate) limits: Limits,
+    pub(crate) packets: Vec<Packet>,
+    pub(crate) digest: [u8; 32],
+}
+
+impl Model for Settings {
+    ghost use Rattle.std.specs.Prelude.{map};
+    ghost use Rattle.dots_settings.specs.Settings.{SettingsValue, IsSettings, domain_value};
+
+    ghost Value = { SettingsValue };
+
+    ghost view = { λ s. record {
+      domains = map domain_value s.domains.entries;
+      peers = s.peers.items;
+      names = s.names.items;
+      ceiling = s.ceiling;
+      indefinite = s.indefinite;
+      limits = s.limits;
+      packets = s.packets.items;
+      digest = s.digest;
+    } };
+
+    ghost invariant = { λ s. IsSettings (record {
+      domains = map domain_value s.domains.entries;
+      peers = s.peers.items;
+      names = s.names.items;
+      ceiling = s.ceiling;
+      indefinite = s.indefinite;
+      limits = s.limits;
+      packets = s.packets.items;
+      digest = s.digest;
+    }) };
+}
+
+impl Settings {
+    /// How many domains there are: at most 16. No prefix of one meets a prefix of another.
+    pub fn domains(&self) -> u16
+        ensures number { result ≡ length self.now.domains }
+        ensures apart { AreApart self.now.domains }
+    {
+        self.domains.len() as u16
+    }
+
+    /// The name of a domain: 1 to 64 of `a` to `z`, `0` to `9`, `.` and `-`.
+    pub fn domain_name(&self, domain: u16) -> &[u8]
+        requires { domain < length self.now.domains }
+        ensures { option_map (λ domain. domain.name) (slice_get self.now.domains domain) ≡ Some result.now }
+    {
+        match self.domains.get_index(usize::from(domain)) {
+            Some((name, _)) => name.as_slice(),
+            None => unreachable!(),
+        }
+    }
+
+    /// The prefixes of a domain, in the file's order.
+    pub fn prefixes(&self, domain: u16) -> &[Prefix]
+        requires { domain < length self.now.domains }
+        ensures { option_map (λ domain. domain.prefixes) (slice_get self.now.domains domain) ≡ Some result.now }
+    {
+        match self.domains.get_index(usize::from(domain)) {
+            Some((_, prefixes)) => prefixes.items(),
+            None => unreachable!(),
+        }
+    }
+
+    /// The number of the domain of this name.
+    pub fn domain_named(&self, name: &[u8]) -> Option<u16>
+        ensures number { result ≡ position (λ domain. bytes_eq name.now domain.name) self.now.domains }
+        ensures within { IfSome result (λ number. number < length self.now.domains) }
+    {
+        let number = self.domains.get_index_of(name)?;
+        Some(number as u16)
+    }
+
+    /// The clients and the gateways, in the file's order.
+    pub fn peers(&self) -> &[PeerRow]
+        ensures value { result.now ≡ self.now.peers }
+        ensures known { AllByRecursion (λ row. IsKnown (length self.now.domains) row.role) self.now.peers }
+    {
+        self.peers.as_slice()
+    }
+
+    /// What a peer is: a stranger where the settings don't name it.
+    pub fn domain_of(&self, peer: u32) -> Role
+        ensures role { result ≡ unwrap_or (option_map (λ row. row.role)
+            (find (λ row. row.peer == peer) self.now.peers)) role.Stranger }
+        ensures known { IsKnown (length self.now.domains) result }
+    {
+        self.peers
+            .iter()
+            .find(|row| row.peer == peer)
+            .map(|row| row.role)
+            .unwrap_or(Role::Stranger)
+    }
+
+    /// The host names and their addresses, in the order of their first lines.
+    pub fn names(&self) -> &[NameRow]
+        ensures { result.now ≡ self.now.names }
+    {
+        self.names.as_slice()
+    }
+
+    /// The addresses of a host name, whatever the case of its letters; none where the settings don't name it.
+    pub fn addresses(&self, fqdn: &[u8]) -> &[Prefix]
+        ensures { result.now ≡ unwrap_or (option_map (λ row. row.prefixes)
+            (find (λ row. same_name fqdn.now row.name) self.now.names)) [] }
+    {
+        match row_named(&self.names, fqdn) {
+            Some(row) => row.prefixes.items(),
+            None => &[],
+        }
+    }
+
+    /// The greatest lifetime that is granted, in seconds: 1 to 604800.
+    pub fn ceiling(&self) -> i32
+        ensures value { result ≡ pos self.now.ceiling }
+        ensures range { (1 ≤ self.now.ceiling) × (self.now.ceiling ≤ 604800) }
+    {
+        self.ceiling as i32
+    }
+
+    /// Whether a lifetime of -1, without end, is granted (RFC 9132, section 4.4.1).
+    pub fn indefinite(&self) -> bool
+        ensures { result ≡ self.now.indefinite }
+    {
+        self.indefinite
+    }
+
+    /// How much the server takes on at a time.
+    pub fn limits(&self) -> Limits
+        ensures value { result ≡ self.now.limits }
+        ensures ranges { AreLimits result }
+    {
+        self.limits
+    }
+
+    /// The sample packets whose fates the server tells, in the file's order: at most 256.
+    pub fn packets(&self) -> &[Packet]
+        ensures { result.now ≡ self.now.packets }
+    {
+        self.packets.as_slice()
+    }
+
+    /// SHA-256 of the lines that aren't skipped and aren't packets, each with one line feed.
+    pub fn digest(&self) -> [u8; 32]
+        ensures { result ≡ self.now.digest }
+    {
+        self.digest
+    }
+}
+
+/// The row of a host name.
+fn row_named<'a>(rows: &'a [NameRow], fqdn: &[u8]) -> Option<&'a NameRow>
+    ensures { option_copied result ≡ find (λ row. same_name fqdn.now row.name) rows.now }
+{
+    rows.iter().find(|row| is_same_name(fqdn, row.name.bytes()))
+}
