@@ -3,13 +3,13 @@
 ghost use Rattle.std.specs.Prelude.{◌≡◌, ◌+◌, length, IfOk, IfErr};
 ghost use Rattle.coap_message.specs.Breaks.{Breaks};
 ghost use Rattle.coap_message.specs.Message.{CoapMessage, IsMessage, spelling};
-ghost use Rattle.cbor_grammar.specs.Tree.{Tree};
-ghost use Rattle.cbor_grammar.specs.Spelling.{Spells};
-ghost use Rattle.cbor_grammar.specs.View.{tree_of};
+ghost use Rattle.cbor_profile.specs.Tree.{Tree};
+ghost use Rattle.cbor_profile.specs.Spelling.{Spells};
+ghost use Rattle.cbor_profile.specs.View.{tree_of};
 ghost use Rattle.dots_bench.specs.Parts.{parts_in};
 
 use anyhow::{Context, Result};
-use cbor_grammar::{CborFault, Item};
+use cbor_profile::{CborFault, Item};
 use coap_message::CoapFault;
 use std::alloc::Global;
 
@@ -72,7 +72,7 @@ fn repeat_cbor(alloc: Global, copies: [&[u8]; 2], times: u64) -> Result<u64, Cbo
 fn decode_cbor(alloc: Global, bytes: &[u8]) -> Result<u64, CborFault>
     ensures found { IfOk result (λ sum. (tree : Tree) × Spells bytes.now tree 0 × (sum ≡ parts_in tree)) }
 {
-    let item = cbor_grammar::decode(alloc, bytes)?;
+    let item = cbor_profile::decode(alloc, bytes)?;
     Ok(count_parts(&item) as u64)
 }
 

@@ -10,6 +10,8 @@ fn lists_hold_what_was_pushed(rt: HostRuntime) -> Result<(), Fail> {
     assert_eq!(rt; copy.items(), [0, 128, 255].as_slice());
     assert_eq!(rt; moved.items(), [0, 128, 255].as_slice());
     assert!(rt; Bytes::new(rt.alloc()).items().is_empty());
+    let text = Text::from_string(String::from_str(rt.alloc(), "na\u{ef}ve")?);
+    assert_eq!(rt; text.bytes(), b"na\xc3\xafve".as_slice());
 
     let mut list = List::new(rt.alloc());
     list.push((1_u16, true))?;

@@ -6,9 +6,9 @@ use Rattle.dots_lists.specs.Name.{is_name}
 use Rattle.ip_scope.specs.Prefix.{PrefixValue, prefix_of}
 use Rattle.ip_scope.specs.PrefixText.{Reads}
 use Rattle.ip_scope.proofs.PrefixTexts.{IsPrefixText_unique}
-use Rattle.cbor_grammar.specs.Tree.{Tree}
-use Rattle.cbor_grammar.specs.Spelling.{Spells}
-use Rattle.cbor_grammar.proofs.Readings.{same_reading}
+use Rattle.cbor_profile.specs.Tree.{Tree}
+use Rattle.cbor_profile.specs.Spelling.{Spells}
+use Rattle.cbor_profile.proofs.Readings.{same_reading}
 use Rattle.coap_message.specs.declared.kind.Kind.{Kind}
 use Rattle.coap_message.specs.Message.{CoapMessage, IsMessage, spelling}
 use Rattle.coap_message.proofs.Whole.{one_message}

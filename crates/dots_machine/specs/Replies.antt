@@ -1,7 +1,7 @@
 -- The replies: messages with the Message ID and the token of the request (RFC 7252, section 5.2; RFC 9132, section 4.4.1.1).
 use Rattle.std.specs.Prelude.{ℕ, List, [], ◌∷◌, ◌++◌, codes, decimal}
-use Rattle.cbor_grammar.specs.Tree.{Tree, unsigned, mapping, no_pairs, pair}
-use Rattle.cbor_grammar.specs.Canon.{canon}
+use Rattle.cbor_profile.specs.Tree.{Tree, unsigned, mapping, no_pairs, pair}
+use Rattle.cbor_profile.specs.Canon.{canon}
 use Rattle.coap_message.specs.declared.kind.Kind.{Kind}
 use Rattle.coap_message.specs.declared.kind.Kind.TheVariants.{Con, Non, Ack, Rst}
 use Rattle.coap_message.specs.Message.{CoapMessage, spelling}

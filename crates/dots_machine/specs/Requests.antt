@@ -6,8 +6,8 @@ use Rattle.dots_lists.specs.Name.{is_name}
 use Rattle.ip_scope.specs.declared.family.Family.TheVariants.{V4}
 use Rattle.ip_scope.specs.Prefix.{PrefixValue}
 use Rattle.ip_scope.specs.PrefixText.{Reads}
-use Rattle.cbor_grammar.specs.Tree.{Tree, unsigned, text, array, mapping, Trees, no_items, item, no_pairs, pair}
-use Rattle.cbor_grammar.specs.Spelling.{Spells}
+use Rattle.cbor_profile.specs.Tree.{Tree, unsigned, text, array, mapping, Trees, no_items, item, no_pairs, pair}
+use Rattle.cbor_profile.specs.Spelling.{Spells}
 use Rattle.coap_message.specs.declared.kind.Kind.{Kind}
 use Rattle.coap_message.specs.declared.fault.CoapFault.{CoapFault}
 use Rattle.coap_message.specs.Message.{CoapOption, CoapMessage, IsMessage, spelling}

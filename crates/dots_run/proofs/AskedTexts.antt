@@ -1,10 +1,10 @@
 -- Items that are texts of prefixes.
 use Rattle.std.proofs.Common.{◌≡◌, ℕ, ◌<◌, zero, suc, List, [], ◌∷◌, ◌++◌, length, get_or, take, map, Some, refl, sym, ap, ◌∙◌, subst, arith}
 use Rattle.ip_scope.specs.Prefix.{PrefixValue}
-use Rattle.cbor_grammar.specs.declared.item.Item.{Item}
-use Rattle.cbor_grammar.specs.Tree.{Tree, text, item}
-use Rattle.cbor_grammar.specs.View.{tree_of, items_of}
-use Rattle.cbor_grammar.specs.Kind.{text_in}
+use Rattle.cbor_profile.specs.declared.item.Item.{Item}
+use Rattle.cbor_profile.specs.Tree.{Tree, text, item}
+use Rattle.cbor_profile.specs.View.{tree_of, items_of}
+use Rattle.cbor_profile.specs.Kind.{text_in}
 use Rattle.dots_machine.specs.Requests.{ReadEach, text_items}
 use Rattle.dots_run.specs.Scopes.{ReadItem, ReadItems}
 

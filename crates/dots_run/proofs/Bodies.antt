@@ -2,10 +2,10 @@
 use Rattle.std.proofs.Common.{◌≡◌, ◌≤◌, ◌<◌, ◌^◌, ℕ, List, [], ◌∷◌, length, map, refl, sym, ap, ◌∙◌, subst, arith}
 use Rattle.std.proofs.lemmas.List.{length-map}
 use Rattle.ip_scope.specs.Prefix.{PrefixValue}
-use Rattle.cbor_grammar.specs.declared.item.Item.{Item}
-use Rattle.cbor_grammar.specs.Tree.{Tree, Trees}
-use Rattle.cbor_grammar.specs.Spelling.{Spells}
-use Rattle.cbor_grammar.specs.View.{tree_of, items_of}
+use Rattle.cbor_profile.specs.declared.item.Item.{Item}
+use Rattle.cbor_profile.specs.Tree.{Tree, Trees}
+use Rattle.cbor_profile.specs.Spelling.{Spells}
+use Rattle.cbor_profile.specs.View.{tree_of, items_of}
 use Rattle.dots_machine.specs.Requests.{IsBody, mitigation, request_scope}
 use Rattle.dots_machine.proofs.OneRequest.{same_tree}
 use Rattle.dots_run.specs.Scopes.{scope_with, ReadItems, Asked}

@@ -1,9 +1,9 @@
 -- How many items an array has, and how many pairs a map.
 use Rattle.std.proofs.Common.{◌≡◌, ℕ, suc, List, [], ◌∷◌, length, map, Some, refl, sym, ap, ◌∙◌}
-use Rattle.cbor_grammar.specs.declared.item.Item.{Item}
-use Rattle.cbor_grammar.specs.Tree.{Tree, unsigned, negative, byte_string, text, array, mapping, tag, boolean, null, Trees, Pairs, count, pair_count}
-use Rattle.cbor_grammar.specs.View.{tree_of, items_of, pairs_of}
-use Rattle.cbor_grammar.specs.Kind.{items_in, pairs_in, text_in}
+use Rattle.cbor_profile.specs.declared.item.Item.{Item}
+use Rattle.cbor_profile.specs.Tree.{Tree, unsigned, negative, byte_string, text, array, mapping, tag, boolean, null, Trees, Pairs, count, pair_count}
+use Rattle.cbor_profile.specs.View.{tree_of, items_of, pairs_of}
+use Rattle.cbor_profile.specs.Kind.{items_in, pairs_in, text_in}
 
 count_items : (xs : List Item) → count (items_of (map tree_of xs)) ≡ length xs
 count_items [] = refl

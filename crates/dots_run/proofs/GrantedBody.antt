@@ -1,9 +1,9 @@
 -- The body of a grant is valid and short.
 use Rattle.std.proofs.Common.{ℕ, ◌≤◌, ◌<◌, ◌^◌, [], ◌∷◌, length, refl, arith, lit<, lit≤, length-append, cond, nat_lt, Bool, true, false}
 use Rattle.std.specs.Int.{w16, w32, w64, to_be_bytes}
-use Rattle.cbor_grammar.specs.Head.{head, information, following}
-use Rattle.cbor_grammar.specs.Canon.{canon}
-use Rattle.cbor_grammar.specs.Valid.{IsValid}
+use Rattle.cbor_profile.specs.Head.{head, information, following}
+use Rattle.cbor_profile.specs.Canon.{canon}
+use Rattle.cbor_profile.specs.Valid.{IsValid}
 use Rattle.dots_machine.specs.Requests.{mitigation}
 use Rattle.dots_machine.specs.Replies.{granted_scope}
 

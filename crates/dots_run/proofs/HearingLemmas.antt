@@ -1,8 +1,8 @@
 -- What a datagram asks, by the parts of its message.
 use Rattle.std.proofs.Common.{◌≡◌, ◌≢◌, ℕ, List, refl, sym, ap, ◌∙◌, subst}
 use Rattle.ip_scope.specs.Prefix.{PrefixValue}
-use Rattle.cbor_grammar.specs.Tree.{Tree}
-use Rattle.cbor_grammar.specs.Spelling.{Spells}
+use Rattle.cbor_profile.specs.Tree.{Tree}
+use Rattle.cbor_profile.specs.Spelling.{Spells}
 use Rattle.coap_message.specs.Message.{CoapMessage, IsMessage, spelling}
 use Rattle.coap_message.proofs.Whole.{one_message}
 use Rattle.dots_machine.specs.Requests.{Head, Request, IsHead, IsBody, HasHead, HasNoCbor, Asks, request_message}

@@ -1,8 +1,8 @@
 -- What the payload of a message is.
 use Rattle.std.specs.Prelude.{ℕ, List}
 use Rattle.ip_scope.specs.Prefix.{PrefixValue}
-use Rattle.cbor_grammar.specs.Tree.{Tree}
-use Rattle.cbor_grammar.specs.Spelling.{Spells}
+use Rattle.cbor_profile.specs.Tree.{Tree}
+use Rattle.cbor_profile.specs.Spelling.{Spells}
 use Rattle.dots_machine.specs.Requests.{IsBody}
 use Rattle.dots_run.specs.declared.request_body.Payload.{Payload}
 use Rattle.dots_run.specs.declared.request_body.Payload.TheVariants as payload_is

@@ -3,8 +3,8 @@ use Rattle.std.specs.Prelude.{◌≡◌, ◌≤◌, ◌<◌, ◌^◌, ℕ, List,
 use Rattle.ip_scope.specs.declared.family.Family.TheVariants.{V4}
 use Rattle.ip_scope.specs.Prefix.{PrefixValue}
 use Rattle.ip_scope.specs.PrefixText.{Reads}
-use Rattle.cbor_grammar.specs.Tree.{Tree, Trees, unsigned, text, array, mapping, no_pairs, pair}
-use Rattle.cbor_grammar.specs.View.{items_of}
+use Rattle.cbor_profile.specs.Tree.{Tree, Trees, unsigned, text, array, mapping, no_pairs, pair}
+use Rattle.cbor_profile.specs.View.{items_of}
 use Rattle.dots_machine.specs.Requests.{mitigation}
 
 -- {1: {2: [{6: [items], 14: lifetime}]}}

@@ -1,16 +1,16 @@
 //! The bytes of the replies.
 
 ghost use Rattle.std.specs.Prelude.{◌≡◌, ◌≢◌, ◌≤◌, ◌<◌, ◌^◌, [], ◌∷◌, length, take, IfOk};
-ghost use Rattle.cbor_grammar.specs.Tree.{unsigned, array, mapping, no_items, item, no_pairs, pair};
-ghost use Rattle.cbor_grammar.specs.Canon.{canon};
-ghost use Rattle.cbor_grammar.specs.View.{tree_of};
+ghost use Rattle.cbor_profile.specs.Tree.{unsigned, array, mapping, no_items, item, no_pairs, pair};
+ghost use Rattle.cbor_profile.specs.Canon.{canon};
+ghost use Rattle.cbor_profile.specs.View.{tree_of};
 ghost use Rattle.coap_message.specs.Message.{spelling};
 ghost use Rattle.dots_machine.specs.Requests.{mitigation};
 ghost use Rattle.dots_run.specs.Exchanging.{exchange_view};
 ghost use Rattle.dots_machine.specs.Replies.{reset_message, plain, granted_scope, created_message, created};
 
 use crate::exchange::Exchange;
-use cbor_grammar::{Item, ItemList, PairList, encode};
+use cbor_profile::{Item, ItemList, PairList, encode};
 use coap_message::{Kind, OptionPart, Parts, encode_into, encoded_len};
 use dots_lists::{Bytes, NoMemory};
 use std::alloc::Global;

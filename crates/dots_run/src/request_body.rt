@@ -4,14 +4,14 @@ ghost use Rattle.std.specs.Prelude.{◌≡◌, ◌≢◌, ◌≤◌, ◌<◌, �
 ghost use Rattle.ip_scope.specs.Prefix.{PrefixValue};
 ghost use Rattle.ip_scope.specs.PrefixText.{Reads};
 ghost use Rattle.ip_scope.specs.declared.family.Family.TheVariants.{V4};
-ghost use Rattle.cbor_grammar.specs.Tree.{Tree, Trees, unsigned, text, array, mapping, no_items, item, no_pairs, pair};
-ghost use Rattle.cbor_grammar.specs.View.{tree_of, items_of};
+ghost use Rattle.cbor_profile.specs.Tree.{Tree, Trees, unsigned, text, array, mapping, no_items, item, no_pairs, pair};
+ghost use Rattle.cbor_profile.specs.View.{tree_of, items_of};
 ghost use Rattle.dots_machine.specs.Requests.{ReadEach, text_items, mitigation};
 ghost use Rattle.dots_run.specs.Payloads.{IsPayload};
 ghost use Rattle.dots_run.specs.Scopes.{scope_with, ReadItems, Asked};
 
 use crate::settings_file::ipv4_prefix;
-use cbor_grammar::{CborFault, Item, decode};
+use cbor_profile::{CborFault, Item, decode};
 use dots_lists::NoMemory;
 use ip_scope::Prefix;
 use std::alloc::Global;

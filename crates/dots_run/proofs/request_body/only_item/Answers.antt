@@ -1,4 +1,4 @@
-use Rattle.cbor_grammar.specs.Tree.{item, no_items}
+use Rattle.cbor_profile.specs.Tree.{item, no_items}
 use Rattle.dots_run.proofs.Counts.{item_count}
 use Rattle.dots_run.proofs.request_body.only_item.Goals as goal
 

@@ -1,5 +1,5 @@
 use Rattle.std.proofs.Common.{map, take}
-use Rattle.cbor_grammar.specs.View.{tree_of}
+use Rattle.cbor_profile.specs.View.{tree_of}
 use Rattle.dots_run.specs.Scopes.{ReadItems}
 use Rattle.dots_run.proofs.request_body.prefixes_in.Given as goal
 

@@ -1,4 +1,4 @@
-use Rattle.cbor_grammar.specs.Tree.{unsigned, pair, no_pairs}
+use Rattle.cbor_profile.specs.Tree.{unsigned, pair, no_pairs}
 use Rattle.dots_run.proofs.Counts.{map_count}
 use Rattle.dots_run.proofs.request_body.two_values.Goals as goal
 

@@ -1,5 +1,0 @@
-use Rattle.cbor_grammar.proofs.Views.{inserted}
-use Rattle.cbor_grammar.proofs.item.PairList.insert.Goals as goal
-
-pub returns-clause-ok : goal.returns-clause-ok
-returns-clause-ok c = inserted c.args.self.now _ c.args.place c.args.pair c.in_ok-insert.ensures.items

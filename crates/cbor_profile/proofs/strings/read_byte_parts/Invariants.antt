@@ -1,0 +1,12 @@
+use Rattle.std.proofs.Common.{◌≡◌, ◌-◌, ◌≤◌, length}
+use Rattle.cbor_profile.specs.declared.head.Major.TheVariants as major_type
+use Rattle.cbor_profile.specs.Reading.{parts_at}
+use Rattle.cbor_profile.proofs.Loops.{with_front}
+use Rattle.cbor_profile.proofs.strings.read_byte_parts.Given as goal
+
+-- the parts so far and those to come are all of them
+abbrev pub invariant-loop : goal.invariant-loop
+invariant-loop l = record {
+  read : with_front l.string.items (parts_at (length l.bytes - l.counter) l.fn.end major_type.Bytes l.rest) ≡ parts_at (length l.bytes) l.fn.end major_type.Bytes l.bytes;
+  shorter : length l.rest ≤ length l.bytes;
+}

@@ -1,0 +1,140 @@
+ghost use Rattle.std.specs.Prelude.{◌≡◌, ◌≤◌, [], ◌∷◌, ◌++◌, length, insert, OnOk, OnErr, map, option_map};
+ghost use Rattle.cbor_profile.specs.Kind.{number_in, text_in, items_in, pairs_in};
+ghost use Rattle.cbor_profile.specs.View.{tree_of, trees, tree_pairs, items_of, pairs_of};
+
+use dots_lists::{Bytes, NoMemory, Text};
+use std::alloc::Global;
+
+/// A data item (RFC 8949, section 3.1).
+#[cycle(item)]
+#[derive(Debug, Drop)]
+pub enum Item {
+    Unsigned(u64),
+    /// The number -1 - n.
+    Negative(u64),
+    Bytes(Bytes),
+    Text(Text),
+    Array(ItemList),
+    Map(PairList),
+    /// A tag's number and the item that it stands before (section 3.4).
+    Tag(u64, Box<Item>),
+    Bool(bool),
+    Null,
+}
+
+/// The items of an array.
+#[cycle(item)]
+#[derive(Debug, Drop)]
+pub struct ItemList {
+    pub(crate) items: Vec<Item>,
+}
+
+/// The pairs of a map, each a key and its value.
+#[cycle(item)]
+#[derive(Debug, Drop)]
+pub struct PairList {
+    pub(crate) items: Vec<(Item, Item)>,
+}
+
+impl Item {
+    /// The number, if the item is one.
+    pub fn as_unsigned(&self) -> Option<u64>
+        ensures { result ≡ number_in (tree_of self.now) }
+    {
+        match self {
+            Item::Unsigned(number) => Some(*number),
+            _ => None,
+        }
+    }
+
+    /// The text, if the item is one.
+    pub fn as_text(&self) -> Option<&Text>
+        ensures { option_map (λ text. text.now) result ≡ text_in (tree_of self.now) }
+    {
+        match self {
+            Item::Text(text) => Some(text),
+            _ => None,
+        }
+    }
+
+    /// The items of an array.
+    pub fn as_array(&self) -> Option<&[Item]>
+        ensures { option_map (λ items. items_of (map tree_of items.now)) result ≡ items_in (tree_of self.now) }
+    {
+        match self {
+            Item::Array(list) => Some(list.items()),
+            _ => None,
+        }
+    }
+
+    /// The pairs of a map, each a key and its value.
+    pub fn as_map(&self) -> Option<&[(Item, Item)]>
+        ensures { option_map (λ pairs. pairs_of (map (λ p. (tree_of p.0, tree_of p.1)) pairs.now)) result
+            ≡ pairs_in (tree_of self.now) }
+    {
+        match self {
+            Item::Map(list) => Some(list.items()),
+            _ => None,
+        }
+    }
+}
+
+impl ItemList {
+    /// No items. Takes no memory.
+    pub fn new(alloc: Global) -> Self
+        ensures { trees result ≡ [] }
+    {
+        ItemList {
+            items: Vec::new(alloc),
+        }
+    }
+
+    pub fn items(&self) -> &[Item]
+        ensures { map tree_of result.now ≡ trees self.now }
+    {
+        self.items.as_slice()
+    }
+
+    pub fn push(&mut self, item: Item) -> Result<(), NoMemory>
+        ensures ok { OnOk result (trees self.new ≡ trees self.old ++ tree_of item ∷ []) }
+        ensures err { OnErr result (trees self.new ≡ trees self.old) }
+    {
+        self.items.push(item)?;
+        Ok(())
+    }
+}
+
+impl PairList {
+    /// No pairs. Takes no memory.
+    pub fn new(alloc: Global) -> Self
+        ensures { tree_pairs result ≡ [] }
+    {
+        PairList {
+            items: Vec::new(alloc),
+        }
+    }
+
+    pub fn items(&self) -> &[(Item, Item)]
+        ensures { map (λ p. (tree_of p.0, tree_of p.1)) result.now ≡ tree_pairs self.now }
+    {
+        self.items.as_slice()
+    }
+
+    pub fn push(&mut self, pair: (Item, Item)) -> Result<(), NoMemory>
+        ensures ok { OnOk result (tree_pairs self.new ≡ tree_pairs self.old ++ (tree_of pair.0, tree_of pair.1) ∷ []) }
+        ensures err { OnErr result (tree_pairs self.new ≡ tree_pairs self.old) }
+    {
+        self.items.push(pair)?;
+        Ok(())
+    }
+
+    /// Inserts a pair in front of that at the place.
+    pub(crate) fn insert(&mut self, place: usize, pair: (Item, Item)) -> Result<(), NoMemory>
+        requires { place ≤ length (tree_pairs self.old) }
+        ensures ok { OnOk result (tree_pairs self.new ≡ insert (tree_pairs self.old) place (tree_of pair.0, tree_of pair.1)) }
+        ensures err { OnErr result (tree_pairs self.new ≡ tree_pairs self.old) }
+    {
+        self.items.insert(place, pair)?;
+        Ok(())
+    }
+}

@@ -1,0 +1,371 @@
+//! Reading an item from any of its spellings.
+
+ghost use Rattle.std.specs.Prelude.{◌≡◌, ◌≢◌, ◌≤◌, ◌<◌, ◌+◌, ◌^◌, ◌⊎◌, ℕ, List, [], length, map, IfOk, IfErr, Ok, Err, Some};
+ghost use Rattle.std.specs.List.{AllByRecursion};
+ghost use Rattle.cbor_profile.specs.declared.fault.CborFault.{CborFault};
+ghost use Rattle.cbor_profile.specs.declared.fault.CborFault.TheVariants.{NoMemory};
+ghost use Rattle.cbor_profile.specs.Tree.{Tree, pairs_of};
+ghost use Rattle.cbor_profile.specs.Valid.{IsValid, IsSound, KeysRise};
+ghost use Rattle.cbor_profile.specs.View.{tree_of, trees, tree_pairs, item_read, items_read, pairs_read};
+ghost use Rattle.cbor_profile.specs.Spelling.{Spells};
+ghost use Rattle.cbor_profile.specs.Breaking.{Refuses};
+ghost use Rattle.cbor_profile.specs.Reading.{Gives, simple, items_at, open_items_at, pair_at, pairs_at, open_pairs_at, array_at, map_at, tag_at, open_array_at, open_map_at, value_at, indefinite_at, item_at, parts_of, whole};
+
+use crate::argument::read_argument;
+use crate::fault::CborFault;
+use crate::head::{BREAK, Major, Start, start_of};
+use crate::head_bytes::{FALSE, TRUE};
+use crate::item::{Item, ItemList, PairList};
+use crate::place::place_of;
+use crate::strings::{read_byte_parts, read_byte_string, read_text, read_text_parts};
+use std::alloc::Global;
+
+/// How deep the arrays, maps and tags of a valid item nest at most.
+pub const MAX_DEPTH: u8 = 16;
+
+/// An item that is all of the bytes, as `whole` reads it.
+#[tactic(auto, unfolding(crate::specs::Reading::whole))]
+fn read_whole(alloc: Global, bytes: &[u8]) -> Result<Item, CborFault>
+    ensures { Gives tree_of result (whole bytes.now) }
+{
+    let (item, rest) = read_item(alloc, bytes.len(), bytes, MAX_DEPTH)?;
+    if !rest.is_empty() {
+        return Err(CborFault::Trailing {
+            at: bytes.len() - rest.len(),
+        });
+    }
+    Ok(item)
+}
+
+/// The item at the front, which nests at most `levels` deep, and the bytes behind it. The input ends at the place
+/// `end`.
+#[cycle(reader)]
+#[tactic(auto, unfolding(crate::specs::Reading::item_with, crate::specs::Reading::begun_at))]
+fn read_item(
+    alloc: Global,
+    end: usize,
+    bytes: &[u8],
+    levels: u8,
+) -> Result<(Item, &[u8]), CborFault>
+    requires { length bytes.now ≤ end }
+    ensures value { Gives item_read result (item_at levels end bytes.now) }
+    ensures shorter { IfOk result (λ read. length read.1.now ≤ length bytes.now) }
+{
+    let Some((first, rest)) = bytes.split_first() else {
+        return Err(CborFault::Short { at: end });
+    };
+    let at = end - bytes.len();
+    match start_of(*first) {
+        Start::Value(major, info) => read_value(alloc, end, at, major, info, rest, levels),
+        Start::Indefinite(major) => read_indefinite(alloc, end, at, major, rest, levels),
+        Start::Reserved => Err(CborFault::Reserved { at }),
+        Start::Unsupported => Err(CborFault::Unsupported { at }),
+    }
+}
+
+/// The item whose initial byte has this major type and additional information, and stands at the place `at`.
+#[cycle(reader)]
+#[tactic(auto, unfolding(crate::specs::Reading::value_at))]
+fn read_value(
+    alloc: Global,
+    end: usize,
+    at: usize,
+    major: Major,
+    info: u8,
+    bytes: &[u8],
+    levels: u8,
+) -> Result<(Item, &[u8]), CborFault>
+    requires { length bytes.now ≤ end }
+    ensures value { Gives item_read result (value_at (parts_of levels end) end at major info bytes.now) }
+    ensures shorter { IfOk result (λ read. length read.1.now ≤ length bytes.now) }
+{
+    match major {
+        Major::Unsigned => {
+            let (number, rest) = read_argument(end, info, bytes)?;
+            Ok((Item::Unsigned(number), rest))
+        }
+        Major::Negative => {
+            let (number, rest) = read_argument(end, info, bytes)?;
+            Ok((Item::Negative(number), rest))
+        }
+        Major::Bytes => {
+            let (string, rest) = read_byte_string(alloc, end, at, info, bytes)?;
+            Ok((Item::Bytes(string), rest))
+        }
+        Major::Text => {
+            let (string, rest) = read_text(alloc, end, at, info, bytes)?;
+            Ok((Item::Text(string), rest))
+        }
+        Major::Array if levels > 0 => read_array(alloc, end, info, bytes, levels - 1),
+        Major::Map if levels > 0 => read_map(alloc, end, info, bytes, levels - 1),
+        Major::Tag if levels > 0 => read_tag(alloc, end, info, bytes, levels - 1),
+        Major::Array | Major::Map | Major::Tag => Err(CborFault::Deep { at }),
+        Major::Simple => Ok((simple_item(info), bytes)),
+    }
+}
+
+/// The simple value of this number: false, true or null (RFC 8949, section 3.3).
+fn simple_item(number: u8) -> Item
+    ensures { tree_of result ≡ simple number }
+{
+    match number as u64 {
+        FALSE => Item::Bool(false),
+        TRUE => Item::Bool(true),
+        _ => Item::Null,
+    }
+}
+
+/// The item of indefinite length of this major type, behind its initial byte.
+#[cycle(reader)]
+#[tactic(auto, unfolding(crate::specs::Reading::indefinite_at))]
+fn read_indefinite(
+    alloc: Global,
+    end: usize,
+    at: usize,
+    major: Major,
+    bytes: &[u8],
+    levels: u8,
+) -> Result<(Item, &[u8]), CborFault>
+    requires { length bytes.now ≤ end }
+    ensures value { Gives item_read result (indefinite_at (parts_of levels end) end at major bytes.now) }
+    ensures shorter { IfOk result (λ read. length read.1.now ≤ length bytes.now) }
+{
+    match major {
+        Major::Bytes => {
+            let (string, rest) = read_byte_parts(alloc, end, bytes)?;
+            Ok((Item::Bytes(string), rest))
+        }
+        Major::Text => {
+            let (string, rest) = read_text_parts(alloc, end, bytes)?;
+            Ok((Item::Text(string), rest))
+        }
+        Major::Array if levels > 0 => read_open_array(alloc, end, bytes, levels - 1),
+        Major::Map if levels > 0 => read_open_map(alloc, end, bytes, levels - 1),
+        Major::Array | Major::Map => Err(CborFault::Deep { at }),
+        _ => Err(CborFault::Reserved { at }),
+    }
+}
+
+#[cycle(reader)]
+fn read_array(
+    alloc: Global,
+    end: usize,
+    info: u8,
+    bytes: &[u8],
+    levels: u8,
+) -> Result<(Item, &[u8]), CborFault>
+    requires { length bytes.now ≤ end }
+    ensures value { Gives item_read result (array_at (item_at levels end) end info bytes.now) }
+    ensures shorter { IfOk result (λ read. length read.1.now ≤ length bytes.now) }
+{
+    let (count, rest) = read_argument(end, info, bytes)?;
+    let (items, rest) = read_items(alloc, end, count, rest, levels)?;
+    Ok((Item::Array(items), rest))
+}
+
+/// So many items, one after the other.
+#[cycle(reader)]
+fn read_items(
+    alloc: Global,
+    end: usize,
+    count: u64,
+    bytes: &[u8],
+    levels: u8,
+) -> Result<(ItemList, &[u8]), CborFault>
+    requires { length bytes.now ≤ end }
+    ensures value { Gives items_read result (items_at (item_at levels end) count bytes.now) }
+    ensures shorter { IfOk result (λ read. length read.1.now ≤ length bytes.now) }
+{
+    let mut items = ItemList::new(alloc);
+    let mut rest = bytes;
+    for _ in 0..count {
+        let (item, after) = read_item(alloc, end, rest, levels)?;
+        items.push(item)?;
+        rest = after;
+    }
+    Ok((items, rest))
+}
+
+#[cycle(reader)]
+fn read_tag(
+    alloc: Global,
+    end: usize,
+    info: u8,
+    bytes: &[u8],
+    levels: u8,
+) -> Result<(Item, &[u8]), CborFault>
+    requires { length bytes.now ≤ end }
+    ensures value { Gives item_read result (tag_at (item_at levels end) end info bytes.now) }
+    ensures shorter { IfOk result (λ read. length read.1.now ≤ length bytes.now) }
+{
+    let (number, rest) = read_argument(end, info, bytes)?;
+    let (item, rest) = read_item(alloc, end, rest, levels)?;
+    Ok((Item::Tag(number, Box::new(alloc, item)?), rest))
+}
+
+#[cycle(reader)]
+fn read_open_array(
+    alloc: Global,
+    end: usize,
+    bytes: &[u8],
+    levels: u8,
+) -> Result<(Item, &[u8]), CborFault>
+    requires { length bytes.now ≤ end }
+    ensures value { Gives item_read result (open_array_at (item_at levels end) end bytes.now) }
+    ensures shorter { IfOk result (λ read. length read.1.now ≤ length bytes.now) }
+{
+    let (items, rest) = read_open_items(alloc, end, bytes, levels)?;
+    Ok((Item::Array(items), rest))
+}
+
+/// The items up to the end of an indefinite length. Each takes a byte at least.
+#[cycle(reader)]
+fn read_open_items(
+    alloc: Global,
+    end: usize,
+    bytes: &[u8],
+    levels: u8,
+) -> Result<(ItemList, &[u8]), CborFault>
+    requires { length bytes.now ≤ end }
+    ensures value { Gives items_read result (open_items_at (item_at levels end) (length bytes.now) end bytes.now) }
+    ensures shorter { IfOk result (λ read. length read.1.now ≤ length bytes.now) }
+{
+    let mut items = ItemList::new(alloc);
+    let mut rest = bytes;
+    for _ in 0..bytes.len() {
+        let Some((first, behind)) = rest.split_first() else {
+            return Err(CborFault::Short { at: end });
+        };
+        if *first == BREAK {
+            return Ok((items, behind));
+        }
+        let (item, after) = read_item(alloc, end, rest, levels)?;
+        items.push(item)?;
+        rest = after;
+    }
+    Err(CborFault::Short { at: end })
+}
+
+#[cycle(reader)]
+fn read_map(
+    alloc: Global,
+    end: usize,
+    info: u8,
+    bytes: &[u8],
+    levels: u8,
+) -> Result<(Item, &[u8]), CborFault>
+    requires { length bytes.now ≤ end }
+    ensures value { Gives item_read result (map_at (item_at levels end) end info bytes.now) }
+    ensures shorter { IfOk result (λ read. length read.1.now ≤ length bytes.now) }
+{
+    let (count, rest) = read_argument(end, info, bytes)?;
+    let (pairs, rest) = read_pairs(alloc, end, count, rest, levels)?;
+    Ok((Item::Map(pairs), rest))
+}
+
+/// So many pairs, in the order of their keys.
+#[cycle(reader)]
+fn read_pairs(
+    alloc: Global,
+    end: usize,
+    count: u64,
+    bytes: &[u8],
+    levels: u8,
+) -> Result<(PairList, &[u8]), CborFault>
+    requires { length bytes.now ≤ end }
+    ensures value { Gives pairs_read result (pairs_at (item_at levels end) end count [] bytes.now) }
+    ensures shorter { IfOk result (λ read. length read.1.now ≤ length bytes.now) }
+{
+    let mut pairs = PairList::new(alloc);
+    let mut rest = bytes;
+    for _ in 0..count {
+        let after = read_pair(alloc, end, &mut pairs, rest, levels)?;
+        rest = after;
+    }
+    Ok((pairs, rest))
+}
+
+#[cycle(reader)]
+fn read_open_map(
+    alloc: Global,
+    end: usize,
+    bytes: &[u8],
+    levels: u8,
+) -> Result<(Item, &[u8]), CborFault>
+    requires { length bytes.now ≤ end }
+    ensures value { Gives item_read result (open_map_at (item_at levels end) end bytes.now) }
+    ensures shorter { IfOk result (λ read. length read.1.now ≤ length bytes.now) }
+{
+    let (pairs, rest) = read_open_pairs(alloc, end, bytes, levels)?;
+    Ok((Item::Map(pairs), rest))
+}
+
+/// The pairs up to the end of an indefinite length, in the order of their keys. Each takes a byte at least.
+#[cycle(reader)]
+fn read_open_pairs(
+    alloc: Global,
+    end: usize,
+    bytes: &[u8],
+    levels: u8,
+) -> Result<(PairList, &[u8]), CborFault>
+    requires { length bytes.now ≤ end }
+    ensures value { Gives pairs_read result (open_pairs_at (item_at levels end) (length bytes.now) end [] bytes.now) }
+    ensures shorter { IfOk result (λ read. length read.1.now ≤ length bytes.now) }
+{
+    let mut pairs = PairList::new(alloc);
+    let mut rest = bytes;
+    for _ in 0..bytes.len() {
+        let Some((first, behind)) = rest.split_first() else {
+            return Err(CborFault::Short { at: end });
+        };
+        if *first == BREAK {
+            return Ok((pairs, behind));
+        }
+        let after = read_pair(alloc, end, &mut pairs, rest, levels)?;
+        rest = after;
+    }
+    Err(CborFault::Short { at: end })
+}
+
+/// Puts the next pair in its place among those before it, and answers the bytes behind it.
+#[cycle(reader)]
+#[tactic(auto, unfolding(crate::specs::Reading::pair_at))]
+fn read_pair<'a>(
+    alloc: Global,
+    end: usize,
+    pairs: &mut PairList,
+    bytes: &'a [u8],
+    levels: u8,
+) -> Result<&'a [u8], CborFault>
+    requires within { length bytes.now ≤ end }
+    requires rise { KeysRise (pairs_of (tree_pairs pairs.old)) }
+    requires sound { AllByRecursion (λ p. IsSound p.0) (tree_pairs pairs.old) }
+    ensures value { Gives (λ rest. (tree_pairs pairs.new, rest.now)) result (pair_at (item_at levels end) end (tree_pairs pairs.old) bytes.now) }
+    ensures rise { IfOk result (λ _. KeysRise (pairs_of (tree_pairs pairs.new))) }
+    ensures sound { IfOk result (λ _. AllByRecursion (λ p. IsSound p.0) (tree_pairs pairs.new)) }
+    ensures shorter { IfOk result (λ rest. length rest.now ≤ length bytes.now) }
+{
+    let (key, after_key) = read_item(alloc, end, bytes, levels)?;
+    let Some(place) = place_of(pairs.items(), &key) else {
+        return Err(CborFault::Duplicate {
+            at: end - bytes.len(),
+        });
+    };
+    let (value, rest) = read_item(alloc, end, after_key, levels)?;
+    pairs.insert(place, (key, value))?;
+    Ok(rest)
+}
+
+/// The item that the bytes spell, all of them (RFC 8949, section 3). The pairs of a map stand in bytewise order of
+/// their keys' deterministic encodings, in whatever order they were spelled.
+pub fn decode(alloc: Global, bytes: &[u8]) -> Result<Item, CborFault>
+    // What is read is valid, and the bytes spell it.
+    ensures found { IfOk result (λ item. IsValid (tree_of item) × Spells bytes.now (tree_of item) 0) }
+    // What is spelled is read, unless memory runs out.
+    ensures only { (tree : Tree) → Spells bytes.now tree 0 → Gives tree_of result (Ok tree) }
+    // Otherwise the first fault is answered, unless memory runs out.
+    ensures fault { IfErr result (λ fault. fault ≢ NoMemory → Refuses bytes.now fault) }
+    ensures first { (fault : CborFault) → Refuses bytes.now fault → Gives tree_of result (Err fault) }
+{
+    read_whole(alloc, bytes)
+}
