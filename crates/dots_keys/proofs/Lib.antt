@@ -1,0 +1,5 @@
+pub mod Answering
+pub mod Arrays
+pub mod Grants
+pub mod Identifiers
+pub mod WithoutMemory

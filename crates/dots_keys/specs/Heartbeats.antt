@@ -1,6 +1,6 @@
 -- The body of a heartbeat (RFC 9132, section 4.7): {49: {51: boolean}}.
 use Rattle.std.specs.Prelude.{Bool, Option, Some, None, ok_or, Result}
-use Rattle.cbor_grammar.specs.Tree.{Tree, boolean}
+use Rattle.cbor_profile.specs.Tree.{Tree, boolean}
 use Rattle.dots_keys.specs.declared.reject.Reject.{Reject}
 use Rattle.dots_keys.specs.Fields.{sole_field}
 use Rattle.dots_keys.specs.Results.{◌>>=◌, invalid}

@@ -16,3 +16,4 @@ pub mod PrefixTexts
 pub mod RejectText
 pub mod Replies
 pub mod Results
+pub mod Segments

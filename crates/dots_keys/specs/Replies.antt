@@ -1,6 +1,6 @@
 -- The bodies of replies (RFC 9132, sections 4.4.1 and 6).
 use Rattle.std.specs.Prelude.{ℕ, ℤ, pos, negsuc}
-use Rattle.cbor_grammar.specs.Tree.{Tree, unsigned, negative, array, mapping, no_items, item, no_pairs, pair}
+use Rattle.cbor_profile.specs.Tree.{Tree, unsigned, negative, array, mapping, no_items, item, no_pairs, pair}
 use Rattle.dots_keys.specs.declared.reply.Reply.{Reply}
 use Rattle.dots_keys.specs.declared.reply.Reply.TheVariants as reply
 

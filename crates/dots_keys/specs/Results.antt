@@ -28,15 +28,19 @@ abbrev pub Gives : {A : Type 0} → Result A Reject → Result A Reject → Type
 Gives (Ok x) read = read ≡ Ok x
 Gives (Err e) read = Fails e read
 
--- the same where what was read is left in a value
-abbrev pub Leaves : {A Done : Type 0} → Result Done Reject → A → Result A Reject → Type 0
-Leaves (Ok done) new read = read ≡ Ok new
-Leaves (Err e) new read = Fails e read
+-- the same where what was read is stored in a value
+abbrev pub Stores : {A Done : Type 0} → Result Done Reject → A → Result A Reject → Type 0
+Stores (Ok done) new read = read ≡ Ok new
+Stores (Err e) new read = Fails e read
 
--- the same where what was read is seen by view, and no memory is taken
+-- What a function answered is what reading gives, seen by view, or left in a value; no memory is taken.
 abbrev pub Reads : {A B : Type 0} → (A → B) → Result A Reject → Result B Reject → Type 0
 Reads view (Ok x) read = read ≡ Ok (view x)
 Reads view (Err e) read = read ≡ Err e
+
+abbrev pub Leaves : {A Done : Type 0} → Result Done Reject → A → Result A Reject → Type 0
+Leaves (Ok done) new read = read ≡ Ok new
+Leaves (Err e) new read = read ≡ Err e
 
 -- a fact of an answer, unless it is want of memory
 abbrev pub Fulfils : Reject → Type 0 → Type 0

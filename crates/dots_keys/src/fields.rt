@@ -1,7 +1,7 @@
 //! The fields of a map.
 
 ghost use Rattle.std.specs.Prelude.{◌≡◌, [], ◌∷◌, ℕ, List, Ok, Err, IfOk, IfErr, OnOk, MatchResult, MatchOption};
-ghost use Rattle.cbor_grammar.specs.View.{tree_of};
+ghost use Rattle.cbor_profile.specs.View.{tree_of};
 ghost use Rattle.dots_keys.specs.Fields.{Field, known, unknown, fields_of, first_field, refusal_of, all_unsigned};
 ghost use Rattle.dots_keys.specs.FieldViews.{fields_left, pairs_seen};
 ghost use Rattle.dots_keys.specs.Results.{Reads, unknown_key};
@@ -9,7 +9,7 @@ ghost use Rattle.dots_keys.specs.Results.{Reads, unknown_key};
 use crate::keys::{Role, role_of};
 use crate::refusing::{invalid, missing, unknown};
 use crate::reject::Reject;
-use cbor_grammar::Item;
+use cbor_profile::Item;
 
 /// The fields of a map that are still to be read, in the order of their keys.
 #[derive(Debug, Drop)]

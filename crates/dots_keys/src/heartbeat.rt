@@ -1,14 +1,14 @@
 //! The body of a heartbeat (RFC 9132, section 4.7).
 
 ghost use Rattle.std.specs.Prelude.{◌≡◌};
-ghost use Rattle.cbor_grammar.specs.View.{tree_of};
+ghost use Rattle.cbor_profile.specs.View.{tree_of};
 ghost use Rattle.dots_keys.specs.Fields.{sole_field};
 ghost use Rattle.dots_keys.specs.Heartbeats.{peer_status, heartbeat_of};
 
 use crate::fields::Fields;
 use crate::refusing::invalid;
 use crate::reject::Reject;
-use cbor_grammar::Item;
+use cbor_profile::Item;
 
 /// `heartbeat` and `peer-hb-status`.
 const HEARTBEAT: u8 = 49;

@@ -1,6 +1,7 @@
 //! The body of a request for a mitigation (RFC 9132, section 4.4.1).
 
-ghost use Rattle.cbor_grammar.specs.View.{tree_of};
+ghost use Rattle.std.specs.Prelude.{◌≡◌, ◌≢◌, [], ◌∷◌, length, MatchOption};
+ghost use Rattle.cbor_profile.specs.View.{tree_of};
 ghost use Rattle.dots_keys.specs.Fields.{sole_field};
 ghost use Rattle.dots_keys.specs.Mitigations.{only_scope, mitigation_of};
 ghost use Rattle.dots_keys.specs.Results.{Gives};
@@ -10,7 +11,7 @@ use crate::refusing::invalid;
 use crate::reject::Reject;
 use crate::request::MitigationBody;
 use crate::scope::scope_of;
-use cbor_grammar::Item;
+use cbor_profile::Item;
 use std::alloc::Global;
 
 /// `mitigation-scope` and `scope`.
@@ -18,14 +19,27 @@ const MITIGATION_SCOPE: u8 = 1;
 
 const SCOPE: u8 = 2;
 
+/// The element of a list of one.
+fn only<T>(list: &[T]) -> Option<&T>
+    ensures { MatchOption result (length list.now ≢ 1) (λ x. list.now ≡ x.now ∷ []) }
+{
+    match list {
+        [x] => Some(x),
+        _ => None,
+    }
+}
+
 /// The body in an array of exactly one scope.
 fn only_scope(alloc: Global, item: &Item) -> Result<MitigationBody, Reject>
     ensures { Gives result (only_scope (tree_of item.now)) }
 {
-    match item.as_array() {
-        Some([scope]) => scope_of(alloc, scope),
-        _ => Err(invalid(SCOPE)),
-    }
+    let Some(items) = item.as_array() else {
+        return Err(invalid(SCOPE));
+    };
+    let Some(scope) = only(items) else {
+        return Err(invalid(SCOPE));
+    };
+    scope_of(alloc, scope)
 }
 
 /// The body in the map under `mitigation-scope`.

@@ -1,14 +1,14 @@
 //! Numbers as values of a configuration (RFC 9132, section 4.5.2).
 
 ghost use Rattle.std.specs.Prelude.{◌≡◌};
-ghost use Rattle.cbor_grammar.specs.View.{tree_of};
+ghost use Rattle.cbor_profile.specs.View.{tree_of};
 ghost use Rattle.dots_keys.specs.Configurations.{number_under, decimal_under, hundredths_of_one, fraction_in, decimal_in, current_decimal};
-ghost use Rattle.cbor_grammar.specs.Kind.{items_in};
+ghost use Rattle.cbor_profile.specs.Kind.{items_in};
 
 use crate::fields::Fields;
 use crate::refusing::invalid;
 use crate::reject::Reject;
-use cbor_grammar::Item;
+use cbor_profile::Item;
 
 /// `current-value` and `current-value-decimal`.
 const CURRENT_VALUE: u8 = 36;
@@ -51,7 +51,10 @@ fn decimal_in(item: &Item) -> Option<u64>
 fn fraction_in(item: &Item) -> Option<u64>
     ensures { result ≡ fraction_in (items_in (tree_of item.now)) }
 {
-    let Some([exponent, mantissa]) = item.as_array() else {
+    let Some(items) = item.as_array() else {
+        return None;
+    };
+    let [exponent, mantissa] = items else {
         return None;
     };
     let Some(unit) = hundredths_of_one(exponent) else {

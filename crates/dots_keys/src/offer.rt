@@ -1,7 +1,7 @@
 //! The values that are offered for one state of a session (RFC 9132, section 4.5.2).
 
 ghost use Rattle.std.specs.Prelude.{◌≡◌};
-ghost use Rattle.cbor_grammar.specs.View.{tree_of};
+ghost use Rattle.cbor_profile.specs.View.{tree_of};
 ghost use Rattle.dots_keys.specs.Configurations.{offer_key_of, offer_field, no_offer, offers_nothing, offer_under};
 ghost use Rattle.dots_keys.specs.Fields.{each_field};
 ghost use Rattle.dots_keys.specs.FieldViews.{fields_left};
@@ -12,7 +12,7 @@ use crate::numbers::{decimal_under, number_under};
 use crate::refusing::{invalid, missing};
 use crate::reject::Reject;
 use crate::request::Offer;
-use cbor_grammar::Item;
+use cbor_profile::Item;
 
 /// `heartbeat-interval`, `missing-hb-allowed`, `max-retransmit`, `ack-timeout`, `ack-random-factor` and `probing-rate`.
 const HEARTBEAT_INTERVAL: u8 = 33;

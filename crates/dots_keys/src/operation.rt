@@ -1,6 +1,7 @@
 //! What is to be done with a resource.
 
-ghost use Rattle.std.specs.Prelude.{◌≡◌, IfOk};
+ghost use Rattle.std.specs.Prelude.{◌≡◌, ◌==◌, IfOk};
+ghost use Rattle.std.specs.List.{list_any};
 ghost use Rattle.std.specs.Option.{option_copied};
 ghost use Rattle.dots_keys.specs.Operations.{method_in, method_of, is_client_name, client_name, is_identifier, identifier, optional, domain_of, mitigation_path, mitigation_operation, config_operation, operation_of};
 ghost use Rattle.dots_keys.specs.OperationViews.{path_view, operation_view, HasNames, IsNamed};
@@ -70,7 +71,13 @@ pub fn method_of(resource: &Resource<'_>, code: u8) -> Result<Method, Reject>
 fn is_client_name(text: &[u8]) -> bool
     ensures { result ≡ is_client_name text.now }
 {
-    is_name(text) && !text.iter().any(|byte| *byte == b'/')
+    is_name(text) && !has_slash(text)
+}
+
+fn has_slash(text: &[u8]) -> bool
+    ensures { result ≡ list_any (λ byte. byte == 47) text.now }
+{
+    text.iter().any(|byte| *byte == b'/')
 }
 
 /// A name without a slash.

@@ -45,13 +45,13 @@ struct Segments<'a> {
 }
 
 impl<'a> Model for Segments<'a> {
-    ghost use Rattle.std.specs.Prelude.{ℕ, List, ◌++◌, option_map};
-    ghost use Rattle.std.specs.Option.{option_copied, option_to_list};
-    ghost use Rattle.dots_keys.specs.Options.{values_of};
+    ghost use Rattle.std.specs.Prelude.{ℕ, List};
+    ghost use Rattle.std.specs.Option.{option_copied};
+    ghost use Rattle.dots_keys.specs.Segments.{segments_left};
 
     ghost Value = { List (List ℕ) };
 
-    ghost view = { λ segments. option_to_list (option_copied segments.next) ++ values_of 11 segments.rest };
+    ghost view = { λ segments. segments_left (option_copied segments.next) segments.rest };
 }
 
 impl<'a> Segments<'a> {

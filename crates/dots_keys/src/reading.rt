@@ -1,11 +1,11 @@
 //! Reading a request.
 
 ghost use Rattle.std.specs.Prelude.{◌≡◌, ◌≢◌, ◌/◌, Err, IsOk, IfOk, IfErr};
-ghost use Rattle.cbor_grammar.specs.Spelling.{Spells};
-ghost use Rattle.cbor_grammar.specs.View.{tree_of};
+ghost use Rattle.cbor_profile.specs.Spelling.{Spells};
+ghost use Rattle.cbor_profile.specs.View.{tree_of};
 ghost use Rattle.dots_keys.specs.HeadViews.{head_view};
 ghost use Rattle.dots_keys.specs.Heads.{head_of};
-ghost use Rattle.dots_keys.specs.Meaning.{IsBody, Answers, Means};
+ghost use Rattle.dots_keys.specs.Meaning.{IsBody, AnswersBody, Answers, Means, put_mitigation_with, put_config_with, put_heartbeat_with};
 ghost use Rattle.dots_keys.specs.OperationViews.{IsNamed};
 ghost use Rattle.dots_keys.specs.Results.{Fulfils, UnlessNoMemory};
 
@@ -15,8 +15,8 @@ use crate::heartbeat::heartbeat_of;
 use crate::mitigation::mitigation_of;
 use crate::operation::Operation;
 use crate::reject::{Cause, Reject};
-use crate::request::Request;
-use cbor_grammar::{CborFault, Item, decode};
+use crate::request::{MitigationPath, Request};
+use cbor_profile::{CborFault, Item, decode};
 use coap_message::Message;
 use std::alloc::Global;
 
@@ -42,9 +42,7 @@ fn complete(alloc: Global, head: &Head<'_>, payload: &[u8]) -> Result<Request, R
     match head.operation {
         Operation::PutMitigation(parameters) => {
             let path = parameters.path(alloc)?;
-            let item = decode_body(alloc, payload)?;
-            let body = mitigation_of(alloc, &item)?;
-            Ok(Request::PutMitigation { path, body })
+            put_mitigation(alloc, path, payload)
         }
         Operation::GetMitigation(parameters) => {
             let path = parameters.path(alloc)?;
@@ -58,19 +56,35 @@ fn complete(alloc: Global, head: &Head<'_>, payload: &[u8]) -> Result<Request, R
             let path = parameters.path(alloc)?;
             Ok(Request::DeleteMitigation { path })
         }
-        Operation::PutConfig(sid) => {
-            let item = decode_body(alloc, payload)?;
-            let body = configuration_of(&item)?;
-            Ok(Request::PutConfig { sid, body })
-        }
+        Operation::PutConfig(sid) => put_config(alloc, sid, payload),
         Operation::GetConfig(sid) => Ok(Request::GetConfig { sid }),
         Operation::DeleteConfig(sid) => Ok(Request::DeleteConfig { sid }),
-        Operation::PutHeartbeat => {
-            let item = decode_body(alloc, payload)?;
-            let heard = heartbeat_of(&item)?;
-            Ok(Request::PutHeartbeat { heard })
-        }
+        Operation::PutHeartbeat => put_heartbeat(alloc, payload),
     }
+}
+
+fn put_mitigation(alloc: Global, path: MitigationPath, payload: &[u8]) -> Result<Request, Reject>
+    ensures { UnlessNoMemory result (AnswersBody payload.now (put_mitigation_with path) result) }
+{
+    let item = decode_body(alloc, payload)?;
+    let body = mitigation_of(alloc, &item)?;
+    Ok(Request::PutMitigation { path, body })
+}
+
+fn put_config(alloc: Global, sid: u32, payload: &[u8]) -> Result<Request, Reject>
+    ensures { UnlessNoMemory result (AnswersBody payload.now (put_config_with sid) result) }
+{
+    let item = decode_body(alloc, payload)?;
+    let body = configuration_of(&item)?;
+    Ok(Request::PutConfig { sid, body })
+}
+
+fn put_heartbeat(alloc: Global, payload: &[u8]) -> Result<Request, Reject>
+    ensures { UnlessNoMemory result (AnswersBody payload.now put_heartbeat_with result) }
+{
+    let item = decode_body(alloc, payload)?;
+    let heard = heartbeat_of(&item)?;
+    Ok(Request::PutHeartbeat { heard })
 }
 
 /// The item that a payload spells.

@@ -1,4 +1,4 @@
-use cbor_grammar::CborFault;
+use cbor_profile::CborFault;
 use dots_lists::NoMemory;
 use std::alloc::{AllocError, AllocFailed};
 use std::error::Error;

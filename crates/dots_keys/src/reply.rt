@@ -1,12 +1,12 @@
 //! The bodies of replies.
 
 ghost use Rattle.std.specs.Prelude.{◌≡◌, IfOk};
-ghost use Rattle.cbor_grammar.specs.Canon.{canon};
-ghost use Rattle.cbor_grammar.specs.Tree.{mapping, unsigned, no_pairs, pair};
-ghost use Rattle.cbor_grammar.specs.View.{tree_of};
+ghost use Rattle.cbor_profile.specs.Canon.{canon};
+ghost use Rattle.cbor_profile.specs.Tree.{mapping, unsigned, no_pairs, pair};
+ghost use Rattle.cbor_profile.specs.View.{tree_of};
 ghost use Rattle.dots_keys.specs.Replies.{integer, mitigation_with, granted_scope, reply_tree};
 
-use cbor_grammar::{Item, ItemList, PairList, encode};
+use cbor_profile::{Item, ItemList, PairList, encode};
 use dots_lists::{Bytes, NoMemory};
 use std::alloc::Global;
 
@@ -21,19 +21,17 @@ pub enum Reply {
 pub fn body_of(alloc: Global, reply: &Reply) -> Result<Bytes, NoMemory>
     ensures { IfOk result (λ body. body ≡ canon (reply_tree reply.now)) }
 {
-    let item = item_of(alloc, reply)?;
-    encode(alloc, &item)
+    match *reply {
+        Reply::Granted { mid, lifetime } => granted_body(alloc, mid, lifetime),
+    }
 }
 
-fn item_of(alloc: Global, reply: &Reply) -> Result<Item, NoMemory>
-    ensures { IfOk result (λ item. tree_of item ≡ reply_tree reply.now) }
+fn granted_body(alloc: Global, mid: u32, lifetime: i32) -> Result<Bytes, NoMemory>
+    ensures { IfOk result (λ body. body ≡ canon (mitigation_with (granted_scope mid lifetime))) }
 {
-    match reply {
-        Reply::Granted { mid, lifetime } => {
-            let scope = granted_scope(alloc, *mid, *lifetime)?;
-            mitigation_with(alloc, scope)
-        }
-    }
+    let scope = granted_scope(alloc, mid, lifetime)?;
+    let item = mitigation_with(alloc, scope)?;
+    encode(alloc, &item)
 }
 
 /// A whole number.

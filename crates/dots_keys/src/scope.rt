@@ -1,11 +1,11 @@
 //! The scope of a mitigation (RFC 9132, section 4.4.1).
 
 ghost use Rattle.std.specs.Prelude.{◌≡◌};
-ghost use Rattle.cbor_grammar.specs.View.{tree_of};
+ghost use Rattle.cbor_profile.specs.View.{tree_of};
 ghost use Rattle.dots_keys.specs.Fields.{each_field};
 ghost use Rattle.dots_keys.specs.FieldViews.{fields_left};
 ghost use Rattle.dots_keys.specs.Mitigations.{scope_key_of, scope_field, nothing_asked, whole_scope, has_target, lifetime_of, refuse_trigger, scope_of};
-ghost use Rattle.dots_keys.specs.Results.{Gives, Leaves};
+ghost use Rattle.dots_keys.specs.Results.{Gives, Stores};
 
 use crate::fields::Fields;
 use crate::refusing::{invalid, missing};
@@ -16,7 +16,7 @@ use crate::targets::{
     prefixes_of, protocols_of,
 };
 use acl_lists::Asked;
-use cbor_grammar::Item;
+use cbor_profile::Item;
 use dots_lists::{Bytes, List};
 use std::alloc::Global;
 
@@ -121,7 +121,7 @@ impl Scope {
 
     /// Adds what a field says.
     fn take(&mut self, alloc: Global, key: u8, value: &Item) -> Result<(), Reject>
-        ensures { Leaves result self.new (scope_field self.old key (tree_of value.now)) }
+        ensures { Stores result self.new (scope_field self.old key (tree_of value.now)) }
     {
         match scope_key_of(key) {
             Some(ScopeKey::Prefixes) => {

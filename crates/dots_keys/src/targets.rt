@@ -1,8 +1,8 @@
 //! The targets in a scope (RFC 9132, section 4.4.1).
 
 ghost use Rattle.std.specs.Prelude.{◌≡◌, option_map};
-ghost use Rattle.cbor_grammar.specs.Kind.{items_in};
-ghost use Rattle.cbor_grammar.specs.View.{tree_of};
+ghost use Rattle.cbor_profile.specs.Kind.{items_in};
+ghost use Rattle.cbor_profile.specs.View.{tree_of};
 ghost use Rattle.dots_keys.specs.FieldViews.{items_seen};
 ghost use Rattle.dots_keys.specs.Mitigations.{at_most, array_under, prefix_of, protocol_of, name_of, range_of};
 ghost use Rattle.dots_keys.specs.PrefixTexts.{prefix_in};
@@ -12,7 +12,7 @@ use crate::ports::range_of;
 use crate::refusing::invalid;
 use crate::reject::Reject;
 use acl_lists::{ByteList, NameList, PortList, PrefixList};
-use cbor_grammar::Item;
+use cbor_profile::Item;
 use dots_lists::{Bytes, List, Name};
 use ip_scope::{Prefix, parse_prefix};
 use std::alloc::Global;
