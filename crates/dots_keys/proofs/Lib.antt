@@ -2,4 +2,5 @@ pub mod Answering
 pub mod Arrays
 pub mod Grants
 pub mod Identifiers
+pub mod PrefixReading
 pub mod WithoutMemory

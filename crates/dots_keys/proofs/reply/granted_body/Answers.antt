@@ -13,4 +13,4 @@ encode-requires c =
     let is : tree_of c.in_ok-item.item ≡ mitigation_with (granted_scope c.args.mid c.args.lifetime) =
     c.in_ok-item.ensures ∙ ap (λ (scope : Tree). mitigation_with scope) c.in_ok-scope.ensures
     ∙ ap (λ (z : ℤ). mitigation_with (granted_scope c.args.mid z)) (to_z-of_z w32 c.args.lifetime c.ranges.lifetime) in
-    subst (λ (tree : Tree). IsValid tree) (sym is) (granted_valid c.args.mid c.args.lifetime (omega arith) c.ranges.lifetime.sfits)
+    subst (λ (tree : Tree). IsValid tree) (sym is) (granted_valid c.args.mid c.args.lifetime (omega arith) c.ranges.lifetime)
