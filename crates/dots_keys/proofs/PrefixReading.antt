@@ -178,11 +178,20 @@ prefix_complete text family number length is within =
     ∙ ap (λ (o : Option (Family × ℕ)). option_and_then (with_length back) o) (address_complete is.address family number is.is_address)
     ∙ cond-true _ _ _ test ∙ ap (λ (n : ℕ). Some (prefix_of family number n)) numeral.1
 
+-- the prefix of a text is that which the text writes
+pub prefix_reads : (text : List ℕ) (p : PrefixValue) → prefix_in text ≡ Some p → Reads text p
+prefix_reads text p is =
+    let w = prefix_sound text p is in
+    subst (λ (q : PrefixValue). Reads text q) w.value (record { number = w.number; spelled = w.spelled; within = w.within; cleared = refl })
+
+pub reads_prefix : (text : List ℕ) (p : PrefixValue) → Reads text p → prefix_in text ≡ Some p
+reads_prefix text p reads =
+    prefix_complete text p.family reads.number p.length reads.spelled reads.within ∙ ap (λ (q : PrefixValue). Some q) (sym reads.cleared)
+
 -- what reading a text answers, by its contract
 pub prefix_read : (text : List ℕ) (r : Result PrefixValue BadPrefix) → IfOk r (λ p. Reads text p)
     → ((family : Family) (number length : ℕ) → IsPrefixText text family number length → r ≡ reading_of family number length) → result_ok r ≡ prefix_in text
-prefix_read text (Ok p) found only =
-    sym (prefix_complete text p.family found.number p.length found.spelled found.within ∙ ap (λ (q : PrefixValue). Some q) (sym found.cleared))
+prefix_read text (Ok p) found only = sym (reads_prefix text p found)
 prefix_read text (Err e) found only = none (prefix_in text) refl
   where
     none : (o : Option PrefixValue) → prefix_in text ≡ o → None ≡ prefix_in text

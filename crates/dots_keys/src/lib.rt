@@ -15,6 +15,7 @@ mod fields;
 mod head;
 mod heartbeat;
 mod keys;
+pub mod laws;
 mod mitigation;
 mod numbers;
 mod offer;
