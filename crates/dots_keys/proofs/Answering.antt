@@ -1,6 +1,5 @@
 -- Answers that depend on the body, and which of them are want of memory.
-use Rattle.std.proofs.Common.{◌≡◌, ℕ, Bool, true, false, List, [], ◌∷◌, Option, Some, None, refl, sym, ap, ◌∙◌, Ok, Err, Result}
-use Rattle.std.specs.Prelude.{⊤, ok_or, cond}
+use Rattle.std.proofs.Common.{◌≡◌, ℕ, List, refl, sym, ap, Ok, Err, Result}
 use Rattle.cbor_profile.specs.Spelling.{Spells}
 use Rattle.cbor_profile.specs.Tree.{Tree}
 use Rattle.dots_keys.specs.declared.reject.Reject.{Reject}

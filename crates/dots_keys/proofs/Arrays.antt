@@ -1,12 +1,11 @@
 -- The items of arrays.
-use Rattle.std.proofs.Common.{◌≡◌, ◌≢◌, ℕ, zero, suc, ◌+◌, ◌<◌, List, [], ◌∷◌, ◌++◌, length, get_or, drop, map, refl, sym, ap, ◌∙◌, add-one, append_assoc, append-nil, drop-cons, arith, Result, Ok, Err, None, Some}
-use Rattle.cbor_profile.specs.Tree.{Tree, Trees, count}
-use Rattle.cbor_profile.specs.View.{tree_of}
+use Rattle.std.proofs.Common.{◌≡◌, ◌≢◌, suc, List, [], ◌∷◌, ◌++◌, length, refl, ap, Result, Ok, None, Some}
+use Rattle.cbor_profile.specs.Tree.{count}
 use Rattle.cbor_profile.specs.declared.item.Item.{Item}
 use Rattle.dots_keys.specs.declared.reject.Reject.{Reject}
 use Rattle.dots_keys.specs.Configurations.{fraction_in}
 use Rattle.dots_keys.specs.FieldViews.{items_seen}
-use Rattle.dots_keys.specs.Mitigations.{each_item, only_item}
+use Rattle.dots_keys.specs.Mitigations.{only_item}
 use Rattle.dots_keys.specs.Results.{◌>>=◌}
 
 pub count_seen : (xs : List Item) → count (items_seen xs) ≡ length xs

@@ -1,11 +1,10 @@
 -- Identifiers as decimal digits.
-use Rattle.std.proofs.Common.{◌≡◌, ℕ, ◌<◌, ◌≤◌, ◌^◌, Bool, true, false, List, [], ◌∷◌, length, refl, sym, ap, ◌∙◌, arith, Ok, Err}
-use Rattle.std.specs.Prelude.{◌&&◌, nat_le, nat_lt, if◌then◌else◌, Result}
+use Rattle.std.proofs.Common.{◌≡◌, ℕ, ◌<◌, ◌≤◌, ◌^◌, Bool, true, List, [], ◌∷◌, length, refl, ap, ◌∙◌, arith, Ok, Err}
+use Rattle.std.specs.Prelude.{◌&&◌, nat_le, nat_lt}
 use Rattle.std.specs.List.{list_all}
 use Rattle.std.specs.Char.{is_digit, digit_value}
 use Rattle.std.specs.Str.Parse.{AllDigits, digits_value}
 use Rattle.std.proofs.lemmas.Bool.{cond-true, cond-false, and_parts, and_from, ltb-true, lt-ltb, leb-true, le-leb, false_from_ne_true}
-use Rattle.dots_keys.specs.declared.reject.Reject.{Reject}
 use Rattle.dots_keys.specs.declared.reject.Reject.TheVariants as reject
 use Rattle.dots_keys.specs.Operations.{is_identifier, identifier}
 

@@ -1,9 +1,8 @@
 -- A message has one meaning.
-use Rattle.std.proofs.Common.{◌≡◌, ℕ, Bool, List, [], ◌∷◌, ◌++◌, length, Result, Ok, Err, refl, sym, ap, subst, ◌∙◌, append-nil, inl, inr}
-use Rattle.std.specs.Prelude.{◌⊎◌}
+use Rattle.std.proofs.Common.{◌≡◌, ℕ, Bool, List, [], ◌∷◌, ◌++◌, length, Result, Ok, Err, refl, sym, ap, ◌∙◌, append-nil, inl, inr}
 use Rattle.cbor_profile.specs.declared.fault.CborFault.{CborFault}
 use Rattle.cbor_profile.specs.declared.fault.CborFault.TheVariants.{Trailing}
-use Rattle.cbor_profile.specs.Breaking.{Breaks, IsTrailing, Refuses}
+use Rattle.cbor_profile.specs.Breaking.{Breaks, Refuses}
 use Rattle.cbor_profile.specs.Spelling.{Spells}
 use Rattle.cbor_profile.specs.Tree.{Tree}
 use Rattle.coap_message.specs.Message.{CoapMessage}

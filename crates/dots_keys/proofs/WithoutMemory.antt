@@ -1,14 +1,14 @@
 -- What stands before the body is never refused for want of memory.
 use Rattle.std.proofs.Common.{◌≡◌, ◌≢◌, ℕ, Bool, true, false, List, [], ◌∷◌, Option, Some, None, Ok, Err, Result, cond}
-use Rattle.std.specs.Prelude.{⊤, ok_or, nat_lt, ◌==◌}
+use Rattle.std.specs.Prelude.{⊤, ok_or, ◌==◌}
 use Rattle.coap_message.specs.Message.{CoapOption, CoapMessage}
 use Rattle.dots_keys.specs.declared.operation.Method.{Method}
 use Rattle.dots_keys.specs.declared.operation.Method.TheVariants as method
 use Rattle.dots_keys.specs.declared.reject.Reject.{Reject}
 use Rattle.dots_keys.specs.declared.reject.Reject.TheVariants as reject
 use Rattle.dots_keys.specs.declared.request.MitigationPath.{MitigationPath}
-use Rattle.dots_keys.specs.Heads.{refuse_critical, refuse_hop_limit, refuse_media, refuse_format, content_named, content_of, observe_of, head_of}
-use Rattle.dots_keys.specs.Operations.{Operation, allowed, method_in, method_of, is_client_name, client_name, is_identifier, identifier, optional, mandatory, domain_of, mitigation_path, with_mid, mitigation_operation, config_operation, operation_of}
+use Rattle.dots_keys.specs.Heads.{refuse_critical, refuse_hop_limit, refuse_media, refuse_format, content_named, content_of, head_of}
+use Rattle.dots_keys.specs.Operations.{allowed, method_in, method_of, is_client_name, client_name, is_identifier, identifier, optional, mandatory, domain_of, mitigation_path, with_mid, mitigation_operation, config_operation, operation_of}
 use Rattle.dots_keys.specs.Options.{first_critical, values_of, value_of, option_number}
 use Rattle.dots_keys.specs.Paths.{Resource, mitigation, config, heartbeat, resource_at}
 use Rattle.dots_keys.specs.Results.{◌>>=◌}

@@ -1,5 +1,5 @@
 -- What a message says before its body, with the checks in their order (RFC 9132, section 4; RFC 7252, section 5.10; RFC 8768, section 3).
-use Rattle.std.specs.Prelude.{ℕ, Bool, ◌&&◌, ◌==◌, if◌then◌else◌, List, [], ◌∷◌, codes, bytes_eq, Option, Some, None, ok_or, Result, Ok, Err}
+use Rattle.std.specs.Prelude.{ℕ, Bool, ◌==◌, if◌then◌else◌, List, [], ◌∷◌, codes, bytes_eq, Option, Some, None, ok_or, Result, Ok, Err}
 use Rattle.coap_message.specs.Message.{CoapOption, CoapMessage}
 use Rattle.dots_keys.specs.declared.operation.Method.{Method}
 use Rattle.dots_keys.specs.declared.operation.Method.TheVariants as method

@@ -3,7 +3,7 @@ use Rattle.std.specs.Prelude.{Bool, Option, Some, None, ok_or, Result}
 use Rattle.cbor_profile.specs.Tree.{Tree, boolean}
 use Rattle.dots_keys.specs.declared.reject.Reject.{Reject}
 use Rattle.dots_keys.specs.Fields.{sole_field}
-use Rattle.dots_keys.specs.Results.{◌>>=◌, invalid}
+use Rattle.dots_keys.specs.Results.{invalid}
 
 abbrev pub boolean_in : Tree → Option Bool
 boolean_in (boolean value) = Some value

@@ -1,5 +1,5 @@
 -- The operation that the code's stands for.
-use Rattle.std.specs.Prelude.{ℕ, List, IsTrue, IfSome, ⊤}
+use Rattle.std.specs.Prelude.{IsTrue, IfSome, ⊤}
 use Rattle.std.specs.Option.{option_copied}
 use Rattle.dots_lists.specs.Name.{is_name}
 use Rattle.dots_keys.specs.declared.operation.Parameters.{Parameters}

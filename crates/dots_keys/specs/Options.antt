@@ -1,5 +1,5 @@
 -- The options of a request (RFC 7252, sections 5.4 and 5.10; RFC 7641, section 2; RFC 8768, section 3).
-use Rattle.std.specs.Prelude.{ℕ, ◌+◌, ◌*◌, ◌%◌, Bool, true, false, not, ◌&&◌, ◌||◌, ◌==◌, nat_le, if◌then◌else◌, List, [], ◌∷◌, length, Option, Some, None}
+use Rattle.std.specs.Prelude.{ℕ, ◌+◌, ◌*◌, ◌%◌, Bool, false, not, ◌&&◌, ◌||◌, ◌==◌, nat_le, if◌then◌else◌, List, [], ◌∷◌, length, Option, Some, None}
 use Rattle.coap_message.specs.Message.{CoapOption}
 
 -- The known options with their lengths: Uri-Host 3, Observe 6, Uri-Port 7, Uri-Path 11, Content-Format 12, Uri-Query 15,

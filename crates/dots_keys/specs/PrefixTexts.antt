@@ -1,5 +1,5 @@
 -- The prefix that a text writes, if it writes one.
-use Rattle.std.specs.Prelude.{ℕ, Bool, ◌&&◌, ◌==◌, nat_le, if◌then◌else◌, List, [], ◌∷◌, Option, Some, None, option_and_then, decimal, bytes_eq}
+use Rattle.std.specs.Prelude.{ℕ, ◌&&◌, ◌==◌, nat_le, if◌then◌else◌, List, [], ◌∷◌, Option, Some, None, option_and_then, decimal, bytes_eq}
 use Rattle.std.specs.Net.Reader.{read_ipv4, read_ipv6, whole_value}
 use Rattle.std.specs.Str.Parse.{digits_value}
 use Rattle.ip_scope.specs.declared.family.Family.{Family}

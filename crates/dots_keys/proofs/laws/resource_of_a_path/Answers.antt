@@ -1,5 +1,5 @@
-use Rattle.std.proofs.Common.{◌≡◌, ℕ, List, ◌∙◌, ap}
-use Rattle.dots_keys.specs.Paths.{path_of, resource_at}
+use Rattle.std.proofs.Common.{ℕ, List, ◌∙◌, ap}
+use Rattle.dots_keys.specs.Paths.{resource_at}
 use Rattle.dots_keys.proofs.PathLaws.{has_path, read_back}
 use Rattle.dots_keys.proofs.laws.resource_of_a_path.Goals as goal
 

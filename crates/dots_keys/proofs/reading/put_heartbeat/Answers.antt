@@ -1,9 +1,8 @@
 use Rattle.std.proofs.Common.{Bool, sym}
 use Rattle.std.proofs.lemmas.Result.{err_from_is_err_and}
 use Rattle.cbor_profile.specs.View.{tree_of}
-use Rattle.dots_keys.specs.declared.request.ConfigBody.{ConfigBody}
 use Rattle.dots_keys.specs.declared.request.Request.TheVariants as request
-use Rattle.dots_keys.specs.Meaning.{put_heartbeat_with, put_config_with}
+use Rattle.dots_keys.specs.Meaning.{put_heartbeat_with}
 use Rattle.dots_keys.specs.Heartbeats.{heartbeat_of}
 use Rattle.dots_keys.proofs.Answering.{fulfils, refused_payload, answers_value, answers_refusal}
 use Rattle.dots_keys.proofs.reading.put_heartbeat.Goals as goal

@@ -1,6 +1,4 @@
-use Rattle.std.proofs.Common.{◌≡◌}
 use Rattle.std.proofs.lemmas.Result.{err_from_is_err_and}
-use Rattle.dots_keys.specs.declared.reject.Reject.TheVariants as reject
 use Rattle.dots_keys.proofs.WithoutMemory.{no_refusal}
 use Rattle.dots_keys.proofs.reading.read_request.Goals as goal
 
