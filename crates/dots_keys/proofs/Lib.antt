@@ -1,5 +1,6 @@
 pub mod Answering
 pub mod Arrays
+pub mod Ascending
 pub mod Grants
 pub mod Identifiers
 pub mod OneMeaning

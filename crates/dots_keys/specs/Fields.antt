@@ -1,5 +1,5 @@
 -- The fields of a map, and the order in which what is wrong with them is looked for.
-use Rattle.std.specs.Prelude.{ℕ, Bool, true, ◌&&◌, ◌==◌, if◌then◌else◌, is_some, List, [], ◌∷◌, Option, Some, None, Result, Ok, Err}
+use Rattle.std.specs.Prelude.{ℕ, ◌<◌, Bool, true, ◌&&◌, ◌==◌, if◌then◌else◌, is_some, List, [], ◌∷◌, Option, Some, None, Result, Ok, Err}
 use Rattle.cbor_profile.specs.Tree.{Tree, Pairs, no_pairs, pair}
 use Rattle.cbor_profile.specs.Kind.{number_in, pairs_in}
 use Rattle.dots_keys.specs.declared.reject.Reject.{Reject}
@@ -70,3 +70,16 @@ sole_field under key read tree = do
   first ← first_field key fields
   value ← read first.0
   ended_with value first.1
+
+-- Fields ascend where the number of each is below those of all behind it.
+abbrev pub number_of : Field → ℕ
+number_of (known n value) = n
+number_of (unknown n) = n
+
+abbrev pub AllAbove : ℕ → List Field → Type 0
+AllAbove n [] = Unit {0}
+AllAbove n (field ∷ fields) = (n < number_of field) × AllAbove n fields
+
+abbrev pub Ascend : List Field → Type 0
+Ascend [] = Unit {0}
+Ascend (field ∷ fields) = AllAbove (number_of field) fields × Ascend fields

@@ -1,8 +1,11 @@
 //! What the definitions come to: each function's contract is a law, and its body does nothing.
 
-ghost use Rattle.std.specs.Prelude.{◌≡◌, ◌↔◌, ℕ, List, Some, Result};
+ghost use Rattle.std.specs.Prelude.{◌≡◌, ◌↔◌, ℕ, List, Some, Ok, Result};
+ghost use Rattle.cbor_profile.specs.Tree.{Pairs, mapping};
+ghost use Rattle.cbor_profile.specs.Valid.{IsSound};
 ghost use Rattle.ip_scope.specs.Prefix.{PrefixValue};
 ghost use Rattle.ip_scope.specs.PrefixText.{Reads};
+ghost use Rattle.dots_keys.specs.Fields.{Field, fields_of, Ascend};
 ghost use Rattle.dots_keys.specs.Meaning.{Means};
 ghost use Rattle.dots_keys.specs.Paths.{Resource, path_of, resource_at};
 ghost use Rattle.dots_keys.specs.PrefixTexts.{prefix_in};
@@ -29,3 +32,8 @@ pub fn one_meaning(message: &Message<'_>, gateway: bool)
     one_spelling();
     one_reading(message.payload());
 }
+
+/// The fields of a map in a valid item are in ascending order of their keys.
+pub fn fields_ascend()
+    ensures { (pairs : Pairs) (fields : List Field) (under : ℕ) → IsSound (mapping pairs) → fields_of under (mapping pairs) ≡ Ok fields → Ascend fields }
+{}
