@@ -1,0 +1,24 @@
+use Rattle.std.proofs.Common.{sym}
+use Rattle.std.proofs.lemmas.Result.{err_from_is_err_and}
+use Rattle.cbor_profile.specs.View.{tree_of}
+use Rattle.dots_keys.specs.declared.request.ConfigBody.{ConfigBody}
+use Rattle.dots_keys.specs.declared.request.Request.TheVariants as request
+use Rattle.dots_keys.specs.Meaning.{put_config_with}
+use Rattle.dots_keys.specs.Configurations.{configuration_of}
+use Rattle.dots_keys.proofs.Answering.{fulfils, refused_payload, answers_value, answers_refusal}
+use Rattle.dots_keys.proofs.reading.put_config.Goals as goal
+
+pub returns-in_err-item : goal.returns-in_err-item
+returns-in_err-item c =
+    let p = err_from_is_err_and c.from_residual.result c.from_residual.ensures.1 in
+    rw (p.1, p.2) (refused_payload c.args.payload.now (put_config_with c.args.sid) c.in_err-item.field-0.0 c.in_err-item.ensures.refused)
+
+pub returns-in_err-body : goal.returns-in_err-body
+returns-in_err-body c =
+    let e = c.in_err-body.field-0.0 in
+    let p = err_from_is_err_and c.from_residual-in_err-body.result c.from_residual-in_err-body.ensures.1 in
+    rw (p.1, p.2) (fulfils e (answers_refusal c.args.payload.now configuration_of (λ (body : ConfigBody). request.PutConfig c.args.sid body) (tree_of c.in_ok-item.item) e c.in_ok-item.ensures.found (sym c.in_err-body.ensures)))
+
+pub returns : goal.returns
+returns c =
+    answers_value c.args.payload.now configuration_of (λ (body : ConfigBody). request.PutConfig c.args.sid body) (tree_of c.in_ok-item.item) c.in_ok-body.body c.in_ok-item.ensures.found (sym c.in_ok-body.ensures)

@@ -1,0 +1,107 @@
+use acl_lists::Asked;
+use dots_lists::Name;
+
+/// What a message asks.
+#[derive(Debug, Drop)]
+pub enum Request {
+    /// A mitigation is asked for (RFC 9132, section 4.4.1). The path has a mid.
+    PutMitigation {
+        path: MitigationPath,
+        body: MitigationBody,
+    },
+    /// The mitigations of a client, or the one of the path's mid (section 4.4.2).
+    GetMitigation {
+        path: MitigationPath,
+        content: Content,
+        observe: Observe,
+    },
+    /// A mitigation is withdrawn (section 4.4.4). The path has a mid.
+    DeleteMitigation {
+        path: MitigationPath,
+    },
+    /// A session is configured (section 4.5.2).
+    PutConfig {
+        sid: u32,
+        body: ConfigBody,
+    },
+    /// The configuration of the session (sections 4.5.1 and 4.5.3).
+    GetConfig {
+        sid: Option<u32>,
+    },
+    /// A configuration is given up (section 4.5.4).
+    DeleteConfig {
+        sid: u32,
+    },
+    /// A heartbeat (section 4.7); `heard` is its `peer-hb-status`.
+    PutHeartbeat {
+        heard: bool,
+    },
+}
+
+/// The parameters of a path to a mitigation (RFC 9132, section 4.4.1).
+#[derive(Debug, Drop)]
+pub struct MitigationPath {
+    /// The domain for which a gateway asks. A client's own is left out, whatever it says.
+    pub cdid: Option<Name>,
+    /// The client. It has no slash.
+    pub cuid: Name,
+    /// The mitigation. It stands in every PUT and DELETE.
+    pub mid: Option<u32>,
+}
+
+/// Which part of a mitigation a GET wants (RFC 9132, section 4.4.2).
+#[derive(Clone, Copy, Debug, PartialEq, Eq)]
+pub enum Content {
+    /// `c=a`, and where there is no query.
+    All,
+    /// `c=c`.
+    Config,
+    /// `c=n`.
+    State,
+}
+
+/// What a GET says of notifications (RFC 7641, section 2).
+#[derive(Clone, Copy, Debug, PartialEq, Eq)]
+pub enum Observe {
+    /// Nothing.
+    No,
+    /// 0.
+    Register,
+    /// 1.
+    Deregister,
+}
+
+/// What a mitigation is asked for (RFC 9132, section 4.4.1).
+#[derive(Debug, Drop)]
+pub struct MitigationBody {
+    /// The targets, with at least one prefix, name or alias.
+    pub asked: Asked,
+    /// The lifetime in seconds, from 1 on, or -1 for an indefinite one.
+    pub lifetime: i32,
+}
+
+/// What a session is to be configured with (RFC 9132, section 4.5.2). At least one of the two offers something.
+#[derive(Clone, Copy, Debug, PartialEq, Eq)]
+pub struct ConfigBody {
+    /// While a mitigation is active.
+    pub mitigating: Offer,
+    /// While none is.
+    pub idle: Offer,
+}
+
+/// The values that are given for a session; None where one isn't. They may be out of the range that is accepted.
+#[derive(Clone, Copy, Debug, PartialEq, Eq)]
+pub struct Offer {
+    /// `heartbeat-interval`, in seconds.
+    pub interval: Option<u64>,
+    /// `missing-hb-allowed`.
+    pub missing: Option<u64>,
+    /// `max-retransmit`.
+    pub retransmit: Option<u64>,
+    /// `ack-timeout`, in hundredths of a second.
+    pub timeout: Option<u64>,
+    /// `ack-random-factor`, in hundredths.
+    pub factor: Option<u64>,
+    /// `probing-rate`, in bytes a second.
+    pub rate: Option<u64>,
+}
