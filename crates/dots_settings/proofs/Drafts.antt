@@ -1,5 +1,5 @@
 -- What the rows have said, one more row at a time.
-use Rattle.std.proofs.Common.{◌≡◌, ℕ, Bool, true, false, cond, List, [], ◌∷◌, ◌++◌, Option, Some, None, is_some, refl, sym, ap, ◌∙◌, append-nil, true≢false, if◌then◌else◌}
+use Rattle.std.proofs.Common.{◌≡◌, ℕ, Bool, true, false, List, [], ◌∷◌, ◌++◌, Option, Some, None, is_some, refl, ap, ◌∙◌, append-nil, true≢false, if◌then◌else◌}
 use Rattle.std.proofs.lemmas.List.Elements.{filter_map-append}
 use Rattle.std.specs.List.{filter_map, cons_option, list_any}
 use Rattle.std.specs.Option.{option_or, option_to_list}
@@ -8,7 +8,7 @@ use Rattle.dots_settings.specs.declared.fault.SettingsFault.TheVariants as fault
 use Rattle.dots_settings.specs.Form.{FormValue, domain_line, prefix_line, client_line, gateway_line, name_line, ceiling_line, indefinite_line, capacity_line, packet_line}
 use Rattle.dots_settings.specs.Row.{Row, row_of}
 use Rattle.dots_settings.specs.Draft.{DraftValue, same_name, draft_of, first_of, firsts_of, forms_by, domain_in, scope_in, peer_in, name_in, address_in, ceiling_in, indefinite_in, capacity_in, packet_in}
-use Rattle.dots_settings.specs.Faults.{fault_of, has_name, is_twice, is_unknown, overlap_of, overlap_or_limit, is_too_much}
+use Rattle.dots_settings.specs.Faults.{fault_of, is_twice, is_unknown, overlap_of, overlap_or_limit, is_too_much}
 use Rattle.dots_settings.specs.Admitting.{admitted}
 use Rattle.dots_settings.proofs.HostNames.{firsts_then}
 

@@ -1,5 +1,5 @@
 -- A line has one form at most.
-use Rattle.std.proofs.Common.{◌≡◌, ◌≢◌, ℕ, ◌<◌, ◌≤◌, ◌^◌, Bool, true, false, List, [], ◌∷◌, length, bytes_eq, codes, decimal, Option, Some, None, refl, sym, ap, subst, ◌∙◌, true≢false, arith, lit≤}
+use Rattle.std.proofs.Common.{◌≡◌, ◌≢◌, ℕ, ◌<◌, ◌≤◌, ◌^◌, Bool, true, false, List, length, bytes_eq, codes, decimal, Option, Some, None, refl, sym, ap, subst, ◌∙◌, true≢false, arith, lit≤}
 use Rattle.std.proofs.lemmas.Fmt.{decimal_injective, decimal_is_IsNumeral}
 use Rattle.std.proofs.Math.Bridge.{le_prop}
 use Rattle.std.specs.Str.Parse.{AllDigits}

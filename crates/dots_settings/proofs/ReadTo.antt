@@ -1,8 +1,7 @@
 -- How far a file has been read, from line to line.
-use Rattle.std.proofs.Common.{◌≡◌, ◌==◌, ℕ, ◌+◌, ◌^◌, ◌<◌, ◌≤◌, Bool, true, false, cond, nat_lt, List, [], ◌∷◌, ◌++◌, length, take, refl, sym, ap, subst, ◌∙◌, append_assoc, append-nil, length-append, arith}
+use Rattle.std.proofs.Common.{◌≡◌, ◌==◌, ℕ, ◌+◌, ◌^◌, ◌<◌, ◌≤◌, Bool, true, false, cond, nat_lt, List, [], ◌∷◌, ◌++◌, length, refl, sym, ap, subst, ◌∙◌, append_assoc, append-nil, length-append, arith}
 use Rattle.std.proofs.lemmas.List.{take_all}
 use Rattle.std.proofs.lemmas.Bool.Decides.{nat_tests}
-use Rattle.std.specs.Bool.{MatchBool}
 use Rattle.std.specs.List.{onto_first}
 use Rattle.sha2.specs.Sha256.{sha256}
 use Rattle.dots_settings.specs.declared.fault.SettingsFault.{SettingsFault}
@@ -10,10 +9,9 @@ use Rattle.dots_settings.specs.declared.fault.SettingsFault.TheVariants as fault
 use Rattle.dots_settings.specs.declared.reading.Taken.{Taken}
 use Rattle.dots_settings.specs.Lines.{lines_of, content_of}
 use Rattle.dots_settings.specs.Row.{Row}
-use Rattle.dots_settings.specs.Draft.{draft_of}
 use Rattle.dots_settings.specs.Admitting.{draft_value}
 use Rattle.dots_settings.specs.File.{Stand, HasFault, SettingsAre, SettingsFail, IsRefused, IsSound, is_past}
-use Rattle.dots_settings.specs.Settings.{SettingsValue, settings_by, settings_of, digest_text}
+use Rattle.dots_settings.specs.Settings.{SettingsValue, settings_by, digest_text}
 use Rattle.dots_settings.specs.Taking.{HasTaken, TakesLine, RefusesLine}
 
 onto_past : (content : List ℕ) (byte : ℕ) (lines : List (List ℕ)) → is_past content (onto_first byte lines) ≡ false

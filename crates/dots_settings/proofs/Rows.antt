@@ -1,5 +1,5 @@
 -- The rows of lines, one more line at a time.
-use Rattle.std.proofs.Common.{◌≡◌, ℕ, ◌+◌, suc, Bool, true, false, List, [], ◌∷◌, ◌++◌, length, refl, sym, ap, subst, ◌∙◌, add-one, append_assoc, append-nil, arith, Option, Some, None}
+use Rattle.std.proofs.Common.{◌≡◌, ℕ, ◌+◌, Bool, true, false, List, [], ◌∷◌, ◌++◌, length, refl, sym, ap, subst, ◌∙◌, append_assoc, append-nil, arith, None}
 use Rattle.std.specs.Bool.{MatchBool}
 use Rattle.dots_settings.specs.Lines.{is_skipped}
 use Rattle.dots_settings.specs.Form.{FormValue, Says}

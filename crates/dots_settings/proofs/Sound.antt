@@ -1,8 +1,8 @@
 -- What holds of all settings, as each line has its form and no fault.
-use Rattle.std.proofs.Common.{◌≡◌, ℕ, suc, ◌+◌, ◌<◌, ◌≤◌, ◌==◌, Bool, true, false, cond, nat_lt, List, [], ◌∷◌, ◌++◌, length, map, find, position, bytes_eq, unwrap_or, option_map, Option, Some, None, refl, sym, ap, subst, ◌∙◌, arith, lit≤}
+use Rattle.std.proofs.Common.{◌≡◌, ℕ, suc, ◌+◌, ◌<◌, ◌≤◌, ◌==◌, Bool, true, false, cond, nat_lt, List, [], ◌∷◌, length, map, find, bytes_eq, unwrap_or, option_map, Option, Some, None, refl, sym, ap, subst, ◌∙◌, arith, lit≤}
 use Rattle.std.proofs.lemmas.Bool.Decides.{nat_tests}
 use Rattle.std.specs.Bool.{MatchBool}
-use Rattle.std.specs.List.{AllByRecursion, filter_map, cons_option, position_or_len}
+use Rattle.std.specs.List.{AllByRecursion, cons_option, position_or_len}
 use Rattle.dots_settings.specs.declared.capacity.Capacity.{Capacity}
 use Rattle.dots_settings.specs.declared.capacity.Capacity.TheVariants as capacity
 use Rattle.dots_settings.specs.declared.draft.Chosen.{Chosen}
@@ -12,9 +12,9 @@ use Rattle.dots_settings.specs.Capacity.{place_of, same_capacity, greatest_of, d
 use Rattle.dots_settings.specs.Form.{FormValue, Says, ceiling_line, capacity_line}
 use Rattle.dots_settings.specs.Lines.{is_skipped}
 use Rattle.dots_settings.specs.Row.{Row, row_of, AreRows}
-use Rattle.dots_settings.specs.Draft.{DraftValue, draft_of, first_of, forms_by, domain_in, ceiling_in, capacity_in}
-use Rattle.dots_settings.specs.File.{Stand, IsSound}
-use Rattle.dots_settings.specs.Settings.{settings_by, role_of, peer_row_of, limit_of, limits_of, domain_of, IsKnown, IsInRange, AreLimits, IsSettings, AreApart}
+use Rattle.dots_settings.specs.Draft.{DraftValue, draft_of, first_of, forms_by, ceiling_in, capacity_in}
+use Rattle.dots_settings.specs.File.{IsSound}
+use Rattle.dots_settings.specs.Settings.{settings_by, role_of, peer_row_of, limits_of, domain_of, IsKnown, IsInRange, AreLimits, IsSettings, AreApart}
 use Rattle.dots_settings.specs.Admitting.{AreDistinct}
 use Rattle.dots_settings.proofs.Apart.{distinct_rows, few_rows, apart_rows, apart_domains}
 

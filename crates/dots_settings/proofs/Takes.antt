@@ -1,21 +1,19 @@
 -- One more line is taken, or refused.
-use Rattle.std.proofs.Common.{◌≡◌, ℕ, ◌+◌, Bool, true, false, List, [], ◌∷◌, ◌++◌, length, map, Option, Some, None, refl, sym, ap, subst, ◌∙◌, append-nil, append_assoc, if◌then◌else◌}
+use Rattle.std.proofs.Common.{◌≡◌, ℕ, ◌+◌, true, false, List, [], ◌∷◌, ◌++◌, None, refl, sym, ap, subst, ◌∙◌, append-nil, append_assoc, if◌then◌else◌}
 use Rattle.std.proofs.lemmas.Grind.{flat_map-append}
 use Rattle.sha2.specs.declared.Sha256.{Sha256}
 use Rattle.sha2.specs.Hashers.{Holds256}
-use Rattle.dots_lists.specs.Name.{is_name}
 use Rattle.dots_settings.specs.declared.fault.SettingsFault.{SettingsFault}
 use Rattle.dots_settings.specs.declared.fault.SettingsFault.TheVariants as fault
 use Rattle.dots_settings.specs.declared.reading.Taken.{Taken}
 use Rattle.dots_settings.specs.Lines.{is_skipped}
-use Rattle.dots_settings.specs.Form.{FormValue, Says, domain_line, prefix_line, client_line, gateway_line, name_line, ceiling_line, indefinite_line, capacity_line, packet_line}
+use Rattle.dots_settings.specs.Form.{FormValue, Says}
 use Rattle.dots_settings.specs.Row.{Row, row_of}
 use Rattle.dots_settings.specs.Draft.{DraftValue, draft_of}
-use Rattle.dots_settings.specs.Faults.{fault_of, is_twice, is_unknown, overlap_of, overlap_or_limit, is_too_much}
+use Rattle.dots_settings.specs.Faults.{fault_of}
 use Rattle.dots_settings.specs.Settings.{is_packet, hashed_of, digest_text}
-use Rattle.dots_settings.specs.Admitting.{draft_value, admitted, IsNamed}
-use Rattle.dots_settings.specs.File.{HasFault}
-use Rattle.dots_settings.specs.Taking.{HasTaken, TakesLine, RefusesLine}
+use Rattle.dots_settings.specs.Admitting.{draft_value, admitted}
+use Rattle.dots_settings.specs.Taking.{TakesLine}
 use Rattle.dots_settings.proofs.Rows.{stand_then_skipped, stand_then_row}
 use Rattle.dots_settings.proofs.Drafts.{draft_then}
 

@@ -1,5 +1,5 @@
 -- The code's views, and what one more row adds to a draft.
-use Rattle.std.specs.Prelude.{◌≡◌, ℕ, Bool, true, false, ⊤, bytes_eq, List, [], ◌∷◌, ◌++◌, Option, Some, None, if◌then◌else◌}
+use Rattle.std.specs.Prelude.{◌≡◌, ℕ, true, false, ⊤, bytes_eq, List, [], ◌∷◌, ◌++◌, Some, None, if◌then◌else◌}
 use Rattle.std.specs.List.{list_any}
 use Rattle.dots_settings.specs.declared.form.Form.{Form}
 use Rattle.dots_settings.specs.declared.form.Form.TheVariants as form

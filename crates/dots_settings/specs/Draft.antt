@@ -1,8 +1,7 @@
 -- What the rows of a file have said up to some line, each kind of row by itself, in the file's order.
-use Rattle.std.specs.Prelude.{ℕ, ◌==◌, Bool, not, List, [], ◌∷◌, ◌++◌, map, filter, bytes_eq, Option, Some, None}
+use Rattle.std.specs.Prelude.{ℕ, Bool, not, List, [], ◌∷◌, map, filter, bytes_eq, Option, Some, None}
 use Rattle.std.specs.Char.{to_ascii_lowercase}
 use Rattle.std.specs.List.{filter_map}
-use Rattle.ip_scope.specs.Prefix.{PrefixValue}
 use Rattle.acl_lists.specs.declared.packet.Packet.{Packet}
 use Rattle.dots_settings.specs.declared.draft.Address.{Address}
 use Rattle.dots_settings.specs.declared.draft.Chosen.{Chosen}

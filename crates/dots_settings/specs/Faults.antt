@@ -1,6 +1,6 @@
 -- What is wrong with a line that has a form, by what the lines before it have said. Where several things are, the first
 -- of them is told: what stands a second time, what isn't declared, what overlaps, what is too much.
-use Rattle.std.specs.Prelude.{◌≡◌, ℕ, Bool, true, false, not, ◌==◌, ◌&&◌, ◌||◌, nat_le, if◌then◌else◌, List, [], ◌∷◌, ◌++◌, length, bytes_eq, count_by, Option, Some, None, is_some, is_none}
+use Rattle.std.specs.Prelude.{ℕ, Bool, false, not, ◌==◌, ◌&&◌, ◌||◌, nat_le, if◌then◌else◌, List, length, bytes_eq, count_by, Option, Some, None, is_some, is_none}
 use Rattle.std.specs.List.{list_any, find}
 use Rattle.std.specs.Option.{option_map}
 use Rattle.ip_scope.specs.Prefix.{PrefixValue, meets}

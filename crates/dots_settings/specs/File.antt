@@ -1,5 +1,5 @@
 -- What a settings file means: settings, or the fault of its first line that has one.
-use Rattle.std.specs.Prelude.{◌≡◌, ℕ, ◌+◌, ◌^◌, ◌≤◌, ◌⊎◌, Bool, false, nat_lt, List, [], ◌∷◌, ◌++◌, length, Option, Some, None, ⊤}
+use Rattle.std.specs.Prelude.{◌≡◌, ℕ, ◌+◌, ◌^◌, ◌≤◌, ◌⊎◌, Bool, false, nat_lt, List, [], ◌∷◌, ◌++◌, length, Some, None, ⊤}
 use Rattle.std.specs.Bool.{MatchBool}
 use Rattle.dots_settings.specs.declared.fault.SettingsFault.{SettingsFault}
 use Rattle.dots_settings.specs.declared.fault.SettingsFault.TheVariants as fault

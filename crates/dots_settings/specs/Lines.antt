@@ -1,6 +1,6 @@
 -- The lines of a file and the fields of a line.
-use Rattle.std.specs.Prelude.{ℕ, ◌+◌, ◌^◌, Bool, true, false, ◌==◌, ◌&&◌, ◌||◌, nat_le, if◌then◌else◌, List, [], ◌∷◌, ◌++◌, length, take}
-use Rattle.std.specs.List.{list_all, slice_split, onto_first}
+use Rattle.std.specs.Prelude.{ℕ, ◌+◌, ◌^◌, Bool, true, ◌==◌, if◌then◌else◌, List, [], ◌∷◌, take}
+use Rattle.std.specs.List.{slice_split, onto_first}
 
 -- the lines of a text, each without the line feed that ends it; the last may lack it
 abbrev pub lines_of : List ℕ → List (List ℕ)

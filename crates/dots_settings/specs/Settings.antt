@@ -16,9 +16,7 @@ use Rattle.dots_settings.specs.declared.names.NameRow.{NameRow}
 use Rattle.dots_settings.specs.Capacity.{default_of, greatest_of, same_capacity}
 use Rattle.dots_settings.specs.Form.{FormValue, packet_line}
 use Rattle.dots_settings.specs.Row.{Row}
-use Rattle.dots_settings.specs.declared.draft.Address.{Address}
 use Rattle.dots_settings.specs.declared.draft.Peer.{Peer}
-use Rattle.dots_settings.specs.declared.draft.Scope.{Scope}
 use Rattle.dots_settings.specs.Draft.{DraftValue, same_name, draft_of}
 
 pub record DomainValue : Type 0 where

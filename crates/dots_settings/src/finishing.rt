@@ -3,7 +3,6 @@
 ghost use Rattle.std.specs.Prelude.{◌≡◌, ◌≤◌, [], length, map, filter, position, bytes_eq, IfOk};
 ghost use Rattle.dots_settings.specs.Admitting.{draft_value, AreDistinct};
 ghost use Rattle.dots_settings.specs.Draft.{same_name};
-ghost use Rattle.dots_settings.specs.Faults.{has_domain};
 ghost use Rattle.dots_settings.specs.File.{IsSound};
 ghost use Rattle.dots_settings.specs.Settings.{settings_by, prefixes_of, addresses_of, name_row_of, peer_row_of, role_of, limit_of, limits_of, domain_of, domain_value};
 

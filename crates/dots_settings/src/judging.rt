@@ -1,7 +1,7 @@
 //! What is wrong with a line that has a form.
 
 ghost use Rattle.std.specs.Prelude.{◌≡◌, nat_le, if◌then◌else◌, length, bytes_eq, count_by};
-ghost use Rattle.std.specs.List.{list_any, find};
+ghost use Rattle.std.specs.List.{find};
 ghost use Rattle.std.specs.Option.{option_map};
 ghost use Rattle.dots_settings.specs.Admitting.{draft_value, form_value};
 ghost use Rattle.dots_settings.specs.Faults.{has_domain, has_peer, has_capacity, has_name, is_twice, is_unknown, is_overlap, overlap_of, is_too_much, is_gateway, fault_of};

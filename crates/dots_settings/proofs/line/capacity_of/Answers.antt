@@ -1,4 +1,4 @@
-use Rattle.std.proofs.Common.{◌≡◌, refl, sym, List, [], ◌∷◌, ap, ◌∙◌}
+use Rattle.std.proofs.Common.{◌≡◌, refl, sym, [], ◌∷◌, ap, ◌∙◌}
 use Rattle.dots_settings.specs.Capacity.{capacity_name}
 use Rattle.dots_settings.specs.Lines.{fields_of}
 use Rattle.dots_settings.proofs.Capacities.{named_has_name}

@@ -1,4 +1,4 @@
-use Rattle.std.proofs.Common.{◌≡◌, sym, subst}
+use Rattle.std.proofs.Common.{sym, subst}
 use Rattle.dots_settings.specs.Admitting.{draft_value}
 use Rattle.dots_settings.specs.Settings.{IsSettings}
 use Rattle.dots_settings.proofs.Sound.{sound_distinct, sound_few, sound_settings}
