@@ -1,4 +1,3 @@
 pub mod Containment
-pub mod OneMeaning
 pub mod OneRequest
 pub mod OneState

@@ -1,5 +1,5 @@
 pub mod Targets
-pub mod SettingsFile
+pub mod Domains
 pub mod Exchanges
 pub mod Requests
 pub mod Replies
