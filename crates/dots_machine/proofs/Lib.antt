@@ -1,3 +1,4 @@
 pub mod Containment
+pub mod OneMeaning
 pub mod OneRequest
 pub mod OneState

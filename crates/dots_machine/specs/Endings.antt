@@ -1,14 +1,13 @@
 -- How a run ends, with which status, and what it has done then.
-use Rattle.std.specs.Prelude.{◌≡◌, ℕ, ◌^◌, List, ◌++◌, true, false, codes, IfSome, Option, Some}
+use Rattle.std.specs.Prelude.{◌≡◌, ℕ, ◌^◌, List, ◌++◌, true, false, codes, decimal, IfSome, Option, Some}
 use Rattle.std.specs.Io.KnownBytes.{Appends}
 use Rattle.dots_host.specs.declared.event.Event.TheVariants as event
 use Rattle.dots_host.specs.Acts.{Timed}
 use Rattle.dots_host.specs.Runs.{resting, Trace, in_one_turn, Added, GoOn, EndsBy, events_in}
 use Rattle.dots_host.specs.Writing.{AppendsBeginning, Writes}
-use Rattle.dots_settings.specs.declared.fault.SettingsFault.{SettingsFault}
-use Rattle.dots_settings.specs.Settings.{SettingsValue}
-use Rattle.dots_settings.specs.File.{SettingsAre, SettingsFail}
-use Rattle.dots_settings.specs.FaultText.{fault_text}
+use Rattle.dots_machine.specs.declared.settings.Settings.{Settings}
+use Rattle.dots_machine.specs.declared.settings.SettingsFault.{SettingsFault}
+use Rattle.dots_machine.specs.declared.settings.SettingsFault.TheVariants as fault
 use Rattle.dots_machine.specs.declared.ending.Ending.{Ending}
 use Rattle.dots_machine.specs.declared.ending.Ending.TheVariants as ending
 use Rattle.hex_text.specs.HexText.{IsHex}
@@ -16,6 +15,7 @@ use Rattle.coap_message.specs.Message.{CoapMessage, IsMessage, spelling}
 use Rattle.message_text.specs.declared.showing.Shown.TheVariants as shown
 use Rattle.message_text.specs.Showing.{IsShown}
 use Rattle.dots_machine.specs.Commands.{is_replay, is_show, is_command, second_of}
+use Rattle.dots_machine.specs.SettingsFile.{SettingsAre, SettingsFail}
 use Rattle.dots_machine.specs.Machine.{State, begun, Step}
 use Rattle.dots_machine.specs.Report.{report_of, Contained}
 
@@ -32,9 +32,13 @@ status_of ending.ReportFailed = 9
 status_of ending.NotShown = 9
 status_of ending.TooMany = 11
 
+-- what is printed of a fault of the settings
+abbrev pub fault_text : SettingsFault → List ℕ
+fault_text (fault.Line number) = codes "settings line " ++ decimal number
+
 -- the line that a refusal of the settings prints
 abbrev pub fault_line : SettingsFault → List ℕ
-fault_line fault = fault_text fault ++ codes "\n"
+fault_line (fault.Line number) = codes "settings line " ++ decimal number ++ codes "\n"
 
 -- How the acts of a run that came to serve end.
 abbrev pub EndsSo : Ending → List Timed → Type 0
@@ -46,14 +50,14 @@ EndsSo _ acts = ⊥
 
 -- The acts are a run of the machine with these settings, from the empty history to the state, and end so. The filters of the
 -- state lie inside the domain.
-pub record RunsTo (how : Ending) (settings : SettingsValue) (state : State) (acts : List Timed) : Type 0 where
+pub record RunsTo (how : Ending) (settings : Settings) (state : State) (acts : List Timed) : Type 0 where
   pub trace : List State
   pub run : Trace (in_one_turn (Step settings)) (resting begun) acts trace (resting state)
   pub ends : EndsSo how acts
   pub contained : Contained settings state
 
 -- what such a run wrote to the report: the machine's report of its state, a beginning of it where the report failed, or nothing
-abbrev pub Reports : Ending → SettingsValue → State → Option (List ℕ) → Option (List ℕ) → Type 0
+abbrev pub Reports : Ending → Settings → State → Option (List ℕ) → Option (List ℕ) → Type 0
 Reports ending.Whole settings state old new = Appends old new (report_of settings state)
 Reports ending.ReportFailed settings state old new = AppendsBeginning old new (report_of settings state)
 Reports ending.NextFailed settings state old new = new ≡ old
@@ -63,7 +67,7 @@ Reports _ settings state old new = ⊥
 -- A run that came to serve: its settings are those of the file, where the source told its bytes; its acts, where they are told,
 -- are a run of the machine; its report is of the state that the run ends in.
 pub record Served (how : Ending) (left : Option (List ℕ)) (acts_old acts_new : Option (List Timed)) (old new : Option (List ℕ)) : Type 0 where
-  pub settings : SettingsValue
+  pub settings : Settings
   pub state : State
   pub told : IfSome left (λ bytes. SettingsAre bytes settings)
   pub ran : Added acts_old acts_new (RunsTo how settings state)
@@ -95,7 +99,7 @@ pub record IsReadable (word : List ℕ) : Type 0 where
 pub record GivesSettings (left : Option (List ℕ)) : Type 0 where
   pub bytes : List ℕ
   pub told : left ≡ Some bytes
-  pub settings : SettingsValue
+  pub settings : Settings
   pub are : SettingsAre bytes settings
 
 -- the source tells its bytes, and they are at fault

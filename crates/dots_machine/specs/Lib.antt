@@ -1,5 +1,5 @@
 pub mod Targets
-pub mod Domains
+pub mod SettingsFile
 pub mod Exchanges
 pub mod Requests
 pub mod Replies

@@ -1,7 +1,7 @@
 ghost use Rattle.std.specs.Prelude.{◌≡◌};
 ghost use Rattle.dots_machine.specs.Endings.{status_of};
 
-use dots_settings::SettingsFault;
+use crate::settings::SettingsFault;
 
 /// How a run ends.
 #[derive(Clone, Copy, Debug, PartialEq, Eq)]
