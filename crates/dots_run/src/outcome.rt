@@ -7,7 +7,7 @@ ghost use Rattle.dots_host.specs.Writing.{AppendsBeginning};
 ghost use Rattle.dots_machine.specs.declared.ending.Ending as endings;
 ghost use Rattle.dots_machine.specs.Commands.{is_replay, is_show, is_command, second_of};
 ghost use Rattle.dots_machine.specs.Endings.{status_of, Behaves, fault_line, GivesFault, GivesSettings, IsReadable};
-ghost use Rattle.dots_machine.specs.Report.{scrub_lines};
+ghost use Rattle.dots_run.specs.Lines.{scrub_lines};
 ghost use Rattle.dots_run.specs.Serving.{ServesTo};
 ghost use Rattle.dots_run.specs.ShowingWords.{ShowsTo};
 ghost use Rattle.dots_run.specs.declared.writing.TheConstants.{BLOCK};
@@ -15,11 +15,11 @@ ghost use Rattle.dots_run.specs.declared.writing.TheConstants.{BLOCK};
 use crate::events::{Stop, take_events};
 use crate::report::write_report;
 use crate::server::Server;
-use crate::settings_source::{SettingsError, read_settings};
 use crate::words::{is_replay, word_to_show};
 use crate::writing::BLOCK;
 use dots_host::{Failed, Host, MAX_EVENT_BYTES, Sink, Source, write_all};
-use dots_machine::{Ending, Settings, SettingsFault};
+use dots_machine::Ending;
+use dots_settings::{Settings, SettingsFault, read_settings};
 use message_text::{Shown, show};
 use std::alloc::Global;
 
@@ -85,12 +85,12 @@ fn ending_of<H: Host, S: Source, K: Sink>(
     }
     match read_settings(alloc, settings) {
         Ok(settings) => return serve(alloc, settings, host, report),
-        Err(SettingsError::Refused(fault)) => {
+        Err(SettingsFault::ReadFault) => return Ending::SettingsFailed,
+        Err(SettingsFault::NoMemory) => return Ending::NoMemory,
+        Err(fault) => {
             let _ = write_fault(report, fault);
             return Ending::Refused(fault);
         }
-        Err(SettingsError::Failed) => return Ending::SettingsFailed,
-        Err(SettingsError::NoMemory) => return Ending::NoMemory,
     }
 }
 
@@ -161,20 +161,40 @@ fn write_fault<K: Sink>(report: &mut K, fault: SettingsFault) -> Result<(), Fail
     ensures cause { HasCause (K.faults report.old) (K.faults report.new) result }
 {
     match fault {
-        SettingsFault::Line { number } => write_line_fault(report, number),
+        SettingsFault::Line { n } => write_numbered(report, b"settings line ", n),
+        SettingsFault::Twice { n } => write_numbered(report, b"settings twice ", n),
+        SettingsFault::Unknown { n } => write_numbered(report, b"settings unknown ", n),
+        SettingsFault::Capacity { n } => write_numbered(report, b"settings capacity ", n),
+        SettingsFault::Overlap { a, b } => write_overlap(report, a, b),
+        SettingsFault::ReadFault => write_all(report, b"reading the settings failed\n"),
+        SettingsFault::NoMemory => write_all(report, b"out of memory\n"),
     }
 }
 
-/// `settings line N`.
-fn write_line_fault<K: Sink>(report: &mut K, number: u32) -> Result<(), Failed>
+/// A word and a number behind it, as a line.
+fn write_numbered<K: Sink>(report: &mut K, word: &[u8], number: u32) -> Result<(), Failed>
     ensures ok { OnOk result (Appends (K.holds report.old) (K.holds report.new)
-        (codes "settings line " ++ decimal number ++ codes "\n")) }
+        (word.now ++ decimal number ++ codes "\n")) }
     ensures err { OnErr result (AppendsBeginning (K.holds report.old) (K.holds report.new)
-        (codes "settings line " ++ decimal number ++ codes "\n")) }
+        (word.now ++ decimal number ++ codes "\n")) }
     ensures cause { HasCause (K.faults report.old) (K.faults report.new) result }
 {
     let mut digits = itoa::Buffer::new();
-    write_all(report, b"settings line ")?;
+    write_all(report, word)?;
     write_all(report, digits.format(number).as_bytes())?;
     write_all(report, b"\n")
+}
+
+/// `settings overlap A B`, as a line.
+fn write_overlap<K: Sink>(report: &mut K, a: u32, b: u32) -> Result<(), Failed>
+    ensures ok { OnOk result (Appends (K.holds report.old) (K.holds report.new)
+        (codes "settings overlap " ++ decimal a ++ codes " " ++ decimal b ++ codes "\n")) }
+    ensures err { OnErr result (AppendsBeginning (K.holds report.old) (K.holds report.new)
+        (codes "settings overlap " ++ decimal a ++ codes " " ++ decimal b ++ codes "\n")) }
+    ensures cause { HasCause (K.faults report.old) (K.faults report.new) result }
+{
+    let mut digits = itoa::Buffer::new();
+    write_all(report, b"settings overlap ")?;
+    write_all(report, digits.format(a).as_bytes())?;
+    write_numbered(report, b" ", b)
 }
