@@ -88,14 +88,14 @@ live_domains room t (e ∷ later) all =
     (λ is. domain_of room e parts.0 (live_put t e (status e Open later) is))
     (live_domains room t later parts.1)
 
-few_live : (room : Capacities) (t : ℕ) (entries : List Entry) → KeepsCapacities room t entries → length (mitigations t entries) ≤ length room.domains * room.mitigations
-few_live room t entries keeps =
+few_live : (room : Capacities) (t : ℕ) (entries : List Entry) → list_all (belongs room) entries ≡ true → KeepsCapacities room t entries → length (mitigations t entries) ≤ length room.domains * room.mitigations
+few_live room t entries belong keeps =
     by_keys
     (λ domain (m : Held). m.put.domain == domain)
     room.mitigations
     room.domains
     (mitigations t entries)
-    (live_domains room t entries keeps.belong)
+    (live_domains room t entries belong)
     keeps.live
 
 -- ---- remembered messages
@@ -213,9 +213,9 @@ unfolding is_registration is_configuration
 registration_no_configuration change.Register is = refl
 registration_no_configuration _ is = absurd (false≢true is)
 
-few_registered : (room : Capacities) (t : ℕ) (entries : List Entry) → KeepsCapacities room t entries
+few_registered : (room : Capacities) (t : ℕ) (entries : List Entry) → list_all (belongs room) entries ≡ true → KeepsCapacities room t entries
     → length (filter registration (things entries)) ≤ length room.domains * room.clients
-few_registered room t entries keeps =
+few_registered room t entries belong keeps =
     by_keys
     (λ domain (e : Entry). e.domain == domain)
     room.clients
@@ -225,9 +225,9 @@ few_registered room t entries keeps =
     registration
     (belongs room)
     (has_domain room)
-    (λ x is belong. domain_of room x belong (registration_no_configuration x.change is))
+    (λ x is own. domain_of room x own (registration_no_configuration x.change is))
     (things entries)
-    (things_belong room entries keeps.belong))
+    (things_belong room entries belong))
     (λ domain. subst (λ k. k ≤ room.clients) (sym (tally_filter registration (λ (e : Entry). e.domain == domain) (things entries))) (keeps.registered domain))
 
 -- what belongs to clients
@@ -374,18 +374,18 @@ times_all d m c a l =
 times_less : (x y k : ℕ) → x ≤ y → x * k ≤ y * k
 times_less x y k less = mul-le-mul_right k less
 
-pub named_few : (room : Capacities) (n t : ℕ) (entries : List Entry) → KeepsCapacities room t entries → length (kept n t entries) ≤ most_named room n
-named_few room n t entries keeps =
+pub named_few : (room : Capacities) (n t : ℕ) (entries : List Entry) → list_all (belongs room) entries ≡ true → KeepsCapacities room t entries → length (kept n t entries) ≤ most_named room n
+named_few room n t entries belong keeps =
     let held = things entries in
     let d = length room.domains in
     let all = few n t entries in
-    let ms = few_live room t entries keeps in
-    let rs = few_recent room n entries keeps.belong in
+    let ms = few_live room t entries belong keeps in
+    let rs = few_recent room n entries belong in
     let kinds = by_kind held (all_held entries) in
-    let regs = few_registered room t entries keeps in
+    let regs = few_registered room t entries belong keeps in
     let als = few_of_clients (λ (e : Entry). is_alias e.change) room.aliases held (λ e is. or_left (is_alias e.change) (is_list e.change) is) keeps.owned keeps.aliased in
     let ls = few_of_clients (λ (e : Entry). is_list e.change) room.acls held (λ e is. or_right (is_alias e.change) (is_list e.change) is) keeps.owned keeps.listed in
-    let ss = few_settings room entries keeps.belong in
+    let ss = few_settings room entries belong in
     let end = few_last entries in
     let r = length_filter registration held in
     let a = length_filter (λ (e : Entry). is_alias e.change) held in

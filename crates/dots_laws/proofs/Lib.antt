@@ -18,3 +18,4 @@ pub mod Alone
 pub mod Inside
 pub mod Keyed
 pub mod Bounding
+pub mod BySettings

@@ -49,7 +49,6 @@ has_client held e =
 
 -- A history keeps the capacities at time t, in what it comes to then.
 pub record KeepsCapacities (room : Capacities) (t : ℕ) (entries : List Entry) : Type 0 where
-  pub belong : list_all (belongs room) entries ≡ true
   pub live : (domain : ℕ) → tally (λ (m : Held). m.put.domain == domain) (mitigations t entries) ≤ room.mitigations
   pub registered : (domain : ℕ) → tally (λ (e : Entry). is_registration e.change && (e.domain == domain)) (things entries) ≤ room.clients
   pub owned : list_all (has_client (things entries)) (things entries) ≡ true

@@ -1,3 +1,4 @@
+pub mod Calm
 pub mod Capacities
 pub mod Reading
 pub mod Views

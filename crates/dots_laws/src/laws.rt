@@ -8,7 +8,9 @@ ghost use Rattle.dots_history.specs.declared.status.Status.TheVariants.{Ended};
 ghost use Rattle.dots_history.specs.Histories.{Within, IsPart, Kept, Calm, status, live, view, mitigations, recent, things, last, remembered, alone};
 ghost use Rattle.dots_history.specs.Rows.{scrub_rows, list_rows};
 ghost use Rattle.dots_history.specs.Keeping.{kept, Fits};
-ghost use Rattle.dots_laws.specs.Capacities.{Capacities, KeepsCapacities, most_named};
+ghost use Rattle.dots_settings.specs.Settings.{SettingsValue};
+ghost use Rattle.dots_laws.specs.Calm.{IsCalmBy, capacities_of};
+ghost use Rattle.dots_laws.specs.Capacities.{Capacities, KeepsCapacities, belongs, most_named};
 ghost use Rattle.dots_laws.specs.Reading.{SaySame};
 ghost use Rattle.dots_laws.specs.Views.{view_at, view_with, mitigations_of, lies_inside};
 
@@ -49,7 +51,17 @@ pub fn what_is_named_has_the_view()
 /// mitigation, one for each registered client and one for each alias and access list of those; the remembered messages of
 /// each peer and domain; one session configuration of each peer; and the last entry.
 pub fn capacities_bound_what_is_named()
-    ensures { (room : Capacities) (n t : ℕ) (entries : List Entry) → KeepsCapacities room t entries → length (kept n t entries) ≤ most_named room n }
+    ensures { (room : Capacities) (n t : ℕ) (entries : List Entry) → list_all (belongs room) entries ≡ true → KeepsCapacities room t entries
+        → length (kept n t entries) ≤ most_named room n }
+{}
+
+/// By the settings of a server: the empty history is calm; of a calm history the entries that its view names are calm again, and they
+/// are at most so many as the settings' capacities say.
+pub fn calm_by_settings()
+    ensures empty { (settings : SettingsValue) (t : ℕ) → IsCalmBy settings t [] }
+    ensures named { (settings : SettingsValue) (n t : ℕ) (entries : List Entry) → IsCalmBy settings t entries → IsCalmBy settings t (kept n t entries) }
+    ensures few { (settings : SettingsValue) (n t : ℕ) (entries : List Entry) → IsCalmBy settings t entries
+        → length (kept n t entries) ≤ most_named (capacities_of settings) n }
 {}
 
 /// The empty history is calm, and an entry that fits keeps a history calm.
