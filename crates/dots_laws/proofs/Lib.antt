@@ -1,4 +1,5 @@
 pub mod Lasting
+pub mod Firsts
 pub mod Ageing
 pub mod Adding
 pub mod Apart

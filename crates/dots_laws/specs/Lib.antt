@@ -1,4 +1,5 @@
 pub mod Calm
 pub mod Capacities
+pub mod Firsts
 pub mod Reading
 pub mod Views

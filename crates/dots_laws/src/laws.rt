@@ -11,15 +11,17 @@ ghost use Rattle.dots_history.specs.Keeping.{kept, Fits};
 ghost use Rattle.dots_settings.specs.Settings.{SettingsValue};
 ghost use Rattle.dots_laws.specs.Calm.{IsCalmBy, capacities_of};
 ghost use Rattle.dots_laws.specs.Capacities.{Capacities, KeepsCapacities, belongs, most_named};
+ghost use Rattle.dots_laws.specs.Firsts.{IsFirstEnder};
 ghost use Rattle.dots_laws.specs.Reading.{SaySame};
 ghost use Rattle.dots_laws.specs.Views.{view_at, view_with, mitigations_of, lies_inside};
 
 /// A mitigation that is ended stays ended whatever is appended, and one that isn't live is never live again, whatever
-/// comes later.
+/// comes later. The first entry that ends a mitigation is one.
 pub fn what_is_over_stays_over()
     ensures ended { (put : Entry) (s : Status) (later more : List Entry) → status put s later ≡ Ended → status put s (later ++ more) ≡ Ended }
     ensures dead { (put : Entry) (s : Status) (low high : ℕ) (later : List Entry)
         → live low put s ≡ false → Within low later high → live high put (status put s later) ≡ false }
+    ensures first { (put : Entry) (later : List Entry) (j k : ℕ) → IsFirstEnder put later j → IsFirstEnder put later k → j ≡ k }
 {}
 
 /// Views go on: the view at a later time is a function of the view now, in which the mitigations that are no longer live
