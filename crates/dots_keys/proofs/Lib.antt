@@ -1,6 +1,7 @@
 pub mod Answering
 pub mod Arrays
 pub mod Ascending
+pub mod AskedLifetimes
 pub mod Grants
 pub mod Identifiers
 pub mod OneMeaning

@@ -5,6 +5,7 @@ pub mod HeadViews
 pub mod Heads
 pub mod Heartbeats
 pub mod Keys
+pub mod Lifetimes
 pub mod Meaning
 pub mod Mitigations
 pub mod OperationViews

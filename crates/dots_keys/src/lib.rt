@@ -1,12 +1,13 @@
 //! What a request of the signal channel asks (RFC 9132, sections 4.4 to 4.7 and 6).
 //!
 //! [`read_request`] turns a readable CoAP message into a [`Request`], or into the first [`Reject`] that applies: the
-//! options (RFC 7252, section 5.10), the path and its parameters, the method, and then the body, a map of CBOR whose keys
-//! are those of RFC 9132, section 6. [`body_of`] spells the body of a [`Reply`].
+//! options (RFC 7252, section 5.10), the path, the method, Hop-Limit and the parameters of the path, Accept, Content-Format
+//! and the query, and then the body, a map of CBOR whose keys are those of RFC 9132, section 6. [`body_of`] spells the body of
+//! a [`Reply`].
 //!
-//! Start reading at `specs/Meaning.antt`, which says what a message means, in the order of the checks. It stands on
-//! `specs/Options.antt`, `specs/Paths.antt` and `specs/Operations.antt` for what stands before the body, and on
-//! `specs/Keys.antt`, `specs/Fields.antt`, `specs/Mitigations.antt`, `specs/Configurations.antt` and
+//! Start reading at `specs/Meaning.antt`, which says what a message means. It stands on `specs/Heads.antt` for what stands
+//! before the body, in the order of the checks, with `specs/Options.antt`, `specs/Paths.antt` and `specs/Operations.antt`, and
+//! on `specs/Keys.antt`, `specs/Fields.antt`, `specs/Mitigations.antt`, `specs/Configurations.antt` and
 //! `specs/Heartbeats.antt` for bodies. Nothing is allocated before the body's turn.
 #![tactic(auto)]
 

@@ -5,6 +5,7 @@ ghost use Rattle.cbor_profile.specs.Spelling.{Spells};
 ghost use Rattle.cbor_profile.specs.View.{tree_of};
 ghost use Rattle.dots_keys.specs.HeadViews.{head_view};
 ghost use Rattle.dots_keys.specs.Heads.{head_of};
+ghost use Rattle.dots_keys.specs.Lifetimes.{HasLifetime};
 ghost use Rattle.dots_keys.specs.Meaning.{IsBody, AnswersBody, Answers, Means, put_mitigation_with, put_config_with, put_heartbeat_with};
 ghost use Rattle.dots_keys.specs.OperationViews.{IsNamed};
 ghost use Rattle.dots_keys.specs.Results.{Fulfils, UnlessNoMemory};
@@ -27,6 +28,8 @@ pub fn read_request(alloc: Global, message: &Message<'_>, gateway: bool) -> Resu
     requires detail { message.now.code ≢ 0 }
     // the request, or the first refusal
     ensures means { UnlessNoMemory result (Means message.now gateway result) }
+    // a lifetime is one that can be granted
+    ensures lifetime { IfOk result HasLifetime }
     // No memory is taken before what stands before the body is found right.
     ensures memory { result ≡ Err Reject.NoMemory → IsOk (head_of message.now gateway) }
 {

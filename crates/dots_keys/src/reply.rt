@@ -13,7 +13,7 @@ use std::alloc::Global;
 /// A reply that has a body of CBOR.
 #[derive(Clone, Copy, Debug, PartialEq, Eq)]
 pub enum Reply {
-    /// A mitigation is granted for so many seconds, or -1 for an indefinite time (RFC 9132, section 4.4.1.1).
+    /// A mitigation is granted for so many seconds, or -1 for an indefinite time (RFC 9132, section 4.4.1.3).
     Granted { mid: u32, lifetime: i32 },
 }
 

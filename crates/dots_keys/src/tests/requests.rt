@@ -72,7 +72,7 @@ fn configuration(rt: HostRuntime) -> Result<(), Fail> {
     Ok(())
 }
 
-/// RFC 9132, section 4.4.1.1.
+/// RFC 9132, section 4.4.1.3.
 #[test]
 fn granted(rt: HostRuntime) -> Result<(), Fail> {
     for (lifetime, want) in [
