@@ -32,7 +32,7 @@ option_no_more : (t u at : ℕ) (put : Option Put) → t ≤ u → option_any (�
 option_no_more t u at None less out = refl
 option_no_more t u at (Some p) less out = granted_no_more t u at p.granted less out
 
-runs_no_more : (t u : ℕ) (put : Entry) → t ≤ u → runs t put ≡ false → runs u put ≡ false
+pub runs_no_more : (t u : ℕ) (put : Entry) → t ≤ u → runs t put ≡ false → runs u put ≡ false
 unfolding runs lasts
 runs_no_more t u put less out = option_no_more t u put.time (put_of put.change) less out
 

@@ -1,100 +1,174 @@
--- Each filter that stands lies inside the domain: what each step keeps a run keeps.
-use Rattle.std.proofs.Common.{◌≡◌, ℕ, [], Bool, true, false, not, ◌&&◌, List, ◌∷◌, Option, Some, None, refl, sym, ap, ◌∙◌, subst, cond}
-use Rattle.std.specs.List.{list_all, list_any}
+-- Each filter that was accepted lies inside the domain of its request, and each step keeps that.
+use Rattle.std.proofs.Common.{◌≡◌, ℕ, [], Bool, true, false, ◌&&◌, List, ◌∷◌, Option, Some, None, refl, sym, ap, ◌∙◌, subst, cond}
+use Rattle.std.specs.List.{list_all, list_any, flat_map}
+use Rattle.std.proofs.lemmas.Bool.{and_from}
 use Rattle.std.proofs.lemmas.List.Folds.{list_all-append}
 use Rattle.dots_host.specs.declared.event.Event.{Event}
 use Rattle.dots_host.specs.declared.event.Event.TheVariants as event
 use Rattle.dots_host.specs.declared.out.OwnedOut.{OwnedOut}
-use Rattle.dots_host.specs.Acts.{WireAct, took, gave, Timed}
-use Rattle.dots_host.specs.Runs.{Owing, resting, ToldStep, Trace, in_one_turn}
 use Rattle.ip_scope.specs.Prefix.{PrefixValue, inside}
-use Rattle.dots_machine.specs.declared.settings.Settings.{Settings}
-use Rattle.dots_machine.specs.declared.entry.Entry.{Entry}
-use Rattle.dots_machine.specs.Targets.{is_target, first_fault}
-use Rattle.dots_machine.specs.Exchanges.{unheard, reset, bad_option}
-use Rattle.dots_machine.specs.Requests.{Request, Heard, at_once, undecodable, unserved, asked}
-use Rattle.dots_machine.specs.History.{stands, standing}
-use Rattle.dots_machine.specs.Machine.{State, begun, moved, with_entry, entry_of, domain_of, conflicts, judged, verdict, Answers, Answered, by_silence, by_verdict, for_want_of_memory, Step}
-use Rattle.dots_machine.specs.Report.{lies_inside, Contained}
+use Rattle.acl_lists.specs.declared.asked.Asked.{Asked}
+use Rattle.dots_settings.specs.Settings.{SettingsValue}
+use Rattle.dots_history.specs.declared.entry.Entry.{Entry}
+use Rattle.dots_history.specs.Entries.{runs}
+use Rattle.dots_history.specs.Histories.{is_nil, or_else}
+use Rattle.dots_keys.specs.declared.request.Request.{Request}
+use Rattle.dots_keys.specs.declared.request.Request.TheVariants as request
+use Rattle.dots_machine.specs.declared.target.TargetFault.{TargetFault}
+use Rattle.dots_machine.specs.declared.target.TargetFault.TheVariants.{NotATarget, OutsideDomain}
+use Rattle.dots_machine.specs.Domains.{role_of, domain_for, prefixes_of, addresses}
+use Rattle.dots_machine.specs.Targets.{is_target, prefix_fault, first_fault, fault_of_addresses, name_fault, scope_fault, resolved}
+use Rattle.dots_machine.specs.Exchanges.{Exchange, unheard, reset}
+use Rattle.dots_machine.specs.Requests.{Heard, at_once, refused, asked}
+use Rattle.dots_machine.specs.Replies.{not_implemented}
+use Rattle.dots_machine.specs.History.{standing}
+use Rattle.dots_machine.specs.Machine.{State, moved, with_entry, Asking, entry_of, Verdict, refuse, conflicts, judged, put_verdict, in_domain, asked_verdict, verdict, Answers, Answered, by_silence, by_verdict, for_want_of_memory, Step}
+use Rattle.dots_machine.proofs.OneState.{reject_uncreated}
+use Rattle.dots_machine.specs.Report.{lies_inside, AllInside, Contained}
 
-module _ {S : Type 0} (step : S → Event → ℕ → List (S × OwnedOut) → S → Type 0) (P : S → Type 0)
-    (keeps : (old : S) (event : Event) (at : ℕ) (sends : List (S × OwnedOut)) (new : S) → P old → step old event at sends new → P new) where
-  told_keeps : (old : Owing S) (act : WireAct) (told : S) (new : Owing S) → P old.last → ToldStep step old act told new → P new.last
-  told_keeps old (took event at) told new p s = keeps old.last event at new.owed new.last p s.1
-  told_keeps old (gave out done) told new p s = subst P (sym s.1) p
+-- Where a scope has no fault, all that it comes to lies inside the domain.
+or_else_none : {A : Type 0} → (a b : Option A) → or_else a b ≡ None → (a ≡ None) × (b ≡ None)
+or_else_none (Some x) b is = absurd (cc is)
+or_else_none None b is = (refl, is)
 
-  run_keeps : (old : Owing S) (acts : List Timed) (trace : List S) (new : Owing S) → P old.last → Trace step old acts trace new → P new.last
-  run_keeps old [] [] new p t = subst (λ owing. P owing.last) (sym t) p
-  run_keeps old [] (told ∷ trace) new p t = absurd t
-  run_keeps old (timed ∷ acts) [] new p t = absurd t
-  run_keeps old (timed ∷ acts) (told ∷ trace) new p t = run_keeps t.0 acts trace new (told_keeps old timed.act told t.0 p t.1) t.2
-
--- Where no asked prefix is at fault, all lie inside the domain.
-none_at_fault : (domain : List PrefixValue) (prefixes : List PrefixValue) → first_fault domain prefixes ≡ None → list_all (λ prefix. list_any (λ own. inside prefix own) domain) prefixes ≡ true
-none_at_fault domain [] is = refl
-none_at_fault domain (prefix ∷ prefixes) is = by_test (is_target prefix) (list_any (λ own. inside prefix own) domain) (none_at_fault domain prefixes) is
+one_inside : (domain : List PrefixValue) (prefix : PrefixValue) → prefix_fault domain prefix ≡ None → list_any (inside prefix) domain ≡ true
+one_inside domain prefix is = by_test (is_target prefix) (list_any (inside prefix) domain) is
   where
-    by_test : (target within : Bool) → (first_fault domain prefixes ≡ None → list_all (λ prefix. list_any (λ own. inside prefix own) domain) prefixes ≡ true)
-        → cond (not (target && within)) (Some prefix) (first_fault domain prefixes) ≡ None → (within && list_all (λ prefix. list_any (λ own. inside prefix own) domain) prefixes) ≡ true
-    by_test true true rest e = rest e
-    by_test true false rest e = absurd (cc e)
-    by_test false within rest e = absurd (cc e)
+    by_test : (target within : Bool) → cond target (cond within None (Some OutsideDomain)) (Some NotATarget) ≡ None → within ≡ true
+    by_test true true e = refl
+    by_test true false e = absurd (cc e)
+    by_test false within e = absurd (cc e)
 
-module _ (settings : Settings) where
-  abbrev AllInside : State → Type 0
-  AllInside state = list_all (lies_inside (domain_of settings)) state.history ≡ true
+all_inside : (domain prefixes : List PrefixValue) → first_fault (prefix_fault domain) prefixes ≡ None → list_all (λ prefix. list_any (inside prefix) domain) prefixes ≡ true
+all_inside domain [] is = refl
+all_inside domain (prefix ∷ prefixes) is =
+    let parts = or_else_none (prefix_fault domain prefix) (first_fault (prefix_fault domain) prefixes) is in
+    and_from
+    (list_any (inside prefix) domain)
+    (list_all (λ prefix. list_any (inside prefix) domain) prefixes)
+    (one_inside domain prefix parts.0)
+    (all_inside domain prefixes parts.1)
 
-  one_more : (state : State) (entry : Entry) → AllInside state → lies_inside (domain_of settings) entry ≡ true → AllInside (with_entry state entry)
+addresses_inside : (domain found : List PrefixValue) → fault_of_addresses domain found ≡ None → list_all (λ prefix. list_any (inside prefix) domain) found ≡ true
+addresses_inside domain [] is = refl
+addresses_inside domain (p ∷ ps) is = all_inside domain (p ∷ ps) is
+
+names_inside : (settings : SettingsValue) (domain : List PrefixValue) (names : List (List ℕ)) → first_fault (name_fault settings domain) names ≡ None
+    → list_all (λ prefix. list_any (inside prefix) domain) (flat_map (addresses settings) names) ≡ true
+names_inside settings domain [] is = refl
+names_inside settings domain (name ∷ names) is =
+    let parts = or_else_none (name_fault settings domain name) (first_fault (name_fault settings domain) names) is in
+    list_all-append (λ prefix. list_any (inside prefix) domain) (addresses settings name) (flat_map (addresses settings) names)
+    ∙ and_from
+    (list_all (λ prefix. list_any (inside prefix) domain) (addresses settings name))
+    (list_all (λ prefix. list_any (inside prefix) domain) (flat_map (addresses settings) names))
+    (addresses_inside domain (addresses settings name) parts.0)
+    (names_inside settings domain names parts.1)
+
+resolved_inside : (settings : SettingsValue) (domain : List PrefixValue) (scope : Asked) → scope_fault settings domain scope ≡ None
+    → list_all (λ prefix. list_any (inside prefix) domain) (resolved settings scope) ≡ true
+resolved_inside settings domain scope is =
+    let parts = or_else_none (first_fault (prefix_fault domain) scope.prefixes) (first_fault (name_fault settings domain) scope.names) is in
+    list_all-append (λ prefix. list_any (inside prefix) domain) scope.prefixes (flat_map (addresses settings) scope.names)
+    ∙ and_from
+    (list_all (λ prefix. list_any (inside prefix) domain) scope.prefixes)
+    (list_all (λ prefix. list_any (inside prefix) domain) (flat_map (addresses settings) scope.names))
+    (all_inside domain scope.prefixes parts.0)
+    (names_inside settings domain scope.names parts.1)
+
+module _ (settings : SettingsValue) where
+  one_more : (state : State) (entry : Entry) → AllInside settings state → lies_inside settings entry ≡ true → AllInside settings (with_entry state entry)
   one_more state entry all one =
-      list_all-append (lies_inside (domain_of settings)) state.history (entry ∷ []) ∙ ap (λ b. b && (lies_inside (domain_of settings) entry && true)) all ∙ ap (λ b. b && true) one
+      list_all-append (lies_inside settings) state.history (entry ∷ []) ∙ ap (λ b. b && (lies_inside settings entry && true)) all ∙ ap (λ b. b && true) one
 
-  judged_keeps : (state : State) (peer : ℕ) (r : Request) (fault : Option PrefixValue) (conflict : Bool) (sends : List OwnedOut) (new : State) → first_fault (domain_of settings) r.prefixes ≡ fault
-      → AllInside state → Answers (judged state peer r fault conflict) peer state sends new → AllInside new
-  judged_keeps state peer r (Some prefix) conflict sends new is all a = subst AllInside (sym a.1) all
-  judged_keeps state peer r None true sends new is all a = subst AllInside (sym a.1) all
-  judged_keeps state peer r None false sends new is all a =
-      subst AllInside (sym a.1) (one_more state (entry_of peer state.time r) all (none_at_fault (domain_of settings) r.prefixes is))
+  judged_keeps : (state : State) (a : Asking) (fault : Option TargetFault) (plain conflict : Bool) (sends : List OwnedOut) (new : State)
+      → scope_fault settings (prefixes_of settings a.domain) a.body.asked ≡ fault → AllInside settings state
+      → Answers (judged settings state a fault plain conflict) a.peer state sends new → AllInside settings new
+  judged_keeps state a (Some fault) plain conflict sends new is all s = subst (AllInside settings) (sym s.1) all
+  judged_keeps state a None false conflict sends new is all s = subst (AllInside settings) (sym s.1) all
+  judged_keeps state a None true true sends new is all s = subst (AllInside settings) (sym s.1) all
+  judged_keeps state a None true false sends new is all s =
+      subst
+      (AllInside settings)
+      (sym s.1)
+      (one_more
+      state
+      (entry_of settings state.time a)
+      all
+      (ap (λ b. b && true) (resolved_inside settings (prefixes_of settings a.domain) a.body.asked is)))
 
-  verdict_keeps : (state : State) (peer : ℕ) (heard : Heard) (sends : List OwnedOut) (new : State) → AllInside state → Answers (verdict settings state peer heard) peer state sends new → AllInside new
-  verdict_keeps state peer (at_once unheard) sends new all a = subst AllInside (sym a.1) all
-  verdict_keeps state peer (at_once (reset i)) sends new all a = subst AllInside (sym a.1) all
-  verdict_keeps state peer (at_once (bad_option x n)) sends new all a = subst AllInside (sym a.1) all
-  verdict_keeps state peer (undecodable x) sends new all a = subst AllInside (sym a.1) all
-  verdict_keeps state peer (unserved x) sends new all a = subst AllInside (sym a.1) all
-  verdict_keeps state peer (asked r) sends new all a = judged_keeps state peer r (first_fault (domain_of settings) r.prefixes) (conflicts state r) sends new refl all a
+  domain_keeps : (exchange : Exchange) (domain : Option ℕ) (f : ℕ → Verdict) (peer : ℕ) (state : State) (sends : List OwnedOut) (new : State) → AllInside settings state
+      → ((d : ℕ) → Answers (f d) peer state sends new → AllInside settings new) → Answers (in_domain exchange domain f) peer state sends new → AllInside settings new
+  domain_keeps exchange None f peer state sends new all each s = subst (AllInside settings) (sym s.1) all
+  domain_keeps exchange (Some d) f peer state sends new all each s = each d s
 
-  answered_keeps : (peer : ℕ) (datagram : List ℕ) (state : State) (sends : List OwnedOut) (new : State) → AllInside state → Answered settings peer datagram state sends new → AllInside new
-  answered_keeps peer datagram state sends new all (by_silence n s k) = subst AllInside (sym k) all
+  asked_keeps : (state : State) (peer : ℕ) (exchange : Exchange) (r : Request) (sends : List OwnedOut) (new : State) → AllInside settings state
+      → Answers (asked_verdict settings state peer exchange r) peer state sends new → AllInside settings new
+  asked_keeps state peer exchange (request.PutMitigation path body) sends new all s =
+      domain_keeps
+      exchange
+      (domain_for settings (role_of settings peer) path.cdid)
+      (λ domain. put_verdict settings state (record { peer = peer; domain = domain; exchange = exchange; path = path; body = body }))
+      peer
+      state
+      sends
+      new
+      all
+      (λ domain told.
+      judged_keeps
+      state
+      (record { peer = peer; domain = domain; exchange = exchange; path = path; body = body })
+      (scope_fault settings (prefixes_of settings domain) body.asked)
+      (is_nil body.asked.aliases)
+      (conflicts settings state (record { peer = peer; domain = domain; exchange = exchange; path = path; body = body }))
+      sends
+      new
+      refl
+      all
+      told)
+      s
+  asked_keeps state peer exchange (request.GetMitigation path content observe) sends new all s =
+      domain_keeps exchange (domain_for settings (role_of settings peer) path.cdid) (λ domain. refuse (not_implemented exchange)) peer state sends new all (λ domain told. subst (AllInside settings) (sym told.1) all) s
+  asked_keeps state peer exchange (request.DeleteMitigation path) sends new all s =
+      domain_keeps exchange (domain_for settings (role_of settings peer) path.cdid) (λ domain. refuse (not_implemented exchange)) peer state sends new all (λ domain told. subst (AllInside settings) (sym told.1) all) s
+  asked_keeps state peer exchange (request.PutConfig sid body) sends new all s = subst (AllInside settings) (sym s.1) all
+  asked_keeps state peer exchange (request.GetConfig sid) sends new all s = subst (AllInside settings) (sym s.1) all
+  asked_keeps state peer exchange (request.DeleteConfig sid) sends new all s = subst (AllInside settings) (sym s.1) all
+  asked_keeps state peer exchange (request.PutHeartbeat heard) sends new all s = subst (AllInside settings) (sym s.1) all
+
+  verdict_keeps : (state : State) (peer : ℕ) (heard : Heard) (sends : List OwnedOut) (new : State) → AllInside settings state → Answers (verdict settings state peer heard) peer state sends new → AllInside settings new
+  verdict_keeps state peer (at_once unheard) sends new all a = subst (AllInside settings) (sym a.1) all
+  verdict_keeps state peer (at_once (reset i)) sends new all a = subst (AllInside settings) (sym a.1) all
+  verdict_keeps state peer (refused x e) sends new all a = subst (AllInside settings) (sym (reject_uncreated x e peer state sends new a).1) all
+  verdict_keeps state peer (asked x r) sends new all a = asked_keeps state peer x r sends new all a
+
+  answered_keeps : (peer : ℕ) (datagram : List ℕ) (state : State) (sends : List OwnedOut) (new : State) → AllInside settings state → Answered settings peer datagram state sends new → AllInside settings new
+  answered_keeps peer datagram state sends new all (by_silence n s k) = subst (AllInside settings) (sym k) all
   answered_keeps peer datagram state sends new all (by_verdict m heard h a) = verdict_keeps state peer heard sends new all a
-  answered_keeps peer datagram state sends new all (for_want_of_memory m head p h s k) = subst AllInside (sym k) all
+  answered_keeps peer datagram state sends new all (for_want_of_memory m message is e t o s k) = subst (AllInside settings) (sym k) all
 
-  step_keeps : (old : State) (event : Event) (at : ℕ) (sends : List OwnedOut) (new : State) → AllInside old → Step settings old event at sends new → AllInside new
+  pub step_keeps : (old : State) (event : Event) (at : ℕ) (sends : List OwnedOut) (new : State) → AllInside settings old → Step settings old event at sends new → AllInside settings new
   step_keeps old (event.Datagram peer datagram) at sends new all s = answered_keeps peer datagram (moved old at) sends new all s
-  step_keeps old event.End at sends new all s = subst AllInside (sym s.1) all
-  step_keeps old event.Failed at sends new all s = subst AllInside (sym s.1) all
-  step_keeps old (event.Opened c p) at sends new all s = subst AllInside (sym s.1) all
-  step_keeps old (event.Piece c p) at sends new all s = subst AllInside (sym s.1) all
-  step_keeps old (event.Closed c) at sends new all s = subst AllInside (sym s.1) all
-  step_keeps old event.Tick at sends new all s = subst AllInside (sym s.1) all
-  step_keeps old event.Restart at sends new all s = subst AllInside (sym s.1) all
-
-  turn_keeps : (old : State) (event : Event) (at : ℕ) (sends : List (State × OwnedOut)) (new : State) → AllInside old → in_one_turn (Step settings) old event at sends new → AllInside new
-  turn_keeps old event at sends new all s = step_keeps old event at s.0 new all s.2
+  step_keeps old event.End at sends new all s = subst (AllInside settings) (sym s.1) all
+  step_keeps old event.Failed at sends new all s = subst (AllInside settings) (sym s.1) all
+  step_keeps old (event.Opened c p) at sends new all s = subst (AllInside settings) (sym s.1) all
+  step_keeps old (event.Piece c p) at sends new all s = subst (AllInside settings) (sym s.1) all
+  step_keeps old (event.Closed c) at sends new all s = subst (AllInside settings) (sym s.1) all
+  step_keeps old event.Tick at sends new all s = subst (AllInside settings) (sym s.1) all
+  step_keeps old event.Restart at sends new all s = subst (AllInside settings) (sym s.1) all
 
   -- of those of which all lie inside, those that stand do
-  some_inside : (time : ℕ) (history : List Entry) → list_all (lies_inside (domain_of settings)) history ≡ true → list_all (lies_inside (domain_of settings)) (standing time history) ≡ true
+  some_inside : (time : ℕ) (history : List Entry) → list_all (lies_inside settings) history ≡ true → list_all (lies_inside settings) (standing time history) ≡ true
   some_inside time [] all = refl
-  some_inside time (entry ∷ history) all = by_test (stands time entry) (lies_inside (domain_of settings) entry) refl (some_inside time history) all
+  some_inside time (entry ∷ history) all = by_test (runs time entry) (lies_inside settings entry) refl (some_inside time history) all
     where
-      by_test : (now within : Bool) → lies_inside (domain_of settings) entry ≡ within
-          → (list_all (lies_inside (domain_of settings)) history ≡ true → list_all (lies_inside (domain_of settings)) (standing time history) ≡ true)
-          → (within && list_all (lies_inside (domain_of settings)) history) ≡ true
-          → list_all (lies_inside (domain_of settings)) (cond now (entry ∷ standing time history) (standing time history)) ≡ true
-      by_test true true is rest e = ap (λ b. b && list_all (lies_inside (domain_of settings)) (standing time history)) is ∙ rest e
+      by_test : (now within : Bool) → lies_inside settings entry ≡ within
+          → (list_all (lies_inside settings) history ≡ true → list_all (lies_inside settings) (standing time history) ≡ true)
+          → (within && list_all (lies_inside settings) history) ≡ true
+          → list_all (lies_inside settings) (cond now (entry ∷ standing time history) (standing time history)) ≡ true
+      by_test true true is rest e = ap (λ b. b && list_all (lies_inside settings) (standing time history)) is ∙ rest e
       by_test false true is rest e = rest e
       by_test now false is rest e = absurd (cc e)
 
-  -- a run from the empty history is contained
-  pub contained : (acts : List Timed) (trace : List State) (state : State) → Trace (in_one_turn (Step settings)) (resting begun) acts trace (resting state) → Contained settings state
-  contained acts trace state run =
-      some_inside state.time state.history (run_keeps (in_one_turn (Step settings)) AllInside turn_keeps (resting begun) acts trace (resting state) refl run)
+  pub contained : (state : State) → AllInside settings state → Contained settings state
+  contained state all = some_inside state.time state.history all

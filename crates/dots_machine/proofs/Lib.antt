@@ -1,4 +1,4 @@
+pub mod Apart
 pub mod Containment
-pub mod OneMeaning
 pub mod OneRequest
 pub mod OneState

@@ -1,10 +1,11 @@
 pub mod Targets
-pub mod SettingsFile
+pub mod Domains
 pub mod Exchanges
 pub mod Requests
 pub mod Replies
 pub mod History
 pub mod Machine
+pub mod Apart
 pub mod Report
 pub mod Commands
 pub mod Endings

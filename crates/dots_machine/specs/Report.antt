@@ -1,30 +1,54 @@
--- The report: a line for each filter that stands.
-use Rattle.std.specs.Prelude.{◌≡◌, ℕ, Bool, true, List, ◌++◌, codes, decimal, flat_map}
-use Rattle.std.specs.List.{list_all, list_any}
-use Rattle.ip_scope.specs.Prefix.{PrefixValue, inside}
+-- The report: a line for each row of the filter table.
+use Rattle.std.specs.Prelude.{◌≡◌, ℕ, Bool, true, List, [], ◌∷◌, ◌++◌, codes, decimal}
+use Rattle.std.specs.List.{list_all, list_any, flat_map}
+use Rattle.ip_scope.specs.Ports.{Ports}
+use Rattle.ip_scope.specs.Prefix.{inside}
 use Rattle.ip_scope.specs.PrefixText.{prefix_text}
-use Rattle.dots_machine.specs.declared.settings.Settings.{Settings}
-use Rattle.dots_machine.specs.declared.entry.Entry.{Entry}
+use Rattle.dots_settings.specs.Settings.{SettingsValue}
+use Rattle.dots_history.specs.declared.entry.Entry.{Entry}
+use Rattle.dots_history.specs.declared.put.Target.{Target}
+use Rattle.dots_history.specs.Rows.{Row, rows_of, targets_of, mid_of}
+use Rattle.dots_machine.specs.Domains.{name_of, prefixes_of}
 use Rattle.dots_machine.specs.History.{standing}
-use Rattle.dots_machine.specs.Machine.{State, domain_of}
+use Rattle.dots_machine.specs.Machine.{State}
 
--- `scrub DOMAIN CUID MID PREFIX any any`: any protocol, any port
-abbrev pub scrub_line : Settings → Entry → PrefixValue → List ℕ
-scrub_line settings entry prefix =
-    codes "scrub " ++ settings.domain ++ codes " " ++ entry.cuid ++ codes " " ++ decimal entry.put.mid
-    ++ codes " " ++ prefix_text prefix ++ codes " any any\n"
+-- texts with commas between them, or `any` where there are none
+abbrev pub behind_commas : List (List ℕ) → List ℕ
+behind_commas [] = []
+behind_commas (text ∷ texts) = codes "," ++ text ++ behind_commas texts
 
-abbrev pub scrub_lines : Settings → Entry → List ℕ
-scrub_lines settings entry = flat_map (scrub_line settings entry) entry.put.prefixes
+abbrev pub any_or : List (List ℕ) → List ℕ
+any_or [] = codes "any"
+any_or (text ∷ texts) = text ++ behind_commas texts
 
--- the requests that stand at the state's time, in order of acceptance, each with its prefixes in order
-abbrev pub report_of : Settings → State → List ℕ
-report_of settings state = flat_map (scrub_lines settings) (standing state.time state.history)
+abbrev pub texts_of : {A : Type 0} → (A → List ℕ) → List A → List (List ℕ)
+texts_of text [] = []
+texts_of text (x ∷ xs) = text x ∷ texts_of text xs
 
--- each prefix of a request lies inside a prefix of the client's domain
-abbrev pub lies_inside : List PrefixValue → Entry → Bool
-lies_inside domain entry = list_all (λ prefix. list_any (λ own. inside prefix own) domain) entry.put.prefixes
+-- `L-U`
+abbrev pub ports_text : Ports → List ℕ
+ports_text ports = decimal ports.lower ++ codes "-" ++ decimal ports.upper
 
--- containment: each filter that is reported lies inside the domain of the client that asked for it
-abbrev pub Contained : Settings → State → Type 0
-Contained settings state = list_all (lies_inside (domain_of settings)) (standing state.time state.history) ≡ true
+-- `scrub DOMAIN CUID MID PREFIX PROTOCOLS PORTS`
+abbrev pub scrub_line : SettingsValue → Row → List ℕ
+scrub_line settings row =
+    codes "scrub " ++ name_of settings row.put.domain ++ codes " " ++ row.put.cuid ++ codes " " ++ decimal (mid_of row.put.change)
+    ++ codes " " ++ prefix_text row.prefix ++ codes " " ++ any_or (texts_of decimal row.target.protocols)
+    ++ codes " " ++ any_or (texts_of ports_text row.target.ports) ++ codes "\n"
+
+-- the rows of the requests that stand at the state's time, in order of acceptance, each with its prefixes in order
+abbrev pub report_of : SettingsValue → State → List ℕ
+report_of settings state = flat_map (λ entry. flat_map (scrub_line settings) (rows_of entry)) (standing state.time state.history)
+
+-- each prefix of a request lies inside a prefix of the domain that it was asked for
+abbrev pub lies_inside : SettingsValue → Entry → Bool
+lies_inside settings entry =
+    list_all (λ (target : Target). list_all (λ prefix. list_any (inside prefix) (prefixes_of settings entry.domain)) target.prefixes) (targets_of entry.change)
+
+-- each filter that was ever accepted does
+abbrev pub AllInside : SettingsValue → State → Type 0
+AllInside settings state = list_all (lies_inside settings) state.history ≡ true
+
+-- containment: each filter that is reported lies inside the domain that its request was for
+abbrev pub Contained : SettingsValue → State → Type 0
+Contained settings state = list_all (lies_inside settings) (standing state.time state.history) ≡ true

@@ -1,10 +1,15 @@
--- Which prefixes may be asked for (RFC 9132, section 4.4.1, target-prefix).
-use Rattle.std.specs.Prelude.{ℕ, ◌*◌, ◌^◌, ◌-◌, Bool, not, ◌&&◌, if◌then◌else◌, List, [], ◌∷◌, codes, Option}
-use Rattle.std.specs.List.{list_any, find}
+-- Which scopes may be asked for (RFC 9132, section 4.4.1: target-prefix, target-fqdn).
+use Rattle.std.specs.Prelude.{ℕ, ◌*◌, ◌^◌, ◌-◌, Bool, not, if◌then◌else◌, List, [], ◌∷◌, ◌++◌, codes, Option, Some, None}
+use Rattle.std.specs.List.{list_any, flat_map}
 use Rattle.ip_scope.specs.declared.family.Family.TheVariants.{V4, V6}
 use Rattle.ip_scope.specs.Prefix.{PrefixValue, inside, meets}
+use Rattle.acl_lists.specs.declared.asked.Asked.{Asked}
+use Rattle.dots_history.specs.declared.put.Target.{Target}
+use Rattle.dots_history.specs.Histories.{or_else}
+use Rattle.dots_settings.specs.Settings.{SettingsValue}
 use Rattle.dots_machine.specs.declared.target.TargetFault.{TargetFault}
-use Rattle.dots_machine.specs.declared.target.TargetFault.TheVariants.{NotATarget, OutsideDomain}
+use Rattle.dots_machine.specs.declared.target.TargetFault.TheVariants.{NotATarget, OutsideDomain, UnknownName}
+use Rattle.dots_machine.specs.Domains.{addresses}
 
 -- loopback, multicast and limited broadcast: 127.0.0.0/8, 224.0.0.0/4, 255.255.255.255/32, ::1/128 and ff00::/8
 abbrev pub never_targets : List PrefixValue
@@ -19,18 +24,38 @@ never_targets =
 abbrev pub is_target : PrefixValue → Bool
 is_target prefix = not (list_any (λ never. meets prefix never) never_targets)
 
--- a prefix that a client of the domain may ask for: a target, and inside a prefix of the domain
-abbrev pub may_be_asked : List PrefixValue → PrefixValue → Bool
-may_be_asked domain prefix = is_target prefix && list_any (λ own. inside prefix own) domain
+-- why a prefix may not be asked for in a domain of these prefixes: it is no target, or lies outside
+abbrev pub prefix_fault : List PrefixValue → PrefixValue → Option TargetFault
+prefix_fault domain prefix =
+    if is_target prefix then (if list_any (inside prefix) domain then None else Some OutsideDomain) else Some NotATarget
 
--- the first of the asked prefixes that may not be asked for
-abbrev pub first_fault : List PrefixValue → List PrefixValue → Option PrefixValue
-first_fault domain prefixes = find (λ prefix. not (may_be_asked domain prefix)) prefixes
+-- the fault of the first that has one
+abbrev pub first_fault : {A : Type 0} → (A → Option TargetFault) → List A → Option TargetFault
+first_fault fault [] = None
+first_fault fault (x ∷ xs) = or_else (fault x) (first_fault fault xs)
 
--- Why a prefix may not be asked for. Of one that is no target and lies outside too it is said that it is no target.
-abbrev pub fault_of : PrefixValue → TargetFault
-fault_of prefix = if is_target prefix then OutsideDomain else NotATarget
+-- a host name is known, and each of its addresses may be asked for
+abbrev pub fault_of_addresses : List PrefixValue → List PrefixValue → Option TargetFault
+fault_of_addresses domain [] = Some UnknownName
+fault_of_addresses domain (p ∷ ps) = first_fault (prefix_fault domain) (p ∷ ps)
+
+abbrev pub name_fault : SettingsValue → List PrefixValue → List ℕ → Option TargetFault
+name_fault settings domain name = fault_of_addresses domain (addresses settings name)
+
+-- the fault of the first asked prefix that has one, else of the first name that has one
+abbrev pub scope_fault : SettingsValue → List PrefixValue → Asked → Option TargetFault
+scope_fault settings domain asked =
+    or_else (first_fault (prefix_fault domain) asked.prefixes) (first_fault (name_fault settings domain) asked.names)
+
+-- The targets of a scope without aliases: one, with the asked prefixes, those of the names in order, and the asked ports and
+-- protocols.
+abbrev pub resolved : SettingsValue → Asked → List PrefixValue
+resolved settings asked = asked.prefixes ++ flat_map (addresses settings) asked.names
+
+abbrev pub targets_of : SettingsValue → Asked → List Target
+targets_of settings asked = record { prefixes = resolved settings asked; ports = asked.ports; protocols = asked.protocols } ∷ []
 
 abbrev pub fault_text : TargetFault → List ℕ
 fault_text NotATarget = codes "not a target"
 fault_text OutsideDomain = codes "outside domain"
+fault_text UnknownName = codes "unknown name"

@@ -1,7 +1,7 @@
 ghost use Rattle.std.specs.Prelude.{◌≡◌};
 ghost use Rattle.dots_machine.specs.Endings.{status_of};
 
-use crate::settings::SettingsFault;
+use dots_settings::SettingsFault;
 
 /// How a run ends.
 #[derive(Clone, Copy, Debug, PartialEq, Eq)]
@@ -18,7 +18,7 @@ pub enum Ending {
     WrongWords,
     /// The settings were read and are refused.
     Refused(SettingsFault),
-    /// Memory ran out before the first event.
+    /// Memory ran out before the first event, or for the lines of a message.
     NoMemory,
     /// The settings couldn't be read.
     SettingsFailed,

@@ -1,13 +1,15 @@
 ghost use Rattle.std.specs.Prelude.{◌≡◌};
 ghost use Rattle.dots_machine.specs.Targets.{fault_text};
 
-/// Why a prefix can't be asked for.
+/// Why a scope can't be asked for.
 #[derive(Clone, Copy, Debug, PartialEq, Eq)]
 pub enum TargetFault {
     /// It meets loopback, multicast or limited broadcast.
     NotATarget,
-    /// It doesn't lie inside a prefix of the client's domain.
+    /// It doesn't lie inside a prefix of the domain that it is asked for.
     OutsideDomain,
+    /// The settings don't have this host name.
+    UnknownName,
 }
 
 impl TargetFault {
@@ -18,6 +20,7 @@ impl TargetFault {
         match self {
             TargetFault::NotATarget => b"not a target",
             TargetFault::OutsideDomain => b"outside domain",
+            TargetFault::UnknownName => b"unknown name",
         }
     }
 }

@@ -1,18 +1,18 @@
 -- Which endings are left, where the settings are at fault, where nothing is, and where a word is to be shown.
-use Rattle.std.proofs.Common.{◌≡◌, ◌≢◌, ℕ, Bool, true, false, ◌&&◌, ◌||◌, List, [], ◌∷◌, codes, Option, Result, Ok, ◌⊎◌, inl, inr, refl, sym, ◌∙◌, subst, arith}
+use Rattle.std.proofs.Common.{◌≡◌, ◌≢◌, ℕ, ◌≤◌, Bool, true, false, ◌&&◌, ◌||◌, List, [], ◌∷◌, codes, Option, Result, Ok, ◌⊎◌, inl, inr, refl, sym, ◌∙◌, subst, arith}
 use Rattle.std.proofs.lemmas.Bool.Decides.{nat_tests}
 use Rattle.std.specs.Prelude.{IfSome, bytes_eq}
 use Rattle.coap_message.specs.Message.{spelling}
 use Rattle.coap_message.proofs.Faults.{breaks_no_message}
 use Rattle.message_text.specs.Showing.{ShowsFault, ShowsNoHex}
 use Rattle.dots_host.specs.Acts.{Timed}
-use Rattle.dots_machine.specs.declared.settings.SettingsFault.{SettingsFault}
+use Rattle.dots_settings.specs.declared.fault.SettingsFault.{SettingsFault}
+use Rattle.dots_settings.specs.File.{SettingsAre, SettingsFail}
 use Rattle.dots_machine.specs.declared.ending.Ending.{Ending}
 use Rattle.dots_machine.specs.declared.ending.Ending.TheVariants as ending
-use Rattle.dots_machine.specs.SettingsFile.{file_lines, SettingsAre, SettingsFail}
+use Rattle.dots_settings.proofs.OneFile.{no_settings_at_fault}
 use Rattle.dots_machine.specs.Commands.{is_word, is_replay, is_show, is_command, second_of}
-use Rattle.dots_machine.specs.Endings.{status_of, Served, Behaves, GivesSettings, GivesFault, IsReadable}
-use Rattle.dots_machine.proofs.OneMeaning.{no_settings_at_fault}
+use Rattle.dots_machine.specs.Endings.{status_of, has_served, Served, Behaves, GivesSettings, GivesFault, IsReadable}
 
 true_is_false : true ≡ false → ⊥
 true_is_false e = cc
@@ -45,12 +45,12 @@ module _ (words : List (List ℕ)) (left : Option (List ℕ)) (a b : Option (Lis
   never_served : (how : Ending) → GivesFault left → Served how left a b old new → ⊥
   never_served how given served =
       let are : SettingsAre given.bytes served.settings = subst (λ left. IfSome left (λ bytes. SettingsAre bytes served.settings)) given.told served.told in
-      no_settings_at_fault (file_lines given.bytes) served.settings given.fault are given.fails
+      no_settings_at_fault given.bytes served.settings given.fault are given.fails
 
   never_refused : (fault : SettingsFault) → GivesSettings left → IfSome left (λ bytes. SettingsFail bytes fault) → ⊥
   never_refused fault given told =
       let fails : SettingsFail given.bytes fault = subst (λ left. IfSome left (λ bytes. SettingsFail bytes fault)) given.told told in
-      no_settings_at_fault (file_lines given.bytes) given.settings fault given.are fails
+      no_settings_at_fault given.bytes given.settings fault given.are fails
 
   pub ends_refused : (how : Ending) → is_replay words ≡ true → how ≢ ending.SettingsFailed → GivesFault left → Behaves how words left a b old new failed → (status_of how ≡ 3) ⊎ (status_of how ≡ 4)
   ends_refused ending.WrongWords replay read given behaves = absurd (replay_is_command words replay behaves.0)
@@ -71,7 +71,7 @@ module _ (words : List (List ℕ)) (left : Option (List ℕ)) (a b : Option (Lis
   ends_well ending.Shown replay read came written given behaves = absurd (one_command words replay behaves.0)
   ends_well ending.NotShown replay read came written given behaves = absurd (one_command words replay behaves.0)
   ends_well ending.Unreadable replay read came written given behaves = absurd (one_command words replay behaves.0)
-  ends_well (ending.Refused fault) replay read came written given behaves = absurd (never_refused fault given behaves.2)
+  ends_well (ending.Refused fault) replay read came written given behaves = absurd (never_refused fault given behaves.3)
   ends_well ending.NoMemory replay read came written given behaves = inr (inl refl)
   ends_well ending.SettingsFailed replay read came written given behaves = absurd (read refl)
   ends_well ending.Whole replay read came written given behaves = inl refl
@@ -110,3 +110,17 @@ module _ (words : List (List ℕ)) (left : Option (List ℕ)) (a b : Option (Lis
   ends_unreadable ending.NextFailed show none behaves = absurd (one_command words behaves.0 show)
   ends_unreadable ending.ReportFailed show none behaves = absurd (one_command words behaves.0 show)
   ends_unreadable ending.TooMany show none behaves = absurd (one_command words behaves.0 show)
+
+-- a status of these is one of an ending before the host is called
+pub not_served : (how : Ending) → 1 ≤ status_of how → status_of how ≤ 4 → has_served how ≡ false
+not_served ending.WrongWords low high = refl
+not_served ending.Shown low high = refl
+not_served ending.NotShown low high = refl
+not_served ending.Unreadable low high = refl
+not_served (ending.Refused fault) low high = refl
+not_served ending.NoMemory low high = refl
+not_served ending.SettingsFailed low high = refl
+not_served ending.Whole low high = absurd (omega arith)
+not_served ending.NextFailed low high = absurd (omega arith)
+not_served ending.ReportFailed low high = absurd (omega arith)
+not_served ending.TooMany low high = absurd (omega arith)

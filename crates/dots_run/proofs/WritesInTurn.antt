@@ -6,8 +6,8 @@ use Rattle.dots_host.specs.Writing.{Owes, AppendsBeginning}
 use Rattle.dots_host.proofs.WriteLemmas.{owes_all, owes_less, owes_lost, owes_then, owes_begun}
 
 -- the last went well
-pub three_writes : {E : Type 0} (r : Result (Unit {0}) E) (a b c d : Option (List ℕ)) (x y z : List ℕ) → Appends a b x → Appends b c y → OnOk r (Appends c d z) → OnOk r (Appends a d (x ++ y ++ z))
-three_writes (Ok u) a b c d x y z first second third = Appends-trans a c d (x ++ y) z (Appends-trans a b c x y first second) third
+pub three_writes : {E : Type 0} (r : Result (Unit {0}) E) (a b c d : Option (List ℕ)) (x y z : List ℕ) → Appends a b x → Appends b c y → OnOk r (Appends c d z) → OnOk r (Appends a d (x ++ (y ++ z)))
+three_writes (Ok u) a b c d x y z first second third = Appends-trans a b d x (y ++ z) first (Appends-trans b c d y z second third)
 three_writes (Err e) a b c d x y z first second third = tt
 
 -- what holds anyway holds for an error
@@ -73,3 +73,11 @@ flushed_lost (Err e) a b c x block first part = record {
   split = first.split ∙ ap (λ xs. first.front ++ xs) part.split ∙ sym (append_assoc first.front part.front part.rest);
   appends = Appends-trans a b c first.front part.front first.appends part.appends;
 }
+
+-- behind what the block had, one text was gathered and then another
+module _ (a b c : Option (List ℕ)) (x y z block : List ℕ) where
+  pub gathered_behind : (next : List ℕ) → Owes a b (x ++ y) block → Owes b c (block ++ z) next → Owes a c (x ++ (y ++ z)) next
+  gathered_behind next first second = rw (← append_assoc) (owes_then a b c (x ++ y) block z next first second)
+
+  pub lost_behind : Owes a b (x ++ y) block → AppendsBeginning b c (block ++ z) → AppendsBeginning a c (x ++ (y ++ z))
+  lost_behind first part = rw (← append_assoc) (owes_begun a b c (x ++ y) block z first part)

@@ -1,6 +1,5 @@
 -- What the code holds of an exchange, and what it settles at once, as the machine's words say it.
-use Rattle.std.specs.Prelude.{◌≤◌, length, ⊤}
-use Rattle.dots_machine.specs.Exchanges.{Settled, unheard, reset, bad_option}
+use Rattle.dots_machine.specs.Exchanges.{Settled, unheard, reset}
 use Rattle.dots_machine.specs.Exchanges as machine
 use Rattle.dots_run.specs.declared.exchange.Exchange.{Exchange}
 use Rattle.dots_run.specs.declared.settling.AtOnce.{AtOnce}
@@ -12,9 +11,3 @@ exchange_view exchange = record { kind = exchange.kind; identifier = exchange.id
 abbrev pub settled_view : AtOnce → Settled
 settled_view at_once.Unheard = unheard
 settled_view (at_once.Reset identifier) = reset identifier
-settled_view (at_once.BadOption exchange number) = bad_option (exchange_view exchange) number
-
--- a reply can carry its token
-abbrev pub IsAnswerable : AtOnce → Type 0
-IsAnswerable (at_once.BadOption exchange number) = length exchange.token.now ≤ 8
-IsAnswerable _ = ⊤

@@ -1,10 +1,10 @@
 pub mod Asking
+pub mod Created
+pub mod Deciding
 pub mod Exchanging
 pub mod Hearing
 pub mod Keeping
-pub mod Payloads
-pub mod Scopes
-pub mod Refusing
+pub mod Lines
 pub mod Sends
 pub mod Serving
 pub mod ShowingWords

@@ -5,6 +5,7 @@ ghost use Rattle.dots_host.specs.Causes.{Rose};
 ghost use Rattle.dots_host.specs.Runs.{Added};
 ghost use Rattle.dots_host.specs.declared.TheConstants.{MAX_EVENT_BYTES};
 ghost use Rattle.dots_machine.specs.Machine.{State, Step};
+ghost use Rattle.dots_machine.specs.Report.{AllInside};
 ghost use Rattle.dots_run.specs.Keeping.{kept};
 ghost use Rattle.dots_run.specs.Stopping.{Ran};
 
@@ -33,6 +34,7 @@ pub fn take_events<W: Wire>(server: &mut Server, wire: &mut W, room: &mut [u8]) 
     ensures cause { result ≡ Stop.NextFailed → Rose (W.faults wire.old) (W.faults wire.new) }
     ensures ran { (state : State) → server.old ≡ kept server.old.settings state
         → (new : State) × (server.new ≡ kept server.old.settings new)
+        × (AllInside server.old.settings state → AllInside server.old.settings new)
         × Added (W.acts wire.old) (W.acts wire.new) (Ran (Step server.old.settings) state new result) }
 {
     for _turn in 0..MAX_EVENTS {

@@ -1,3 +1,5 @@
+//! What a reply takes from its request.
+
 ghost use Rattle.std.specs.Prelude.{◌≡◌, ◌≤◌, length};
 ghost use Rattle.dots_machine.specs.Exchanges.{exchange_in};
 ghost use Rattle.dots_machine.specs.Replies.{reply_kind};

@@ -1,7 +1,7 @@
 //! The top call of the program, [`run`], and the host that serves it a script, [`ScriptHost`].
 #![tactic(auto)]
 
-mod affixes;
+mod asking;
 mod conflicts;
 mod events;
 mod exchange;
@@ -10,12 +10,9 @@ mod refusals;
 mod replies;
 mod report;
 mod request;
-mod request_body;
-mod request_head;
 mod sending;
 mod server;
-mod settings_file;
-mod settings_source;
+mod settings;
 mod settling;
 mod targets;
 mod words;

@@ -6,8 +6,8 @@ ghost use Rattle.dots_host.specs.Causes.{Rose, HasCause};
 ghost use Rattle.dots_host.specs.Writing.{AppendsBeginning};
 ghost use Rattle.dots_machine.specs.declared.ending.Ending as endings;
 ghost use Rattle.dots_machine.specs.Commands.{is_replay, is_show, is_command, second_of};
-ghost use Rattle.dots_machine.specs.Endings.{status_of, Behaves, fault_line, GivesFault, GivesSettings, IsReadable};
-ghost use Rattle.dots_machine.specs.Report.{scrub_lines};
+ghost use Rattle.dots_machine.specs.Endings.{status_of, has_served, Behaves, fault_line, GivesFault, GivesSettings, IsReadable};
+ghost use Rattle.dots_run.specs.Lines.{scrub_lines};
 ghost use Rattle.dots_run.specs.Serving.{ServesTo};
 ghost use Rattle.dots_run.specs.ShowingWords.{ShowsTo};
 ghost use Rattle.dots_run.specs.declared.writing.TheConstants.{BLOCK};
@@ -15,11 +15,11 @@ ghost use Rattle.dots_run.specs.declared.writing.TheConstants.{BLOCK};
 use crate::events::{Stop, take_events};
 use crate::report::write_report;
 use crate::server::Server;
-use crate::settings_source::{SettingsError, read_settings};
 use crate::words::{is_replay, word_to_show};
 use crate::writing::BLOCK;
 use dots_host::{Failed, Host, MAX_EVENT_BYTES, Sink, Source, write_all};
-use dots_machine::{Ending, Settings, SettingsFault};
+use dots_machine::Ending;
+use dots_settings::{Settings, SettingsFault, read_settings};
 use message_text::{Shown, show};
 use std::alloc::Global;
 
@@ -45,7 +45,10 @@ pub fn run<H: Host, S: Source, K: Sink>(
     ensures read { result ≡ 5 → Rose (S.faults settings.old) (S.faults settings.new)
         ⊎ Rose (H.faults host.old) (H.faults host.new) }
     ensures written { result ≡ 9 → Rose (K.faults report.old) (K.faults report.new) }
-    // When the settings are refused, and when a run must go well, want of memory aside.
+    // What isn't called: neither settings nor host for other words, nor the host where the run ends before it serves.
+    ensures unread { is_replay (map string_bytes words.now) ≡ false → (settings.new ≡ settings.old) × (host.new ≡ host.old) }
+    ensures uncalled { 1 ≤ result → result ≤ 4 → host.new ≡ host.old }
+    // When the settings are refused, and when a run must go well, want of memory and 2^40 events without End aside.
     ensures refused { is_replay (map string_bytes words.now) ≡ true → GivesFault (S.left settings.old)
         → ¬ (Rose (S.faults settings.old) (S.faults settings.new)) → (result ≡ 3) ⊎ (result ≡ 4) }
     ensures complete { is_replay (map string_bytes words.now) ≡ true → GivesSettings (S.left settings.old)
@@ -73,6 +76,8 @@ fn ending_of<H: Host, S: Source, K: Sink>(
     ensures failed { result ≡ Ending.NextFailed → Rose (H.faults host.old) (H.faults host.new) }
     ensures written { result ≡ Ending.ReportFailed → Rose (K.faults report.old) (K.faults report.new) }
     ensures shown { result ≡ Ending.NotShown → Rose (K.faults report.old) (K.faults report.new) }
+    ensures untouched { is_replay (map string_bytes words.now) ≡ false → (settings.new ≡ settings.old) × (host.new ≡ host.old) }
+    ensures uncalled { has_served result ≡ false → host.new ≡ host.old }
     ensures machine { Behaves result (map string_bytes words.now) (S.left settings.old) (H.acts host.old) (H.acts host.new) (K.holds report.old) (K.holds report.new)
         (Rose (K.faults report.old) (K.faults report.new)) }
 {
@@ -85,12 +90,12 @@ fn ending_of<H: Host, S: Source, K: Sink>(
     }
     match read_settings(alloc, settings) {
         Ok(settings) => return serve(alloc, settings, host, report),
-        Err(SettingsError::Refused(fault)) => {
+        Err(SettingsFault::ReadFault) => return Ending::SettingsFailed,
+        Err(SettingsFault::NoMemory) => return Ending::NoMemory,
+        Err(fault) => {
             let _ = write_fault(report, fault);
             return Ending::Refused(fault);
         }
-        Err(SettingsError::Failed) => return Ending::SettingsFailed,
-        Err(SettingsError::NoMemory) => return Ending::NoMemory,
     }
 }
 
@@ -123,6 +128,7 @@ fn serve<H: Host, K: Sink>(
     ensures here { (result ≢ Ending.WrongWords) × (result ≢ Ending.SettingsFailed) }
     ensures failed { result ≡ Ending.NextFailed → Rose (H.faults host.old) (H.faults host.new) }
     ensures written { result ≡ Ending.ReportFailed → Rose (K.faults report.old) (K.faults report.new) }
+    ensures uncalled { result ≡ Ending.NoMemory → host.new ≡ host.old }
     ensures machine { ServesTo result settings (H.acts host.old) (H.acts host.new) (K.holds report.old) (K.holds report.new) }
 {
     let Ok(mut block) = Vec::with_capacity(alloc, BLOCK) else {
@@ -161,20 +167,40 @@ fn write_fault<K: Sink>(report: &mut K, fault: SettingsFault) -> Result<(), Fail
     ensures cause { HasCause (K.faults report.old) (K.faults report.new) result }
 {
     match fault {
-        SettingsFault::Line { number } => write_line_fault(report, number),
+        SettingsFault::Line { n } => write_numbered(report, b"settings line ", n),
+        SettingsFault::Twice { n } => write_numbered(report, b"settings twice ", n),
+        SettingsFault::Unknown { n } => write_numbered(report, b"settings unknown ", n),
+        SettingsFault::Capacity { n } => write_numbered(report, b"settings capacity ", n),
+        SettingsFault::Overlap { a, b } => write_overlap(report, a, b),
+        SettingsFault::ReadFault => write_all(report, b"reading the settings failed\n"),
+        SettingsFault::NoMemory => write_all(report, b"out of memory\n"),
     }
 }
 
-/// `settings line N`.
-fn write_line_fault<K: Sink>(report: &mut K, number: u32) -> Result<(), Failed>
+/// A word and a number behind it, as a line.
+fn write_numbered<K: Sink>(report: &mut K, word: &[u8], number: u32) -> Result<(), Failed>
     ensures ok { OnOk result (Appends (K.holds report.old) (K.holds report.new)
-        (codes "settings line " ++ decimal number ++ codes "\n")) }
+        (word.now ++ decimal number ++ codes "\n")) }
     ensures err { OnErr result (AppendsBeginning (K.holds report.old) (K.holds report.new)
-        (codes "settings line " ++ decimal number ++ codes "\n")) }
+        (word.now ++ decimal number ++ codes "\n")) }
     ensures cause { HasCause (K.faults report.old) (K.faults report.new) result }
 {
     let mut digits = itoa::Buffer::new();
-    write_all(report, b"settings line ")?;
+    write_all(report, word)?;
     write_all(report, digits.format(number).as_bytes())?;
     write_all(report, b"\n")
+}
+
+/// `settings overlap A B`, as a line.
+fn write_overlap<K: Sink>(report: &mut K, a: u32, b: u32) -> Result<(), Failed>
+    ensures ok { OnOk result (Appends (K.holds report.old) (K.holds report.new)
+        (codes "settings overlap " ++ decimal a ++ codes " " ++ decimal b ++ codes "\n")) }
+    ensures err { OnErr result (AppendsBeginning (K.holds report.old) (K.holds report.new)
+        (codes "settings overlap " ++ decimal a ++ codes " " ++ decimal b ++ codes "\n")) }
+    ensures cause { HasCause (K.faults report.old) (K.faults report.new) result }
+{
+    let mut digits = itoa::Buffer::new();
+    write_all(report, b"settings overlap ")?;
+    write_all(report, digits.format(a).as_bytes())?;
+    write_numbered(report, b" ", b)
 }

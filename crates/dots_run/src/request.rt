@@ -1,67 +1,69 @@
-//! What a client's datagram asks.
+//! What a datagram is.
 
 ghost use Rattle.std.specs.Prelude.{IfOk, IfErr};
 ghost use Rattle.coap_message.specs.Message.{IsMessage, spelling};
 ghost use Rattle.dots_machine.specs.Requests.{Hears};
-ghost use Rattle.dots_run.specs.Hearing.{heard_of, CanBeAnswered, Begins};
+ghost use Rattle.dots_run.specs.Hearing.{heard_of, CanBeAnswered, Lacks};
 
 use crate::exchange::Exchange;
-use crate::request_body::{Payload, RequestBody, request_body};
-use crate::request_head::{RequestHead, request_head};
 use crate::settling::{AtOnce, settled, unread};
 use coap_message::{Message, decode};
+use dots_keys::{Reject, Request, read_request};
 use std::alloc::Global;
-
-/// A mitigation request.
-#[derive(Debug, Drop)]
-pub struct Asked<'a> {
-    pub head: RequestHead<'a>,
-    pub body: RequestBody,
-}
 
 /// What a datagram is.
 #[derive(Debug, Drop)]
 pub enum Hearing<'a> {
     /// Something that is settled at once.
-    AtOnce(AtOnce<'a>),
-    /// A request whose body can't be decoded.
-    Undecodable(Exchange<'a>),
-    /// A request that isn't served.
-    Unserved(Exchange<'a>),
-    /// A mitigation request.
-    Asked(Asked<'a>),
+    AtOnce(AtOnce),
+    /// A message that is refused.
+    Refused {
+        exchange: Exchange<'a>,
+        reject: Reject,
+    },
+    /// A request.
+    Asked {
+        exchange: Exchange<'a>,
+        request: Request,
+    },
 }
 
-/// What the datagram is. For want of memory the head of the request is answered whose body couldn't be read.
-pub fn hear<'a>(alloc: Global, datagram: &'a [u8]) -> Result<Hearing<'a>, RequestHead<'a>>
-    ensures heard { IfOk result (λ hearing. Hears datagram.now (heard_of hearing)) }
+/// What the datagram of a gateway, or of a client, is. For want of memory the exchange of the message is answered.
+pub fn hear<'a>(
+    alloc: Global,
+    datagram: &'a [u8],
+    gateway: bool,
+) -> Result<Hearing<'a>, Exchange<'a>>
+    ensures heard { IfOk result (λ hearing. Hears datagram.now gateway (heard_of hearing)) }
     ensures answerable { IfOk result CanBeAnswered }
-    ensures unread { IfErr result (Begins datagram.now) }
+    ensures lacks { IfErr result (Lacks datagram.now gateway) }
 {
     match decode(datagram) {
-        Ok(message) => hear_message(alloc, &message),
+        Ok(message) => hear_message(alloc, &message, gateway),
         Err(_) => Ok(Hearing::AtOnce(unread(datagram))),
     }
 }
 
 /// What a message is.
-fn hear_message<'a>(alloc: Global, message: &Message<'a>) -> Result<Hearing<'a>, RequestHead<'a>>
+fn hear_message<'a>(
+    alloc: Global,
+    message: &Message<'a>,
+    gateway: bool,
+) -> Result<Hearing<'a>, Exchange<'a>>
     requires { IsMessage message.now }
-    ensures heard { IfOk result (λ hearing. Hears (spelling message.now) (heard_of hearing)) }
+    ensures heard { IfOk result (λ hearing. Hears (spelling message.now) gateway (heard_of hearing)) }
     ensures answerable { IfOk result CanBeAnswered }
-    ensures unread { IfErr result (Begins (spelling message.now)) }
+    ensures lacks { IfErr result (Lacks (spelling message.now) gateway) }
 {
     if let Some(answer) = settled(message) {
         return Ok(Hearing::AtOnce(answer));
     }
     let exchange = Exchange::of(message);
-    let Some(head) = request_head(message) else {
-        return Ok(Hearing::Unserved(exchange));
-    };
-    match request_body(alloc, message.payload()) {
-        Ok(Payload::Asked(body)) => Ok(Hearing::Asked(Asked { head, body })),
-        Ok(Payload::Other) => Ok(Hearing::Unserved(exchange)),
-        Ok(Payload::NoCbor) => Ok(Hearing::Undecodable(exchange)),
-        Err(_) => Err(head),
+    match read_request(alloc, message, gateway) {
+        Ok(request) => Ok(Hearing::Asked { exchange, request }),
+        Err(reject) => match reject {
+            Reject::NoMemory => Err(exchange),
+            _ => Ok(Hearing::Refused { exchange, reject }),
+        },
     }
 }

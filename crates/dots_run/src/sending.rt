@@ -1,5 +1,6 @@
+//! Handing replies to the wire.
+
 ghost use Rattle.std.specs.Prelude.{◌≡◌, ◌≢◌, ◌≤◌, [], ◌∷◌, length};
-ghost use Rattle.coap_message.specs.Message.{spelling};
 ghost use Rattle.dots_host.specs.Runs.{Added, Gives};
 ghost use Rattle.dots_host.specs.declared.out.OwnedOut.TheVariants as owned;
 ghost use Rattle.dots_machine.specs.Replies.{plain, reset_message};
@@ -21,9 +22,9 @@ pub fn send_to<W: Wire>(wire: &mut W, peer: u32, bytes: &[u8])
 pub fn send_plain<W: Wire>(wire: &mut W, peer: u32, code: u8, exchange: &Exchange<'_>, text: &[u8])
     requires code { code ≢ 0 }
     requires token { length exchange.now.token.now ≤ 8 }
-    requires text { length text.now ≤ 16 }
+    requires text { length text.now ≤ 28 }
     ensures acts { Added (W.acts wire.old) (W.acts wire.new)
-        (Gives (owned.To peer (spelling (plain code (exchange_view exchange.now) text.now)) ∷ [])) }
+        (Gives (owned.To peer (plain code (exchange_view exchange.now) text.now) ∷ [])) }
     ensures faults { W.faults wire.new ≡ W.faults wire.old }
 {
     let mut bytes = [0; MAX_PLAIN];

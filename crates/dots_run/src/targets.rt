@@ -1,41 +1,72 @@
-//! Which prefixes may be asked for.
+//! Which scopes may be asked for.
 
-ghost use Rattle.std.specs.Prelude.{◌≡◌, ◌≤◌, ◌<◌, ◌^◌, [], ◌∷◌};
+ghost use Rattle.std.specs.Prelude.{◌≡◌, ◌≤◌, ◌<◌, ◌^◌};
 ghost use Rattle.ip_scope.specs.Family.{width};
 ghost use Rattle.ip_scope.specs.Prefix.{prefix_of};
-ghost use Rattle.dots_machine.specs.Targets.{never_targets, is_target, may_be_asked, first_fault, fault_of};
+ghost use Rattle.dots_machine.specs.Targets.{is_target, prefix_fault, first_fault, name_fault, scope_fault};
 
 use crate::conflicts::meets_any;
+use crate::settings::addresses;
+use acl_lists::Asked;
+use dots_lists::Name;
 use dots_machine::TargetFault;
+use dots_settings::Settings;
 use ip_scope::{Addr, Family, Prefix, inside_any};
 
-/// The first of the prefixes that a client of a domain with these prefixes may not ask for.
-pub fn first_fault(domain: &[Prefix], prefixes: &[Prefix]) -> Option<Prefix>
-    ensures { result ≡ first_fault domain.now prefixes.now }
+/// The fault of the first asked prefix that has one, else of the first name that has one, in a domain of these prefixes.
+pub fn scope_fault(settings: &Settings, domain: &[Prefix], asked: &Asked) -> Option<TargetFault>
+    ensures { result ≡ scope_fault settings.now domain.now asked.now }
+{
+    if let Some(fault) = first_prefix_fault(domain, asked.prefixes.items()) {
+        return Some(fault);
+    }
+    first_name_fault(settings, domain, asked.names.items())
+}
+
+fn first_prefix_fault(domain: &[Prefix], prefixes: &[Prefix]) -> Option<TargetFault>
+    ensures { result ≡ first_fault (prefix_fault domain.now) prefixes.now }
 {
     for prefix in prefixes {
-        if !may_be_asked(domain, prefix) {
-            return Some(*prefix);
+        if let Some(fault) = prefix_fault(domain, prefix) {
+            return Some(fault);
         }
     }
     None
 }
 
-/// Why a prefix may not be asked for.
-pub fn fault_of(prefix: &Prefix) -> TargetFault
-    ensures { result ≡ fault_of prefix.now }
+fn first_name_fault(settings: &Settings, domain: &[Prefix], names: &[Name]) -> Option<TargetFault>
+    ensures { result ≡ first_fault (name_fault settings.now domain.now) names.now }
 {
-    if is_target(prefix) {
-        TargetFault::OutsideDomain
-    } else {
-        TargetFault::NotATarget
+    for name in names {
+        if let Some(fault) = name_fault(settings, domain, name) {
+            return Some(fault);
+        }
     }
+    None
 }
 
-fn may_be_asked(domain: &[Prefix], prefix: &Prefix) -> bool
-    ensures { result ≡ may_be_asked domain.now prefix.now }
+/// A host name is to be known, and each of its addresses one that may be asked for.
+fn name_fault(settings: &Settings, domain: &[Prefix], name: &Name) -> Option<TargetFault>
+    ensures { result ≡ name_fault settings.now domain.now name.now }
 {
-    is_target(prefix) && inside_any(prefix, domain)
+    let addresses = addresses(settings, name);
+    if addresses.is_empty() {
+        return Some(TargetFault::UnknownName);
+    }
+    first_prefix_fault(domain, addresses)
+}
+
+/// Why a prefix may not be asked for in a domain of these prefixes.
+fn prefix_fault(domain: &[Prefix], prefix: &Prefix) -> Option<TargetFault>
+    ensures { result ≡ prefix_fault domain.now prefix.now }
+{
+    if !is_target(prefix) {
+        return Some(TargetFault::NotATarget);
+    }
+    if inside_any(prefix, domain) {
+        return None;
+    }
+    Some(TargetFault::OutsideDomain)
 }
 
 /// Whether a prefix meets neither loopback nor multicast nor limited broadcast.

@@ -1,6 +1,6 @@
 //! Writing to a sink, in blocks.
 
-ghost use Rattle.std.specs.Prelude.{◌≡◌, ◌≤◌, [], ◌++◌, flat_map, OnOk, OnErr, vec_capacity};
+ghost use Rattle.std.specs.Prelude.{◌≡◌, ◌≤◌, ◌+◌, ◌⊎◌, [], ◌++◌, length, flat_map, OnOk, OnErr, vec_capacity};
 ghost use Rattle.std.specs.Io.KnownBytes.{Appends};
 ghost use Rattle.dots_host.specs.Causes.{HasCause};
 ghost use Rattle.dots_host.specs.Writing.{Owes, AppendsBeginning};
@@ -30,6 +30,7 @@ fn make_room<K: Sink>(sink: &mut K, block: &mut Vec<u8>, count: usize) -> Result
     ensures room { BLOCK ≤ vec_capacity block.new }
     ensures ok { OnOk result (Owes (K.holds sink.old) (K.holds sink.new) block.old.items block.new.items) }
     ensures err { OnErr result (AppendsBeginning (K.holds sink.old) (K.holds sink.new) block.old.items) }
+    ensures fits { OnOk result (length block.old.items ≤ BLOCK → count ≤ BLOCK → length block.new.items + count ≤ BLOCK) }
     ensures cause { HasCause (K.faults sink.old) (K.faults sink.new) result }
 {
     if count > BLOCK - block.len().min(BLOCK) {
@@ -38,12 +39,13 @@ fn make_room<K: Sink>(sink: &mut K, block: &mut Vec<u8>, count: usize) -> Result
     Ok(())
 }
 
-/// Adds the bytes to the block, or writes them behind it where they are more than it can have.
+/// Adds the bytes to the block, or writes them behind it where no room is found for them.
 fn add<K: Sink>(sink: &mut K, block: &mut Vec<u8>, bytes: &[u8]) -> Result<(), Failed>
     requires { BLOCK ≤ vec_capacity block.old }
     ensures room { BLOCK ≤ vec_capacity block.new }
     ensures ok { OnOk result (Owes (K.holds sink.old) (K.holds sink.new) (block.old.items ++ bytes.now) block.new.items) }
     ensures err { OnErr result (AppendsBeginning (K.holds sink.old) (K.holds sink.new) (block.old.items ++ bytes.now)) }
+    ensures gathered { OnOk result ((block.new.items ≡ block.old.items ++ bytes.now) ⊎ (block.new.items ≡ [])) }
     ensures cause { HasCause (K.faults sink.old) (K.faults sink.new) result }
 {
     if block.extend_from_slice(bytes).is_ok() {
@@ -60,6 +62,7 @@ fn put<K: Sink>(sink: &mut K, block: &mut Vec<u8>, bytes: &[u8]) -> Result<(), F
     ensures room { BLOCK ≤ vec_capacity block.new }
     ensures ok { OnOk result (Owes (K.holds sink.old) (K.holds sink.new) (block.old.items ++ bytes.now) block.new.items) }
     ensures err { OnErr result (AppendsBeginning (K.holds sink.old) (K.holds sink.new) (block.old.items ++ bytes.now)) }
+    ensures fits { OnOk result (length block.old.items ≤ BLOCK → length bytes.now ≤ BLOCK → length block.new.items ≤ BLOCK) }
     ensures cause { HasCause (K.faults sink.old) (K.faults sink.new) result }
 {
     make_room(sink, block, bytes.len())?;

@@ -7,7 +7,13 @@
 #[cfg(test)]
 mod datagram_rows;
 #[cfg(test)]
+mod domain_rows;
+#[cfg(test)]
 mod memory_rows;
+#[cfg(test)]
+mod name_rows;
+#[cfg(test)]
+mod option_rows;
 #[cfg(test)]
 mod refusal_rows;
 #[cfg(test)]

@@ -77,6 +77,34 @@ fn a_stranger_moves_the_time(rt: HostRuntime) -> Result<(), Fail> {
     Ok(())
 }
 
+/// The report of a run in which this event follows the request of all rows, at the second at which it is over.
+fn report_after(rt: &impl Abort, alloc: Global, event: Event) -> Result<MemorySink, Fail> {
+    let mut host = MemoryHost::new(alloc)?;
+    push(rt, &mut host, datagram(alloc, 0, REQUEST)?, 1000)?;
+    push(rt, &mut host, event, 4600)?;
+    let (status, report) = replay(alloc, &mut host)?;
+    assert_eq!(rt; status, 0);
+    assert!(rt; host.whole());
+    Ok(report)
+}
+
+/// Events that aren't served yet move the time.
+#[test]
+fn other_events_move_the_time(rt: HostRuntime) -> Result<(), Fail> {
+    let opened = report_after(&rt, rt.alloc(), Event::Opened { conn: 1, from: 0 })?;
+    assert_eq!(rt; opened.bytes(), NONE);
+    let bytes = Bytes::from_vec(hex::decode(rt.alloc(), b"00")?);
+    let piece = report_after(&rt, rt.alloc(), Event::Piece { conn: 1, bytes })?;
+    assert_eq!(rt; piece.bytes(), NONE);
+    let closed = report_after(&rt, rt.alloc(), Event::Closed { conn: 1 })?;
+    assert_eq!(rt; closed.bytes(), NONE);
+    let tick = report_after(&rt, rt.alloc(), Event::Tick)?;
+    assert_eq!(rt; tick.bytes(), NONE);
+    let restart = report_after(&rt, rt.alloc(), Event::Restart)?;
+    assert_eq!(rt; restart.bytes(), NONE);
+    Ok(())
+}
+
 #[test]
 fn a_lost_reply_is_no_fault(rt: HostRuntime) -> Result<(), Fail> {
     let alloc = rt.alloc();

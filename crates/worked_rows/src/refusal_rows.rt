@@ -26,6 +26,7 @@ fn prefixes_that_may_not_be_asked_for(rt: HostRuntime) -> Result<(), Fail> {
         ),
         (b"816c3139322e302e322e302f3233", OUTSIDE_DOMAIN),
         (b"816c3132372e302e302e312f3332", NOT_A_TARGET),
+        (b"8169302e302e302e302f30", NOT_A_TARGET),
         (b"81723235352e3235352e3235352e3235352f3332", NOT_A_TARGET),
         (b"816c3233392e312e322e332f3332", NOT_A_TARGET),
         (
@@ -36,11 +37,25 @@ fn prefixes_that_may_not_be_asked_for(rt: HostRuntime) -> Result<(), Fail> {
             b"826c3132372e302e302e312f33326f3139382e35312e3130302e302f3234",
             NOT_A_TARGET,
         ),
+        (
+            b"826c3139322e302e322e302f32356f3139382e35312e3130302e302f3235",
+            OUTSIDE_DOMAIN,
+        ),
     ] {
         let script = [CLIENT, HEAD, MID_123, BODY, prefixes, LIFETIME, FEED];
         let left = replay(rt.alloc(), &script)?;
         leaves(&rt, &left, &[b"to 0 ", reply, FEED], NONE);
     }
+    Ok(())
+}
+
+/// Bits behind the length of a prefix count as zeros.
+#[test]
+fn a_prefix_with_host_bits(rt: HostRuntime) -> Result<(), Fail> {
+    let prefix = b"816c3139322e302e322e372f3234".as_slice();
+    let script = [CLIENT, HEAD, MID_123, BODY, prefix, LIFETIME, FEED];
+    let left = replay(rt.alloc(), &script)?;
+    leaves(&rt, &left, &SENT, ROW);
     Ok(())
 }
 

@@ -1,4 +1,4 @@
-use crate::rows::{COMMAND, SETTINGS};
+use crate::rows::{COMMAND, FEED, SETTINGS};
 use dots_host::{MemorySink, MemorySource, NoMemory};
 use dots_run::{ScriptHost, run};
 use std::alloc::Global;
@@ -18,6 +18,21 @@ pub struct Replayed {
 pub fn replay(alloc: Global, script: &[&[u8]]) -> Result<Replayed, NoMemory> {
     let settings = MemorySource::new(alloc, SETTINGS)?;
     replay_over(alloc, &COMMAND, settings, script, MemorySink::new(alloc))
+}
+
+/// Runs with these settings over a script of a front and the parts behind it, ended by a line feed.
+pub fn replay_line(
+    alloc: Global,
+    settings: &[u8],
+    front: &[u8],
+    datagram: &[&[u8]],
+) -> Result<Replayed, NoMemory> {
+    let mut script = Vec::from_slice(alloc, &[front])?;
+    script.extend_from_slice(datagram)?;
+    script.push(FEED)?;
+    let settings = MemorySource::new(alloc, settings)?;
+    let sink = MemorySink::new(alloc);
+    replay_over(alloc, &COMMAND, settings, script.as_slice(), sink)
 }
 
 /// Runs with these words and settings over the parts of a script, and reports to the sink.

@@ -1,5 +1,6 @@
-/// One domain with one prefix and one client.
-pub const SETTINGS: &[u8] = b"domain net1\nprefix net1 192.0.2.0/24\nclient 0 net1\n";
+/// Two domains, their clients and a gateway.
+pub const SETTINGS: &[u8] =
+    b"domain net1\nprefix net1 192.0.2.0/24\nprefix net1 2001:db8:1::/48\ndomain net2\nprefix net2 198.51.100.0/24\nclient 0 net1\nclient 1 net1\nclient 2 net2\ngateway 3\nceiling 86400\n";
 
 /// The words of the command line.
 pub const COMMAND: [&str; 2] = ["replay", "settings"];
@@ -30,10 +31,26 @@ pub const BODY: &[u8] = b"12010fffa101a10281a206";
 
 pub const LIFETIME: &[u8] = b"0e190e10";
 
+/// That datagram up to its path, and the option of its cuid.
+pub const START: &[u8] = b"510300014abb2e77656c6c2d6b6e6f776e04646f7473086d69746967617465";
+
+pub const CUID: &[u8] = b"0d0e637569643d647a3670486a6141446b614654626a72304a47427077";
+
 /// The options of mid 123 and mid 124.
 pub const MID_123: &[u8] = b"076d69643d313233";
 
 pub const MID_124: &[u8] = b"076d69643d313234";
+
+/// The rest of a request for 198.51.100.0/25 behind its mid.
+pub const NET2: &[u8] = b"12010fffa101a10281a206816f3139382e35312e3130302e302f32350e190e10";
+
+/// The rest of the request of all rows behind its mid.
+pub const NET1: &[u8] = b"12010fffa101a10281a206816c3139322e302e322e302f32340e190e10";
+
+/// 4.00 with `path parameter`, and 5.01.
+pub const NO_PARAMETER: &[u8] = b"518000014aff7061746820706172616d65746572";
+
+pub const UNSERVED: &[u8] = b"51a100014a";
 
 /// No bytes.
 pub const NONE: &[u8] = b"";

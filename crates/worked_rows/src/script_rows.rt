@@ -13,7 +13,7 @@ fn a_request_is_granted(rt: HostRuntime) -> Result<(), Fail> {
 #[test]
 fn another_message_is_refused(rt: HostRuntime) -> Result<(), Fail> {
     let left = replay(rt.alloc(), &[b"at 1000 from 0 50030002\n"])?;
-    leaves(&rt, &left, &[b"to 0 50a10002\n"], NONE);
+    leaves(&rt, &left, &[b"to 0 50840002ff70617468\n"], NONE);
     Ok(())
 }
 

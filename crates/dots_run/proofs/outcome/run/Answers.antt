@@ -1,4 +1,4 @@
-use Rattle.dots_run.proofs.Completeness.{ends_refused, ends_well, ends_shown, ends_unreadable}
+use Rattle.dots_run.proofs.Completeness.{ends_refused, ends_well, ends_shown, ends_unreadable, not_served}
 use Rattle.dots_run.proofs.outcome.run.Goals as goal
 
 pub returns-clause-refused : goal.returns-clause-refused
@@ -21,3 +21,7 @@ pub returns-clause-unreadable : goal.returns-clause-unreadable
 returns-clause-unreadable g c = λ show none.
     let ends = ends_unreadable _ _ _ _ _ _ _ c.ending_of.result show none c.ending_of.ensures.machine in
     rw c.status.ensures ends
+
+pub returns-clause-uncalled : goal.returns-clause-uncalled
+returns-clause-uncalled g c = λ low high.
+    c.ending_of.ensures.uncalled (not_served c.ending_of.result (rw c.status.ensures at low) (rw c.status.ensures at high))

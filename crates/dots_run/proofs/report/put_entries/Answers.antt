@@ -1,5 +1,5 @@
 use Rattle.std.proofs.Common.{add-one, ap, arith}
-use Rattle.dots_machine.specs.Report.{scrub_lines}
+use Rattle.dots_run.specs.Lines.{scrub_lines}
 use Rattle.dots_run.proofs.WritesInTurn.{for_an_error}
 use Rattle.dots_run.proofs.ReportLines.{one_more, one_lost}
 use Rattle.dots_run.proofs.report.put_entries.Goals as goal

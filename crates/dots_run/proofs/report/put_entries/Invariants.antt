@@ -1,6 +1,6 @@
 use Rattle.std.proofs.Common.{◌≤◌, ◌++◌, take, flat_map, vec_capacity}
 use Rattle.dots_host.specs.Writing.{Owes}
-use Rattle.dots_machine.specs.Report.{scrub_lines}
+use Rattle.dots_run.specs.Lines.{scrub_lines}
 use Rattle.dots_run.specs.declared.writing.TheConstants.{BLOCK}
 use Rattle.dots_run.proofs.report.put_entries.Given as goal
 
