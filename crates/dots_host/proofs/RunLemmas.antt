@@ -3,7 +3,7 @@ use Rattle.std.proofs.Common.{◌≡◌, ℕ, ◌+◌, Bool, List, [], ◌∷◌
 use Rattle.dots_host.specs.declared.event.Event.{Event}
 use Rattle.dots_host.specs.declared.out.OwnedOut.{OwnedOut}
 use Rattle.dots_host.specs.Acts.{WireAct, took, gave, Timed, Adds}
-use Rattle.dots_host.specs.Runs.{Owing, resting, ToldStep, Trace, in_one_turn, Added}
+use Rattle.dots_host.specs.Runs.{Owing, resting, ToldStep, Trace, each_telling, in_one_turn, outs_of, Added}
 
 -- ---- acts that were added
 
@@ -56,9 +56,6 @@ abbrev sends_first : List Timed → List OwnedOut
 sends_first [] = []
 sends_first (timed ∷ acts) = onto_sends timed.act (sends_first acts)
 
-abbrev outs_of : {S : Type 0} → List (S × OwnedOut) → List OwnedOut
-outs_of owed = map (λ o. o.1) owed
-
 module _ {S : Type 0} (step : S → Event → ℕ → List (S × OwnedOut) → S → Type 0) where
   owed_by : (old mid : Owing S) (act : WireAct) (told : S) (later : List OwnedOut) → ToldStep step old act told mid → outs_of mid.owed ≡ later → outs_of old.owed ≡ onto_sends act later
   owed_by old mid (took event at) told later s rest = ap outs_of s.0
@@ -107,17 +104,17 @@ module _ {S : Type 0} (step : S → Event → ℕ → List (S × OwnedOut) → S
       let same : a.0 ≡ b.0 = one_step determined old a.0 b.0 timed.act told state a.1 b.1 outs in
       one_run determined a.0 acts trace states new other a.2 (subst (λ owing. Trace step owing acts states (resting other)) (sym same) b.2)
 
--- in one turn: each step's sends fix the state after it
-pub one_turn_determined : {S : Type 0} (step : S → Event → ℕ → List OwnedOut → S → Type 0)
-    → ((old : S) (event : Event) (at : ℕ) (outs : List OwnedOut) (new other : S) → step old event at outs new → step old event at outs other → new ≡ other)
-    → IsDetermined (in_one_turn step)
-one_turn_determined {S} step determined old event at owed others new other a b outs =
+-- sends that tell one state
+pub outs_back : {S : Type 0} (state : S) (outs : List OwnedOut) → outs_of (each_telling state outs) ≡ outs
+outs_back state [] = refl
+outs_back state (out ∷ outs) = ap (λ xs. out ∷ xs) (outs_back state outs)
+
+-- in one turn the sends fix what is owed and the state after it, where they fix the state
+pub one_turn : {S : Type 0} (owed others : List (S × OwnedOut)) (new other : S) (makes makes_other : List OwnedOut → Type 0) → in_one_turn makes owed new → in_one_turn makes_other others other
+    → outs_of owed ≡ outs_of others → ((sends : List OwnedOut) → makes sends → makes_other sends → new ≡ other) → (owed ≡ others) × (new ≡ other)
+one_turn {S} owed others new other makes makes_other a b outs fix =
     let first : outs_of owed ≡ a.0 = ap outs_of a.1 ∙ outs_back new a.0 in
     let second : outs_of others ≡ b.0 = ap outs_of b.1 ∙ outs_back other b.0 in
     let same : a.0 ≡ b.0 = sym first ∙ outs ∙ second in
-    let state : new ≡ other = determined old event at b.0 new other (subst (λ xs. step old event at xs new) same a.2) b.2 in
-    (a.1 ∙ ap (λ xs. map (λ out. (new, out)) xs) same ∙ ap (λ s. map (λ out. (s, out)) b.0) state ∙ sym b.1, state)
-  where
-    outs_back : (state : S) (outs : List OwnedOut) → outs_of (map (λ out. (state, out)) outs) ≡ outs
-    outs_back state [] = refl
-    outs_back state (out ∷ outs) = ap (λ xs. out ∷ xs) (outs_back state outs)
+    let state : new ≡ other = fix b.0 (subst makes same a.2) b.2 in
+    (a.1 ∙ ap (each_telling new) same ∙ ap (λ s. each_telling s b.0) state ∙ sym b.1, state)

@@ -26,9 +26,13 @@ Trace {S} step old (timed ∷ acts) (told ∷ trace) new = (mid : Owing S) × To
 Trace step old [] (told ∷ trace) new = ⊥
 Trace step old (timed ∷ acts) [] new = ⊥
 
--- a step whose sends all tell the state after it
-abbrev pub in_one_turn : {S : Type 0} → (S → Event → ℕ → List OwnedOut → S → Type 0) → S → Event → ℕ → List (S × OwnedOut) → S → Type 0
-in_one_turn step old event at owed new = (outs : List OwnedOut) × (owed ≡ map (λ out. (new, out)) outs) × step old event at outs new
+-- each send beside the state, which it tells
+abbrev pub each_telling : {S : Type 0} → S → List OwnedOut → List (S × OwnedOut)
+each_telling state sends = map (λ out. (state, out)) sends
+
+-- in one turn: all the sends tell the state after it
+abbrev pub in_one_turn : {S : Type 0} → (List OwnedOut → Type 0) → List (S × OwnedOut) → S → Type 0
+in_one_turn makes owed new = (sends : List OwnedOut) × (owed ≡ each_telling new sends) × makes sends
 
 -- Where the acts are told in the end they were told at the start, and what was added to them has the property.
 abbrev pub Added : Option (List Timed) → Option (List Timed) → (List Timed → Type 0) → Type 0

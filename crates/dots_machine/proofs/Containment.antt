@@ -11,20 +11,17 @@ use Rattle.acl_lists.specs.declared.asked.Asked.{Asked}
 use Rattle.dots_settings.specs.Settings.{SettingsValue}
 use Rattle.dots_history.specs.declared.entry.Entry.{Entry}
 use Rattle.dots_history.specs.Entries.{runs}
-use Rattle.dots_history.specs.Histories.{is_nil, or_else}
-use Rattle.dots_keys.specs.declared.request.Request.{Request}
-use Rattle.dots_keys.specs.declared.request.Request.TheVariants as request
+use Rattle.dots_history.specs.Histories.{or_else}
 use Rattle.dots_machine.specs.declared.target.TargetFault.{TargetFault}
 use Rattle.dots_machine.specs.declared.target.TargetFault.TheVariants.{NotATarget, OutsideDomain}
-use Rattle.dots_machine.specs.Domains.{role_of, domain_for, prefixes_of, addresses}
+use Rattle.dots_machine.specs.declared.mitigation_request.MitigationRequest.{MitigationRequest}
+use Rattle.dots_machine.specs.declared.verdict.Verdict.{Verdict}
+use Rattle.dots_machine.specs.Domains.{prefixes_of, addresses}
 use Rattle.dots_machine.specs.Targets.{is_target, prefix_fault, first_fault, fault_of_addresses, name_fault, scope_fault, resolved}
-use Rattle.dots_machine.specs.Exchanges.{Exchange, unheard, reset}
-use Rattle.dots_machine.specs.Requests.{Heard, at_once, refused, asked}
-use Rattle.dots_machine.specs.Replies.{not_implemented}
-use Rattle.dots_machine.specs.History.{standing}
-use Rattle.dots_machine.specs.Machine.{State, moved, with_entry, Asking, entry_of, Verdict, refuse, conflicts, judged, put_verdict, in_domain, asked_verdict, verdict, Answers, Answered, by_silence, by_verdict, for_want_of_memory, Step}
-use Rattle.dots_machine.proofs.OneState.{reject_uncreated}
+use Rattle.dots_machine.specs.Running.{running}
+use Rattle.dots_machine.specs.Machine.{State, later, with_entry, entry_of, after, Answers, Step}
 use Rattle.dots_machine.specs.Report.{lies_inside, AllInside, Contained}
+use Rattle.dots_machine.proofs.Outcomes.{plain_after, Outcome, plain, accepted, decided_outcome}
 
 -- Where a scope has no fault, all that it comes to lies inside the domain.
 or_else_none : {A : Type 0} → (a b : Option A) → or_else a b ≡ None → (a ≡ None) × (b ≡ None)
@@ -81,92 +78,41 @@ module _ (settings : SettingsValue) where
   one_more state entry all one =
       list_all-append (lies_inside settings) state.history (entry ∷ []) ∙ ap (λ b. b && (lies_inside settings entry && true)) all ∙ ap (λ b. b && true) one
 
-  judged_keeps : (state : State) (a : Asking) (fault : Option TargetFault) (plain conflict : Bool) (sends : List OwnedOut) (new : State)
-      → scope_fault settings (prefixes_of settings a.domain) a.body.asked ≡ fault → AllInside settings state
-      → Answers (judged settings state a fault plain conflict) a.peer state sends new → AllInside settings new
-  judged_keeps state a (Some fault) plain conflict sends new is all s = subst (AllInside settings) (sym s.1) all
-  judged_keeps state a None false conflict sends new is all s = subst (AllInside settings) (sym s.1) all
-  judged_keeps state a None true true sends new is all s = subst (AllInside settings) (sym s.1) all
-  judged_keeps state a None true false sends new is all s =
+  outcome_keeps : (state : State) (v : Verdict) → AllInside settings state → Outcome settings state v → AllInside settings (after v state)
+  outcome_keeps state v all (plain p) = subst (AllInside settings) (sym (plain_after v state p)) all
+  outcome_keeps state v all (accepted asked none is) =
       subst
-      (AllInside settings)
-      (sym s.1)
+      (λ v. AllInside settings (after v state))
+      (sym is)
       (one_more
       state
-      (entry_of settings state.time a)
+      (entry_of settings state.time asked)
       all
-      (ap (λ b. b && true) (resolved_inside settings (prefixes_of settings a.domain) a.body.asked is)))
+      (ap (λ b. b && true) (resolved_inside settings (prefixes_of settings asked.domain) asked.body.asked none)))
 
-  domain_keeps : (exchange : Exchange) (domain : Option ℕ) (f : ℕ → Verdict) (peer : ℕ) (state : State) (sends : List OwnedOut) (new : State) → AllInside settings state
-      → ((d : ℕ) → Answers (f d) peer state sends new → AllInside settings new) → Answers (in_domain exchange domain f) peer state sends new → AllInside settings new
-  domain_keeps exchange None f peer state sends new all each s = subst (AllInside settings) (sym s.1) all
-  domain_keeps exchange (Some d) f peer state sends new all each s = each d s
+  answered_keeps : (peer : ℕ) (datagram : List ℕ) (state : State) (sends : List OwnedOut) (new : State) → AllInside settings state → Answers settings state peer datagram sends new → AllInside settings new
+  answered_keeps peer datagram state sends new all a = subst (AllInside settings) (sym a.3) (outcome_keeps state a.0 all (decided_outcome settings state peer datagram a.0 a.1))
 
-  asked_keeps : (state : State) (peer : ℕ) (exchange : Exchange) (r : Request) (sends : List OwnedOut) (new : State) → AllInside settings state
-      → Answers (asked_verdict settings state peer exchange r) peer state sends new → AllInside settings new
-  asked_keeps state peer exchange (request.PutMitigation path body) sends new all s =
-      domain_keeps
-      exchange
-      (domain_for settings (role_of settings peer) path.cdid)
-      (λ domain. put_verdict settings state (record { peer = peer; domain = domain; exchange = exchange; path = path; body = body }))
-      peer
-      state
-      sends
-      new
-      all
-      (λ domain told.
-      judged_keeps
-      state
-      (record { peer = peer; domain = domain; exchange = exchange; path = path; body = body })
-      (scope_fault settings (prefixes_of settings domain) body.asked)
-      (is_nil body.asked.aliases)
-      (conflicts settings state (record { peer = peer; domain = domain; exchange = exchange; path = path; body = body }))
-      sends
-      new
-      refl
-      all
-      told)
-      s
-  asked_keeps state peer exchange (request.GetMitigation path content observe) sends new all s =
-      domain_keeps exchange (domain_for settings (role_of settings peer) path.cdid) (λ domain. refuse (not_implemented exchange)) peer state sends new all (λ domain told. subst (AllInside settings) (sym told.1) all) s
-  asked_keeps state peer exchange (request.DeleteMitigation path) sends new all s =
-      domain_keeps exchange (domain_for settings (role_of settings peer) path.cdid) (λ domain. refuse (not_implemented exchange)) peer state sends new all (λ domain told. subst (AllInside settings) (sym told.1) all) s
-  asked_keeps state peer exchange (request.PutConfig sid body) sends new all s = subst (AllInside settings) (sym s.1) all
-  asked_keeps state peer exchange (request.GetConfig sid) sends new all s = subst (AllInside settings) (sym s.1) all
-  asked_keeps state peer exchange (request.DeleteConfig sid) sends new all s = subst (AllInside settings) (sym s.1) all
-  asked_keeps state peer exchange (request.PutHeartbeat heard) sends new all s = subst (AllInside settings) (sym s.1) all
+  pub step_keeps : (old : State) (event : Event) (at : ℕ) (owed : List (State × OwnedOut)) (new : State) → AllInside settings old → Step settings old event at owed new → AllInside settings new
+  step_keeps old (event.Datagram peer datagram) at owed new all s = answered_keeps peer datagram (later old at) s.0 new all s.2
+  step_keeps old event.End at owed new all s = subst (AllInside settings) (sym s.1) all
+  step_keeps old event.Failed at owed new all s = subst (AllInside settings) (sym s.1) all
+  step_keeps old (event.Opened c p) at owed new all s = subst (AllInside settings) (sym s.1) all
+  step_keeps old (event.Piece c p) at owed new all s = subst (AllInside settings) (sym s.1) all
+  step_keeps old (event.Closed c) at owed new all s = subst (AllInside settings) (sym s.1) all
+  step_keeps old event.Tick at owed new all s = subst (AllInside settings) (sym s.1) all
+  step_keeps old event.Restart at owed new all s = subst (AllInside settings) (sym s.1) all
 
-  verdict_keeps : (state : State) (peer : ℕ) (heard : Heard) (sends : List OwnedOut) (new : State) → AllInside settings state → Answers (verdict settings state peer heard) peer state sends new → AllInside settings new
-  verdict_keeps state peer (at_once unheard) sends new all a = subst (AllInside settings) (sym a.1) all
-  verdict_keeps state peer (at_once (reset i)) sends new all a = subst (AllInside settings) (sym a.1) all
-  verdict_keeps state peer (refused x e) sends new all a = subst (AllInside settings) (sym (reject_uncreated x e peer state sends new a).1) all
-  verdict_keeps state peer (asked x r) sends new all a = asked_keeps state peer x r sends new all a
-
-  answered_keeps : (peer : ℕ) (datagram : List ℕ) (state : State) (sends : List OwnedOut) (new : State) → AllInside settings state → Answered settings peer datagram state sends new → AllInside settings new
-  answered_keeps peer datagram state sends new all (by_silence n s k) = subst (AllInside settings) (sym k) all
-  answered_keeps peer datagram state sends new all (by_verdict m heard h a) = verdict_keeps state peer heard sends new all a
-  answered_keeps peer datagram state sends new all (for_want_of_memory m message is e t o s k) = subst (AllInside settings) (sym k) all
-
-  pub step_keeps : (old : State) (event : Event) (at : ℕ) (sends : List OwnedOut) (new : State) → AllInside settings old → Step settings old event at sends new → AllInside settings new
-  step_keeps old (event.Datagram peer datagram) at sends new all s = answered_keeps peer datagram (moved old at) sends new all s
-  step_keeps old event.End at sends new all s = subst (AllInside settings) (sym s.1) all
-  step_keeps old event.Failed at sends new all s = subst (AllInside settings) (sym s.1) all
-  step_keeps old (event.Opened c p) at sends new all s = subst (AllInside settings) (sym s.1) all
-  step_keeps old (event.Piece c p) at sends new all s = subst (AllInside settings) (sym s.1) all
-  step_keeps old (event.Closed c) at sends new all s = subst (AllInside settings) (sym s.1) all
-  step_keeps old event.Tick at sends new all s = subst (AllInside settings) (sym s.1) all
-  step_keeps old event.Restart at sends new all s = subst (AllInside settings) (sym s.1) all
-
-  -- of those of which all lie inside, those that stand do
-  some_inside : (time : ℕ) (history : List Entry) → list_all (lies_inside settings) history ≡ true → list_all (lies_inside settings) (standing time history) ≡ true
+  -- of those of which all lie inside, those that run do
+  some_inside : (time : ℕ) (history : List Entry) → list_all (lies_inside settings) history ≡ true → list_all (lies_inside settings) (running time history) ≡ true
   some_inside time [] all = refl
   some_inside time (entry ∷ history) all = by_test (runs time entry) (lies_inside settings entry) refl (some_inside time history) all
     where
       by_test : (now within : Bool) → lies_inside settings entry ≡ within
-          → (list_all (lies_inside settings) history ≡ true → list_all (lies_inside settings) (standing time history) ≡ true)
+          → (list_all (lies_inside settings) history ≡ true → list_all (lies_inside settings) (running time history) ≡ true)
           → (within && list_all (lies_inside settings) history) ≡ true
-          → list_all (lies_inside settings) (cond now (entry ∷ standing time history) (standing time history)) ≡ true
-      by_test true true is rest e = ap (λ b. b && list_all (lies_inside settings) (standing time history)) is ∙ rest e
+          → list_all (lies_inside settings) (cond now (entry ∷ running time history) (running time history)) ≡ true
+      by_test true true is rest e = ap (λ b. b && list_all (lies_inside settings) (running time history)) is ∙ rest e
       by_test false true is rest e = rest e
       by_test now false is rest e = absurd (cc e)
 

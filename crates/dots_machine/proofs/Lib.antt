@@ -1,4 +1,6 @@
 pub mod Apart
 pub mod Containment
+pub mod OneAnswer
 pub mod OneRequest
 pub mod OneState
+pub mod Outcomes

@@ -1,4 +1,4 @@
--- A datagram asks one thing at most.
+-- A datagram is one thing.
 use Rattle.std.proofs.Common.{◌≡◌, ℕ, Bool, List, [], Some, None, Result, Ok, Err, refl, sym, ap, ◌∙◌, subst}
 use Rattle.cbor_profile.specs.Tree.{Tree}
 use Rattle.cbor_profile.specs.Spelling.{Spells}
@@ -15,8 +15,11 @@ use Rattle.dots_keys.specs.Meaning.{IsBody, AnswersBody, Completes, Means, put_m
 use Rattle.dots_keys.specs.Meaning as meaning
 use Rattle.dots_keys.specs.Operations.{Operation, put_mitigation, get_mitigation, delete_mitigation, put_config, get_config, delete_config, put_heartbeat}
 use Rattle.dots_keys.specs.Results.{◌>>=◌}
-use Rattle.dots_machine.specs.Exchanges.{exchange_in, settled}
-use Rattle.dots_machine.specs.Requests.{Heard, at_once, refused, asked, heard_as, Hears, broken, settled_at_once, meant}
+use Rattle.dots_keys.proofs.OneMeaning.{OneReading, means_once}
+use Rattle.dots_machine.specs.declared.received.Received.{Received}
+use Rattle.dots_machine.specs.declared.received.Received.TheVariants as received
+use Rattle.dots_machine.specs.Exchanges.{exchange_in, dismissed}
+use Rattle.dots_machine.specs.Requests.{received_as, IsReceived, unread, asks_nothing, meant}
 
 abbrev result : Result Request Reject → Result Request Reject
 result r = r
@@ -65,31 +68,31 @@ some_same x y e = cc
 some_or_none : {X : Type 0} (x : X) → Some x ≡ None → ⊥
 some_or_none x e = cc
 
--- two that are heard are one, or one of them is refused
-pub data Same (h g : Heard) : Type 0 where
+-- Whatever bytes there are, two things that a datagram is are one, or one of them is refused.
+pub data Same (h g : Received) : Type 0 where
   one : h ≡ g → Same h g
-  first_refused : (m : CoapMessage) (e : Reject) → h ≡ refused (exchange_in m) e → Same h g
-  second_refused : (m : CoapMessage) (e : Reject) → g ≡ refused (exchange_in m) e → Same h g
+  first_refused : (m : CoapMessage) (e : Reject) → h ≡ received.Refused (exchange_in m) e → Same h g
+  second_refused : (m : CoapMessage) (e : Reject) → g ≡ received.Refused (exchange_in m) e → Same h g
 
-of_one_message : (m : CoapMessage) (gateway : Bool) (h g : Heard) (a b : Result Request Reject) → Means m gateway a → Means m gateway b
-    → h ≡ heard_as (exchange_in m) a → g ≡ heard_as (exchange_in m) b → Same h g
-of_one_message m gateway h g (Ok r) (Ok q) x y e f = one (e ∙ ap (asked (exchange_in m)) (one_request m gateway r q x y) ∙ sym f)
+of_one_message : (m : CoapMessage) (gateway : Bool) (h g : Received) (a b : Result Request Reject) → Means m gateway a → Means m gateway b
+    → h ≡ received_as (exchange_in m) a → g ≡ received_as (exchange_in m) b → Same h g
+of_one_message m gateway h g (Ok r) (Ok q) x y e f = one (e ∙ ap (received.Asked (exchange_in m)) (one_request m gateway r q x y) ∙ sym f)
 of_one_message m gateway h g (Err d) b x y e f = first_refused m d e
 of_one_message m gateway h g (Ok r) (Err d) x y e f = second_refused m d f
 
-pub one_heard : (datagram : List ℕ) (gateway : Bool) (h g : Heard) → Hears datagram gateway h → Hears datagram gateway g → Same h g
-one_heard datagram gateway h g (broken f d e) (broken f2 d2 e2) = one (e ∙ sym e2)
-one_heard datagram gateway h g (broken f d e) (settled_at_once m x is s t e2) = absurd (breaks_no_message datagram f m d is s)
-one_heard datagram gateway h g (broken f d e) (meant m a is s t x e2) = absurd (breaks_no_message datagram f m d is s)
-one_heard datagram gateway h g (settled_at_once m x is s t e) (broken f d e2) = absurd (breaks_no_message datagram f m d is s)
-one_heard datagram gateway h g (meant m a is s t x e) (broken f d e2) = absurd (breaks_no_message datagram f m d is s)
-one_heard datagram gateway h g (settled_at_once m x is s t e) (settled_at_once n y is2 s2 t2 e2) =
-    one (e ∙ ap at_once (some_same x y (sym t ∙ ap settled (same_message datagram m n is is2 s s2) ∙ t2)) ∙ sym e2)
-one_heard datagram gateway h g (settled_at_once m x is s t e) (meant n b is2 s2 t2 y e2) =
-    absurd (some_or_none x (sym t ∙ ap settled (same_message datagram m n is is2 s s2) ∙ t2))
-one_heard datagram gateway h g (meant n b is2 s2 t2 y e2) (settled_at_once m x is s t e) =
-    absurd (some_or_none x (sym t ∙ ap settled (same_message datagram m n is is2 s s2) ∙ t2))
-one_heard datagram gateway h g (meant m a is s t x e) (meant n b is2 s2 t2 y e2) =
+pub same_received : (datagram : List ℕ) (gateway : Bool) (h g : Received) → IsReceived datagram gateway h → IsReceived datagram gateway g → Same h g
+same_received datagram gateway h g (unread f d e) (unread f2 d2 e2) = one (e ∙ sym e2)
+same_received datagram gateway h g (unread f d e) (asks_nothing m x is s t e2) = absurd (breaks_no_message datagram f m d is s)
+same_received datagram gateway h g (unread f d e) (meant m a is s t x e2) = absurd (breaks_no_message datagram f m d is s)
+same_received datagram gateway h g (asks_nothing m x is s t e) (unread f d e2) = absurd (breaks_no_message datagram f m d is s)
+same_received datagram gateway h g (meant m a is s t x e) (unread f d e2) = absurd (breaks_no_message datagram f m d is s)
+same_received datagram gateway h g (asks_nothing m x is s t e) (asks_nothing n y is2 s2 t2 e2) =
+    one (e ∙ ap received.Dismissed (some_same x y (sym t ∙ ap dismissed (same_message datagram m n is is2 s s2) ∙ t2)) ∙ sym e2)
+same_received datagram gateway h g (asks_nothing m x is s t e) (meant n b is2 s2 t2 y e2) =
+    absurd (some_or_none x (sym t ∙ ap dismissed (same_message datagram m n is is2 s s2) ∙ t2))
+same_received datagram gateway h g (meant n b is2 s2 t2 y e2) (asks_nothing m x is s t e) =
+    absurd (some_or_none x (sym t ∙ ap dismissed (same_message datagram m n is is2 s s2) ∙ t2))
+same_received datagram gateway h g (meant m a is s t x e) (meant n b is2 s2 t2 y e2) =
     let same = same_message datagram m n is is2 s s2 in
     of_one_message
     n
@@ -100,5 +103,24 @@ one_heard datagram gateway h g (meant m a is s t x e) (meant n b is2 s2 t2 y e2)
     b
     (subst (λ m. Means m gateway a) same x)
     y
-    (e ∙ ap (λ (m : CoapMessage). heard_as (exchange_in m) a) same)
+    (e ∙ ap (λ (m : CoapMessage). received_as (exchange_in m) a) same)
     e2
+
+-- Where its payload can be read in one way, a datagram is one thing.
+pub one_received : (datagram : List ℕ) (gateway : Bool) (h g : Received) → ((m : CoapMessage) → datagram ≡ spelling m → OneReading m.payload)
+    → IsReceived datagram gateway h → IsReceived datagram gateway g → h ≡ g
+one_received datagram gateway h g read (unread f d e) (unread f2 d2 e2) = e ∙ sym e2
+one_received datagram gateway h g read (unread f d e) (asks_nothing m x is s t e2) = absurd (breaks_no_message datagram f m d is s)
+one_received datagram gateway h g read (unread f d e) (meant m a is s t x e2) = absurd (breaks_no_message datagram f m d is s)
+one_received datagram gateway h g read (asks_nothing m x is s t e) (unread f d e2) = absurd (breaks_no_message datagram f m d is s)
+one_received datagram gateway h g read (meant m a is s t x e) (unread f d e2) = absurd (breaks_no_message datagram f m d is s)
+one_received datagram gateway h g read (asks_nothing m x is s t e) (asks_nothing n y is2 s2 t2 e2) =
+    e ∙ ap received.Dismissed (some_same x y (sym t ∙ ap dismissed (same_message datagram m n is is2 s s2) ∙ t2)) ∙ sym e2
+one_received datagram gateway h g read (asks_nothing m x is s t e) (meant n b is2 s2 t2 y e2) =
+    absurd (some_or_none x (sym t ∙ ap dismissed (same_message datagram m n is is2 s s2) ∙ t2))
+one_received datagram gateway h g read (meant n b is2 s2 t2 y e2) (asks_nothing m x is s t e) =
+    absurd (some_or_none x (sym t ∙ ap dismissed (same_message datagram m n is is2 s s2) ∙ t2))
+one_received datagram gateway h g read (meant m a is s t x e) (meant n b is2 s2 t2 y e2) =
+    let same = same_message datagram m n is is2 s s2 in
+    let answer : a ≡ b = means_once n gateway a b (read n s2) (subst (λ m. Means m gateway a) same x) y in
+    e ∙ ap (λ (m : CoapMessage). received_as (exchange_in m) a) same ∙ ap (received_as (exchange_in n)) answer ∙ sym e2

@@ -3,15 +3,17 @@ use Rattle.std.specs.Prelude.{◌≡◌, ◌≢◌, ℕ, List, Some}
 use Rattle.dots_host.specs.declared.event.Event.{Event}
 use Rattle.dots_host.specs.declared.event.Event.TheVariants as event
 use Rattle.dots_host.specs.declared.out.OwnedOut.{OwnedOut}
+use Rattle.dots_host.specs.Runs.{outs_of}
 use Rattle.dots_keys.specs.declared.request.MitigationPath.{MitigationPath}
 use Rattle.dots_keys.specs.declared.request.MitigationBody.{MitigationBody}
 use Rattle.dots_keys.specs.declared.request.Request.TheVariants as request
 use Rattle.dots_settings.specs.Settings.{SettingsValue}
 use Rattle.dots_history.specs.Histories.{alone}
 use Rattle.dots_machine.specs.Domains.{role_of, is_gateway, domain_for}
-use Rattle.dots_machine.specs.Exchanges.{Exchange}
-use Rattle.dots_machine.specs.Requests.{asked, Hears}
+use Rattle.dots_machine.specs.declared.exchange.Exchange.{Exchange}
+use Rattle.dots_machine.specs.Requests.{IsReceived}
 use Rattle.dots_machine.specs.Machine.{State, Step}
+use Rattle.dots_machine.specs.declared.received.Received.TheVariants as received
 
 -- two states of one time that have the same entries of a domain
 pub record SameFor (domain : ℕ) (one other : State) : Type 0 where
@@ -21,7 +23,7 @@ pub record SameFor (domain : ℕ) (one other : State) : Type 0 where
 -- the event is a request for a mitigation, for this domain
 pub data AsksFor (settings : SettingsValue) (domain : ℕ) (what : Event) : Type 0 where
   by_datagram : (peer : ℕ) (datagram : List ℕ) (exchange : Exchange) (path : MitigationPath) (body : MitigationBody) → what ≡ event.Datagram peer datagram
-      → Hears datagram (is_gateway (role_of settings peer)) (asked exchange (request.PutMitigation path body))
+      → IsReceived datagram (is_gateway (role_of settings peer)) (received.Asked exchange (request.PutMitigation path body))
       → domain_for settings (role_of settings peer) path.cdid ≡ Some domain → AsksFor settings domain what
 
 -- A step from one state is for another domain, and leaves the entries of this one as they were; or it can be made from the other
@@ -29,4 +31,5 @@ pub data AsksFor (settings : SettingsValue) (domain : ℕ) (what : Event) : Type
 pub data StaysApart (settings : SettingsValue) (domain : ℕ) (old other : State) (what : Event) (at : ℕ) (sends : List OwnedOut) (new : State) : Type 0 where
   elsewhere : (another : ℕ) → another ≢ domain → AsksFor settings another what → alone domain new.history ≡ alone domain old.history
       → StaysApart settings domain old other what at sends new
-  same_step : (last : State) → Step settings other what at sends last → SameFor domain new last → StaysApart settings domain old other what at sends new
+  same_step : (owed : List (State × OwnedOut)) (last : State) → outs_of owed ≡ sends → Step settings other what at owed last → SameFor domain new last
+      → StaysApart settings domain old other what at sends new

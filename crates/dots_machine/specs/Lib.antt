@@ -3,9 +3,11 @@ pub mod Domains
 pub mod Exchanges
 pub mod Requests
 pub mod Replies
-pub mod History
+pub mod Running
 pub mod Machine
 pub mod Apart
+pub mod Answering
 pub mod Report
 pub mod Commands
+pub mod Outside
 pub mod Endings

@@ -1,8 +1,10 @@
 -- The replies: messages with the Message ID and the token of the request (RFC 7252, section 5.2; RFC 9132, section 4.4.1.3).
-use Rattle.std.specs.Prelude.{ℕ, ℤ, List, [], ◌∷◌, codes}
+use Rattle.std.specs.Prelude.{ℕ, ◌/◌, ◌%◌, ℤ, List, [], ◌∷◌, codes}
 use Rattle.cbor_profile.specs.Canon.{canon}
-use Rattle.coap_message.specs.declared.kind.Kind.{Kind}
-use Rattle.coap_message.specs.declared.kind.Kind.TheVariants.{Con, Non, Ack, Rst}
+use Rattle.coap_message.specs.declared.codes.TheConstants.{EMPTY, CREATED, BAD_REQUEST, BAD_OPTION, NOT_FOUND, METHOD_NOT_ALLOWED, NOT_ACCEPTABLE, CONFLICT, UNSUPPORTED_CONTENT_FORMAT, INTERNAL_SERVER_ERROR, NOT_IMPLEMENTED}
+use Rattle.coap_message.specs.declared.option_numbers.TheConstants.{CONTENT_FORMAT}
+use Rattle.coap_message.specs.declared.TheConstants.{DOTS_CBOR}
+use Rattle.coap_message.specs.declared.kind.Kind.TheVariants.{Rst}
 use Rattle.coap_message.specs.Message.{CoapOption, spelling}
 use Rattle.dots_keys.specs.declared.reject.Reject.{Reject}
 use Rattle.dots_keys.specs.declared.reject.Reject.TheVariants as reject
@@ -10,20 +12,16 @@ use Rattle.dots_keys.specs.declared.reply.Reply.TheVariants as reply
 use Rattle.dots_keys.specs.RejectText.{reject_text}
 use Rattle.dots_keys.specs.Replies.{reply_tree}
 use Rattle.dots_machine.specs.declared.target.TargetFault.{TargetFault}
-use Rattle.dots_machine.specs.Targets.{fault_text}
-use Rattle.dots_machine.specs.Exchanges.{Exchange}
-
--- a reply to a confirmable message is its acknowledgement, and any other is non-confirmable (RFC 7252, section 5.2)
-abbrev pub reply_kind : Kind → Kind
-reply_kind Con = Ack
-reply_kind _ = Non
+use Rattle.dots_machine.specs.declared.exchange.Exchange.{Exchange}
+use Rattle.dots_machine.specs.Targets.{target_text}
+use Rattle.dots_machine.specs.Exchanges.{reply_kind}
 
 -- a reply without options, whose payload is a text that says why, or empty (section 5.5.2: a diagnostic payload)
 abbrev pub plain : ℕ → Exchange → List ℕ → List ℕ
 plain code exchange text = spelling (record {
   kind = reply_kind exchange.kind;
   code = code;
-  identifier = exchange.identifier;
+  identifier = exchange.id;
   token = exchange.token;
   options = [];
   payload = text;
@@ -31,51 +29,55 @@ plain code exchange text = spelling (record {
 
 -- an empty reset (section 4.2)
 abbrev pub reset_message : ℕ → List ℕ
-reset_message identifier = spelling (record { kind = Rst; code = 0; identifier = identifier; token = []; options = []; payload = [] })
+reset_message id = spelling (record { kind = Rst; code = EMPTY; identifier = id; token = []; options = []; payload = [] })
 
--- Content-Format 12, whose value 271 is application/dots+cbor
+-- Content-Format application/dots+cbor, whose number is a value of two bytes
 abbrev pub dots_cbor : CoapOption
-dots_cbor = record { number = 12; value = 1 ∷ 15 ∷ [] }
+dots_cbor = record { number = CONTENT_FORMAT; value = DOTS_CBOR / 256 ∷ DOTS_CBOR % 256 ∷ [] }
+
+-- a reply with a body
+abbrev pub with_body : ℕ → Exchange → List ℕ → List ℕ
+with_body code exchange body = spelling (record {
+  kind = reply_kind exchange.kind;
+  code = code;
+  identifier = exchange.id;
+  token = exchange.token;
+  options = dots_cbor ∷ [];
+  payload = body;
+})
 
 -- 2.01 Created, with the mid and the granted lifetime
 abbrev pub created : Exchange → ℕ → ℤ → List ℕ
-created exchange mid lifetime = spelling (record {
-  kind = reply_kind exchange.kind;
-  code = 0x41;
-  identifier = exchange.identifier;
-  token = exchange.token;
-  options = dots_cbor ∷ [];
-  payload = canon (reply_tree (reply.Granted mid lifetime));
-})
+created exchange mid lifetime = with_body CREATED exchange (canon (reply_tree (reply.Granted mid lifetime)))
 
 -- 4.02 Bad Option, 4.04 Not Found, 4.05 Method Not Allowed, 4.06 Not Acceptable, 4.15 Unsupported Content-Format, and else 4.00 Bad
 -- Request
 abbrev pub reject_code : Reject → ℕ
-reject_code (reject.Critical number) = 0x82
-reject_code reject.Path = 0x84
-reject_code reject.Method = 0x85
-reject_code reject.Accept = 0x86
-reject_code reject.Format = 0x8f
-reject_code _ = 0x80
+reject_code (reject.Critical number) = BAD_OPTION
+reject_code reject.Path = NOT_FOUND
+reject_code reject.Method = METHOD_NOT_ALLOWED
+reject_code reject.Accept = NOT_ACCEPTABLE
+reject_code reject.Format = UNSUPPORTED_CONTENT_FORMAT
+reject_code _ = BAD_REQUEST
 
 abbrev pub rejection : Exchange → Reject → List ℕ
 rejection exchange reject = plain (reject_code reject) exchange (reject_text reject)
 
--- 4.00 Bad Request, for a domain that there isn't, and for what may not be asked for in a domain
-abbrev pub no_domain : Exchange → List ℕ
-no_domain exchange = rejection exchange reject.Parameter
+-- 4.00 Bad Request, for a parameter that is missing, for a domain that there isn't, and for what may not be asked for in a domain
+abbrev pub bad_parameter : Exchange → List ℕ
+bad_parameter exchange = rejection exchange reject.Parameter
 
 abbrev pub bad_target : Exchange → TargetFault → List ℕ
-bad_target exchange fault = plain 0x80 exchange (fault_text fault)
+bad_target exchange fault = plain BAD_REQUEST exchange (target_text fault)
 
 -- 4.09 Conflict, with a request that stands
 abbrev pub conflicting : Exchange → List ℕ
-conflicting exchange = plain 0x89 exchange (codes "conflict")
+conflicting exchange = plain CONFLICT exchange (codes "conflict")
 
 -- 5.01 Not Implemented, for what isn't served yet
 abbrev pub not_implemented : Exchange → List ℕ
-not_implemented exchange = plain 0xa1 exchange []
+not_implemented exchange = plain NOT_IMPLEMENTED exchange []
 
 -- 5.00 Internal Server Error, for want of memory
 abbrev pub unavailable : Exchange → List ℕ
-unavailable exchange = plain 0xa0 exchange []
+unavailable exchange = plain INTERNAL_SERVER_ERROR exchange []

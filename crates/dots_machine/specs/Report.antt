@@ -9,7 +9,7 @@ use Rattle.dots_history.specs.declared.entry.Entry.{Entry}
 use Rattle.dots_history.specs.declared.put.Target.{Target}
 use Rattle.dots_history.specs.Rows.{Row, rows_of, targets_of, mid_of}
 use Rattle.dots_machine.specs.Domains.{name_of, prefixes_of}
-use Rattle.dots_machine.specs.History.{standing}
+use Rattle.dots_machine.specs.Running.{running}
 use Rattle.dots_machine.specs.Machine.{State}
 
 -- texts with commas between them, or `any` where there are none
@@ -36,9 +36,9 @@ scrub_line settings row =
     ++ codes " " ++ prefix_text row.prefix ++ codes " " ++ any_or (texts_of decimal row.target.protocols)
     ++ codes " " ++ any_or (texts_of ports_text row.target.ports) ++ codes "\n"
 
--- the rows of the requests that stand at the state's time, in order of acceptance, each with its prefixes in order
+-- the rows of the requests that run at the state's time, in order of acceptance, each with its prefixes in order
 abbrev pub report_of : SettingsValue → State → List ℕ
-report_of settings state = flat_map (λ entry. flat_map (scrub_line settings) (rows_of entry)) (standing state.time state.history)
+report_of settings state = flat_map (λ entry. flat_map (scrub_line settings) (rows_of entry)) (running state.time state.history)
 
 -- each prefix of a request lies inside a prefix of the domain that it was asked for
 abbrev pub lies_inside : SettingsValue → Entry → Bool
@@ -51,4 +51,4 @@ AllInside settings state = list_all (lies_inside settings) state.history ≡ tru
 
 -- containment: each filter that is reported lies inside the domain that its request was for
 abbrev pub Contained : SettingsValue → State → Type 0
-Contained settings state = list_all (lies_inside settings) (standing state.time state.history) ≡ true
+Contained settings state = list_all (lies_inside settings) (running state.time state.history) ≡ true

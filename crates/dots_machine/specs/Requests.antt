@@ -7,22 +7,21 @@ use Rattle.coap_message.specs.Salvage.{salvaged}
 use Rattle.dots_keys.specs.declared.reject.Reject.{Reject}
 use Rattle.dots_keys.specs.declared.request.Request.{Request}
 use Rattle.dots_keys.specs.Meaning.{Means}
-use Rattle.dots_machine.specs.Exchanges.{Exchange, exchange_in, Settled, settled, rejected_unread}
+use Rattle.dots_machine.specs.declared.dismissal.Dismissal.{Dismissal}
+use Rattle.dots_machine.specs.declared.exchange.Exchange.{Exchange}
+use Rattle.dots_machine.specs.declared.received.Received.{Received}
+use Rattle.dots_machine.specs.declared.received.Received.TheVariants as received
+use Rattle.dots_machine.specs.Exchanges.{exchange_in, dismissed, dismissed_unread}
 
--- Something that is settled at once, a message that is refused, or a request.
-pub data Heard : Type 0 where
-  at_once : Settled → Heard
-  refused : Exchange → Reject → Heard
-  asked : Exchange → Request → Heard
-
-abbrev pub heard_as : Exchange → Result Request Reject → Heard
-heard_as exchange (Ok request) = asked exchange request
-heard_as exchange (Err reject) = refused exchange reject
+-- a message that asks something, by what it means
+abbrev pub received_as : Exchange → Result Request Reject → Received
+received_as exchange (Ok request) = received.Asked exchange request
+received_as exchange (Err reject) = received.Refused exchange reject
 
 -- what the datagram of a gateway, or of a client, is
-pub data Hears (datagram : List ℕ) (gateway : Bool) (heard : Heard) : Type 0 where
-  broken : (fault : CoapFault) → Breaks datagram fault → heard ≡ at_once (rejected_unread (salvaged datagram)) → Hears datagram gateway heard
-  settled_at_once : (message : CoapMessage) (answer : Settled) → IsMessage message → datagram ≡ spelling message → settled message ≡ Some answer → heard ≡ at_once answer
-      → Hears datagram gateway heard
-  meant : (message : CoapMessage) (answer : Result Request Reject) → IsMessage message → datagram ≡ spelling message → settled message ≡ None
-      → Means message gateway answer → heard ≡ heard_as (exchange_in message) answer → Hears datagram gateway heard
+pub data IsReceived (datagram : List ℕ) (gateway : Bool) (got : Received) : Type 0 where
+  unread : (fault : CoapFault) → Breaks datagram fault → got ≡ received.Dismissed (dismissed_unread (salvaged datagram)) → IsReceived datagram gateway got
+  asks_nothing : (message : CoapMessage) (answer : Dismissal) → IsMessage message → datagram ≡ spelling message → dismissed message ≡ Some answer
+      → got ≡ received.Dismissed answer → IsReceived datagram gateway got
+  meant : (message : CoapMessage) (answer : Result Request Reject) → IsMessage message → datagram ≡ spelling message → dismissed message ≡ None
+      → Means message gateway answer → got ≡ received_as (exchange_in message) answer → IsReceived datagram gateway got

@@ -55,7 +55,7 @@ resolved settings asked = asked.prefixes ++ flat_map (addresses settings) asked.
 abbrev pub targets_of : SettingsValue → Asked → List Target
 targets_of settings asked = record { prefixes = resolved settings asked; ports = asked.ports; protocols = asked.protocols } ∷ []
 
-abbrev pub fault_text : TargetFault → List ℕ
-fault_text NotATarget = codes "not a target"
-fault_text OutsideDomain = codes "outside domain"
-fault_text UnknownName = codes "unknown name"
+abbrev pub target_text : TargetFault → List ℕ
+target_text NotATarget = codes "not a target"
+target_text OutsideDomain = codes "outside domain"
+target_text UnknownName = codes "unknown name"

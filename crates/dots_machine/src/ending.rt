@@ -6,26 +6,40 @@ use dots_settings::SettingsFault;
 /// How a run ends.
 #[derive(Clone, Copy, Debug, PartialEq, Eq)]
 pub enum Ending {
-    /// End was reached and the report is written whole.
-    Whole,
-    /// The lines of a message are shown.
-    Shown,
-    /// They couldn't be written.
-    NotShown,
-    /// The word that was to be shown writes no message, and its fault is shown.
-    Unreadable,
     /// The words are no command.
     WrongWords,
+    /// A word was shown.
+    Shown(Showing),
     /// The settings were read and are refused.
     Refused(SettingsFault),
-    /// Memory ran out before the first event, or for the lines of a message.
-    NoMemory,
     /// The settings couldn't be read.
     SettingsFailed,
+    /// Memory ran out before the first event, or for the lines of a message.
+    NoMemory,
+    /// The events were served, and where End came the report is written.
+    Served(Stop),
+    /// End came, and the report couldn't be written.
+    ReportFailed,
+}
+
+/// What came of a word that was to be shown.
+#[derive(Clone, Copy, Debug, PartialEq, Eq)]
+pub enum Showing {
+    /// The lines of the message that it writes are written.
+    Written,
+    /// They couldn't be written.
+    Failed,
+    /// It writes no message, and its fault is shown.
+    Unreadable,
+}
+
+/// How the events of a host stop.
+#[derive(Clone, Copy, Debug, PartialEq, Eq)]
+pub enum Stop {
+    /// End came.
+    Ended,
     /// The host failed.
     NextFailed,
-    /// The report couldn't be written.
-    ReportFailed,
     /// 2^40 events came and none was End.
     TooMany,
 }
@@ -36,14 +50,14 @@ impl Ending {
         ensures { result ≡ status_of self }
     {
         match self {
-            Ending::Whole | Ending::Shown => 0,
-            Ending::Unreadable => 1,
+            Ending::Shown(Showing::Written) | Ending::Served(Stop::Ended) => 0,
+            Ending::Shown(Showing::Unreadable) => 1,
             Ending::WrongWords => 2,
             Ending::Refused(_) => 3,
             Ending::NoMemory => 4,
-            Ending::SettingsFailed | Ending::NextFailed => 5,
-            Ending::ReportFailed | Ending::NotShown => 9,
-            Ending::TooMany => 11,
+            Ending::SettingsFailed | Ending::Served(Stop::NextFailed) => 5,
+            Ending::ReportFailed | Ending::Shown(Showing::Failed) => 9,
+            Ending::Served(Stop::TooMany) => 11,
         }
     }
 }

@@ -1,5 +1,5 @@
-ghost use Rattle.std.specs.Prelude.{◌≡◌};
-ghost use Rattle.dots_machine.specs.Targets.{fault_text};
+ghost use Rattle.std.specs.Prelude.{◌≡◌, ◌≤◌, length};
+ghost use Rattle.dots_machine.specs.Targets.{target_text};
 
 /// Why a scope can't be asked for.
 #[derive(Clone, Copy, Debug, PartialEq, Eq)]
@@ -15,7 +15,8 @@ pub enum TargetFault {
 impl TargetFault {
     /// The text of the refusal, its diagnostic payload (RFC 7252, section 5.5.2).
     pub fn text(self) -> &'static [u8]
-        ensures { result.now ≡ fault_text self }
+        ensures text { result.now ≡ target_text self }
+        ensures short { length result.now ≤ 28 }
     {
         match self {
             TargetFault::NotATarget => b"not a target",

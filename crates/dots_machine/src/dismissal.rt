@@ -1,0 +1,8 @@
+/// What is done with a message that asks nothing (RFC 7252, sections 4.2 and 4.3).
+#[derive(Clone, Copy, Debug, PartialEq, Eq)]
+pub enum Dismissal {
+    /// Nothing is sent.
+    Ignored,
+    /// A reset with this Message ID is sent.
+    Reset { id: u16 },
+}

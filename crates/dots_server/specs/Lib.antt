@@ -1,0 +1,5 @@
+pub mod Standing
+pub mod Receiving
+pub mod Resolving
+pub mod Gathering
+pub mod Lines
