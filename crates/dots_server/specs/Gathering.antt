@@ -1,5 +1,5 @@
 -- Texts that are gathered in a block and written to a sink, one after the other. Once the sink has failed nothing more is written.
-use Rattle.std.specs.Prelude.{◌≡◌, ℕ, Bool, true, false, List, ◌++◌, Option}
+use Rattle.std.specs.Prelude.{◌≡◌, ◌≤◌, ℕ, Bool, true, false, List, ◌++◌, Option}
 use Rattle.dots_host.specs.Causes.{Rose}
 use Rattle.dots_host.specs.Writing.{Owes, AppendsBeginning}
 
@@ -19,7 +19,7 @@ sunk holds faults sink = record { held = holds sink; faults = faults sink }
 -- Since the start the text was written but for what is gathered; or a beginning of it was written, and the sink failed.
 abbrev pub HasWritten : Sunk → Sunk → Bool → List ℕ → List ℕ → Type 0
 HasWritten start now false block text = Owes start.held now.held text block × (now.faults ≡ start.faults)
-HasWritten start now true block text = AppendsBeginning start.held now.held text × Rose start.faults now.faults
+HasWritten start now true block text = AppendsBeginning start.held now.held text × (start.faults ≤ now.faults) × Rose start.faults now.faults
 
 -- Whatever was written since any start, this text stands behind it now.
 abbrev pub Puts : Sunk → Gathered → Sunk → Gathered → List ℕ → Type 0

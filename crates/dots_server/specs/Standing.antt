@@ -1,8 +1,6 @@
 -- What a server keeps: of the history, the requests that run.
-use Rattle.std.specs.Prelude.{◌≡◌, ◌<◌, ℕ, List, Option, Some, None, true, ⊤}
+use Rattle.std.specs.Prelude.{◌≡◌, ◌<◌, ℕ, List, true, ⊤}
 use Rattle.dots_settings.specs.Settings.{SettingsValue}
-use Rattle.dots_settings.specs.declared.peer.Role.{Role}
-use Rattle.dots_settings.specs.declared.peer.Role.TheVariants as role
 use Rattle.dots_history.specs.declared.entry.Entry.{Entry}
 use Rattle.dots_history.specs.Entries.{runs}
 use Rattle.dots_machine.specs.declared.verdict.Verdict.{Verdict}
@@ -33,8 +31,3 @@ pub record KeepsAll (old new : ServerValue) : Type 0 where
 abbrev pub CanCarryOut : Verdict → ServerValue → Type 0
 CanCarryOut (verdict.Accept reply entry) server = (0 < server.room) × (runs server.time entry ≡ true)
 CanCarryOut _ server = ⊤
-
--- a client's own domain; a gateway has none
-abbrev pub own_domain : Role → Option ℕ
-own_domain (role.Client domain) = Some domain
-own_domain _ = None

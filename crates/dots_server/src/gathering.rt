@@ -1,8 +1,8 @@
 //! Writing texts to a sink, in blocks.
 
-ghost use Rattle.std.specs.Prelude.{◌≡◌, ◌≤◌, ◌+◌, ◌⊎◌, [], ◌++◌, length, flat_map, true, false, OnOk, OnErr};
+ghost use Rattle.std.specs.Prelude.{◌≡◌, ◌≤◌, ◌+◌, ◌⊎◌, ℕ, List, [], ◌++◌, length, flat_map, true, false, OnOk, OnErr};
 ghost use Rattle.std.specs.Io.KnownBytes.{Appends};
-ghost use Rattle.dots_host.specs.Causes.{Rose};
+ghost use Rattle.dots_host.specs.Causes.{HasCause};
 ghost use Rattle.dots_host.specs.Writing.{AppendsBeginning};
 ghost use Rattle.dots_server.specs.Gathering.{Sunk, sunk, HasWritten, Puts};
 ghost use Rattle.dots_server.specs.declared.gathering.TheConstants.{BLOCK};
@@ -82,8 +82,9 @@ impl Gatherer {
         if self.failed {
             return;
         }
-        if write_all(sink, bytes).is_err() {
-            self.failed = true;
+        match write_all(sink, bytes) {
+            Ok(()) => return,
+            Err(Failed) => self.failed = true,
         }
     }
 
@@ -114,7 +115,7 @@ impl Gatherer {
     pub fn finish<K: Sink>(self, sink: &mut K) -> Result<(), Failed>
         ensures { (start : Sunk) (text : List ℕ) → HasWritten start (sunk K.holds K.faults sink.old) self.failed self.block text
             → OnOk result (Appends start.held (K.holds sink.new) text)
-            × OnErr result (AppendsBeginning start.held (K.holds sink.new) text × Rose start.faults (K.faults sink.new)) }
+            × OnErr result (AppendsBeginning start.held (K.holds sink.new) text) × HasCause start.faults (K.faults sink.new) result }
     {
         let mut gatherer = self;
         gatherer.flush(sink);

@@ -1,0 +1,95 @@
+-- What is received, and what is decided on it.
+use Rattle.std.proofs.Common.{◌≡◌, ◌≢◌, ◌/◌, ◌==◌, ℕ, Bool, true, false, not, cond, List, [], ◌∷◌, Option, Some, None, Result, Ok, Err, inl, inr, refl, sym, ap, ◌∙◌, subst, arith}
+use Rattle.std.specs.Prelude.{IsOk}
+use Rattle.std.proofs.lemmas.Bool.Decides.{nat_tests}
+use Rattle.coap_message.specs.Message.{CoapMessage}
+use Rattle.dots_keys.specs.declared.reject.Reject.{Reject}
+use Rattle.dots_keys.specs.declared.reject.Reject.TheVariants as reject
+use Rattle.dots_keys.specs.declared.request.Request.{Request}
+use Rattle.dots_keys.specs.Heads.{Head, head_of}
+use Rattle.dots_keys.specs.Meaning.{Answers as Completed, Means}
+use Rattle.dots_keys.specs.Results.{Fulfils}
+use Rattle.dots_settings.specs.Settings.{SettingsValue}
+use Rattle.dots_machine.specs.declared.exchange.Exchange.{Exchange}
+use Rattle.dots_machine.specs.declared.dismissal.Dismissal.{Dismissal}
+use Rattle.dots_machine.specs.declared.dismissal.Dismissal.TheVariants as dismissal
+use Rattle.dots_machine.specs.declared.received.Received.{Received}
+use Rattle.dots_machine.specs.declared.received.Received.TheVariants as received
+use Rattle.dots_machine.specs.declared.verdict.Verdict.{Verdict}
+use Rattle.dots_machine.specs.declared.verdict.Verdict.TheVariants as verdict
+use Rattle.dots_machine.specs.Domains.{role_of, is_gateway}
+use Rattle.dots_machine.specs.Exchanges.{exchange_in, may_ask, rejected, dismissed}
+use Rattle.dots_machine.specs.Requests.{received_as, IsReceived, unread, asks_nothing, meant}
+use Rattle.dots_machine.specs.Replies.{unavailable}
+use Rattle.dots_machine.specs.Machine.{State, is_stranger, LacksMemory, Decides, by_rules, for_want_of_memory}
+use Rattle.dots_server.specs.Receiving.{Lacks}
+use Rattle.dots_server.specs.Asking.{IsUnavailable, DecidesOn}
+
+-- what isn't dismissed has the code of a request
+pub asks_code : (m : CoapMessage) → dismissed m ≡ None → (m.code / 32 ≡ 0) × (m.code ≢ 0)
+asks_code m is = by_test (m.code == 0) (may_ask m.kind) (m.code / 32 == 0) refl refl is
+  where
+    by_test : (empty asks class : Bool) → (m.code == 0) ≡ empty → (m.code / 32 == 0) ≡ class
+        → cond empty (Some (rejected m.kind m.identifier)) (cond (not asks) (Some dismissal.Ignored) (cond (not class) (Some (rejected m.kind m.identifier)) None)) ≡ None
+        → (m.code / 32 ≡ 0) × (m.code ≢ 0)
+    by_test true asks class e c s = absurd (cc s)
+    by_test false false class e c s = absurd (cc s)
+    by_test false true false e c s = absurd (cc s)
+    by_test false true true e c s = (grind (arith, nat_tests, c), grind (arith, nat_tests, e))
+
+-- a fact of a refusal that isn't want of memory
+pub fulfilled : (e : Reject) (fact : Type 0) → e ≢ reject.NoMemory → Fulfils e fact → fact
+fulfilled (reject.Critical number) fact other known = known
+fulfilled reject.Path fact other known = known
+fulfilled reject.Method fact other known = known
+fulfilled reject.HopLimit fact other known = known
+fulfilled reject.Parameter fact other known = known
+fulfilled reject.Accept fact other known = known
+fulfilled reject.Format fact other known = known
+fulfilled reject.Query fact other known = known
+fulfilled (reject.Body cause) fact other known = known
+fulfilled reject.NoMemory fact other known = absurd (other refl)
+
+module _ (settings : SettingsValue) (state : State) (peer : ℕ) (datagram : List ℕ) (known : is_stranger (role_of settings peer) ≡ false) where
+  abbrev gateway : Bool
+  gateway = is_gateway (role_of settings peer)
+
+  -- a request has all that stands before its body
+  head_is_right : (head : Result Head Reject) (payload : List ℕ) (r : Request) → Completed head payload (Ok r) → IsOk head
+  head_is_right (Ok head) payload r answers = refl
+  head_is_right (Err e) payload r answers = absurd (cc answers)
+
+  same_request : (x : Exchange) (r : Request) (y : Exchange) (answer : Result Request Reject) → received.Asked x r ≡ received_as y answer → (x ≡ y) × (answer ≡ Ok r)
+  same_request x r y (Ok s) e = (cc e, cc e)
+  same_request x r y (Err s) e = absurd (cc e)
+
+  never_dismissed : (answer : Dismissal) (x : Exchange) (r : Request) → received.Asked x r ≡ received.Dismissed answer → ⊥
+  never_dismissed answer x r e = cc e
+
+  lacks_memory : (x : Exchange) (r : Request) (v : Verdict) → IsReceived datagram gateway (received.Asked x r) → v ≡ verdict.Reply (unavailable x) → Decides settings state peer datagram v
+  lacks_memory x r v (unread fault breaks e) is = absurd (never_dismissed _ x r e)
+  lacks_memory x r v (asks_nothing message answer m spelled dismisses e) is = absurd (never_dismissed answer x r e)
+  lacks_memory x r v (meant message answer m spelled asks means e) is =
+      let same = same_request x r (exchange_in message) answer e in
+      let right = head_is_right (head_of message gateway) message.payload r (subst (Means message gateway) same.1 means) in
+      for_want_of_memory known (record { message = message; is_message = m; spelled = spelled; asks = asks; head = right; answer = is ∙ ap (λ x. verdict.Reply (unavailable x)) same.0 })
+
+  unavailable_decided : (got : Received) (v : Verdict) → IsReceived datagram gateway got → IsUnavailable got v → Decides settings state peer datagram v
+  unavailable_decided (received.Asked x r) v got lacks = lacks_memory x r v got lacks
+  unavailable_decided (received.Refused x e) v got lacks = absurd lacks
+  unavailable_decided (received.Dismissed d) v got lacks = absurd lacks
+
+  pub decided : (got : Received) (v : Verdict) → IsReceived datagram gateway got → DecidesOn settings state peer got v → Decides settings state peer datagram v
+  decided got v is (inl rules) = by_rules known got is rules
+  decided got v is (inr lacks) = unavailable_decided got v is lacks
+
+  pub lacking : (x : Exchange) (v : Verdict) → Lacks datagram gateway x → v ≡ verdict.Reply (unavailable x) → Decides settings state peer datagram v
+  lacking x v lacks is =
+      for_want_of_memory known (record {
+        message = lacks.message;
+        is_message = lacks.is_message;
+        spelled = lacks.spelled;
+        asks = lacks.asks;
+        head = lacks.head;
+        answer = is ∙ ap (λ x. verdict.Reply (unavailable x)) lacks.exchange_is;
+      })

@@ -1,0 +1,1 @@
+use Rattle.dots_server.proofs.gathering.Gatherer.flush.Goals as goal

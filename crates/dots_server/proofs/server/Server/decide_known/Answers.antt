@@ -1,0 +1,19 @@
+use Rattle.std.proofs.Common.{◌≡◌, sym, ◌∙◌, ap, false, subst}
+use Rattle.dots_machine.specs.declared.verdict.Verdict.TheVariants as verdict
+use Rattle.dots_machine.specs.Domains.{role_of, is_gateway}
+use Rattle.dots_machine.specs.Machine.{is_stranger}
+use Rattle.dots_server.proofs.Received.{decided, lacking}
+use Rattle.dots_server.proofs.Verdicts.{known_is, gateway_is}
+use Rattle.dots_server.proofs.server.Server.decide_known.Goals as goal
+
+pub returns-in-Ok-clause-decides : goal.returns-in-Ok-clause-decides
+returns-in-Ok-clause-decides c = λ settings state stands own.
+    let known : is_stranger (role_of settings c.args.peer) ≡ false = ap is_stranger own ∙ known_is c.args.own in
+    let gateway = gateway_is c.args.own c.is_none.result c.is_none.ensures ∙ sym (ap is_gateway own) in
+    decided settings state c.args.peer c.args.datagram.now known c.in-Ok.received c.decide_on.result (rw gateway at c.in-Ok.ensures.received) (c.decide_on.ensures.decides settings state stands own)
+
+pub returns-in-Err-clause-decides : goal.returns-in-Err-clause-decides
+returns-in-Err-clause-decides c = λ settings state stands own.
+    let known : is_stranger (role_of settings c.args.peer) ≡ false = ap is_stranger own ∙ known_is c.args.own in
+    let gateway = gateway_is c.args.own c.is_none.result c.is_none.ensures ∙ sym (ap is_gateway own) in
+    lacking settings state c.args.peer c.args.datagram.now known c.in-Err.exchange _ (rw gateway at c.in-Err.ensures.lacks) (ap verdict.Reply c.unavailable.ensures)

@@ -1,0 +1,35 @@
+-- For which domain is asked, and what is decided on what was received.
+use Rattle.std.specs.Prelude.{◌≡◌, ◌⊎◌, ℕ, false, bytes_eq, List, position, Option, Some, None}
+use Rattle.dots_settings.specs.declared.peer.Role.{Role}
+use Rattle.dots_settings.specs.declared.peer.Role.TheVariants as role
+use Rattle.dots_settings.specs.Settings.{SettingsValue}
+use Rattle.dots_machine.specs.declared.exchange.Exchange.{Exchange}
+use Rattle.dots_machine.specs.declared.received.Received.{Received}
+use Rattle.dots_machine.specs.declared.received.Received.TheVariants as received
+use Rattle.dots_machine.specs.declared.verdict.Verdict.{Verdict}
+use Rattle.dots_machine.specs.declared.verdict.Verdict.TheVariants as verdict
+use Rattle.dots_machine.specs.Domains.{role_of}
+use Rattle.dots_machine.specs.Replies.{unavailable}
+use Rattle.dots_machine.specs.Machine.{State, verdict_on}
+
+-- a client has a domain of its own, and a gateway none
+abbrev pub role_with : Option ℕ → Role
+role_with None = role.Gateway
+role_with (Some domain) = role.Client domain
+
+abbrev pub IsOwn : SettingsValue → ℕ → Option ℕ → Type 0
+IsOwn settings peer own = role_of settings peer ≡ role_with own
+
+-- a client's own domain, or the one that a gateway names
+abbrev pub domain_asked : SettingsValue → Option ℕ → Option (List ℕ) → Option ℕ
+domain_asked settings (Some domain) cdid = Some domain
+domain_asked settings None None = None
+domain_asked settings None (Some name) = position (λ domain. bytes_eq name domain.name) settings.domains
+
+abbrev pub IsUnavailable : Received → Verdict → Type 0
+IsUnavailable (received.Asked exchange request) decided = decided ≡ verdict.Reply (unavailable exchange)
+IsUnavailable _ decided = ⊥
+
+-- what the rules say of it, or 5.00 to a request for want of memory
+abbrev pub DecidesOn : SettingsValue → State → ℕ → Received → Verdict → Type 0
+DecidesOn settings state peer got decided = (decided ≡ verdict_on settings state peer got) ⊎ IsUnavailable got decided

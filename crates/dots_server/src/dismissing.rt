@@ -1,0 +1,56 @@
+//! What a message is answered before it is looked at what it asks.
+
+ghost use Rattle.std.specs.Prelude.{◌≡◌};
+ghost use Rattle.coap_message.specs.Salvage.{salvaged};
+ghost use Rattle.dots_machine.specs.Exchanges.{dismissed, may_ask, rejected, dismissed_unread};
+
+use coap_message::codes::EMPTY;
+use coap_message::{Kind, Message, salvage};
+use dots_machine::Dismissal;
+
+/// What is done with a datagram that can't be read: where its type and Message ID can be told and it is confirmable it
+/// is reset (RFC 7252, section 4.2).
+pub fn dismissed_unread(datagram: &[u8]) -> Dismissal
+    ensures { result ≡ dismissed_unread (salvaged datagram.now) }
+{
+    match salvage(datagram) {
+        Some((kind, id)) => rejected(kind, id),
+        None => Dismissal::Ignored,
+    }
+}
+
+/// What is rejected is reset where it is confirmable, and else ignored (RFC 7252, sections 4.2 and 4.3).
+fn rejected(kind: Kind, id: u16) -> Dismissal
+    ensures { result ≡ rejected kind id }
+{
+    match kind {
+        Kind::Con => Dismissal::Reset { id },
+        _ => Dismissal::Ignored,
+    }
+}
+
+/// What is done with a message, unless it asks something.
+pub fn dismissed(message: &Message<'_>) -> Option<Dismissal>
+    ensures { result ≡ dismissed message.now }
+{
+    if message.code() == EMPTY {
+        return Some(rejected(message.kind(), message.id()));
+    }
+    if !may_ask(message.kind()) {
+        return Some(Dismissal::Ignored);
+    }
+    if message.code() / 32 != 0 {
+        return Some(rejected(message.kind(), message.id()));
+    }
+    None
+}
+
+/// Whether the type is that of a request (RFC 7252, section 3).
+fn may_ask(kind: Kind) -> bool
+    ensures { result ≡ may_ask kind }
+{
+    match kind {
+        Kind::Con | Kind::Non => true,
+        Kind::Ack | Kind::Rst => false,
+    }
+}
