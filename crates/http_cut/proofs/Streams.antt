@@ -17,7 +17,7 @@ use Rattle.http_cut.specs.Streams.{IfRequest, IsFirst, AreRequests, IsStream, Is
 use Rattle.http_cut.proofs.Ends.{ends_empty}
 use Rattle.http_cut.proofs.Windows.{some_head}
 
-begins_append : (bytes : List ℕ) (h : RequestHead) (rest more : List ℕ) → BeginsWith bytes h rest → BeginsWith (bytes ++ more) h (rest ++ more)
+pub begins_append : (bytes : List ℕ) (h : RequestHead) (rest more : List ℕ) → BeginsWith bytes h rest → BeginsWith (bytes ++ more) h (rest ++ more)
 begins_append bytes h rest more x = record { reads = ReadsRequest-append bytes h rest more x.reads; size = x.size }
 
 abbrev taken : Request → Outcome → Request
