@@ -1,5 +1,5 @@
 -- Until a body is there whole, more is waited for.
-use Rattle.std.proofs.Common.{◌≡◌, ℕ, ◌+◌, ◌<◌, ◌≤◌, Bool, List, [], ◌++◌, length, take, drop, refl, sym, ap, subst, ◌∙◌, append_assoc, arith, inl, inr}
+use Rattle.std.proofs.Common.{◌≡◌, ℕ, ◌+◌, ◌<◌, ◌≤◌, Bool, List, [], ◌++◌, length, take, drop, sym, ap, subst, ◌∙◌, append_assoc, arith, inl}
 use Rattle.std.specs.Prelude.{Option, Some, None, IfSome, Result, Ok, if◌then◌else◌}
 use Rattle.std.proofs.lemmas.Bool.{lt-leb}
 use Rattle.std.proofs.lemmas.List.{length-append, append-nil}
@@ -12,7 +12,7 @@ use Rattle.http_cut.specs.declared.place.Place.{Place}
 use Rattle.http_cut.specs.declared.place.Place.TheVariants.{Blank}
 use Rattle.http_cut.specs.Fields.{framing}
 use Rattle.http_cut.specs.Requests.{Head, request_of, takes, waits, IsCut, by_framing, outcome_behind, head_of}
-use Rattle.http_cut.specs.Views.{head_at, fields_at}
+use Rattle.http_cut.specs.Views.{fields_at}
 use Rattle.http_cut.specs.Places.{place_from, WaitsBelow, IsKnown}
 use Rattle.http_cut.proofs.Places.{from_append}
 use Rattle.http_cut.proofs.Streams.{begins_append}
