@@ -10,6 +10,7 @@
 //! of all messages: no bytes spell two of them, and none that has a fault.
 #![tactic(auto)]
 
+pub mod codes;
 mod decoding;
 mod encoding;
 mod fault;
@@ -19,6 +20,7 @@ mod kind;
 pub mod laws;
 mod message;
 mod option;
+pub mod option_numbers;
 mod option_reading;
 mod options;
 mod parts;
@@ -36,6 +38,9 @@ pub use options::Options;
 pub use parts::{OptionPart, Parts};
 pub use salvaging::salvage;
 pub use token::Token;
+
+/// The content format `application/dots+cbor`, as a value of Content-Format and Accept (RFC 9132, section 10.3).
+pub const DOTS_CBOR: u16 = 271;
 
 /// The byte in front of a payload (RFC 7252, section 3).
 const PAYLOAD_MARKER: u8 = 0xff;

@@ -1,3 +1,4 @@
+pub mod HandingLemmas
 pub mod ReadLemmas
 pub mod RunLemmas
 pub mod TapeLemmas

@@ -3,4 +3,5 @@ pub mod Calls
 pub mod Acts
 pub mod Runs
 pub mod Memory
+pub mod Handing
 pub mod Writing

@@ -1,10 +1,11 @@
 -- What contracts see of the memory forms.
-use Rattle.std.specs.Prelude.{ℕ, nat_le, Bool, true, false, List, [], ◌∷◌, ◌++◌, length, Option, Some, None}
+use Rattle.std.specs.Prelude.{◌≡◌, ℕ, nat_le, Bool, true, false, List, [], ◌∷◌, ◌++◌, length, drop, Option, Some, None}
 use Rattle.dots_host.specs.declared.calls.Calls.{Calls}
 use Rattle.dots_host.specs.Calls.{no_calls}
 use Rattle.dots_host.specs.declared.event.Event.{Event}
 use Rattle.dots_host.specs.declared.event.Event.TheVariants as event
 use Rattle.dots_host.specs.declared.act.Act.{Act}
+use Rattle.dots_host.specs.declared.act.Act.TheVariants as act
 use Rattle.dots_host.specs.Acts.{Timed, WireAct, took, wire_acts}
 
 -- a source over bytes: what it has left, its calls, and how often a read failed
@@ -66,3 +67,18 @@ first_coming (coming ∷ later) = coming
 -- the act of handing it in
 abbrev pub first_taken : List Coming → WireAct
 first_taken coming = took (first_coming coming).event (first_coming coming).at
+
+-- A call hands out the first of the events that were to come, and leaves the others. A call that failed, and one that takes no event, leaves all.
+abbrev pub HandsOne : List Coming → Act → List Coming → Type 0
+HandsOne coming (act.Took event.Failed at) later = later ≡ coming
+HandsOne coming (act.Took event at) later = (first_coming coming ≡ record { event = event; at = at }) × (later ≡ drop 1 coming)
+HandsOne coming _ later = later ≡ coming
+
+-- the calls, one after the other
+abbrev pub Hands : List Coming → List Act → List Coming → Type 0
+Hands coming [] later = later ≡ coming
+Hands coming (call ∷ calls) later = (mid : List Coming) × HandsOne coming call mid × Hands mid calls later
+
+-- Where each call so far was recorded, those that were added handed out the events that were to come, in order.
+abbrev pub HandsOut : Hosting → Hosting → Type 0
+HandsOut old new = new.whole ≡ true → (old.whole ≡ true) × (more : List Act) × (new.acts ≡ old.acts ++ more) × Hands old.coming more new.coming

@@ -40,12 +40,16 @@ abbrev pub IsSend : OwnedOut → WireAct → Type 0
 IsSend out (gave given done) = given ≡ out
 IsSend out (took event at) = ⊥
 
--- the acts are these sends, in order, each done or lost
-abbrev pub Gives : List OwnedOut → List Timed → Type 0
-Gives [] [] = ⊤
-Gives (out ∷ owed) (timed ∷ acts) = IsSend out timed.act × Gives owed acts
-Gives [] (timed ∷ acts) = ⊥
-Gives (out ∷ owed) [] = ⊥
+-- the sends that are owed, without the states that they tell
+abbrev pub outs_of : {S : Type 0} → List (S × OwnedOut) → List OwnedOut
+outs_of owed = map (λ send. send.1) owed
+
+-- The acts are these sends, in order, each done or lost. The first was made at the moment, and each other one a moment later.
+abbrev pub Gives : ℕ → List OwnedOut → List Timed → Type 0
+Gives moment [] [] = ⊤
+Gives moment (out ∷ owed) (timed ∷ acts) = (timed.moment ≡ moment) × IsSend out timed.act × Gives (moment + 1) owed acts
+Gives moment [] (timed ∷ acts) = ⊥
+Gives moment (out ∷ owed) [] = ⊥
 
 abbrev pub IsNoEnd : WireAct → Type 0
 IsNoEnd (took event.End at) = ⊥

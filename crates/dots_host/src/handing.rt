@@ -1,13 +1,10 @@
-ghost use Rattle.std.specs.Prelude.{◌≡◌, ◌≤◌, length, take, true, IfOk};
-ghost use Rattle.dots_host.specs.Acts.{IsWithin, OnFailed, event_of, owned_of};
+ghost use Rattle.std.specs.Prelude.{◌≡◌, ◌≤◌, length, take, true};
+ghost use Rattle.dots_host.specs.Acts.{IsWithin, OnFailed, event_of};
 ghost use Rattle.dots_host.specs.Memory.{is_given};
 ghost use Rattle.dots_host.specs.declared.TheConstants.{MAX_EVENT_BYTES};
 
 use crate::MAX_EVENT_BYTES;
 use crate::event::{Event, What};
-use crate::out::{Out, OwnedOut};
-use dots_lists::{Bytes, NoMemory};
-use std::alloc::Global;
 
 /// Puts the bytes of an event to the front of the room.
 pub fn hand_in(event: &Event, into: &mut [u8]) -> What
@@ -47,21 +44,4 @@ fn copy_to_front(bytes: &[u8], into: &mut [u8]) -> usize
     let count = bytes.len();
     into[..count].copy_from_slice(bytes);
     count
-}
-
-/// A send with a copy of its bytes.
-pub fn copy_out(alloc: Global, out: &Out) -> Result<OwnedOut, NoMemory>
-    ensures { IfOk result (λ copy. copy ≡ owned_of out.now) }
-{
-    match out {
-        Out::To { peer, bytes } => {
-            let bytes = Bytes::from_slice(alloc, bytes)?;
-            Ok(OwnedOut::To { peer: *peer, bytes })
-        }
-        Out::Conn { conn, bytes } => {
-            let bytes = Bytes::from_slice(alloc, bytes)?;
-            Ok(OwnedOut::Conn { conn: *conn, bytes })
-        }
-        Out::Close { conn } => Ok(OwnedOut::Close { conn: *conn }),
-    }
 }

@@ -11,6 +11,7 @@
 
 mod act;
 mod calls;
+mod copying;
 mod event;
 mod failed;
 mod handing;

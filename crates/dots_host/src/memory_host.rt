@@ -2,14 +2,15 @@ ghost use Rattle.std.specs.Prelude.{◌≡◌, ◌≢◌, ◌+◌, ◌<◌, ◌�
 ghost use Rattle.dots_host.specs.Causes.{Rose};
 ghost use Rattle.dots_host.specs.Calls.{no_calls, failing_at, stopping_at, is_to_fail, counted};
 ghost use Rattle.dots_host.specs.Acts.{IsWithin, OnFailed, OnEvent, Adds, taken, given};
-ghost use Rattle.dots_host.specs.Memory.{told, is_given, first_coming, first_taken, empty_host, with_event};
+ghost use Rattle.dots_host.specs.Memory.{told, is_given, first_coming, first_taken, empty_host, with_event, HandsOut};
+ghost use Rattle.dots_host.specs.Handing.{hands_out_same, hands_out_then};
 ghost use Rattle.dots_host.specs.declared.TheConstants.{MAX_EVENT_BYTES};
 
 use crate::MAX_EVENT_BYTES;
 use crate::act::Act;
 use crate::calls::Calls;
 use crate::event::{Event, Got, What};
-use crate::handing::{copy_out, hand_in};
+use crate::handing::hand_in;
 use crate::out::{Out, Sent};
 use crate::tape::Tape;
 use crate::wire::{Host, Wire};
@@ -160,6 +161,12 @@ impl Wire for MemoryHost {
 
     ghost beside_then = { λ _ _ _ _ _. tt };
 
+    ghost leads = { HandsOut };
+
+    ghost leads_same = { hands_out_same };
+
+    ghost leads_then = { hands_out_then };
+
     fn next(&mut self, into: &mut [u8]) -> Got
         requires { length into.old ≡ MAX_EVENT_BYTES }
         ensures at { result.at < 2 ^ 48 }
@@ -169,6 +176,7 @@ impl Wire for MemoryHost {
         ensures later { self.old.faults ≤ self.new.faults }
         ensures cause { OnFailed result.what (Rose self.old.faults self.new.faults) }
         ensures beside { ⊤ }
+        ensures leads { HandsOut self.old self.new }
 
         // It fails where the call was to fail, and else only for want of memory.
         ensures calls { self.new.calls ≡ counted self.old.calls }
@@ -205,6 +213,7 @@ impl Wire for MemoryHost {
             (told self.new.whole self.new.acts) (length self.new.acts) (given out.now result) }
         ensures faults { self.new.faults ≡ self.old.faults }
         ensures beside { ⊤ }
+        ensures leads { HandsOut self.old self.new }
 
         // It is lost where the call was to fail, and else done unless memory ran out.
         ensures calls { self.new.calls ≡ counted self.old.calls }
@@ -214,19 +223,15 @@ impl Wire for MemoryHost {
         ensures whole { result ≡ Sent.Done → self.new.whole ≡ self.old.whole }
         ensures coming { self.new.coming ≡ self.old.coming }
     {
-        let fails = self.calls.next_fails();
-        let Ok(out) = copy_out(self.alloc, out) else {
-            self.tape.forget();
-            return Sent::Lost;
+        let sent = if self.calls.next_fails() {
+            Sent::Lost
+        } else {
+            Sent::Done
         };
-        if !self.tape.make_room() {
-            return Sent::Lost;
+        if self.tape.record_given(self.alloc, out, sent) {
+            return sent;
         }
-        self.tape.log(Act::Gave { out, done: !fails });
-        if fails {
-            return Sent::Lost;
-        }
-        Sent::Done
+        Sent::Lost
     }
 }
 

@@ -1,6 +1,12 @@
-ghost use Rattle.std.specs.Prelude.{◌≡◌, ◌<◌, [], ◌∷◌, ◌++◌, true, false, MatchBool};
+ghost use Rattle.std.specs.Prelude.{◌≡◌, ◌<◌, [], ◌∷◌, ◌++◌, length, true, false, MatchBool};
+ghost use Rattle.dots_host.specs.declared.act.Act.TheVariants as act;
+ghost use Rattle.dots_host.specs.Acts.{IsWithin, Adds, event_of, owned_of, is_done, taken, given};
+ghost use Rattle.dots_host.specs.Memory.{told};
 
 use crate::act::Act;
+use crate::copying::{copy_event, copy_out, is_done};
+use crate::event::Got;
+use crate::out::{Out, Sent};
 use std::alloc::Global;
 use std::marker::Model;
 
@@ -71,5 +77,45 @@ impl Tape {
         ensures whole { self.new.whole ≡ self.old.whole }
     {
         self.acts.push_reserved(act);
+    }
+
+    /// Records that an event was handed in, its bytes at the front of the room, and answers whether that could be done.
+    pub fn record_taken(&mut self, alloc: Global, got: Got, room: &[u8]) -> bool
+        requires { IsWithin got.what (length room.now) }
+        ensures acts { MatchBool result
+            (self.new.acts ≡ self.old.acts ++ act.Took (event_of got.what room.now) got.at ∷ []) (self.new.acts ≡ self.old.acts) }
+        ensures whole { MatchBool result (self.new.whole ≡ self.old.whole) (self.new.whole ≡ false) }
+        ensures adds { Adds (told self.old.whole self.old.acts) (length self.old.acts)
+            (told self.new.whole self.new.acts) (length self.new.acts) (taken got room.now) }
+    {
+        let Ok(event) = copy_event(alloc, got.what, room) else {
+            self.forget();
+            return false;
+        };
+        if !self.make_room() {
+            return false;
+        }
+        self.log(Act::Took { event, at: got.at });
+        true
+    }
+
+    /// Records a send, and answers whether that could be done.
+    pub fn record_given(&mut self, alloc: Global, out: &Out, sent: Sent) -> bool
+        ensures acts { MatchBool result
+            (self.new.acts ≡ self.old.acts ++ act.Gave (owned_of out.now) (is_done sent) ∷ []) (self.new.acts ≡ self.old.acts) }
+        ensures whole { MatchBool result (self.new.whole ≡ self.old.whole) (self.new.whole ≡ false) }
+        ensures adds { Adds (told self.old.whole self.old.acts) (length self.old.acts)
+            (told self.new.whole self.new.acts) (length self.new.acts) (given out.now sent) }
+    {
+        let Ok(out) = copy_out(alloc, out) else {
+            self.forget();
+            return false;
+        };
+        if !self.make_room() {
+            return false;
+        }
+        let done = is_done(sent);
+        self.log(Act::Gave { out, done });
+        true
     }
 }
