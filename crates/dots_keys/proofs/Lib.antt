@@ -1,7 +1,7 @@
 pub mod Answering
 pub mod Arrays
 pub mod Ascending
-pub mod AskedLifetimes
+pub mod Askable
 pub mod Grants
 pub mod Identifiers
 pub mod OneMeaning

@@ -6,6 +6,7 @@ pub mod Heads
 pub mod Heartbeats
 pub mod Keys
 pub mod Lifetimes
+pub mod Askable
 pub mod Meaning
 pub mod Mitigations
 pub mod OperationViews
@@ -15,6 +16,7 @@ pub mod PathViews
 pub mod Paths
 pub mod PrefixTexts
 pub mod RejectText
+pub mod Wordings
 pub mod Replies
 pub mod Results
 pub mod Segments
