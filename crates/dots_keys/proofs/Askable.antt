@@ -15,7 +15,6 @@ use Rattle.dots_keys.specs.declared.reject.Reject.{Reject}
 use Rattle.dots_keys.specs.declared.reject.Reject.TheVariants as reject
 use Rattle.dots_keys.specs.declared.request.ConfigBody.{ConfigBody}
 use Rattle.dots_keys.specs.declared.request.Content.{Content}
-use Rattle.dots_keys.specs.declared.request.MitigationBody.{MitigationBody}
 use Rattle.dots_keys.specs.declared.request.MitigationPath.{MitigationPath}
 use Rattle.dots_keys.specs.declared.request.Observe.{Observe}
 use Rattle.dots_keys.specs.declared.request.Request.{Request}
@@ -26,7 +25,7 @@ use Rattle.dots_keys.specs.declared.scope.ScopeKey.TheVariants as scope_key
 use Rattle.dots_keys.specs.Askable.{NamesClient, NamesMitigation, AreFew, IsAskableBody, OffersSome, IsAskable}
 use Rattle.dots_keys.specs.Configurations.{no_config, config_field, some_config, signal_config, configuration_of, offers_nothing}
 use Rattle.dots_keys.specs.Fields.{Field, known, unknown, fields_of, each_field, first_field, ended_with, sole_field}
-use Rattle.dots_keys.specs.Heads.{Head, refuse_critical, refuse_hop_limit, refuse_media, refuse_format, content_of, observe_of, head_of}
+use Rattle.dots_keys.specs.Heads.{Head, refuse_critical, refuse_hop_limit, refuse_media, refuse_format, content_of, head_of}
 use Rattle.dots_keys.specs.Heartbeats.{heartbeat_of}
 use Rattle.dots_keys.specs.Lifetimes.{HasLifetime}
 use Rattle.dots_keys.specs.Meaning.{AnswersBody, Completes, Answers, put_mitigation_with, put_config_with, put_heartbeat_with}
@@ -91,7 +90,7 @@ fits_most most (Some trees) refusal = chosen (nat_le (count trees) most) refl
 array_ok : {A : Type 0} (key most : ℕ) (read : Tree → Result A Reject) (tree : Tree) → IfOk (array_under key most read tree) (λ values. length values ≤ most)
 array_ok key most read tree =
     fact_then_ok (ok_or (at_most most (items_in tree)) (invalid key)) (each_item read) (λ trees. count trees ≤ most) (λ values. length values ≤ most) (fits_most most (items_in tree) (invalid key))
-      (λ trees fits. fact_ok (each_item read trees) (λ values. length values ≡ count trees) (λ values. length values ≤ most) (each_length read trees) (λ values same. omega (arith, same, fits)))
+    (λ trees fits. fact_ok (each_item read trees) (λ values. length values ≡ count trees) (λ values. length values ≤ most) (each_length read trees) (λ values same. omega (arith, same, fits)))
 
 -- ---- the scope
 
@@ -114,15 +113,15 @@ record Says (said : Scope) : Type 0 where
 
 take_ok : (key : Option ScopeKey) (said : Scope) (n : ℕ) (tree : Tree) → Says said → IfOk (take_target key said n tree) Says
 take_ok (Some scope_key.Prefixes) said n tree is = fact_then_ok (array_under 6 16 prefix_of tree) _ (λ values. length values ≤ 16) Says (array_ok 6 16 prefix_of tree)
-  (λ values few. record { few = record { prefixes = few; ports = is.few.ports; protocols = is.few.protocols; names = is.few.names; aliases = is.few.aliases }; lifetime = is.lifetime })
+    (λ values few. record { few = record { prefixes = few; ports = is.few.ports; protocols = is.few.protocols; names = is.few.names; aliases = is.few.aliases }; lifetime = is.lifetime })
 take_ok (Some scope_key.Ports) said n tree is = fact_then_ok (array_under 7 16 range_of tree) _ (λ values. length values ≤ 16) Says (array_ok 7 16 range_of tree)
-  (λ values few. record { few = record { prefixes = is.few.prefixes; ports = few; protocols = is.few.protocols; names = is.few.names; aliases = is.few.aliases }; lifetime = is.lifetime })
+    (λ values few. record { few = record { prefixes = is.few.prefixes; ports = few; protocols = is.few.protocols; names = is.few.names; aliases = is.few.aliases }; lifetime = is.lifetime })
 take_ok (Some scope_key.Protocols) said n tree is = fact_then_ok (array_under 10 16 protocol_of tree) _ (λ values. length values ≤ 16) Says (array_ok 10 16 protocol_of tree)
-  (λ values few. record { few = record { prefixes = is.few.prefixes; ports = is.few.ports; protocols = few; names = is.few.names; aliases = is.few.aliases }; lifetime = is.lifetime })
+    (λ values few. record { few = record { prefixes = is.few.prefixes; ports = is.few.ports; protocols = few; names = is.few.names; aliases = is.few.aliases }; lifetime = is.lifetime })
 take_ok (Some scope_key.Names) said n tree is = fact_then_ok (array_under 11 8 (name_of 11) tree) _ (λ values. length values ≤ 8) Says (array_ok 11 8 (name_of 11) tree)
-  (λ values few. record { few = record { prefixes = is.few.prefixes; ports = is.few.ports; protocols = is.few.protocols; names = few; aliases = is.few.aliases }; lifetime = is.lifetime })
+    (λ values few. record { few = record { prefixes = is.few.prefixes; ports = is.few.ports; protocols = is.few.protocols; names = few; aliases = is.few.aliases }; lifetime = is.lifetime })
 take_ok (Some scope_key.Aliases) said n tree is = fact_then_ok (array_under 13 8 (name_of 13) tree) _ (λ values. length values ≤ 8) Says (array_ok 13 8 (name_of 13) tree)
-  (λ values few. record { few = record { prefixes = is.few.prefixes; ports = is.few.ports; protocols = is.few.protocols; names = is.few.names; aliases = few }; lifetime = is.lifetime })
+    (λ values few. record { few = record { prefixes = is.few.prefixes; ports = is.few.ports; protocols = is.few.protocols; names = is.few.names; aliases = few }; lifetime = is.lifetime })
 take_ok (Some scope_key.Lifetime) said n tree is = fact_then_ok (lifetime_of tree) _ IsLifetime Says (lifetime_ok tree) (λ lifetime one. record { few = is.few; lifetime = one })
 take_ok (Some scope_key.Trigger) said n tree is = then_ok (refuse_trigger tree) _ Says (λ _. is)
 take_ok None said n tree is = tt

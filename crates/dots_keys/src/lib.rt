@@ -36,5 +36,5 @@ mod wording;
 pub use reading::read_request;
 pub use reject::{Cause, Reject};
 pub use reply::{Reply, body_of};
-pub use wording::MAX_TEXT;
 pub use request::{ConfigBody, Content, MitigationBody, MitigationPath, Observe, Offer, Request};
+pub use wording::MAX_TEXT;
