@@ -33,5 +33,3 @@ pub use peer::{PeerRow, Role};
 pub use settings::Settings;
 pub use source::read_settings;
 
-#[cfg(test)]
-mod tests;

@@ -1,5 +1,5 @@
-use crate::{
-    Addr, BadPrefix, Family, MAX_PREFIX_TEXT, PortRange, Prefix, holds, inside, inside_any, meets,
+use ip_scope::{
+    Addr, BadPrefix, Family, MAX_PREFIX_TEXT, Prefix, holds, inside, inside_any, meets,
     parse_prefix, write_prefix,
 };
 
@@ -49,6 +49,7 @@ fn refuses(rt: HostRuntime) {
         ("192.0.2.0", BadPrefix::NotPrefix),
         ("192.0.2.0/", BadPrefix::NotPrefix),
         ("192.0.2.0/024", BadPrefix::NotPrefix),
+        ("192.0.2.0/24 ", BadPrefix::NotPrefix),
         ("192.0.2.0/1000", BadPrefix::NotPrefix),
         ("192.0.2.0/+8", BadPrefix::NotPrefix),
         ("192.0.02.0/24", BadPrefix::NotPrefix),
@@ -75,18 +76,8 @@ fn contains(rt: HostRuntime) {
     let narrow = Prefix::new(addr, 26).expect(&rt, "a prefix");
     let wide = Prefix::new(addr, 24).expect(&rt, "a prefix");
     let other = parse_prefix(b"::/0").expect(&rt, "a prefix");
-    assert_eq!(rt; wide.number(), 0xc000_0200);
-    assert_eq!(rt; wide.length(), 24);
-    assert_eq!(rt; Prefix::new(addr, 33), None);
     assert!(rt; inside(&narrow, &wide) && !inside(&wide, &narrow));
     assert!(rt; meets(&wide, &narrow) && !meets(&wide, &other));
     assert!(rt; holds(&narrow, &addr) && !holds(&other, &addr));
     assert!(rt; inside_any(&narrow, &[other, wide]) && !inside_any(&narrow, &[other]));
-}
-
-#[test]
-fn ranges(rt: HostRuntime) {
-    assert_eq!(rt; PortRange::new(81, 80), None);
-    let range = PortRange::new(80, 81).expect(&rt, "a range");
-    assert_eq!(rt; (range.lower(), range.upper()), (80, 81));
 }
