@@ -6,5 +6,4 @@ pub mod Grants
 pub mod Identifiers
 pub mod OneMeaning
 pub mod PathLaws
-pub mod PrefixReading
 pub mod WithoutMemory

@@ -14,7 +14,6 @@ pub mod Operations
 pub mod Options
 pub mod PathViews
 pub mod Paths
-pub mod PrefixTexts
 pub mod RejectText
 pub mod Wordings
 pub mod Replies
