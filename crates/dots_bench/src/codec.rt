@@ -8,11 +8,14 @@ ghost use Rattle.cbor_profile.specs.Spelling.{Spells};
 ghost use Rattle.cbor_profile.specs.View.{tree_of};
 ghost use Rattle.dots_bench.specs.Parts.{parts_in};
 
-use crate::fronts::repeat_cut;
+use crate::fronts::{repeat_cut, repeat_taking};
 use anyhow::{Context, Result};
 use cbor_profile::{CborFault, Item};
 use coap_message::CoapFault;
 use std::alloc::Global;
+
+/// More bytes than a stream holds.
+const GREATEST_PIECE: usize = 32_768;
 
 /// What decodes the bytes of a case.
 #[derive(Clone, Copy, Debug, PartialEq, Eq)]
@@ -20,6 +23,10 @@ pub enum Codec {
     Coap,
     Cbor,
     Http,
+    /// Takes the bytes of a stream in one piece, and cuts it.
+    Whole,
+    /// Takes the bytes of a stream one by one, and cuts it behind each.
+    Single,
 }
 
 impl Codec {
@@ -30,6 +37,8 @@ impl Codec {
             "coap" => Some(Codec::Coap),
             "cbor" => Some(Codec::Cbor),
             "http" => Some(Codec::Http),
+            "whole" => Some(Codec::Whole),
+            "single" => Some(Codec::Single),
             _ => None,
         }
     }
@@ -41,6 +50,10 @@ impl Codec {
             Codec::Coap => repeat_coap(copies, times).context("decoding CoAP"),
             Codec::Cbor => repeat_cbor(alloc, copies, times).context("decoding CBOR"),
             Codec::Http => repeat_cut(alloc, copies, times).context("cutting HTTP"),
+            Codec::Whole => repeat_taking(alloc, copies, GREATEST_PIECE, times).context(
+                "taking HTTP",
+            ),
+            Codec::Single => repeat_taking(alloc, copies, 1, times).context("taking HTTP"),
         }
     }
 }

@@ -1,6 +1,6 @@
-//! Cutting the front of a stream again and again.
+//! Taking the bytes of a stream and cutting its front, again and again.
 
-ghost use Rattle.std.specs.Prelude.{◌≡◌, IfOk, IfErr};
+ghost use Rattle.std.specs.Prelude.{◌≡◌, ◌<◌, ◌-◌, ◌++◌, length, take, drop, IfOk, IfErr};
 ghost use Rattle.http_cut.specs.Requests.{Outcome, IsCut, refuses};
 ghost use Rattle.dots_bench.specs.Fronts.{size_in};
 
@@ -36,5 +36,37 @@ fn cut_front(stream: &Stream, room: &mut HeadRoom) -> Result<u64, HttpFault>
         Cut::Request(request) => return Ok(request.length as u64),
         Cut::More => return Ok(0),
         Cut::Refused(fault) => return Err(fault),
+    }
+}
+
+/// Takes the bytes in pieces of so many and cuts behind each, in turns of the two copies, so often, and adds up the
+/// requests that it found and dropped.
+pub fn repeat_taking(alloc: Global, copies: [&[u8]; 2], piece: usize, times: u64) -> Result<u64>
+    requires { 0 < piece }
+{
+    let mut room = HeadRoom::new(alloc)?;
+    let mut stream = Stream::new(alloc)?;
+    let mut sum: u64 = 0;
+    for turn in 0..times {
+        for bytes in copies[(turn % 2) as usize].chunks(piece) {
+            sum = sum.wrapping_add(take_front(&mut stream, &mut room, bytes)?);
+        }
+    }
+    Ok(sum)
+}
+
+/// Takes a piece, and drops the request that is there whole then: how many bytes it had, and 0 where none is.
+fn take_front(stream: &mut Stream, room: &mut HeadRoom, piece: &[u8]) -> Result<u64, HttpFault>
+    ensures { IfOk result (λ size. stream.new ≡ drop size (stream.old ++ take (16384 - length stream.old) piece.now)) }
+{
+    let _count = stream.take(piece);
+    match stream.cut(room) {
+        Cut::Request(request) => {
+            let length = request.length;
+            stream.discard(length);
+            Ok(length as u64)
+        }
+        Cut::More => Ok(0),
+        Cut::Refused(fault) => Err(fault),
     }
 }

@@ -1,8 +1,9 @@
 //! The program `dots_bench`: `codec CASEFILE REPS` decodes the bytes of each case of a file so often. How long that
 //! takes is for the caller to measure.
 //!
-//! A case is a line `KIND.NAME HEX`, with the kind `coap`, `cbor` or `http`. For each the program prints its name and what
-//! its decodes add up to. It ends with status 0 only where there is a case and every decode of every case went well.
+//! A case is a line `KIND.NAME HEX`, with the kind `coap`, `cbor`, `http`, `whole` or `single`. The last three are bytes of a
+//! stream: `http` cuts a stream that holds them, `whole` takes them in one piece and cuts then, and `single` takes them one by
+//! one and cuts behind each. For each case the program prints its name and what its decodes add up to. It ends with status 0 only where there is a case and every decode of every case went well.
 #![tactic(auto)]
 
 mod codec;

@@ -1,10 +1,9 @@
 pub mod Answering
 pub mod Arrays
 pub mod Ascending
-pub mod AskedLifetimes
+pub mod Askable
 pub mod Grants
 pub mod Identifiers
 pub mod OneMeaning
 pub mod PathLaws
-pub mod PrefixReading
 pub mod WithoutMemory

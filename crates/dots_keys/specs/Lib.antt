@@ -6,6 +6,7 @@ pub mod Heads
 pub mod Heartbeats
 pub mod Keys
 pub mod Lifetimes
+pub mod Askable
 pub mod Meaning
 pub mod Mitigations
 pub mod OperationViews
@@ -13,8 +14,8 @@ pub mod Operations
 pub mod Options
 pub mod PathViews
 pub mod Paths
-pub mod PrefixTexts
 pub mod RejectText
+pub mod Wordings
 pub mod Replies
 pub mod Results
 pub mod Segments

@@ -5,6 +5,7 @@ use Rattle.cbor_profile.specs.Tree.{Tree, unsigned, negative, boolean, Trees, no
 use Rattle.cbor_profile.specs.Kind.{number_in, text_in, items_in}
 use Rattle.dots_lists.specs.Name.{is_name}
 use Rattle.ip_scope.specs.Prefix.{PrefixValue}
+use Rattle.ip_scope.specs.PrefixReader.{prefix_in}
 use Rattle.ip_scope.specs.Ports.{Ports}
 use Rattle.dots_keys.specs.declared.reject.Reject.{Reject}
 use Rattle.dots_keys.specs.declared.request.MitigationBody.{MitigationBody}
@@ -15,7 +16,6 @@ use Rattle.dots_keys.specs.declared.ports.RangeKey.{RangeKey}
 use Rattle.dots_keys.specs.declared.ports.RangeKey.TheVariants as range_key
 use Rattle.dots_keys.specs.declared.ports.PortPair.{PortPair}
 use Rattle.dots_keys.specs.Fields.{fields_of, each_field, sole_field}
-use Rattle.dots_keys.specs.PrefixTexts.{prefix_in}
 use Rattle.dots_keys.specs.Results.{◌>>=◌, invalid, missing}
 
 -- ---- arrays

@@ -3,22 +3,14 @@
 ghost use Rattle.std.specs.Prelude.{◌≡◌, ◌↔◌, ℕ, List, Some, Ok, Result};
 ghost use Rattle.cbor_profile.specs.Tree.{Pairs, mapping};
 ghost use Rattle.cbor_profile.specs.Valid.{IsSound};
-ghost use Rattle.ip_scope.specs.Prefix.{PrefixValue};
-ghost use Rattle.ip_scope.specs.PrefixText.{Reads};
 ghost use Rattle.dots_keys.specs.Fields.{Field, fields_of, Ascend};
 ghost use Rattle.dots_keys.specs.Meaning.{Means};
 ghost use Rattle.dots_keys.specs.Paths.{Resource, path_of, resource_at};
-ghost use Rattle.dots_keys.specs.PrefixTexts.{prefix_in};
 ghost use Rattle.dots_keys.specs.declared.reject.Reject.{Reject};
 ghost use Rattle.dots_keys.specs.declared.request.Request.{Request};
 
 use cbor_profile::{one_reading, one_spelling};
 use coap_message::Message;
-
-/// A prefix is that of a text exactly where the text writes it.
-pub fn prefix_of_a_text()
-    ensures { (text : List ℕ) (prefix : PrefixValue) → (prefix_in text ≡ Some prefix) ↔ Reads text prefix }
-{}
 
 /// A resource is that of a path exactly where the path is its own.
 pub fn resource_of_a_path()

@@ -31,11 +31,10 @@ mod reply;
 mod request;
 mod scope;
 mod targets;
+mod wording;
 
 pub use reading::read_request;
 pub use reject::{Cause, Reject};
 pub use reply::{Reply, body_of};
 pub use request::{ConfigBody, Content, MitigationBody, MitigationPath, Observe, Offer, Request};
-
-#[cfg(test)]
-mod tests;
+pub use wording::MAX_TEXT;

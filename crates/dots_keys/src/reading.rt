@@ -5,6 +5,7 @@ ghost use Rattle.cbor_profile.specs.Spelling.{Spells};
 ghost use Rattle.cbor_profile.specs.View.{tree_of};
 ghost use Rattle.dots_keys.specs.HeadViews.{head_view};
 ghost use Rattle.dots_keys.specs.Heads.{head_of};
+ghost use Rattle.dots_keys.specs.Askable.{IsAskable};
 ghost use Rattle.dots_keys.specs.Lifetimes.{HasLifetime};
 ghost use Rattle.dots_keys.specs.Meaning.{IsBody, AnswersBody, Answers, Means, put_mitigation_with, put_config_with, put_heartbeat_with};
 ghost use Rattle.dots_keys.specs.OperationViews.{IsNamed};
@@ -28,7 +29,9 @@ pub fn read_request(alloc: Global, message: &Message<'_>, gateway: bool) -> Resu
     requires detail { message.now.code ≢ 0 }
     // the request, or the first refusal
     ensures means { UnlessNoMemory result (Means message.now gateway result) }
-    // a lifetime is one that can be granted
+    // What later steps rest on: the mid of a PUT and a DELETE, names without a slash, the lists within their numbers, a target,
+    // a lifetime that can be granted, a value of a configuration.
+    ensures askable { IfOk result IsAskable }
     ensures lifetime { IfOk result HasLifetime }
     // No memory is taken before what stands before the body is found right.
     ensures memory { result ≡ Err Reject.NoMemory → IsOk (head_of message.now gateway) }

@@ -1,4 +1,10 @@
+ghost use Rattle.std.specs.Prelude.{◌≡◌, ◌≤◌, length, take};
+ghost use Rattle.dots_keys.specs.RejectText.{reject_code, reject_text, cause_text};
+ghost use Rattle.dots_keys.specs.Wordings.{wording_text, IsShort};
+
+use crate::wording::Wording;
 use cbor_profile::CborFault;
+use coap_message::codes;
 use dots_lists::NoMemory;
 use std::alloc::{AllocError, AllocFailed};
 use std::error::Error;
@@ -42,6 +48,70 @@ pub enum Cause {
     Unknown(u64),
 }
 
+impl Reject {
+    /// The code of the reply that says so (RFC 7252, section 12.1.2). Want of memory has 4.00 too where it is said like a
+    /// refusal.
+    pub fn code(&self) -> u8
+        ensures { result ≡ reject_code self.now }
+    {
+        match self {
+            Reject::Critical(_) => codes::BAD_OPTION,
+            Reject::Path => codes::NOT_FOUND,
+            Reject::Method => codes::METHOD_NOT_ALLOWED,
+            Reject::Accept => codes::NOT_ACCEPTABLE,
+            Reject::Format => codes::UNSUPPORTED_CONTENT_FORMAT,
+            Reject::HopLimit
+            | Reject::Parameter
+            | Reject::Query
+            | Reject::Body(_)
+            | Reject::NoMemory => codes::BAD_REQUEST,
+        }
+    }
+
+    fn wording(&self) -> Wording
+        ensures text { wording_text result ≡ reject_text self.now }
+        ensures short { IsShort result }
+    {
+        match self {
+            Reject::Critical(number) => Wording::numbered("option ", u64::from(*number)),
+            Reject::Path => Wording::plain("path"),
+            Reject::Method => Wording::plain("method"),
+            Reject::HopLimit => Wording::plain("hop limit"),
+            Reject::Parameter => Wording::plain("path parameter"),
+            Reject::Accept => Wording::plain("accept"),
+            Reject::Format => Wording::plain("content format"),
+            Reject::Query => Wording::plain("query"),
+            Reject::Body(cause) => cause.wording(),
+            Reject::NoMemory => Wording::plain("out of memory"),
+        }
+    }
+
+    /// Puts the text of the refusal to the front of the bytes, and answers how many bytes it has: [`MAX_TEXT`] at most. As
+    /// many are there. Takes no memory.
+    pub fn put_text(&self, into: &mut [u8]) -> usize
+        requires { 28 ≤ length into.old }
+        ensures front { take result into.new ≡ reject_text self.now }
+        ensures within { result ≤ 28 }
+    {
+        self.wording().put(into)
+    }
+}
+
+impl Cause {
+    fn wording(&self) -> Wording
+        ensures text { wording_text result ≡ cause_text self.now }
+        ensures short { IsShort result }
+    {
+        match self {
+            Cause::Cbor(_) => Wording::plain("cbor"),
+            Cause::Missing(key) => Wording::numbered("missing ", u64::from(*key)),
+            Cause::Invalid(key) => Wording::numbered("invalid ", u64::from(*key)),
+            Cause::Unknown(key) => Wording::numbered("unknown ", *key),
+        }
+    }
+}
+
+/// The text of the refusal.
 impl fmt::Display for Reject {
     ghost use Rattle.std.specs.Prelude.{Some};
     ghost use Rattle.dots_keys.specs.RejectText.{reject_text};
@@ -49,21 +119,12 @@ impl fmt::Display for Reject {
     ghost output = { λ reject. Some (reject_text reject) };
 
     fn fmt<W: fmt::Write>(&self, f: &mut fmt::Formatter<W>) -> fmt::Result {
-        match self {
-            Reject::Critical(number) => write!(f, "option {}", number),
-            Reject::Path => f.write_str("path"),
-            Reject::Method => f.write_str("method"),
-            Reject::HopLimit => f.write_str("hop limit"),
-            Reject::Parameter => f.write_str("path parameter"),
-            Reject::Accept => f.write_str("accept"),
-            Reject::Format => f.write_str("content format"),
-            Reject::Query => f.write_str("query"),
-            Reject::Body(cause) => write!(f, "{}", cause),
-            Reject::NoMemory => f.write_str("out of memory"),
-        }
+        let wording = self.wording();
+        write!(f, "{}", wording)
     }
 }
 
+/// The text of the cause.
 impl fmt::Display for Cause {
     ghost use Rattle.std.specs.Prelude.{Some};
     ghost use Rattle.dots_keys.specs.RejectText.{cause_text};
@@ -71,12 +132,8 @@ impl fmt::Display for Cause {
     ghost output = { λ cause. Some (cause_text cause) };
 
     fn fmt<W: fmt::Write>(&self, f: &mut fmt::Formatter<W>) -> fmt::Result {
-        match self {
-            Cause::Cbor(_) => f.write_str("cbor"),
-            Cause::Missing(key) => write!(f, "missing {}", key),
-            Cause::Invalid(key) => write!(f, "invalid {}", key),
-            Cause::Unknown(key) => write!(f, "unknown {}", key),
-        }
+        let wording = self.wording();
+        write!(f, "{}", wording)
     }
 }
 

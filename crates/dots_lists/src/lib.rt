@@ -9,8 +9,6 @@ mod byte_string;
 mod list;
 mod memory;
 mod name;
-#[cfg(test)]
-mod tests;
 mod text;
 
 pub use byte_string::Bytes;

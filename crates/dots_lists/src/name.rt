@@ -1,4 +1,4 @@
-ghost use Rattle.std.specs.Prelude.{◌≡◌, ℕ, List, true, IsTrue, IfOk, Some, None, if◌then◌else◌};
+ghost use Rattle.std.specs.Prelude.{◌≡◌, ℕ, List, true, IsTrue, IfOk, OnErr, IsUtf8, Some, None, if◌then◌else◌};
 ghost use Rattle.std.specs.Char.{is_ascii_graphic};
 ghost use Rattle.std.specs.List.{list_all};
 ghost use Rattle.dots_lists.specs.Name.{is_name};
@@ -41,10 +41,11 @@ fn are_visible(bytes: &[u8]) -> bool
 }
 
 impl Name {
-    /// The name that the bytes are, or None exactly where they are none.
+    /// The name that the bytes are, or None exactly where they are none. No memory is asked for where they are none.
     pub fn new(alloc: Global, bytes: &[u8]) -> Result<Option<Self>, NoMemory>
-        ensures { IfOk result (λ name.
+        ensures ok { IfOk result (λ name.
             name ≡ (if is_name bytes.now then Some bytes.now else None)) }
+        ensures no_memory { OnErr result (IsTrue (is_name bytes.now)) }
     {
         if !is_name(bytes) {
             return Ok(None);
@@ -56,6 +57,7 @@ impl Name {
     pub fn bytes(&self) -> &[u8]
         ensures value { result.now ≡ self.now }
         ensures name { IsTrue (is_name self.now) }
+        ensures utf8 { IsUtf8 self.now }
     {
         self.bytes.as_slice()
     }

@@ -1,4 +1,4 @@
-ghost use Rattle.std.specs.Prelude.{◌≡◌, ℕ, List, IfOk, IfSome, IfNone, IsUtf8, string_bytes};
+ghost use Rattle.std.specs.Prelude.{◌≡◌, ℕ, List, IfOk, OnErr, IfSome, IfNone, IsUtf8, string_bytes};
 
 use crate::memory::NoMemory;
 use std::alloc::Global;
@@ -18,11 +18,12 @@ impl Model for Text {
 }
 
 impl Text {
-    /// The text that the bytes are, or None exactly where they aren't UTF-8.
+    /// The text that the bytes are, or None exactly where they aren't UTF-8. No memory is asked for where they aren't.
     pub fn new(alloc: Global, bytes: &[u8]) -> Result<Option<Self>, NoMemory>
         ensures some { IfOk result (λ found.
             IfSome found (λ text. (text ≡ bytes.now) × IsUtf8 bytes.now)) }
         ensures none { IfOk result (λ found. IfNone found (¬ IsUtf8 bytes.now)) }
+        ensures no_memory { OnErr result (IsUtf8 bytes.now) }
     {
         match str::from_utf8(bytes) {
             Ok(text) => Ok(Some(Text {

@@ -7,7 +7,6 @@ use Rattle.std.proofs.lemmas.Slice.Eq.{bytes_eq-Decides}
 use Rattle.std.specs.List.{list_any, filter_map, cons_option}
 use Rattle.ip_scope.specs.Prefix.{PrefixValue, inside, meets}
 use Rattle.dots_settings.specs.declared.draft.Scope.{Scope}
-use Rattle.dots_settings.specs.declared.fault.SettingsFault.{SettingsFault}
 use Rattle.dots_settings.specs.declared.fault.SettingsFault.TheVariants as fault
 use Rattle.dots_settings.specs.Form.{FormValue, domain_line, prefix_line}
 use Rattle.dots_settings.specs.Row.{Row}
@@ -20,7 +19,7 @@ use Rattle.dots_settings.proofs.Drafts.{not_twice}
 
 -- ---- tests
 
-equal_then : (one other : List ℕ) → bytes_eq one other ≡ true → one ≡ other
+pub equal_then : (one other : List ℕ) → bytes_eq one other ≡ true → one ≡ other
 equal_then one other is = (bytes_eq-Decides one other).0 is
 
 differ_turned : (one other : List ℕ) → bytes_eq one other ≡ false → bytes_eq other one ≡ false
@@ -49,7 +48,7 @@ not_overlap draft number form none = by (is_twice draft form) (is_unknown draft 
     by false false (Some first) d e = absurd (cc)
     by false false None d e = refl
 
-not_too_much : (draft : DraftValue) (number : ℕ) (form : FormValue) → fault_of draft number form ≡ None → is_too_much draft form ≡ false
+pub not_too_much : (draft : DraftValue) (number : ℕ) (form : FormValue) → fault_of draft number form ≡ None → is_too_much draft form ≡ false
 not_too_much draft number form none = by (is_twice draft form) (is_unknown draft form) (overlap_of draft form) (is_too_much draft form) none
   where
     by : (a b : Bool) (o : Option ℕ) (d : Bool) → (if a then Some (fault.Twice number) else if b then Some (fault.Unknown number) else overlap_or_limit number o d) ≡ None → d ≡ false
@@ -189,7 +188,7 @@ apart_pair before (scope ∷ scopes) are a b where_a in_b differ =
 
 -- ---- domains with their prefixes
 
-both_false : (a b : Bool) → (a || b) ≡ false → (a ≡ false) × (b ≡ false)
+pub both_false : (a b : Bool) → (a || b) ≡ false → (a ≡ false) × (b ≡ false)
 both_false false b e = (refl, e)
 both_false true b e = absurd (true≢false e)
 

@@ -6,7 +6,7 @@ use Rattle.std.specs.Char.{to_ascii_lowercase}
 use Rattle.std.specs.List.{list_any}
 use Rattle.dots_settings.specs.Draft.{same_name, firsts_of}
 
-same_then : (one other : List ℕ) → same_name one other ≡ true → map to_ascii_lowercase one ≡ map to_ascii_lowercase other
+pub same_then : (one other : List ℕ) → same_name one other ≡ true → map to_ascii_lowercase one ≡ map to_ascii_lowercase other
 same_then one other is = (bytes_eq-Decides (map to_ascii_lowercase one) (map to_ascii_lowercase other)).0 is
 
 then_same : (one other : List ℕ) → map to_ascii_lowercase one ≡ map to_ascii_lowercase other → same_name one other ≡ true

@@ -9,6 +9,8 @@ pub mod Domains
 pub mod ReadTo
 pub mod Takes
 pub mod Apart
+pub mod Whole
+pub mod Finished
 pub mod Sound
 pub mod Files
 pub mod OneForm

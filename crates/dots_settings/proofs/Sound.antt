@@ -1,5 +1,5 @@
 -- What holds of all settings, as each line has its form and no fault.
-use Rattle.std.proofs.Common.{◌≡◌, ℕ, suc, ◌+◌, ◌<◌, ◌≤◌, ◌==◌, Bool, true, false, cond, nat_lt, List, [], ◌∷◌, length, map, find, bytes_eq, unwrap_or, option_map, Option, Some, None, refl, sym, ap, subst, ◌∙◌, arith, lit≤}
+use Rattle.std.proofs.Common.{◌≡◌, ℕ, ◌+◌, ◌<◌, ◌≤◌, ◌==◌, Bool, true, false, cond, nat_lt, List, [], ◌∷◌, length, map, find, bytes_eq, unwrap_or, option_map, Option, Some, None, refl, sym, ap, subst, ◌∙◌, arith, lit≤}
 use Rattle.std.proofs.lemmas.Bool.Decides.{nat_tests}
 use Rattle.std.specs.Bool.{MatchBool}
 use Rattle.std.specs.List.{AllByRecursion, cons_option, position_or_len}
@@ -10,12 +10,15 @@ use Rattle.dots_settings.specs.declared.draft.Peer.{Peer}
 use Rattle.dots_settings.specs.declared.peer.Role.TheVariants as role
 use Rattle.dots_settings.specs.Capacity.{place_of, same_capacity, greatest_of, default_of}
 use Rattle.dots_settings.specs.Form.{FormValue, Says, ceiling_line, capacity_line}
-use Rattle.dots_settings.specs.Lines.{is_skipped}
+use Rattle.sha2.specs.Sha256.{sha256}
+use Rattle.dots_settings.specs.Lines.{is_skipped, lines_of, content_of}
 use Rattle.dots_settings.specs.Row.{Row, row_of, AreRows}
 use Rattle.dots_settings.specs.Draft.{DraftValue, draft_of, first_of, forms_by, ceiling_in, capacity_in}
-use Rattle.dots_settings.specs.File.{IsSound}
-use Rattle.dots_settings.specs.Settings.{settings_by, role_of, peer_row_of, limits_of, domain_of, IsKnown, IsInRange, AreLimits, IsSettings, AreApart}
+use Rattle.dots_settings.specs.File.{IsSound, SettingsAre}
+use Rattle.dots_settings.specs.Settings.{SettingsValue, settings_by, digest_text, role_of, peer_row_of, name_row_of, limits_of, domain_of, IsKnown, IsInRange, AreLimits, IsSettings, AreApart}
 use Rattle.dots_settings.specs.Admitting.{AreDistinct}
+use Rattle.dots_settings.proofs.Whole.{sound_whole}
+use Rattle.dots_settings.proofs.Finished.{mapped_length, domains_once, prefixes_few, gateways_few, peers_once, no_strangers, names_once, names_addressed}
 use Rattle.dots_settings.proofs.Apart.{distinct_rows, few_rows, apart_rows, apart_domains}
 
 abbrev pub SaysItsForm : Row → Type 0
@@ -131,10 +134,6 @@ peers_known : (draft : DraftValue) (peers : List Peer) → AllByRecursion (λ ro
 peers_known draft [] = tt
 peers_known draft (peer ∷ peers) = (role_known draft peer.domain, peers_known draft peers)
 
-mapped_length : {A B : Type 0} (f : A → B) (xs : List A) → length (map f xs) ≡ length xs
-mapped_length f [] = refl
-mapped_length f (x ∷ xs) = ap suc (mapped_length f xs)
-
 -- ---- together
 
 pub sound_distinct : (draft : DraftValue) → IsSound draft → AreDistinct [] draft.domains
@@ -160,11 +159,28 @@ sound_limits draft (rows, lines, stand, is) =
     (all_in_range (draft_of rows) (all_of_part Chosen capacity_in (λ (chosen : Chosen). IsInRange chosen.what chosen.limit) said_capacity rows (rows_say 1 lines rows stand.read)))
 
 pub sound_settings : (draft : DraftValue) (digest : List ℕ) → IsSound draft → IsSettings (settings_by draft digest)
-sound_settings draft digest sound = record {
-  few = subst (λ (n : ℕ). n ≤ 16) (sym (mapped_length (domain_of draft) draft.domains)) (sound_few draft sound);
-  apart = sound_apart draft sound;
-  known = subst (λ (n : ℕ). AllByRecursion (λ row. IsKnown n row.role) (map (peer_row_of draft) draft.peers)) (sym (mapped_length (domain_of draft) draft.domains)) (peers_known draft draft.peers);
-  some_ceiling = (sound_ceiling draft sound).0;
-  most_ceiling = (sound_ceiling draft sound).1;
-  limits = sound_limits draft sound;
-}
+sound_settings draft digest sound =
+    let whole = sound_whole draft sound in
+    record {
+      few = subst (λ (n : ℕ). n ≤ 16) (sym (mapped_length (domain_of draft) draft.domains)) (sound_few draft sound);
+      domain_once = domains_once draft whole;
+      few_prefixes = prefixes_few draft whole draft.domains;
+      apart = sound_apart draft sound;
+      few_peers = subst (λ (n : ℕ). n ≤ 64) (sym (mapped_length (peer_row_of draft) draft.peers)) whole.peers.few;
+      few_gateways = gateways_few draft whole;
+      peer_once = peers_once draft whole;
+      known = subst (λ (n : ℕ). AllByRecursion (λ row. IsKnown n row.role) (map (peer_row_of draft) draft.peers)) (sym (mapped_length (domain_of draft) draft.domains)) (peers_known draft draft.peers);
+      no_stranger = no_strangers draft whole;
+      few_names = subst (λ (n : ℕ). n ≤ 64) (sym (mapped_length (name_row_of draft) draft.names)) whole.names.few;
+      name_once = names_once draft whole;
+      addresses = names_addressed draft whole;
+      some_ceiling = (sound_ceiling draft sound).0;
+      most_ceiling = (sound_ceiling draft sound).1;
+      limits = sound_limits draft sound;
+      few_packets = whole.packets;
+    }
+
+-- what a file gives
+pub given_settings : (file : List ℕ) (settings : SettingsValue) → SettingsAre file settings → IsSettings settings
+given_settings file settings are =
+    subst IsSettings (sym are.given) (sound_settings (draft_of are.rows) (sha256 (digest_text are.rows)) (are.rows, lines_of (content_of file), are.stand, refl))

@@ -1,10 +1,8 @@
 -- One more line is taken, or refused.
-use Rattle.std.proofs.Common.{◌≡◌, ℕ, ◌+◌, true, false, List, [], ◌∷◌, ◌++◌, None, refl, sym, ap, subst, ◌∙◌, append-nil, append_assoc, if◌then◌else◌}
+use Rattle.std.proofs.Common.{◌≡◌, ℕ, true, false, List, [], ◌∷◌, ◌++◌, None, refl, sym, ap, subst, ◌∙◌, append-nil, append_assoc, if◌then◌else◌}
 use Rattle.std.proofs.lemmas.Grind.{flat_map-append}
 use Rattle.sha2.specs.declared.Sha256.{Sha256}
 use Rattle.sha2.specs.Hashers.{Holds256}
-use Rattle.dots_settings.specs.declared.fault.SettingsFault.{SettingsFault}
-use Rattle.dots_settings.specs.declared.fault.SettingsFault.TheVariants as fault
 use Rattle.dots_settings.specs.declared.reading.Taken.{Taken}
 use Rattle.dots_settings.specs.Lines.{is_skipped}
 use Rattle.dots_settings.specs.Form.{FormValue, Says}

@@ -1,5 +1,5 @@
 -- What a settings file means: settings, or the fault of its first line that has one.
-use Rattle.std.specs.Prelude.{◌≡◌, ℕ, ◌+◌, ◌^◌, ◌≤◌, ◌⊎◌, Bool, false, nat_lt, List, [], ◌∷◌, ◌++◌, length, Some, None, ⊤}
+use Rattle.std.specs.Prelude.{◌≡◌, ℕ, ◌+◌, ◌^◌, ◌≤◌, ◌⊎◌, Bool, false, nat_lt, List, [], ◌∷◌, ◌++◌, length, Option, Some, None, Result, Ok, Err, ⊤}
 use Rattle.std.specs.Bool.{MatchBool}
 use Rattle.dots_settings.specs.declared.fault.SettingsFault.{SettingsFault}
 use Rattle.dots_settings.specs.declared.fault.SettingsFault.TheVariants as fault
@@ -58,6 +58,25 @@ abbrev pub IsNoLineFault : SettingsFault → Type 0
 IsNoLineFault fault.ReadFault = ⊤
 IsNoLineFault fault.NoMemory = ⊤
 IsNoLineFault line_fault = ⊥
+
+-- Of the file that was left, bytes were read, and these are left now: either none, or 65,537 were read.
+pub record IsReadTo (file rest : List ℕ) : Type 0 where
+  pub read : List ℕ
+  pub split : file ≡ read ++ rest
+  pub enough : (rest ≡ []) ⊎ (2 ^ 16 + 1 ≤ length read)
+
+-- where the source tells what it has left
+abbrev pub IsReadThrough : Option (List ℕ) → Option (List ℕ) → Type 0
+IsReadThrough None rest = ⊤
+IsReadThrough (Some file) None = ⊥
+IsReadThrough (Some file) (Some rest) = IsReadTo file rest
+
+-- where there are settings, or a line is refused
+abbrev pub WhereJudged : Result SettingsValue SettingsFault → Type 0 → Type 0
+WhereJudged (Ok settings) P = P
+WhereJudged (Err fault.ReadFault) P = ⊤
+WhereJudged (Err fault.NoMemory) P = ⊤
+WhereJudged (Err line_fault) P = P
 
 -- what all the rows of some faultless lines have said
 abbrev pub IsSound : DraftValue → Type 0

@@ -1,5 +1,5 @@
 -- The settings that the rows of a file give.
-use Rattle.std.specs.Prelude.{Vec, ◌≡◌, ◌≢◌, ℕ, ◌<◌, ◌≤◌, ⊤, Bool, true, false, if◌then◌else◌, List, [], ◌∷◌, ◌++◌, length, map, filter, position, bytes_eq, slice_get, unwrap_or, Option, Some, None, Contains}
+use Rattle.std.specs.Prelude.{Vec, ◌≡◌, ◌≢◌, ℕ, ◌<◌, ◌≤◌, ⊤, Bool, true, false, if◌then◌else◌, List, [], ◌∷◌, ◌++◌, length, map, filter, position, bytes_eq, count_by, ◌==◌, slice_get, unwrap_or, Option, Some, None, Contains}
 use Rattle.std.specs.declared.alloc.Global.{Global}
 use Rattle.std.specs.List.{find, flat_map, AllByRecursion}
 use Rattle.std.specs.Option.{option_map}
@@ -129,10 +129,31 @@ pub record AreLimits (limits : Limits) : Type 0 where
   pub remembered : IsInRange capacities.Remembered limits.remembered
   pub observers : IsInRange capacities.Observers limits.observers
 
+abbrev pub IsNoStranger : Role → Type 0
+IsNoStranger (role.Client number) = ⊤
+IsNoStranger role.Gateway = ⊤
+IsNoStranger role.Stranger = ⊥
+
+abbrev pub is_gateway_role : Role → Bool
+is_gateway_role role.Gateway = true
+is_gateway_role _ = false
+
+-- Every list is within its limit, and nothing stands in it twice; host names are the same whatever the case of their
+-- letters. The ceiling and the capacities are in their ranges.
 pub record IsSettings (settings : SettingsValue) : Type 0 where
   pub few : length settings.domains ≤ 16
+  pub domain_once : (name : List ℕ) → count_by (λ domain. bytes_eq name domain.name) settings.domains ≤ 1
+  pub few_prefixes : AllByRecursion (λ domain. length domain.prefixes ≤ 16) settings.domains
   pub apart : AreApart settings.domains
+  pub few_peers : length settings.peers ≤ 64
+  pub few_gateways : count_by (λ row. is_gateway_role row.role) settings.peers ≤ 4
+  pub peer_once : (peer : ℕ) → count_by (λ row. row.peer == peer) settings.peers ≤ 1
   pub known : AllByRecursion (λ row. IsKnown (length settings.domains) row.role) settings.peers
+  pub no_stranger : AllByRecursion (λ row. IsNoStranger row.role) settings.peers
+  pub few_names : length settings.names ≤ 64
+  pub name_once : (fqdn : List ℕ) → count_by (λ row. same_name fqdn row.name) settings.names ≤ 1
+  pub addresses : AllByRecursion (λ row. (1 ≤ length row.prefixes) × (length row.prefixes ≤ 4)) settings.names
   pub some_ceiling : 1 ≤ settings.ceiling
   pub most_ceiling : settings.ceiling ≤ 604800
   pub limits : AreLimits settings.limits
+  pub few_packets : length settings.packets ≤ 256

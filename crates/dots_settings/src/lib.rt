@@ -26,12 +26,9 @@ mod reading;
 mod settings;
 mod source;
 
-pub use fault::SettingsFault;
+pub use fault::{MAX_FAULT_LINE, SettingsFault};
 pub use limits::Limits;
 pub use names::NameRow;
 pub use peer::{PeerRow, Role};
 pub use settings::Settings;
 pub use source::read_settings;
-
-#[cfg(test)]
-mod tests;

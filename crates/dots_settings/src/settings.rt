@@ -2,7 +2,7 @@ ghost use Rattle.std.specs.Prelude.{◌≡◌, ◌<◌, ◌≤◌, pos, ◌==◌
 ghost use Rattle.std.specs.List.{AllByRecursion};
 ghost use Rattle.std.specs.Option.{option_map, option_copied};
 ghost use Rattle.dots_settings.specs.Draft.{same_name};
-ghost use Rattle.dots_settings.specs.Settings.{AreApart, AreLimits, IsKnown};
+ghost use Rattle.dots_settings.specs.Settings.{AreApart, AreLimits, IsKnown, IsSettings};
 ghost use Rattle.dots_settings.specs.declared.peer.Role.TheVariants as role;
 
 use crate::judging::is_same_name;
@@ -61,6 +61,7 @@ impl Settings {
     pub fn domains(&self) -> u16
         ensures number { result ≡ length self.now.domains }
         ensures apart { AreApart self.now.domains }
+        ensures valid { IsSettings self.now }
     {
         self.domains.len() as u16
     }
@@ -68,7 +69,8 @@ impl Settings {
     /// The name of a domain: 1 to 64 of `a` to `z`, `0` to `9`, `.` and `-`.
     pub fn domain_name(&self, domain: u16) -> &[u8]
         requires { domain < length self.now.domains }
-        ensures { option_map (λ domain. domain.name) (slice_get self.now.domains domain) ≡ Some result.now }
+        ensures value { option_map (λ domain. domain.name) (slice_get self.now.domains domain) ≡ Some result.now }
+        ensures valid { IsSettings self.now }
     {
         match self.domains.get_index(usize::from(domain)) {
             Some((name, _)) => name.as_slice(),
@@ -79,7 +81,8 @@ impl Settings {
     /// The prefixes of a domain, in the file's order.
     pub fn prefixes(&self, domain: u16) -> &[Prefix]
         requires { domain < length self.now.domains }
-        ensures { option_map (λ domain. domain.prefixes) (slice_get self.now.domains domain) ≡ Some result.now }
+        ensures value { option_map (λ domain. domain.prefixes) (slice_get self.now.domains domain) ≡ Some result.now }
+        ensures valid { IsSettings self.now }
     {
         match self.domains.get_index(usize::from(domain)) {
             Some((_, prefixes)) => prefixes.items(),
@@ -91,6 +94,7 @@ impl Settings {
     pub fn domain_named(&self, name: &[u8]) -> Option<u16>
         ensures number { result ≡ position (λ domain. bytes_eq name.now domain.name) self.now.domains }
         ensures within { IfSome result (λ number. number < length self.now.domains) }
+        ensures valid { IsSettings self.now }
     {
         let number = self.domains.get_index_of(name)?;
         Some(number as u16)
@@ -100,6 +104,7 @@ impl Settings {
     pub fn peers(&self) -> &[PeerRow]
         ensures value { result.now ≡ self.now.peers }
         ensures known { AllByRecursion (λ row. IsKnown (length self.now.domains) row.role) self.now.peers }
+        ensures valid { IsSettings self.now }
     {
         self.peers.as_slice()
     }
@@ -109,6 +114,7 @@ impl Settings {
         ensures role { result ≡ unwrap_or (option_map (λ row. row.role)
             (find (λ row. row.peer == peer) self.now.peers)) role.Stranger }
         ensures known { IsKnown (length self.now.domains) result }
+        ensures valid { IsSettings self.now }
     {
         self.peers
             .iter()
@@ -119,15 +125,17 @@ impl Settings {
 
     /// The host names and their addresses, in the order of their first lines.
     pub fn names(&self) -> &[NameRow]
-        ensures { result.now ≡ self.now.names }
+        ensures value { result.now ≡ self.now.names }
+        ensures valid { IsSettings self.now }
     {
         self.names.as_slice()
     }
 
     /// The addresses of a host name, whatever the case of its letters; none where the settings don't name it.
     pub fn addresses(&self, fqdn: &[u8]) -> &[Prefix]
-        ensures { result.now ≡ unwrap_or (option_map (λ row. row.prefixes)
+        ensures value { result.now ≡ unwrap_or (option_map (λ row. row.prefixes)
             (find (λ row. same_name fqdn.now row.name) self.now.names)) [] }
+        ensures valid { IsSettings self.now }
     {
         match row_named(&self.names, fqdn) {
             Some(row) => row.prefixes.items(),
@@ -139,13 +147,15 @@ impl Settings {
     pub fn ceiling(&self) -> i32
         ensures value { result ≡ pos self.now.ceiling }
         ensures range { (1 ≤ self.now.ceiling) × (self.now.ceiling ≤ 604800) }
+        ensures valid { IsSettings self.now }
     {
         self.ceiling as i32
     }
 
     /// Whether a lifetime of -1, without end, is granted (RFC 9132, section 4.4.1).
     pub fn indefinite(&self) -> bool
-        ensures { result ≡ self.now.indefinite }
+        ensures value { result ≡ self.now.indefinite }
+        ensures valid { IsSettings self.now }
     {
         self.indefinite
     }
@@ -154,20 +164,23 @@ impl Settings {
     pub fn limits(&self) -> Limits
         ensures value { result ≡ self.now.limits }
         ensures ranges { AreLimits result }
+        ensures valid { IsSettings self.now }
     {
         self.limits
     }
 
     /// The sample packets whose fates the server tells, in the file's order: at most 256.
     pub fn packets(&self) -> &[Packet]
-        ensures { result.now ≡ self.now.packets }
+        ensures value { result.now ≡ self.now.packets }
+        ensures valid { IsSettings self.now }
     {
         self.packets.as_slice()
     }
 
     /// SHA-256 of the lines that aren't skipped and aren't packets, each with one line feed.
     pub fn digest(&self) -> [u8; 32]
-        ensures { result ≡ self.now.digest }
+        ensures value { result ≡ self.now.digest }
+        ensures valid { IsSettings self.now }
     {
         self.digest
     }

@@ -7,3 +7,5 @@ pub mod Values
 pub mod Cuts
 pub mod Streams
 pub mod Takings
+pub mod Places
+pub mod Needs

@@ -1,8 +1,8 @@
 -- Requests stay where bytes follow, and are one list.
 use Rattle.std.specs.Str.Parse.{digits_value}
 use Rattle.std.proofs.Common.{◌≡◌, ℕ, Bool, true, false, ◌+◌, ◌-◌, ◌<◌, ◌≤◌, List, [], ◌∷◌, ◌++◌, length, take, drop, refl, sym, ap, subst, ◌∙◌, append_assoc, arith, inl, inr}
-use Rattle.std.specs.Prelude.{◌⊎◌, nat_le, if◌then◌else◌, codes, IfOk, Result, Ok, Err, Option, Some, None}
-use Rattle.std.proofs.lemmas.Bool.{cond-true, le-leb, leb-true, cases_Bool, cases_lt}
+use Rattle.std.specs.Prelude.{◌⊎◌, ◌||◌, nat_le, if◌then◌else◌, codes, IfOk, Result, Ok, Err}
+use Rattle.std.proofs.lemmas.Bool.{both_ways, cond-true, le-leb, leb-true, cases_Bool, cases_lt}
 use Rattle.std.proofs.Math.Seq.{take-append_seam, take-append-add}
 use Rattle.std.proofs.lemmas.List.{length-append, take-append-le, drop-append-le}
 use Rattle.httparse.specs.Grammar.{RequestHead, print_request, print_end}
@@ -13,11 +13,13 @@ use Rattle.http_cut.specs.declared.request.Cut.TheVariants as cuts
 use Rattle.http_cut.specs.Fields.{values_of, is_length, announced, body_length, framed, framing}
 use Rattle.http_cut.specs.declared.fault.HttpFault.TheVariants.{BadHead, BodyTooLong}
 use Rattle.http_cut.specs.Requests.{BeginsWith, HasNoHead, NeverHasHead, HasEmptyLine, IsOver, IsHeadless, Head, Request, request_of, Outcome, takes, waits, refuses, IsCut, by_framing, outcome_behind, head_of, outcome_of, request_view}
-use Rattle.http_cut.specs.Streams.{IfRequest, IsFirst, AreRequests, IsStream, IsOpen, ending}
+use Rattle.http_cut.specs.declared.stream_end.StreamEnd.{StreamEnd}
+use Rattle.http_cut.specs.declared.stream_end.StreamEnd.TheVariants.{Waits, Closes, Refused}
+use Rattle.http_cut.specs.Streams.{IfRequest, IsFirst, ClosesLast, AreRequests, any_closes, HasEnd, IsStream, IsOpen}
 use Rattle.http_cut.proofs.Ends.{ends_empty}
 use Rattle.http_cut.proofs.Windows.{some_head}
 
-begins_append : (bytes : List ℕ) (h : RequestHead) (rest more : List ℕ) → BeginsWith bytes h rest → BeginsWith (bytes ++ more) h (rest ++ more)
+pub begins_append : (bytes : List ℕ) (h : RequestHead) (rest more : List ℕ) → BeginsWith bytes h rest → BeginsWith (bytes ++ more) h (rest ++ more)
 begins_append bytes h rest more x = record { reads = ReadsRequest-append bytes h rest more x.reads; size = x.size }
 
 abbrev taken : Request → Outcome → Request
@@ -83,27 +85,31 @@ pub requests_append : (bytes more : List ℕ) (requests : List Request) (rest : 
 requests_append bytes more [] rest e = ap (λ (y : List ℕ). y ++ more) e
 requests_append bytes more (r ∷ requests) rest x =
     let behind : drop r.size (bytes ++ more) ≡ drop r.size bytes ++ more = drop-append-le r.size bytes more (first_size bytes r x.0).1 in
-    (first_append bytes more r x.0, subst (λ (y : List ℕ). AreRequests y requests (rest ++ more)) (sym behind) (requests_append (drop r.size bytes) more requests rest x.1))
+    (first_append bytes more r x.0, x.1, subst (λ (y : List ℕ). AreRequests y requests (rest ++ more)) (sym behind) (requests_append (drop r.size bytes) more requests rest x.2))
 
-pub requests_join : (bytes middle rest : List ℕ) (first second : List Request) → AreRequests bytes first middle → AreRequests middle second rest → AreRequests bytes (first ++ second) rest
-requests_join bytes middle rest [] second e y = subst (λ (z : List ℕ). AreRequests z second rest) (sym e) y
-requests_join bytes middle rest (r ∷ first) second x y = (x.0, requests_join (drop r.size bytes) middle rest first second x.1 y)
+false_first : (a b : Bool) → (a || b) ≡ false → a ≡ false
+false_first true b e = e
+false_first false b e = refl
 
--- ---- one list
+false_second : (a b : Bool) → (a || b) ≡ false → b ≡ false
+false_second true b e = absurd (both_ways true e refl)
+false_second false b e = e
+
+pub requests_join : (bytes middle rest : List ℕ) (first second : List Request) → any_closes first ≡ false → AreRequests bytes first middle → AreRequests middle second rest → AreRequests bytes (first ++ second) rest
+requests_join bytes middle rest [] second goes_on e y = subst (λ (z : List ℕ). AreRequests z second rest) (sym e) y
+requests_join bytes middle rest (r ∷ first) second goes_on x y =
+    let stays : r.close ≡ false = false_first r.close (any_closes first) goes_on in (
+      x.0,
+      subst (λ (b : Bool). ClosesLast b (first ++ second)) (sym stays) tt,
+      requests_join (drop r.size bytes) middle rest first second (false_second r.close (any_closes first) goes_on) x.2 y,
+    )
+
+-- ---- one request
 
 one_first : (bytes : List ℕ) (r s : Request) → IsFirst bytes r → IsFirst bytes s → r ≡ s
 one_first bytes r s x y =
     let same = request_unique bytes x.0 y.0 x.1 y.1 x.2.reads y.2.reads in
     ap (taken r) (x.3 ∙ (λ i. outcome_behind (head_of (same.0 i)) (same.1 i)) ∙ sym y.3)
-
-one_list : (bytes : List ℕ) (rs ss : List Request) (a b : List ℕ) → AreRequests bytes rs a → AreRequests bytes ss b → ((r : Request) → ¬ (IsFirst a r)) → ((r : Request) → ¬ (IsFirst b r)) → (rs ≡ ss) × (a ≡ b)
-one_list bytes [] [] a b x y none_a none_b = (refl, sym x ∙ y)
-one_list bytes [] (s ∷ ss) a b x y none_a none_b = absurd (none_a s (subst (λ (z : List ℕ). IsFirst z s) x y.0))
-one_list bytes (r ∷ rs) [] a b x y none_a none_b = absurd (none_b r (subst (λ (z : List ℕ). IsFirst z r) y x.0))
-one_list bytes (r ∷ rs) (s ∷ ss) a b x y none_a none_b =
-    let same = one_first bytes r s x.0 y.0 in
-    let later = one_list (drop r.size bytes) rs ss a b x.1 (subst (λ (z : Request). AreRequests (drop z.size bytes) ss b) (sym same) y.1) none_a none_b in
-    (λ i. same i ∷ later.0 i, later.1)
 
 -- ---- what is refused stays refused
 
@@ -174,47 +180,85 @@ no_first_waits held (inl cut) request x =
     absurd (omega (arith, ap kind (cut.3 ∙ (λ i. outcome_behind (head_of (same.0 i)) (same.1 i)) ∙ sym x.3)))
 no_first_waits held (inr cut) request x = cut.0 x.0 x.1 x.2
 
--- where more is waited for or the stream is refused, no request stands in front
-pub no_first : (rest : List ℕ) (fault : Option HttpFault) → IsCut rest (ending fault) → (request : Request) → ¬ (IsFirst rest request)
-no_first rest None cut request x = no_first_waits rest cut request x
-no_first rest (Some fault) cut request x = no_first_refused rest fault cut request x
+-- where no request closes and the stream ends, no request stands in front
+no_next : (end : StreamEnd) (rest : List ℕ) (request : Request) → HasEnd end false rest → ¬ (IsFirst rest request)
+no_next Waits rest request ends = no_first_waits rest ends.1 request
+no_next Closes rest request ends = absurd (both_ways true (sym ends) refl)
+no_next (Refused fault) rest request ends = no_first_refused rest fault ends.1 request
 
--- ---- one end
+-- ---- one stream
 
-abbrev fault_of : Outcome → Option HttpFault
-fault_of (takes request) = None
-fault_of waits = None
-fault_of (refuses fault) = Some fault
+-- two lists of requests of the same bytes
+record AreSame (rs ss : List Request) (a b : List ℕ) : Type 0 where
+  requests : rs ≡ ss
+  rest : a ≡ b
 
-fault_ends : (fault : Option HttpFault) → fault_of (ending fault) ≡ fault
-fault_ends None = refl
-fault_ends (Some fault) = refl
+-- behind a request that is the same, and closes or doesn't
+one_later : (close : Bool) (bytes : List ℕ) (rs ss : List Request) (a b : List ℕ) (e f : StreamEnd) → ClosesLast close rs → ClosesLast close ss → AreRequests bytes rs a → AreRequests bytes ss b
+    → HasEnd e (close || any_closes rs) a → HasEnd f (close || any_closes ss) b → (HasEnd e (any_closes rs) a → HasEnd f (any_closes ss) b → AreSame rs ss a b) → AreSame rs ss a b
+one_later true bytes rs ss a b e f none none' x y ends ends' by = record {
+  requests = none ∙ sym none';
+  rest = sym (subst (λ (z : List Request). AreRequests bytes z a) none x) ∙ subst (λ (z : List Request). AreRequests bytes z b) none' y;
+}
+one_later false bytes rs ss a b e f none none' x y ends ends' by = by ends ends'
 
-headless_end : (rest : List ℕ) (a b : Option HttpFault) → IsHeadless rest (ending a) → IsHeadless rest (ending b) → (a ≡ b) ⊎ IsOpen rest
-headless_end rest None None x y = inl refl
-headless_end rest None (Some g) x y = elim y.1 [
+one_list : (bytes : List ℕ) (rs ss : List Request) (a b : List ℕ) (e f : StreamEnd) → AreRequests bytes rs a → HasEnd e (any_closes rs) a
+    → AreRequests bytes ss b → HasEnd f (any_closes ss) b → AreSame rs ss a b
+one_list bytes [] [] a b e f x ends y ends' = record { requests = refl; rest = sym x ∙ y }
+one_list bytes [] (s ∷ ss) a b e f x ends y ends' = absurd (no_next e a s ends (subst (λ (z : List ℕ). IsFirst z s) x y.0))
+one_list bytes (r ∷ rs) [] a b e f x ends y ends' = absurd (no_next f b r ends' (subst (λ (z : List ℕ). IsFirst z r) y x.0))
+one_list bytes (r ∷ rs) (s ∷ ss) a b e f x ends y ends' =
+    let same : r ≡ s = one_first bytes r s x.0 y.0 in
+    let there : AreRequests (drop r.size bytes) ss b = subst (λ (z : Request). AreRequests (drop z.size bytes) ss b) (sym same) y.2 in
+    let last : ClosesLast r.close ss = subst (λ (z : Request). ClosesLast z.close ss) (sym same) y.1 in
+    let ends_so : HasEnd f (r.close || any_closes ss) b = subst (λ (z : Request). HasEnd f (z.close || any_closes ss) b) (sym same) ends' in
+    let left = drop r.size bytes in
+    let later = one_later r.close left rs ss a b e f x.1 last x.2 there ends ends_so (λ ends_a ends_b. one_list left rs ss a b e f x.2 ends_a there ends_b) in
+    record { requests = λ i. same i ∷ later.requests i; rest = later.rest }
+
+abbrev fault_of : Outcome → HttpFault
+fault_of (takes request) = BadHead
+fault_of waits = BadHead
+fault_of (refuses fault) = fault
+
+headless_wait : (rest : List ℕ) (fault : HttpFault) → IsHeadless rest waits → IsHeadless rest (refuses fault) → IsOpen rest
+headless_wait rest fault x y = elim y.1 [
   | inl over ↦ absurd (x over)
-  | inr never ↦ inr (never, x)
+  | inr never ↦ (never, x)
 ]
-headless_end rest (Some f) None x y = elim x.1 [
-  | inl over ↦ absurd (y over)
-  | inr never ↦ inr (never, y)
-]
-headless_end rest (Some f) (Some g) x y = inl (ap Some (x.0 ∙ sym y.0))
 
-pub one_end : (rest : List ℕ) (a b : Option HttpFault) → IsCut rest (ending a) → IsCut rest (ending b) → (a ≡ b) ⊎ IsOpen rest
-one_end rest a b (inl x) (inl y) =
+wait_or_refusal : (rest : List ℕ) (fault : HttpFault) → IsCut rest waits → IsCut rest (refuses fault) → IsOpen rest
+wait_or_refusal rest fault (inl x) (inl y) =
     let same = request_unique rest x.0 y.0 x.1 y.1 x.2.reads y.2.reads in
-    let ends : ending a ≡ ending b = x.3 ∙ (λ i. outcome_behind (head_of (same.0 i)) (same.1 i)) ∙ sym y.3 in
-    inl (sym (fault_ends a) ∙ ap fault_of ends ∙ fault_ends b)
-one_end rest a b (inl x) (inr y) = absurd (y.0 x.0 x.1 x.2)
-one_end rest a b (inr x) (inl y) = absurd (x.0 y.0 y.1 y.2)
-one_end rest a b (inr x) (inr y) = headless_end rest a b x.1 y.1
+    absurd (omega (arith, ap kind (x.3 ∙ (λ i. outcome_behind (head_of (same.0 i)) (same.1 i)) ∙ sym y.3)))
+wait_or_refusal rest fault (inl x) (inr y) = absurd (y.0 x.0 x.1 x.2)
+wait_or_refusal rest fault (inr x) (inl y) = absurd (x.0 y.0 y.1 y.2)
+wait_or_refusal rest fault (inr x) (inr y) = headless_wait rest fault x.1 y.1
 
-pub one_stream : (bytes : List ℕ) (rs ss : List Request) (f g : Option HttpFault) (a b : List ℕ) → IsStream bytes rs f a → IsStream bytes ss g b → (rs ≡ ss) × ((f ≡ g) ⊎ IsOpen b)
-one_stream bytes rs ss f g a b x y =
-    let same = one_list bytes rs ss a b x.whole y.whole x.all y.all in
-    (same.0, one_end b f g (subst (λ (z : List ℕ). IsCut z (ending f)) same.1 x.end) y.end)
+one_refusal : (rest : List ℕ) (f g : HttpFault) → IsCut rest (refuses f) → IsCut rest (refuses g) → f ≡ g
+one_refusal rest f g (inl x) (inl y) =
+    let same = request_unique rest x.0 y.0 x.1 y.1 x.2.reads y.2.reads in
+    ap fault_of (x.3 ∙ (λ i. outcome_behind (head_of (same.0 i)) (same.1 i)) ∙ sym y.3)
+one_refusal rest f g (inl x) (inr y) = absurd (y.0 x.0 x.1 x.2)
+one_refusal rest f g (inr x) (inl y) = absurd (x.0 y.0 y.1 y.2)
+one_refusal rest f g (inr x) (inr y) = x.1.0 ∙ sym y.1.0
+
+one_end : (rest : List ℕ) (closed : Bool) (e f : StreamEnd) → HasEnd e closed rest → HasEnd f closed rest → (e ≡ f) ⊎ IsOpen rest
+one_end rest closed Waits Waits x y = inl refl
+one_end rest closed Waits Closes x y = absurd (both_ways closed x.0 y)
+one_end rest closed Waits (Refused g) x y = inr (wait_or_refusal rest g x.1 y.1)
+one_end rest closed Closes Waits x y = absurd (both_ways closed y.0 x)
+one_end rest closed Closes Closes x y = inl refl
+one_end rest closed Closes (Refused g) x y = absurd (both_ways closed y.0 x)
+one_end rest closed (Refused f) Waits x y = inr (wait_or_refusal rest f y.1 x.1)
+one_end rest closed (Refused f) Closes x y = absurd (both_ways closed x.0 y)
+one_end rest closed (Refused f) (Refused g) x y = inl (ap Refused (one_refusal rest f g x.1 y.1))
+
+pub one_stream : (bytes : List ℕ) (rs ss : List Request) (e f : StreamEnd) (a b : List ℕ) → IsStream bytes rs e a → IsStream bytes ss f b → (rs ≡ ss) × ((e ≡ f) ⊎ IsOpen b)
+one_stream bytes rs ss e f a b x y =
+    let same = one_list bytes rs ss a b e f x.whole x.ends y.whole y.ends in
+    let ends : HasEnd e (any_closes ss) b = subst (λ (z : List ℕ). HasEnd e (any_closes ss) z) same.rest (subst (λ (z : List Request). HasEnd e (any_closes z) a) same.requests x.ends) in
+    (same.requests, one_end b (any_closes ss) e f ends y.ends)
 
 -- a request that is cut isn't longer than what is held
 pub cut_size : (held : List ℕ) (cut : code.Cut) → IsCut held (outcome_of cut) → IfRequest cut (λ request. (0 < request.length) × (request.length ≤ length held))

@@ -1,6 +1,7 @@
 pub mod Fields
 pub mod FaultText
 pub mod Requests
+pub mod Places
 pub mod Views
 pub mod Streams
 pub mod Owned

@@ -1,9 +1,10 @@
 -- The head of a reply (RFC 9112, section 4), with the fields that a reply may have here, in their order.
 use Rattle.std.specs.Prelude.{ℕ, ◌==◌, Bool, List, [], ◌∷◌, ◌++◌, if◌then◌else◌, decimal, codes, unwrap_or}
-use Rattle.std.specs.List.{list_any}
+use Rattle.std.specs.List.{list_any, list_all}
 use Rattle.http.specs.StatusCode.{code_digits, reason_phrase}
 use Rattle.httparse.specs.Ascii.{crlf_bytes}
 use Rattle.http_cut.specs.declared.reply_head.ReplyHead.{ReplyHead}
+use Rattle.http_cut.specs.Requests.{is_other}
 
 -- the statuses of replies
 abbrev pub reply_statuses : List ℕ
@@ -11,6 +12,10 @@ reply_statuses = 200 ∷ 201 ∷ 204 ∷ 400 ∷ 404 ∷ 405 ∷ 409 ∷ 411 ∷
 
 abbrev pub is_reply_status : ℕ → Bool
 is_reply_status status = list_any (λ known. known == status) reply_statuses
+
+-- no byte ends the line in which the bytes stand (RFC 9110, section 5.5)
+abbrev pub is_in_line : List ℕ → Bool
+is_in_line bytes = list_all is_other bytes
 
 -- the standard phrase of a status
 unfoldable pub phrase_of : ℕ → List ℕ

@@ -1,56 +1,101 @@
 -- The requests of a stream, by all of its bytes.
-use Rattle.std.specs.Prelude.{◌≡◌, ℕ, List, [], ◌∷◌, ◌++◌, drop, Option, Some, None, ⊤}
+use Rattle.std.specs.Prelude.{◌≡◌, ℕ, Bool, true, false, List, [], ◌∷◌, ◌++◌, drop, Result, Ok, Err, ⊤}
+use Rattle.std.specs.List.{list_any}
+use Rattle.dots_lists.specs.declared.memory.NoMemory.{NoMemory}
 use Rattle.httparse.specs.Grammar.{RequestHead}
-use Rattle.http_cut.specs.declared.fault.HttpFault.{HttpFault}
+use Rattle.http_cut.specs.declared.stream_end.StreamEnd.{StreamEnd}
+use Rattle.http_cut.specs.declared.stream_end.StreamEnd.TheVariants.{Waits, Closes, Refused}
 use Rattle.http_cut.specs.declared.request.HttpRequest.{HttpRequest}
 use Rattle.http_cut.specs.declared.request.Cut as code
 use Rattle.http_cut.specs.declared.request.Cut.TheVariants as cuts
-use Rattle.http_cut.specs.Requests.{BeginsWith, NeverHasHead, IsOver, Request, Outcome, takes, waits, refuses, IsCut, outcome_behind, head_of}
+use Rattle.http_cut.specs.Requests.{BeginsWith, NeverHasHead, IsOver, Request, takes, waits, refuses, IsCut, outcome_behind, head_of}
 
 -- the bytes begin with this request
 abbrev pub IsFirst : List ℕ → Request → Type 0
 IsFirst bytes request =
     (head : RequestHead) × (rest : List ℕ) × BeginsWith bytes head rest × (takes request ≡ outcome_behind (head_of head) rest)
 
--- the bytes are these requests, one behind the other, and then the rest
+-- no request follows one that closes
+abbrev pub ClosesLast : Bool → List Request → Type 0
+ClosesLast true later = later ≡ []
+ClosesLast false later = ⊤
+
+-- the bytes are these requests, one behind the other, and then the rest; one that closes is the last of its connection
+-- (RFC 9112, section 9.6)
 abbrev pub AreRequests : List ℕ → List Request → List ℕ → Type 0
 AreRequests bytes [] rest = bytes ≡ rest
-AreRequests bytes (request ∷ requests) rest = IsFirst bytes request × AreRequests (drop request.size bytes) requests rest
+AreRequests bytes (request ∷ requests) rest =
+    IsFirst bytes request × ClosesLast request.close requests × AreRequests (drop request.size bytes) requests rest
 
--- how a stream goes on: more is waited for, or it is refused
-abbrev pub ending : Option HttpFault → Outcome
-ending None = waits
-ending (Some fault) = refuses fault
+-- whether one of the requests closes
+abbrev pub any_closes : List Request → Bool
+any_closes requests = list_any (λ request. request.close) requests
 
--- the bytes of a stream are these requests, one behind the other, and then the rest, which begins with no request
-pub record IsStream (bytes : List ℕ) (requests : List Request) (fault : Option HttpFault) (rest : List ℕ) : Type 0 where
+-- how a stream goes on behind its requests, of which one closes or none does
+abbrev pub HasEnd : StreamEnd → Bool → List ℕ → Type 0
+HasEnd Waits closed rest = (closed ≡ false) × IsCut rest waits
+HasEnd Closes closed rest = closed ≡ true
+HasEnd (Refused fault) closed rest = (closed ≡ false) × IsCut rest (refuses fault)
+
+-- the bytes of a stream are these requests, one behind the other, and then the rest
+pub record IsStream (bytes : List ℕ) (requests : List Request) (end : StreamEnd) (rest : List ℕ) : Type 0 where
   pub whole : AreRequests bytes requests rest
-  pub all : (request : Request) → ¬ (IsFirst rest request)
-  pub end : IsCut rest (ending fault)
+  pub ends : HasEnd end (any_closes requests) rest
 
 -- no head can come, and a refusal of that may still be waited with
 abbrev pub IsOpen : List ℕ → Type 0
 IsOpen rest = NeverHasHead rest × ¬ (IsOver rest)
 
--- what is held of the rest of a stream: all of it, or where the stream is refused the front of it, for which it is
-abbrev pub Holds : Option HttpFault → List ℕ → List ℕ → Type 0
-Holds None held rest = held ≡ rest
-Holds (Some fault) held rest = (left : List ℕ) × (rest ≡ held ++ left) × IsCut held (refuses fault)
+-- what is held of the rest of a stream: all of it where more is waited for, and else the front of it
+abbrev pub Holds : StreamEnd → List ℕ → List ℕ → Type 0
+Holds Waits held rest = held ≡ rest
+Holds Closes held rest = (left : List ℕ) × (rest ≡ held ++ left)
+Holds (Refused fault) held rest = (left : List ℕ) × (rest ≡ held ++ left) × IsCut held (refuses fault)
 
--- some requests were taken from the front of bytes and put behind those that were there before; the rest stands behind them
+-- of the bytes that were brought some came to those that were there, and others are left; what is held is the rest of all
+-- that were there or came, behind these requests
+pub record IsHeld (old brought : List ℕ) (requests : List Request) (held : List ℕ) : Type 0 where
+  pub came : List ℕ
+  pub left : List ℕ
+  pub parts : brought ≡ came ++ left
+  pub whole : AreRequests (old ++ came) requests held
+
+-- the same for requests that were put behind others, none of which closes
 pub record AreTaken (bytes : List ℕ) (before after : List Request) (rest : List ℕ) : Type 0 where
   pub requests : List Request
   pub added : after ≡ before ++ requests
   pub whole : AreRequests bytes requests rest
+  pub open_yet : any_closes requests ≡ false
 
--- the same, with what is held of the rest, all of it where more is waited for
-abbrev pub AreTakenTo : List ℕ → List Request → List Request → List ℕ → Option HttpFault → Type 0
-AreTakenTo bytes before after held None = AreTaken bytes before after held × IsCut held waits
-AreTakenTo bytes before after held (Some fault) = (left : List ℕ) × AreTaken bytes before after (held ++ left) × IsCut held (refuses fault)
+-- how the taking of requests ended: as the stream goes on, or at a request for which memory wasn't found
+abbrev pub Ends : Result StreamEnd NoMemory → Bool → List ℕ → Type 0
+Ends (Ok end) closed held = HasEnd end closed held
+Ends (Err fault) closed held = (closed ≡ false) × ((request : Request) × IsFirst held request)
 
--- the same, with no word of whether what is held begins with a request
-abbrev pub AreTakenWith : List ℕ → List Request → List Request → List ℕ → Type 0
-AreTakenWith bytes before after held = (left : List ℕ) × AreTaken bytes before after (held ++ left)
+pub record AreTakenTo (bytes : List ℕ) (before after : List Request) (held : List ℕ) (end : Result StreamEnd NoMemory) : Type 0 where
+  pub requests : List Request
+  pub added : after ≡ before ++ requests
+  pub whole : AreRequests bytes requests held
+  pub ends : Ends end (any_closes requests) held
+
+-- whether more is waited for
+abbrev pub is_waiting : Result StreamEnd NoMemory → Bool
+is_waiting (Ok Waits) = true
+is_waiting (Ok Closes) = false
+is_waiting (Ok (Refused fault)) = false
+is_waiting (Err fault) = false
+
+abbrev pub IsAll : Bool → List ℕ → Type 0
+IsAll true left = left ≡ []
+IsAll false left = ⊤
+
+-- the same with bytes that are brought; they all came where more is waited for
+pub record AreTakenOf (old brought : List ℕ) (before after : List Request) (held : List ℕ) (end : Result StreamEnd NoMemory) : Type 0 where
+  pub came : List ℕ
+  pub left : List ℕ
+  pub parts : brought ≡ came ++ left
+  pub taken : AreTakenTo (old ++ came) before after held end
+  pub all : IsAll (is_waiting end) left
 
 -- P of the request, where there is one
 abbrev pub IfRequest : code.Cut → (HttpRequest → Type 0) → Type 0

@@ -1,13 +1,17 @@
-ghost use Rattle.std.specs.Prelude.{◌≡◌, ◌+◌, ◌^◌, ◌<◌, ◌≤◌, length, take, All};
+ghost use Rattle.std.specs.Prelude.{◌≡◌, ◌+◌, ◌^◌, ◌<◌, ◌≤◌, false, length, take, All};
 ghost use Rattle.httparse.specs.Spans.{IsHeaderWithin, IsWithin};
 ghost use Rattle.http_cut.specs.Requests.{IsCut, outcome_of, outcome_behind, with_body, closes};
 ghost use Rattle.http_cut.specs.Views.{head_at};
+ghost use Rattle.http_cut.specs.declared.place.Place.TheVariants.{Blank};
+ghost use Rattle.http_cut.specs.Places.{place_from, is_end, WaitsBelow, IsKnown};
 
 use crate::fault::HttpFault;
 use crate::fields::{asks_to_close, first_media, framing};
+use crate::place::Place;
 use crate::request::{Cut, HttpRequest};
+use crate::room::MOST_FIELDS;
 use httparse::Status;
-use httparse::spans::{HeaderSpan, RequestSpans, parse_request};
+use httparse::spans::{EMPTY_HEADER_SPAN, HeaderSpan, RequestSpans, parse_request};
 
 /// The greatest number of bytes of a head.
 const GREATEST_HEAD: usize = 8_192;
@@ -81,7 +85,7 @@ fn cut_behind<'a>(
 }
 
 /// What stands at the front of the held bytes.
-pub(crate) fn cut_held<'a>(held: &'a [u8], spans: &mut [HeaderSpan]) -> Cut<'a>
+fn cut_held<'a>(held: &'a [u8], spans: &mut [HeaderSpan]) -> Cut<'a>
     requires { length spans.old ≡ 2731 }
     ensures { IsCut held.now (outcome_of result) }
 {
@@ -98,5 +102,54 @@ pub(crate) fn cut_held<'a>(held: &'a [u8], spans: &mut [HeaderSpan]) -> Cut<'a>
             return Cut::Refused(HttpFault::BadHead);
         }
         Err(_) => return Cut::Refused(HttpFault::BadHead),
+    }
+}
+
+/// What stands at the front of the held bytes where no head ended.
+fn cut_headless<'a>(held: &'a [u8], place: Place) -> Cut<'a>
+    requires place { place ≡ place_from Blank held.now }
+    requires head { is_end place ≡ false }
+    ensures { IsCut held.now (outcome_of result) }
+{
+    if held.len() < GREATEST_HEAD {
+        return Cut::More;
+    }
+    Cut::Refused(HttpFault::BadHead)
+}
+
+/// What stands at the front of the held bytes, of which this is known.
+pub(crate) fn cut_known<'a>(
+    held: &'a [u8],
+    place: Place,
+    needed: Option<usize>,
+    spans: &mut [HeaderSpan],
+) -> Cut<'a>
+    requires known { IsKnown held.now place needed }
+    requires room { length spans.old ≡ 2731 }
+    ensures { IsCut held.now (outcome_of result) }
+{
+    if !place.is_end() {
+        return cut_headless(held, place);
+    }
+    if let Some(size) = needed
+        && held.len() < size
+    {
+        return Cut::More;
+    }
+    cut_held(held, spans)
+}
+
+/// How many bytes the request at the front of the held bytes needs; 0 where none stands there.
+pub(crate) fn needed(held: &[u8]) -> usize
+    ensures { WaitsBelow held.now result }
+{
+    let mut spans = [EMPTY_HEADER_SPAN; MOST_FIELDS];
+    let bytes = window(held);
+    match parse_request(bytes, &mut spans) {
+        Ok(Status::Complete(head)) => match framing(bytes, &spans[..head.headers]) {
+            Ok(size) => return head.len + size,
+            Err(_) => return 0,
+        },
+        _ => return 0,
     }
 }

@@ -6,8 +6,8 @@
 //! requests out. [`write_head`] writes the head of a reply (RFC 9112, section 4): exactly the lines of
 //! `specs/Reply.antt`, in their order. Only the two `new` and [`take_requests`] take memory.
 //!
-//! One cut goes through the head once, looks up a few of its fields, and reads no byte of the body. So a stream that
-//! comes byte by byte costs at most the bytes of its heads times their pieces.
+//! A stream costs time linear in its bytes, however it is cut into pieces: each byte of a head is looked at once as it
+//! comes, and a head is parsed where its empty line came, and not again while its body is waited for.
 //!
 //! Contracts see a stream as the bytes that it holds. Start reading at `specs/Requests.antt`, which says what stands at
 //! the front of some bytes, over the grammar of heads in `httparse`; `specs/Fields.antt` says what the fields mean, and
@@ -18,10 +18,12 @@ mod cutting;
 mod fault;
 mod fields;
 mod owned;
+mod place;
 mod reply_head;
 mod request;
 mod room;
 mod stream;
+mod stream_end;
 mod taking;
 mod text;
 mod writing;
@@ -32,7 +34,5 @@ pub use reply_head::{ReplyHead, write_head};
 pub use request::{Cut, HttpRequest};
 pub use room::HeadRoom;
 pub use stream::Stream;
+pub use stream_end::StreamEnd;
 pub use taking::{Taken, take_requests};
-
-#[cfg(test)]
-mod tests;

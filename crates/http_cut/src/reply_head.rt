@@ -1,6 +1,6 @@
 ghost use Rattle.std.specs.Prelude.{◌≡◌, ◌<◌, ◌≤◌, ◌+◌, ◌++◌, length, drop, IsTrue};
 ghost use Rattle.http.specs.StatusCode.{code_digits};
-ghost use Rattle.http_cut.specs.Reply.{is_reply_status, head_bytes, status_line, closing_line, text_line, media_line, length_line, phrase_of, field_line};
+ghost use Rattle.http_cut.specs.Reply.{is_reply_status, is_in_line, head_bytes, status_line, closing_line, text_line, media_line, length_line, phrase_of, field_line};
 ghost use Rattle.http_cut.specs.Writing.{IsPut};
 
 use crate::writing::put;
@@ -14,9 +14,9 @@ pub struct ReplyHead<'a> {
     pub status: u16,
     /// Whether the connection is closed behind the reply.
     pub close: bool,
-    /// Where the resource is, at most 700 bytes; empty for none.
+    /// Where the resource is, at most 700 bytes without CR and LF; empty for none.
     pub location: &'a [u8],
-    /// The methods that the resource has, at most 64 bytes; empty for none.
+    /// The methods that the resource has, at most 64 bytes without CR and LF; empty for none.
     pub allow: &'a [u8],
     /// Whether the body is YANG data in JSON.
     pub json: bool,
@@ -119,10 +119,15 @@ fn put_length(into: &mut [u8], at: usize, status: u16, len: usize) -> usize
 }
 
 /// Writes the head of a reply in front of the bytes, and answers how many bytes it has.
+///
+/// The status is one that a [`ReplyHead`] may have, and `into` has 1,024 bytes at least. The location and the methods hold
+/// no CR and no LF, so that no value ends its line (RFC 9110, section 5.5).
 pub fn write_head(head: &ReplyHead, into: &mut [u8]) -> usize
     requires status { IsTrue (is_reply_status head.now.status) }
     requires location { length head.now.location.now ≤ 700 }
+    requires location_line { IsTrue (is_in_line head.now.location.now) }
     requires allow { length head.now.allow.now ≤ 64 }
+    requires allow_line { IsTrue (is_in_line head.now.allow.now) }
     requires room { 1024 ≤ length into.old }
     ensures len { result ≡ length (head_bytes head.now) }
     ensures within { result ≤ length into.old }

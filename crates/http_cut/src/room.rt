@@ -5,7 +5,7 @@ use httparse::spans::{EMPTY_HEADER_SPAN, HeaderSpan};
 use std::alloc::Global;
 
 /// More fields than a head of 8,192 bytes can have, at three bytes each.
-const MOST_FIELDS: usize = 2_731;
+pub(crate) const MOST_FIELDS: usize = 2_731;
 
 /// Room for the fields of a head. One serves all streams.
 #[derive(Debug, Drop)]

@@ -1,68 +1,78 @@
 //! The requests of a stream that comes in pieces.
-ghost use Rattle.std.specs.Prelude.{◌≡◌, ◌⊎◌, ◌++◌, ℕ, List, Option, flat_map, IfOk, OnErr};
-ghost use Rattle.http_cut.specs.declared.fault.HttpFault.{HttpFault};
-ghost use Rattle.http_cut.specs.Requests.{Request, IsCut};
-ghost use Rattle.http_cut.specs.Streams.{AreRequests, AreTaken, AreTakenTo, AreTakenWith, IsStream, IsOpen, Holds, ending};
+ghost use Rattle.std.specs.Prelude.{◌≡◌, ◌⊎◌, ◌++◌, ℕ, List, flat_map, IfOk, OnErr, false};
+ghost use Rattle.http_cut.specs.declared.stream_end.StreamEnd.{StreamEnd};
+ghost use Rattle.http_cut.specs.Requests.{Request};
+ghost use Rattle.http_cut.specs.Streams.{AreTakenTo, AreTakenOf, IsStream, IsFirst, IsOpen, IsHeld, Holds, any_closes, is_waiting};
 ghost use Rattle.http_cut.specs.Owned.{owned_views};
 
-use crate::fault::HttpFault;
 use crate::owned::{RequestList, copy_of};
 use crate::request::Cut;
 use crate::room::HeadRoom;
 use crate::stream::Stream;
+use crate::stream_end::StreamEnd;
 use dots_lists::NoMemory;
 use std::alloc::Global;
 
-/// The requests of a stream, in their order, and why it is refused, if it is.
+/// The requests of a stream, in their order, and how it goes on behind them.
 #[derive(Debug, Drop)]
 pub struct Taken {
     pub requests: RequestList,
-    pub fault: Option<HttpFault>,
+    /// `NoMemory` where it isn't found for the request that is held then.
+    pub end: Result<StreamEnd, NoMemory>,
 }
 
-/// Takes out the requests that are held whole.
+fn is_waiting(end: &Result<StreamEnd, NoMemory>) -> bool
+    ensures { result ≡ is_waiting end.now }
+{
+    matches!(end, Ok(StreamEnd::Waits))
+}
+
+/// Takes out the requests that are held whole, as far as one that closes.
 fn take_out(
     alloc: Global,
     stream: &mut Stream,
     room: &mut HeadRoom,
     out: &mut RequestList,
-) -> Result<Option<HttpFault>, NoMemory>
-    ensures taken { AreTaken stream.old (owned_views out.old) (owned_views out.new) stream.new }
-    ensures rests { IfOk result (λ fault. IsCut stream.new (ending fault)) }
+) -> Result<StreamEnd, NoMemory>
+    ensures { AreTakenTo stream.old (owned_views out.old) (owned_views out.new) stream.new result }
 {
     'requests: loop {
         match stream.cut(room) {
-            Cut::More => return Ok(None),
-            Cut::Refused(fault) => return Ok(Some(fault)),
+            Cut::More => return Ok(StreamEnd::Waits),
+            Cut::Refused(fault) => return Ok(StreamEnd::Refused(fault)),
             Cut::Request(request) => {
                 let length = request.length;
+                let close = request.close;
                 let copy = copy_of(alloc, &request)?;
                 out.push(copy)?;
                 stream.discard(length);
+                if close {
+                    return Ok(StreamEnd::Closes);
+                }
             }
         }
     }
 }
 
-/// Takes a piece of the stream, and out of it the requests that are whole then. Where the stream is refused, the bytes
-/// behind what is held are left.
+/// Takes a piece of the stream, and out of it the requests that are whole then. Where none is waited for any more, the
+/// bytes behind what is held are left.
 fn take_piece(
     alloc: Global,
     stream: &mut Stream,
     room: &mut HeadRoom,
     out: &mut RequestList,
     piece: &[u8],
-) -> Result<Option<HttpFault>, NoMemory>
-    ensures ok { IfOk result (λ fault. AreTakenTo (stream.old ++ piece.now) (owned_views out.old) (owned_views out.new) stream.new fault) }
-    ensures err { OnErr result (AreTakenWith (stream.old ++ piece.now) (owned_views out.old) (owned_views out.new) stream.new) }
+) -> Result<StreamEnd, NoMemory>
+    ensures { AreTakenOf stream.old piece.now (owned_views out.old) (owned_views out.new) stream.new result }
 {
     let mut rest = piece;
     'bytes: loop {
-        if let Some(fault) = take_out(alloc, stream, room, out)? {
-            return Ok(Some(fault));
+        let end = take_out(alloc, stream, room, out);
+        if !is_waiting(&end) {
+            return end;
         }
         if rest.is_empty() {
-            return Ok(None);
+            return Ok(StreamEnd::Waits);
         }
         let count = stream.take(rest);
         let (_, behind) = rest.split_at(count);
@@ -70,54 +80,56 @@ fn take_piece(
     }
 }
 
-/// Takes the pieces one by one, as far as the stream isn't refused.
+/// Takes the pieces one by one, as far as requests are waited for.
 fn take_pieces(
     alloc: Global,
     stream: &mut Stream,
     room: &mut HeadRoom,
     out: &mut RequestList,
     pieces: &[&[u8]],
-) -> Result<Option<HttpFault>, NoMemory>
-    ensures ok { IfOk result (λ fault. AreTakenTo (stream.old ++ flat_map (λ piece. piece.now) pieces.now)
-        (owned_views out.old) (owned_views out.new) stream.new fault) }
-    ensures err { OnErr result (AreTakenWith (stream.old ++ flat_map (λ piece. piece.now) pieces.now)
-        (owned_views out.old) (owned_views out.new) stream.new) }
+) -> Result<StreamEnd, NoMemory>
+    ensures { AreTakenOf stream.old (flat_map (λ piece. piece.now) pieces.now) (owned_views out.old) (owned_views out.new) stream.new result }
 {
-    if let Some(fault) = take_out(alloc, stream, room, out)? {
-        return Ok(Some(fault));
+    let held = take_out(alloc, stream, room, out);
+    if !is_waiting(&held) {
+        return held;
     }
     for piece in pieces {
-        if let Some(fault) = take_piece(alloc, stream, room, out, piece)? {
-            return Ok(Some(fault));
+        let end = take_piece(alloc, stream, room, out, piece);
+        if !is_waiting(&end) {
+            return end;
         }
     }
-    Ok(None)
+    Ok(StreamEnd::Waits)
 }
 
 /// The requests of a stream of which some bytes are held, and the rest comes in these pieces.
 ///
 /// However the bytes are cut into pieces, the requests are those at the front of all of them, one behind the other, as
-/// far as there are any, and so is why the stream is refused, but that a stream in which no head can come any more is
-/// refused at once or later, until a head would have ended. What is behind the requests is held; of a stream that is
-/// refused its front. Where memory isn't found for a copy of a request, the requests before it are lost, and what is
-/// held begins with it.
+/// far as there are any and none asks for closing before, and so is how the stream goes on, but that a stream in which no
+/// head can come any more is refused at once or later, until a head would have ended. What came behind the requests is
+/// held, and no byte of it is dropped. Where memory isn't found for a copy of a request, the requests before it are handed
+/// out, and what is held begins with it.
 pub fn take_requests(
     alloc: Global,
     stream: &mut Stream,
     room: &mut HeadRoom,
     pieces: &[&[u8]],
-) -> Result<Taken, NoMemory>
-    ensures stream { IfOk result (λ taken. (rest : List ℕ)
-        × IsStream (stream.old ++ flat_map (λ piece. piece.now) pieces.now) (owned_views taken.requests) taken.fault rest
-        × Holds taken.fault stream.new rest) }
+) -> Taken
+    // What is held is the rest of all that came, in each case.
+    ensures held { IsHeld stream.old (flat_map (λ piece. piece.now) pieces.now) (owned_views result.requests) stream.new }
+    ensures stream { IfOk result.end (λ end. (rest : List ℕ)
+        × IsStream (stream.old ++ flat_map (λ piece. piece.now) pieces.now) (owned_views result.requests) end rest
+        × Holds end stream.new rest) }
     // The bytes have no other requests, and no other end but where no head can come.
-    ensures only { IfOk result (λ taken. (requests : List Request) (fault : Option HttpFault) (rest : List ℕ)
-        → IsStream (stream.old ++ flat_map (λ piece. piece.now) pieces.now) requests fault rest
-        → (owned_views taken.requests ≡ requests) × ((taken.fault ≡ fault) ⊎ IsOpen rest)) }
-    ensures lost { OnErr result ((requests : List Request) × (left : List ℕ)
-        × AreRequests (stream.old ++ flat_map (λ piece. piece.now) pieces.now) requests (stream.new ++ left)) }
+    ensures only { IfOk result.end (λ end. (requests : List Request) (other : StreamEnd) (rest : List ℕ)
+        → IsStream (stream.old ++ flat_map (λ piece. piece.now) pieces.now) requests other rest
+        → (owned_views result.requests ≡ requests) × ((end ≡ other) ⊎ IsOpen rest)) }
+    // For this request memory wasn't found, and it is the next.
+    ensures lacked { OnErr result.end ((any_closes (owned_views result.requests) ≡ false)
+        × ((request : Request) × IsFirst stream.new request)) }
 {
     let mut requests = RequestList::new(alloc);
-    let fault = take_pieces(alloc, stream, room, &mut requests, pieces)?;
-    Ok(Taken { requests, fault })
+    let end = take_pieces(alloc, stream, room, &mut requests, pieces);
+    Taken { requests, end }
 }

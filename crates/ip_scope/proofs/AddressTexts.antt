@@ -36,7 +36,7 @@ byte_at-lt : (k n : ℕ) → byte_at k n < 256
 byte_at-lt zero n = omega arith
 byte_at-lt (suc k) n = omega arith
 
-fits-bytes : (k n i : ℕ) → get_or (bytes_high_first k n) i 0 < 256
+pub fits-bytes : (k n i : ℕ) → get_or (bytes_high_first k n) i 0 < 256
 fits-bytes zero n i = omega arith
 fits-bytes (suc k) n i = elim i as (λ j. get_or (byte_at k n ∷ bytes_high_first k n) j 0 < 256) [ zero ↦ byte_at-lt k n | suc j ↦ fits-bytes k n j ]
 
@@ -49,7 +49,7 @@ octets_of-segments_of (a ∷ b ∷ bytes) fits even =
     let later = octets_of-segments_of bytes (λ i. fits (suc (suc i))) (omega arith) in
     rw (first, second, later)
 
-AllSegments-segments_of : (bytes : List ℕ) → ((i : ℕ) → get_or bytes i 0 < 256) → AllSegments (segments_of bytes)
+pub AllSegments-segments_of : (bytes : List ℕ) → ((i : ℕ) → get_or bytes i 0 < 256) → AllSegments (segments_of bytes)
 AllSegments-segments_of [] fits k = omega arith
 AllSegments-segments_of (a ∷ []) fits k = omega arith
 AllSegments-segments_of (a ∷ b ∷ bytes) fits k =

@@ -1,6 +1,5 @@
 -- One text after another in a buffer.
-use Rattle.std.proofs.Common.{◌≡◌, ℕ, ◌+◌, ◌-◌, ◌/◌, ◌%◌, ◌<◌, ◌≤◌, List, [], ◌∷◌, ◌++◌, length, take, drop, get_or, codes, decimal, flat_map, refl, sym, ap, ◌∙◌, subst, arith, append_assoc, append-nil, length-append, drop-drop, length-drop, le-ltb, lt-ltb}
-use Rattle.std.proofs.lemmas.Fmt.{decimal_digit, decimal_step}
+use Rattle.std.proofs.Common.{◌≡◌, ℕ, ◌+◌, ◌-◌, ◌<◌, ◌≤◌, List, [], ◌∷◌, ◌++◌, length, take, drop, get_or, codes, flat_map, refl, sym, ap, ◌∙◌, subst, arith, append_assoc, append-nil, length-append, drop-drop, length-drop, le-ltb, lt-ltb}
 use Rattle.std.proofs.lemmas.Grind.{flat_map-append}
 use Rattle.std.proofs.lemmas.List.{take_more, take_all}
 use Rattle.std.proofs.lemmas.Slice.{take-put_mid, drop-put_mid}
@@ -28,22 +27,6 @@ Puts-then old mid new from at to s t first second = record {
 
 pub Puts-as : (old new : List ℕ) (from to : ℕ) (s t : List ℕ) → s ≡ t → Puts old new from to s → Puts old new from to t
 Puts-as old new from to s t same puts = subst (λ (text : List ℕ). Puts old new from to text) same puts
-
--- ---- decimal numbers of one to three digits
-
-pub decimal_one : (n : ℕ) → n < 10 → decimal n ≡ (48 + n % 10) ∷ []
-decimal_one n small = let same : n % 10 ≡ n = omega arith in decimal_digit n small ∙ ap (λ d. (48 + d) ∷ []) (sym same)
-
-pub decimal_two : (n : ℕ) → 10 ≤ n → n < 100 → decimal n ≡ (48 + n / 10 % 10) ∷ (48 + n % 10) ∷ []
-decimal_two n low high = decimal_step n low (omega arith) ∙ ap (λ front. front ++ (48 + n % 10) ∷ []) (decimal_one (n / 10) (omega arith))
-
-pub decimal_three : (n : ℕ) → 100 ≤ n → n < 1000 → decimal n ≡ (48 + n / 100) ∷ (48 + n / 10 % 10) ∷ (48 + n % 10) ∷ []
-decimal_three n low high =
-    let tens : n / 10 / 10 ≡ n / 100 = omega arith in
-    let first : n / 10 / 10 % 10 ≡ n / 100 = omega arith in
-    decimal_step n (omega arith) (omega arith)
-    ∙ ap (λ front. front ++ (48 + n % 10) ∷ []) (decimal_two (n / 10) (omega arith) (omega arith))
-    ∙ ap (λ d. (48 + d) ∷ (48 + n / 10 % 10) ∷ (48 + n % 10) ∷ []) first
 
 -- ---- groups
 

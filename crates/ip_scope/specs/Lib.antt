@@ -5,3 +5,4 @@ pub mod Prefix
 pub mod PrefixText
 pub mod Puts
 pub mod Laws
+pub mod PrefixReader

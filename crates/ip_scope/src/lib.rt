@@ -6,8 +6,8 @@
 //! No call takes memory.
 //!
 //! Start reading at `specs/Prefix.antt`, where [`inside`], [`meets`] and [`holds`] are defined by whole parts of
-//! division, and `specs/PrefixText.antt`, which has the grammar. What these come to is said by the contracts in
-//! [`laws`].
+//! division, and `specs/PrefixText.antt`, which has the grammar. `specs/PrefixReader.antt` has the prefix that a text writes as
+//! a value. What these come to is said by the contracts in [`laws`].
 #![tactic(auto)]
 
 mod address;
@@ -30,6 +30,3 @@ pub use port_range::PortRange;
 pub use prefix::Prefix;
 pub use put::MAX_PREFIX_TEXT;
 pub use write::write_prefix;
-
-#[cfg(test)]
-mod tests;

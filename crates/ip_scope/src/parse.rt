@@ -1,17 +1,23 @@
-ghost use Rattle.std.specs.Prelude.{◌≡◌, ◌≢◌, ℕ, ◌+◌, ◌<◌, ◌≤◌, ◌∷◌, ◌++◌, length, slice_index, decimal, IfSome, IfNone, IfOk, Ok, Err, IsTrue, ◌↔◌};
-ghost use Rattle.std.specs.Str.Parse.{AllDigits, digits_value};
+ghost use Rattle.std.specs.Prelude.{◌≡◌, ◌≢◌, ℕ, ◌<◌, ◌∷◌, ◌++◌, length, slice_index, decimal, IfSome, IfNone, IfOk, Ok, Err};
+ghost use Rattle.std.specs.Result.{result_ok};
 ghost use Rattle.ip_scope.specs.Prefix.{PrefixValue, IsPrefix};
 ghost use Rattle.ip_scope.specs.PrefixText.{IsAddressText, IsPrefixText, Reads, IsTooLong, reading_of, prefix_text};
+ghost use Rattle.ip_scope.specs.PrefixReader.{prefix_in};
 ghost use Rattle.ip_scope.specs.declared.family.Family as families;
 
 use crate::address::Addr;
 use crate::bad_prefix::BadPrefix;
 use crate::family::Family;
 use crate::prefix::Prefix;
+use decimal_text::parse_decimal;
+use memchr::memrchr;
 use std::net::{Ipv4Addr, Ipv6Addr};
 
 /// What stands between the address and the length.
 const SLASH: u8 = b'/';
+
+/// The greatest length that a text can write: three digits.
+const MAX_LENGTH: u64 = 999;
 
 /// Reads a prefix: an address, a slash, and a length of one to three digits with no leading zero. Host bits are
 /// cleared.
@@ -24,6 +30,9 @@ pub fn parse_prefix(text: &[u8]) -> Result<Prefix, BadPrefix>
     // A text has one reading.
     ensures only { (family : families.Family) (number length : ℕ) → IsPrefixText text.now family number length
         → result ≡ reading_of family number length }
+
+    // It is the prefix that the text has by the grammar's own reader.
+    ensures value { result_ok result ≡ prefix_in text.now }
 
     // What `write_prefix` writes is read again.
     ensures written { (p : PrefixValue) → IsPrefix p → text.now ≡ prefix_text p → result ≡ Ok p }
@@ -41,7 +50,7 @@ fn read(text: &[u8]) -> Option<(Addr, u16)>
         → ¬ (IsPrefixText text.now family number length)) }
 {
     let (address, digits) = split_at_last_slash(text)?;
-    let length = decimal_of(digits)?;
+    let length = length_of(digits)?;
     let addr = parse_address(address)?;
     Some((addr, length))
 }
@@ -62,51 +71,20 @@ fn split_at_last_slash(text: &[u8]) -> Option<(&[u8], &[u8])>
     ensures last { IfSome result (λ parts. (k : ℕ) → k < length parts.1.now → slice_index parts.1.now k ≢ SLASH) }
     ensures none { IfNone result ((k : ℕ) → k < length text.now → slice_index text.now k ≢ SLASH) }
 {
-    for i in (0..text.len()).rev() {
-        if text[i] == SLASH {
-            return Some((&text[..i], &text[i + 1..]));
-        }
-    }
-    None
+    let slash = memrchr(SLASH, text)?;
+    Some((&text[..slash], &text[slash + 1..]))
 }
 
 /// The number below 1000 whose decimal digits these are, with no leading zero.
-fn decimal_of(digits: &[u8]) -> Option<u16>
+fn length_of(digits: &[u8]) -> Option<u16>
     ensures found { IfSome result (λ n. (n < 1000) × (digits.now ≡ decimal n)) }
     ensures none { IfNone result ((n : ℕ) → n < 1000 → digits.now ≢ decimal n) }
 {
-    if digits.is_empty() {
+    let length = parse_decimal(digits)?;
+    if length > MAX_LENGTH {
         return None;
     }
-    if digits.len() > 3 {
-        return None;
-    }
-    if has_leading_zero(digits) {
-        return None;
-    }
-    value_of(digits)
-}
-
-fn has_leading_zero(digits: &[u8]) -> bool
-    ensures { IsTrue result ↔ ((1 < length digits.now) × (slice_index digits.now 0 ≡ 48)) }
-{
-    digits.len() > 1 && digits[0] == b'0'
-}
-
-/// What the digits are worth, if they are digits.
-fn value_of(digits: &[u8]) -> Option<u16>
-    requires { length digits.now ≤ 3 }
-    ensures found { IfSome result (λ n. AllDigits 10 digits.now × (digits_value 10 digits.now ≡ n)) }
-    ensures none { IfNone result (¬ (AllDigits 10 digits.now)) }
-{
-    let mut number = 0;
-    for digit in digits {
-        if !digit.is_ascii_digit() {
-            return None;
-        }
-        number = number * 10 + (*digit - b'0') as u16;
-    }
-    Some(number)
+    Some(length as u16)
 }
 
 /// The address of either family that the text writes (RFC 4291, section 2.2; dotted decimal with no leading zeros), or

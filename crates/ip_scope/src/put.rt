@@ -3,6 +3,8 @@ ghost use Rattle.std.specs.Char.{digit_char};
 ghost use Rattle.std.specs.Net.Text.{ipv4_text, hex, leading_zero_digits, groups_text, longest_zero_run, hex_groups_text};
 ghost use Rattle.ip_scope.specs.Puts.{Puts};
 
+use itoa::Buffer;
+
 /// The longest text of a prefix: eight groups of four digits, seven colons, a slash and three digits.
 pub const MAX_PREFIX_TEXT: usize = 43;
 
@@ -22,17 +24,8 @@ pub(crate) fn put_decimal(into: &mut [u8; MAX_PREFIX_TEXT], at: usize, number: u
     ensures text { Puts into.old into.new at result (decimal number) }
     ensures within { result ≤ at + 3 }
 {
-    let digits = [
-        b'0' + number / 100,
-        b'0' + number / 10 % 10,
-        b'0' + number % 10,
-    ];
-    let zeros = match number {
-        100.. => 0,
-        10.. => 1,
-        _ => 2,
-    };
-    put_all(into, at, &digits[zeros..])
+    let mut buffer = Buffer::new();
+    put_all(into, at, buffer.format(number).as_bytes())
 }
 
 /// Puts four octets in decimal, with dots between them.

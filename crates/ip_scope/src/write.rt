@@ -1,4 +1,4 @@
-ghost use Rattle.std.specs.Prelude.{◌≡◌, ◌≤◌, take, drop};
+ghost use Rattle.std.specs.Prelude.{◌≡◌, ◌≤◌, take, drop, IsUtf8};
 ghost use Rattle.ip_scope.specs.PrefixText.{address_text, prefix_text, v4_octets, v6_groups};
 ghost use Rattle.std.specs.Net.Text.{ipv4_text, hex_groups_text};
 ghost use Rattle.ip_scope.specs.Puts.{Puts};
@@ -14,6 +14,7 @@ pub fn write_prefix(prefix: &Prefix, into: &mut [u8; MAX_PREFIX_TEXT]) -> usize
     ensures text { take result into.new ≡ prefix_text prefix.now }
     ensures rest { drop result into.new ≡ drop result into.old }
     ensures within { result ≤ 43 }
+    ensures utf8 { IsUtf8 (prefix_text prefix.now) }
 {
     let end = put_address(into, prefix);
     let end = put_all(into, end, b"/");

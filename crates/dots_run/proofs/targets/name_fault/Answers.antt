@@ -12,4 +12,4 @@ fault_of_known domain (p ∷ ps) known = refl
 pub returns : goal.returns
 returns c =
     let known : 0 < length c.addresses-addresses.result.now = grind (arith, nat_tests) in
-    c.first_prefix_fault.ensures ∙ fault_of_known c.args.domain.now _ known ∙ ap (fault_of_addresses c.args.domain.now) c.addresses-addresses.ensures
+    c.first_prefix_fault.ensures ∙ fault_of_known c.args.domain.now _ known ∙ ap (fault_of_addresses c.args.domain.now) c.addresses-addresses.ensures.value

@@ -1,7 +1,7 @@
 use Rattle.std.proofs.Common.{◌≡◌, [], length, arith, append-nil, vec_len}
 use Rattle.std.proofs.KnownBytes.{Consumes-trans}
 use Rattle.std.proofs.lemmas.Grind.{common_steps}
-use Rattle.dots_settings.proofs.Bytes.{read_to_end, read_enough}
+use Rattle.dots_settings.proofs.Bytes.{read_to_end, read_enough, through_to_end, through_enough}
 use Rattle.dots_settings.proofs.source.read_file.Goals as goal
 
 pub returns-then-count-eq0-clause-bytes : goal.returns-then-count-eq0-clause-bytes
@@ -15,3 +15,14 @@ pub returns-clause-bytes : goal.returns-clause-bytes
 returns-clause-bytes g c =
     let size : length c.loop-block.bytes.items ≡ vec_len c.loop-block.bytes = grind (arith, common_steps) in
     rw c.truncate.ensures.items (read_enough _ _ c.loop-block.bytes.items 65537 c.loop-block.invariant.read (omega (arith, c.len.ensures, size)))
+
+pub returns-then-count-eq0-clause-through : goal.returns-then-count-eq0-clause-through
+returns-then-count-eq0-clause-through g c =
+    let none = rw c.if-count-eq0.true at c.in-Ok.ensures.bytes.0 in
+    let all = rw append-nil at (Consumes-trans _ _ _ c.loop-block.bytes.items [] c.loop-block.invariant.read none) in
+    through_to_end _ _ c.loop-block.bytes.items all (c.in-Ok.ensures.bytes.1 c.if-count-eq0.true (omega arith))
+
+pub returns-clause-through : goal.returns-clause-through
+returns-clause-through g c =
+    let size : length c.loop-block.bytes.items ≡ vec_len c.loop-block.bytes = grind (arith, common_steps) in
+    through_enough _ _ c.loop-block.bytes.items c.loop-block.invariant.read (omega (arith, c.len.ensures, size))

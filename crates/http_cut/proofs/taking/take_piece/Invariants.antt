@@ -1,10 +1,10 @@
-use Rattle.std.proofs.Common.{◌++◌, length}
+use Rattle.std.proofs.Common.{length}
 use Rattle.http_cut.specs.Owned.{owned_views}
-use Rattle.http_cut.specs.Streams.{AreTaken}
+use Rattle.http_cut.proofs.Takings.{HasCome}
 use Rattle.http_cut.proofs.taking.take_piece.Given as goal
 
 abbrev pub invariant-bytes : goal.invariant-bytes
-invariant-bytes l = AreTaken (l.fn.stream ++ l.fn.piece) (owned_views l.fn.out) (owned_views l.out) (l.stream ++ l.rest)
+invariant-bytes l = HasCome l.fn.stream l.fn.piece l.rest (owned_views l.fn.out) (owned_views l.out) l.stream
 
 abbrev pub decreases-bytes : goal.decreases-bytes
 decreases-bytes l = length l.rest

@@ -1,55 +1,35 @@
-use Rattle.std.proofs.Common.{◌++◌, drop, flat_map, add-one, refl, rules, suc}
+use Rattle.std.proofs.Common.{◌≡◌, true, false, flat_map, add-one, refl, rules}
 use Rattle.http_cut.specs.Owned.{owned_views}
-use Rattle.http_cut.proofs.Takings.{taken_none, taken_on, taken_piece, taken_left, went_on, went_on_to, on_err}
+use Rattle.http_cut.specs.Streams.{is_waiting}
+use Rattle.http_cut.proofs.Takings.{come_none, come_ends, come_then, come_all, next_piece, last_piece, no_piece}
 use Rattle.http_cut.proofs.taking.take_pieces.Goals as goal
 
-pub returns-in_err-fault-clause-err : goal.returns-in_err-fault-clause-err
-returns-in_err-fault-clause-err c =
-    let more = flat_map (λ piece. piece.now) c.args.pieces.now in
-    on_err c.from_residual.result _ (
-      more,
-      taken_on _ c.args.stream.now more c.take_out.new.stream _ _ _ (taken_none (c.args.stream.now ++ more) (owned_views c.args.out.now)) c.take_out.ensures.taken,
-    )
-
-pub returns-in-Some-clause-ok : goal.returns-in-Some-clause-ok
-returns-in-Some-clause-ok c =
-    let more = flat_map (λ piece. piece.now) c.args.pieces.now in (
-      more,
-      taken_on _ c.args.stream.now more c.take_out.new.stream _ _ _ (taken_none (c.args.stream.now ++ more) (owned_views c.args.out.now)) c.take_out.ensures.taken,
-      search rules,
-    )
+pub returns-then-not-is_waiting : goal.returns-then-not-is_waiting
+returns-then-not-is_waiting c =
+    let brought = flat_map (λ piece. piece.now) c.args.pieces.now in
+    let over : is_waiting c.take_out-held.result ≡ false = search rules in
+    come_ends c.args.stream.now brought brought c.args.stream.now c.take_out-held.new.stream _ (owned_views c.args.out.now) _ c.take_out-held.result over (come_none c.args.stream.now brought (owned_views c.args.out.now)) c.take_out-held.ensures
 
 pub loop-piece-init : goal.loop-piece-init
 loop-piece-init c =
-    let more = flat_map (λ piece. piece.now) c.args.pieces.now in record {
-      taken = taken_on _ c.args.stream.now more c.take_out.new.stream _ _ _ (taken_none (c.args.stream.now ++ more) (owned_views c.args.out.now)) c.take_out.ensures.taken;
-      waiting = went_on c.take_out.new.stream c.in_ok-fault.field-0 c.in_default.not-Some c.in_ok-fault.ensures.rests;
-    }
+    let brought = flat_map (λ piece. piece.now) c.args.pieces.now in
+    let waiting : is_waiting c.take_out-held.result ≡ true = search rules in
+    let come = come_then c.args.stream.now brought brought c.args.stream.now c.take_out-held.new.stream _ (owned_views c.args.out.now) _ c.take_out-held.result waiting (come_none c.args.stream.now brought (owned_views c.args.out.now)) c.take_out-held.ensures in
+    record { come = come.0; waiting = come.1 }
 
-pub returns-in_err-fault-2-clause-err : goal.returns-in_err-fault-2-clause-err
-returns-in_err-fault-2-clause-err c =
-    let i = c.loop-piece.piece-index in
-    let left = c.in_err-fault-2.ensures.err in
-    let more = flat_map (λ piece. piece.now) (drop (suc i) c.args.pieces.now) in
-    on_err c.from_residual-in_err-fault-2.result _ (
-      left.0 ++ more,
-      taken_left _ c.take_piece.new.stream left.0 more _ _ (taken_piece (λ piece. piece.now) _ c.loop-piece.stream _ (c.take_piece.new.stream ++ left.0) c.args.pieces.now i _ _ (owned_views c.loop-piece.out) _ c.loop-piece-test.true refl c.loop-piece.invariant.taken left.1),
-    )
-
-pub returns-in-Some-2-clause-ok : goal.returns-in-Some-2-clause-ok
-returns-in-Some-2-clause-ok c =
-    let i = c.loop-piece.piece-index in
-    let left = rw c.in-Some-2.is at c.in_ok-fault-2.ensures.ok in
-    let more = flat_map (λ piece. piece.now) (drop (suc i) c.args.pieces.now) in (
-      left.0 ++ more,
-      taken_left _ c.take_piece.new.stream left.0 more _ _ (taken_piece (λ piece. piece.now) _ c.loop-piece.stream _ (c.take_piece.new.stream ++ left.0) c.args.pieces.now i _ _ (owned_views c.loop-piece.out) _ c.loop-piece-test.true refl c.loop-piece.invariant.taken left.1),
-      left.2,
-    )
+pub returns-then-not-is_waiting-2 : goal.returns-then-not-is_waiting-2
+returns-then-not-is_waiting-2 c =
+    let over : is_waiting c.take_piece-end.result ≡ false = search rules in
+    last_piece (λ piece. piece.now) c.args.stream.now c.loop-piece.stream c.take_piece-end.new.stream _ c.args.pieces.now c.loop-piece.piece-index _ _ (owned_views c.loop-piece.out) _ c.take_piece-end.result c.loop-piece-test.true refl over
+    c.loop-piece.invariant.come c.take_piece-end.ensures
 
 pub loop-piece-preserved : goal.loop-piece-preserved
 loop-piece-preserved c =
-    let i = c.loop-piece.piece-index in
-    let to = went_on_to _ _ _ _ c.in_ok-fault-2.field-0 c.in_default-2.not-Some c.in_ok-fault-2.ensures.ok in record {
-      taken = rw (add-one i) (taken_piece (λ piece. piece.now) _ c.loop-piece.stream _ c.take_piece.new.stream c.args.pieces.now i _ _ (owned_views c.loop-piece.out) _ c.loop-piece-test.true refl c.loop-piece.invariant.taken to.0);
-      waiting = to.1;
-    }
+    let waiting : is_waiting c.take_piece-end.result ≡ true = search rules in
+    let come = next_piece (λ piece. piece.now) c.args.stream.now c.loop-piece.stream c.take_piece-end.new.stream _ c.args.pieces.now c.loop-piece.piece-index _ _ (owned_views c.loop-piece.out) _ c.take_piece-end.result c.loop-piece-test.true refl waiting
+    c.loop-piece.invariant.come c.take_piece-end.ensures in
+    record { come = rw (add-one c.loop-piece.piece-index) come.0; waiting = come.1 }
+
+pub returns : goal.returns
+returns c =
+    come_all c.args.stream.now _ _ c.loop-piece.stream _ (owned_views c.loop-piece.out) (no_piece (λ piece. piece.now) c.args.pieces.now c.loop-piece.piece-index c.loop-piece-test.false) c.loop-piece.invariant.come c.loop-piece.invariant.waiting

@@ -1,12 +1,20 @@
-use Rattle.std.proofs.Common.{rules}
-use Rattle.http_cut.proofs.Takings.{stream_of}
-use Rattle.http_cut.proofs.Streams.{one_stream}
+use Rattle.std.proofs.Common.{flat_map, rules}
+use Rattle.http_cut.specs.Owned.{owned_views}
+use Rattle.http_cut.proofs.Takings.{held_of, stream_of, only_stream, lacked_of}
 use Rattle.http_cut.proofs.taking.take_requests.Goals as goal
 
+pub returns-clause-held : goal.returns-clause-held
+returns-clause-held c =
+    held_of c.args.stream.now (flat_map (λ piece. piece.now) c.args.pieces.now) (owned_views c.take_pieces-end.new.out) c.take_pieces-end.new.stream c.take_pieces-end.result (search rules)
+
 pub returns-clause-stream : goal.returns-clause-stream
-returns-clause-stream c = stream_of _ c.take_pieces.new.stream _ c.in_ok-fault.fault (search rules)
+returns-clause-stream c =
+    stream_of c.args.stream.now (flat_map (λ piece. piece.now) c.args.pieces.now) (owned_views c.take_pieces-end.new.out) c.take_pieces-end.new.stream c.take_pieces-end.result (search rules)
 
 pub returns-clause-only : goal.returns-clause-only
-returns-clause-only c requests fault rest other =
-    let whole = stream_of _ c.take_pieces.new.stream _ c.in_ok-fault.fault (search rules) in
-    one_stream _ _ requests c.in_ok-fault.fault fault whole.0 rest whole.1 other
+returns-clause-only c =
+    only_stream c.args.stream.now (flat_map (λ piece. piece.now) c.args.pieces.now) (owned_views c.take_pieces-end.new.out) c.take_pieces-end.new.stream c.take_pieces-end.result (search rules)
+
+pub returns-clause-lacked : goal.returns-clause-lacked
+returns-clause-lacked c =
+    lacked_of c.args.stream.now (flat_map (λ piece. piece.now) c.args.pieces.now) (owned_views c.take_pieces-end.new.out) c.take_pieces-end.new.stream c.take_pieces-end.result (search rules)

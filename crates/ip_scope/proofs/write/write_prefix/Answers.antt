@@ -1,6 +1,7 @@
 use Rattle.std.proofs.Common.{◌++◌, codes, decimal, ap, ◌∙◌}
 use Rattle.ip_scope.specs.PrefixText.{address_text}
 use Rattle.ip_scope.proofs.Putting.{Puts-then}
+use Rattle.ip_scope.proofs.AsciiTexts.{prefix_text_is_utf8}
 use Rattle.ip_scope.proofs.write.write_prefix.Goals as goal
 
 pub returns-clause-text : goal.returns-clause-text
@@ -14,3 +15,6 @@ returns-clause-rest c =
     let first = Puts-then _ _ _ _ _ _ _ _ c.put_address-end.ensures.text c.put_all-end.ensures in
     let all = Puts-then _ _ _ _ _ _ _ _ first c.put_decimal.ensures.text in
     all.rest
+
+pub returns-clause-utf8 : goal.returns-clause-utf8
+returns-clause-utf8 c = prefix_text_is_utf8 c.args.prefix.now c.length.ensures.valid

@@ -1,3 +1,0 @@
-mod bodies;
-mod messages;
-mod requests;

@@ -1,3 +1,0 @@
-mod cuts;
-mod replies;
-mod streams;
