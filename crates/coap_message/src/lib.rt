@@ -39,6 +39,3 @@ pub use token::Token;
 
 /// The byte in front of a payload (RFC 7252, section 3).
 const PAYLOAD_MARKER: u8 = 0xff;
-
-#[cfg(test)]
-mod tests;
