@@ -40,6 +40,15 @@ impl Gathered {
         Gathered::Rising(PairList::new(alloc))
     }
 
+    /// No pairs, and room for so many whose keys rise.
+    pub(crate) fn with_room(alloc: Global, room: usize) -> Result<Self, NoMemory>
+        ensures none { IfOk result (λ pairs. gathered pairs ≡ []) }
+        ensures gathered { IfOk result IsGathered }
+    {
+        let list = PairList::with_room(alloc, room)?;
+        Ok(Gathered::Rising(list))
+    }
+
     /// Whether one of the pairs has the key. If none has, a pair with the key can be put among them.
     pub(crate) fn has_key(&mut self, alloc: Global, key: &Item) -> Result<bool, NoMemory>
         requires gathered { IsGathered self.old }

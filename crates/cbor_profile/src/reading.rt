@@ -39,10 +39,29 @@ fn read_whole(alloc: Global, bytes: &[u8]) -> Result<Item, CborFault>
 }
 
 /// The item at the front, which nests at most `levels` deep, and the bytes behind it. The input ends at the place
-/// `end`.
+/// `end`. Most keys and many values are numbers below 24, whose item is their byte.
+#[cycle(reader)]
+#[inline(always)]
+fn read_item(
+    alloc: Global,
+    end: usize,
+    bytes: &[u8],
+    levels: u8,
+) -> Result<(Item, &[u8]), CborFault>
+    requires { length bytes.now ≤ end }
+    ensures value { Gives item_read result (item_at levels end bytes.now) }
+    ensures shorter { IfOk result (λ read. length read.1.now ≤ length bytes.now) }
+{
+    match bytes.split_first() {
+        Some((first, rest)) if *first < 24 => Ok((Item::Unsigned(*first as u64), rest)),
+        _ => read_long_item(alloc, end, bytes, levels),
+    }
+}
+
+/// The same, by way of what the first byte begins.
 #[cycle(reader)]
 #[tactic(auto, unfolding(crate::specs::Reading::item_with, crate::specs::Reading::begun_at))]
-fn read_item(
+fn read_long_item(
     alloc: Global,
     end: usize,
     bytes: &[u8],
@@ -147,6 +166,13 @@ fn read_indefinite(
     }
 }
 
+/// For how many of so many parts room is made at first: each takes a byte at least, and most lists are short.
+fn first_room(count: u64, bytes: &[u8]) -> usize
+    ensures { result ≤ 16 }
+{
+    count.min(bytes.len() as u64).min(16) as usize
+}
+
 #[cycle(reader)]
 fn read_array(
     alloc: Global,
@@ -177,7 +203,7 @@ fn read_items(
     ensures value { Gives items_read result (items_at (item_at levels end) count bytes.now) }
     ensures shorter { IfOk result (λ read. length read.1.now ≤ length bytes.now) }
 {
-    let mut items = ItemList::new(alloc);
+    let mut items = ItemList::with_room(alloc, first_room(count, bytes))?;
     let mut rest = bytes;
     for _ in 0..count {
         let (item, after) = read_item(alloc, end, rest, levels)?;
@@ -277,7 +303,7 @@ fn read_pairs(
     ensures value { Gives pairs_read result (pairs_at (item_at levels end) end count [] bytes.now) }
     ensures shorter { IfOk result (λ read. length read.1.now ≤ length bytes.now) }
 {
-    let mut pairs = Gathered::new(alloc);
+    let mut pairs = Gathered::with_room(alloc, first_room(count, bytes))?;
     let mut rest = bytes;
     for _ in 0..count {
         let after = read_pair(alloc, end, &mut pairs, rest, levels)?;

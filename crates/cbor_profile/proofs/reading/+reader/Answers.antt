@@ -4,37 +4,40 @@ use Rattle.cbor_profile.specs.View.{tree_of, trees, item_read}
 use Rattle.cbor_profile.specs.Gathering.{gathered}
 use Rattle.cbor_profile.specs.Reading.{item_at, has_key}
 use Rattle.cbor_profile.proofs.Readings.{held}
-use Rattle.cbor_profile.proofs.Inside.{item_short, value_begun, indefinite_begun, reserved_begun, unsupported_begun, gives_same}
+use Rattle.cbor_profile.proofs.Inside.{small_read, item_short, value_begun, indefinite_begun, reserved_begun, unsupported_begun, gives_same}
 use Rattle.cbor_profile.proofs.Paired.{key_sound, same_gathered, put_gathered}
 use Rattle.cbor_profile.proofs.Loops.{items_fail, items_go, items_done, open_items_short, open_items_spent, open_items_end, open_items_fail, open_items_go, pairs_fail, pairs_go, pairs_done, open_pairs_short, open_pairs_spent, open_pairs_end, open_pairs_fail, open_pairs_go}
 use Rattle.cbor_profile.proofs.reading.+reader.Goals as goal
 
 -- ---- an item
 
-pub read_item-returns-in_default-clause-value : goal.read_item-returns-in_default-clause-value
-read_item-returns-in_default-clause-value t c = item_short c.args.levels c.args.end c.args.bytes.now c.in_default.ensures.cases
+pub read_item-returns-in-Some-clause-value : goal.read_item-returns-in-Some-clause-value
+read_item-returns-in-Some-clause-value t c = small_read c.args.levels c.args.end c.args.bytes.now c.in-Some.rest.now c.in-Some.first.now c.in-Some.ensures.cases.0 c.if-first-lt24.true
 
-pub read_item-returns-in-Value-clause-value : goal.read_item-returns-in-Value-clause-value
-read_item-returns-in-Value-clause-value t c =
+pub read_long_item-returns-in_default-clause-value : goal.read_long_item-returns-in_default-clause-value
+read_long_item-returns-in_default-clause-value t c = item_short c.args.levels c.args.end c.args.bytes.now c.in_default.ensures.cases
+
+pub read_long_item-returns-in-Value-clause-value : goal.read_long_item-returns-in-Value-clause-value
+read_long_item-returns-in-Value-clause-value t c =
     let begun = value_begun c.args.levels c.args.end c.args.bytes.now c.in-Some.rest.now c.in-Some.first.now c.in-Some.ensures.cases.0 c.in-Value.major c.in-Value.info c.in-Value.ensures in
     gives_same item_read c.read_value.result _ _ (sym begun) c.read_value.ensures.value
 
-pub read_item-returns-in-Indefinite-clause-value : goal.read_item-returns-in-Indefinite-clause-value
-read_item-returns-in-Indefinite-clause-value t c =
+pub read_long_item-returns-in-Indefinite-clause-value : goal.read_long_item-returns-in-Indefinite-clause-value
+read_long_item-returns-in-Indefinite-clause-value t c =
     let begun = indefinite_begun c.args.levels c.args.end c.args.bytes.now c.in-Some.rest.now c.in-Some.first.now c.in-Some.ensures.cases.0 c.in-Indefinite.major c.in-Indefinite.ensures in
     gives_same item_read c.read_indefinite.result _ _ (sym begun) c.read_indefinite.ensures.value
 
-pub read_item-returns-in-Reserved-clause-value : goal.read_item-returns-in-Reserved-clause-value
-read_item-returns-in-Reserved-clause-value t c = reserved_begun c.args.levels c.args.end c.args.bytes.now c.in-Some.rest.now c.in-Some.first.now c.in-Some.ensures.cases.0 c.in-Reserved.ensures
+pub read_long_item-returns-in-Reserved-clause-value : goal.read_long_item-returns-in-Reserved-clause-value
+read_long_item-returns-in-Reserved-clause-value t c = reserved_begun c.args.levels c.args.end c.args.bytes.now c.in-Some.rest.now c.in-Some.first.now c.in-Some.ensures.cases.0 c.in-Reserved.ensures
 
-pub read_item-returns-in-Unsupported-clause-value : goal.read_item-returns-in-Unsupported-clause-value
-read_item-returns-in-Unsupported-clause-value t c = unsupported_begun c.args.levels c.args.end c.args.bytes.now c.in-Some.rest.now c.in-Some.first.now c.in-Some.ensures.cases.0 c.in-Unsupported.ensures
+pub read_long_item-returns-in-Unsupported-clause-value : goal.read_long_item-returns-in-Unsupported-clause-value
+read_long_item-returns-in-Unsupported-clause-value t c = unsupported_begun c.args.levels c.args.end c.args.bytes.now c.in-Some.rest.now c.in-Some.first.now c.in-Some.ensures.cases.0 c.in-Unsupported.ensures
 
 -- ---- items
 
 pub read_items-returns-in_err-item-clause-value : goal.read_items-returns-in_err-item-clause-value
 read_items-returns-in_err-item-clause-value t c =
-    let p = err_from_is_err_and c.from_residual.result c.from_residual.ensures.1 in
+    let p = err_from_is_err_and c.from_residual-in_err-item.result c.from_residual-in_err-item.ensures.1 in
     rw (p.1, p.2) (items_fail c.in_err-item.field-0.0 (item_at c.args.levels c.args.end) (c.args.count - c.loop.counter) (trees c.loop.items) c.loop.rest.now _ (omega (arith, c.loop-test.true)) c.in_err-item.ensures.value c.loop.invariant.read)
 
 pub read_items-loop-preserved : goal.read_items-loop-preserved
@@ -101,7 +104,7 @@ read_pair-returns-clause-gathered t c =
 
 pub read_pairs-returns-in_err-after-clause-value : goal.read_pairs-returns-in_err-after-clause-value
 read_pairs-returns-in_err-after-clause-value t c =
-    let p = err_from_is_err_and c.from_residual.result c.from_residual.ensures.1 in
+    let p = err_from_is_err_and c.from_residual-in_err-after.result c.from_residual-in_err-after.ensures.1 in
     rw (p.1, p.2) (
     pairs_fail c.in_err-after.field-0.0 (item_at c.args.levels c.args.end) c.args.end (c.args.count - c.loop.counter) (gathered c.loop.pairs) c.loop.rest.now _ (omega (arith, c.loop-test.true)) c.in_err-after.ensures.value
     c.loop.invariant.read

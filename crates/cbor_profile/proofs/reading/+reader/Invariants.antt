@@ -37,7 +37,10 @@ abbrev pub decreases-read_pair : goal.decreases-read_pair
 decreases-read_pair l = 8 * l.levels + 5
 
 abbrev pub decreases-read_item : goal.decreases-read_item
-decreases-read_item l = 8 * l.levels + 3
+decreases-read_item l = 8 * l.levels + 4
+
+abbrev pub decreases-read_long_item : goal.decreases-read_long_item
+decreases-read_long_item l = 8 * l.levels + 3
 
 abbrev pub decreases-read_value : goal.decreases-read_value
 decreases-read_value l = 8 * l.levels + 2
