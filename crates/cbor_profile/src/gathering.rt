@@ -40,15 +40,6 @@ impl Gathered {
         Gathered::Rising(PairList::new(alloc))
     }
 
-    /// No pairs, and room for so many whose keys rise.
-    pub(crate) fn with_room(alloc: Global, room: usize) -> Result<Self, NoMemory>
-        ensures none { IfOk result (λ pairs. gathered pairs ≡ []) }
-        ensures gathered { IfOk result IsGathered }
-    {
-        let list = PairList::with_room(alloc, room)?;
-        Ok(Gathered::Rising(list))
-    }
-
     /// Whether one of the pairs has the key. If none has, a pair with the key can be put among them.
     pub(crate) fn has_key(&mut self, alloc: Global, key: &Item) -> Result<bool, NoMemory>
         requires gathered { IsGathered self.old }
@@ -120,7 +111,7 @@ fn insert_pair(
 }
 
 /// How the last pair's key compares with this one. No key comes before any.
-fn compare_to_last(pairs: &[(Item, Item)], key: &Item) -> Ordering
+pub(crate) fn compare_to_last(pairs: &[(Item, Item)], key: &Item) -> Ordering
     requires rise { KeysRise (pairs_of (map pair_of pairs.now)) }
     requires sound { AllByRecursion (λ p. IsSound p.0) (map pair_of pairs.now) }
     requires key_sound { IsSound (tree_of key.now) }
