@@ -24,7 +24,7 @@ use Rattle.cbor_profile.proofs.Places.{IsGreater, greater_all, greater_none}
 
 -- ---- behind pairs whose keys come before
 
-behind_fresh : (k : Tree) (ps : List (Tree × Tree)) → AllBefore k ps → has_key k ps ≡ false
+pub behind_fresh : (k : Tree) (ps : List (Tree × Tree)) → AllBefore k ps → has_key k ps ≡ false
 behind_fresh k [] all = refl
 behind_fresh k (p ∷ ps) all = ap (λ (o : Ordering). cond (is_eq o) true (has_key k ps)) all.0 ∙ behind_fresh k ps all.1
 

@@ -1,11 +1,17 @@
 -- An item, by the reader of its parts.
-use Rattle.std.proofs.Common.{◌≡◌, ℕ, zero, suc, ◌-◌, List, [], ◌∷◌, length, Result, Err, refl, sym, ap, subst, ◌∙◌, arith}
+use Rattle.std.proofs.Common.{◌≡◌, ℕ, zero, suc, ◌-◌, ◌/◌, ◌%◌, ◌<◌, List, [], ◌∷◌, length, Result, Ok, Err, refl, sym, ap, subst, ◌∙◌, arith}
+use Rattle.std.proofs.lemmas.Bool.{lt-ltb}
 use Rattle.cbor_profile.specs.declared.fault.CborFault.{CborFault}
 use Rattle.cbor_profile.specs.declared.fault.CborFault.TheVariants.{Short, Reserved, Unsupported}
 use Rattle.cbor_profile.specs.declared.head.Major.{Major}
+use Rattle.cbor_profile.specs.declared.head.Major.TheVariants as major_type
 use Rattle.cbor_profile.specs.declared.head.Start.{Start}
+use Rattle.cbor_profile.specs.declared.item.Item.{Unsigned}
 use Rattle.cbor_profile.specs.declared.head.Start.TheVariants as start
-use Rattle.cbor_profile.specs.Reading.{Gives, value_at, indefinite_at, begun_at, start_of, item_with, item_at, parts_of}
+use Rattle.cbor_profile.specs.Tree.{Tree, unsigned}
+use Rattle.cbor_profile.specs.View.{tree_of}
+use Rattle.cbor_profile.proofs.Views.{tree_of-Unsigned}
+use Rattle.cbor_profile.specs.Reading.{Gives, argument_at, value_at, indefinite_at, begun_at, start_with, start_of, item_with, item_at, parts_of}
 
 item_parts : (levels end : ℕ) (bytes : List ℕ) → item_at levels end bytes ≡ item_with (parts_of levels end) end bytes
 unfolding item_at
@@ -44,3 +50,15 @@ module _ (levels end : ℕ) (bytes rest : List ℕ) (first : ℕ) (is : bytes �
 -- what a call gives is what is read
 pub gives_same : {X Y : Type 0} (view : X → Y) (r : Result X CborFault) (called read : Result Y CborFault) → called ≡ read → Gives view r called → Gives view r read
 gives_same view r called read same h = subst (Gives view r) same h
+
+-- a number below 24 is its byte
+pub small_begun : (levels end : ℕ) (bytes rest : List ℕ) (first : ℕ) → bytes ≡ first ∷ rest → first < 24 → item_at levels end bytes ≡ Ok (unsigned first, rest)
+unfolding start_with value_at argument_at
+small_begun levels end bytes rest first is small =
+    let q : first / 32 ≡ 0 = omega arith in
+    let r : first % 32 ≡ first = omega arith in
+    let begins : start.Value major_type.Unsigned first ≡ start_of first = rw (q, r, lt-ltb first 28 (omega arith)) refl in
+    value_begun levels end bytes rest first is major_type.Unsigned first begins ∙ rw (lt-ltb first 24 small) refl
+
+pub small_read : (levels end : ℕ) (bytes rest : List ℕ) (first : ℕ) → bytes ≡ first ∷ rest → first < 24 → item_at levels end bytes ≡ Ok (tree_of (Unsigned first), rest)
+small_read levels end bytes rest first is small = small_begun levels end bytes rest first is small ∙ ap (λ (t : Tree). Ok (t, rest)) (sym (tree_of-Unsigned first))

@@ -20,6 +20,7 @@ pub mod Readings
 pub mod Refusals
 pub mod Refused
 pub mod Results
+pub mod Rising
 pub mod Sound
 pub mod Spelled
 pub mod Spellings

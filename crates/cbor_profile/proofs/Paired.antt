@@ -1,13 +1,16 @@
 -- The next pair of a map, read and put in its place.
-use Rattle.std.proofs.Common.{◌≡◌, ℕ, ◌-◌, true, false, List, [], length, Ok, Err, refl, sym, ap, subst}
+use Rattle.std.proofs.Common.{◌≡◌, ℕ, ◌-◌, true, false, List, [], length, Result, Ok, Err, IfOk, refl, sym, ap, subst}
+use Rattle.std.specs.Borrow.{Bor}
 use Rattle.std.specs.List.{AllByRecursion}
+use Rattle.cbor_profile.specs.declared.item.Item.{Item}
+use Rattle.cbor_profile.specs.View.{tree_of, item_read}
 use Rattle.cbor_profile.specs.declared.fault.CborFault.{CborFault}
 use Rattle.cbor_profile.specs.declared.fault.CborFault.TheVariants.{Duplicate}
 use Rattle.cbor_profile.specs.Tree.{Tree, pairs_of}
 use Rattle.cbor_profile.specs.Valid.{IsSound, KeysRise}
 use Rattle.cbor_profile.specs.declared.gathering.Gathered.{Gathered}
 use Rattle.cbor_profile.specs.Gathering.{gathered, IsGathered, IsKept}
-use Rattle.cbor_profile.specs.Reading.{Read, Fails, item_at, pair_at, has_key, put}
+use Rattle.cbor_profile.specs.Reading.{Read, Fails, Gives, item_at, pair_at, has_key, put}
 use Rattle.cbor_profile.proofs.Loops.{fails_then}
 use Rattle.cbor_profile.proofs.Ordered.{after_nothing, put_rises}
 use Rattle.cbor_profile.proofs.Keys.{put_sound}
@@ -18,6 +21,10 @@ pub key_sound : (levels end : ℕ) (bytes after : List ℕ) (key : Tree) → Hel
 key_sound levels end bytes after key h e =
     let t = within_taken levels end bytes (key, after) h.each e in
     (within_sound levels t.front key (held_front bytes t.front after h t.is) t.part).0
+
+pub item_sound : (r : Result (Item × Bor (List ℕ)) CborFault) (levels end : ℕ) (bytes : List ℕ) → Held bytes → Gives item_read r (item_at levels end bytes) → IfOk r (λ read. IsSound (tree_of read.0))
+item_sound (Ok x) levels end bytes h e = key_sound levels end bytes x.1.now (tree_of x.0) h e
+item_sound (Err f) levels end bytes h e = tt
 
 pub key_fails : (e : CborFault) (read : List ℕ → Read Tree) (end : ℕ) (pairs : List (Tree × Tree)) (bytes : List ℕ) → Fails e (read bytes) → Fails e (pair_at read end pairs bytes)
 unfolding pair_at

@@ -1,9 +1,9 @@
 -- An item beside its tree.
-use Rattle.std.proofs.Common.{◌≡◌, suc, List, [], ◌∷◌, length, map, refl, sym, ap, subst, ◌∙◌, rules}
-use Rattle.cbor_profile.specs.declared.item.Item.{Item, Array, Map, the_lemmas}
+use Rattle.std.proofs.Common.{◌≡◌, ℕ, suc, List, [], ◌∷◌, length, map, refl, sym, ap, subst, ◌∙◌, rules}
+use Rattle.cbor_profile.specs.declared.item.Item.{Item, Unsigned, Array, Map, the_lemmas}
 use Rattle.cbor_profile.specs.declared.item.ItemList.{ItemList, the_lemmas as items_lemmas}
 use Rattle.cbor_profile.specs.declared.item.PairList.{PairList, the_lemmas as pairs_lemmas}
-use Rattle.cbor_profile.specs.Tree.{Tree, Trees, Pairs, array, mapping, count, pair_count}
+use Rattle.cbor_profile.specs.Tree.{Tree, Trees, Pairs, unsigned, array, mapping, count, pair_count}
 use Rattle.cbor_profile.specs.Parts.{argument}
 use Rattle.cbor_profile.specs.Valid.{IsSound, AreSound, ArePairsSound}
 use Rattle.cbor_profile.specs.View.{tree_of, trees, tree_pairs, items_of, pairs_of}
@@ -27,6 +27,9 @@ trees_are list = search (rules, items_lemmas)
 
 pub tree_pairs_are : (list : PairList) → map (λ p. (tree_of p.0, tree_of p.1)) list.items.items ≡ tree_pairs list
 tree_pairs_are list = search (rules, pairs_lemmas)
+
+pub tree_of-Unsigned : (number : ℕ) → tree_of (Unsigned number) ≡ unsigned number
+tree_of-Unsigned number = search (rules, the_lemmas)
 
 pub tree_of-Array : (list : ItemList) → tree_of (Array list) ≡ array (items_of (trees list))
 tree_of-Array list = search (rules, the_lemmas)

@@ -111,7 +111,7 @@ fn insert_pair(
 }
 
 /// How the last pair's key compares with this one. No key comes before any.
-fn compare_to_last(pairs: &[(Item, Item)], key: &Item) -> Ordering
+pub(crate) fn compare_to_last(pairs: &[(Item, Item)], key: &Item) -> Ordering
     requires rise { KeysRise (pairs_of (map pair_of pairs.now)) }
     requires sound { AllByRecursion (λ p. IsSound p.0) (map pair_of pairs.now) }
     requires key_sound { IsSound (tree_of key.now) }

@@ -1,4 +1,4 @@
-ghost use Rattle.std.specs.Prelude.{◌≡◌, [], ◌∷◌, ◌++◌, OnOk, OnErr, map, option_map};
+ghost use Rattle.std.specs.Prelude.{◌≡◌, [], ◌∷◌, ◌++◌, OnOk, OnErr, IfOk, map, option_map};
 ghost use Rattle.cbor_profile.specs.Kind.{number_in, text_in, items_in, pairs_in};
 ghost use Rattle.cbor_profile.specs.View.{tree_of, trees, tree_pairs, items_of, pairs_of};
 
@@ -89,6 +89,14 @@ impl ItemList {
         }
     }
 
+    /// No items, and room for so many.
+    pub(crate) fn with_room(alloc: Global, room: usize) -> Result<Self, NoMemory>
+        ensures { IfOk result (λ list. trees list ≡ []) }
+    {
+        let items = Vec::with_capacity(alloc, room)?;
+        Ok(ItemList { items })
+    }
+
     pub fn items(&self) -> &[Item]
         ensures { map tree_of result.now ≡ trees self.now }
     {
@@ -112,6 +120,14 @@ impl PairList {
         PairList {
             items: Vec::new(alloc),
         }
+    }
+
+    /// No pairs, and room for so many.
+    pub(crate) fn with_room(alloc: Global, room: usize) -> Result<Self, NoMemory>
+        ensures { IfOk result (λ list. tree_pairs list ≡ []) }
+    {
+        let items = Vec::with_capacity(alloc, room)?;
+        Ok(PairList { items })
     }
 
     pub fn items(&self) -> &[(Item, Item)]

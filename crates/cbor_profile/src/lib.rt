@@ -20,6 +20,3 @@ pub use law::{encoding_spells, one_reading, one_spelling};
 pub use reading::{MAX_DEPTH, decode};
 pub use validity::is_valid;
 pub use writing::encode;
-
-#[cfg(test)]
-mod tests;

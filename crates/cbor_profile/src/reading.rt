@@ -14,12 +14,13 @@ ghost use Rattle.cbor_profile.specs.Reading.{Gives, simple, items_at, open_items
 
 use crate::argument::read_argument;
 use crate::fault::CborFault;
-use crate::gathering::Gathered;
+use crate::gathering::{Gathered, compare_to_last};
 use crate::head::{BREAK, Major, Start, start_of};
 use crate::head_bytes::{FALSE, TRUE};
 use crate::item::{Item, ItemList, PairList};
 use crate::strings::{read_byte_parts, read_byte_string, read_text, read_text_parts};
 use std::alloc::Global;
+use std::cmp::Ordering;
 
 /// How deep the arrays, maps and tags of a valid item nest at most.
 pub const MAX_DEPTH: u8 = 16;
@@ -39,10 +40,30 @@ fn read_whole(alloc: Global, bytes: &[u8]) -> Result<Item, CborFault>
 }
 
 /// The item at the front, which nests at most `levels` deep, and the bytes behind it. The input ends at the place
-/// `end`.
+/// `end`. Most keys and many values are numbers below 24, whose item is their byte.
+#[cycle(reader)]
+#[inline(always)]
+fn read_item(
+    alloc: Global,
+    end: usize,
+    bytes: &[u8],
+    levels: u8,
+) -> Result<(Item, &[u8]), CborFault>
+    requires { length bytes.now ≤ end }
+    ensures value { Gives item_read result (item_at levels end bytes.now) }
+    ensures sound { IfOk result (λ read. IsSound (tree_of read.0)) }
+    ensures shorter { IfOk result (λ read. length read.1.now ≤ length bytes.now) }
+{
+    match bytes.split_first() {
+        Some((first, rest)) if *first < 24 => Ok((Item::Unsigned(*first as u64), rest)),
+        _ => read_long_item(alloc, end, bytes, levels),
+    }
+}
+
+/// The same, by way of what the first byte begins.
 #[cycle(reader)]
 #[tactic(auto, unfolding(crate::specs::Reading::item_with, crate::specs::Reading::begun_at))]
-fn read_item(
+fn read_long_item(
     alloc: Global,
     end: usize,
     bytes: &[u8],
@@ -147,6 +168,13 @@ fn read_indefinite(
     }
 }
 
+/// For how many of so many parts room is made at first: each takes a byte at least, and most lists are short.
+fn first_room(count: u64, bytes: &[u8]) -> usize
+    ensures { result ≤ 16 }
+{
+    count.min(bytes.len() as u64).min(16) as usize
+}
+
 #[cycle(reader)]
 fn read_array(
     alloc: Global,
@@ -177,7 +205,7 @@ fn read_items(
     ensures value { Gives items_read result (items_at (item_at levels end) count bytes.now) }
     ensures shorter { IfOk result (λ read. length read.1.now ≤ length bytes.now) }
 {
-    let mut items = ItemList::new(alloc);
+    let mut items = ItemList::with_room(alloc, first_room(count, bytes))?;
     let mut rest = bytes;
     for _ in 0..count {
         let (item, after) = read_item(alloc, end, rest, levels)?;
@@ -264,7 +292,7 @@ fn read_map(
     Ok((Item::Map(pairs), rest))
 }
 
-/// So many pairs, in the order of their keys.
+/// So many pairs, in the order of their keys. Senders mostly put them so, and then each comes behind the last.
 #[cycle(reader)]
 fn read_pairs(
     alloc: Global,
@@ -277,7 +305,48 @@ fn read_pairs(
     ensures value { Gives pairs_read result (pairs_at (item_at levels end) end count [] bytes.now) }
     ensures shorter { IfOk result (λ read. length read.1.now ≤ length bytes.now) }
 {
-    let mut pairs = Gathered::new(alloc);
+    let mut pairs = PairList::with_room(alloc, first_room(count, bytes))?;
+    let mut rest = bytes;
+    for done in 0..count {
+        let (key, after_key) = read_item(alloc, end, rest, levels)?;
+        match compare_to_last(pairs.items(), &key) {
+            Ordering::Less => {
+                let (value, after) = read_item(alloc, end, after_key, levels)?;
+                pairs.push((key, value))?;
+                rest = after;
+            }
+            Ordering::Equal => {
+                return Err(CborFault::Duplicate {
+                    at: end - rest.len(),
+                });
+            }
+            Ordering::Greater => {
+                return read_late_pairs(alloc, end, count - done, pairs, rest, levels);
+            }
+        }
+    }
+    Ok((pairs, rest))
+}
+
+/// So many pairs more, whose keys may come in any order.
+#[cycle(reader)]
+#[cold]
+#[inline(never)]
+fn read_late_pairs(
+    alloc: Global,
+    end: usize,
+    count: u64,
+    pairs: PairList,
+    bytes: &[u8],
+    levels: u8,
+) -> Result<(PairList, &[u8]), CborFault>
+    requires within { length bytes.now ≤ end }
+    requires rise { KeysRise (pairs_of (tree_pairs pairs)) }
+    requires sound { AllByRecursion (λ p. IsSound p.0) (tree_pairs pairs) }
+    ensures value { Gives pairs_read result (pairs_at (item_at levels end) end count (tree_pairs pairs) bytes.now) }
+    ensures shorter { IfOk result (λ read. length read.1.now ≤ length bytes.now) }
+{
+    let mut pairs = Gathered::Rising(pairs);
     let mut rest = bytes;
     for _ in 0..count {
         let after = read_pair(alloc, end, &mut pairs, rest, levels)?;

@@ -44,6 +44,3 @@ pub const DOTS_CBOR: u16 = 271;
 
 /// The byte in front of a payload (RFC 7252, section 3).
 const PAYLOAD_MARKER: u8 = 0xff;
-
-#[cfg(test)]
-mod tests;

@@ -32,32 +32,3 @@ pub fn read_hex(digits: &[u8], into: &mut [u8]) -> Option<usize>
         Err(_) => return None,
     }
 }
-
-#[cfg(test)]
-mod tests {
-    use super::{MAX_BYTES, read_hex};
-    use std::test::Fail;
-
-    #[test]
-    fn reads_pairs_of_digits(rt: HostRuntime) -> Result<(), Fail> {
-        let mut room = [0; MAX_BYTES];
-        for (digits, bytes) in [
-            (b"00".as_slice(), b"\x00".as_slice()),
-            (b"0aFf", b"\x0a\xff"),
-            (b"Aa09", b"\xaa\x09"),
-        ] {
-            assert_eq!(rt; read_hex(digits, &mut room), Some(bytes.len()));
-            assert_eq!(rt; &room[..bytes.len()], bytes);
-        }
-        Ok(())
-    }
-
-    #[test]
-    fn refuses_other_texts(rt: HostRuntime) -> Result<(), Fail> {
-        let mut room = [0; MAX_BYTES];
-        for digits in [b"".as_slice(), b"0", b"000", b"0g", b" 00", b"0x00"] {
-            assert_eq!(rt; read_hex(digits, &mut room), None);
-        }
-        Ok(())
-    }
-}

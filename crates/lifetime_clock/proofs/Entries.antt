@@ -1,10 +1,9 @@
--- Look-ups in a list of keys with their times, after an entry was written, added or taken out.
-use Rattle.std.proofs.Common.{◌≡◌, ◌≢◌, ℕ, ◌+◌, ◌<◌, ◌≤◌, ◌==◌, if◌then◌else◌, List, [], ◌∷◌, ◌++◌, length, get_or, set, Option, Some, None, IsSome, zero, suc, rules, refl, sym, subst, ◌∙◌, ap, arith, length-set, length-append, inl, inr}
+-- Look-ups in a list of keys with their times, also after an entry was taken out.
+use Rattle.std.proofs.Common.{◌≡◌, ◌≢◌, ℕ, ◌<◌, ◌≤◌, ◌==◌, if◌then◌else◌, List, [], ◌∷◌, length, get_or, Option, Some, None, IsSome, zero, suc, rules, refl, sym, subst, ◌∙◌, ap, arith, inl, inr}
 use Rattle.std.specs.List.{remove}
-use Rattle.std.proofs.lemmas.List.{get_or_default}
 use Rattle.std.proofs.lemmas.List.Edits.{length-remove}
 use Rattle.std.proofs.lemmas.Bool.{cases_eq, eq-eqb, ne_eqb}
-use Rattle.lifetime_clock.specs.Times.{Times, look_up, KeysDiffer, IsMap, HasRoomFor, Updates, NothingIsDue, IsNextDue}
+use Rattle.lifetime_clock.specs.Times.{Times, look_up, KeysDiffer, HasRoomFor, NothingIsDue, IsNextDue}
 
 some_is_not_none : (time : ℕ) → Some time ≢ None
 some_is_not_none time is = cc
@@ -56,60 +55,12 @@ look_up-found (entry ∷ es) key time found =
           record { place = suc later.place; within = omega (arith, later.within); key_is = later.key_is; time_is = later.time_is }
     ]
 
--- ---- an entry written over that of its key
-
-set-changed : (es : List (ℕ × ℕ)) (i key time : ℕ) → KeysDiffer es → i < length es → (get_or es i (0, 0)).0 ≡ key → look_up (set es i (key, time)) key ≡ Some time
-set-changed [] i key time differ within is = absurd (omega arith)
-set-changed (entry ∷ es) zero key time differ within is = at_its_key (key, time) es key refl
-set-changed (entry ∷ es) (suc i) key time differ within is =
-    at_another entry _ key (first_differs entry es i key differ (omega arith) is) ∙ set-changed es i key time differ.1 (omega arith) is
-
-set-others : (es : List (ℕ × ℕ)) (i key time other : ℕ) → i < length es → (get_or es i (0, 0)).0 ≡ key → other ≢ key → look_up (set es i (key, time)) other ≡ look_up es other
-set-others [] i key time other within is differs = absurd (omega arith)
-set-others (entry ∷ es) zero key time other within is differs =
-    at_another (key, time) es other (λ same. differs (sym same)) ∙ sym (at_another entry es other (λ same. differs (sym same ∙ is)))
-set-others (entry ∷ es) (suc i) key time other within is differs = behind entry _ es other (set-others es i key time other (omega arith) is differs)
-
-pub KeysDiffer-set : (es : List (ℕ × ℕ)) (i key time : ℕ) → KeysDiffer es → i < length es → (get_or es i (0, 0)).0 ≡ key → KeysDiffer (set es i (key, time))
-KeysDiffer-set [] i key time differ within is = absurd (omega arith)
-KeysDiffer-set (entry ∷ es) zero key time differ within is = (ap (look_up es) (sym is) ∙ differ.0, differ.1)
-KeysDiffer-set (entry ∷ es) (suc i) key time differ within is =
-    (set-others es i key time entry.0 (omega arith) is (first_differs entry es i key differ (omega arith) is) ∙ differ.0, KeysDiffer-set es i key time differ.1 (omega arith) is)
-
--- ---- an entry added at the end
-
-push-others : (es : List (ℕ × ℕ)) (key time other : ℕ) → other ≢ key → look_up (es ++ (key, time) ∷ []) other ≡ look_up es other
-push-others [] key time other differs = at_another (key, time) [] other (λ same. differs (sym same))
-push-others (entry ∷ es) key time other differs = behind entry _ es other (push-others es key time other differs)
-
--- the first key isn't one that isn't there
-first_is_there : (entry : ℕ × ℕ) (es : List (ℕ × ℕ)) (key : ℕ) → look_up (entry ∷ es) key ≡ None → entry.0 ≢ key
-first_is_there entry es key absent = λ is. some_is_not_none _ (sym (at_its_key entry es key is) ∙ absent)
-
-push-changed : (es : List (ℕ × ℕ)) (key time : ℕ) → look_up es key ≡ None → look_up (es ++ (key, time) ∷ []) key ≡ Some time
-push-changed [] key time absent = at_its_key (key, time) [] key refl
-push-changed (entry ∷ es) key time absent =
-    let differs = first_is_there entry es key absent in
-    at_another entry _ key differs ∙ push-changed es key time (sym (at_another entry es key differs) ∙ absent)
-
-pub KeysDiffer-push : (es : List (ℕ × ℕ)) (key time : ℕ) → KeysDiffer es → look_up es key ≡ None → KeysDiffer (es ++ (key, time) ∷ [])
-KeysDiffer-push [] key time differ absent = (refl, tt)
-KeysDiffer-push (entry ∷ es) key time differ absent =
-    let differs = first_is_there entry es key absent in
-    (push-others es key time entry.0 differs ∙ differ.0, KeysDiffer-push es key time differ.1 (sym (at_another entry es key differs) ∙ absent))
-
 -- ---- an entry taken out
 
 remove-others : (es : List (ℕ × ℕ)) (i key other : ℕ) → i < length es → (get_or es i (0, 0)).0 ≡ key → other ≢ key → look_up (remove es i) other ≡ look_up es other
 remove-others [] i key other within is differs = absurd (omega arith)
 remove-others (entry ∷ es) zero key other within is differs = sym (at_another entry es other (λ same. differs (sym same ∙ is)))
 remove-others (entry ∷ es) (suc i) key other within is differs = behind entry _ es other (remove-others es i key other (omega arith) is differs)
-
-remove-changed : (es : List (ℕ × ℕ)) (i key : ℕ) → KeysDiffer es → i < length es → (get_or es i (0, 0)).0 ≡ key → look_up (remove es i) key ≡ None
-remove-changed [] i key differ within is = absurd (omega arith)
-remove-changed (entry ∷ es) zero key differ within is = ap (look_up es) (sym is) ∙ differ.0
-remove-changed (entry ∷ es) (suc i) key differ within is =
-    at_another entry _ key (first_differs entry es i key differ (omega arith) is) ∙ remove-changed es i key differ.1 (omega arith) is
 
 pub KeysDiffer-remove : (es : List (ℕ × ℕ)) (i : ℕ) → KeysDiffer es → i < length es → KeysDiffer (remove es i)
 KeysDiffer-remove [] i differ within = absurd (omega arith)
@@ -124,75 +75,6 @@ KeysDiffer-remove (entry ∷ es) (suc i) differ within =
 abbrev pub times_of : ℕ → List (ℕ × ℕ) → Times
 times_of room es = record { room = room; entries = es }
 
--- the key stands at the place i
-pub record IsKeyAt (es : List (ℕ × ℕ)) (i key : ℕ) : Type 0 where
-  pub within : i < length es
-  pub is : (get_or es i (0, 0)).0 ≡ key
-
--- what was read of the place i
-pub entry_read : (es : List (ℕ × ℕ)) (i : ℕ) (entry : ℕ × ℕ) → i < length es → entry ≡ get_or es i entry → get_or es i (0, 0) ≡ entry
-entry_read es i entry within read = get_or_default es i (0, 0) entry within ∙ sym read
-
-pub look_up-nowhere : (es : List (ℕ × ℕ)) (key : ℕ) → ((i : ℕ) → i < length es → (get_or es i (0, 0)).0 ≢ key) → look_up es key ≡ None
-look_up-nowhere [] key nowhere = refl
-look_up-nowhere (entry ∷ es) key nowhere =
-    at_another entry es key (nowhere 0 (omega arith)) ∙ look_up-nowhere es key (λ i within. nowhere (suc i) (omega arith))
-
-pub Updates-set : (es out : List (ℕ × ℕ)) (room i key time : ℕ) → IsMap (times_of room es) → IsKeyAt es i key → out ≡ set es i (key, time)
-    → Updates (times_of room es) (times_of room out) key (Some time)
-Updates-set es out room i key time map at is = rw is (record {
-  changed = set-changed es i key time map.keys at.within at.is;
-  others = λ other differs. set-others es i key time other at.within at.is differs;
-  counted = (rw (look_up-key es i key map.keys at.within at.is) (ap (λ n. n + 1) (length-set es i (key, time))));
-  room = refl;
-})
-
-pub IsMap-set : (es out : List (ℕ × ℕ)) (room i key time : ℕ) → IsMap (times_of room es) → IsKeyAt es i key → out ≡ set es i (key, time) → IsMap (times_of room out)
-IsMap-set es out room i key time map at is = rw is (record {
-  keys = KeysDiffer-set es i key time map.keys at.within at.is;
-  fits = omega (arith, map.fits, length-set es i (key, time));
-})
-
-pub Updates-push : (es out : List (ℕ × ℕ)) (room key time : ℕ) → look_up es key ≡ None → out ≡ es ++ (key, time) ∷ []
-    → Updates (times_of room es) (times_of room out) key (Some time)
-Updates-push es out room key time absent is = rw is (record {
-  changed = push-changed es key time absent;
-  others = λ other differs. push-others es key time other differs;
-  counted = (rw absent (omega (arith, length-append es ((key, time) ∷ []))));
-  room = refl;
-})
-
-pub IsMap-push : (es out : List (ℕ × ℕ)) (room key time : ℕ) → IsMap (times_of room es) → look_up es key ≡ None → length es < room → out ≡ es ++ (key, time) ∷ []
-    → IsMap (times_of room out)
-IsMap-push es out room key time map absent less is = rw is (record {
-  keys = KeysDiffer-push es key time map.keys absent;
-  fits = omega (arith, length-append es ((key, time) ∷ []));
-})
-
-pub Updates-remove : (es out : List (ℕ × ℕ)) (room i key : ℕ) → IsMap (times_of room es) → IsKeyAt es i key → out ≡ remove es i
-    → Updates (times_of room es) (times_of room out) key None
-Updates-remove es out room i key map at is = rw is (record {
-  changed = remove-changed es i key map.keys at.within at.is;
-  others = λ other differs. remove-others es i key other at.within at.is differs;
-  counted = (rw (look_up-key es i key map.keys at.within at.is) (omega (arith, length-remove es i at.within)));
-  room = refl;
-})
-
-pub IsMap-remove : (es out : List (ℕ × ℕ)) (room i : ℕ) → IsMap (times_of room es) → i < length es → out ≡ remove es i → IsMap (times_of room out)
-IsMap-remove es out room i map within is = rw is (record {
-  keys = KeysDiffer-remove es i map.keys within;
-  fits = omega (arith, map.fits, length-remove es i within);
-})
-
--- a key that isn't there is taken out by doing nothing
-pub Updates-nowhere : (es : List (ℕ × ℕ)) (room key : ℕ) → look_up es key ≡ None → Updates (times_of room es) (times_of room es) key None
-Updates-nowhere es room key absent = record {
-  changed = absent;
-  others = λ other differs. refl;
-  counted = (rw absent refl);
-  room = refl;
-}
-
 none_is_not_some : (time : Option ℕ) → time ≡ None → IsSome time → ⊥
 none_is_not_some None is some = search rules
 none_is_not_some (Some n) is some = some_is_not_none n is
@@ -202,26 +84,6 @@ room_left es room key absent (inl there) = absurd (none_is_not_some _ absent the
 room_left es room key absent (inr less) = less
 
 -- ---- what is due
-
--- no entry has a time before that of the entry at i
-abbrev pub IsLeast : List (ℕ × ℕ) → ℕ → Type 0
-IsLeast es i = (other : ℕ) → other < length es → (get_or es i (0, 0)).1 ≤ (get_or es other (0, 0)).1
-
-pub NothingIsDue-before : (es : List (ℕ × ℕ)) (room i now : ℕ) → IsLeast es i → now < (get_or es i (0, 0)).1 → NothingIsDue (times_of room es) now
-NothingIsDue-before es room i now least later = λ key time found.
-    let there = look_up-found es key time found in
-    omega (arith, there.time_is, least there.place there.within)
-
-pub IsNextDue-least : (es : List (ℕ × ℕ)) (room i now key : ℕ) → IsMap (times_of room es) → IsKeyAt es i key → IsLeast es i → (get_or es i (0, 0)).1 ≤ now
-    → IsNextDue (times_of room es) now key
-IsNextDue-least es room i now key map at least due = record {
-  time = (get_or es i (0, 0)).1;
-  found = look_up-key es i key map.keys at.within at.is;
-  due = due;
-  least = λ other later found.
-      let there = look_up-found es other later found in
-      omega (arith, there.time_is, least there.place there.within);
-}
 
 -- where a key is due, something is
 pub not_nothing : (times : Times) (now key : ℕ) → IsNextDue times now key → NothingIsDue times now → ⊥

@@ -15,12 +15,3 @@ mod tree;
 
 pub use deadlines::Deadlines;
 pub use lifetime::grant;
-
-#[cfg(test)]
-mod compared;
-#[cfg(test)]
-mod heights;
-#[cfg(test)]
-mod scan;
-#[cfg(test)]
-mod tests;

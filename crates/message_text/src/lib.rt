@@ -8,7 +8,5 @@
 mod message_lines;
 mod pieces;
 mod showing;
-#[cfg(test)]
-mod tests;
 
 pub use showing::{Shown, show};

@@ -1,40 +1,53 @@
-use Rattle.std.proofs.Common.{◌-◌, ◌+◌, length, sym, ap, ◌∙◌, arith}
+use Rattle.std.proofs.Common.{◌≡◌, ◌-◌, ◌+◌, true, length, refl, sym, ap, subst, ◌∙◌, arith}
 use Rattle.std.proofs.lemmas.Result.{err_from_is_err_and}
-use Rattle.cbor_profile.specs.View.{tree_of, trees, item_read}
-use Rattle.cbor_profile.specs.Gathering.{gathered}
+use Rattle.cbor_profile.specs.View.{tree_of, trees, tree_pairs, item_read}
+use Rattle.cbor_profile.specs.Gathering.{gathered, AllBefore}
 use Rattle.cbor_profile.specs.Reading.{item_at, has_key}
 use Rattle.cbor_profile.proofs.Readings.{held}
-use Rattle.cbor_profile.proofs.Inside.{item_short, value_begun, indefinite_begun, reserved_begun, unsupported_begun, gives_same}
-use Rattle.cbor_profile.proofs.Paired.{key_sound, same_gathered, put_gathered}
+use Rattle.cbor_profile.proofs.Inside.{small_read, item_short, value_begun, indefinite_begun, reserved_begun, unsupported_begun, gives_same}
+use Rattle.cbor_profile.proofs.Paired.{key_sound, item_sound, same_gathered, put_gathered}
+use Rattle.cbor_profile.proofs.Rising.{next_key_fails, next_again, next_value_fails, next_pair, next_rises, next_sound}
 use Rattle.cbor_profile.proofs.Loops.{items_fail, items_go, items_done, open_items_short, open_items_spent, open_items_end, open_items_fail, open_items_go, pairs_fail, pairs_go, pairs_done, open_pairs_short, open_pairs_spent, open_pairs_end, open_pairs_fail, open_pairs_go}
 use Rattle.cbor_profile.proofs.reading.+reader.Goals as goal
 
 -- ---- an item
 
-pub read_item-returns-in_default-clause-value : goal.read_item-returns-in_default-clause-value
-read_item-returns-in_default-clause-value t c = item_short c.args.levels c.args.end c.args.bytes.now c.in_default.ensures.cases
+pub read_item-returns-in-Some-clause-value : goal.read_item-returns-in-Some-clause-value
+read_item-returns-in-Some-clause-value t c = small_read c.args.levels c.args.end c.args.bytes.now c.in-Some.rest.now c.in-Some.first.now c.in-Some.ensures.cases.0 c.if-first-lt24.true
 
-pub read_item-returns-in-Value-clause-value : goal.read_item-returns-in-Value-clause-value
-read_item-returns-in-Value-clause-value t c =
+pub read_item-returns-in-Some-clause-sound : goal.read_item-returns-in-Some-clause-sound
+read_item-returns-in-Some-clause-sound t c =
+    key_sound c.args.levels c.args.end c.args.bytes.now c.in-Some.rest.now _ (held c.args.bytes.now (λ i. omega (arith, c.type_inv.bytes i)) (omega (arith, c.requires, c.ranges.end.fits)))
+    (read_item-returns-in-Some-clause-value t c)
+
+pub read_item-returns-in_default-clause-sound : goal.read_item-returns-in_default-clause-sound
+read_item-returns-in_default-clause-sound t c =
+    item_sound c.read_long_item.result c.args.levels c.args.end c.args.bytes.now (held c.args.bytes.now (λ i. omega (arith, c.type_inv.bytes i)) (omega (arith, c.requires, c.ranges.end.fits))) c.read_long_item.ensures.value
+
+pub read_long_item-returns-in_default-clause-value : goal.read_long_item-returns-in_default-clause-value
+read_long_item-returns-in_default-clause-value t c = item_short c.args.levels c.args.end c.args.bytes.now c.in_default.ensures.cases
+
+pub read_long_item-returns-in-Value-clause-value : goal.read_long_item-returns-in-Value-clause-value
+read_long_item-returns-in-Value-clause-value t c =
     let begun = value_begun c.args.levels c.args.end c.args.bytes.now c.in-Some.rest.now c.in-Some.first.now c.in-Some.ensures.cases.0 c.in-Value.major c.in-Value.info c.in-Value.ensures in
     gives_same item_read c.read_value.result _ _ (sym begun) c.read_value.ensures.value
 
-pub read_item-returns-in-Indefinite-clause-value : goal.read_item-returns-in-Indefinite-clause-value
-read_item-returns-in-Indefinite-clause-value t c =
+pub read_long_item-returns-in-Indefinite-clause-value : goal.read_long_item-returns-in-Indefinite-clause-value
+read_long_item-returns-in-Indefinite-clause-value t c =
     let begun = indefinite_begun c.args.levels c.args.end c.args.bytes.now c.in-Some.rest.now c.in-Some.first.now c.in-Some.ensures.cases.0 c.in-Indefinite.major c.in-Indefinite.ensures in
     gives_same item_read c.read_indefinite.result _ _ (sym begun) c.read_indefinite.ensures.value
 
-pub read_item-returns-in-Reserved-clause-value : goal.read_item-returns-in-Reserved-clause-value
-read_item-returns-in-Reserved-clause-value t c = reserved_begun c.args.levels c.args.end c.args.bytes.now c.in-Some.rest.now c.in-Some.first.now c.in-Some.ensures.cases.0 c.in-Reserved.ensures
+pub read_long_item-returns-in-Reserved-clause-value : goal.read_long_item-returns-in-Reserved-clause-value
+read_long_item-returns-in-Reserved-clause-value t c = reserved_begun c.args.levels c.args.end c.args.bytes.now c.in-Some.rest.now c.in-Some.first.now c.in-Some.ensures.cases.0 c.in-Reserved.ensures
 
-pub read_item-returns-in-Unsupported-clause-value : goal.read_item-returns-in-Unsupported-clause-value
-read_item-returns-in-Unsupported-clause-value t c = unsupported_begun c.args.levels c.args.end c.args.bytes.now c.in-Some.rest.now c.in-Some.first.now c.in-Some.ensures.cases.0 c.in-Unsupported.ensures
+pub read_long_item-returns-in-Unsupported-clause-value : goal.read_long_item-returns-in-Unsupported-clause-value
+read_long_item-returns-in-Unsupported-clause-value t c = unsupported_begun c.args.levels c.args.end c.args.bytes.now c.in-Some.rest.now c.in-Some.first.now c.in-Some.ensures.cases.0 c.in-Unsupported.ensures
 
 -- ---- items
 
 pub read_items-returns-in_err-item-clause-value : goal.read_items-returns-in_err-item-clause-value
 read_items-returns-in_err-item-clause-value t c =
-    let p = err_from_is_err_and c.from_residual.result c.from_residual.ensures.1 in
+    let p = err_from_is_err_and c.from_residual-in_err-item.result c.from_residual-in_err-item.ensures.1 in
     rw (p.1, p.2) (items_fail c.in_err-item.field-0.0 (item_at c.args.levels c.args.end) (c.args.count - c.loop.counter) (trees c.loop.items) c.loop.rest.now _ (omega (arith, c.loop-test.true)) c.in_err-item.ensures.value c.loop.invariant.read)
 
 pub read_items-loop-preserved : goal.read_items-loop-preserved
@@ -99,16 +112,51 @@ read_pair-returns-clause-gathered t c =
     let fresh = ap (has_key (tree_of c.in_ok-key.key)) c.in_ok-has_key.ensures.same ∙ sym c.in_ok-has_key.ensures.value ∙ c.if-branch.false in
     put_gathered c.has_key.new.self c.put.new.self (tree_of c.in_ok-key.key) (tree_of c.in_ok-value.value) same sound fresh c.in_ok-put.ensures.pairs c.in_ok-put.ensures.kept
 
-pub read_pairs-returns-in_err-after-clause-value : goal.read_pairs-returns-in_err-after-clause-value
-read_pairs-returns-in_err-after-clause-value t c =
+pub read_pairs-returns-in_err-key-clause-value : goal.read_pairs-returns-in_err-key-clause-value
+read_pairs-returns-in_err-key-clause-value t c =
+    let p = err_from_is_err_and c.from_residual-in_err-key.result c.from_residual-in_err-key.ensures.1 in
+    rw (p.1, p.2) (next_key_fails (item_at c.args.levels c.args.end) c.args.end (c.args.count - c.loop-done.done) (tree_pairs c.loop-done.pairs) c.loop-done.rest.now _ c.loop-done.invariant.read c.in_err-key.field-0.0 (omega (arith, c.loop-done-test.true)) c.in_err-key.ensures.value)
+
+pub read_pairs-returns-in_err-value-in-Less-clause-value : goal.read_pairs-returns-in_err-value-in-Less-clause-value
+read_pairs-returns-in_err-value-in-Less-clause-value t c =
+    let p = err_from_is_err_and c.from_residual-in_err-value-in-Less.result c.from_residual-in_err-value-in-Less.ensures.1 in
+    rw (p.1, p.2) (
+    next_value_fails (item_at c.args.levels c.args.end) c.args.end (c.args.count - c.loop-done.done) (tree_pairs c.loop-done.pairs) c.loop-done.rest.now _ c.loop-done.invariant.read c.in_err-value-in-Less.field-0.0
+    c.in_ok-key.after_key.now (tree_of c.in_ok-key.key) (omega (arith, c.loop-done-test.true)) c.in_ok-key.ensures.value (subst (AllBefore (tree_of c.in_ok-key.key)) c.items.ensures (c.in-Less.ensures.less refl)) c.in_err-value-in-Less.ensures.value
+    )
+
+pub read_pairs-returns-in-Equal-clause-value : goal.read_pairs-returns-in-Equal-clause-value
+read_pairs-returns-in-Equal-clause-value t c =
+    next_again (item_at c.args.levels c.args.end) c.args.end (c.args.count - c.loop-done.done) (tree_pairs c.loop-done.pairs) c.loop-done.rest.now _ c.loop-done.invariant.read c.in_ok-key.after_key.now
+    (tree_of c.in_ok-key.key) (omega (arith, c.loop-done-test.true)) c.in_ok-key.ensures.value (subst (λ l. has_key (tree_of c.in_ok-key.key) l ≡ true) c.items.ensures (c.in-Equal.ensures.equal refl))
+
+pub read_pairs-loop-done-preserved : goal.read_pairs-loop-done-preserved
+read_pairs-loop-done-preserved t c =
+    let before = subst (AllBefore (tree_of c.in_ok-key.key)) c.items.ensures (c.in-Less.ensures.less refl) in
+    record {
+      read =
+          next_pair (item_at c.args.levels c.args.end) c.args.end (c.args.count - c.loop-done.done) (tree_pairs c.loop-done.pairs) c.loop-done.rest.now _ c.loop-done.invariant.read (c.args.count - (c.loop-done.done + 1))
+          (tree_pairs c.push.new.self) c.in_ok-key.after_key.now c.in_ok-value-in-Less.after.now (tree_of c.in_ok-key.key) (tree_of c.in_ok-value-in-Less.value) (omega (arith, c.loop-done-test.true)) c.in_ok-key.ensures.value before
+          c.in_ok-value-in-Less.ensures.value c.in_ok-push-in-Less.ensures.ok;
+      rise = next_rises (tree_pairs c.loop-done.pairs) (tree_pairs c.push.new.self) (tree_of c.in_ok-key.key) (tree_of c.in_ok-value-in-Less.value) before c.in_ok-push-in-Less.ensures.ok c.loop-done.invariant.rise;
+      sound = next_sound (tree_pairs c.loop-done.pairs) (tree_pairs c.push.new.self) (tree_of c.in_ok-key.key) (tree_of c.in_ok-value-in-Less.value) before c.in_ok-push-in-Less.ensures.ok c.loop-done.invariant.sound c.in_ok-key.ensures.sound;
+      shorter = omega (arith, c.in_ok-value-in-Less.ensures.shorter, c.in_ok-key.ensures.shorter, c.loop-done.invariant.shorter);
+    }
+
+pub read_pairs-returns-clause-value : goal.read_pairs-returns-clause-value
+read_pairs-returns-clause-value t c =
+    pairs_done (item_at c.args.levels c.args.end) c.args.end (c.args.count - c.loop-done.done) (tree_pairs c.loop-done.pairs) c.loop-done.rest.now _ (omega (arith, c.loop-done-test.false)) c.loop-done.invariant.read
+
+pub read_late_pairs-returns-in_err-after-clause-value : goal.read_late_pairs-returns-in_err-after-clause-value
+read_late_pairs-returns-in_err-after-clause-value t c =
     let p = err_from_is_err_and c.from_residual.result c.from_residual.ensures.1 in
     rw (p.1, p.2) (
     pairs_fail c.in_err-after.field-0.0 (item_at c.args.levels c.args.end) c.args.end (c.args.count - c.loop.counter) (gathered c.loop.pairs) c.loop.rest.now _ (omega (arith, c.loop-test.true)) c.in_err-after.ensures.value
     c.loop.invariant.read
     )
 
-pub read_pairs-loop-preserved : goal.read_pairs-loop-preserved
-read_pairs-loop-preserved t c = record {
+pub read_late_pairs-loop-preserved : goal.read_late_pairs-loop-preserved
+read_late_pairs-loop-preserved t c = record {
   read =
       pairs_go (item_at c.args.levels c.args.end) c.args.end (c.args.count - c.loop.counter) (c.args.count - (c.loop.counter + 1)) (gathered c.loop.pairs) (gathered c.read_pair.new.pairs) c.loop.rest.now c.in_ok-after.after.now _
       (omega (arith, c.loop-test.true)) c.in_ok-after.ensures.value c.loop.invariant.read;
@@ -116,8 +164,8 @@ read_pairs-loop-preserved t c = record {
   shorter = omega (arith, c.in_ok-after.ensures.shorter, c.loop.invariant.shorter);
 }
 
-pub read_pairs-returns-clause-value : goal.read_pairs-returns-clause-value
-read_pairs-returns-clause-value t c =
+pub read_late_pairs-returns-clause-value : goal.read_late_pairs-returns-clause-value
+read_late_pairs-returns-clause-value t c =
     rw c.in_ok-into_list.ensures (pairs_done (item_at c.args.levels c.args.end) c.args.end (c.args.count - c.loop.counter) (gathered c.loop.pairs) c.loop.rest.now _ (omega (arith, c.loop-test.false)) c.loop.invariant.read)
 
 pub read_open_pairs-returns-in_default-clause-value : goal.read_open_pairs-returns-in_default-clause-value

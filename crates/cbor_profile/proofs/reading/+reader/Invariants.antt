@@ -1,5 +1,8 @@
 use Rattle.std.proofs.Common.{◌≡◌, ◌+◌, ◌-◌, ◌*◌, ◌≤◌, [], length}
-use Rattle.cbor_profile.specs.View.{trees}
+use Rattle.std.specs.List.{AllByRecursion}
+use Rattle.cbor_profile.specs.Tree.{pairs_of}
+use Rattle.cbor_profile.specs.Valid.{IsSound, KeysRise}
+use Rattle.cbor_profile.specs.View.{trees, tree_pairs}
 use Rattle.cbor_profile.specs.Gathering.{gathered, IsGathered}
 use Rattle.cbor_profile.specs.Reading.{items_at, open_items_at, pairs_at, open_pairs_at, item_at}
 use Rattle.cbor_profile.proofs.Loops.{with_front}
@@ -30,20 +33,26 @@ decreases-read_open_items l = 8 * l.levels + 6
 abbrev pub decreases-read_pairs : goal.decreases-read_pairs
 decreases-read_pairs l = 8 * l.levels + 6
 
+abbrev pub decreases-read_late_pairs : goal.decreases-read_late_pairs
+decreases-read_late_pairs l = 8 * l.levels + 5
+
 abbrev pub decreases-read_open_pairs : goal.decreases-read_open_pairs
 decreases-read_open_pairs l = 8 * l.levels + 6
 
 abbrev pub decreases-read_pair : goal.decreases-read_pair
-decreases-read_pair l = 8 * l.levels + 5
+decreases-read_pair l = 8 * l.levels + 4
 
 abbrev pub decreases-read_item : goal.decreases-read_item
 decreases-read_item l = 8 * l.levels + 3
 
+abbrev pub decreases-read_long_item : goal.decreases-read_long_item
+decreases-read_long_item l = 8 * l.levels + 2
+
 abbrev pub decreases-read_value : goal.decreases-read_value
-decreases-read_value l = 8 * l.levels + 2
+decreases-read_value l = 8 * l.levels + 1
 
 abbrev pub decreases-read_indefinite : goal.decreases-read_indefinite
-decreases-read_indefinite l = 8 * l.levels + 2
+decreases-read_indefinite l = 8 * l.levels + 1
 
 -- the parts so far and those to come are all of them
 abbrev pub invariant-read_items-loop : goal.invariant-read_items-loop
@@ -58,9 +67,17 @@ invariant-read_open_items-loop l = record {
   shorter : length l.rest ≤ length l.bytes;
 }
 
-abbrev pub invariant-read_pairs-loop : goal.invariant-read_pairs-loop
-invariant-read_pairs-loop l = record {
-  read : pairs_at (item_at l.levels l.fn.end) l.fn.end (l.count - l.counter) (gathered l.pairs) l.rest ≡ pairs_at (item_at l.levels l.fn.end) l.fn.end l.count [] l.bytes;
+abbrev pub invariant-read_pairs-loop-done : goal.invariant-read_pairs-loop-done
+invariant-read_pairs-loop-done l = record {
+  read : pairs_at (item_at l.levels l.fn.end) l.fn.end (l.count - l.done) (tree_pairs l.pairs) l.rest ≡ pairs_at (item_at l.levels l.fn.end) l.fn.end l.count [] l.bytes;
+  rise : KeysRise (pairs_of (tree_pairs l.pairs));
+  sound : AllByRecursion (λ p. IsSound p.0) (tree_pairs l.pairs);
+  shorter : length l.rest ≤ length l.bytes;
+}
+
+abbrev pub invariant-read_late_pairs-loop : goal.invariant-read_late_pairs-loop
+invariant-read_late_pairs-loop l = record {
+  read : pairs_at (item_at l.levels l.fn.end) l.fn.end (l.count - l.counter) (gathered l.pairs) l.rest ≡ pairs_at (item_at l.levels l.fn.end) l.fn.end l.count (tree_pairs l.fn.pairs) l.bytes;
   gathered : IsGathered l.pairs;
   shorter : length l.rest ≤ length l.bytes;
 }

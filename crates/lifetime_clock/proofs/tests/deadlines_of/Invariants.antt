@@ -1,6 +1,0 @@
-use Rattle.std.proofs.Common.{◌≡◌, ◌≤◌, length}
-use Rattle.lifetime_clock.specs.Times.{count}
-use Rattle.lifetime_clock.proofs.tests.deadlines_of.Given as goal
-
-abbrev pub invariant-loop-key : goal.invariant-loop-key
-invariant-loop-key l = (l.deadlines.room ≡ length l.rows) × (count l.deadlines ≤ l.key-index)
