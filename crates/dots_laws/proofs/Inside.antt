@@ -7,7 +7,7 @@ use Rattle.ip_scope.specs.Prefix.{PrefixValue, inside}
 use Rattle.ip_scope.proofs.Prefixes.{inside-itself}
 use Rattle.dots_history.specs.declared.entry.Entry.{Entry}
 use Rattle.dots_history.specs.declared.put.Target.{Target}
-use Rattle.dots_history.specs.Histories.{Held, mitigations}
+use Rattle.dots_history.specs.Histories.{Mitigation, mitigations}
 use Rattle.dots_history.specs.Rows.{Row, rows_of, targets_of, scrub_rows}
 use Rattle.dots_laws.specs.Views.{lies_inside}
 use Rattle.dots_laws.proofs.Members.{In, any_of}
@@ -54,13 +54,13 @@ of_put put =
     in_targets
     (any_of (inside p) p target.prefixes there (inside-itself p)))
 
-of_all : (ms : List Held) → list_all lies_inside (flat_map (λ (m : Held). rows_of m.put) ms) ≡ true
+of_all : (ms : List Mitigation) → list_all lies_inside (flat_map (λ (m : Mitigation). rows_of m.put) ms) ≡ true
 of_all [] = refl
 of_all (m ∷ ms) =
-    list_all-append lies_inside (rows_of m.put) (flat_map (λ (m : Held). rows_of m.put) ms)
+    list_all-append lies_inside (rows_of m.put) (flat_map (λ (m : Mitigation). rows_of m.put) ms)
     ∙ and_from
     (list_all lies_inside (rows_of m.put))
-    (list_all lies_inside (flat_map (λ (m : Held). rows_of m.put) ms))
+    (list_all lies_inside (flat_map (λ (m : Mitigation). rows_of m.put) ms))
     (of_put m.put)
     (of_all ms)
 

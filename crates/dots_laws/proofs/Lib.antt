@@ -20,3 +20,10 @@ pub mod Inside
 pub mod Keyed
 pub mod Bounding
 pub mod BySettings
+pub mod Turning
+pub mod Composing
+pub mod Single
+pub mod Endings
+pub mod Local
+pub mod Rings
+pub mod Bare

@@ -16,7 +16,7 @@ use Rattle.dots_history.specs.declared.put.Target.{Target}
 use Rattle.dots_history.specs.declared.change.Change.{Change}
 use Rattle.dots_history.specs.declared.change.Change.TheVariants as change
 use Rattle.dots_history.specs.Entries.{same_client, is_signal, is_configuration}
-use Rattle.dots_history.specs.Histories.{Held, Within, Calm, tally, is_nil, mitigations}
+use Rattle.dots_history.specs.Histories.{Mitigation, Within, Calm, tally, is_nil, mitigations}
 use Rattle.dots_laws.specs.Capacities.{Capacities, KeepsCapacities}
 
 -- the domain in which a gateway configures its session, which is no domain of the settings
@@ -109,4 +109,4 @@ pub record IsCalmBy (settings : SettingsValue) (t : ℕ) (entries : List Entry) 
   pub own : list_all (is_own settings) entries ≡ true
   pub peers : Calm entries
   pub capacities : KeepsCapacities (capacities_of settings) t entries
-  pub of_client : (client : Entry) → tally (λ (m : Held). same_client client m.put) (mitigations t entries) ≤ settings.limits.client_mitigations
+  pub of_client : (client : Entry) → tally (λ (m : Mitigation). same_client client m.put) (mitigations t entries) ≤ settings.limits.client_mitigations

@@ -3,3 +3,5 @@ pub mod Capacities
 pub mod Firsts
 pub mod Reading
 pub mod Views
+pub mod Tables
+pub mod Turns

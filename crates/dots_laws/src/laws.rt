@@ -5,7 +5,7 @@ ghost use Rattle.std.specs.List.{list_all};
 ghost use Rattle.dots_history.specs.declared.entry.Entry.{Entry};
 ghost use Rattle.dots_history.specs.declared.status.Status.{Status};
 ghost use Rattle.dots_history.specs.declared.status.Status.TheVariants.{Ended};
-ghost use Rattle.dots_history.specs.Histories.{Within, IsPart, Kept, Calm, status, live, view, mitigations, recent, things, last, remembered, alone};
+ghost use Rattle.dots_history.specs.Histories.{Within, IsPart, Kept, Calm, status, live, view, mitigations, recent, held, last, remembered, alone};
 ghost use Rattle.dots_history.specs.Rows.{scrub_rows, list_rows};
 ghost use Rattle.dots_history.specs.Keeping.{kept, Fits};
 ghost use Rattle.dots_settings.specs.Settings.{SettingsValue};
@@ -13,6 +13,7 @@ ghost use Rattle.dots_laws.specs.Calm.{IsCalmBy, capacities_of};
 ghost use Rattle.dots_laws.specs.Capacities.{Capacities, KeepsCapacities, belongs, most_named};
 ghost use Rattle.dots_laws.specs.Firsts.{IsFirstEnder};
 ghost use Rattle.dots_laws.specs.Reading.{SaySame};
+ghost use Rattle.dots_laws.specs.Turns.{Turn, TurnsRise, time_after, applied, view_after};
 ghost use Rattle.dots_laws.specs.Views.{view_at, view_with, mitigations_of, lies_inside};
 
 /// A mitigation that is ended stays ended whatever is appended, and one that isn't live is never live again, whatever
@@ -33,6 +34,22 @@ pub fn views_go_on()
     ensures going_on { (n t u : ℕ) (xs ys more : List Entry) → view n t xs ≡ view n t ys → Within t more u → view n u (xs ++ more) ≡ view n u (ys ++ more) }
 {}
 
+/// Keeping composes: a history keeps itself; what keeps a part that keeps the whole keeps the whole; what keeps it at a time
+/// keeps it later; and the same entries may be appended to both.
+pub fn keeping_composes()
+    ensures itself { (n t : ℕ) (entries : List Entry) → Kept n t entries entries }
+    ensures twice { (n t : ℕ) (fewest few all : List Entry) → Kept n t fewest few → Kept n t few all → Kept n t fewest all }
+    ensures later { (n t u : ℕ) (few all : List Entry) → t ≤ u → Kept n t few all → Kept n u few all }
+    ensures appended { (n t u : ℕ) (few all more : List Entry) → Kept n t few all → Within t more u → Kept n u (few ++ more) (all ++ more) }
+{}
+
+/// From a history and its view at a time, a list of turns in each of which time moves or an entry is accepted makes the view
+/// of the history with these entries, at the time of the last turn.
+pub fn turns_make_the_view()
+    ensures { (n low : ℕ) (before : List Entry) (turns : List Turn) → TurnsRise low turns
+        → view_after n (view n low before) turns ≡ view n (time_after low turns) (before ++ applied turns) }
+{}
+
 /// What is read of a history is a function of its view: histories of one view say the same.
 pub fn views_are_read()
     ensures { (n t : ℕ) (xs ys : List Entry) → view n t xs ≡ view n t ys → SaySame n t xs ys }
@@ -46,7 +63,7 @@ pub fn what_is_named_has_the_view()
     ensures calm { (n t high : ℕ) (entries : List Entry) → Within 0 entries high → Calm entries → Calm (kept n t entries) }
     ensures lives { (n t u : ℕ) (entries : List Entry) → Within 0 entries u → Calm entries → IsPart (mitigations u (kept n t entries)) (mitigations u entries) }
     ensures few { (n t : ℕ) (entries : List Entry)
-        → length (kept n t entries) ≤ 2 * length (mitigations t entries) + length (recent n entries) + length (things entries) + length (last entries) }
+        → length (kept n t entries) ≤ 2 * length (mitigations t entries) + length (recent n entries) + length (held entries) + length (last entries) }
 {}
 
 /// A history that keeps its capacities has a view that names at most so many entries: for each domain two for each live
