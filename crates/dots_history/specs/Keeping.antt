@@ -4,7 +4,7 @@ use Rattle.std.specs.List.{list_any, All}
 use Rattle.dots_history.specs.declared.entry.Entry.{Entry}
 use Rattle.dots_history.specs.declared.status.Status.{Status}
 use Rattle.dots_history.specs.declared.status.Status.TheVariants.{Open}
-use Rattle.dots_history.specs.Entries.{ends, withdraws, reconfigures}
+use Rattle.dots_history.specs.Entries.{ends, withdraws}
 use Rattle.dots_history.specs.Histories.{Mitigation, sieve, live, status, step, mitigations, is_recent, is_nil, stays}
 
 abbrev pub is_open : Status → Bool
@@ -51,8 +51,7 @@ kept_places keep passed at (e ∷ later) =
 abbrev pub tracks : List Entry → List Mitigation
 tracks entries = sieve (λ e later. Some (record { put = e; status = status e Open later })) entries
 
--- An entry fits those before it where it has the peer of each live mitigation that it ends or withdraws, and the domain
--- of each session configuration that it changes.
-pub record Fits (entries : List Entry) (e : Entry) : Type 0 where
-  pub one_peer : All (λ (m : Mitigation). ends m.put e || withdraws m.put e ≡ true → e.peer ≡ m.put.peer) (mitigations e.time entries)
-  pub one_domain : All (λ (x : Entry). reconfigures x e ≡ true → e.domain ≡ x.domain) entries
+-- an entry has the peer of each mitigation before it that it ends or withdraws and that is live at its time
+abbrev pub HasPeerOfEach : List Entry → Entry → Type 0
+HasPeerOfEach entries e =
+    All (λ (m : Mitigation). ends m.put e || withdraws m.put e ≡ true → e.peer ≡ m.put.peer) (mitigations e.time entries)

@@ -19,7 +19,7 @@ aged true false p m rest aged_rest is over same =
 aged false true p m rest aged_rest is over same = absurd (true≢false (over refl))
 aged false false p m rest aged_rest is over same = same
 
-mitigations_age : (t u : ℕ) (entries : List Entry) → t ≤ u → mitigations u entries ≡ mitigations_at u (mitigations t entries)
+pub mitigations_age : (t u : ℕ) (entries : List Entry) → t ≤ u → mitigations u entries ≡ mitigations_at u (mitigations t entries)
 mitigations_age t u [] less = refl
 mitigations_age t u (e ∷ later) less =
     let s = status e Open later in

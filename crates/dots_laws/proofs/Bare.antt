@@ -8,7 +8,6 @@ use Rattle.acl_lists.specs.declared.acl.Acl.{Acl}
 use Rattle.acl_lists.specs.declared.acl.Activation.{Activation}
 use Rattle.acl_lists.specs.declared.acl.Activation.TheVariants.{WhenMitigating, Immediate, Deactivate}
 use Rattle.acl_lists.specs.declared.packet.Packet.{Packet}
-use Rattle.filter_rows.specs.declared.rows.ScrubRow.{ScrubRow}
 use Rattle.filter_rows.specs.Fates.{fate_by_rows}
 use Rattle.dots_history.specs.declared.entry.Entry.{Entry}
 use Rattle.dots_history.specs.declared.put.Target.{Target}
@@ -16,7 +15,7 @@ use Rattle.dots_history.specs.declared.status.Status.{Status}
 use Rattle.dots_history.specs.declared.status.Status.TheVariants.{Ended, Open, Withdrawn}
 use Rattle.dots_history.specs.Entries.{same_client, ends, withdraws, runs, is_held, undoes, reconfigures, option_any}
 use Rattle.dots_history.specs.Histories.{Mitigation, live, if_live, status, step, stays, mitigations, held}
-use Rattle.dots_history.specs.Rows.{Row, targets_of, rows_of, scrub_rows, list_rows, plain_row, plain_rows, acl_of, acl_row, acl_rows_of, acl_rows, is_mitigating, is_active, fate}
+use Rattle.dots_history.specs.Rows.{Row, targets_of, rows_of, list_rows, plain_row, plain_rows, acl_of, acl_row, acl_rows_of, acl_rows, is_mitigating, is_active, fate}
 use Rattle.dots_laws.specs.Tables.{bare, bare_mitigation}
 
 bare_step : (put : Entry) (s : Status) (e : Entry) → step (bare put) s (bare e) ≡ step put s e

@@ -11,7 +11,7 @@ use Rattle.dots_history.specs.declared.status.Status.TheVariants.{Open}
 use Rattle.dots_history.specs.declared.change.Change.{Change}
 use Rattle.dots_history.specs.declared.change.Change.TheVariants as change
 use Rattle.dots_history.specs.Entries.{put_of, same_client, is_signal, signals, is_held, is_configuration, undoes, undoes_of_client, undoes_of_peer, reconfigures}
-use Rattle.dots_history.specs.Histories.{Mitigation, tally, live, if_live, status, is_recent, recent, stays, held, last, mitigations}
+use Rattle.dots_history.specs.Histories.{Mitigation, tally, live, status, is_recent, recent, stays, held, last, mitigations}
 use Rattle.dots_history.specs.Keeping.{kept}
 use Rattle.dots_history.specs.Places.{lasts}
 use Rattle.dots_history.proofs.Remembering.{recent_are_lasts}

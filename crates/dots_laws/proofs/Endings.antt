@@ -1,8 +1,8 @@
 -- When a mitigation is over.
-use Rattle.std.proofs.Common.{◌≡◌, ℕ, ◌+◌, ℤ, pos, negsuc, ◌+ℤ◌, zero, suc, Bool, true, false, cond, not, ◌&&◌, ◌||◌, List, [], ◌∷◌, filter, Option, Some, None, refl, sym, ap, ◌∙◌}
-use Rattle.std.specs.Prelude.{◌-ℤ◌, int_lt, nat_lt}
+use Rattle.std.proofs.Common.{◌≡◌, ℕ, ◌+◌, ℤ, pos, negsuc, zero, suc, Bool, true, false, cond, not, ◌&&◌, ◌||◌, List, [], ◌∷◌, filter, Option, Some, None, refl, sym, ap, ◌∙◌}
+use Rattle.std.specs.Prelude.{nat_lt}
 use Rattle.std.specs.List.{list_any}
-use Rattle.std.proofs.lemmas.Bool.{false≢true, cond_both, cond-true, and_parts, or_parts, not_from_true}
+use Rattle.std.proofs.lemmas.Bool.{false≢true, cond-true, and_parts, or_parts}
 use Rattle.dots_history.specs.declared.entry.Entry.{Entry}
 use Rattle.dots_history.specs.declared.put.Put.{Put}
 use Rattle.dots_history.specs.declared.status.Status.{Status}
@@ -10,7 +10,7 @@ use Rattle.dots_history.specs.declared.status.Status.TheVariants.{Ended, Open, W
 use Rattle.dots_history.specs.Entries.{put_of, granted_at, option_any, lasts, runs}
 use Rattle.dots_history.specs.Histories.{Mitigation, live, seconds_left, seconds_of, seconds_of_grant}
 use Rattle.dots_laws.specs.Views.{mitigations_at}
-use Rattle.dots_laws.specs.Tables.{End, Over, Until, Never, end_of_grant, end_of_put, end_of, is_before, seconds_until, is_due}
+use Rattle.dots_laws.specs.Tables.{Over, Until, end_of_grant, end_of_put, end_of, is_before, seconds_until, is_due}
 
 granted_end : (t at : ℕ) (granted : ℤ) → granted_at t at granted ≡ is_before t (end_of_grant at granted)
 unfolding granted_at

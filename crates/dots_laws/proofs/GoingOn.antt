@@ -38,7 +38,7 @@ alone_kept : (b : Bool) (e : Entry) → option_to_list (cond (b && true) (Some e
 alone_kept true e = refl
 alone_kept false e = refl
 
-held_push : (e : Entry) (entries : List Entry) → held (entries ++ e ∷ []) ≡ held_with e (held entries)
+pub held_push : (e : Entry) (entries : List Entry) → held (entries ++ e ∷ []) ≡ held_with e (held entries)
 held_push e entries =
     kept_push stays (λ x. not (undoes x e)) e (stays_push e) entries
     ∙ ap (λ end. filter (λ x. not (undoes x e)) (held entries) ++ end) (alone_kept (is_held e.change) e)

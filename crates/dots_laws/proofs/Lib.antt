@@ -27,3 +27,7 @@ pub mod Endings
 pub mod Local
 pub mod Rings
 pub mod Bare
+pub mod Cuts
+pub mod Joining
+pub mod Parts
+pub mod CalmCuts

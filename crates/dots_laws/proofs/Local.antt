@@ -1,14 +1,12 @@
 -- What one more entry does to the live mitigations of a domain.
-use Rattle.std.proofs.Common.{◌≡◌, ℕ, Bool, true, false, cond, ◌||◌, List, [], ◌∷◌, ◌++◌, filter, map, Option, Some, None, inl, inr, refl, sym, ap, ◌∙◌}
+use Rattle.std.proofs.Common.{◌≡◌, ℕ, Bool, true, false, cond, List, [], ◌∷◌, filter, Option, Some, None, inl, inr, refl, sym, ap, ◌∙◌}
 use Rattle.std.specs.Prelude.{◌==◌}
-use Rattle.std.proofs.lemmas.Bool.{both_ways, cond_both, cond-true, cond-false, cases_Bool, or_parts, or_from, false_from_ne_true, eqb-true, eq-eqb}
-use Rattle.std.proofs.lemmas.List.Elements.{filter-append}
+use Rattle.std.proofs.lemmas.Bool.{both_ways, cond_both, cond-true, cond-false, cases_Bool, or_parts, false_from_ne_true, eqb-true, eq-eqb}
 use Rattle.dots_history.specs.declared.entry.Entry.{Entry}
 use Rattle.dots_history.specs.declared.put.Put.{Put}
-use Rattle.dots_history.specs.declared.status.Status.{Status}
 use Rattle.dots_history.specs.declared.status.Status.TheVariants.{Open}
 use Rattle.dots_history.specs.Entries.{put_of, ends, withdraws, is_signal}
-use Rattle.dots_history.specs.Histories.{Mitigation, live, step}
+use Rattle.dots_history.specs.Histories.{Mitigation, live}
 use Rattle.dots_history.specs.Keeping.{moved, pass}
 use Rattle.dots_laws.specs.Views.{mitigations_at, mitigations_with, mitigations_of}
 use Rattle.dots_laws.proofs.Touching.{touches, touch_parts, never_live, untouched, one_domain, put_signals}

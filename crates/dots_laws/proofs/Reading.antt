@@ -1,5 +1,5 @@
 -- What is read of a history is a function of its view.
-use Rattle.std.proofs.Common.{◌≡◌, ℕ, Bool, true, cond, List, [], ◌∷◌, ◌++◌, filter, map, Option, Some, None, refl, sym, ap, ◌∙◌}
+use Rattle.std.proofs.Common.{◌≡◌, ℕ, true, List, [], ◌∷◌, ◌++◌, filter, map, Option, Some, None, refl, sym, ap, ◌∙◌}
 use Rattle.std.specs.Prelude.{option_to_list, ◌==◌}
 use Rattle.std.specs.List.{list_any, flat_map}
 use Rattle.ip_scope.specs.Prefix.{PrefixValue}
@@ -9,9 +9,9 @@ use Rattle.acl_lists.specs.declared.acl.Activation.TheVariants.{WhenMitigating, 
 use Rattle.acl_lists.specs.declared.packet.Packet.{Packet}
 use Rattle.dots_history.specs.declared.entry.Entry.{Entry}
 use Rattle.dots_history.specs.Entries.{same_client, signals, may_repeat, option_any}
-use Rattle.dots_history.specs.Histories.{Mitigation, View, view, or_else, mitigations, seconds_left, held, recent, remembered}
+use Rattle.dots_history.specs.Histories.{Mitigation, View, view, mitigations, seconds_left, held, recent, remembered}
 use Rattle.filter_rows.specs.Fates.{fate_by_rows}
-use Rattle.dots_history.specs.Rows.{Row, rows_of, plain_row, plain_rows, acl_of, acl_row, acl_rows_of, acl_rows, scrub_rows, list_rows, is_active, fate}
+use Rattle.dots_history.specs.Rows.{Row, rows_of, plain_row, plain_rows, acl_of, acl_row, acl_rows_of, acl_rows, list_rows, is_active, fate}
 use Rattle.dots_history.specs.Places.{last_of}
 use Rattle.dots_history.proofs.Remembering.{by_recent}
 use Rattle.dots_laws.specs.Reading.{SaySame}

@@ -1,6 +1,5 @@
 -- The last so many signal entries of one peer and domain, with one more.
 use Rattle.std.proofs.Common.{◌≡◌, ℕ, ◌+◌, ◌-◌, ◌<◌, ◌≤◌, Bool, true, false, cond, List, [], ◌∷◌, ◌++◌, length, length-drop, drop, filter, refl, sym, ap, ◌∙◌, append-nil, arith}
-use Rattle.std.proofs.lemmas.Bool.{cond_both}
 use Rattle.std.proofs.lemmas.List.Elements.{filter-append}
 use Rattle.dots_history.specs.declared.entry.Entry.{Entry}
 use Rattle.dots_history.specs.Entries.{signals}

@@ -29,7 +29,7 @@ first_withdraws t e later m is =
     (and_parts (is_open m.status) (withdraws m.put e) first.0).1
 
 -- the live mitigations
-dead_both : (t : ℕ) (e : Entry) (s u : Status) → put_of e.change ≡ None → if_live t e s ≡ if_live t e u
+pub dead_both : (t : ℕ) (e : Entry) (s u : Status) → put_of e.change ≡ None → if_live t e s ≡ if_live t e u
 dead_both t e s u none = not_live t e s (never_live t e s none) ∙ sym (not_live t e u (never_live t e u none))
 
 pub same_live_by : (n t u low : ℕ) (passed : List Mitigation) (e : Entry) (later : List Entry) → Named n t passed e later → OnePeer e Open later → Within low (e ∷ later) u
@@ -79,7 +79,7 @@ signal_undoes (change.SetAlias alias) later is = absurd (false≢true is)
 signal_undoes (change.SetAcl acl) later is = absurd (false≢true is)
 signal_undoes _ later is = refl
 
-signal_reconfigures : (e x : Entry) → is_signal e.change ≡ true → undoes e x ≡ true → reconfigures e x ≡ true
+pub signal_reconfigures : (e x : Entry) → is_signal e.change ≡ true → undoes e x ≡ true → reconfigures e x ≡ true
 unfolding undoes
 signal_reconfigures e x is undone =
     elim (or_cases (same_client e x && undoes_of_client e.change x.change) (reconfigures e x) undone) [
@@ -102,7 +102,7 @@ unfolding undoes_of_peer
 reconfigured_by (change.SetConfig sid config) later is = is
 reconfigured_by _ later is = absurd (false≢true is)
 
-reconfigures_parts : (e x : Entry) → reconfigures e x ≡ true → (x.peer ≡ e.peer) × (is_signal x.change ≡ true)
+pub reconfigures_parts : (e x : Entry) → reconfigures e x ≡ true → (x.peer ≡ e.peer) × (is_signal x.change ≡ true)
 unfolding reconfigures
 reconfigures_parts e x is =
     let parts = and_parts (e.peer == x.peer) (undoes_of_peer e.change x.change) is in

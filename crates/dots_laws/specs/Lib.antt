@@ -5,3 +5,4 @@ pub mod Reading
 pub mod Views
 pub mod Tables
 pub mod Turns
+pub mod Fits

@@ -1,8 +1,6 @@
 -- What the tables of a server cite of a history.
-use Rattle.std.specs.Prelude.{ℕ, zero, ℤ, pos, negsuc, ◌+ℤ◌, ◌-ℤ◌, ◌+◌, int_lt, Bool, true, false, not, ◌&&◌, ◌||◌, ◌==◌, bytes_eq, if◌then◌else◌, ◌≡◌, List, [], ◌∷◌, ◌++◌, filter, Option, Some, None}
+use Rattle.std.specs.Prelude.{ℕ, zero, ℤ, pos, negsuc, ◌+ℤ◌, ◌-ℤ◌, ◌+◌, int_lt, Bool, true, false, not, ◌&&◌, ◌==◌, bytes_eq, if◌then◌else◌, ◌≡◌, List, [], ◌∷◌, ◌++◌, filter, Option, Some, None}
 use Rattle.std.specs.List.{list_any}
-use Rattle.acl_lists.specs.declared.acl.Acl.{Acl}
-use Rattle.acl_lists.specs.declared.alias.Alias.{Alias}
 use Rattle.dots_history.specs.declared.entry.Entry.{Entry}
 use Rattle.dots_history.specs.declared.entry.MessageKey.TheVariants as key
 use Rattle.dots_history.specs.declared.put.Put.{Put}

@@ -7,9 +7,9 @@ ghost use Rattle.dots_history.specs.declared.status.Status.{Status};
 ghost use Rattle.dots_history.specs.declared.status.Status.TheVariants.{Ended};
 ghost use Rattle.dots_history.specs.Histories.{Within, IsPart, Kept, Calm, status, live, view, mitigations, recent, held, last, remembered, alone};
 ghost use Rattle.dots_history.specs.Rows.{scrub_rows, list_rows};
-ghost use Rattle.dots_history.specs.Keeping.{kept, Fits};
+ghost use Rattle.dots_history.specs.Keeping.{kept, HasPeerOfEach};
 ghost use Rattle.dots_settings.specs.Settings.{SettingsValue};
-ghost use Rattle.dots_laws.specs.Calm.{IsCalmBy, capacities_of};
+ghost use Rattle.dots_laws.specs.Calm.{IsCalmBy, is_own, capacities_of};
 ghost use Rattle.dots_laws.specs.Capacities.{Capacities, KeepsCapacities, belongs, most_named};
 ghost use Rattle.dots_laws.specs.Firsts.{IsFirstEnder};
 ghost use Rattle.dots_laws.specs.Reading.{SaySame};
@@ -83,10 +83,12 @@ pub fn calm_by_settings()
         → length (kept n t entries) ≤ most_named (capacities_of settings) n }
 {}
 
-/// The empty history is calm, and an entry that fits keeps a history calm.
+/// The empty history is calm; and an entry of the settings' own that has the peer of each live mitigation that it touches keeps
+/// a history of such entries calm. That the session configurations of a peer are of one domain follows from the settings.
 pub fn calm_goes_on()
     ensures empty { Calm [] }
-    ensures more { (entries : List Entry) (e : Entry) → Calm entries → Fits entries e → Calm (entries ++ e ∷ []) }
+    ensures more { (settings : SettingsValue) (entries : List Entry) (e : Entry) → Calm entries → HasPeerOfEach entries e
+        → list_all (is_own settings) entries ≡ true → is_own settings e ≡ true → Calm (entries ++ e ∷ []) }
 {}
 
 /// The live mitigations of a domain, the replies to its repeats, its scrub rows and its access lists are those of its own
