@@ -192,15 +192,15 @@ list_dropped : (s : Bool) (e : Entry) (rest : List Entry) → writes_list e ≡ 
 list_dropped true e rest out = cond-false (writes_list e) (e ∷ filter writes_list rest) (filter writes_list rest) out
 list_dropped false e rest out = refl
 
-abbrev in_domain : ℕ → Entry → Bool
+abbrev pub in_domain : ℕ → Entry → Bool
 in_domain domain e = e.domain == domain
 
-own_kept : (s : Bool) (domain : ℕ) (e : Entry) (rest : List Entry) → (e.domain == domain) ≡ true
+pub own_kept : (s : Bool) (domain : ℕ) (e : Entry) (rest : List Entry) → (e.domain == domain) ≡ true
     → filter (in_domain domain) (option_to_list (cond s (Some e) None) ++ rest) ≡ option_to_list (cond s (Some e) None) ++ filter (in_domain domain) rest
 own_kept true domain e rest own = cond-true (e.domain == domain) (e ∷ filter (in_domain domain) rest) (filter (in_domain domain) rest) own
 own_kept false domain e rest own = refl
 
-other_dropped : (s : Bool) (domain : ℕ) (e : Entry) (rest : List Entry) → (e.domain == domain) ≡ false
+pub other_dropped : (s : Bool) (domain : ℕ) (e : Entry) (rest : List Entry) → (e.domain == domain) ≡ false
     → filter (in_domain domain) (option_to_list (cond s (Some e) None) ++ rest) ≡ filter (in_domain domain) rest
 other_dropped true domain e rest other = cond-false (e.domain == domain) (e ∷ filter (in_domain domain) rest) (filter (in_domain domain) rest) other
 other_dropped false domain e rest other = refl

@@ -16,7 +16,6 @@ pub mod Counting
 pub mod Fitting
 pub mod Reading
 pub mod Alone
-pub mod Inside
 pub mod Keyed
 pub mod Bounding
 pub mod BySettings
@@ -31,3 +30,6 @@ pub mod Cuts
 pub mod Joining
 pub mod Parts
 pub mod CalmCuts
+pub mod Isolating
+pub mod Containing
+pub mod KeptPlaces

@@ -6,3 +6,5 @@ pub mod Views
 pub mod Tables
 pub mod Turns
 pub mod Fits
+pub mod Containing
+pub mod KeptPlaces

@@ -1,11 +1,9 @@
 -- What time and one more entry make of a view, and the part of a domain in it.
 use Rattle.std.specs.Prelude.{ℕ, Bool, ◌==◌, not, if◌then◌else◌, List, [], ◌∷◌, ◌++◌, filter}
 use Rattle.dots_history.specs.declared.entry.Entry.{Entry}
-use Rattle.ip_scope.specs.Prefix.{inside}
-use Rattle.dots_history.specs.Entries.{is_held, undoes, some_prefix}
+use Rattle.dots_history.specs.Entries.{is_held, undoes}
 use Rattle.dots_history.specs.Histories.{Mitigation, View, live, recent}
 use Rattle.dots_history.specs.Keeping.{pass}
-use Rattle.dots_history.specs.Rows.{Row, targets_of}
 
 -- those of the mitigations that are live at the time
 abbrev pub mitigations_at : ℕ → List Mitigation → List Mitigation
@@ -41,7 +39,3 @@ view_with n e v =
 -- those of a domain
 abbrev pub mitigations_of : ℕ → List Mitigation → List Mitigation
 mitigations_of domain ms = filter (λ (m : Mitigation). m.put.domain == domain) ms
-
--- the prefix of the row lies inside one of its mitigation
-abbrev pub lies_inside : Row → Bool
-lies_inside row = some_prefix (inside row.prefix) (targets_of row.put.change)

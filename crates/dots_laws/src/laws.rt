@@ -1,12 +1,19 @@
 //! What time and later entries make of a history.
 
-ghost use Rattle.std.specs.Prelude.{◌≡◌, ◌≤◌, ◌+◌, ◌*◌, ◌++◌, ◌∷◌, [], ℕ, true, false, ◌==◌, List, length, filter};
-ghost use Rattle.std.specs.List.{list_all};
+ghost use Rattle.std.specs.Prelude.{◌≡◌, ◌≤◌, ◌+◌, ◌*◌, ◌++◌, ◌∷◌, [], ℕ, true, false, ◌==◌, List, length, filter, None};
+ghost use Rattle.std.specs.List.{list_all, list_any};
 ghost use Rattle.dots_history.specs.declared.entry.Entry.{Entry};
 ghost use Rattle.dots_history.specs.declared.status.Status.{Status};
 ghost use Rattle.dots_history.specs.declared.status.Status.TheVariants.{Ended};
 ghost use Rattle.dots_history.specs.Histories.{Within, IsPart, Kept, Calm, status, live, view, mitigations, recent, held, last, remembered, alone};
-ghost use Rattle.dots_history.specs.Rows.{scrub_rows, list_rows};
+ghost use Rattle.dots_history.specs.Rows.{plain_rows, acl_rows, is_mitigating, is_active, fate};
+ghost use Rattle.filter_rows.specs.Fates.{fate_by_rows};
+ghost use Rattle.ip_scope.specs.Prefix.{PrefixValue, holds};
+ghost use Rattle.acl_lists.specs.declared.ace.Ace.{Ace};
+ghost use Rattle.acl_lists.specs.declared.acl.Acl.{Acl};
+ghost use Rattle.acl_lists.specs.declared.acl.Activation.{Activation};
+ghost use Rattle.acl_lists.specs.declared.packet.Packet.{Packet};
+ghost use Rattle.acl_lists.specs.Matching.{ace_matches};
 ghost use Rattle.dots_history.specs.Keeping.{kept, HasPeerOfEach};
 ghost use Rattle.dots_settings.specs.Settings.{SettingsValue};
 ghost use Rattle.dots_laws.specs.Calm.{IsCalmBy, is_own, capacities_of};
@@ -14,7 +21,8 @@ ghost use Rattle.dots_laws.specs.Capacities.{Capacities, KeepsCapacities, belong
 ghost use Rattle.dots_laws.specs.Firsts.{IsFirstEnder};
 ghost use Rattle.dots_laws.specs.Reading.{SaySame};
 ghost use Rattle.dots_laws.specs.Turns.{Turn, TurnsRise, time_after, applied, view_after};
-ghost use Rattle.dots_laws.specs.Views.{view_at, view_with, mitigations_of, lies_inside};
+ghost use Rattle.dots_laws.specs.Views.{view_at, view_with, mitigations_of};
+ghost use Rattle.dots_laws.specs.Containing.{scrubs_inside, lists_inside};
 
 /// A mitigation that is ended stays ended whatever is appended, and one that isn't live is never live again, whatever
 /// comes later. The first entry that ends a mitigation is one.
@@ -91,18 +99,34 @@ pub fn calm_goes_on()
         → list_all (is_own settings) entries ≡ true → is_own settings e ≡ true → Calm (entries ++ e ∷ []) }
 {}
 
-/// The live mitigations of a domain, the replies to its repeats, its scrub rows and its access lists are those of its own
-/// entries alone.
+/// What a domain comes to is what its own entries come to alone: its live mitigations and the replies to its repeats; which of its
+/// clients mitigate, and whether a list of theirs is active; its scrub rows and list rows, and so the fate of a packet by these;
+/// and, of a calm history, what is held of it, its registrations, aliases, access lists and session configurations.
 pub fn domains_are_apart()
     ensures mitigations { (domain t : ℕ) (entries : List Entry) → mitigations t (alone domain entries) ≡ mitigations_of domain (mitigations t entries) }
     ensures replies { (n t peer domain id : ℕ) (entries : List Entry)
         → remembered n t peer domain id (alone domain entries) ≡ remembered n t peer domain id entries }
+    ensures mitigating { (domain t : ℕ) (entries : List Entry) (e : Entry) → (e.domain == domain) ≡ true
+        → is_mitigating t (alone domain entries) e ≡ is_mitigating t entries e }
+    ensures active { (domain t : ℕ) (entries : List Entry) (e : Entry) (a : Activation) → (e.domain == domain) ≡ true
+        → is_active t (alone domain entries) e a ≡ is_active t entries e a }
     ensures rows { (domain t : ℕ) (entries : List Entry)
-        → scrub_rows t (alone domain entries) ≡ filter (λ row. row.put.domain == domain) (scrub_rows t entries) }
-    ensures lists { (domain : ℕ) (entries : List Entry) → list_rows (alone domain entries) ≡ alone domain (list_rows entries) }
+        → plain_rows t (alone domain entries) ≡ filter (λ row. row.domain == domain) (plain_rows t entries) }
+    ensures lists { (domain t : ℕ) (entries : List Entry) → acl_rows t (alone domain entries) ≡ filter (λ row. row.domain == domain) (acl_rows t entries) }
+    ensures fates { (prefixes : ℕ → List PrefixValue) (domain t : ℕ) (entries : List Entry) (packet : Packet)
+        → fate prefixes t (alone domain entries) packet ≡ fate_by_rows prefixes (filter (λ row. row.domain == domain) (plain_rows t entries))
+            (filter (λ row. row.domain == domain) (acl_rows t entries)) packet }
+    ensures written { (domain : ℕ) (entries : List Entry) → Calm entries → held (alone domain entries) ≡ alone domain (held entries) }
 {}
 
-/// Each scrub row lies inside a prefix of its mitigation's targets, which were fixed when it was accepted.
-pub fn rows_lie_inside()
-    ensures { (t : ℕ) (entries : List Entry) → list_all lies_inside (scrub_rows t entries) ≡ true }
+/// Where the entries are the settings' own, the prefix of each scrub row lies inside the domain of its client, and so does each
+/// destination in a list row; and an entry of a list without a destination matches only packets that go to the domain.
+pub fn filters_lie_inside()
+    ensures scrubs { (settings : SettingsValue) (t : ℕ) (entries : List Entry) → list_all (is_own settings) entries ≡ true
+        → list_all (scrubs_inside settings) (plain_rows t entries) ≡ true }
+    ensures lists { (settings : SettingsValue) (t : ℕ) (entries : List Entry) → list_all (is_own settings) entries ≡ true
+        → list_all (lists_inside settings) (acl_rows t entries) ≡ true }
+    ensures anywhere { (acl : Acl) (ace : Ace) (domain : List PrefixValue) (packet : Packet) → ace.destination ≡ None
+        → ace_matches acl ace domain packet ≡ true
+        → list_any (λ (prefix : PrefixValue). holds prefix packet.destination.family packet.destination.number) domain ≡ true }
 {}

@@ -1,15 +1,18 @@
 //! What the tables of a server cite of a history.
 
 ghost use Rattle.std.specs.Prelude.{◌≡◌, ℕ, ◌≤◌, ◌<◌, ◌++◌, ◌∷◌, ◌&&◌, ◌==◌, [], true, false, not, if◌then◌else◌, List, length, drop, filter, map};
-ghost use Rattle.std.specs.List.{list_any};
+ghost use Rattle.std.specs.List.{list_any, All};
 ghost use Rattle.ip_scope.specs.Prefix.{PrefixValue};
 ghost use Rattle.acl_lists.specs.declared.packet.Packet.{Packet};
 ghost use Rattle.dots_history.specs.declared.entry.Entry.{Entry};
 ghost use Rattle.dots_history.specs.declared.status.Status.{Status};
 ghost use Rattle.dots_history.specs.Entries.{same_client, is_signal, signals};
 ghost use Rattle.dots_history.specs.Histories.{Mitigation, tally, live, seconds_left, mitigations, held};
+ghost use Rattle.dots_history.specs.Keeping.{names, kept, kept_places};
+ghost use Rattle.dots_history.specs.Slots.{Rises};
 ghost use Rattle.dots_history.specs.Rows.{plain_rows, acl_rows, is_mitigating, fate};
 ghost use Rattle.dots_laws.specs.Capacities.{is_setting};
+ghost use Rattle.dots_laws.specs.KeptPlaces.{at_places, union, live_places, withdrawal_places, recent_places, last_places, held_places};
 ghost use Rattle.dots_laws.specs.Tables.{Client, client_of, is_of, bare, bare_mitigation, has_mid, AreApart, writes_alias, writes_acl, end_of, is_before, seconds_until, is_due, ring, pushed};
 ghost use Rattle.dots_laws.specs.Views.{mitigations_at, mitigations_with, mitigations_of};
 
@@ -72,4 +75,18 @@ pub fn messages_are_remembered_in_a_ring()
     ensures room { (n : ℕ) (e : Entry) (es : List Entry) → length es < n → pushed n e es ≡ es ++ e ∷ [] }
     ensures full { (n : ℕ) (e : Entry) (es : List Entry) → length es ≡ n → pushed n e es ≡ drop 1 (es ++ e ∷ []) }
     ensures few { (n peer domain : ℕ) (entries : List Entry) → length (ring n peer domain entries) ≤ n }
+{}
+
+/// What stands at the places that a view names is what it names; these places rise and are places of the history, the last of
+/// which is among them; and they are the union of the places of the live mitigations, of their first withdrawals, of the
+/// last so many signal entries of each peer and domain, of the last entry and of what is held.
+pub fn kept_places_are_places()
+    ensures there { (n t : ℕ) (entries : List Entry) → at_places entries (kept_places (names n t) [] 0 entries) ≡ kept n t entries }
+    ensures rise { (n t : ℕ) (entries : List Entry) → Rises (kept_places (names n t) [] 0 entries) }
+    ensures inside { (n t : ℕ) (entries : List Entry) → All (λ place. place < length entries) (kept_places (names n t) [] 0 entries) }
+    ensures last { (n t : ℕ) (entries : List Entry) (e : Entry)
+        → list_any (λ place. place == length entries) (kept_places (names n t) [] 0 (entries ++ e ∷ [])) ≡ true }
+    ensures union { (n t : ℕ) (entries : List Entry) → kept_places (names n t) [] 0 entries
+        ≡ union (union (live_places t entries) (withdrawal_places t entries))
+            (union (union (recent_places n entries) (last_places entries)) (held_places entries)) }
 {}
