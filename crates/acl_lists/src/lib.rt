@@ -23,6 +23,3 @@ pub use asked::{Asked, ByteList, NameList, PortList, PrefixList};
 pub use matching::ace_matches;
 pub use packet::Packet;
 pub use port_test::PortTest;
-
-#[cfg(test)]
-mod tests;

@@ -1,8 +1,8 @@
 pub mod Fates
-pub mod Greatest
+pub mod Deciding
 pub mod PlaceLaws
 pub mod Remembering
-pub mod Holding
+pub mod HeldPlaces
 pub mod Tracks
 pub mod Placing
 pub mod CalmPlaces

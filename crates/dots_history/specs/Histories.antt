@@ -53,16 +53,16 @@ abbrev pub live : ℕ → Entry → Status → Bool
 live t put s = stands t put s || terminates t put s
 
 -- a mitigation with its status
-pub record Held : Type 0 where
+pub record Mitigation : Type 0 where
   pub put : Entry
   pub status : Status
 
-abbrev pub held : ℕ → Entry → Status → Option Held
-held t put s = if live t put s then Some (record { put = put; status = s }) else None
+abbrev pub if_live : ℕ → Entry → Status → Option Mitigation
+if_live t put s = if live t put s then Some (record { put = put; status = s }) else None
 
 -- the live mitigations, each with its status
-abbrev pub mitigations : ℕ → List Entry → List Held
-mitigations t entries = sieve (λ e later. held t e (status e Open later)) entries
+abbrev pub mitigations : ℕ → List Entry → List Mitigation
+mitigations t entries = sieve (λ e later. if_live t e (status e Open later)) entries
 
 -- the seconds until a lifetime granted at this time is over, or -1 where it is indefinite
 abbrev pub seconds_of : ℕ → ℕ → ℤ → ℤ
@@ -112,8 +112,8 @@ abbrev pub stays : Entry → List Entry → Bool
 stays e later = is_held e.change && not (list_any (undoes e) later)
 
 -- the registrations, aliases, access lists and session configurations that are held
-abbrev pub things : List Entry → List Entry
-things entries = kept_where stays entries
+abbrev pub held : List Entry → List Entry
+held entries = kept_where stays entries
 
 abbrev pub is_nil : {A : Type 0} → List A → Bool
 is_nil [] = true
@@ -126,9 +126,9 @@ last entries = kept_where (λ e later. is_nil later) entries
 -- What of a history matters from time t on: the live mitigations with what was done to them, the last n signal
 -- entries of each peer and domain, what is held, and the last entry.
 pub record View : Type 0 where
-  pub mitigations : List Held
+  pub mitigations : List Mitigation
   pub recent : List Entry
-  pub things : List Entry
+  pub held : List Entry
   pub last : List Entry
 
 abbrev pub view : ℕ → ℕ → List Entry → View
@@ -136,7 +136,7 @@ view n t entries =
     record {
       mitigations = mitigations t entries;
       recent = recent n entries;
-      things = things entries;
+      held = held entries;
       last = last entries;
     }
 

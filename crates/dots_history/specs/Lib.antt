@@ -1,4 +1,5 @@
 pub mod Bounds
+pub mod Deciding
 pub mod Entries
 pub mod Histories
 pub mod Keeping

@@ -5,7 +5,7 @@ ghost use Rattle.std.specs.List.{list_any};
 ghost use Rattle.dots_history.specs.Keeping.{names, is_first, tracks, kept_places};
 
 use crate::entry::Entry;
-use crate::held::is_still_held;
+use crate::holding::is_still_held;
 use crate::lives::{is_live, is_live_after, status_after, step};
 use crate::relations::withdraws;
 use crate::reply::is_recent;

@@ -14,7 +14,7 @@ use crate::status::Status;
 const INDEFINITE: i32 = -1;
 
 /// For how long a withdrawn mitigation goes on, in seconds (RFC 9132, section 4.4.4).
-const TERMINATING: u64 = 120;
+pub(crate) const TERMINATING: u64 = 120;
 
 /// Whether a lifetime granted at one time, in seconds or -1, isn't over at the time t.
 #[tactic(auto, unfolding(crate::specs::Entries::granted_at))]
@@ -44,14 +44,16 @@ fn lasts(t: u64, at: u64, change: &Change) -> bool
     }
 }
 
+/// Whether the entry is a mitigation whose lifetime isn't over at the time t.
 #[tactic(auto, unfolding(crate::specs::Entries::runs))]
-fn runs(t: u64, entry: &Entry) -> bool
+pub fn runs(t: u64, entry: &Entry) -> bool
     ensures { result ≡ runs t entry.now }
 {
     lasts(t, entry.time, &entry.change)
 }
 
-pub(crate) fn step(put: &Entry, old: Status, entry: &Entry) -> Status
+/// The status of a mitigation after one more entry.
+pub fn step(put: &Entry, old: Status, entry: &Entry) -> Status
     ensures { result ≡ step put.now old entry.now }
 {
     match old {

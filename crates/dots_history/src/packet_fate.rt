@@ -1,36 +1,27 @@
-//! What becomes of a packet.
+//! What becomes of a packet by the rows of a history.
 
-ghost use Rattle.std.specs.Prelude.{◌≡◌, option_map, option_copied, filter, map, find, IfOk};
-ghost use Rattle.acl_lists.specs.Matching.{ace_matches};
-ghost use Rattle.dots_history.specs.Rows.{mid_of, decision, decision_of_active, decision_of_lists, list_rows, is_active, acl_of, row_matches, greatest, greatest_from, fate};
-ghost use Rattle.dots_history.specs.Viewing.{row_of, fate_of, prefixes_in};
+ghost use Rattle.std.specs.Prelude.{◌≡◌, option_map, map, IfOk};
+ghost use Rattle.filter_rows.specs.Fates.{scrubs, scrubbing_mid};
+ghost use Rattle.filter_rows.specs.Told.{fate_of, prefixes_in};
+ghost use Rattle.dots_history.specs.Deciding.{decision_of_active, decision_of_lists};
+ghost use Rattle.dots_history.specs.Rows.{mid_of, acl_of, list_rows, is_active, plain_row, fate};
+ghost use Rattle.dots_history.specs.Viewing.{row_of};
 
 use crate::change::Change;
 use crate::entry::Entry;
-use crate::held::is_still_held;
+use crate::holding::is_still_held;
 use crate::relations::put_of;
-use crate::rows::{ScrubRow, acl_of, is_active, row_matches, scrub_rows};
-use acl_lists::{Ace, Acl, Packet, PrefixList, ace_matches};
-use dots_lists::{Name, NoMemory};
+use crate::rows::{LiveRow, acl_of, is_active, scrub_rows};
+use acl_lists::{Packet, PrefixList};
+use dots_lists::NoMemory;
+use filter_rows::{Fate, decision, greatest_from, is_scrubbed};
 use ip_scope::Prefix;
 use std::alloc::Global;
 
-/// What becomes of a packet.
-#[derive(Clone, Copy, Debug, Drop)]
-pub enum Fate<'a> {
-    /// No filter matches.
-    Pass,
-    /// An entry of this access list accepts it.
-    Accepted { acl: &'a Name },
-    /// An entry of this access list drops it.
-    Dropped { acl: &'a Name },
-    /// It is scrubbed for the mitigation of this mid.
-    Scrubbed { mid: u32 },
-}
-
-/// The fate of a packet at the time t: what the first matching entry of the active access lists says (RFC 8519, section
-/// 2); else it is scrubbed for the greatest mid of the rows that match; else it passes. `domains` has the prefixes of
-/// each domain, by its number.
+/// The fate of a packet at the time t, by the rows of the history: what the first matching entry of the active access lists
+/// says (RFC 8519, section 2); else it is scrubbed for the greatest mid of the rows that match; else it passes. `domains`
+/// has the prefixes of each domain, by its number.
+#[tactic(auto, using(crate::proofs::Deciding::by_entries))]
 pub fn fate_of_packet<'a>(
     alloc: Global,
     domains: &[PrefixList],
@@ -51,27 +42,28 @@ pub fn fate_of_packet<'a>(
 }
 
 /// The greatest mid of the rows that match.
-#[tactic(auto, using(crate::proofs::Greatest::greater_more))]
-fn greatest_mid(rows: &[ScrubRow<'_>], packet: &Packet) -> Option<u32>
-    ensures { result ≡ greatest (map (λ row. mid_of row.put.change) (filter (λ row. row_matches row packet.now) (map row_of rows.now))) }
+#[tactic(auto, using(filter_rows::proofs::Greatest::greater_more))]
+fn greatest_mid(rows: &[LiveRow<'_>], packet: &Packet) -> Option<u32>
+    ensures { result ≡ scrubbing_mid packet.now (map plain_row (map row_of rows.now)) }
 {
     let mut found = None;
     for row in rows {
-        if row_matches(row, packet) {
+        if scrubs(packet, row) {
             found = Some(greatest_from(mid_of(&row.put.change), found));
         }
     }
     found
 }
 
-/// The greater of the two, where there are two.
-fn greatest_from(mid: u32, other: Option<u32>) -> u32
-    ensures { result ≡ greatest_from mid other }
+fn scrubs(packet: &Packet, row: &LiveRow<'_>) -> bool
+    ensures { result ≡ scrubs packet.now (plain_row (row_of row.now)) }
 {
-    match other {
-        Some(other) => mid.max(other),
-        None => mid,
-    }
+    is_scrubbed(
+        row.prefix,
+        row.target.protocols.items(),
+        row.target.ports.items(),
+        packet,
+    )
 }
 
 /// The mid of a mitigation.
@@ -129,26 +121,4 @@ fn prefixes_in(domains: &[PrefixList], domain: u16) -> &[Prefix]
         Some(prefixes) => prefixes.items(),
         None => &[],
     }
-}
-
-/// What the first entry of a list that matches does.
-fn decision<'a>(domain: &[Prefix], packet: &Packet, acl: &'a Acl) -> Option<Fate<'a>>
-    ensures { option_map fate_of result ≡ decision domain.now packet.now acl.now }
-{
-    let ace = first_match(domain, packet, acl)?;
-    if ace.accept {
-        return Some(Fate::Accepted { acl: &acl.name });
-    }
-    Some(Fate::Dropped { acl: &acl.name })
-}
-
-fn first_match<'a>(domain: &[Prefix], packet: &Packet, acl: &'a Acl) -> Option<&'a Ace>
-    ensures { option_copied result ≡ find (λ ace. ace_matches acl.now ace domain.now packet.now) acl.now.aces }
-{
-    for ace in acl.aces.items() {
-        if ace_matches(acl, ace, domain, packet) {
-            return Some(ace);
-        }
-    }
-    None
 }

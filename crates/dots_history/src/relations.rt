@@ -56,7 +56,7 @@ fn takes_back(earlier: &Change, later: &Change) -> bool
 }
 
 /// The mitigation of a change, where it is one.
-pub(crate) fn put_of(change: &Change) -> Option<&Put>
+pub fn put_of(change: &Change) -> Option<&Put>
     ensures { option_copied result ≡ put_of change.now }
 {
     match change {
@@ -92,14 +92,15 @@ fn withdrawn_mid(change: &Change) -> Option<u32>
 
 /// Whether the entry is a change that the peer made for the domain on the signal channel.
 #[tactic(auto, unfolding(crate::specs::Entries::signals))]
-pub(crate) fn signals(peer: u32, domain: u16, entry: &Entry) -> bool
+pub fn signals(peer: u32, domain: u16, entry: &Entry) -> bool
     ensures { result ≡ signals peer domain entry.now }
 {
     is_signal(&entry.change) && entry.peer == peer && entry.domain == domain
 }
 
+/// Whether the signal channel makes such changes.
 #[tactic(auto, unfolding(crate::specs::Entries::is_signal))]
-pub(crate) fn is_signal(change: &Change) -> bool
+pub fn is_signal(change: &Change) -> bool
     ensures { result ≡ is_signal change.now }
 {
     match change {

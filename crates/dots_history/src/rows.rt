@@ -3,24 +3,23 @@
 ghost use Rattle.std.specs.Prelude.{◌≡◌, ◌++◌, true, IfOk, map, option_copied, flat_map};
 ghost use Rattle.std.specs.List.{list_any};
 ghost use Rattle.dots_history.specs.Entries.{option_any};
-ghost use Rattle.dots_history.specs.Rows.{rows_of, scrub_rows, list_rows, is_mitigating, is_active, targets_of, acl_of, row_matches};
+ghost use Rattle.dots_history.specs.Rows.{rows_of, scrub_rows, list_rows, is_mitigating, is_active, targets_of, acl_of};
 ghost use Rattle.dots_history.specs.Viewing.{row_of};
 
 use crate::change::Change;
 use crate::entry::Entry;
-use crate::held::is_still_held;
+use crate::holding::is_still_held;
 use crate::lives::is_live_after;
 use crate::put::Target;
 use crate::relations::is_same_client;
-use crate::scrubbing::{has_port, has_protocol};
-use acl_lists::{Acl, Activation, Packet};
+use acl_lists::{Acl, Activation};
 use dots_lists::NoMemory;
-use ip_scope::{Prefix, holds};
+use ip_scope::Prefix;
 use std::alloc::Global;
 
 /// A row of a live mitigation: one prefix of one of its targets.
 #[derive(Clone, Copy, Debug, Drop)]
-pub struct ScrubRow<'a> {
+pub struct LiveRow<'a> {
     /// The mitigation, whose domain, cuid and mid are the row's.
     pub put: &'a Entry,
     /// The target, whose ports and protocols are the row's.
@@ -33,7 +32,7 @@ pub fn scrub_rows<'a>(
     alloc: Global,
     t: u64,
     entries: &'a [Entry],
-) -> Result<Vec<ScrubRow<'a>>, NoMemory>
+) -> Result<Vec<LiveRow<'a>>, NoMemory>
     ensures { IfOk result (λ list. map row_of list.items ≡ scrub_rows t entries.now) }
 {
     let mut list = Vec::new(alloc);
@@ -46,13 +45,13 @@ pub fn scrub_rows<'a>(
 }
 
 /// The rows of one mitigation, in order of the targets and their prefixes.
-fn rows_of<'a>(alloc: Global, put: &'a Entry) -> Result<Vec<ScrubRow<'a>>, NoMemory>
+fn rows_of<'a>(alloc: Global, put: &'a Entry) -> Result<Vec<LiveRow<'a>>, NoMemory>
     ensures { IfOk result (λ list. map row_of list.items ≡ rows_of put.now) }
 {
     let mut list = Vec::new(alloc);
     for target in targets_of(&put.change) {
         for prefix in target.prefixes.items() {
-            list.push(ScrubRow {
+            list.push(LiveRow {
                 put,
                 target,
                 prefix,
@@ -96,15 +95,6 @@ pub(crate) fn acl_of(change: &Change) -> Option<&Acl>
         | Change::SetConfig { .. }
         | Change::ClearConfig => None,
     }
-}
-
-/// Whether the packet goes to the row's prefix, by its protocols, to its ports.
-pub fn row_matches(row: &ScrubRow<'_>, packet: &Packet) -> bool
-    ensures { result ≡ row_matches (row_of row.now) packet.now }
-{
-    holds(row.prefix, &packet.destination)
-        && has_protocol(row.target.protocols.items(), packet)
-        && has_port(row.target.ports.items(), packet.ports)
 }
 
 /// The entries that wrote the access lists which are held, in order.

@@ -1,20 +1,17 @@
 //! The view of a history, each part in order of the entries.
 
 ghost use Rattle.std.specs.Prelude.{◌≡◌, IfOk, map, option_copied};
-ghost use Rattle.dots_history.specs.Histories.{mitigations, recent, things, seconds_left};
-ghost use Rattle.dots_history.specs.Viewing.{held_of};
+ghost use Rattle.dots_history.specs.Histories.{mitigations, recent, held, seconds_left};
+ghost use Rattle.dots_history.specs.Viewing.{mitigation_of};
 
 use crate::entry::Entry;
-use crate::held::is_still_held;
-use crate::lives::{is_live, seconds_of, status_after};
+use crate::holding::is_still_held;
+use crate::lives::{TERMINATING, is_live, seconds_of, status_after};
 use crate::relations::put_of;
 use crate::reply::is_recent;
 use crate::status::Status;
 use dots_lists::NoMemory;
 use std::alloc::Global;
-
-/// For how long a withdrawn mitigation goes on, in seconds (RFC 9132, section 4.4.4).
-const TERMINATING: i128 = 120;
 
 /// A live mitigation, and what was done to it.
 #[derive(Clone, Copy, Debug, Drop)]
@@ -29,7 +26,7 @@ pub fn mitigations<'a>(
     t: u64,
     entries: &'a [Entry],
 ) -> Result<Vec<Mitigation<'a>>, NoMemory>
-    ensures { IfOk result (λ list. map held_of list.items ≡ mitigations t entries.now) }
+    ensures { IfOk result (λ list. map mitigation_of list.items ≡ mitigations t entries.now) }
 {
     let mut list = Vec::new(alloc);
     for (place, put) in entries.iter().enumerate() {
@@ -51,7 +48,7 @@ pub fn seconds_left(t: u64, put: &Entry, status: Status) -> i128
             Some(granted) => seconds_of(t, put.time, granted.granted),
             None => 0,
         },
-        Status::Withdrawn(at) => i128::from(at) + TERMINATING - i128::from(t),
+        Status::Withdrawn(at) => i128::from(at) + i128::from(TERMINATING) - i128::from(t),
         Status::Ended => 0,
     }
 }
@@ -74,8 +71,8 @@ pub fn recent<'a>(
 }
 
 /// What was written and no later entry undoes.
-pub fn things<'a>(alloc: Global, entries: &'a [Entry]) -> Result<Vec<&'a Entry>, NoMemory>
-    ensures { IfOk result (λ list. map (λ e. e.now) list.items ≡ things entries.now) }
+pub fn held<'a>(alloc: Global, entries: &'a [Entry]) -> Result<Vec<&'a Entry>, NoMemory>
+    ensures { IfOk result (λ list. map (λ e. e.now) list.items ≡ held entries.now) }
 {
     let mut list = Vec::new(alloc);
     for (place, entry) in entries.iter().enumerate() {

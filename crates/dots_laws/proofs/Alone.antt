@@ -10,7 +10,7 @@ use Rattle.dots_history.specs.declared.put.Target.{Target}
 use Rattle.dots_history.specs.declared.change.Change.{Change}
 use Rattle.dots_history.specs.declared.change.Change.TheVariants as change
 use Rattle.dots_history.specs.Entries.{same_client, is_signal, signals, may_repeat, is_held, undoes, undoes_of_client, undoes_of_peer, reconfigures, option_any}
-use Rattle.dots_history.specs.Histories.{Held, tally, is_recent, or_else, remembered, mitigations, stays, things, alone}
+use Rattle.dots_history.specs.Histories.{Mitigation, tally, is_recent, or_else, remembered, mitigations, stays, held, alone}
 use Rattle.dots_history.specs.Rows.{Row, rows_of, targets_of, acl_of, scrub_rows, list_rows}
 use Rattle.dots_history.proofs.Remembering.{or_none}
 use Rattle.dots_laws.specs.Views.{mitigations_of}
@@ -127,10 +127,10 @@ no_rows domain put (target ∷ targets) other =
     ∙ ap (λ rows. rows ++ filter (of_domain domain) (rows_of_targets put targets)) (none_kept domain put target target.prefixes other)
     ∙ no_rows domain put targets other
 
-abbrev rows_in : List Held → List Row
-rows_in ms = flat_map (λ (m : Held). rows_of m.put) ms
+abbrev rows_in : List Mitigation → List Row
+rows_in ms = flat_map (λ (m : Mitigation). rows_of m.put) ms
 
-rows_in_domain : (domain : ℕ) (ms : List Held) → rows_in (mitigations_of domain ms) ≡ filter (of_domain domain) (rows_in ms)
+rows_in_domain : (domain : ℕ) (ms : List Mitigation) → rows_in (mitigations_of domain ms) ≡ filter (of_domain domain) (rows_in ms)
 rows_in_domain domain [] = refl
 rows_in_domain domain (m ∷ ms) =
     let go = rows_in_domain domain ms in
@@ -138,7 +138,7 @@ rows_in_domain domain (m ∷ ms) =
     (m.put.domain == domain)
     (m ∷ mitigations_of domain ms)
     (mitigations_of domain ms)
-    (λ held. rows_in held ≡ filter (of_domain domain) (rows_in (m ∷ ms)))
+    (λ standing. rows_in standing ≡ filter (of_domain domain) (rows_in (m ∷ ms)))
     (λ own.
     ap (λ rows. rows_of m.put ++ rows) go
     ∙ sym (ap (λ rows. rows ++ filter (of_domain domain) (rows_in ms)) (all_rows domain m.put (targets_of m.put.change) own))
@@ -192,15 +192,15 @@ list_dropped : (s : Bool) (e : Entry) (rest : List Entry) → writes_list e ≡ 
 list_dropped true e rest out = cond-false (writes_list e) (e ∷ filter writes_list rest) (filter writes_list rest) out
 list_dropped false e rest out = refl
 
-abbrev in_domain : ℕ → Entry → Bool
+abbrev pub in_domain : ℕ → Entry → Bool
 in_domain domain e = e.domain == domain
 
-own_kept : (s : Bool) (domain : ℕ) (e : Entry) (rest : List Entry) → (e.domain == domain) ≡ true
+pub own_kept : (s : Bool) (domain : ℕ) (e : Entry) (rest : List Entry) → (e.domain == domain) ≡ true
     → filter (in_domain domain) (option_to_list (cond s (Some e) None) ++ rest) ≡ option_to_list (cond s (Some e) None) ++ filter (in_domain domain) rest
 own_kept true domain e rest own = cond-true (e.domain == domain) (e ∷ filter (in_domain domain) rest) (filter (in_domain domain) rest) own
 own_kept false domain e rest own = refl
 
-other_dropped : (s : Bool) (domain : ℕ) (e : Entry) (rest : List Entry) → (e.domain == domain) ≡ false
+pub other_dropped : (s : Bool) (domain : ℕ) (e : Entry) (rest : List Entry) → (e.domain == domain) ≡ false
     → filter (in_domain domain) (option_to_list (cond s (Some e) None) ++ rest) ≡ filter (in_domain domain) rest
 other_dropped true domain e rest other = cond-false (e.domain == domain) (e ∷ filter (in_domain domain) rest) (filter (in_domain domain) rest) other
 other_dropped false domain e rest other = refl
@@ -217,15 +217,15 @@ lists_alone domain (e ∷ later) =
           (alone domain later)
           (λ es. list_rows es ≡ alone domain (list_rows (e ∷ later)))
           (λ own.
-          list_kept (stays e (alone domain later)) e (things (alone domain later)) is
+          list_kept (stays e (alone domain later)) e (held (alone domain later)) is
           ∙ ap (λ b. option_to_list (cond (is_held e.change && not b) (Some e) None) ++ list_rows (alone domain later)) (same_undone domain e later is own)
           ∙ ap (λ es. option_to_list (cond (stays e later) (Some e) None) ++ es) go
           ∙ sym (own_kept (stays e later) domain e (list_rows later) own)
-          ∙ sym (ap (alone domain) (list_kept (stays e later) e (things later) is)))
+          ∙ sym (ap (alone domain) (list_kept (stays e later) e (held later) is)))
           (λ other.
           go
           ∙ sym (other_dropped (stays e later) domain e (list_rows later) other)
-          ∙ sym (ap (alone domain) (list_kept (stays e later) e (things later) is)))
+          ∙ sym (ap (alone domain) (list_kept (stays e later) e (held later) is)))
       | inr out ↦
           cond_both
           (e.domain == domain)
@@ -233,8 +233,8 @@ lists_alone domain (e ∷ later) =
           (alone domain later)
           (λ es. list_rows es ≡ alone domain (list_rows (e ∷ later)))
           (λ own.
-          list_dropped (stays e (alone domain later)) e (things (alone domain later)) out
+          list_dropped (stays e (alone domain later)) e (held (alone domain later)) out
           ∙ go
-          ∙ sym (ap (alone domain) (list_dropped (stays e later) e (things later) out)))
-          (λ other. go ∙ sym (ap (alone domain) (list_dropped (stays e later) e (things later) out)))
+          ∙ sym (ap (alone domain) (list_dropped (stays e later) e (held later) out)))
+          (λ other. go ∙ sym (ap (alone domain) (list_dropped (stays e later) e (held later) out)))
     ]

@@ -6,7 +6,7 @@ use Rattle.dots_history.specs.declared.entry.Entry.{Entry}
 use Rattle.dots_history.specs.declared.status.Status.{Status}
 use Rattle.dots_history.specs.declared.status.Status.TheVariants.{Ended, Open, Withdrawn}
 use Rattle.dots_history.specs.Entries.{same_client, ends, withdraws}
-use Rattle.dots_history.specs.Histories.{Held, live, held, status, step, mitigations, alone}
+use Rattle.dots_history.specs.Histories.{Mitigation, live, if_live, status, step, mitigations, alone}
 use Rattle.dots_laws.specs.Views.{mitigations_of}
 
 -- an entry of another domain ends nothing of this one
@@ -42,12 +42,12 @@ status_alone domain p s (e ∷ later) own =
     status_alone domain p s later own
     ∙ ap (λ now. status p now later) (sym (untouched p e s (other_domain domain p e own other))))
 
-kept_of : (b : Bool) (q : Held → Bool) (m : Held) (rest : List Held) → q m ≡ true
+kept_of : (b : Bool) (q : Mitigation → Bool) (m : Mitigation) (rest : List Mitigation) → q m ≡ true
     → filter q (option_to_list (cond b (Some m) None) ++ rest) ≡ option_to_list (cond b (Some m) None) ++ filter q rest
 kept_of true q m rest is = cond-true (q m) (m ∷ filter q rest) (filter q rest) is
 kept_of false q m rest is = refl
 
-left_out : (b : Bool) (q : Held → Bool) (m : Held) (rest : List Held) → q m ≡ false
+left_out : (b : Bool) (q : Mitigation → Bool) (m : Mitigation) (rest : List Mitigation) → q m ≡ false
     → filter q (option_to_list (cond b (Some m) None) ++ rest) ≡ filter q rest
 left_out true q m rest is = cond-false (q m) (m ∷ filter q rest) (filter q rest) is
 left_out false q m rest is = refl
@@ -62,9 +62,9 @@ apart domain t (e ∷ later) =
     (alone domain later)
     (λ es. mitigations t es ≡ mitigations_of domain (mitigations t (e ∷ later)))
     (λ own.
-    ap (λ now. option_to_list (held t e now) ++ mitigations t (alone domain later)) (status_alone domain e Open later own)
-    ∙ ap (λ rest. option_to_list (held t e s) ++ rest) (apart domain t later)
-    ∙ sym (kept_of (live t e s) (λ (m : Held). m.put.domain == domain) (record { put = e; status = s }) (mitigations t later) own))
+    ap (λ now. option_to_list (if_live t e now) ++ mitigations t (alone domain later)) (status_alone domain e Open later own)
+    ∙ ap (λ rest. option_to_list (if_live t e s) ++ rest) (apart domain t later)
+    ∙ sym (kept_of (live t e s) (λ (m : Mitigation). m.put.domain == domain) (record { put = e; status = s }) (mitigations t later) own))
     (λ other.
     apart domain t later
-    ∙ sym (left_out (live t e s) (λ (m : Held). m.put.domain == domain) (record { put = e; status = s }) (mitigations t later) other))
+    ∙ sym (left_out (live t e s) (λ (m : Mitigation). m.put.domain == domain) (record { put = e; status = s }) (mitigations t later) other))

@@ -11,7 +11,7 @@ use Rattle.dots_history.specs.declared.status.Status.TheVariants.{Open}
 use Rattle.dots_history.specs.declared.change.Change.{Change}
 use Rattle.dots_history.specs.declared.change.Change.TheVariants as change
 use Rattle.dots_history.specs.Entries.{put_of, same_client, is_signal, signals, is_held, is_configuration, undoes, undoes_of_client, undoes_of_peer, reconfigures}
-use Rattle.dots_history.specs.Histories.{Held, tally, live, held, status, is_recent, recent, stays, things, last, mitigations}
+use Rattle.dots_history.specs.Histories.{Mitigation, tally, live, status, is_recent, recent, stays, held, last, mitigations}
 use Rattle.dots_history.specs.Keeping.{kept}
 use Rattle.dots_history.specs.Places.{lasts}
 use Rattle.dots_history.proofs.Remembering.{recent_are_lasts}
@@ -76,13 +76,13 @@ actor_of room e belong is =
 
 -- ---- live mitigations
 live_domains : (room : Capacities) (t : ℕ) (entries : List Entry) → list_all (belongs room) entries ≡ true
-    → list_all (λ (m : Held). list_any (λ domain. m.put.domain == domain) room.domains) (mitigations t entries) ≡ true
+    → list_all (λ (m : Mitigation). list_any (λ domain. m.put.domain == domain) room.domains) (mitigations t entries) ≡ true
 live_domains room t [] all = refl
 live_domains room t (e ∷ later) all =
     let parts = and_parts (belongs room e) (list_all (belongs room) later) all in
     some_or_none
     (live t e (status e Open later))
-    (λ (m : Held). list_any (λ domain. m.put.domain == domain) room.domains)
+    (λ (m : Mitigation). list_any (λ domain. m.put.domain == domain) room.domains)
     (record { put = e; status = status e Open later })
     (mitigations t later)
     (λ is. domain_of room e parts.0 (live_put t e (status e Open later) is))
@@ -91,7 +91,7 @@ live_domains room t (e ∷ later) all =
 few_live : (room : Capacities) (t : ℕ) (entries : List Entry) → list_all (belongs room) entries ≡ true → KeepsCapacities room t entries → length (mitigations t entries) ≤ length room.domains * room.mitigations
 few_live room t entries belong keeps =
     by_keys
-    (λ domain (m : Held). m.put.domain == domain)
+    (λ domain (m : Mitigation). m.put.domain == domain)
     room.mitigations
     room.domains
     (mitigations t entries)
@@ -144,14 +144,14 @@ of_a_kind (change.SetAcl acl) is = omega arith
 of_a_kind (change.SetConfig sid config) is = omega arith
 of_a_kind _ is = absurd (false≢true is)
 
-all_held : (entries : List Entry) → list_all (λ (e : Entry). is_held e.change) (things entries) ≡ true
+all_held : (entries : List Entry) → list_all (λ (e : Entry). is_held e.change) (held entries) ≡ true
 all_held [] = refl
 all_held (e ∷ later) =
     some_or_none
     (stays e later)
     (λ (x : Entry). is_held x.change)
     e
-    (things later)
+    (held later)
     (λ is. (and_parts (is_held e.change) _ is).0)
     (all_held later)
 
@@ -167,11 +167,11 @@ by_kind (e ∷ xs) all =
     omega (arith, own, go)
 
 -- ---- how many of each kind
-things_belong : (room : Capacities) (entries : List Entry) → list_all (belongs room) entries ≡ true → list_all (belongs room) (things entries) ≡ true
-things_belong room [] all = refl
-things_belong room (e ∷ later) all =
+held_belong : (room : Capacities) (entries : List Entry) → list_all (belongs room) entries ≡ true → list_all (belongs room) (held entries) ≡ true
+held_belong room [] all = refl
+held_belong room (e ∷ later) all =
     let parts = and_parts (belongs room e) (list_all (belongs room) later) all in
-    some_or_none (stays e later) (belongs room) e (things later) (λ is. parts.0) (things_belong room later parts.1)
+    some_or_none (stays e later) (belongs room) e (held later) (λ is. parts.0) (held_belong room later parts.1)
 
 filter_all : (keep test want : Entry → Bool) → ((x : Entry) → keep x ≡ true → test x ≡ true → want x ≡ true) → (xs : List Entry)
     → list_all test xs ≡ true → list_all want (filter keep xs) ≡ true
@@ -214,48 +214,48 @@ registration_no_configuration change.Register is = refl
 registration_no_configuration _ is = absurd (false≢true is)
 
 few_registered : (room : Capacities) (t : ℕ) (entries : List Entry) → list_all (belongs room) entries ≡ true → KeepsCapacities room t entries
-    → length (filter registration (things entries)) ≤ length room.domains * room.clients
+    → length (filter registration (held entries)) ≤ length room.domains * room.clients
 few_registered room t entries belong keeps =
     by_keys
     (λ domain (e : Entry). e.domain == domain)
     room.clients
     room.domains
-    (filter registration (things entries))
+    (filter registration (held entries))
     (filter_all
     registration
     (belongs room)
     (has_domain room)
     (λ x is own. domain_of room x own (registration_no_configuration x.change is))
-    (things entries)
-    (things_belong room entries belong))
-    (λ domain. subst (λ k. k ≤ room.clients) (sym (tally_filter registration (λ (e : Entry). e.domain == domain) (things entries))) (keeps.registered domain))
+    (held entries)
+    (held_belong room entries belong))
+    (λ domain. subst (λ k. k ≤ room.clients) (sym (tally_filter registration (λ (e : Entry). e.domain == domain) (held entries))) (keeps.registered domain))
 
 -- what belongs to clients
-owned_by : (held : List Entry) (e : Entry) → has_client held e ≡ true → is_alias e.change || is_list e.change ≡ true
-    → list_any (λ r. same_client r e) (filter registration held) ≡ true
-owned_by held e has is =
-    elim (or_cases (not (is_alias e.change || is_list e.change)) (list_any (λ r. is_registration r.change && same_client r e) held) has) [
+owned_by : (standing : List Entry) (e : Entry) → has_client standing e ≡ true → is_alias e.change || is_list e.change ≡ true
+    → list_any (λ r. same_client r e) (filter registration standing) ≡ true
+owned_by standing e has is =
+    elim (or_cases (not (is_alias e.change || is_list e.change)) (list_any (λ r. is_registration r.change && same_client r e) standing) has) [
       | inl out ↦ absurd (both_ways (not (is_alias e.change || is_list e.change)) (not_from_true (is_alias e.change || is_list e.change) is) out)
-      | inr there ↦ any_filter registration (λ r. same_client r e) held there
+      | inr there ↦ any_filter registration (λ r. same_client r e) standing there
     ]
 
-few_of_clients : (kind : Entry → Bool) (most : ℕ) (held : List Entry) → ((e : Entry) → kind e ≡ true → is_alias e.change || is_list e.change ≡ true)
-    → list_all (has_client held) held ≡ true → ((client : Entry) → tally (λ (e : Entry). kind e && same_client client e) held ≤ most)
-    → length (filter kind held) ≤ length (filter registration held) * most
-few_of_clients kind most held leads owned each =
+few_of_clients : (kind : Entry → Bool) (most : ℕ) (standing : List Entry) → ((e : Entry) → kind e ≡ true → is_alias e.change || is_list e.change ≡ true)
+    → list_all (has_client standing) standing ≡ true → ((client : Entry) → tally (λ (e : Entry). kind e && same_client client e) standing ≤ most)
+    → length (filter kind standing) ≤ length (filter registration standing) * most
+few_of_clients kind most standing leads owned each =
     by_keys
     (λ (client : Entry) e. same_client client e)
     most
-    (filter registration held)
-    (filter kind held)
+    (filter registration standing)
+    (filter kind standing)
     (filter_all
     kind
-    (has_client held)
-    (λ e. list_any (λ r. same_client r e) (filter registration held))
-    (λ e is has. owned_by held e has (leads e is))
-    held
+    (has_client standing)
+    (λ e. list_any (λ r. same_client r e) (filter registration standing))
+    (λ e is has. owned_by standing e has (leads e is))
+    standing
     owned)
-    (λ client. subst (λ k. k ≤ most) (sym (tally_filter kind (same_client client) held)) (each client))
+    (λ client. subst (λ k. k ≤ most) (sym (tally_filter kind (same_client client) standing)) (each client))
 
 -- a peer has one session configuration at most
 setting_configures : (c : Change) → is_setting c ≡ true → is_configuration c ≡ true
@@ -286,7 +286,7 @@ abbrev setting_of : ℕ → Entry → Bool
 setting_of peer e = is_setting e.change && (e.peer == peer)
 
 no_more : (e : Entry) (peer : ℕ) (later : List Entry) → is_setting e.change ≡ true → e.peer ≡ peer → list_any (undoes e) later ≡ false
-    → tally (setting_of peer) (things later) ≤ 0
+    → tally (setting_of peer) (held later) ≤ 0
 no_more e peer [] is own none = omega arith
 no_more e peer (x ∷ later) is own none =
     let parts = or_parts (undoes e x) (list_any (undoes e) later) none in
@@ -303,11 +303,11 @@ no_more e peer (x ∷ later) is own none =
     (stays x later)
     (Some x)
     None
-    (λ o. tally (setting_of peer) (option_to_list o ++ things later) ≤ 0)
+    (λ o. tally (setting_of peer) (option_to_list o ++ held later) ≤ 0)
     (λ stay. omega (arith, go, out))
     (λ gone. go)
 
-one_setting : (peer : ℕ) (entries : List Entry) → tally (setting_of peer) (things entries) ≤ 1
+one_setting : (peer : ℕ) (entries : List Entry) → tally (setting_of peer) (held entries) ≤ 1
 one_setting peer [] = omega arith
 one_setting peer (e ∷ later) =
     let go = one_setting peer later in
@@ -315,13 +315,13 @@ one_setting peer (e ∷ later) =
       | inl stay ↦
           let parts = and_parts (is_held e.change) (not (list_any (undoes e) later)) stay in
           subst
-          (λ o. tally (setting_of peer) (option_to_list o ++ things later) ≤ 1)
+          (λ o. tally (setting_of peer) (option_to_list o ++ held later) ≤ 1)
           (sym (ap (λ b. cond b (Some e) None) stay))
           (cond_both
           (setting_of peer e)
           1
           0
-          (λ k. k + tally (setting_of peer) (things later) ≤ 1)
+          (λ k. k + tally (setting_of peer) (held later) ≤ 1)
           (λ is.
           let own = and_parts (is_setting e.change) (e.peer == peer) is in
           let rest = no_more e peer later own.0 (eqb-true e.peer peer own.1) (not_is (list_any (undoes e) later) parts.1) in
@@ -329,7 +329,7 @@ one_setting peer (e ∷ later) =
           (λ out. omega (arith, go)))
       | inr gone ↦
           subst
-          (λ o. tally (setting_of peer) (option_to_list o ++ things later) ≤ 1)
+          (λ o. tally (setting_of peer) (option_to_list o ++ held later) ≤ 1)
           (sym (ap (λ b. cond b (Some e) None) gone))
           go
     ]
@@ -341,21 +341,21 @@ one_setting peer (e ∷ later) =
 abbrev setting : Entry → Bool
 setting e = is_setting e.change
 
-few_settings : (room : Capacities) (entries : List Entry) → list_all (belongs room) entries ≡ true → length (filter setting (things entries)) ≤ length room.peers * 1
+few_settings : (room : Capacities) (entries : List Entry) → list_all (belongs room) entries ≡ true → length (filter setting (held entries)) ≤ length room.peers * 1
 few_settings room entries belong =
     by_keys
     (λ peer (e : Entry). e.peer == peer)
     1
     room.peers
-    (filter setting (things entries))
+    (filter setting (held entries))
     (filter_all
     setting
     (belongs room)
     (λ e. list_any (λ peer. e.peer == peer) room.peers)
     (λ x is own. peer_of room x own (setting_configures x.change is))
-    (things entries)
-    (things_belong room entries belong))
-    (λ peer. subst (λ k. k ≤ 1) (sym (tally_filter setting (λ (e : Entry). e.peer == peer) (things entries))) (one_setting peer entries))
+    (held entries)
+    (held_belong room entries belong))
+    (λ peer. subst (λ k. k ≤ 1) (sym (tally_filter setting (λ (e : Entry). e.peer == peer) (held entries))) (one_setting peer entries))
 
 few_last : (entries : List Entry) → length (last entries) ≤ 1
 few_last [] = omega arith
@@ -376,22 +376,22 @@ times_less x y k less = mul-le-mul_right k less
 
 pub named_few : (room : Capacities) (n t : ℕ) (entries : List Entry) → list_all (belongs room) entries ≡ true → KeepsCapacities room t entries → length (kept n t entries) ≤ most_named room n
 named_few room n t entries belong keeps =
-    let held = things entries in
+    let standing = held entries in
     let d = length room.domains in
     let all = few n t entries in
     let ms = few_live room t entries belong keeps in
     let rs = few_recent room n entries belong in
-    let kinds = by_kind held (all_held entries) in
+    let kinds = by_kind standing (all_held entries) in
     let regs = few_registered room t entries belong keeps in
-    let als = few_of_clients (λ (e : Entry). is_alias e.change) room.aliases held (λ e is. or_left (is_alias e.change) (is_list e.change) is) keeps.owned keeps.aliased in
-    let ls = few_of_clients (λ (e : Entry). is_list e.change) room.acls held (λ e is. or_right (is_alias e.change) (is_list e.change) is) keeps.owned keeps.listed in
+    let als = few_of_clients (λ (e : Entry). is_alias e.change) room.aliases standing (λ e is. or_left (is_alias e.change) (is_list e.change) is) keeps.owned keeps.aliased in
+    let ls = few_of_clients (λ (e : Entry). is_list e.change) room.acls standing (λ e is. or_right (is_alias e.change) (is_list e.change) is) keeps.owned keeps.listed in
     let ss = few_settings room entries belong in
     let end = few_last entries in
-    let r = length_filter registration held in
-    let a = length_filter (λ (e : Entry). is_alias e.change) held in
-    let l = length_filter (λ (e : Entry). is_list e.change) held in
-    let s = length_filter setting held in
-    let more_aliases = times_less (length (filter registration held)) (d * room.clients) room.aliases regs in
-    let more_lists = times_less (length (filter registration held)) (d * room.clients) room.acls regs in
+    let r = length_filter registration standing in
+    let a = length_filter (λ (e : Entry). is_alias e.change) standing in
+    let l = length_filter (λ (e : Entry). is_list e.change) standing in
+    let s = length_filter setting standing in
+    let more_aliases = times_less (length (filter registration standing)) (d * room.clients) room.aliases regs in
+    let more_lists = times_less (length (filter registration standing)) (d * room.clients) room.acls regs in
     let whole = times_all d room.mitigations room.clients room.aliases room.acls in
     omega (arith, all, ms, rs, kinds, regs, als, ls, ss, end, r, a, l, s, more_aliases, more_lists, whole)

@@ -11,13 +11,13 @@ use Rattle.dots_settings.specs.declared.peer.Role.TheVariants as role
 use Rattle.dots_settings.specs.Settings.{SettingsValue}
 use Rattle.dots_history.specs.declared.entry.Entry.{Entry}
 use Rattle.dots_history.specs.Entries.{same_client, is_signal, signals, is_configuration}
-use Rattle.dots_history.specs.Histories.{Held, IsPart, tally, is_nil, mitigations, things}
+use Rattle.dots_history.specs.Histories.{Mitigation, IsPart, tally, is_nil, mitigations, held}
 use Rattle.dots_history.specs.Keeping.{names, kept}
 use Rattle.dots_laws.specs.Calm.{no_domain, role_of, may_act, may_configure, is_http, prefixes_of, change_inside, is_own, numbers_from, acts_by, acts_for, capacities_of, IsCalmBy}
 use Rattle.dots_laws.specs.Capacities.{Capacities, belongs, KeepsCapacities, has_client, is_registration, is_alias, is_list, most_named}
 use Rattle.dots_laws.proofs.Touching.{as_signal}
 use Rattle.dots_laws.proofs.Keeping.{kept_is_part, kept_within}
-use Rattle.dots_laws.proofs.Views.{kept_mitigations, kept_things}
+use Rattle.dots_laws.proofs.Views.{kept_mitigations, kept_held}
 use Rattle.dots_laws.proofs.Calmness.{kept_is_calm}
 use Rattle.dots_laws.proofs.Bounding.{named_few}
 
@@ -225,32 +225,32 @@ part_all test (x ∷ xs) (y ∷ ys) (inl part) all =
 part_all test (x ∷ xs) (y ∷ ys) (inr part) all = part_all test (x ∷ xs) ys part (and_parts (test y) (list_all test ys) all).1
 
 -- capacities are of what a history comes to
-abbrev KeepsIn : Capacities → List Held → List Entry → Type 0
-KeepsIn room ms held =
-    ((domain : ℕ) → tally (λ (m : Held). m.put.domain == domain) ms ≤ room.mitigations)
-    × ((domain : ℕ) → tally (λ (e : Entry). is_registration e.change && (e.domain == domain)) held ≤ room.clients)
-    × (list_all (has_client held) held ≡ true)
-    × ((client : Entry) → tally (λ (e : Entry). is_alias e.change && same_client client e) held ≤ room.aliases)
-    × ((client : Entry) → tally (λ (e : Entry). is_list e.change && same_client client e) held ≤ room.acls)
+abbrev KeepsIn : Capacities → List Mitigation → List Entry → Type 0
+KeepsIn room ms standing =
+    ((domain : ℕ) → tally (λ (m : Mitigation). m.put.domain == domain) ms ≤ room.mitigations)
+    × ((domain : ℕ) → tally (λ (e : Entry). is_registration e.change && (e.domain == domain)) standing ≤ room.clients)
+    × (list_all (has_client standing) standing ≡ true)
+    × ((client : Entry) → tally (λ (e : Entry). is_alias e.change && same_client client e) standing ≤ room.aliases)
+    × ((client : Entry) → tally (λ (e : Entry). is_list e.change && same_client client e) standing ≤ room.acls)
 
-keeps_in : (room : Capacities) (t : ℕ) (xs ys : List Entry) → mitigations t xs ≡ mitigations t ys → things xs ≡ things ys → KeepsCapacities room t ys → KeepsCapacities room t xs
-keeps_in room t xs ys live held keeps =
+keeps_in : (room : Capacities) (t : ℕ) (xs ys : List Entry) → mitigations t xs ≡ mitigations t ys → held xs ≡ held ys → KeepsCapacities room t ys → KeepsCapacities room t xs
+keeps_in room t xs ys live standing keeps =
     let all = subst
     (λ hs. KeepsIn room (mitigations t xs) hs)
-    (sym held)
-    (subst (λ ms. KeepsIn room ms (things ys)) (sym live) (keeps.live, keeps.registered, keeps.owned, keeps.aliased, keeps.listed)) in
+    (sym standing)
+    (subst (λ ms. KeepsIn room ms (held ys)) (sym live) (keeps.live, keeps.registered, keeps.owned, keeps.aliased, keeps.listed)) in
     record { live = all.0; registered = all.1; owned = all.2; aliased = all.3; listed = all.4 }
 
 pub named_calm : (settings : SettingsValue) (n t : ℕ) (entries : List Entry) → IsCalmBy settings t entries → IsCalmBy settings t (kept n t entries)
 named_calm settings n t entries calm =
     let live = kept_mitigations n t 0 [] entries calm.times calm.peers in
-    let held = kept_things n t [] entries calm.peers in
+    let standing = kept_held n t [] entries calm.peers in
     record {
       times = kept_within (names n t) [] 0 t entries calm.times;
       own = part_all (is_own settings) (kept n t entries) entries (kept_is_part (names n t) [] entries) calm.own;
       peers = kept_is_calm n t t entries calm.times calm.peers;
-      capacities = keeps_in (capacities_of settings) t (kept n t entries) entries live held calm.capacities;
-      of_client = λ client. subst (λ ms. tally (λ (m : Held). same_client client m.put) ms ≤ settings.limits.client_mitigations) (sym live) (calm.of_client client);
+      capacities = keeps_in (capacities_of settings) t (kept n t entries) entries live standing calm.capacities;
+      of_client = λ client. subst (λ ms. tally (λ (m : Mitigation). same_client client m.put) ms ≤ settings.limits.client_mitigations) (sym live) (calm.of_client client);
     }
 
 pub calm_few : (settings : SettingsValue) (n t : ℕ) (entries : List Entry) → IsCalmBy settings t entries → length (kept n t entries) ≤ most_named (capacities_of settings) n

@@ -7,14 +7,14 @@ use Rattle.dots_history.specs.declared.entry.Entry.{Entry}
 use Rattle.dots_history.specs.declared.status.Status.{Status}
 use Rattle.dots_history.specs.declared.status.Status.TheVariants.{Open}
 use Rattle.dots_history.specs.Entries.{put_of, is_signal, signals, is_held, undoes, reconfigures}
-use Rattle.dots_history.specs.Histories.{Held, Within, IsPart, OnePeer, OneDomain, Calm, live, held, status, step, tally, mitigations}
+use Rattle.dots_history.specs.Histories.{Mitigation, Within, IsPart, OnePeer, OneDomain, Calm, live, if_live, status, step, tally, mitigations}
 use Rattle.dots_history.specs.Keeping.{is_first, names, moved, pass, kept_by, kept}
 use Rattle.dots_laws.proofs.Lasting.{live_no_more, dead_step}
 use Rattle.dots_laws.proofs.Touching.{withdraws_parts, held_no_put, never_live}
 use Rattle.dots_laws.proofs.Members.{In, in_back, any_has}
 use Rattle.dots_laws.proofs.Keeping.{by_first, kept_is_part, kept_within}
 use Rattle.dots_laws.proofs.Dropping.{Named, lives, withdrawal, among_last, at_end, holds, named, unnamed, no_change, unchanged, still_there, fewer}
-use Rattle.dots_laws.proofs.Views.{nil_is, first_withdraws, same_held_by}
+use Rattle.dots_laws.proofs.Views.{nil_is, first_withdraws, same_live_by}
 
 -- whatever comes to what is no longer live may come from anyone
 dead_one_peer : (put : Entry) (s : Status) (low high : ℕ) (later : List Entry) → live low put s ≡ false → Within low later high → OnePeer put s later
@@ -30,7 +30,7 @@ no_put_one_peer e s [] none = record {}
 no_put_one_peer e s (x ∷ later) none =
     (λ is touched. absurd (both_ways (live x.time e s) (never_live x.time e s none) is), no_put_one_peer e (step e s x) later none)
 
-live_one_peer : (n t : ℕ) (put : Entry) (s : Status) (passed : List Held) (later : List Entry) → In (record { put = put; status = s }) passed
+live_one_peer : (n t : ℕ) (put : Entry) (s : Status) (passed : List Mitigation) (later : List Entry) → In (record { put = put; status = s }) passed
     → live t put (status put s later) ≡ true → OnePeer put s later → OnePeer put s (kept_by (names n t) passed later)
 live_one_peer n t put s passed [] there is one = record {}
 live_one_peer n t put s passed (e ∷ later) there is one =
@@ -48,7 +48,7 @@ live_one_peer n t put s passed (e ∷ later) there is one =
     (no_change n t put s passed e later there (unnamed n t passed e later out).no_first is)
     go)
 
-recent_one_peer : (n t low high : ℕ) (put : Entry) (s : Status) (passed : List Held) (later : List Entry)
+recent_one_peer : (n t low high : ℕ) (put : Entry) (s : Status) (passed : List Mitigation) (later : List Entry)
     → nat_lt (tally (signals put.peer put.domain) later) n ≡ true → Within low later high → OnePeer put s later
     → OnePeer put s (kept_by (names n t) passed later)
 recent_one_peer n t low high put s passed [] few within one = record {}
@@ -74,7 +74,7 @@ recent_one_peer n t low high put s passed (e ∷ later) few within one =
           dead_one_peer put s e.time high (kept_by (names n t) passed (e ∷ later)) dead (kept_within (names n t) passed e.time high (e ∷ later) whole)
     ]
 
-named_one_peer : (n t low high : ℕ) (passed : List Held) (e : Entry) (later : List Entry) → Named n t passed e later → Within low (e ∷ later) high
+named_one_peer : (n t low high : ℕ) (passed : List Mitigation) (e : Entry) (later : List Entry) → Named n t passed e later → Within low (e ∷ later) high
     → OnePeer e Open later → OnePeer e Open (kept_by (names n t) (pass passed e) later)
 named_one_peer n t low high passed e later (lives now) within one =
     live_one_peer n t e Open (pass passed e) later (in_back (record { put = e; status = Open }) (map (moved e) passed) (record { put = e; status = Open } ∷ []) (inl refl)) now one
@@ -99,7 +99,7 @@ part_one_domain e (x ∷ xs) (y ∷ ys) (inl part) one =
     (subst (λ z. reconfigures e z ≡ true → z.domain ≡ e.domain) (sym part.0) one.0, part_one_domain e xs ys part.1 one.1)
 part_one_domain e (x ∷ xs) (y ∷ ys) (inr part) one = part_one_domain e (x ∷ xs) ys part one.1
 
-kept_calm : (n t low high : ℕ) (passed : List Held) (entries : List Entry) → Within low entries high → Calm entries → Calm (kept_by (names n t) passed entries)
+kept_calm : (n t low high : ℕ) (passed : List Mitigation) (entries : List Entry) → Within low entries high → Calm entries → Calm (kept_by (names n t) passed entries)
 kept_calm n t low high passed [] within calm = record {}
 kept_calm n t low high passed (e ∷ later) within calm =
     let go = kept_calm n t e.time high (pass passed e) later within.1 calm.2 in
@@ -120,16 +120,16 @@ pub kept_is_calm : (n t high : ℕ) (entries : List Entry) → Within 0 entries 
 kept_is_calm n t high entries within calm = kept_calm n t 0 high [] entries within calm
 
 -- what is live at any later time was live without dropping too
-part_same : (o : Option Held) (xs ys : List Held) → IsPart xs ys → IsPart (option_to_list o ++ xs) (option_to_list o ++ ys)
+part_same : (o : Option Mitigation) (xs ys : List Mitigation) → IsPart xs ys → IsPart (option_to_list o ++ xs) (option_to_list o ++ ys)
 part_same None xs ys part = part
 part_same (Some m) xs ys part = inl (refl, part)
 
-part_over : (o : Option Held) (xs ys : List Held) → IsPart xs ys → IsPart xs (option_to_list o ++ ys)
+part_over : (o : Option Mitigation) (xs ys : List Mitigation) → IsPart xs ys → IsPart xs (option_to_list o ++ ys)
 part_over None xs ys part = part
 part_over (Some m) [] ys part = record {}
 part_over (Some m) (x ∷ xs) ys part = inr part
 
-lives_on : (n t u low : ℕ) (passed : List Held) (entries : List Entry) → Within low entries u → Calm entries
+lives_on : (n t u low : ℕ) (passed : List Mitigation) (entries : List Entry) → Within low entries u → Calm entries
     → IsPart (mitigations u (kept_by (names n t) passed entries)) (mitigations u entries)
 lives_on n t u low passed [] within calm = record {}
 lives_on n t u low passed (e ∷ later) within calm =
@@ -143,10 +143,10 @@ lives_on n t u low passed (e ∷ later) within calm =
     (λ is.
     subst
     (λ o. IsPart (option_to_list o ++ mitigations u (kept_by (names n t) (pass passed e) later)) (mitigations u (e ∷ later)))
-    (sym (same_held_by n t u low passed e later (named n t passed e later is) calm.0 within))
-    (part_same (held u e (status e Open later)) (mitigations u (kept_by (names n t) (pass passed e) later)) (mitigations u later) go))
+    (sym (same_live_by n t u low passed e later (named n t passed e later is) calm.0 within))
+    (part_same (if_live u e (status e Open later)) (mitigations u (kept_by (names n t) (pass passed e) later)) (mitigations u later) go))
     (λ out.
-    part_over (held u e (status e Open later)) (mitigations u (kept_by (names n t) (pass passed e) later)) (mitigations u later) go)
+    part_over (if_live u e (status e Open later)) (mitigations u (kept_by (names n t) (pass passed e) later)) (mitigations u later) go)
 
 pub none_revived : (n t u : ℕ) (entries : List Entry) → Within 0 entries u → Calm entries → IsPart (mitigations u (kept n t entries)) (mitigations u entries)
 none_revived n t u entries within calm = lives_on n t u 0 [] entries within calm

@@ -7,7 +7,7 @@ use Rattle.dots_history.specs.declared.entry.Entry.{Entry}
 use Rattle.dots_history.specs.declared.status.Status.{Status}
 use Rattle.dots_history.specs.declared.status.Status.TheVariants.{Ended, Open, Withdrawn}
 use Rattle.dots_history.specs.Entries.{ends, withdraws}
-use Rattle.dots_history.specs.Histories.{Held, live, status, step, tally, is_recent, recent, is_nil, stays, things, last, mitigations}
+use Rattle.dots_history.specs.Histories.{Mitigation, live, status, step, tally, is_recent, recent, is_nil, stays, held, last, mitigations}
 use Rattle.dots_history.proofs.Fates.{ended_stays}
 use Rattle.dots_history.specs.Keeping.{is_open, is_first, names, moved, pass, kept_by, kept}
 use Rattle.dots_laws.proofs.Keeping.{by_first}
@@ -17,7 +17,7 @@ abbrev one : Bool → ℕ
 one b = cond b 1 0
 
 -- it is open, will be live, and withdrawn
-abbrev waiting : ℕ → List Entry → Held → Bool
+abbrev waiting : ℕ → List Entry → Mitigation → Bool
 waiting t later m =
     (is_open m.status && live t m.put (status m.put m.status later)) && not (is_open (status m.put m.status later))
 
@@ -27,7 +27,7 @@ open_before put Open e is = refl
 open_before put (Withdrawn at) e is =
     absurd (cond_both (ends put e) Ended (Withdrawn at) (λ s. is_open s ≡ true → ⊥) (λ ended now. false≢true now) (λ not_ended now. false≢true now) is)
 
-waited : (t : ℕ) (e : Entry) (later : List Entry) (m : Held) → waiting t later (moved e m) ≡ true → waiting t (e ∷ later) m ≡ true
+waited : (t : ℕ) (e : Entry) (later : List Entry) (m : Mitigation) → waiting t later (moved e m) ≡ true → waiting t (e ∷ later) m ≡ true
 waited t e later m is =
     let s = step m.put m.status e in
     let parts = and_parts (is_open s && live t m.put (status m.put s later)) (not (is_open (status m.put s later))) is in
@@ -44,7 +44,7 @@ not_more true false a b both less = absurd (false≢true (both refl))
 not_more false true a b both less = omega (arith, less)
 not_more false false a b both less = omega (arith, less)
 
-waits : (t : ℕ) (e : Entry) (later : List Entry) (passed : List Held) → tally (waiting t later) (map (moved e) passed) ≤ tally (waiting t (e ∷ later)) passed
+waits : (t : ℕ) (e : Entry) (later : List Entry) (passed : List Mitigation) → tally (waiting t later) (map (moved e) passed) ≤ tally (waiting t (e ∷ later)) passed
 waits t e later [] = omega arith
 waits t e later (m ∷ passed) =
     not_more
@@ -100,7 +100,7 @@ one_later true false a b both less = absurd (false≢true (both refl))
 one_later false true a b both less = omega (arith, less)
 one_later false false a b both less = omega (arith, less)
 
-first_waits : (t : ℕ) (e : Entry) (later : List Entry) (passed : List Held) → list_any (is_first t e later) passed ≡ true
+first_waits : (t : ℕ) (e : Entry) (later : List Entry) (passed : List Mitigation) → list_any (is_first t e later) passed ≡ true
     → 1 + tally (waiting t later) (map (moved e) passed) ≤ tally (waiting t (e ∷ later)) passed
 first_waits t e later [] is = absurd (false≢true is)
 first_waits t e later (m ∷ passed) is =
@@ -129,7 +129,7 @@ first_waits t e later (m ∷ passed) is =
           (first_waits t e later passed more)
     ]
 
-tally_back : (test : Held → Bool) (xs : List Held) (x : Held) → tally test (xs ++ x ∷ []) ≡ tally test xs + one (test x)
+tally_back : (test : Mitigation → Bool) (xs : List Mitigation) (x : Mitigation) → tally test (xs ++ x ∷ []) ≡ tally test xs + one (test x)
 tally_back test [] x = omega arith
 tally_back test (y ∷ xs) x = let rest = tally_back test xs x in omega (arith, rest)
 
@@ -153,7 +153,7 @@ one_of : (b : Bool) → b ≡ true → one b ≡ 1
 one_of b is = ap one is
 
 -- what one more entry adds, by why it is named
-adds : (n t : ℕ) (passed : List Held) (e : Entry) (later : List Entry) → Named n t passed e later
+adds : (n t : ℕ) (passed : List Mitigation) (e : Entry) (later : List Entry) → Named n t passed e later
     → 1 + tally (waiting t later) (map (moved e) passed)
     ≤ one (live t e (status e Open later)) + one (is_recent n e later) + one (stays e later) + one (is_nil later) + tally (waiting t (e ∷ later)) passed
 adds n t passed e later (lives now) =
@@ -166,16 +166,16 @@ adds n t passed e later (at_end nothing) =
 adds n t passed e later (holds still) =
     let is = one_of (stays e later) still in let rest = waits t e later passed in omega (arith, is, rest)
 
-at_most : (n t : ℕ) (passed : List Held) (entries : List Entry)
+at_most : (n t : ℕ) (passed : List Mitigation) (entries : List Entry)
     → length (kept_by (names n t) passed entries)
-    ≤ 2 * length (mitigations t entries) + length (recent n entries) + length (things entries) + length (last entries) + tally (waiting t entries) passed
+    ≤ 2 * length (mitigations t entries) + length (recent n entries) + length (held entries) + length (last entries) + tally (waiting t entries) passed
 at_most n t passed [] = omega arith
 at_most n t passed (e ∷ later) =
     let go = at_most n t (pass passed e) later in
     let back = tally_back (waiting t later) (map (moved e) passed) (record { put = e; status = Open }) in
     let ms = length_option (live t e (status e Open later)) (record { put = e; status = status e Open later }) (mitigations t later) in
     let rs = length_option (is_recent n e later) e (recent n later) in
-    let hs = length_option (stays e later) e (things later) in
+    let hs = length_option (stays e later) e (held later) in
     let ls = length_option (is_nil later) e (last later) in
     let ready = live_waits t e later in
     by_first
@@ -185,10 +185,10 @@ at_most n t passed (e ∷ later) =
     later
     (λ es.
     length es
-    ≤ 2 * length (mitigations t (e ∷ later)) + length (recent n (e ∷ later)) + length (things (e ∷ later)) + length (last (e ∷ later)) + tally (waiting t (e ∷ later)) passed)
+    ≤ 2 * length (mitigations t (e ∷ later)) + length (recent n (e ∷ later)) + length (held (e ∷ later)) + length (last (e ∷ later)) + tally (waiting t (e ∷ later)) passed)
     (λ is. let step = adds n t passed e later (named n t passed e later is) in omega (arith, go, back, ms, rs, hs, ls, ready, step))
     (λ out. let step = waits t e later passed in omega (arith, go, back, ms, rs, hs, ls, ready, step))
 
 pub few : (n t : ℕ) (entries : List Entry)
-    → length (kept n t entries) ≤ 2 * length (mitigations t entries) + length (recent n entries) + length (things entries) + length (last entries)
+    → length (kept n t entries) ≤ 2 * length (mitigations t entries) + length (recent n entries) + length (held entries) + length (last entries)
 few n t entries = let all = at_most n t [] entries in omega (arith, all)

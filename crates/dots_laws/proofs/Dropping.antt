@@ -7,7 +7,7 @@ use Rattle.dots_history.specs.declared.entry.Entry.{Entry}
 use Rattle.dots_history.specs.declared.status.Status.{Status}
 use Rattle.dots_history.specs.declared.status.Status.TheVariants.{Ended, Open, Withdrawn}
 use Rattle.dots_history.specs.Entries.{ends, withdraws, is_signal, signals}
-use Rattle.dots_history.specs.Histories.{Held, Within, OnePeer, live, held, status, step, tally, is_recent, is_nil, stays}
+use Rattle.dots_history.specs.Histories.{Mitigation, Within, OnePeer, live, if_live, status, step, tally, is_recent, is_nil, stays}
 use Rattle.dots_history.proofs.Fates.{ended_stays}
 use Rattle.dots_history.specs.Keeping.{is_first, names, moved, pass, kept_by}
 use Rattle.dots_laws.proofs.Lasting.{dead_for_good}
@@ -17,14 +17,14 @@ use Rattle.dots_laws.proofs.Members.{In, in_map, in_front, any_of}
 use Rattle.dots_laws.proofs.Keeping.{by_first, kept_within}
 
 -- why the view doesn't name an entry
-pub record Unnamed (n t : ℕ) (passed : List Held) (e : Entry) (later : List Entry) : Type 0 where
+pub record Unnamed (n t : ℕ) (passed : List Mitigation) (e : Entry) (later : List Entry) : Type 0 where
   pub dead : live t e (status e Open later) ≡ false
   pub no_first : list_any (is_first t e later) passed ≡ false
   pub old : is_recent n e later ≡ false
   pub more : is_nil later ≡ false
   pub undone : stays e later ≡ false
 
-pub unnamed : (n t : ℕ) (passed : List Held) (e : Entry) (later : List Entry) → names n t passed e later ≡ false → Unnamed n t passed e later
+pub unnamed : (n t : ℕ) (passed : List Mitigation) (e : Entry) (later : List Entry) → names n t passed e later ≡ false → Unnamed n t passed e later
 unnamed n t passed e later out =
     let halves = or_parts
     (live t e (status e Open later) || list_any (is_first t e later) passed)
@@ -36,14 +36,14 @@ unnamed n t passed e later out =
     record { dead = mitigation.0; no_first = mitigation.1; old = ends.0; more = ends.1; undone = others.1 }
 
 -- why it names one
-pub data Named (n t : ℕ) (passed : List Held) (e : Entry) (later : List Entry) : Type 0 where
+pub data Named (n t : ℕ) (passed : List Mitigation) (e : Entry) (later : List Entry) : Type 0 where
   lives : live t e (status e Open later) ≡ true → Named n t passed e later
   withdrawal : list_any (is_first t e later) passed ≡ true → Named n t passed e later
   among_last : is_recent n e later ≡ true → Named n t passed e later
   at_end : is_nil later ≡ true → Named n t passed e later
   holds : stays e later ≡ true → Named n t passed e later
 
-pub named : (n t : ℕ) (passed : List Held) (e : Entry) (later : List Entry) → names n t passed e later ≡ true → Named n t passed e later
+pub named : (n t : ℕ) (passed : List Mitigation) (e : Entry) (later : List Entry) → names n t passed e later ≡ true → Named n t passed e later
 named n t passed e later is =
     elim (or_cases
     (live t e (status e Open later) || list_any (is_first t e later) passed)
@@ -66,8 +66,8 @@ named n t passed e later is =
     ]
 
 -- what isn't live isn't among the held
-pub held_dead : (t : ℕ) (put : Entry) (s : Status) → live t put s ≡ false → held t put s ≡ None
-held_dead t put s dead = ap (λ b. cond b (Some (record { put = put; status = s })) None) dead
+pub not_live : (t : ℕ) (put : Entry) (s : Status) → live t put s ≡ false → if_live t put s ≡ None
+not_live t put s dead = ap (λ b. cond b (Some (record { put = put; status = s })) None) dead
 
 -- what has ended isn't live in the end
 pub ended_dead : (t : ℕ) (put : Entry) (s : Status) (later : List Entry) → s ≡ Ended → live t put (status put s later) ≡ true → ⊥
@@ -75,7 +75,7 @@ ended_dead t put s later ended is =
     false≢true (sym (ap (live t put) (ap (λ x. status put x later) ended ∙ ended_stays put later)) ∙ is)
 
 -- an entry that isn't named changes nothing of what is live in the end
-pub no_change : (n t : ℕ) (put : Entry) (s : Status) (passed : List Held) (e : Entry) (later : List Entry) → In (record { put = put; status = s }) passed
+pub no_change : (n t : ℕ) (put : Entry) (s : Status) (passed : List Mitigation) (e : Entry) (later : List Entry) → In (record { put = put; status = s }) passed
     → list_any (is_first t e later) passed ≡ false → live t put (status put (step put s e) later) ≡ true → step put s e ≡ s
 no_change n t put Ended passed e later there out is = refl
 no_change n t put Open passed e later there out is =
@@ -98,13 +98,13 @@ no_change n t put (Withdrawn at) passed e later there out is =
       | inr not_ended ↦ ap (λ b. cond b Ended (Withdrawn at)) not_ended
     ]
 
-pub still_there : (put : Entry) (s : Status) (passed : List Held) (e : Entry) → In (record { put = put; status = s }) passed
+pub still_there : (put : Entry) (s : Status) (passed : List Mitigation) (e : Entry) → In (record { put = put; status = s }) passed
     → In (record { put = put; status = step put s e }) (pass passed e)
 still_there put s passed e there =
     in_front (record { put = put; status = step put s e }) (map (moved e) passed) (record { put = e; status = Open } ∷ []) (in_map (moved e) (record { put = put; status = s }) passed there)
 
 -- a mitigation that is live in the end has the same status in the end
-pub live_kept : (n t : ℕ) (put : Entry) (s : Status) (passed : List Held) (later : List Entry) → In (record { put = put; status = s }) passed
+pub live_kept : (n t : ℕ) (put : Entry) (s : Status) (passed : List Mitigation) (later : List Entry) → In (record { put = put; status = s }) passed
     → live t put (status put s later) ≡ true → status put s (kept_by (names n t) passed later) ≡ status put s later
 live_kept n t put s passed [] there is = refl
 live_kept n t put s passed (e ∷ later) there is =
@@ -151,7 +151,7 @@ still_recent n peer domain e later is few =
     (subst (λ p. nat_lt (tally (signals p domain) later) n ≡ true) (sym parts.1) after))
 
 -- an entry that isn't named changes nothing of what is among the last and live
-pub unchanged : (n t : ℕ) (put : Entry) (s : Status) (passed : List Held) (e : Entry) (later : List Entry)
+pub unchanged : (n t : ℕ) (put : Entry) (s : Status) (passed : List Mitigation) (e : Entry) (later : List Entry)
     → nat_lt (tally (signals put.peer put.domain) (e ∷ later)) n ≡ true → (touches put e ≡ true → e.peer ≡ put.peer)
     → is_recent n e later ≡ false → step put s e ≡ s
 unchanged n t put s passed e later few peers old =
@@ -166,9 +166,9 @@ unchanged n t put s passed e later few peers old =
     ]
 
 -- a mitigation among the last is live in the end as it was
-pub recent_fate : (n t u low : ℕ) (put : Entry) (s : Status) (passed : List Held) (later : List Entry)
+pub recent_fate : (n t u low : ℕ) (put : Entry) (s : Status) (passed : List Mitigation) (later : List Entry)
     → nat_lt (tally (signals put.peer put.domain) later) n ≡ true → OnePeer put s later → Within low later u
-    → held u put (status put s (kept_by (names n t) passed later)) ≡ held u put (status put s later)
+    → if_live u put (status put s (kept_by (names n t) passed later)) ≡ if_live u put (status put s later)
 recent_fate n t u low put s passed [] few one within = refl
 recent_fate n t u low put s passed (e ∷ later) few one within =
     let go =
@@ -180,19 +180,19 @@ recent_fate n t u low put s passed (e ∷ later) few one within =
           passed
           e
           later
-          (λ es. held u put (status put s es) ≡ held u put (status put (step put s e) later))
+          (λ es. if_live u put (status put s es) ≡ if_live u put (status put (step put s e) later))
           (λ kept. go)
           (λ out.
           ap
-          (λ x. held u put (status put x (kept_by (names n t) (pass passed e) later)))
+          (λ x. if_live u put (status put x (kept_by (names n t) (pass passed e) later)))
           (sym (unchanged n t put s passed e later few (one.0 now) (unnamed n t passed e later out).old))
           ∙ go)
       | inr dead ↦
           let whole : Within e.time (e ∷ later) u = (le_refl e.time, within.1) in
-          held_dead
+          not_live
           u
           put
           (status put s (kept_by (names n t) passed (e ∷ later)))
           (dead_for_good put s e.time u (kept_by (names n t) passed (e ∷ later)) dead (kept_within (names n t) passed e.time u (e ∷ later) whole))
-          ∙ sym (held_dead u put (status put s (e ∷ later)) (dead_for_good put s e.time u (e ∷ later) dead whole))
+          ∙ sym (not_live u put (status put s (e ∷ later)) (dead_for_good put s e.time u (e ∷ later) dead whole))
     ]

@@ -4,8 +4,8 @@ use Rattle.std.specs.Prelude.{option_to_list}
 use Rattle.std.specs.List.{list_any}
 use Rattle.dots_history.specs.declared.entry.Entry.{Entry}
 use Rattle.dots_history.specs.Entries.{is_held, undoes}
-use Rattle.dots_history.specs.Histories.{Held, View, view, Within, stays, things, last}
-use Rattle.dots_laws.specs.Views.{view_at, things_with, view_with}
+use Rattle.dots_history.specs.Histories.{Mitigation, View, view, Within, stays, held, last}
+use Rattle.dots_laws.specs.Views.{view_at, held_with, view_with}
 use Rattle.dots_laws.proofs.Ageing.{ageing}
 use Rattle.dots_laws.proofs.Adding.{adding}
 use Rattle.dots_laws.proofs.Sieves.{kept_push}
@@ -25,7 +25,7 @@ any_push test [] e = or_false (test e)
 any_push test (x ∷ later) e =
     ap (λ rest. test x || rest) (any_push test later e) ∙ any_more (test x) (list_any test later) (test e)
 
-not_either : (held one other : Bool) → (held && not (one || other)) ≡ ((held && not one) && not other)
+not_either : (standing one other : Bool) → (standing && not (one || other)) ≡ ((standing && not one) && not other)
 not_either true true other = refl
 not_either true false other = refl
 not_either false one other = refl
@@ -38,10 +38,10 @@ alone_kept : (b : Bool) (e : Entry) → option_to_list (cond (b && true) (Some e
 alone_kept true e = refl
 alone_kept false e = refl
 
-things_push : (e : Entry) (entries : List Entry) → things (entries ++ e ∷ []) ≡ things_with e (things entries)
-things_push e entries =
+pub held_push : (e : Entry) (entries : List Entry) → held (entries ++ e ∷ []) ≡ held_with e (held entries)
+held_push e entries =
     kept_push stays (λ x. not (undoes x e)) e (stays_push e) entries
-    ∙ ap (λ end. filter (λ x. not (undoes x e)) (things entries) ++ end) (alone_kept (is_held e.change) e)
+    ∙ ap (λ end. filter (λ x. not (undoes x e)) (held entries) ++ end) (alone_kept (is_held e.change) e)
 
 -- the last entry
 pub last_push : (e : Entry) (entries : List Entry) → last (entries ++ e ∷ []) ≡ e ∷ []
@@ -50,15 +50,15 @@ last_push e (x ∷ []) = refl
 last_push e (x ∷ y ∷ later) = last_push e (y ∷ later)
 
 -- views of the same parts
-abbrev view_of : List Held → List Entry → List Entry → List Entry → View
-view_of m r t l = record { mitigations = m; recent = r; things = t; last = l }
+abbrev view_of : List Mitigation → List Entry → List Entry → List Entry → View
+view_of m r t l = record { mitigations = m; recent = r; held = t; last = l }
 
-pub same_view : (v w : View) → v.mitigations ≡ w.mitigations → v.recent ≡ w.recent → v.things ≡ w.things → v.last ≡ w.last → v ≡ w
+pub same_view : (v w : View) → v.mitigations ≡ w.mitigations → v.recent ≡ w.recent → v.held ≡ w.held → v.last ≡ w.last → v ≡ w
 same_view v w m r t l =
-    ap (λ x. view_of x v.recent v.things v.last) m
-    ∙ ap (λ x. view_of w.mitigations x v.things v.last) r
+    ap (λ x. view_of x v.recent v.held v.last) m
+    ∙ ap (λ x. view_of w.mitigations x v.held v.last) r
     ∙ ap (λ x. view_of w.mitigations w.recent x v.last) t
-    ∙ ap (λ x. view_of w.mitigations w.recent w.things x) l
+    ∙ ap (λ x. view_of w.mitigations w.recent w.held x) l
 
 -- one more entry
 pub views_add : (n t : ℕ) (e : Entry) (entries : List Entry) → t ≤ e.time → view n e.time (entries ++ e ∷ []) ≡ view_with n e (view n t entries)
@@ -68,7 +68,7 @@ views_add n t e entries less =
     (view_with n e (view n t entries))
     (adding t e entries less)
     (recent_push n entries (e ∷ []))
-    (things_push e entries)
+    (held_push e entries)
     (last_push e entries)
 
 -- more entries

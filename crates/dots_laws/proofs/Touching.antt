@@ -18,7 +18,7 @@ second_there test None b is = absurd (false≢true is)
 second_there test (Some x) None is = absurd (false≢true is)
 second_there test (Some x) (Some y) is = (y, refl)
 
-put_signals : (c : Change) (put : Put) → put_of c ≡ Some put → is_signal c ≡ true
+pub put_signals : (c : Change) (put : Put) → put_of c ≡ Some put → is_signal c ≡ true
 unfolding is_signal
 put_signals (change.Put p) put is = refl
 put_signals _ put is = absurd (none-some put is)

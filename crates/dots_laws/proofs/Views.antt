@@ -9,13 +9,13 @@ use Rattle.dots_history.specs.declared.change.Change.TheVariants as change
 use Rattle.dots_history.specs.declared.status.Status.{Status}
 use Rattle.dots_history.specs.declared.status.Status.TheVariants.{Open}
 use Rattle.dots_history.specs.Entries.{put_of, withdraws, is_signal, signals, is_held, undoes, same_client, undoes_of_client, reconfigures, undoes_of_peer, is_configuration}
-use Rattle.dots_history.specs.Histories.{Held, view, Kept, Within, IsPart, OnePeer, OneDomain, Calm, live, held, status, step, tally, is_recent, recent, is_nil, stays, things, last, mitigations}
+use Rattle.dots_history.specs.Histories.{Mitigation, view, Kept, Within, IsPart, OnePeer, OneDomain, Calm, live, if_live, status, step, tally, is_recent, recent, is_nil, stays, held, last, mitigations}
 use Rattle.dots_history.specs.Keeping.{is_open, is_first, names, moved, pass, kept_by, kept}
 use Rattle.dots_laws.proofs.Recents.{same_recent}
 use Rattle.dots_laws.proofs.Touching.{withdraws_parts, held_no_put, never_live, as_signal}
 use Rattle.dots_laws.proofs.Members.{in_back, any_has}
 use Rattle.dots_laws.proofs.Keeping.{by_first, keeps_recent, kept_is_part}
-use Rattle.dots_laws.proofs.Dropping.{Named, lives, withdrawal, among_last, at_end, holds, named, unnamed, held_dead, live_kept, recent_fate, fewer, still_recent}
+use Rattle.dots_laws.proofs.Dropping.{Named, lives, withdrawal, among_last, at_end, holds, named, unnamed, not_live, live_kept, recent_fate, fewer, still_recent}
 use Rattle.dots_laws.proofs.GoingOn.{same_view}
 
 pub nil_is : {A : Type 0} → (xs : List A) → is_nil xs ≡ true → xs ≡ []
@@ -23,30 +23,30 @@ nil_is [] is = refl
 nil_is (x ∷ xs) is = absurd (false≢true is)
 
 -- a first withdrawal withdraws
-pub first_withdraws : (t : ℕ) (e : Entry) (later : List Entry) (m : Held) → is_first t e later m ≡ true → withdraws m.put e ≡ true
+pub first_withdraws : (t : ℕ) (e : Entry) (later : List Entry) (m : Mitigation) → is_first t e later m ≡ true → withdraws m.put e ≡ true
 first_withdraws t e later m is =
     let first = and_parts (is_open m.status && withdraws m.put e) (live t m.put (status m.put (step m.put m.status e) later)) is in
     (and_parts (is_open m.status) (withdraws m.put e) first.0).1
 
 -- the live mitigations
-dead_both : (t : ℕ) (e : Entry) (s u : Status) → put_of e.change ≡ None → held t e s ≡ held t e u
-dead_both t e s u none = held_dead t e s (never_live t e s none) ∙ sym (held_dead t e u (never_live t e u none))
+pub dead_both : (t : ℕ) (e : Entry) (s u : Status) → put_of e.change ≡ None → if_live t e s ≡ if_live t e u
+dead_both t e s u none = not_live t e s (never_live t e s none) ∙ sym (not_live t e u (never_live t e u none))
 
-pub same_held_by : (n t u low : ℕ) (passed : List Held) (e : Entry) (later : List Entry) → Named n t passed e later → OnePeer e Open later → Within low (e ∷ later) u
-    → held u e (status e Open (kept_by (names n t) (pass passed e) later)) ≡ held u e (status e Open later)
-same_held_by n t u low passed e later (lives now) one within =
-    ap (held u e) (live_kept n t e Open (pass passed e) later (in_back (record { put = e; status = Open }) (map (moved e) passed) (record { put = e; status = Open } ∷ []) (inl refl)) now)
-same_held_by n t u low passed e later (withdrawal first) one within =
+pub same_live_by : (n t u low : ℕ) (passed : List Mitigation) (e : Entry) (later : List Entry) → Named n t passed e later → OnePeer e Open later → Within low (e ∷ later) u
+    → if_live u e (status e Open (kept_by (names n t) (pass passed e) later)) ≡ if_live u e (status e Open later)
+same_live_by n t u low passed e later (lives now) one within =
+    ap (if_live u e) (live_kept n t e Open (pass passed e) later (in_back (record { put = e; status = Open }) (map (moved e) passed) (record { put = e; status = Open } ∷ []) (inl refl)) now)
+same_live_by n t u low passed e later (withdrawal first) one within =
     let m = any_has (is_first t e later) passed first in
     dead_both u e (status e Open (kept_by (names n t) (pass passed e) later)) (status e Open later) (withdraws_parts m.0.put e (first_withdraws t e later m.0 m.1)).2
-same_held_by n t u low passed e later (among_last recent) one within =
+same_live_by n t u low passed e later (among_last recent) one within =
     recent_fate n t u e.time e Open (pass passed e) later (and_parts (is_signal e.change) (nat_lt (tally (signals e.peer e.domain) later) n) recent).1 one within.1
-same_held_by n t u low passed e later (at_end nothing) one within =
+same_live_by n t u low passed e later (at_end nothing) one within =
     subst
-    (λ l. held u e (status e Open (kept_by (names n t) (pass passed e) l)) ≡ held u e (status e Open l))
+    (λ l. if_live u e (status e Open (kept_by (names n t) (pass passed e) l)) ≡ if_live u e (status e Open l))
     (sym (nil_is later nothing))
     refl
-same_held_by n t u low passed e later (holds still) one within =
+same_live_by n t u low passed e later (holds still) one within =
     dead_both
     u
     e
@@ -54,7 +54,7 @@ same_held_by n t u low passed e later (holds still) one within =
     (status e Open later)
     (held_no_put e.change (and_parts (is_held e.change) (not (list_any (undoes e) later)) still).0)
 
-pub kept_mitigations : (n t low : ℕ) (passed : List Held) (entries : List Entry) → Within low entries t → Calm entries
+pub kept_mitigations : (n t low : ℕ) (passed : List Mitigation) (entries : List Entry) → Within low entries t → Calm entries
     → mitigations t (kept_by (names n t) passed entries) ≡ mitigations t entries
 kept_mitigations n t low passed [] within calm = refl
 kept_mitigations n t low passed (e ∷ later) within calm =
@@ -66,10 +66,10 @@ kept_mitigations n t low passed (e ∷ later) within calm =
     later
     (λ es. mitigations t es ≡ mitigations t (e ∷ later))
     (λ is.
-    ap (λ o. option_to_list o ++ mitigations t (kept_by (names n t) (pass passed e) later)) (same_held_by n t t low passed e later (named n t passed e later is) calm.0 within)
-    ∙ ap (λ ms. option_to_list (held t e (status e Open later)) ++ ms) go)
+    ap (λ o. option_to_list o ++ mitigations t (kept_by (names n t) (pass passed e) later)) (same_live_by n t t low passed e later (named n t passed e later is) calm.0 within)
+    ∙ ap (λ ms. option_to_list (if_live t e (status e Open later)) ++ ms) go)
     (λ out.
-    go ∙ sym (ap (λ o. option_to_list o ++ mitigations t later) (held_dead t e (status e Open later) (unnamed n t passed e later out).dead)))
+    go ∙ sym (ap (λ o. option_to_list o ++ mitigations t later) (not_live t e (status e Open later) (unnamed n t passed e later out).dead)))
 
 -- what is held
 signal_undoes : (c later : Change) → is_signal c ≡ true → undoes_of_client c later ≡ false
@@ -79,7 +79,7 @@ signal_undoes (change.SetAlias alias) later is = absurd (false≢true is)
 signal_undoes (change.SetAcl acl) later is = absurd (false≢true is)
 signal_undoes _ later is = refl
 
-signal_reconfigures : (e x : Entry) → is_signal e.change ≡ true → undoes e x ≡ true → reconfigures e x ≡ true
+pub signal_reconfigures : (e x : Entry) → is_signal e.change ≡ true → undoes e x ≡ true → reconfigures e x ≡ true
 unfolding undoes
 signal_reconfigures e x is undone =
     elim (or_cases (same_client e x && undoes_of_client e.change x.change) (reconfigures e x) undone) [
@@ -102,14 +102,14 @@ unfolding undoes_of_peer
 reconfigured_by (change.SetConfig sid config) later is = is
 reconfigured_by _ later is = absurd (false≢true is)
 
-reconfigures_parts : (e x : Entry) → reconfigures e x ≡ true → (x.peer ≡ e.peer) × (is_signal x.change ≡ true)
+pub reconfigures_parts : (e x : Entry) → reconfigures e x ≡ true → (x.peer ≡ e.peer) × (is_signal x.change ≡ true)
 unfolding reconfigures
 reconfigures_parts e x is =
     let parts = and_parts (e.peer == x.peer) (undoes_of_peer e.change x.change) is in
     (sym (eqb-true e.peer x.peer parts.0), configuration_signals x.change (reconfigured_by e.change x.change parts.1))
 
 -- a session configuration among the last that is undone is undone by one of those that are named
-still_undone : (n t : ℕ) (e : Entry) (passed : List Held) (later : List Entry) → is_signal e.change ≡ true → OneDomain e later
+still_undone : (n t : ℕ) (e : Entry) (passed : List Mitigation) (later : List Entry) → is_signal e.change ≡ true → OneDomain e later
     → nat_lt (tally (signals e.peer e.domain) later) n ≡ true → list_any (undoes e) later ≡ true
     → list_any (undoes e) (kept_by (names n t) passed later) ≡ true
 still_undone n t e passed [] signal one few is = absurd (false≢true is)
@@ -152,7 +152,7 @@ any_part test (x ∷ xs) (y ∷ ys) (inl part) none =
 any_part test (x ∷ xs) (y ∷ ys) (inr part) none =
     any_part test (x ∷ xs) ys part (or_parts (test y) (list_any test ys) none).1
 
-undone_by : (n t : ℕ) (passed : List Held) (e : Entry) (later : List Entry) → Named n t passed e later → is_held e.change ≡ true → OneDomain e later
+undone_by : (n t : ℕ) (passed : List Mitigation) (e : Entry) (later : List Entry) → Named n t passed e later → is_held e.change ≡ true → OneDomain e later
     → list_any (undoes e) later ≡ true → list_any (undoes e) (kept_by (names n t) (pass passed e) later) ≡ true
 undone_by n t passed e later (lives now) is one undone =
     absurd (both_ways (live t e (status e Open later)) (never_live t e (status e Open later) (held_no_put e.change is)) now)
@@ -170,7 +170,7 @@ undone_by n t passed e later (holds still) is one undone =
     (not_from_true (list_any (undoes e) later) undone)
     (and_parts (is_held e.change) (not (list_any (undoes e) later)) still).1)
 
-kept_stays : (n t : ℕ) (passed : List Held) (e : Entry) (later : List Entry) → Named n t passed e later → OneDomain e later
+kept_stays : (n t : ℕ) (passed : List Mitigation) (e : Entry) (later : List Entry) → Named n t passed e later → OneDomain e later
     → stays e (kept_by (names n t) (pass passed e) later) ≡ stays e later
 kept_stays n t passed e later why one =
     let few = kept_by (names n t) (pass passed e) later in
@@ -188,23 +188,23 @@ kept_stays n t passed e later why one =
           ∙ sym (and_left (is_held e.change) (not (list_any (undoes e) later)) out)
     ]
 
-pub kept_things : (n t : ℕ) (passed : List Held) (entries : List Entry) → Calm entries → things (kept_by (names n t) passed entries) ≡ things entries
-kept_things n t passed [] calm = refl
-kept_things n t passed (e ∷ later) calm =
-    let go = kept_things n t (pass passed e) later calm.2 in
+pub kept_held : (n t : ℕ) (passed : List Mitigation) (entries : List Entry) → Calm entries → held (kept_by (names n t) passed entries) ≡ held entries
+kept_held n t passed [] calm = refl
+kept_held n t passed (e ∷ later) calm =
+    let go = kept_held n t (pass passed e) later calm.2 in
     by_first
     (names n t)
     passed
     e
     later
-    (λ es. things es ≡ things (e ∷ later))
+    (λ es. held es ≡ held (e ∷ later))
     (λ is.
     ap
-    (λ b. option_to_list (cond b (Some e) None) ++ things (kept_by (names n t) (pass passed e) later))
+    (λ b. option_to_list (cond b (Some e) None) ++ held (kept_by (names n t) (pass passed e) later))
     (kept_stays n t passed e later (named n t passed e later is) calm.1)
     ∙ ap (λ es. option_to_list (cond (stays e later) (Some e) None) ++ es) go)
     (λ out.
-    go ∙ sym (ap (λ b. option_to_list (cond b (Some e) None) ++ things later) (unnamed n t passed e later out).undone))
+    go ∙ sym (ap (λ b. option_to_list (cond b (Some e) None) ++ held later) (unnamed n t passed e later out).undone))
 
 -- the last entry
 some_last : (e : Entry) (later : List Entry) → is_nil (last (e ∷ later)) ≡ false
@@ -215,7 +215,7 @@ last_of_more : (e : Entry) (entries : List Entry) → is_nil (last entries) ≡ 
 last_of_more e [] some = absurd (true≢false some)
 last_of_more e (x ∷ entries) some = refl
 
-pub kept_last : (n t : ℕ) (passed : List Held) (entries : List Entry) → last (kept_by (names n t) passed entries) ≡ last entries
+pub kept_last : (n t : ℕ) (passed : List Mitigation) (entries : List Entry) → last (kept_by (names n t) passed entries) ≡ last entries
 kept_last n t passed [] = refl
 kept_last n t passed (e ∷ []) =
     by_first
@@ -237,7 +237,7 @@ kept_last n t passed (e ∷ x ∷ later) =
     (λ is. last_of_more e (kept_by (names n t) (pass passed e) (x ∷ later)) (ap is_nil go ∙ some_last x later) ∙ go)
     (λ out. go)
 
-pub kept_recent : (n t : ℕ) (passed : List Held) (entries : List Entry) → recent n (kept_by (names n t) passed entries) ≡ recent n entries
+pub kept_recent : (n t : ℕ) (passed : List Mitigation) (entries : List Entry) → recent n (kept_by (names n t) passed entries) ≡ recent n entries
 kept_recent n t passed entries =
     same_recent n (kept_by (names n t) passed entries) entries (keeps_recent n (names n t) passed entries (λ before e later out. (unnamed n t before e later out).old))
 
@@ -250,6 +250,6 @@ dropping n t entries within calm = record {
       (view n t entries)
       (kept_mitigations n t 0 [] entries within calm)
       (kept_recent n t [] entries)
-      (kept_things n t [] entries calm)
+      (kept_held n t [] entries calm)
       (kept_last n t [] entries);
 }

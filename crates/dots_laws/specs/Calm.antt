@@ -16,7 +16,7 @@ use Rattle.dots_history.specs.declared.put.Target.{Target}
 use Rattle.dots_history.specs.declared.change.Change.{Change}
 use Rattle.dots_history.specs.declared.change.Change.TheVariants as change
 use Rattle.dots_history.specs.Entries.{same_client, is_signal, is_configuration}
-use Rattle.dots_history.specs.Histories.{Held, Within, Calm, tally, is_nil, mitigations}
+use Rattle.dots_history.specs.Histories.{Mitigation, Within, Calm, tally, is_nil, mitigations}
 use Rattle.dots_laws.specs.Capacities.{Capacities, KeepsCapacities}
 
 -- the domain in which a gateway configures its session, which is no domain of the settings
@@ -60,22 +60,27 @@ abbrev pub destination_inside : List PrefixValue → Option PrefixValue → Bool
 destination_inside domain None = true
 destination_inside domain (Some prefix) = list_any (inside prefix) domain
 
--- what a change names lies inside the domain: the prefixes of targets, those of aliases and of their host names, and the destinations
--- of access lists
+-- what a change names lies inside the domain: the prefixes of targets, those of aliases and of their host names, and the
+-- destinations of access lists
 abbrev pub change_inside : SettingsValue → List PrefixValue → Change → Bool
 change_inside settings domain (change.Put put) = list_all (λ (target : Target). all_inside domain target.prefixes) put.targets
 change_inside settings domain (change.SetAlias alias) = all_inside domain alias.asked.prefixes && list_all (name_inside settings domain) alias.asked.names
 change_inside settings domain (change.SetAcl acl) = list_all (λ (ace : Ace). destination_inside domain ace.destination) acl.aces
 change_inside settings domain _ = true
 
--- An entry is the settings' own: its peer may act for its domain, inside which lies what it names, or it configures the session of its
--- peer and names no client; and what isn't a signal entry came by HTTP.
-abbrev pub is_own : SettingsValue → Entry → Bool
-is_own settings e =
-    (if is_configuration e.change
+-- the peer may act for the domain, inside which lies what the entry names, or it configures its session and names no client
+abbrev pub is_of_settings : SettingsValue → Entry → Bool
+is_of_settings settings e =
+    if is_configuration e.change
     then is_nil e.cuid && may_configure (role_of settings e.peer) e.domain
-    else may_act settings (role_of settings e.peer) e.domain && change_inside settings (prefixes_of settings e.domain) e.change)
-    && (is_signal e.change || is_http e.key)
+    else may_act settings (role_of settings e.peer) e.domain && change_inside settings (prefixes_of settings e.domain) e.change
+
+-- what isn't a signal entry came by HTTP
+abbrev pub came_rightly : Entry → Bool
+came_rightly e = is_signal e.change || is_http e.key
+
+abbrev pub is_own : SettingsValue → Entry → Bool
+is_own settings e = is_of_settings settings e && came_rightly e
 
 -- numbers from 0, so many
 abbrev pub numbers_from : ℕ → ℕ → List ℕ
@@ -102,11 +107,12 @@ capacities_of settings = record {
   acls = settings.limits.acls;
 }
 
--- A history is calm at time t, not before its last entry: its times don't fall; each entry is the settings' own; what ends or withdraws
--- a mitigation that was live just before has its peer; and the capacities are kept in what it comes to at t.
+-- What a calm history is at its end, at a time t not before its last entry: its times don't fall; each entry is the settings'
+-- own; what ends or withdraws a mitigation that was live just before has its peer; and the capacities are kept in what it
+-- comes to at t.
 pub record IsCalmBy (settings : SettingsValue) (t : ℕ) (entries : List Entry) : Type 0 where
   pub times : Within 0 entries t
   pub own : list_all (is_own settings) entries ≡ true
   pub peers : Calm entries
   pub capacities : KeepsCapacities (capacities_of settings) t entries
-  pub of_client : (client : Entry) → tally (λ (m : Held). same_client client m.put) (mitigations t entries) ≤ settings.limits.client_mitigations
+  pub of_client : (client : Entry) → tally (λ (m : Mitigation). same_client client m.put) (mitigations t entries) ≤ settings.limits.client_mitigations

@@ -5,7 +5,7 @@ use Rattle.dots_history.specs.declared.entry.Entry.{Entry}
 use Rattle.dots_history.specs.declared.change.Change.{Change}
 use Rattle.dots_history.specs.declared.change.Change.TheVariants as change
 use Rattle.dots_history.specs.Entries.{same_client, is_signal, signals, is_configuration}
-use Rattle.dots_history.specs.Histories.{Held, tally, mitigations, things}
+use Rattle.dots_history.specs.Histories.{Mitigation, tally, mitigations, held}
 
 pub record Capacities : Type 0 where
   -- which peers may send signal entries for which domains
@@ -44,16 +44,16 @@ belongs room e =
 
 -- an alias or an access list is of a registered client
 abbrev pub has_client : List Entry → Entry → Bool
-has_client held e =
-    not (is_alias e.change || is_list e.change) || list_any (λ r. is_registration r.change && same_client r e) held
+has_client standing e =
+    not (is_alias e.change || is_list e.change) || list_any (λ r. is_registration r.change && same_client r e) standing
 
 -- A history keeps the capacities at time t, in what it comes to then.
 pub record KeepsCapacities (room : Capacities) (t : ℕ) (entries : List Entry) : Type 0 where
-  pub live : (domain : ℕ) → tally (λ (m : Held). m.put.domain == domain) (mitigations t entries) ≤ room.mitigations
-  pub registered : (domain : ℕ) → tally (λ (e : Entry). is_registration e.change && (e.domain == domain)) (things entries) ≤ room.clients
-  pub owned : list_all (has_client (things entries)) (things entries) ≡ true
-  pub aliased : (client : Entry) → tally (λ (e : Entry). is_alias e.change && same_client client e) (things entries) ≤ room.aliases
-  pub listed : (client : Entry) → tally (λ (e : Entry). is_list e.change && same_client client e) (things entries) ≤ room.acls
+  pub live : (domain : ℕ) → tally (λ (m : Mitigation). m.put.domain == domain) (mitigations t entries) ≤ room.mitigations
+  pub registered : (domain : ℕ) → tally (λ (e : Entry). is_registration e.change && (e.domain == domain)) (held entries) ≤ room.clients
+  pub owned : list_all (has_client (held entries)) (held entries) ≡ true
+  pub aliased : (client : Entry) → tally (λ (e : Entry). is_alias e.change && same_client client e) (held entries) ≤ room.aliases
+  pub listed : (client : Entry) → tally (λ (e : Entry). is_list e.change && same_client client e) (held entries) ≤ room.acls
 
 -- the most that a view names, when n messages of an actor are remembered
 abbrev pub most_named : Capacities → ℕ → ℕ

@@ -3,3 +3,8 @@ pub mod Capacities
 pub mod Firsts
 pub mod Reading
 pub mod Views
+pub mod Tables
+pub mod Turns
+pub mod Fits
+pub mod Containing
+pub mod KeptPlaces

@@ -6,4 +6,6 @@
 //! a mitigation (`specs/Firsts.antt`).
 #![tactic(auto)]
 
+pub mod calm;
 pub mod laws;
+pub mod tables;

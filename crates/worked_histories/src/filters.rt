@@ -1,47 +1,76 @@
-//! What becomes of packets (RFC 8783, section 7.2; RFC 8519, section 4.2).
+//! What is held, and what becomes of packets (RFC 8783, sections 5.2, 6.3 and 7.2; RFC 8519, section 4.2).
 
-use crate::entries::{NET, entry, mitigation, prefix};
-use acl_lists::{Ace, Acl, Activation, Packet, PortTest};
-use dots_history::{Change, Entry, Fate, fate_of_packet};
-use dots_lists::{List, Name};
-use ip_scope::{Addr, Family, Prefix};
-use std::alloc::Global;
+use crate::asking::{Counts, count_parts, fate};
+use crate::steps::{Act, CLIENT, Match, Step};
+use acl_lists::{Activation, Packet};
+use ip_scope::{Addr, Family};
 use std::test::Fail;
 
-fn name(alloc: Global, text: &str) -> Result<Name, Fail> {
-    match Name::new(alloc, text.as_bytes())? {
-        Some(name) => Ok(name),
-        None => Err(Fail::from("a name")),
-    }
-}
+const NET: &str = "192.0.2.0/24";
 
-/// A list of one entry.
-fn list(
-    alloc: Global,
-    text: &str,
-    activation: Activation,
-    source: Option<Prefix>,
-    protocol: Option<u8>,
-    accept: bool,
-) -> Result<Entry, Fail> {
-    let ace = Ace {
-        name: name(alloc, text)?,
-        source,
-        destination: None,
-        protocol,
-        source_port: PortTest::Any,
-        destination_port: PortTest::Any,
-        accept,
-    };
-    let mut aces = List::new(alloc);
-    aces.push(ace)?;
-    let acl = Acl {
-        name: name(alloc, text)?,
-        family: Family::V4,
-        activation,
-        aces,
-    };
-    entry(alloc, 900, Change::SetAcl(acl))
+const ALIAS: Act<'static> = Act::SetAlias("web", NET);
+
+const OK: Act<'static> = Act::SetAcl(
+    "ok",
+    Activation::Immediate,
+    Match {
+        source: Some("203.0.113.0/24"),
+        protocol: None,
+        accept: true,
+    },
+);
+
+const NO: Act<'static> = Act::SetAcl(
+    "no",
+    Activation::WhenMitigating,
+    Match {
+        source: None,
+        protocol: Some(17),
+        accept: false,
+    },
+);
+
+/// A client that leaves takes its aliases and lists along, and they don't come back with it.
+#[test]
+fn what_is_written_is_held(rt: HostRuntime) -> Result<(), Fail> {
+    let rows: [(&[Step<'_>], usize, usize); 4] = [
+        (&[(1000, CLIENT, ALIAS)], 1, 0),
+        (
+            &[(1000, CLIENT, ALIAS), (1001, CLIENT, Act::DropAlias("web"))],
+            0,
+            0,
+        ),
+        (
+            &[
+                (1000, CLIENT, ALIAS),
+                (1000, CLIENT, NO),
+                (1001, CLIENT, Act::Deregister),
+                (1002, CLIENT, Act::Register),
+            ],
+            1,
+            0,
+        ),
+        (
+            &[
+                (1000, CLIENT, NO),
+                (1000, CLIENT, OK),
+                (1001, CLIENT, Act::DropAcl("no")),
+            ],
+            1,
+            1,
+        ),
+    ];
+    for (steps, held, lists) in rows {
+        let want = Counts {
+            live: 0,
+            recent: 0,
+            held,
+            rows: 0,
+            lists,
+        };
+        assert_eq!(rt; count_parts(rt.alloc(), 1, 1002, steps)?, want);
+    }
+    Ok(())
 }
 
 /// A packet to 192.0.2.9.
@@ -53,57 +82,28 @@ fn packet(source: u32, protocol: u8, port: u16) -> Packet {
         },
         destination: Addr {
             family: Family::V4,
-            number: NET + 9,
+            number: 0xc000_0209,
         },
         protocol,
         ports: Some((4000, port)),
     }
 }
 
-/// What is said of a fate.
-fn word(fate: &Fate<'_>) -> &'static str {
-    match fate {
-        Fate::Pass => "pass",
-        Fate::Accepted { .. } => "accepted",
-        Fate::Dropped { .. } => "dropped",
-        Fate::Scrubbed { .. } => "scrubbed",
-    }
-}
-
-/// A list that accepts what comes from 203.0.113.0/24, and one that drops UDP while the client is mitigating: before mid 123 is
-/// accepted at 1000, while it is live, and at the second at which it has ended.
+/// A list that accepts what comes from 203.0.113.0/24, and one that drops UDP while the client is mitigating: before
+/// mid 123 is accepted at 1000, while it is live, and at the second at which it has ended.
 #[test]
 fn lists_come_before_mitigations(rt: HostRuntime) -> Result<(), Fail> {
-    let alloc = rt.alloc();
-    let mut net = List::new(alloc);
-    net.push(prefix(NET, 24)?)?;
-    let mut domains = List::new(alloc);
-    domains.push(net)?;
-    let known = Some(prefix(0xcb00_7100, 24)?);
-    let mut entries = List::new(alloc);
-    entries.push(list(alloc, "ok", Activation::Immediate, known, None, true)?)?;
-    entries.push(list(
-        alloc,
-        "no",
-        Activation::WhenMitigating,
-        None,
-        Some(17),
-        false,
-    )?)?;
-    entries.push(mitigation(alloc, 1000, 123, prefix(NET, 24)?, 3600)?)?;
-    let lists = &entries.items()[..2];
+    let put = Act::Put(123, NET, 3600);
+    let steps = [(900, CLIENT, OK), (900, CLIENT, NO), (1000, CLIENT, put)];
     for (source, protocol, port, before, during) in [
-        (0xcb00_7105u32, 17, 53, "accepted", "accepted"),
+        (0xcb00_7105, 17, 53, "accepted", "accepted"),
         (0xc612_0001, 17, 53, "pass", "dropped"),
         (0xc612_0001, 6, 443, "pass", "scrubbed"),
     ] {
         let packet = packet(source, protocol, port);
-        let fate = fate_of_packet(alloc, domains.items(), 1000, lists, &packet)?;
-        assert_eq!(rt; word(&fate), before);
-        let fate = fate_of_packet(alloc, domains.items(), 4599, entries.items(), &packet)?;
-        assert_eq!(rt; word(&fate), during);
-        let fate = fate_of_packet(alloc, domains.items(), 4600, entries.items(), &packet)?;
-        assert_eq!(rt; word(&fate), before);
+        assert_eq!(rt; fate(rt.alloc(), NET, 1000, &steps[..2], packet)?, before);
+        assert_eq!(rt; fate(rt.alloc(), NET, 4599, &steps, packet)?, during);
+        assert_eq!(rt; fate(rt.alloc(), NET, 4600, &steps, packet)?, before);
     }
     Ok(())
 }

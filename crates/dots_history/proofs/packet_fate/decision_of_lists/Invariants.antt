@@ -1,7 +1,8 @@
 -- what the lists of the rest say, those of all say
 use Rattle.std.proofs.Common.{◌≡◌, drop}
-use Rattle.dots_history.specs.Rows.{decision_of_lists, list_rows}
-use Rattle.dots_history.specs.Viewing.{prefixes_in}
+use Rattle.filter_rows.specs.Told.{prefixes_in}
+use Rattle.dots_history.specs.Deciding.{decision_of_lists}
+use Rattle.dots_history.specs.Rows.{list_rows}
 use Rattle.dots_history.proofs.packet_fate.decision_of_lists.Given as goal
 
 abbrev pub invariant-loop-place : goal.invariant-loop-place

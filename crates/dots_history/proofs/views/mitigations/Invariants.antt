@@ -1,8 +1,8 @@
 -- those found and those of the rest are all
 use Rattle.std.proofs.Common.{◌≡◌, ◌++◌, map, drop}
 use Rattle.dots_history.specs.Histories.{mitigations}
-use Rattle.dots_history.specs.Viewing.{held_of}
+use Rattle.dots_history.specs.Viewing.{mitigation_of}
 use Rattle.dots_history.proofs.views.mitigations.Given as goal
 
 abbrev pub invariant-loop-place : goal.invariant-loop-place
-invariant-loop-place l = map held_of l.list.items ++ mitigations l.t (drop l.place l.entries) ≡ mitigations l.t l.entries
+invariant-loop-place l = map mitigation_of l.list.items ++ mitigations l.t (drop l.place l.entries) ≡ mitigations l.t l.entries

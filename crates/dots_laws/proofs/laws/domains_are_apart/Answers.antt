@@ -1,6 +1,16 @@
 use Rattle.dots_laws.proofs.Apart.{apart}
-use Rattle.dots_laws.proofs.Alone.{replies_alone, rows_alone, lists_alone}
+use Rattle.dots_laws.proofs.Alone.{replies_alone}
+use Rattle.dots_laws.proofs.Isolating.{held_alone, mitigating_alone, active_alone, acl_rows_alone, plain_rows_alone, fate_alone}
 use Rattle.dots_laws.proofs.laws.domains_are_apart.Goals as goal
 
 pub returns : goal.returns
-returns c = record { mitigations = apart; replies = replies_alone; rows = rows_alone; lists = lists_alone }
+returns c = record {
+  mitigations = apart;
+  replies = replies_alone;
+  mitigating = mitigating_alone;
+  active = active_alone;
+  rows = plain_rows_alone;
+  lists = acl_rows_alone;
+  fates = fate_alone;
+  written = held_alone;
+}

@@ -1,7 +1,0 @@
--- those found and those of the rest are all
-use Rattle.std.proofs.Common.{◌≡◌, ◌++◌, map, drop}
-use Rattle.dots_history.specs.Histories.{things}
-use Rattle.dots_history.proofs.views.things.Given as goal
-
-abbrev pub invariant-loop-place : goal.invariant-loop-place
-invariant-loop-place l = map (λ e. e.now) l.list.items ++ things (drop l.place l.entries) ≡ things l.entries

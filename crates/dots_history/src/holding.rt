@@ -1,0 +1,165 @@
+//! Which registrations, aliases, access lists and session configurations are held.
+
+ghost use Rattle.std.specs.Prelude.{◌≡◌};
+ghost use Rattle.std.specs.List.{list_any};
+ghost use Rattle.dots_history.specs.Entries.{is_held, undoes, undoes_of_client, undoes_alias, undoes_acl, is_leave, is_configuration, undoes_of_peer, reconfigures};
+ghost use Rattle.dots_history.specs.Histories.{stays};
+
+use crate::change::Change;
+use crate::entry::Entry;
+use crate::relations::is_same_client;
+use dots_lists::Name;
+
+/// Whether the entry wrote something that is held until a later entry undoes it, and none of these did.
+pub fn is_still_held(entry: &Entry, later: &[Entry]) -> bool
+    ensures { result ≡ stays entry.now later.now }
+{
+    is_held(&entry.change) && !is_undone(entry, later)
+}
+
+/// Whether one of the later entries undoes what the entry wrote.
+fn is_undone(entry: &Entry, later: &[Entry]) -> bool
+    ensures { result ≡ list_any (undoes entry.now) later.now }
+{
+    later.iter().any(|other| undoes(entry, other))
+}
+
+/// Whether what the earlier entry wrote is no longer held after the later one.
+#[tactic(auto, unfolding(crate::specs::Entries::undoes))]
+pub fn undoes(earlier: &Entry, later: &Entry) -> bool
+    ensures { result ≡ undoes earlier.now later.now }
+{
+    (is_same_client(earlier, later) && undoes_of_client(&earlier.change, &later.change))
+        || reconfigures(earlier, later)
+}
+
+#[tactic(auto, unfolding(crate::specs::Entries::reconfigures))]
+fn reconfigures(earlier: &Entry, later: &Entry) -> bool
+    ensures { result ≡ reconfigures earlier.now later.now }
+{
+    earlier.peer == later.peer && undoes_of_peer(&earlier.change, &later.change)
+}
+
+/// Whether the change writes something that is held until a later change undoes it.
+#[tactic(auto, unfolding(crate::specs::Entries::is_held))]
+pub fn is_held(change: &Change) -> bool
+    ensures { result ≡ is_held change.now }
+{
+    match change {
+        Change::Register | Change::SetAlias(_) | Change::SetAcl(_) | Change::SetConfig { .. } =>
+            true,
+        Change::Put(_)
+        | Change::Withdraw { .. }
+        | Change::DropAlias { .. }
+        | Change::DropAcl { .. }
+        | Change::Deregister
+        | Change::ClearConfig => false,
+    }
+}
+
+#[tactic(auto, unfolding(crate::specs::Entries::undoes_of_client))]
+fn undoes_of_client(earlier: &Change, later: &Change) -> bool
+    ensures { result ≡ undoes_of_client earlier.now later.now }
+{
+    match earlier {
+        Change::Register => is_leave(later),
+        Change::SetAlias(alias) => undoes_alias(&alias.name, later),
+        Change::SetAcl(acl) => undoes_acl(&acl.name, later),
+        Change::Put(_)
+        | Change::Withdraw { .. }
+        | Change::DropAlias { .. }
+        | Change::DropAcl { .. }
+        | Change::Deregister
+        | Change::SetConfig { .. }
+        | Change::ClearConfig => false,
+    }
+}
+
+#[tactic(auto, unfolding(crate::specs::Entries::undoes_alias))]
+fn undoes_alias(name: &Name, later: &Change) -> bool
+    ensures { result ≡ undoes_alias name.now later.now }
+{
+    match later {
+        Change::SetAlias(other) => name.bytes() == other.name.bytes(),
+        Change::DropAlias { name: other } => name.bytes() == other.bytes(),
+        Change::Deregister => true,
+        Change::Put(_)
+        | Change::Withdraw { .. }
+        | Change::SetAcl(_)
+        | Change::DropAcl { .. }
+        | Change::Register
+        | Change::SetConfig { .. }
+        | Change::ClearConfig => false,
+    }
+}
+
+#[tactic(auto, unfolding(crate::specs::Entries::undoes_acl))]
+fn undoes_acl(name: &Name, later: &Change) -> bool
+    ensures { result ≡ undoes_acl name.now later.now }
+{
+    match later {
+        Change::SetAcl(other) => name.bytes() == other.name.bytes(),
+        Change::DropAcl { name: other } => name.bytes() == other.bytes(),
+        Change::Deregister => true,
+        Change::Put(_)
+        | Change::Withdraw { .. }
+        | Change::SetAlias(_)
+        | Change::DropAlias { .. }
+        | Change::Register
+        | Change::SetConfig { .. }
+        | Change::ClearConfig => false,
+    }
+}
+
+#[tactic(auto, unfolding(crate::specs::Entries::is_leave))]
+fn is_leave(change: &Change) -> bool
+    ensures { result ≡ is_leave change.now }
+{
+    match change {
+        Change::Deregister => true,
+        Change::Put(_)
+        | Change::Withdraw { .. }
+        | Change::SetAlias(_)
+        | Change::DropAlias { .. }
+        | Change::SetAcl(_)
+        | Change::DropAcl { .. }
+        | Change::Register
+        | Change::SetConfig { .. }
+        | Change::ClearConfig => false,
+    }
+}
+
+#[tactic(auto, unfolding(crate::specs::Entries::undoes_of_peer))]
+fn undoes_of_peer(earlier: &Change, later: &Change) -> bool
+    ensures { result ≡ undoes_of_peer earlier.now later.now }
+{
+    match earlier {
+        Change::SetConfig { .. } => is_configuration(later),
+        Change::Put(_)
+        | Change::Withdraw { .. }
+        | Change::SetAlias(_)
+        | Change::DropAlias { .. }
+        | Change::SetAcl(_)
+        | Change::DropAcl { .. }
+        | Change::Register
+        | Change::Deregister
+        | Change::ClearConfig => false,
+    }
+}
+
+#[tactic(auto, unfolding(crate::specs::Entries::is_configuration))]
+fn is_configuration(change: &Change) -> bool
+    ensures { result ≡ is_configuration change.now }
+{
+    match change {
+        Change::SetConfig { .. } | Change::ClearConfig => true,
+        Change::Put(_)
+        | Change::Withdraw { .. }
+        | Change::SetAlias(_)
+        | Change::DropAlias { .. }
+        | Change::SetAcl(_)
+        | Change::DropAcl { .. }
+        | Change::Register
+        | Change::Deregister => false,
+    }
+}
