@@ -1,13 +1,13 @@
-//! The program `dots`: it makes the real source, host and sink, calls [`run`], and ends with its status.
+//! The program `dots`: it makes the real sources and sinks, calls [`run_script`], and ends with its status.
 #![tactic(auto)]
 
 use dots_host::{NoMemory, StdSink, StdSource};
-use dots_run::{ScriptHost, run};
+use dots_run::{run_script, settings_name};
 use std::io::ErrorKind;
 use std::process::ExitCode;
 use std::{env, fs, io};
 
-/// The status where no memory is found for the words or the host.
+/// The status where no memory is found for the words.
 const NO_MEMORY: u8 = 4;
 
 /// The words of the command line, without the program's name. Where one of them isn't UTF-8 there are none, and
@@ -22,28 +22,31 @@ fn words_of(rt: &HostRuntime) -> Result<Vec<String>, NoMemory> {
     }
 }
 
-/// Calls [`run`] over the settings file that the second of two words names behind `replay`, and over standard input and
-/// output.
-fn run_program(rt: &HostRuntime) -> Result<u8, NoMemory> {
-    let words = words_of(rt)?;
-    let reader = match words.as_slice() {
-        [command, name] if command.as_str() == "replay" => fs::open(rt, name.as_str()).ok(),
-        _ => None,
+/// Runs over the settings file that the words name, and over standard input and output. A file that can't be opened is a
+/// source without a reader.
+fn run_program(rt: &HostRuntime, words: &[String]) -> u8 {
+    let reader = match settings_name(words) {
+        Some(name) => fs::open(rt, name).ok(),
+        None => None,
     };
     let mut settings = StdSource::new(reader);
     let script = StdSource::new(Some(rt.reader()));
     let sends = StdSink::new(io::writer(rt));
-    let mut host = ScriptHost::new(rt.alloc(), script, sends)?;
     let mut report = StdSink::new(io::writer(rt));
-    Ok(run(
+    run_script(
         rt.alloc(),
-        words.as_slice(),
+        words,
         &mut settings,
-        &mut host,
+        script,
+        sends,
         &mut report,
-    ))
+    )
+    .status
 }
 
 fn main(rt: HostRuntime) -> ExitCode {
-    ExitCode::from(run_program(&rt).unwrap_or(NO_MEMORY))
+    match words_of(&rt) {
+        Ok(words) => ExitCode::from(run_program(&rt, words.as_slice())),
+        Err(_) => ExitCode::from(NO_MEMORY),
+    }
 }

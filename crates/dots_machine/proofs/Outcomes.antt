@@ -21,7 +21,8 @@ use Rattle.dots_machine.specs.declared.verdict.Verdict.{Verdict}
 use Rattle.dots_machine.specs.declared.verdict.Verdict.TheVariants as verdict
 use Rattle.dots_machine.specs.Domains.{role_of, domain_for, prefixes_of}
 use Rattle.dots_machine.specs.Targets.{scope_fault}
-use Rattle.dots_machine.specs.Replies.{reject_code, rejection}
+use Rattle.dots_keys.specs.RejectText.{reject_code}
+use Rattle.dots_machine.specs.Replies.{rejection}
 use Rattle.dots_machine.specs.Machine.{State, entry_of, reply_to, conflicts, judged, put_verdict, in_domain, put_in, asked_verdict, option_verdict, reject_verdict, dismissal_verdict, verdict_on, LacksMemory, Decides, by_silence, by_rules, for_want_of_memory, after}
 
 abbrev pub code_of : List ℕ → ℕ

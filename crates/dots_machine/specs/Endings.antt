@@ -58,47 +58,49 @@ pub record Ran (settings : SettingsValue) (start : State) (trace : List State) (
   pub run : Trace (Step settings) (resting start) acts trace end
   pub stops : Stops how acts
 
--- A run that came to serve from a state on: its settings are those of the file, where the source told its bytes; its acts, where they
--- are told, are a run of the machine, which owes nothing in the end; each filter of its last state lies inside the domain of the request
--- that made it; and it wrote of this state what it says.
-pub record Serves (start : State) (how : Stop) (before now : Outside) (wrote : SettingsValue → State → Type 0) : Type 0 where
-  pub settings : SettingsValue
-  pub told : IfSome before.left (λ bytes. SettingsAre bytes settings)
+-- A server with these settings has served from a state on: its acts, where they are told, are a run of the machine, which owes nothing in
+-- the end; each filter of its last state lies inside the domain of the request that made it; and it wrote of this state what it says.
+pub record Serves (settings : SettingsValue) (start : State) (how : Stop) (before now : Option (List Timed)) (wrote : State → Type 0) : Type 0 where
   pub end : Owing State
   pub settled : end.owed ≡ []
   pub trace : List State
-  pub ran : Added before.acts now.acts (Ran settings start trace end how)
+  pub ran : Added before now (Ran settings start trace end how)
   pub contained : Contained settings end.last
-  pub reports : wrote settings end.last
+  pub reports : wrote end.last
 
--- what it wrote of the last state: the machine's report where End came, and else nothing; and what must have failed
-abbrev pub Reports : Stop → Outside → Outside → SettingsValue → State → Type 0
-Reports stop.Ended before now settings state = Appends before.held now.held (report_of settings state)
-Reports stop.NextFailed before now settings state = (now.held ≡ before.held) × WireFailed before now
-Reports stop.TooMany before now settings state = now.held ≡ before.held
+-- what was written of the last state: the machine's report where End came, and else nothing; and what must have failed
+abbrev pub Reports : Stop → SettingsValue → Outside → Outside → State → Type 0
+Reports stop.Ended settings before now state = Appends before.held now.held (report_of settings state)
+Reports stop.NextFailed settings before now state = (now.held ≡ before.held) × WireFailed before now
+Reports stop.TooMany settings before now state = now.held ≡ before.held
+
+-- How a run served: the whole report is written, or a beginning of it.
+abbrev pub ServesTo : Ending → SettingsValue → Outside → Outside → Type 0
+ServesTo (ending.Served how) settings before now = Serves settings begun how before.acts now.acts (Reports how settings before now)
+ServesTo ending.ReportFailed settings before now =
+    Serves settings begun stop.Ended before.acts now.acts (λ state. AppendsBeginning before.held now.held (report_of settings state)) × ReportFailed before now
+ServesTo _ settings before now = ⊥
 
 -- what was written of a word that was to be shown
-abbrev pub Shows : Showing → List ℕ → Outside → Outside → Type 0
-Shows showing.Written word before now = (text : List ℕ) × IsShown word (shown.Message text) × Appends before.held now.held text
-Shows showing.Failed word before now = (text : List ℕ) × IsShown word (shown.Message text) × AppendsBeginning before.held now.held text × ReportFailed before now
-Shows showing.Unreadable word before now = (text : List ℕ) × IsShown word (shown.Fault text) × Writes before.held now.held text (ReportFailed before now)
+abbrev pub Shows : Showing → List ℕ → Option (List ℕ) → Option (List ℕ) → Type 0 → Type 0
+Shows showing.Written word old new failed = (text : List ℕ) × IsShown word (shown.Message text) × Appends old new text
+Shows showing.Failed word old new failed = (text : List ℕ) × IsShown word (shown.Message text) × AppendsBeginning old new text × failed
+Shows showing.Unreadable word old new failed = (text : List ℕ) × IsShown word (shown.Fault text) × Writes old new text failed
 
--- What a run of this ending has done with these words. Where it didn't come to serve, the host told no act. Where the report failed only
--- a beginning was written.
+-- What a run of this ending has done with these words. Where it didn't come to serve, the host told no act; where it did, its settings
+-- are those of the file, where the source told its bytes.
 abbrev pub Behaves : Ending → List (List ℕ) → Outside → Outside → Type 0
 Behaves ending.WrongWords words before now =
     (is_command words ≡ false) × (now.acts ≡ before.acts) × Writes before.held now.held (codes "words\n") (ReportFailed before now)
-Behaves (ending.Shown how) words before now = (is_show words ≡ true) × (now.acts ≡ before.acts) × Shows how (second_of words) before now
+Behaves (ending.Shown how) words before now =
+    (is_show words ≡ true) × (now.acts ≡ before.acts) × Shows how (second_of words) before.held now.held (ReportFailed before now)
 Behaves (ending.Refused fault) words before now =
     (is_replay words ≡ true) × (now.acts ≡ before.acts) × ¬ (IsNoLineFault fault) × IfSome before.left (λ bytes. SettingsFail bytes fault)
     × Writes before.held now.held (fault_line fault) (ReportFailed before now)
 Behaves ending.SettingsFailed words before now = (is_replay words ≡ true) × (now.acts ≡ before.acts) × (now.held ≡ before.held) × SourceFailed before now
 Behaves ending.NoMemory words before now = (is_command words ≡ true) × (now.acts ≡ before.acts) × (now.held ≡ before.held)
-Behaves (ending.Served how) words before now = (is_replay words ≡ true) × Serves begun how before now (Reports how before now)
-Behaves ending.ReportFailed words before now =
-    (is_replay words ≡ true)
-    × Serves begun stop.Ended before now (λ settings state. AppendsBeginning before.held now.held (report_of settings state))
-    × ReportFailed before now
+Behaves served words before now =
+    (is_replay words ≡ true) × (settings : SettingsValue) × IfSome before.left (λ bytes. SettingsAre bytes settings) × ServesTo served settings before now
 
 -- the word is hexadecimal and writes the spelling of a message
 pub record IsReadable (word : List ℕ) : Type 0 where

@@ -1,7 +1,7 @@
 -- The replies: messages with the Message ID and the token of the request (RFC 7252, section 5.2; RFC 9132, section 4.4.1.3).
 use Rattle.std.specs.Prelude.{ℕ, ◌/◌, ◌%◌, ℤ, List, [], ◌∷◌, codes}
 use Rattle.cbor_profile.specs.Canon.{canon}
-use Rattle.coap_message.specs.declared.codes.TheConstants.{EMPTY, CREATED, BAD_REQUEST, BAD_OPTION, NOT_FOUND, METHOD_NOT_ALLOWED, NOT_ACCEPTABLE, CONFLICT, UNSUPPORTED_CONTENT_FORMAT, INTERNAL_SERVER_ERROR, NOT_IMPLEMENTED}
+use Rattle.coap_message.specs.declared.codes.TheConstants.{EMPTY, CREATED, BAD_REQUEST, CONFLICT, INTERNAL_SERVER_ERROR, NOT_IMPLEMENTED}
 use Rattle.coap_message.specs.declared.option_numbers.TheConstants.{CONTENT_FORMAT}
 use Rattle.coap_message.specs.declared.TheConstants.{DOTS_CBOR}
 use Rattle.coap_message.specs.declared.kind.Kind.TheVariants.{Rst}
@@ -9,7 +9,7 @@ use Rattle.coap_message.specs.Message.{CoapOption, spelling}
 use Rattle.dots_keys.specs.declared.reject.Reject.{Reject}
 use Rattle.dots_keys.specs.declared.reject.Reject.TheVariants as reject
 use Rattle.dots_keys.specs.declared.reply.Reply.TheVariants as reply
-use Rattle.dots_keys.specs.RejectText.{reject_text}
+use Rattle.dots_keys.specs.RejectText.{reject_text, reject_code}
 use Rattle.dots_keys.specs.Replies.{reply_tree}
 use Rattle.dots_machine.specs.declared.target.TargetFault.{TargetFault}
 use Rattle.dots_machine.specs.declared.exchange.Exchange.{Exchange}
@@ -50,16 +50,7 @@ with_body code exchange body = spelling (record {
 abbrev pub created : Exchange → ℕ → ℤ → List ℕ
 created exchange mid lifetime = with_body CREATED exchange (canon (reply_tree (reply.Granted mid lifetime)))
 
--- 4.02 Bad Option, 4.04 Not Found, 4.05 Method Not Allowed, 4.06 Not Acceptable, 4.15 Unsupported Content-Format, and else 4.00 Bad
--- Request
-abbrev pub reject_code : Reject → ℕ
-reject_code (reject.Critical number) = BAD_OPTION
-reject_code reject.Path = NOT_FOUND
-reject_code reject.Method = METHOD_NOT_ALLOWED
-reject_code reject.Accept = NOT_ACCEPTABLE
-reject_code reject.Format = UNSUPPORTED_CONTENT_FORMAT
-reject_code _ = BAD_REQUEST
-
+-- the refusal of a message
 abbrev pub rejection : Exchange → Reject → List ℕ
 rejection exchange reject = plain (reject_code reject) exchange (reject_text reject)
 

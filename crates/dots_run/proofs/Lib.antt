@@ -1,11 +1,4 @@
-pub mod Answering
-pub mod CommaTexts
-pub mod Completeness
-pub mod Deciding
-pub mod Granting
-pub mod Keeping
-pub mod LineTexts
-pub mod ReportLines
-pub mod ServingLemmas
-pub mod Turns
-pub mod WritesInTurn
+mod Completeness
+mod Serving
+mod Texts
+mod Turns

@@ -1,11 +1,2 @@
-pub mod Asking
-pub mod Created
-pub mod Deciding
-pub mod Exchanging
-pub mod Hearing
-pub mod Keeping
-pub mod Lines
-pub mod Sends
-pub mod Serving
-pub mod ShowingWords
-pub mod Stopping
+pub mod Living
+pub mod Scripted

@@ -1,48 +1,39 @@
 //! The loop over the events of a host.
 
-ghost use Rattle.std.specs.Prelude.{◌≡◌, ◌≤◌, length};
+ghost use Rattle.std.specs.Prelude.{◌≡◌, ◌≤◌, List, length};
 ghost use Rattle.dots_host.specs.Causes.{Rose};
-ghost use Rattle.dots_host.specs.Runs.{Added};
+ghost use Rattle.dots_host.specs.Runs.{Added, resting};
 ghost use Rattle.dots_host.specs.declared.TheConstants.{MAX_EVENT_BYTES};
-ghost use Rattle.dots_machine.specs.Machine.{State, Step};
+ghost use Rattle.dots_settings.specs.Settings.{SettingsValue};
+ghost use Rattle.dots_machine.specs.declared.ending.Stop.TheVariants as stop;
+ghost use Rattle.dots_machine.specs.Endings.{Ran};
+ghost use Rattle.dots_machine.specs.Machine.{State};
 ghost use Rattle.dots_machine.specs.Report.{AllInside};
-ghost use Rattle.dots_run.specs.Keeping.{kept};
-ghost use Rattle.dots_run.specs.Stopping.{Ran};
+ghost use Rattle.dots_server.specs.Standing.{StandsFor};
 
-use crate::server::Server;
-use dots_host::{MAX_EVENT_BYTES, What, Wire};
+use dots_host::{Host, MAX_EVENT_BYTES, What};
+use dots_machine::Stop;
+use dots_server::Server;
 
 /// The most events of a run.
 const MAX_EVENTS: u64 = 1 << 40;
 
-/// How the loop stops.
-#[derive(Clone, Copy, Debug, PartialEq, Eq)]
-pub enum Stop {
-    /// End came.
-    Ended,
-    /// The host failed.
-    NextFailed,
-    /// 2^40 events came and none was End.
-    TooMany,
-}
-
 /// Takes one event after the other. The room has the bytes of one event.
-pub fn take_events<W: Wire>(server: &mut Server, wire: &mut W, room: &mut [u8]) -> Stop
+pub fn take_events<H: Host>(server: &mut Server, host: &mut H, room: &mut [u8]) -> Stop
     requires { length room.old ≡ MAX_EVENT_BYTES }
-    ensures settings { server.new.settings ≡ server.old.settings }
-    ensures later { W.faults wire.old ≤ W.faults wire.new }
-    ensures cause { result ≡ Stop.NextFailed → Rose (W.faults wire.old) (W.faults wire.new) }
-    ensures ran { (state : State) → server.old ≡ kept server.old.settings state
-        → (new : State) × (server.new ≡ kept server.old.settings new)
-        × (AllInside server.old.settings state → AllInside server.old.settings new)
-        × Added (W.acts wire.old) (W.acts wire.new) (Ran (Step server.old.settings) state new result) }
+    ensures leads { H.leads host.old host.new }
+    ensures later { H.faults host.old ≤ H.faults host.new }
+    ensures cause { result ≡ stop.NextFailed → Rose (H.faults host.old) (H.faults host.new) }
+    ensures ran { (settings : SettingsValue) (start : State) → StandsFor server.old settings start
+        → (state : State) × StandsFor server.new settings state × (AllInside settings start → AllInside settings state)
+        × (trace : List State) × Added (H.acts host.old) (H.acts host.new) (Ran settings start trace (resting state) result) }
 {
     for _turn in 0..MAX_EVENTS {
-        let got = wire.next(room);
+        let got = host.next(room);
         match got.what {
             What::End => return Stop::Ended,
             What::Failed => return Stop::NextFailed,
-            _ => server.handle(wire, &got, room),
+            _ => server.handle(host, &got, room),
         }
     }
     Stop::TooMany

@@ -1,22 +1,12 @@
-//! The top call of the program, [`run`], and the host that serves it a script, [`ScriptHost`].
+//! The top call of the program, [`run`], and the same over a script, [`run_script`].
 #![tactic(auto)]
 
-mod asking;
-mod conflicts;
 mod events;
-mod exchange;
 mod outcome;
-mod refusals;
-mod replies;
-mod report;
-mod request;
-mod sending;
-mod server;
-mod settings;
-mod settling;
-mod targets;
+mod scripted;
 mod words;
-mod writing;
 
 pub use dots_script::ScriptHost;
 pub use outcome::run;
+pub use scripted::{Scripted, run_script};
+pub use words::settings_name;

@@ -13,6 +13,20 @@ pub fn is_replay(words: &[String]) -> bool
     }
 }
 
+/// The name of the settings file, where they are `replay SETTINGS`.
+pub fn settings_name(words: &[String]) -> Option<&str>
+    ensures { MatchOption result (is_replay (map string_bytes words.now) ≡ false)
+        (λ name. (is_replay (map string_bytes words.now) ≡ true) × (name.now ≡ second_of (map string_bytes words.now))) }
+{
+    if !is_replay(words) {
+        return None;
+    }
+    match words {
+        [_, name] => Some(name.as_str()),
+        _ => None,
+    }
+}
+
 /// Whether they are `show HEX`.
 fn is_show(words: &[String]) -> bool
     ensures { result ≡ is_show (map string_bytes words.now) }

@@ -12,7 +12,6 @@ mod block;
 mod event_line;
 mod laws;
 mod lines;
-mod recording;
 mod script_host;
 mod send_line;
 #[cfg(test)]

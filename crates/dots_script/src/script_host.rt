@@ -12,7 +12,6 @@ ghost use Rattle.dots_script.specs.Accounts.{Standing, AccountsSince};
 use crate::block::Block;
 use crate::event_line::parse_event;
 use crate::lines::{Found, find_unskipped};
-use crate::recording::{record_given, record_taken};
 use crate::send_line::{SEND_ROOM, write_line};
 use dots_host::{
     Failed, Got, Host, MAX_EVENT_BYTES, NoMemory, Out, Sent, Sink, Source, Tape, What, Wire,
@@ -143,6 +142,14 @@ impl<S: Source, K: Sink> Wire for ScriptHost<S, K> {
 
     ghost beside_then = { λ _ _ _ _ _. tt };
 
+    // Whatever the start, the acts that it tells still are all that was read and written since.
+    ghost leads = { λ old new. (start : Standing) → AccountsSince S.left S.faults K.holds start old →
+        AccountsSince S.left S.faults K.holds start new };
+
+    ghost leads_same = { λ _ _ accounts. accounts };
+
+    ghost leads_then = { λ _ _ _ first second start accounts. second start (first start accounts) };
+
     fn next(&mut self, into: &mut [u8]) -> Got
         requires { length into.old ≡ MAX_EVENT_BYTES }
         ensures at { result.at < 2 ^ 48 }
@@ -152,6 +159,8 @@ impl<S: Source, K: Sink> Wire for ScriptHost<S, K> {
         ensures later { self.old.faults ≤ self.new.faults }
         ensures cause { OnFailed result.what (Rose self.old.faults self.new.faults) }
         ensures beside { Unit {0} }
+        ensures leads { (start : Standing) → AccountsSince S.left S.faults K.holds start self.old →
+            AccountsSince S.left S.faults K.holds start self.new }
 
         // What it answers is what the first line that isn't skipped says.
         ensures answer { Answers (to_come self.old.ahead (S.left self.old.source))
@@ -160,14 +169,10 @@ impl<S: Source, K: Sink> Wire for ScriptHost<S, K> {
         ensures source { S.faults self.old.source ≤ S.faults self.new.source }
         ensures no_fault { OnEvent result.what (self.new.faults ≡ self.old.faults) }
         ensures sink { self.new.sink ≡ self.old.sink }
-
-        // Whatever the start, the acts that it tells still are all that was read and written since.
-        ensures accounts { (start : Standing) → AccountsSince S.left S.faults K.holds start self.old →
-            AccountsSince S.left S.faults K.holds start self.new }
     {
         let got = next_event(&mut self.block, &mut self.source, into);
         self.faults = count_fault(self.faults, got.what);
-        record_taken(self.alloc, &mut self.tape, got, into);
+        self.tape.record_taken(self.alloc, got, into);
         got
     }
 
@@ -176,6 +181,8 @@ impl<S: Source, K: Sink> Wire for ScriptHost<S, K> {
             (told self.new.whole self.new.acts) (length self.new.acts) (given out.now result) }
         ensures faults { self.new.faults ≡ self.old.faults }
         ensures beside { Unit {0} }
+        ensures leads { (start : Standing) → AccountsSince S.left S.faults K.holds start self.old →
+            AccountsSince S.left S.faults K.holds start self.new }
 
         // The line is written, or a beginning of it where the sink failed.
         ensures done { result ≡ Sent.Done → Appends (K.holds self.old.sink) (K.holds self.new.sink)
@@ -186,16 +193,12 @@ impl<S: Source, K: Sink> Wire for ScriptHost<S, K> {
         ensures sink { K.faults self.old.sink ≤ K.faults self.new.sink }
         ensures source { self.new.source ≡ self.old.source }
         ensures ahead { self.new.ahead ≡ self.old.ahead }
-
-        // Whatever the start, the acts that it tells still are all that was read and written since.
-        ensures accounts { (start : Standing) → AccountsSince S.left S.faults K.holds start self.old →
-            AccountsSince S.left S.faults K.holds start self.new }
     {
         let sent = match write_line(&mut self.sink, self.room.as_mut_slice(), out) {
             Ok(()) => Sent::Done,
             Err(Failed) => Sent::Lost,
         };
-        record_given(self.alloc, &mut self.tape, out, sent);
+        self.tape.record_given(self.alloc, out, sent);
         sent
     }
 }

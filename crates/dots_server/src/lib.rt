@@ -13,7 +13,6 @@ mod gathering;
 mod naming;
 mod overlaps;
 mod receiving;
-mod refusals;
 mod replies;
 mod report;
 mod server;

@@ -3,13 +3,12 @@
 ghost use Rattle.std.specs.Prelude.{◌≡◌, ◌≢◌, ◌≤◌, length, IfOk};
 ghost use Rattle.dots_machine.specs.Replies.{reset_message, plain, with_body, created, rejection, bad_parameter, not_implemented, unavailable, bad_target, conflicting};
 
-use crate::refusals::{MAX_TEXT, code_of, put_text};
 use coap_message::codes::{
     BAD_REQUEST, CONFLICT, CREATED, EMPTY, INTERNAL_SERVER_ERROR, NOT_IMPLEMENTED,
 };
 use coap_message::option_numbers::CONTENT_FORMAT;
 use coap_message::{DOTS_CBOR, Kind, OptionPart, Parts};
-use dots_keys::{Reject, Reply, body_of};
+use dots_keys::{MAX_TEXT, Reject, Reply, body_of};
 use dots_lists::NoMemory;
 use dots_machine::{Exchange, ShortMessage, TargetFault};
 use std::alloc::Global;
@@ -123,6 +122,6 @@ pub fn rejection(exchange: &Exchange, reject: &Reject) -> ShortMessage
     ensures { result ≡ rejection exchange.now reject.now }
 {
     let mut text = [0; MAX_TEXT];
-    let len = put_text(&mut text, reject);
-    plain(code_of(reject), exchange, &text[..len])
+    let len = reject.put_text(&mut text);
+    plain(reject.code(), exchange, &text[..len])
 }

@@ -1,15 +1,17 @@
-use Rattle.std.proofs.Common.{◌≡◌, ◌≤◌}
+use Rattle.std.proofs.Common.{◌≡◌, ◌≤◌, List}
 use Rattle.dots_host.specs.Runs.{Added}
+use Rattle.dots_settings.specs.Settings.{SettingsValue}
 use Rattle.dots_machine.specs.Machine.{State, Step}
 use Rattle.dots_machine.specs.Report.{AllInside}
-use Rattle.dots_run.specs.Keeping.{kept}
-use Rattle.dots_run.specs.Stopping.{Lives}
+use Rattle.dots_server.specs.Standing.{StandsFor}
+use Rattle.dots_run.specs.Living.{Lives}
 use Rattle.dots_run.proofs.events.take_events.Given as goal
 
 abbrev pub invariant-loop-turn : goal.invariant-loop-turn
 invariant-loop-turn g l = record {
-  settings : l.server.settings ≡ l.fn.server.settings;
-  later : g.W.Wire.faults l.fn.wire ≤ g.W.Wire.faults l.wire;
-  lives : (from : State) → l.fn.server ≡ kept l.fn.server.settings from → (state : State) × (l.server ≡ kept l.fn.server.settings state) × (AllInside l.fn.server.settings from → AllInside l.fn.server.settings state)
-      × Added (g.W.Wire.acts l.fn.wire) (g.W.Wire.acts l.wire) (Lives (Step l.fn.server.settings) from state l._turn);
+  leads : g.H.Wire.leads l.fn.host l.host;
+  later : g.H.Wire.faults l.fn.host ≤ g.H.Wire.faults l.host;
+  lives : (settings : SettingsValue) (start : State) → StandsFor l.fn.server settings start
+      → (state : State) × StandsFor l.server settings state × (AllInside settings start → AllInside settings state)
+      × (trace : List State) × Added (g.H.Wire.acts l.fn.host) (g.H.Wire.acts l.host) (Lives (Step settings) start state l._turn trace);
 }

@@ -1,26 +1,34 @@
-use Rattle.dots_run.proofs.Completeness.{ends_refused, ends_well, ends_shown, ends_unreadable, not_served}
+use Rattle.std.proofs.Common.{◌∙◌}
+use Rattle.dots_run.proofs.Completeness.{ends_refused, ends_well, ends_shown, ends_unreadable, wrong_words, no_command, has_read, has_written, has_heard, not_served}
 use Rattle.dots_run.proofs.outcome.run.Goals as goal
 
+pub returns-clause-words : goal.returns-clause-words
+returns-clause-words g c = (
+  λ is. wrong_words _ _ _ c.ending_of.result (rw c.status.ensures at is) c.ending_of.ensures.machine,
+  λ none. rw c.status.ensures (no_command _ _ _ c.ending_of.result none c.ending_of.ensures.machine),
+)
+
+pub returns-clause-read : goal.returns-clause-read
+returns-clause-read g c = λ is. has_read _ _ _ c.ending_of.result (rw c.status.ensures at is) c.ending_of.ensures.machine
+
+pub returns-clause-heard : goal.returns-clause-heard
+returns-clause-heard g c = λ four five. has_heard _ _ c.ending_of.result (λ is. four (c.status.ensures ∙ is)) (λ is. five (c.status.ensures ∙ is)) c.ending_of.ensures.heard
+
+pub returns-clause-written : goal.returns-clause-written
+returns-clause-written g c = λ is. has_written _ _ _ c.ending_of.result (rw c.status.ensures at is) c.ending_of.ensures.machine
+
 pub returns-clause-refused : goal.returns-clause-refused
-returns-clause-refused g c = λ replay given unread.
-    let ends = ends_refused _ _ _ _ _ _ _ c.ending_of.result replay (λ e. unread (c.ending_of.ensures.unread e)) given c.ending_of.ensures.machine in
-    rw c.status.ensures ends
+returns-clause-refused g c = λ replay given. rw c.status.ensures (ends_refused _ _ _ c.ending_of.result replay given c.ending_of.ensures.heard c.ending_of.ensures.machine)
 
 pub returns-clause-complete : goal.returns-clause-complete
-returns-clause-complete g c = λ replay given unread failed written.
-    let ends = ends_well _ _ _ _ _ _ _ c.ending_of.result replay (λ e. unread (c.ending_of.ensures.unread e)) (λ e. failed (c.ending_of.ensures.failed e))
-    (λ e. written (c.ending_of.ensures.written e)) given c.ending_of.ensures.machine in
-    rw c.status.ensures ends
+returns-clause-complete g c = λ replay given read failed written.
+    rw c.status.ensures (ends_well _ _ _ c.ending_of.result replay read failed written given c.ending_of.ensures.machine)
 
 pub returns-clause-readable : goal.returns-clause-readable
-returns-clause-readable g c = λ show readable written.
-    let ends = ends_shown _ _ _ _ _ _ _ c.ending_of.result show readable (λ e. written (c.ending_of.ensures.shown e)) c.ending_of.ensures.machine in
-    rw c.status.ensures ends
+returns-clause-readable g c = λ show readable written. rw c.status.ensures (ends_shown _ _ _ c.ending_of.result show readable written c.ending_of.ensures.machine)
 
 pub returns-clause-unreadable : goal.returns-clause-unreadable
-returns-clause-unreadable g c = λ show none.
-    let ends = ends_unreadable _ _ _ _ _ _ _ c.ending_of.result show none c.ending_of.ensures.machine in
-    rw c.status.ensures ends
+returns-clause-unreadable g c = λ show none. rw c.status.ensures (ends_unreadable _ _ _ c.ending_of.result show none c.ending_of.ensures.machine)
 
 pub returns-clause-uncalled : goal.returns-clause-uncalled
 returns-clause-uncalled g c = λ low high.

@@ -1,4 +1,4 @@
-use Rattle.std.proofs.Common.{arith}
+use Rattle.std.proofs.Common.{◌∙◌, arith}
 use Rattle.dots_script.proofs.HexPieces.{piece_written, piece_lost, last_lost, on_err}
 use Rattle.dots_script.proofs.send_line.write_hex.Goals as goal
 
@@ -10,7 +10,7 @@ pub loop-rest-preserved : goal.loop-rest-preserved
 loop-rest-preserved g c = record {
   end = omega arith;
   owes = piece_written _ _ _ _ _ c.split.result.0.now c.split.result.1.now _ c.loop-rest.rest.now c.loop-rest.invariant.owes c.split.ensures.whole c.put_hex-end.ensures.text c.in-Ok.ensures.ok;
-  later = omega (arith, c.loop-rest.invariant.later, c.in-Ok.ensures.cause.later);
+  same = c.in-Ok.ensures.cause.same ∙ c.loop-rest.invariant.same;
 }
 
 pub returns-clause-err : goal.returns-clause-err

@@ -6,8 +6,8 @@ use Rattle.dots_script.specs.Accounts.{Standing, AccountsSince, AccountsKnown}
 use Rattle.dots_script.proofs.Accounting.{accounts_taken}
 use Rattle.dots_script.proofs.script_host.ScriptHostWire.next.Goals as goal
 
-pub returns-clause-accounts : goal.returns-clause-accounts
-returns-clause-accounts g c = λ start.
+pub returns-clause-leads : goal.returns-clause-leads
+returns-clause-leads g c = λ start.
     let left = g.S.Source.left in
     let faults = g.S.Source.faults in
     let holds = g.K.Sink.holds in
@@ -15,6 +15,6 @@ returns-clause-accounts g c = λ start.
     let got = c.next_event-got.result in
     let old : Standing = record { script = to_come inside.block (left inside.source); held = holds inside.sink; failures = faults inside.source } in
     let new : Standing = record { script = to_come c.next_event-got.new.block (left c.next_event-got.new.source); held = holds inside.sink; failures = faults c.next_event-got.new.source } in
-    let tape = c.record_taken.new.tape in
-    let step = accounts_taken start old new _ (told tape.whole tape.acts) (length inside.tape.acts) (length tape.acts) (event_of got.what c.next_event-got.new.into) got.at c.record_taken.ensures c.next_event-got.ensures.answer c.next_event-got.ensures.later refl in
+    let tape = c.record_taken.new.self in
+    let step = accounts_taken start old new _ (told tape.whole tape.acts) (length inside.tape.acts) (length tape.acts) (event_of got.what c.next_event-got.new.into) got.at c.record_taken.ensures.adds c.next_event-got.ensures.answer c.next_event-got.ensures.later refl in
     subst (λ host. AccountsSince left faults holds start host → AccountsKnown start new (told tape.whole tape.acts)) c.self.view_is step

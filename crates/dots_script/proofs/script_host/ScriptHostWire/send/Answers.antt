@@ -7,20 +7,20 @@ use Rattle.dots_script.proofs.Accounting.{Piece, piece_done, piece_lost, account
 use Rattle.dots_script.proofs.script_host.ScriptHostWire.send.Goals as goal
 use Rattle.dots_script.proofs.script_host.ScriptHostWire.send.Goals.{in-Ok, in-Err}
 
-pub returns-clause-accounts : goal.returns-clause-accounts
-returns-clause-accounts g c = λ start.
+pub returns-clause-leads : goal.returns-clause-leads
+returns-clause-leads g c = λ start.
     let left = g.S.Source.left in
     let faults = g.S.Source.faults in
     let holds = g.K.Sink.holds in
     let inside = c.self.inside in
     let old : Standing = record { script = to_come inside.block (left inside.source); held = holds inside.sink; failures = faults inside.source } in
     let new : Standing = record { script = to_come inside.block (left inside.source); held = holds c.write_line.new.sink; failures = faults inside.source } in
-    let tape = c.record_given.new.tape in
+    let tape = c.record_given.new.self in
     let out = owned_of c.args.out.now in
     let sent = c.match-write_line.sent in
     let one : Piece old.held new.held out sent = elim c.match-write_line.branch [
       | in-Ok w ↦ piece_done old.held new.held out sent w.sent-is w.in-Ok.ensures.ok
       | in-Err w ↦ piece_lost old.held new.held out sent w.sent-is w.in-Err.ensures.err
     ] in
-    let step = accounts_given start old new _ (told tape.whole tape.acts) (length inside.tape.acts) (length tape.acts) out sent c.record_given.ensures refl refl one in
+    let step = accounts_given start old new _ (told tape.whole tape.acts) (length inside.tape.acts) (length tape.acts) out sent c.record_given.ensures.adds refl refl one in
     subst (λ host. AccountsSince left faults holds start host → AccountsKnown start new (told tape.whole tape.acts)) c.self.view_is step

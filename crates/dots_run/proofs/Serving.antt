@@ -1,0 +1,27 @@
+-- What a server has done, by how its loop stopped.
+use Rattle.std.proofs.Common.{◌≡◌, ℕ, List, [], Option, refl}
+use Rattle.dots_host.specs.Acts.{Timed}
+use Rattle.dots_host.specs.Runs.{Added, resting}
+use Rattle.dots_settings.specs.Settings.{SettingsValue}
+use Rattle.dots_machine.specs.declared.ending.Stop.{Stop}
+use Rattle.dots_machine.specs.Machine.{State, begun}
+use Rattle.dots_machine.specs.Report.{AllInside, Contained}
+use Rattle.dots_machine.specs.Endings.{Ran, Serves}
+use Rattle.dots_machine.proofs.Containment.{contained}
+use Rattle.dots_server.specs.Standing.{ServerValue, StandsFor}
+
+abbrev pub HasRun : SettingsValue → ServerValue → Option (List Timed) → Option (List Timed) → Stop → Type 0
+HasRun settings server before now how =
+    (state : State) × StandsFor server settings state × (AllInside settings begun → AllInside settings state)
+    × (trace : List State) × Added before now (Ran settings begun trace (resting state) how)
+
+pub serves : (settings : SettingsValue) (server : ServerValue) (before now : Option (List Timed)) (how : Stop) (wrote : State → Type 0) (ran : HasRun settings server before now how) → wrote ran.0
+    → Serves settings begun how before now wrote
+serves settings server before now how wrote ran reports = record {
+  end = resting ran.0;
+  settled = refl;
+  trace = ran.3;
+  ran = ran.4;
+  contained = contained settings ran.0 (ran.2 refl);
+  reports = reports;
+}

@@ -1,0 +1,43 @@
+use Rattle.std.proofs.Common.{◌≡◌, ◌∙◌, [], Some, map, string_bytes, refl, ap, subst}
+use Rattle.dots_host.specs.Acts.{wire_acts}
+use Rattle.dots_host.specs.Memory.{told}
+use Rattle.dots_machine.specs.Outside.{Outside}
+use Rattle.dots_machine.specs.Endings.{Behaves}
+use Rattle.dots_script.specs.Accounts.{Standing, standing}
+use Rattle.dots_script.specs.Scripting.{Scripting}
+use Rattle.dots_run.proofs.Texts.{standing_of, known, told_whole, joins, stands_at_first}
+use Rattle.dots_run.proofs.scripted.run_script.Goals as goal
+
+pub returns-in-Ok-clause-texts : goal.returns-in-Ok-clause-texts
+returns-in-Ok-clause-texts g c = λ whole.
+    let left = g.P.Source.left in
+    let faults = g.P.Source.faults in
+    let holds = g.K.Sink.holds in
+    let words = map string_bytes c.args.words.now in
+    let host = c.run-status.new.host in
+    let start : Standing = standing_of (left c.args.script) (holds c.args.sends) (faults c.args.script) in
+    let (ending, status, behaves, uncalled) = c.run-status.ensures.machine in
+    let after : Outside = record {
+      left = g.S.Source.left c.run-status.new.settings;
+      source_faults = g.S.Source.faults c.run-status.new.settings;
+      acts = told host.whole host.acts;
+      wire_faults = host.faults;
+      held = g.R.Sink.holds c.run-status.new.report;
+      report_faults = g.R.Sink.faults c.run-status.new.report;
+    } in
+    let before : (h : Scripting _ _) → Outside = λ h. record {
+      left = g.S.Source.left c.args.settings.now;
+      source_faults = g.S.Source.faults c.args.settings.now;
+      acts = told h.whole h.acts;
+      wire_faults = h.faults;
+      held = g.R.Sink.holds c.args.report.now;
+      report_faults = g.R.Sink.faults c.args.report.now;
+    } in
+    let first = c.in-Ok.ensures.host in
+    let accounts = known start (standing left faults holds host) host.whole host.acts whole (c.run-status.ensures.leads start c.in-Ok.ensures.accounts) in (
+      ending,
+      status,
+      joins words _ after (wire_acts 0 host.acts) refl (told_whole host.whole host.acts whole) start (standing left faults holds host) accounts ending
+          (subst (λ h. Behaves ending words (before h) after) first behaves)
+          (λ none. ap (standing left faults holds) (uncalled none ∙ first) ∙ stands_at_first (left c.args.script) (holds c.args.sends) (faults c.args.script)),
+    )

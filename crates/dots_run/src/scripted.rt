@@ -1,0 +1,68 @@
+//! The top call over a script.
+
+ghost use Rattle.std.specs.Prelude.{◌≡◌, [], map, string_bytes, true, Some, None, IfSome};
+ghost use Rattle.dots_host.specs.Memory.{told};
+ghost use Rattle.dots_script.specs.Accounts.{standing};
+ghost use Rattle.dots_machine.specs.declared.ending.Ending as endings;
+ghost use Rattle.dots_machine.specs.Endings.{status_of, Behaves};
+ghost use Rattle.dots_run.specs.Scripted.{JoinsTexts};
+
+use crate::outcome::run;
+use dots_host::{Sink, Source};
+use dots_script::ScriptHost;
+use std::alloc::Global;
+
+/// The exit status where no memory is found.
+const NO_MEMORY: u8 = 4;
+
+/// What is left of a run over a script.
+#[derive(Debug, Drop)]
+pub struct Scripted<P, K> {
+    /// The exit status of the program.
+    pub status: u8,
+    /// The host, with its source and its sink. None where no memory was found to make it, and nothing was read or written.
+    pub host: Option<ScriptHost<P, K>>,
+}
+
+/// Does all that the program does over a script: its events are the lines that the source gives, and its sends are written to
+/// the sink as lines. Status 4 where no memory is found to make the host.
+pub fn run_script<P: Source + Drop, K: Sink + Drop, S: Source, R: Sink>(
+    alloc: Global,
+    words: &[String],
+    settings: &mut S,
+    script: P,
+    sends: K,
+    report: &mut R,
+) -> Scripted<P, K>
+    // Without a host nothing was read or written.
+    ensures lacks { result.host ≡ None → (result.status ≡ 4) × (settings.new ≡ settings.old) × (report.new ≡ report.old) }
+    // With one: what the run has done, by the ending that its status is of.
+    ensures machine { IfSome result.host (λ host. (ending : endings.Ending) × (result.status ≡ status_of ending)
+        × Behaves ending (map string_bytes words.now)
+        (record { left = S.left settings.old; source_faults = S.faults settings.old; acts = Some []; wire_faults = 0; held = R.holds report.old; report_faults = R.faults report.old })
+        (record { left = S.left settings.new; source_faults = S.faults settings.new; acts = told host.whole host.acts; wire_faults = host.faults; held = R.holds report.new; report_faults = R.faults report.new })) }
+    // From text to text, as long as each call could be recorded: what the machine sends on the events of the script's lines stands
+    // line by line in the sink, and the machine's report in the report.
+    ensures texts { IfSome result.host (λ host. host.whole ≡ true → (ending : endings.Ending) × (result.status ≡ status_of ending)
+        × JoinsTexts ending
+        (record { left = S.left settings.old; source_faults = S.faults settings.old; acts = Some []; wire_faults = 0; held = R.holds report.old; report_faults = R.faults report.old })
+        (record { left = S.left settings.new; source_faults = S.faults settings.new; acts = told host.whole host.acts; wire_faults = host.faults; held = R.holds report.new; report_faults = R.faults report.new })
+        (record { script = P.left script; held = K.holds sends; failures = P.faults script })
+        (standing P.left P.faults K.holds host)) }
+{
+    match ScriptHost::new(alloc, script, sends) {
+        Ok(mut host) => {
+            let status = run(alloc, words, settings, &mut host, report);
+            return Scripted {
+                status,
+                host: Some(host),
+            };
+        }
+        Err(_) => {
+            return Scripted {
+                status: NO_MEMORY,
+                host: None,
+            };
+        }
+    }
+}
