@@ -11,8 +11,8 @@ use Rattle.coap_message.specs.declared.kind.Kind.{Kind}
 use Rattle.coap_message.specs.declared.kind.Kind.TheVariants.{Con, Non, Ack, Rst}
 use Rattle.dots_settings.specs.Settings.{SettingsValue}
 use Rattle.dots_history.specs.Histories.{is_nil}
-use Rattle.dots_keys.specs.declared.reject.Reject.{Reject}
-use Rattle.dots_keys.specs.declared.reject.Reject.TheVariants as reject
+use Rattle.dots_heads.specs.declared.reject.Reject.{Reject}
+use Rattle.dots_heads.specs.declared.reject.Reject.TheVariants as reject
 use Rattle.dots_keys.specs.declared.request.Request.{Request}
 use Rattle.dots_keys.specs.declared.request.Request.TheVariants as request
 use Rattle.dots_machine.specs.declared.target.TargetFault.{TargetFault}

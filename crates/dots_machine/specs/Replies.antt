@@ -4,10 +4,10 @@ use Rattle.cbor_profile.specs.Canon.{canon}
 use Rattle.coap_message.specs.declared.kind.Kind.{Kind}
 use Rattle.coap_message.specs.declared.kind.Kind.TheVariants.{Con, Non, Ack, Rst}
 use Rattle.coap_message.specs.Message.{CoapOption, spelling}
-use Rattle.dots_keys.specs.declared.reject.Reject.{Reject}
-use Rattle.dots_keys.specs.declared.reject.Reject.TheVariants as reject
+use Rattle.dots_heads.specs.declared.reject.Reject.{Reject}
+use Rattle.dots_heads.specs.declared.reject.Reject.TheVariants as reject
 use Rattle.dots_keys.specs.declared.reply.Reply.TheVariants as reply
-use Rattle.dots_keys.specs.RejectText.{reject_text}
+use Rattle.dots_heads.specs.RejectText.{reject_text}
 use Rattle.dots_keys.specs.Replies.{reply_tree}
 use Rattle.dots_machine.specs.declared.target.TargetFault.{TargetFault}
 use Rattle.dots_machine.specs.Targets.{fault_text}

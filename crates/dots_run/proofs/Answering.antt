@@ -7,12 +7,12 @@ use Rattle.dots_host.specs.declared.out.OwnedOut.TheVariants as owned
 use Rattle.coap_message.specs.declared.kind.Kind.{Kind}
 use Rattle.coap_message.specs.declared.kind.Kind.TheVariants.{Con, Non, Ack, Rst}
 use Rattle.coap_message.specs.Message.{CoapMessage}
-use Rattle.dots_keys.specs.declared.reject.Reject.{Reject}
-use Rattle.dots_keys.specs.declared.reject.Reject.TheVariants as reject
+use Rattle.dots_heads.specs.declared.reject.Reject.{Reject}
+use Rattle.dots_heads.specs.declared.reject.Reject.TheVariants as reject
 use Rattle.dots_keys.specs.declared.request.Request.{Request}
-use Rattle.dots_keys.specs.Heads.{Head, head_of}
+use Rattle.dots_heads.specs.Heads.{Head, head_of}
 use Rattle.dots_keys.specs.Meaning.{Answers as Completed, Means}
-use Rattle.dots_keys.specs.Results.{Fulfils}
+use Rattle.dots_heads.specs.Results.{Fulfils}
 use Rattle.dots_settings.specs.Settings.{SettingsValue}
 use Rattle.dots_machine.specs.Domains.{role_of, is_gateway}
 use Rattle.dots_machine.specs.Exchanges.{Exchange, exchange_in, Settled, unheard, reset, may_ask, rejected, settled}

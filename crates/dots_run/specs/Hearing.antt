@@ -1,7 +1,7 @@
 -- What the code hears in a datagram, as the machine's words say it.
 use Rattle.std.specs.Prelude.{◌≡◌, ◌≤◌, ℕ, Bool, List, None, length, IsOk, ⊤}
 use Rattle.coap_message.specs.Message.{CoapMessage, IsMessage, spelling}
-use Rattle.dots_keys.specs.Heads.{head_of}
+use Rattle.dots_heads.specs.Heads.{head_of}
 use Rattle.dots_keys.specs.Lifetimes.{HasLifetime}
 use Rattle.dots_machine.specs.Exchanges.{exchange_in, settled}
 use Rattle.dots_machine.specs.Requests.{Heard, at_once, refused, asked}

@@ -3,7 +3,7 @@
 ghost use Rattle.std.specs.Prelude.{◌≡◌, ◌≤◌, [], ◌∷◌, ◌++◌, length, take, decimal};
 ghost use Rattle.dots_host.specs.Runs.{Added, Gives};
 ghost use Rattle.dots_host.specs.declared.out.OwnedOut.TheVariants as owned;
-ghost use Rattle.dots_keys.specs.RejectText.{reject_text, cause_text};
+ghost use Rattle.dots_heads.specs.RejectText.{reject_text, cause_text};
 ghost use Rattle.dots_machine.specs.Replies.{reject_code, rejection, no_domain, not_implemented, unavailable, bad_target, conflicting};
 ghost use Rattle.dots_run.specs.Exchanging.{exchange_view};
 
