@@ -3,7 +3,4 @@ pub mod Arrays
 pub mod Ascending
 pub mod Askable
 pub mod Grants
-pub mod Identifiers
 pub mod OneMeaning
-pub mod PathLaws
-pub mod WithoutMemory

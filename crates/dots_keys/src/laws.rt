@@ -5,17 +5,11 @@ ghost use Rattle.cbor_profile.specs.Tree.{Pairs, mapping};
 ghost use Rattle.cbor_profile.specs.Valid.{IsSound};
 ghost use Rattle.dots_keys.specs.Fields.{Field, fields_of, Ascend};
 ghost use Rattle.dots_keys.specs.Meaning.{Means};
-ghost use Rattle.dots_keys.specs.Paths.{Resource, path_of, resource_at};
-ghost use Rattle.dots_keys.specs.declared.reject.Reject.{Reject};
+ghost use Rattle.dots_heads.specs.declared.reject.Reject.{Reject};
 ghost use Rattle.dots_keys.specs.declared.request.Request.{Request};
 
 use cbor_profile::{one_reading, one_spelling};
 use coap_message::Message;
-
-/// A resource is that of a path exactly where the path is its own.
-pub fn resource_of_a_path()
-    ensures { (segments : List (List ℕ)) (resource : Resource) → (resource_at segments ≡ Some resource) ↔ (segments ≡ path_of resource) }
-{}
 
 /// A message means one request, or one refusal.
 pub fn one_meaning(message: &Message<'_>, gateway: bool)

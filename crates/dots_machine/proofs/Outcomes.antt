@@ -4,11 +4,11 @@ use Rattle.coap_message.specs.declared.kind.Kind.{Kind}
 use Rattle.coap_message.specs.declared.kind.Kind.TheVariants.{Con, Non, Ack, Rst}
 use Rattle.dots_settings.specs.Settings.{SettingsValue}
 use Rattle.dots_history.specs.Histories.{is_nil}
-use Rattle.dots_keys.specs.declared.reject.Reject.{Reject}
-use Rattle.dots_keys.specs.declared.reject.Reject.TheVariants as reject
+use Rattle.dots_heads.specs.declared.reject.Reject.{Reject}
+use Rattle.dots_heads.specs.declared.reject.Reject.TheVariants as reject
 use Rattle.dots_keys.specs.declared.request.Request.{Request}
 use Rattle.dots_keys.specs.declared.request.Request.TheVariants as request
-use Rattle.dots_keys.specs.declared.request.MitigationPath.{MitigationPath}
+use Rattle.dots_heads.specs.declared.request.MitigationPath.{MitigationPath}
 use Rattle.dots_keys.specs.declared.request.MitigationBody.{MitigationBody}
 use Rattle.dots_machine.specs.declared.target.TargetFault.{TargetFault}
 use Rattle.dots_machine.specs.declared.exchange.Exchange.{Exchange}
@@ -21,7 +21,7 @@ use Rattle.dots_machine.specs.declared.verdict.Verdict.{Verdict}
 use Rattle.dots_machine.specs.declared.verdict.Verdict.TheVariants as verdict
 use Rattle.dots_machine.specs.Domains.{role_of, domain_for, prefixes_of}
 use Rattle.dots_machine.specs.Targets.{scope_fault}
-use Rattle.dots_keys.specs.RejectText.{reject_code}
+use Rattle.dots_heads.specs.RejectText.{reject_code}
 use Rattle.dots_machine.specs.Replies.{rejection}
 use Rattle.dots_machine.specs.Machine.{State, entry_of, reply_to, conflicts, judged, put_verdict, in_domain, put_in, asked_verdict, option_verdict, reject_verdict, dismissal_verdict, verdict_on, LacksMemory, Decides, by_silence, by_rules, for_want_of_memory, after}
 

@@ -4,7 +4,7 @@ use Rattle.dots_host.specs.declared.event.Event.{Event}
 use Rattle.dots_host.specs.declared.event.Event.TheVariants as event
 use Rattle.dots_host.specs.declared.out.OwnedOut.{OwnedOut}
 use Rattle.dots_host.specs.Runs.{outs_of}
-use Rattle.dots_keys.specs.declared.request.MitigationPath.{MitigationPath}
+use Rattle.dots_heads.specs.declared.request.MitigationPath.{MitigationPath}
 use Rattle.dots_keys.specs.declared.request.MitigationBody.{MitigationBody}
 use Rattle.dots_keys.specs.declared.request.Request.TheVariants as request
 use Rattle.dots_settings.specs.Settings.{SettingsValue}

@@ -22,13 +22,13 @@ use Rattle.dots_history.specs.declared.change.Change.{Change}
 use Rattle.dots_history.specs.declared.change.Change.TheVariants as change
 use Rattle.dots_history.specs.Entries.{some_prefix}
 use Rattle.dots_history.specs.Histories.{is_nil}
-use Rattle.dots_keys.specs.declared.reject.Reject.{Reject}
-use Rattle.dots_keys.specs.declared.reject.Reject.TheVariants as reject
+use Rattle.dots_heads.specs.declared.reject.Reject.{Reject}
+use Rattle.dots_heads.specs.declared.reject.Reject.TheVariants as reject
 use Rattle.dots_keys.specs.declared.request.Request.{Request}
 use Rattle.dots_keys.specs.declared.request.Request.TheVariants as request
-use Rattle.dots_keys.specs.declared.request.MitigationPath.{MitigationPath}
+use Rattle.dots_heads.specs.declared.request.MitigationPath.{MitigationPath}
 use Rattle.dots_keys.specs.declared.request.MitigationBody.{MitigationBody}
-use Rattle.dots_keys.specs.Heads.{head_of}
+use Rattle.dots_heads.specs.Heads.{head_of}
 use Rattle.dots_machine.specs.declared.target.TargetFault.{TargetFault}
 use Rattle.dots_machine.specs.declared.exchange.Exchange.{Exchange}
 use Rattle.dots_machine.specs.declared.dismissal.Dismissal.{Dismissal}

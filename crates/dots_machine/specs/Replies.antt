@@ -6,10 +6,10 @@ use Rattle.coap_message.specs.declared.option_numbers.TheConstants.{CONTENT_FORM
 use Rattle.coap_message.specs.declared.TheConstants.{DOTS_CBOR}
 use Rattle.coap_message.specs.declared.kind.Kind.TheVariants.{Rst}
 use Rattle.coap_message.specs.Message.{CoapOption, spelling}
-use Rattle.dots_keys.specs.declared.reject.Reject.{Reject}
-use Rattle.dots_keys.specs.declared.reject.Reject.TheVariants as reject
+use Rattle.dots_heads.specs.declared.reject.Reject.{Reject}
+use Rattle.dots_heads.specs.declared.reject.Reject.TheVariants as reject
 use Rattle.dots_keys.specs.declared.reply.Reply.TheVariants as reply
-use Rattle.dots_keys.specs.RejectText.{reject_text, reject_code}
+use Rattle.dots_heads.specs.RejectText.{reject_text, reject_code}
 use Rattle.dots_keys.specs.Replies.{reply_tree}
 use Rattle.dots_machine.specs.declared.target.TargetFault.{TargetFault}
 use Rattle.dots_machine.specs.declared.exchange.Exchange.{Exchange}

@@ -4,7 +4,7 @@ use Rattle.coap_message.specs.declared.fault.CoapFault.{CoapFault}
 use Rattle.coap_message.specs.Message.{CoapMessage, IsMessage, spelling}
 use Rattle.coap_message.specs.Breaks.{Breaks}
 use Rattle.coap_message.specs.Salvage.{salvaged}
-use Rattle.dots_keys.specs.declared.reject.Reject.{Reject}
+use Rattle.dots_heads.specs.declared.reject.Reject.{Reject}
 use Rattle.dots_keys.specs.declared.request.Request.{Request}
 use Rattle.dots_keys.specs.Meaning.{Means}
 use Rattle.dots_machine.specs.declared.dismissal.Dismissal.{Dismissal}

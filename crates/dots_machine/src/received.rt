@@ -1,6 +1,7 @@
 use crate::dismissal::Dismissal;
 use crate::exchange::Exchange;
-use dots_keys::{Reject, Request};
+use dots_heads::Reject;
+use dots_keys::Request;
 
 /// What a datagram is.
 #[derive(Debug, Drop)]

@@ -3,12 +3,12 @@ use Rattle.std.proofs.Common.{◌≡◌, ◌≢◌, ◌/◌, ◌==◌, ℕ, Bool
 use Rattle.std.specs.Prelude.{IsOk}
 use Rattle.std.proofs.lemmas.Bool.Decides.{nat_tests}
 use Rattle.coap_message.specs.Message.{CoapMessage}
-use Rattle.dots_keys.specs.declared.reject.Reject.{Reject}
-use Rattle.dots_keys.specs.declared.reject.Reject.TheVariants as reject
+use Rattle.dots_heads.specs.declared.reject.Reject.{Reject}
+use Rattle.dots_heads.specs.declared.reject.Reject.TheVariants as reject
 use Rattle.dots_keys.specs.declared.request.Request.{Request}
-use Rattle.dots_keys.specs.Heads.{Head, head_of}
+use Rattle.dots_heads.specs.Heads.{Head, head_of}
 use Rattle.dots_keys.specs.Meaning.{Answers as Completed, Means}
-use Rattle.dots_keys.specs.Results.{Fulfils}
+use Rattle.dots_heads.specs.Results.{Fulfils}
 use Rattle.dots_settings.specs.Settings.{SettingsValue}
 use Rattle.dots_machine.specs.declared.exchange.Exchange.{Exchange}
 use Rattle.dots_machine.specs.declared.dismissal.Dismissal.{Dismissal}

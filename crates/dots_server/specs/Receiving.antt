@@ -1,7 +1,7 @@
 -- What isn't received for want of memory, and what is.
 use Rattle.std.specs.Prelude.{◌≡◌, ℕ, Bool, List, None, IsOk, ⊤}
 use Rattle.coap_message.specs.Message.{CoapMessage, IsMessage, spelling}
-use Rattle.dots_keys.specs.Heads.{head_of}
+use Rattle.dots_heads.specs.Heads.{head_of}
 use Rattle.dots_keys.specs.Lifetimes.{HasLifetime}
 use Rattle.dots_machine.specs.declared.exchange.Exchange.{Exchange}
 use Rattle.dots_machine.specs.declared.received.Received.{Received}

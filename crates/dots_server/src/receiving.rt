@@ -7,7 +7,8 @@ ghost use Rattle.dots_server.specs.Receiving.{IsGrantable, Lacks};
 
 use crate::dismissing::{dismissed, dismissed_unread};
 use coap_message::{Message, decode};
-use dots_keys::{Reject, read_request};
+use dots_heads::Reject;
+use dots_keys::read_request;
 use dots_machine::{Exchange, Received};
 use std::alloc::Global;
 

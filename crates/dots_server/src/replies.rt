@@ -8,7 +8,8 @@ use coap_message::codes::{
 };
 use coap_message::option_numbers::CONTENT_FORMAT;
 use coap_message::{DOTS_CBOR, Kind, OptionPart, Parts};
-use dots_keys::{MAX_TEXT, Reject, Reply, body_of};
+use dots_heads::{MAX_TEXT, Reject};
+use dots_keys::{Reply, body_of};
 use dots_lists::NoMemory;
 use dots_machine::{Exchange, ShortMessage, TargetFault};
 use std::alloc::Global;

@@ -17,8 +17,9 @@ const GREATEST_HELD: usize = 16_384;
 ///
 /// It remembers how far the head at its front came, and how many bytes the request needs where its body is waited for. So
 /// each byte of a head is looked at once as it comes, and none of a body: a stream costs time linear in its bytes, however
-/// it is cut into pieces. A head is parsed once where the request came whole with the piece in which its head ended, and
-/// else three times at most. A request that is discarded costs the moving of what is held behind it.
+/// it is cut into pieces. Where it is cut once behind each piece, a head is parsed once if the request came whole with the
+/// piece in which its head ended, and else three times at most. A request that is discarded costs the moving of what is held
+/// behind it.
 #[derive(Debug, Drop)]
 pub struct Stream {
     bytes: Vec<u8>,

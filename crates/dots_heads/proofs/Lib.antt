@@ -1,0 +1,3 @@
+pub mod Identifiers
+pub mod PathLaws
+pub mod WithoutMemory

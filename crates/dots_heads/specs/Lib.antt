@@ -1,0 +1,11 @@
+pub mod HeadViews
+pub mod Heads
+pub mod OperationViews
+pub mod Operations
+pub mod Options
+pub mod PathViews
+pub mod Paths
+pub mod RejectText
+pub mod Wordings
+pub mod Results
+pub mod Segments
