@@ -1,9 +1,10 @@
 //! The pairs of a map while it is read. Senders mostly put them in the order of their keys, so what another order
 //! needs is marked as cold.
 
-ghost use Rattle.std.specs.Prelude.{◌≡◌, [], true, false, map, IfOk, OnOk};
+ghost use Rattle.std.specs.Prelude.{◌≡◌, [], true, false, IsTrue, map, IfOk, OnOk};
 ghost use Rattle.std.specs.List.{AllByRecursion};
 ghost use Rattle.std.specs.declared.cmp.Ordering.TheVariants.{Less, Equal};
+ghost use Rattle.cbor_profile.specs.declared.item.Item.TheVariants.{Unsigned};
 ghost use Rattle.cbor_profile.specs.Tree.{pairs_of};
 ghost use Rattle.cbor_profile.specs.Canon.{canon};
 ghost use Rattle.cbor_profile.specs.Valid.{IsSound, KeysRise};
@@ -122,6 +123,15 @@ pub(crate) fn compare_to_last(pairs: &[(Item, Item)], key: &Item) -> Ordering
         Some((last, _)) => compare(last, key),
         None => Ordering::Less,
     }
+}
+
+/// Whether a number, as a key, comes after the last pair's.
+pub(crate) fn comes_last(pairs: &[(Item, Item)], number: u64) -> bool
+    requires rise { KeysRise (pairs_of (map pair_of pairs.now)) }
+    requires sound { AllByRecursion (λ p. IsSound p.0) (map pair_of pairs.now) }
+    ensures { IsTrue result → AllBefore (tree_of (Unsigned number)) (map pair_of pairs.now) }
+{
+    compare_to_last(pairs, &Item::Unsigned(number)).is_lt()
 }
 
 /// Takes the pairs of a list, whose keys rise, and keeps each at its key's encoding.
