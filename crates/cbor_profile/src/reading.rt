@@ -423,13 +423,13 @@ fn read_pair<'a>(
     ensures shorter { IfOk result (λ rest. length rest.now ≤ length bytes.now) }
 {
     let (key, after_key) = read_item(alloc, end, bytes, levels)?;
-    if pairs.has_key(alloc, &key)? {
+    let Some(place) = pairs.find_place(alloc, &key)? else {
         return Err(CborFault::Duplicate {
             at: end - bytes.len(),
         });
-    }
+    };
     let (value, rest) = read_item(alloc, end, after_key, levels)?;
-    pairs.put(alloc, key, value)?;
+    pairs.put(place, key, value)?;
     Ok(rest)
 }
 

@@ -1,6 +1,7 @@
-use Rattle.std.proofs.Common.{◌≡◌, ◌-◌, ◌+◌, true, length, refl, sym, ap, subst, ◌∙◌, arith}
+use Rattle.std.proofs.Common.{◌≡◌, ◌-◌, ◌+◌, true, false, Option, IfSome, length, refl, sym, ap, subst, ◌∙◌, arith}
 use Rattle.std.proofs.lemmas.Result.{err_from_is_err_and}
 use Rattle.cbor_profile.specs.declared.item.Item.{Unsigned}
+use Rattle.cbor_profile.specs.declared.gathering.Place.{Place}
 use Rattle.cbor_profile.specs.View.{tree_of, trees, tree_pairs, item_read}
 use Rattle.cbor_profile.specs.Gathering.{gathered, AllBefore}
 use Rattle.cbor_profile.specs.Reading.{item_at, has_key}
@@ -99,19 +100,11 @@ read_open_items-returns-clause-value t c =
 
 -- ---- pairs
 
-pub read_pair-has_key-requires-clause-key_sound : goal.read_pair-has_key-requires-clause-key_sound
-read_pair-has_key-requires-clause-key_sound t c =
-    key_sound c.args.levels c.args.end c.args.bytes.now c.in_ok-key.after_key.now (tree_of c.in_ok-key.key)
-    (held c.args.bytes.now (λ i. omega (arith, c.type_inv.bytes i)) (omega (arith, c.requires.within, c.ranges.end.fits))) c.in_ok-key.ensures.value
-
 pub read_pair-returns-clause-gathered : goal.read_pair-returns-clause-gathered
 read_pair-returns-clause-gathered t c =
-    let sound =
-    key_sound c.args.levels c.args.end c.args.bytes.now c.in_ok-key.after_key.now (tree_of c.in_ok-key.key)
-    (held c.args.bytes.now (λ i. omega (arith, c.type_inv.bytes i)) (omega (arith, c.requires.within, c.ranges.end.fits))) c.in_ok-key.ensures.value in
-    let same = same_gathered c.args.pairs.now c.has_key.new.self c.requires.gathered c.in_ok-has_key.ensures.same c.in_ok-has_key.ensures.kept in
-    let fresh = ap (has_key (tree_of c.in_ok-key.key)) c.in_ok-has_key.ensures.same ∙ sym c.in_ok-has_key.ensures.value ∙ c.if-branch.false in
-    put_gathered c.has_key.new.self c.put.new.self (tree_of c.in_ok-key.key) (tree_of c.in_ok-value.value) same sound fresh c.in_ok-put.ensures.pairs c.in_ok-put.ensures.kept
+    let same = same_gathered c.args.pairs.now c.find_place.new.self c.requires.gathered c.in_ok-place.ensures.same c.in_ok-place.ensures.kept in
+    let fresh = ap (has_key (tree_of c.in_ok-key.key)) c.in_ok-place.ensures.same ∙ subst (λ (o : Option Place). IfSome o (λ _. has_key (tree_of c.in_ok-key.key) (gathered c.args.pairs.now) ≡ false)) c.in-Some.is c.in_ok-place.ensures.fresh in
+    put_gathered c.find_place.new.self c.put.new.self (tree_of c.in_ok-key.key) (tree_of c.in_ok-value.value) same c.in_ok-key.ensures.sound fresh c.in_ok-put.ensures.pairs c.in_ok-put.ensures.kept
 
 pub read_pairs-returns-in_err-value-in-Some-clause-value : goal.read_pairs-returns-in_err-value-in-Some-clause-value
 read_pairs-returns-in_err-value-in-Some-clause-value t c =
