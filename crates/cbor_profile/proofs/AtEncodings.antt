@@ -13,6 +13,8 @@ use Rattle.cbor_profile.specs.declared.item.Item.{Item}
 use Rattle.cbor_profile.specs.declared.item.PairList.{PairList}
 use Rattle.cbor_profile.specs.declared.gathering.Gathered.{Gathered}
 use Rattle.cbor_profile.specs.declared.gathering.Gathered.TheVariants.{Rising}
+use Rattle.cbor_profile.specs.declared.gathering.Place.{Place}
+use Rattle.cbor_profile.specs.declared.gathering.Place.TheVariants.{Last}
 use Rattle.cbor_profile.specs.Tree.{Tree, pairs_of}
 use Rattle.cbor_profile.specs.Canon.{canon}
 use Rattle.cbor_profile.specs.Valid.{RiseFrom}
@@ -33,9 +35,10 @@ behind_put k v [] all = refl
 behind_put k v (p ∷ ps) all =
     ap (λ (o : Ordering). cond (is_lt o) (p ∷ put k v ps) ((k, v) ∷ p ∷ ps)) all.0 ∙ ap (λ (l : List (Tree × Tree)). p ∷ l) (behind_put k v ps all.1)
 
-pub behind_pushed : (pairs : Gathered) (list : PairList) (k v : Tree) (new : List (Tree × Tree)) → pairs ≡ Rising list → IsOpenFor pairs k → new ≡ tree_pairs list ++ (k, v) ∷ [] → new ≡ put k v (gathered pairs)
-behind_pushed pairs list k v new is opens pushed =
-    pushed ∙ sym (behind_put k v (tree_pairs list) (subst (λ (g : Gathered). IsOpenFor g k) is opens)) ∙ ap (λ (g : Gathered). put k v (gathered g)) (sym is)
+pub behind_pushed : (pairs : Gathered) (list : PairList) (place : Place) (k v : Tree) (new : List (Tree × Tree)) → pairs ≡ Rising list → place ≡ Last → IsOpenFor pairs k place → new ≡ tree_pairs list ++ (k, v) ∷ [] → new ≡ put k v (gathered pairs)
+behind_pushed pairs list place k v new is last opens pushed =
+    let before : AllBefore k (tree_pairs list) = subst (λ (p : Place). IsOpenFor (Rising list) k p) last (subst (λ (g : Gathered). IsOpenFor g k place) is opens) in
+    pushed ∙ sym (behind_put k v (tree_pairs list) before) ∙ ap (λ (g : Gathered). put k v (gathered g)) (sym is)
 
 pub behind_new : (pairs : Gathered) (list : PairList) (k : Tree) → pairs ≡ Rising list → AllBefore k (tree_pairs list) → has_key k (gathered pairs) ≡ false
 behind_new pairs list k is all = subst (λ (g : Gathered). has_key k (gathered g) ≡ false) (sym is) (behind_fresh k (tree_pairs list) all)

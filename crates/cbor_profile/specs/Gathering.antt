@@ -7,6 +7,8 @@ use Rattle.std.specs.declared.cmp.Ordering.TheVariants.{Less}
 use Rattle.cbor_profile.specs.declared.item.Item.{Item}
 use Rattle.cbor_profile.specs.declared.gathering.Gathered.{Gathered}
 use Rattle.cbor_profile.specs.declared.gathering.Gathered.TheVariants as gathered_as
+use Rattle.cbor_profile.specs.declared.gathering.Place.{Place}
+use Rattle.cbor_profile.specs.declared.gathering.Place.TheVariants as place
 use Rattle.cbor_profile.specs.Tree.{Tree, pairs_of}
 use Rattle.cbor_profile.specs.Canon.{canon}
 use Rattle.cbor_profile.specs.Valid.{IsSound, KeysRise}
@@ -39,7 +41,13 @@ pub record IsGathered (pairs : Gathered) : Type 0 where
 abbrev pub AllBefore : Tree → List (Tree × Tree) → Type 0
 AllBefore key pairs = AllByRecursion (λ p. key_order p.0 key ≡ Less) pairs
 
--- a new key's pair can be put among the pairs
-abbrev pub IsOpenFor : Gathered → Tree → Type 0
-IsOpenFor (gathered_as.Rising list) key = AllBefore key (tree_pairs list)
-IsOpenFor (gathered_as.ByEncoding pairs) key = Unit {0}
+-- the place is the encoding of the key
+abbrev pub IsAtEncoding : Tree → Place → Type 0
+IsAtEncoding key (place.At encoding) = encoding.items ≡ canon key
+IsAtEncoding key place.Last = ⊥
+
+-- a new key's pair can be put among the pairs, at this place
+abbrev pub IsOpenFor : Gathered → Tree → Place → Type 0
+IsOpenFor (gathered_as.Rising list) key place.Last = AllBefore key (tree_pairs list)
+IsOpenFor (gathered_as.Rising list) key (place.At encoding) = ⊥
+IsOpenFor (gathered_as.ByEncoding pairs) key where_to = IsAtEncoding key where_to

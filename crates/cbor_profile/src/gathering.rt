@@ -1,15 +1,16 @@
 //! The pairs of a map while it is read. Senders mostly put them in the order of their keys, so what another order
 //! needs is marked as cold.
 
-ghost use Rattle.std.specs.Prelude.{◌≡◌, [], true, false, map, IfOk, OnOk};
+ghost use Rattle.std.specs.Prelude.{◌≡◌, [], true, false, IsTrue, map, IfOk, OnOk, IfSome, IfNone};
 ghost use Rattle.std.specs.List.{AllByRecursion};
 ghost use Rattle.std.specs.declared.cmp.Ordering.TheVariants.{Less, Equal};
+ghost use Rattle.cbor_profile.specs.declared.item.Item.TheVariants.{Unsigned};
 ghost use Rattle.cbor_profile.specs.Tree.{pairs_of};
 ghost use Rattle.cbor_profile.specs.Canon.{canon};
 ghost use Rattle.cbor_profile.specs.Valid.{IsSound, KeysRise};
 ghost use Rattle.cbor_profile.specs.View.{tree_of, tree_pairs, pair_of};
 ghost use Rattle.cbor_profile.specs.Reading.{has_key, put};
-ghost use Rattle.cbor_profile.specs.Gathering.{encoded_pairs, AreEncoded, gathered, IsGathered, IsKept, AllBefore, IsOpenFor};
+ghost use Rattle.cbor_profile.specs.Gathering.{encoded_pairs, AreEncoded, gathered, IsGathered, IsKept, AllBefore, IsAtEncoding, IsOpenFor};
 
 use crate::item::{Item, PairList};
 use crate::order::compare;
@@ -31,6 +32,15 @@ pub(crate) enum Gathered {
     ByEncoding(EncodedPairs),
 }
 
+/// Where the pair of a new key goes.
+#[derive(Drop)]
+pub(crate) enum Place {
+    /// Behind the last one.
+    Last,
+    /// At this encoding of its key.
+    At(Vec<u8>),
+}
+
 impl Gathered {
     /// No pairs. Takes no memory.
     pub(crate) fn new(alloc: Global) -> Self
@@ -40,44 +50,52 @@ impl Gathered {
         Gathered::Rising(PairList::new(alloc))
     }
 
-    /// Whether one of the pairs has the key. If none has, a pair with the key can be put among them.
-    pub(crate) fn has_key(&mut self, alloc: Global, key: &Item) -> Result<bool, NoMemory>
+    /// The place for a pair with the key, or None where one of the pairs has the key.
+    pub(crate) fn find_place(
+        &mut self,
+        alloc: Global,
+        key: &Item,
+    ) -> Result<Option<Place>, NoMemory>
         requires gathered { IsGathered self.old }
         requires key_sound { IsSound (tree_of key.now) }
-        ensures value { IfOk result (λ found. found ≡ has_key (tree_of key.now) (gathered self.old)) }
+        ensures taken { IfOk result (λ place. IfNone place (has_key (tree_of key.now) (gathered self.old) ≡ true)) }
+        ensures fresh { IfOk result (λ place. IfSome place (λ _. has_key (tree_of key.now) (gathered self.old) ≡ false)) }
         ensures same { OnOk result (gathered self.new ≡ gathered self.old) }
         ensures kept { OnOk result (IsKept self.new) }
-        ensures open { IfOk result (λ found. found ≡ false → IsOpenFor self.new (tree_of key.now)) }
+        ensures open { IfOk result (λ place. IfSome place (IsOpenFor self.new (tree_of key.now))) }
     {
         match self {
             Gathered::Rising(list) => match compare_to_last(list.items(), key) {
-                Ordering::Less => Ok(false),
-                Ordering::Equal => Ok(true),
+                Ordering::Less => Ok(Some(Place::Last)),
+                Ordering::Equal => Ok(None),
                 Ordering::Greater => {
                     let pairs = by_encoding(alloc, list)?;
-                    let found = is_among(alloc, &pairs, key)?;
+                    let place = place_among(alloc, &pairs, key)?;
                     *self = Gathered::ByEncoding(pairs);
-                    Ok(found)
+                    Ok(place)
                 }
             },
-            Gathered::ByEncoding(pairs) => is_among(alloc, pairs, key),
+            Gathered::ByEncoding(pairs) => place_among(alloc, pairs, key),
         }
     }
 
     /// Puts a pair with a new key in its place.
-    pub(crate) fn put(&mut self, alloc: Global, key: Item, value: Item) -> Result<(), NoMemory>
+    pub(crate) fn put(&mut self, place: Place, key: Item, value: Item) -> Result<(), NoMemory>
         requires kept { IsKept self.old }
         requires fresh { has_key (tree_of key) (gathered self.old) ≡ false }
-        requires open { IsOpenFor self.old (tree_of key) }
+        requires open { IsOpenFor self.old (tree_of key) place }
         ensures pairs { OnOk result (gathered self.new ≡ put (tree_of key) (tree_of value) (gathered self.old)) }
         ensures kept { OnOk result (IsKept self.new) }
     {
         match self {
-            Gathered::Rising(list) => list.push((key, value)),
-            Gathered::ByEncoding(pairs) => {
-                let encoding = encoding_of(alloc, &key)?;
-                insert_pair(pairs, encoding, (key, value))
-            }
+            Gathered::Rising(list) => match place {
+                Place::Last => list.push((key, value)),
+                Place::At(_) => unreachable!(),
+            },
+            Gathered::ByEncoding(pairs) => match place {
+                Place::At(encoding) => insert_pair(pairs, encoding, (key, value)),
+                Place::Last => unreachable!(),
+            },
         }
     }
 
@@ -124,6 +142,15 @@ pub(crate) fn compare_to_last(pairs: &[(Item, Item)], key: &Item) -> Ordering
     }
 }
 
+/// Whether a number, as a key, comes after the last pair's.
+pub(crate) fn comes_last(pairs: &[(Item, Item)], number: u64) -> bool
+    requires rise { KeysRise (pairs_of (map pair_of pairs.now)) }
+    requires sound { AllByRecursion (λ p. IsSound p.0) (map pair_of pairs.now) }
+    ensures { IsTrue result → AllBefore (tree_of (Unsigned number)) (map pair_of pairs.now) }
+{
+    compare_to_last(pairs, &Item::Unsigned(number)).is_lt()
+}
+
 /// Takes the pairs of a list, whose keys rise, and keeps each at its key's encoding.
 #[cold]
 #[inline(never)]
@@ -140,15 +167,20 @@ fn by_encoding(alloc: Global, list: &mut PairList) -> Result<EncodedPairs, NoMem
     Ok(pairs)
 }
 
-/// Whether one of the pairs has the key.
+/// The place for a pair with the key by its encoding, or None where one of the pairs has the key.
 #[cold]
 #[inline(never)]
-fn is_among(alloc: Global, pairs: &EncodedPairs, key: &Item) -> Result<bool, NoMemory>
+fn place_among(alloc: Global, pairs: &EncodedPairs, key: &Item) -> Result<Option<Place>, NoMemory>
     requires kept { AreEncoded pairs.now.entries }
-    ensures { IfOk result (λ found. found ≡ has_key (tree_of key.now) (encoded_pairs pairs.now.entries)) }
+    ensures taken { IfOk result (λ place. IfNone place (has_key (tree_of key.now) (encoded_pairs pairs.now.entries) ≡ true)) }
+    ensures fresh { IfOk result (λ place. IfSome place (λ _. has_key (tree_of key.now) (encoded_pairs pairs.now.entries) ≡ false)) }
+    ensures at { IfOk result (λ place. IfSome place (IsAtEncoding (tree_of key.now))) }
 {
     let encoding = encoding_of(alloc, key)?;
-    Ok(pairs.contains_key(encoding.as_slice()))
+    if pairs.contains_key(encoding.as_slice()) {
+        return Ok(None);
+    }
+    Ok(Some(Place::At(encoding)))
 }
 
 /// The deterministic encoding of a key.

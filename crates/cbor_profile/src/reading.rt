@@ -14,7 +14,7 @@ ghost use Rattle.cbor_profile.specs.Reading.{Gives, simple, items_at, open_items
 
 use crate::argument::read_argument;
 use crate::fault::CborFault;
-use crate::gathering::{Gathered, compare_to_last};
+use crate::gathering::{Gathered, comes_last, compare_to_last};
 use crate::head::{BREAK, Major, Start, start_of};
 use crate::head_bytes::{FALSE, TRUE};
 use crate::item::{Item, ItemList, PairList};
@@ -308,6 +308,15 @@ fn read_pairs(
     let mut pairs = PairList::with_room(alloc, first_room(count, bytes))?;
     let mut rest = bytes;
     for done in 0..count {
+        match rest.split_first() {
+            Some((first, after_key)) if *first < 24 && comes_last(pairs.items(), *first as u64) => {
+                let (value, after) = read_item(alloc, end, after_key, levels)?;
+                pairs.push((Item::Unsigned(*first as u64), value))?;
+                rest = after;
+                continue;
+            }
+            _ => {}
+        }
         let (key, after_key) = read_item(alloc, end, rest, levels)?;
         match compare_to_last(pairs.items(), &key) {
             Ordering::Less => {
@@ -414,13 +423,13 @@ fn read_pair<'a>(
     ensures shorter { IfOk result (λ rest. length rest.now ≤ length bytes.now) }
 {
     let (key, after_key) = read_item(alloc, end, bytes, levels)?;
-    if pairs.has_key(alloc, &key)? {
+    let Some(place) = pairs.find_place(alloc, &key)? else {
         return Err(CborFault::Duplicate {
             at: end - bytes.len(),
         });
-    }
+    };
     let (value, rest) = read_item(alloc, end, after_key, levels)?;
-    pairs.put(alloc, key, value)?;
+    pairs.put(place, key, value)?;
     Ok(rest)
 }
 

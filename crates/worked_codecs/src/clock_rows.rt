@@ -76,9 +76,9 @@ fn hands_out_what_is_due(rt: HostRuntime) -> Result<(), Fail> {
     Ok(())
 }
 
-/// Sixty thousand keys that rise with their times. In a tree that isn't balanced this would take minutes.
+/// Sixty thousand keys that rise with their times. In a tree that isn't balanced the calls would nest too deep.
 #[test]
-fn stays_fast(rt: HostRuntime) -> Result<(), Fail> {
+fn stays_low(rt: HostRuntime) -> Result<(), Fail> {
     let mut rows = Vec::new(rt.alloc());
     let mut want = Vec::new(rt.alloc());
     for key in 0..60_000u32 {

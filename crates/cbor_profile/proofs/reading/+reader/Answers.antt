@@ -1,12 +1,14 @@
-use Rattle.std.proofs.Common.{◌≡◌, ◌-◌, ◌+◌, true, length, refl, sym, ap, subst, ◌∙◌, arith}
+use Rattle.std.proofs.Common.{◌≡◌, ◌-◌, ◌+◌, true, false, Option, IfSome, length, refl, sym, ap, subst, ◌∙◌, arith}
 use Rattle.std.proofs.lemmas.Result.{err_from_is_err_and}
+use Rattle.cbor_profile.specs.declared.item.Item.{Unsigned}
+use Rattle.cbor_profile.specs.declared.gathering.Place.{Place}
 use Rattle.cbor_profile.specs.View.{tree_of, trees, tree_pairs, item_read}
 use Rattle.cbor_profile.specs.Gathering.{gathered, AllBefore}
 use Rattle.cbor_profile.specs.Reading.{item_at, has_key}
 use Rattle.cbor_profile.proofs.Readings.{held}
 use Rattle.cbor_profile.proofs.Inside.{small_read, item_short, value_begun, indefinite_begun, reserved_begun, unsupported_begun, gives_same}
 use Rattle.cbor_profile.proofs.Paired.{key_sound, item_sound, same_gathered, put_gathered}
-use Rattle.cbor_profile.proofs.Rising.{next_key_fails, next_again, next_value_fails, next_pair, next_rises, next_sound}
+use Rattle.cbor_profile.proofs.Rising.{number_sound, next_key_fails, next_again, next_value_fails, next_pair, next_rises, next_sound}
 use Rattle.cbor_profile.proofs.Loops.{items_fail, items_go, items_done, open_items_short, open_items_spent, open_items_end, open_items_fail, open_items_go, pairs_fail, pairs_go, pairs_done, open_pairs_short, open_pairs_spent, open_pairs_end, open_pairs_fail, open_pairs_go}
 use Rattle.cbor_profile.proofs.reading.+reader.Goals as goal
 
@@ -98,19 +100,33 @@ read_open_items-returns-clause-value t c =
 
 -- ---- pairs
 
-pub read_pair-has_key-requires-clause-key_sound : goal.read_pair-has_key-requires-clause-key_sound
-read_pair-has_key-requires-clause-key_sound t c =
-    key_sound c.args.levels c.args.end c.args.bytes.now c.in_ok-key.after_key.now (tree_of c.in_ok-key.key)
-    (held c.args.bytes.now (λ i. omega (arith, c.type_inv.bytes i)) (omega (arith, c.requires.within, c.ranges.end.fits))) c.in_ok-key.ensures.value
-
 pub read_pair-returns-clause-gathered : goal.read_pair-returns-clause-gathered
 read_pair-returns-clause-gathered t c =
-    let sound =
-    key_sound c.args.levels c.args.end c.args.bytes.now c.in_ok-key.after_key.now (tree_of c.in_ok-key.key)
-    (held c.args.bytes.now (λ i. omega (arith, c.type_inv.bytes i)) (omega (arith, c.requires.within, c.ranges.end.fits))) c.in_ok-key.ensures.value in
-    let same = same_gathered c.args.pairs.now c.has_key.new.self c.requires.gathered c.in_ok-has_key.ensures.same c.in_ok-has_key.ensures.kept in
-    let fresh = ap (has_key (tree_of c.in_ok-key.key)) c.in_ok-has_key.ensures.same ∙ sym c.in_ok-has_key.ensures.value ∙ c.if-branch.false in
-    put_gathered c.has_key.new.self c.put.new.self (tree_of c.in_ok-key.key) (tree_of c.in_ok-value.value) same sound fresh c.in_ok-put.ensures.pairs c.in_ok-put.ensures.kept
+    let same = same_gathered c.args.pairs.now c.find_place.new.self c.requires.gathered c.in_ok-place.ensures.same c.in_ok-place.ensures.kept in
+    let fresh = ap (has_key (tree_of c.in_ok-key.key)) c.in_ok-place.ensures.same ∙ subst (λ (o : Option Place). IfSome o (λ _. has_key (tree_of c.in_ok-key.key) (gathered c.args.pairs.now) ≡ false)) c.in-Some.is c.in_ok-place.ensures.fresh in
+    put_gathered c.find_place.new.self c.put.new.self (tree_of c.in_ok-key.key) (tree_of c.in_ok-value.value) same c.in_ok-key.ensures.sound fresh c.in_ok-put.ensures.pairs c.in_ok-put.ensures.kept
+
+pub read_pairs-returns-in_err-value-in-Some-clause-value : goal.read_pairs-returns-in_err-value-in-Some-clause-value
+read_pairs-returns-in_err-value-in-Some-clause-value t c =
+    let p = err_from_is_err_and c.from_residual-in_err-value-in-Some.result c.from_residual-in_err-value-in-Some.ensures.1 in
+    rw (p.1, p.2) (
+    next_value_fails (item_at c.args.levels c.args.end) c.args.end (c.args.count - c.loop-done.done) (tree_pairs c.loop-done.pairs) c.loop-done.rest.now _ c.loop-done.invariant.read c.in_err-value-in-Some.field-0.0
+    c.in-Some.after_key.now (tree_of (Unsigned c.in-Some.first.now)) (omega (arith, c.loop-done-test.true)) (small_read c.args.levels c.args.end c.loop-done.rest.now c.in-Some.after_key.now c.in-Some.first.now c.in-Some.ensures.cases.0 c.if-first-lt24.true) (subst (AllBefore (tree_of (Unsigned c.in-Some.first.now))) c.items.ensures (c.comes_last.ensures c.if-comes_last.true)) c.in_err-value-in-Some.ensures.value
+    )
+
+pub read_pairs-loop-done-preserved-in-Some : goal.read_pairs-loop-done-preserved-in-Some
+read_pairs-loop-done-preserved-in-Some t c =
+    let before = subst (AllBefore (tree_of (Unsigned c.in-Some.first.now))) c.items.ensures (c.comes_last.ensures c.if-comes_last.true) in
+    let good = small_read c.args.levels c.args.end c.loop-done.rest.now c.in-Some.after_key.now c.in-Some.first.now c.in-Some.ensures.cases.0 c.if-first-lt24.true in
+    record {
+      read =
+          next_pair (item_at c.args.levels c.args.end) c.args.end (c.args.count - c.loop-done.done) (tree_pairs c.loop-done.pairs) c.loop-done.rest.now _ c.loop-done.invariant.read (c.args.count - (c.loop-done.done + 1))
+          (tree_pairs c.push.new.self) c.in-Some.after_key.now c.in_ok-value-in-Some.after.now (tree_of (Unsigned c.in-Some.first.now)) (tree_of c.in_ok-value-in-Some.value) (omega (arith, c.loop-done-test.true)) good before
+          c.in_ok-value-in-Some.ensures.value c.in_ok-push-in-Some.ensures.ok;
+      rise = next_rises (tree_pairs c.loop-done.pairs) (tree_pairs c.push.new.self) (tree_of (Unsigned c.in-Some.first.now)) (tree_of c.in_ok-value-in-Some.value) before c.in_ok-push-in-Some.ensures.ok c.loop-done.invariant.rise;
+      sound = next_sound (tree_pairs c.loop-done.pairs) (tree_pairs c.push.new.self) (tree_of (Unsigned c.in-Some.first.now)) (tree_of c.in_ok-value-in-Some.value) before c.in_ok-push-in-Some.ensures.ok c.loop-done.invariant.sound (number_sound c.in-Some.first.now (omega (arith, c.if-first-lt24.true)));
+      shorter = omega (arith, c.in_ok-value-in-Some.ensures.shorter, ap length c.in-Some.ensures.cases.0, c.loop-done.invariant.shorter);
+    }
 
 pub read_pairs-returns-in_err-key-clause-value : goal.read_pairs-returns-in_err-key-clause-value
 read_pairs-returns-in_err-key-clause-value t c =
@@ -122,24 +138,24 @@ read_pairs-returns-in_err-value-in-Less-clause-value t c =
     let p = err_from_is_err_and c.from_residual-in_err-value-in-Less.result c.from_residual-in_err-value-in-Less.ensures.1 in
     rw (p.1, p.2) (
     next_value_fails (item_at c.args.levels c.args.end) c.args.end (c.args.count - c.loop-done.done) (tree_pairs c.loop-done.pairs) c.loop-done.rest.now _ c.loop-done.invariant.read c.in_err-value-in-Less.field-0.0
-    c.in_ok-key.after_key.now (tree_of c.in_ok-key.key) (omega (arith, c.loop-done-test.true)) c.in_ok-key.ensures.value (subst (AllBefore (tree_of c.in_ok-key.key)) c.items.ensures (c.in-Less.ensures.less refl)) c.in_err-value-in-Less.ensures.value
+    c.in_ok-key.after_key.now (tree_of c.in_ok-key.key) (omega (arith, c.loop-done-test.true)) c.in_ok-key.ensures.value (subst (AllBefore (tree_of c.in_ok-key.key)) c.items-in-loop-done.ensures (c.in-Less.ensures.less refl)) c.in_err-value-in-Less.ensures.value
     )
 
 pub read_pairs-returns-in-Equal-clause-value : goal.read_pairs-returns-in-Equal-clause-value
 read_pairs-returns-in-Equal-clause-value t c =
     next_again (item_at c.args.levels c.args.end) c.args.end (c.args.count - c.loop-done.done) (tree_pairs c.loop-done.pairs) c.loop-done.rest.now _ c.loop-done.invariant.read c.in_ok-key.after_key.now
-    (tree_of c.in_ok-key.key) (omega (arith, c.loop-done-test.true)) c.in_ok-key.ensures.value (subst (λ l. has_key (tree_of c.in_ok-key.key) l ≡ true) c.items.ensures (c.in-Equal.ensures.equal refl))
+    (tree_of c.in_ok-key.key) (omega (arith, c.loop-done-test.true)) c.in_ok-key.ensures.value (subst (λ l. has_key (tree_of c.in_ok-key.key) l ≡ true) c.items-in-loop-done.ensures (c.in-Equal.ensures.equal refl))
 
 pub read_pairs-loop-done-preserved : goal.read_pairs-loop-done-preserved
 read_pairs-loop-done-preserved t c =
-    let before = subst (AllBefore (tree_of c.in_ok-key.key)) c.items.ensures (c.in-Less.ensures.less refl) in
+    let before = subst (AllBefore (tree_of c.in_ok-key.key)) c.items-in-loop-done.ensures (c.in-Less.ensures.less refl) in
     record {
       read =
           next_pair (item_at c.args.levels c.args.end) c.args.end (c.args.count - c.loop-done.done) (tree_pairs c.loop-done.pairs) c.loop-done.rest.now _ c.loop-done.invariant.read (c.args.count - (c.loop-done.done + 1))
-          (tree_pairs c.push.new.self) c.in_ok-key.after_key.now c.in_ok-value-in-Less.after.now (tree_of c.in_ok-key.key) (tree_of c.in_ok-value-in-Less.value) (omega (arith, c.loop-done-test.true)) c.in_ok-key.ensures.value before
+          (tree_pairs c.push-in-Less.new.self) c.in_ok-key.after_key.now c.in_ok-value-in-Less.after.now (tree_of c.in_ok-key.key) (tree_of c.in_ok-value-in-Less.value) (omega (arith, c.loop-done-test.true)) c.in_ok-key.ensures.value before
           c.in_ok-value-in-Less.ensures.value c.in_ok-push-in-Less.ensures.ok;
-      rise = next_rises (tree_pairs c.loop-done.pairs) (tree_pairs c.push.new.self) (tree_of c.in_ok-key.key) (tree_of c.in_ok-value-in-Less.value) before c.in_ok-push-in-Less.ensures.ok c.loop-done.invariant.rise;
-      sound = next_sound (tree_pairs c.loop-done.pairs) (tree_pairs c.push.new.self) (tree_of c.in_ok-key.key) (tree_of c.in_ok-value-in-Less.value) before c.in_ok-push-in-Less.ensures.ok c.loop-done.invariant.sound c.in_ok-key.ensures.sound;
+      rise = next_rises (tree_pairs c.loop-done.pairs) (tree_pairs c.push-in-Less.new.self) (tree_of c.in_ok-key.key) (tree_of c.in_ok-value-in-Less.value) before c.in_ok-push-in-Less.ensures.ok c.loop-done.invariant.rise;
+      sound = next_sound (tree_pairs c.loop-done.pairs) (tree_pairs c.push-in-Less.new.self) (tree_of c.in_ok-key.key) (tree_of c.in_ok-value-in-Less.value) before c.in_ok-push-in-Less.ensures.ok c.loop-done.invariant.sound c.in_ok-key.ensures.sound;
       shorter = omega (arith, c.in_ok-value-in-Less.ensures.shorter, c.in_ok-key.ensures.shorter, c.loop-done.invariant.shorter);
     }
 

@@ -8,5 +8,5 @@ on_ok : {X E P Q : Type 0} (r : Result X E) → (P → Q) → OnOk r P → OnOk 
 on_ok (Ok x) f h = f h
 on_ok (Err e) f h = tt
 
-pub returns-in-Rising-clause-pairs : goal.returns-in-Rising-clause-pairs
-returns-in-Rising-clause-pairs c = on_ok c.push.result (behind_pushed c.args.self.now c.in-Rising.list (tree_of c.args.key) (tree_of c.args.value) _ c.in-Rising.is c.requires.open) c.push.ensures.ok
+pub returns-in-Last-clause-pairs : goal.returns-in-Last-clause-pairs
+returns-in-Last-clause-pairs c = on_ok c.push.result (behind_pushed c.args.self.now c.in-Rising.list c.args.place (tree_of c.args.key) (tree_of c.args.value) _ c.in-Rising.is c.in-Last.is c.requires.open) c.push.ensures.ok
