@@ -11,11 +11,13 @@ use Rattle.dots_history.specs.Histories.{Mitigation, tally, mitigations, held}
 use Rattle.dots_laws.specs.Calm.{is_of_settings, came_rightly}
 use Rattle.dots_laws.specs.Capacities.{is_registration, is_alias, is_list, has_client}
 
--- the time of the last entry, or 0 where there is none
+-- the time of the last entry, or this one where there is none
+abbrev pub last_or : ℕ → List Entry → ℕ
+last_or t [] = t
+last_or t (e ∷ later) = last_or e.time later
+
 abbrev pub last_time : List Entry → ℕ
-last_time [] = 0
-last_time (e ∷ []) = e.time
-last_time (e ∷ x ∷ later) = last_time (x ∷ later)
+last_time entries = last_or 0 entries
 
 -- a registration of the entry's client is held
 abbrev pub is_registered : List Entry → Entry → Bool

@@ -115,7 +115,7 @@ pub fn domains_are_apart()
     ensures lists { (domain t : ℕ) (entries : List Entry) → acl_rows t (alone domain entries) ≡ filter (λ row. row.domain == domain) (acl_rows t entries) }
     ensures fates { (prefixes : ℕ → List PrefixValue) (domain t : ℕ) (entries : List Entry) (packet : Packet)
         → fate prefixes t (alone domain entries) packet ≡ fate_by_rows prefixes (filter (λ row. row.domain == domain) (plain_rows t entries))
-            (filter (λ row. row.domain == domain) (acl_rows t entries)) packet }
+        (filter (λ row. row.domain == domain) (acl_rows t entries)) packet }
     ensures written { (domain : ℕ) (entries : List Entry) → Calm entries → held (alone domain entries) ≡ alone domain (held entries) }
 {}
 

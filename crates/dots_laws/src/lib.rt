@@ -6,6 +6,11 @@
 //! a mitigation (`specs/Firsts.antt`).
 #![tactic(auto)]
 
+mod admission;
 pub mod calm;
 pub mod laws;
+mod settings_own;
 pub mod tables;
+
+pub use admission::{fits, is_calm, joins};
+pub use settings_own::{came_rightly, is_of_settings};

@@ -88,5 +88,5 @@ pub fn kept_places_are_places()
         → list_any (λ place. place == length entries) (kept_places (names n t) [] 0 (entries ++ e ∷ [])) ≡ true }
     ensures union { (n t : ℕ) (entries : List Entry) → kept_places (names n t) [] 0 entries
         ≡ union (union (live_places t entries) (withdrawal_places t entries))
-            (union (union (recent_places n entries) (last_places entries)) (held_places entries)) }
+        (union (union (recent_places n entries) (last_places entries)) (held_places entries)) }
 {}

@@ -8,6 +8,8 @@ mod access_lists;
 #[cfg(test)]
 mod asking;
 #[cfg(test)]
+mod calm;
+#[cfg(test)]
 mod filters;
 #[cfg(test)]
 mod lifetimes;
