@@ -23,7 +23,8 @@ last_time entries = last_or 0 entries
 abbrev pub is_registered : List Entry → Entry → Bool
 is_registered standing e = list_any (λ r. is_registration r.change && same_client r e) standing
 
--- only a client that isn't registered registers (RFC 8783, section 5.1), and only one that is writes aliases and access lists
+-- only a client that isn't registered registers (RFC 8783, section 5.1), and only one that is writes aliases and access
+-- lists
 abbrev pub registers_rightly : List Entry → Entry → Bool
 registers_rightly standing e = (not (is_registration e.change) || not (is_registered standing e)) && has_client standing e
 
@@ -36,9 +37,9 @@ keeps_room limits e ms standing =
     && (nat_le (tally (λ (x : Entry). is_alias x.change && same_client e x) standing) limits.aliases
     && nat_le (tally (λ (x : Entry). is_list x.change && same_client e x) standing) limits.acls))
 
--- An entry fits those before it: its time isn't before theirs and is below 2^48; it is of a peer that may act for its domain,
--- inside which lies what it names; its client is registered where it must be; and after it, at its time, the capacities are
--- kept.
+-- An entry fits those before it: its time isn't before theirs and is below 2^48; it is of a peer that may act for its
+-- domain, inside which lies what it names; its client is registered where it must be; and after it, at its time, the
+-- capacities are kept.
 abbrev pub fits : SettingsValue → List Entry → Entry → Bool
 fits settings before e =
     ((nat_le (last_time before) e.time && nat_lt e.time (2 ^ 48)) && is_of_settings settings e)

@@ -34,9 +34,9 @@ pub fn joins(settings: &Settings, before: &[Entry], entry: &Entry, with: &[Entry
     fits(settings, before, entry, with) && came_rightly(entry) && has_one_peer(entry, before)
 }
 
-/// Whether the entry fits those before it: its time isn't before theirs and is below 2^48; it is of a peer that may act for
-/// its domain, inside which lies what it names; its client is registered where it must be; and after it, at its time, its
-/// domain and client keep the capacities. `with` is the history with the entry.
+/// Whether the entry fits those before it: its time isn't before theirs and is below 2^48; it is of a peer that may act
+/// for its domain, inside which lies what it names; its client is registered where it must be; and after it, at its
+/// time, its domain and client keep the capacities. `with` is the history with the entry.
 pub fn fits(settings: &Settings, before: &[Entry], entry: &Entry, with: &[Entry]) -> bool
     requires { with.now ≡ before.now ++ entry.now ∷ [] }
     ensures { result ≡ fits settings.now before.now entry.now }

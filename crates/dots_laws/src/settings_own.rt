@@ -15,8 +15,8 @@ use ip_scope::{Prefix, inside_any};
 /// The domain in which a gateway configures its session, which is no domain of the settings.
 const NO_DOMAIN: u16 = 65535;
 
-/// Whether the peer may act for the entry's domain, inside which lies what the entry names, or it configures its session and
-/// names no client.
+/// Whether the peer may act for the entry's domain, inside which lies what the entry names, or it configures its
+/// session and names no client.
 pub fn is_of_settings(settings: &Settings, entry: &Entry) -> bool
     ensures { result ≡ is_of_settings settings.now entry.now }
 {

@@ -13,7 +13,7 @@ const SETTINGS: &str = "domain net1
 prefix net1 192.0.2.0/24
 client 0 net1
 client 1 net1
-domain-mitigations 1
+capacity domain-mitigations 1
 ";
 
 const NET: &str = "192.0.2.0/24";
@@ -50,8 +50,8 @@ fn calm(alloc: Global, steps: &[Step<'_>]) -> Result<bool, Fail> {
     Ok(is_calm(&settings, entries.items()))
 }
 
-/// Each of these but the first is refused at its last entry, though what the first refused one comes to at 50 seconds keeps
-/// the capacity.
+/// Each of these but the first is refused at its last entry, though what the first refused one comes to at 50 seconds
+/// keeps the capacity.
 #[test]
 fn each_entry_joins_those_before_it(rt: HostRuntime) -> Result<(), Fail> {
     let rows: [(&[Step<'_>], bool); 8] = [
@@ -108,7 +108,8 @@ fn each_entry_joins_those_before_it(rt: HostRuntime) -> Result<(), Fail> {
     Ok(())
 }
 
-/// Of a client that registers and leaves the view names the last entry alone, which is calm though nobody is registered.
+/// Of a client that registers and leaves the view names the last entry alone, which is calm though nobody is
+/// registered.
 #[test]
 fn a_client_leaves_that_is_not_registered(rt: HostRuntime) -> Result<(), Fail> {
     let steps = [(0, CLIENT, Act::Register), (1, CLIENT, Act::Deregister)];
@@ -117,8 +118,8 @@ fn a_client_leaves_that_is_not_registered(rt: HostRuntime) -> Result<(), Fail> {
     Ok(())
 }
 
-/// A session configuration that is set in one domain and cleared in another isn't held, but it is by the entries of its domain
-/// alone. Such a history isn't calm.
+/// A session configuration that is set in one domain and cleared in another isn't held, but it is by the entries of its
+/// domain alone. Such a history isn't calm.
 #[test]
 fn a_configuration_is_cleared_in_another_domain(rt: HostRuntime) -> Result<(), Fail> {
     let elsewhere = Who {
@@ -142,8 +143,8 @@ fn a_configuration_is_cleared_in_another_domain(rt: HostRuntime) -> Result<(), F
     Ok(())
 }
 
-/// With one message remembered, peer 0 puts mid 1 for ever, and peer 1 withdraws mid 1 and then mid 2: the view names the
-/// first and the last, by which mid 1 would stand again.
+/// With one message remembered, peer 0 puts mid 1 for ever, and peer 1 withdraws mid 1 and then mid 2: the view names
+/// the first and the last, by which mid 1 would stand again.
 #[test]
 fn another_peer_withdraws(rt: HostRuntime) -> Result<(), Fail> {
     let put = (0, CLIENT, Act::Put(1, NET, -1));
