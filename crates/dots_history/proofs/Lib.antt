@@ -6,3 +6,4 @@ pub mod HeldPlaces
 pub mod Tracks
 pub mod Placing
 pub mod CalmPlaces
+pub mod NamedPlaces

@@ -18,12 +18,12 @@ tracks_push (x ∷ before) e =
     ap (λ s. record { put = x; status = s } ∷ tracks (before ++ e ∷ [])) (status_push x Open before e)
     ∙ ap (λ ms. record { put = x; status = step x (status x Open before) e } ∷ ms) (tracks_push before e)
 
-take_push : (i : ℕ) (entries : List Entry) (e : Entry) → slice_get entries i ≡ Some e → take (suc i) entries ≡ take i entries ++ e ∷ []
+pub take_push : (i : ℕ) (entries : List Entry) (e : Entry) → slice_get entries i ≡ Some e → take (suc i) entries ≡ take i entries ++ e ∷ []
 take_push i [] e found = absurd (none-some e found)
 take_push zero (x ∷ entries) e found = ap (λ y. y ∷ []) (same_Some x e found)
 take_push (suc i) (x ∷ entries) e found = ap (λ ys. x ∷ ys) (take_push i entries e found)
 
-drop_next : (i : ℕ) (entries : List Entry) (e : Entry) → slice_get entries i ≡ Some e → drop i entries ≡ e ∷ drop (suc i) entries
+pub drop_next : (i : ℕ) (entries : List Entry) (e : Entry) → slice_get entries i ≡ Some e → drop i entries ≡ e ∷ drop (suc i) entries
 drop_next i [] e found = absurd (none-some e found)
 drop_next zero (x ∷ entries) e found = ap (λ y. y ∷ entries) (same_Some x e found)
 drop_next (suc i) (x ∷ entries) e found = drop_next i entries e found

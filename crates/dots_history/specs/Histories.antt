@@ -73,8 +73,8 @@ abbrev pub seconds_of_grant : ℕ → ℕ → Option Put → ℤ
 seconds_of_grant t at None = pos 0
 seconds_of_grant t at (Some put) = seconds_of t at put.granted
 
--- The seconds left of a live mitigation: of its lifetime where it stands, else until 120 seconds after its withdrawal (RFC
--- 9132, sections 4.4.2 and 4.4.4).
+-- The seconds left of a live mitigation: of its lifetime where it stands, else until 120 seconds after its withdrawal
+-- (RFC 9132, sections 4.4.2 and 4.4.4).
 abbrev pub seconds_left : ℕ → Entry → Status → ℤ
 seconds_left t put Open = seconds_of_grant t put.time (put_of put.change)
 seconds_left t put (Withdrawn at) = pos (at + 120) -ℤ pos t

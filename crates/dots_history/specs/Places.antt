@@ -1,8 +1,8 @@
 -- What a history means, by places in the list of its entries, which are numbered from 0.
-use Rattle.std.specs.Prelude.{◌≡◌, ℕ, ◌+◌, ◌-◌, ◌<◌, ◌⊎◌, true, false, List, [], ◌∷◌, length, take, drop, filter, ◌||◌, Option, Some, None, slice_get}
+use Rattle.std.specs.Prelude.{◌≡◌, ℕ, suc, ◌+◌, ◌-◌, ◌<◌, ◌⊎◌, true, false, List, [], ◌∷◌, length, take, drop, filter, ◌||◌, Option, Some, None, slice_get}
 use Rattle.dots_history.specs.declared.entry.Entry.{Entry}
-use Rattle.dots_history.specs.Entries.{ends, withdraws, runs, signals, may_repeat, is_held, undoes, reconfigures}
-use Rattle.dots_history.specs.Histories.{or_else}
+use Rattle.dots_history.specs.Entries.{ends, withdraws, runs, is_signal, signals, may_repeat, is_held, undoes, reconfigures}
+use Rattle.dots_history.specs.Histories.{or_else, tally}
 
 -- no entry after place i ends this one
 abbrev pub IsNotEnded : List Entry → ℕ → Entry → Type 0
@@ -49,17 +49,28 @@ abbrev pub last_of : {A : Type 0} → List A → Option A
 last_of [] = None
 last_of (x ∷ xs) = or_else (last_of xs) (Some x)
 
--- The entry whose reply the repeat of a message gets: of the last n signal entries of this peer and domain those are taken whose
--- message had this Message ID and may still be repeated at time t, and of these the last (RFC 7252, section 4.5).
+-- The entry whose reply the repeat of a message gets: of the last n signal entries of this peer and domain those are
+-- taken whose message had this Message ID and may still be repeated at time t, and of these the last (RFC 7252, section
+-- 4.5).
 abbrev pub last_repeated : ℕ → ℕ → ℕ → ℕ → ℕ → List Entry → Option Entry
 last_repeated n t peer domain id entries =
     last_of (filter (λ (e : Entry). may_repeat t id e.time e.key) (lasts n (filter (signals peer domain) entries)))
 
--- A history is calm where what ends or withdraws a mitigation that was live just before it, at its time, has its peer, and where
--- the session configurations of one peer are of one domain.
+-- A history is calm where what ends or withdraws a mitigation that was live just before it, at its time, has its peer,
+-- and where the session configurations of one peer are of one domain.
 pub record IsCalm (entries : List Entry) : Type 0 where
   pub peers :
       (i j : ℕ) (put e : Entry) → i < j → slice_get entries i ≡ Some put → slice_get entries j ≡ Some e → Live (take j entries) i e.time put
       → ends put e || withdraws put e ≡ true → e.peer ≡ put.peer
   pub domains :
       (i j : ℕ) (e x : Entry) → i < j → slice_get entries i ≡ Some e → slice_get entries j ≡ Some x → reconfigures e x ≡ true → x.domain ≡ e.domain
+
+-- Why the view at time t names the entry at place i, when n messages of a peer and domain are remembered: it is a live
+-- mitigation; it is the first withdrawal of a terminating one; it is a signal entry with fewer than n of its peer and
+-- domain after it; it is the last entry; or what it wrote is held.
+pub data NamedAt (n t : ℕ) (entries : List Entry) (i : ℕ) (e : Entry) : Type 0 where
+  mitigates : Live entries i t e → NamedAt n t entries i e
+  withdrawn : (j : ℕ) (put : Entry) (terminating : Terminating entries j t put) → terminating.place ≡ i → NamedAt n t entries i e
+  recent : is_signal e.change ≡ true → tally (signals e.peer e.domain) (drop (suc i) entries) < n → NamedAt n t entries i e
+  last : suc i ≡ length entries → NamedAt n t entries i e
+  holds : IsHeld entries i e → NamedAt n t entries i e

@@ -13,8 +13,8 @@ use crate::status::Status;
 use dots_lists::NoMemory;
 use std::alloc::Global;
 
-/// The places, from 0 on, of the entries that the view at the time t names, when `count` messages of a peer and domain are
-/// remembered: all others may be dropped.
+/// The places, from 0 on, of the entries that the view at the time t names, when `count` messages of a peer and domain
+/// are remembered: all others may be dropped.
 #[tactic(auto, using(crate::proofs::Tracks::places_step))]
 pub fn places_to_keep(
     alloc: Global,

@@ -1,10 +1,11 @@
 //! What the definitions come to: each function's contract is a law, and its body does nothing.
 
-ghost use Rattle.std.specs.Prelude.{◌≡◌, ℕ, suc, true, List, drop, Some, slice_get};
+ghost use Rattle.std.specs.Prelude.{◌≡◌, ℕ, suc, true, List, ◌∷◌, ◌++◌, length, drop, Some, slice_get};
 ghost use Rattle.dots_history.specs.declared.entry.Entry.{Entry};
 ghost use Rattle.dots_history.specs.declared.status.Status.TheVariants.{Open};
 ghost use Rattle.dots_history.specs.Histories.{status, live, stays, remembered, Calm};
-ghost use Rattle.dots_history.specs.Places.{Live, IsHeld, IsCalm, last_repeated};
+ghost use Rattle.dots_history.specs.Places.{Live, IsHeld, IsCalm, NamedAt, last_repeated};
+ghost use Rattle.dots_history.specs.Keeping.{names, tracks};
 
 /// By the status that the later entries leave a mitigation it is live exactly where it stands or is terminating by the
 /// places of the entries.
@@ -21,10 +22,19 @@ pub fn held_by_places()
     ensures back { (entries : List Entry) (i : ℕ) (e : Entry) → IsHeld entries i e → stays e (drop (suc i) entries) ≡ true }
 {}
 
-/// The remembered reply is that of the last entry which the message may be that of, among the last n signal entries of its peer and
-/// domain: those are taken first, and of them those whose message it may be.
+/// The remembered reply is that of the last entry which the message may be that of, among the last n signal entries of
+/// its peer and domain: those are taken first, and of them those whose message it may be.
 pub fn remembered_by_lasts()
     ensures { (n t peer domain id : ℕ) (entries : List Entry) → remembered n t peer domain id entries ≡ last_repeated n t peer domain id entries }
+{}
+
+/// The view names an entry, by those before it with what was done to each and those after it, exactly where it does by
+/// the places of the entries.
+pub fn named_by_places()
+    ensures there { (n t : ℕ) (before later : List Entry) (e : Entry) → names n t (tracks before) e later ≡ true
+        → NamedAt n t (before ++ e ∷ later) (length before) e }
+    ensures back { (n t : ℕ) (before later : List Entry) (e : Entry) → NamedAt n t (before ++ e ∷ later) (length before) e
+        → names n t (tracks before) e later ≡ true }
 {}
 
 /// A history is calm by its entries, each with those after it, exactly where it is by their places.

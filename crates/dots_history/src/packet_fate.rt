@@ -18,9 +18,9 @@ use filter_rows::{Fate, decision, greatest_from, is_scrubbed};
 use ip_scope::Prefix;
 use std::alloc::Global;
 
-/// The fate of a packet at the time t, by the rows of the history: what the first matching entry of the active access lists
-/// says (RFC 8519, section 2); else it is scrubbed for the greatest mid of the rows that match; else it passes. `domains`
-/// has the prefixes of each domain, by its number.
+/// The fate of a packet at the time t, by the rows of the history: what the first matching entry of the active access
+/// lists says (RFC 8519, section 2); else it is scrubbed for the greatest mid of the rows that match; else it passes.
+/// `domains` has the prefixes of each domain, by its number.
 #[tactic(auto, using(crate::proofs::Deciding::by_entries))]
 pub fn fate_of_packet<'a>(
     alloc: Global,

@@ -14,7 +14,7 @@ use Rattle.dots_history.specs.Histories.{Mitigation, Within, IsPart, IsHistory, 
 use Rattle.dots_history.specs.Keeping.{is_first, names, pass, kept_by, kept}
 use Rattle.dots_laws.specs.Calm.{is_of_settings, came_rightly, IsCalmBy}
 use Rattle.dots_laws.specs.Capacities.{is_registration, is_alias, is_list, has_client}
-use Rattle.dots_laws.specs.Fits.{last_time, is_registered, registers_rightly, keeps_room, fits, is_of_mitigations, has_one_peer, joins, calm_after, is_calm}
+use Rattle.dots_laws.specs.Fits.{last_or, last_time, is_registered, registers_rightly, keeps_room, fits, is_of_mitigations, has_one_peer, joins, calm_after, is_calm}
 use Rattle.dots_laws.specs.Tables.{Client, is_of}
 use Rattle.dots_laws.specs.Views.{mitigations_with, held_with}
 use Rattle.dots_laws.proofs.Ageing.{mitigations_age}
@@ -257,10 +257,12 @@ registered_cut n t e later passed (r ∷ rest) own still is =
     ]
 
 -- ---- an entry that is named joins those that are named before it
+within_or : (t low high : ℕ) (xs : List Entry) → t ≤ low → Within low xs high → last_or t xs ≤ high
+within_or t low high [] less within = le_trans less within
+within_or t low high (x ∷ xs) less within = within_or x.time x.time high xs (le_refl x.time) within.1
+
 within_last : (low high : ℕ) (xs : List Entry) → Within low xs high → last_time xs ≤ high
-within_last low high [] within = omega arith
-within_last low high (x ∷ []) within = within.1
-within_last low high (x ∷ y ∷ xs) within = within_last x.time high (y ∷ xs) within.1
+within_last low high xs within = within_or 0 low high xs (omega arith) within
 
 client_few : (n t : ℕ) (passed : List Mitigation) (before : List Entry) (e : Entry) (later : List Entry) → Named n t passed e later
     → has_client (held before) e ≡ true → has_client (held (kept_by (cut n t (e ∷ later)) [] before)) e ≡ true

@@ -1,6 +1,6 @@
 -- What the rows of a history filter lies inside the domains of their clients, where its entries are the settings' own.
-use Rattle.std.proofs.Common.{◌≡◌, ℕ, Bool, true, false, cond, not, ◌&&◌, ◌||◌, List, [], ◌∷◌, ◌++◌, filter, map, Option, Some, None, inl, inr, refl, sym, ap, ◌∙◌, subst}
-use Rattle.std.specs.Prelude.{option_to_list, option_map, ◌==◌, bytes_eq}
+use Rattle.std.proofs.Common.{◌≡◌, ℕ, Bool, true, false, cond, ◌&&◌, List, [], ◌∷◌, ◌++◌, filter, map, Option, Some, None, inl, inr, refl, sym, ap, ◌∙◌}
+use Rattle.std.specs.Prelude.{option_to_list, option_map}
 use Rattle.std.specs.List.{list_any, list_all, flat_map}
 use Rattle.std.proofs.lemmas.Bool.{false≢true, cond_both, and_parts, and_from, or_left, or_right, or_cases}
 use Rattle.std.proofs.lemmas.List.{map-append}
@@ -13,7 +13,6 @@ use Rattle.acl_lists.specs.declared.ace.Ace.{Ace}
 use Rattle.acl_lists.specs.declared.acl.Acl.{Acl}
 use Rattle.acl_lists.specs.declared.packet.Packet.{Packet}
 use Rattle.acl_lists.specs.Matching.{source_matches, destination_matches, protocol_matches, port_passes, where_given, goes_to, ace_matches}
-use Rattle.filter_rows.specs.declared.rows.ScrubRow.{ScrubRow}
 use Rattle.filter_rows.specs.declared.rows.AclRow.{AclRow}
 use Rattle.dots_settings.specs.Settings.{SettingsValue}
 use Rattle.dots_history.specs.declared.entry.Entry.{Entry}
@@ -23,7 +22,7 @@ use Rattle.dots_history.specs.declared.change.Change.TheVariants as change
 use Rattle.dots_history.specs.declared.status.Status.TheVariants.{Open}
 use Rattle.dots_history.specs.Entries.{is_configuration, option_any}
 use Rattle.dots_history.specs.Histories.{Mitigation, live, status, stays, is_nil, mitigations, held}
-use Rattle.dots_history.specs.Rows.{Row, targets_of, rows_of, plain_row, plain_rows, acl_of, acl_row, acl_rows_of, acl_rows, list_rows, is_active}
+use Rattle.dots_history.specs.Rows.{Row, targets_of, rows_of, plain_row, plain_rows, acl_of, acl_row, acl_rows_of, acl_rows, list_rows}
 use Rattle.dots_laws.specs.Calm.{role_of, may_act, may_configure, prefixes_of, all_inside, destination_inside, change_inside, is_of_settings, came_rightly, is_own}
 use Rattle.dots_laws.specs.Containing.{scrubs_inside, lists_inside}
 

@@ -2,7 +2,7 @@
 use Rattle.std.proofs.Common.{◌≡◌, ℕ, Bool, true, false, cond, not, ◌&&◌, ◌||◌, List, [], ◌∷◌, ◌++◌, filter, map, Option, Some, None, refl, sym, ap, ◌∙◌}
 use Rattle.std.specs.Prelude.{option_to_list, bytes_eq, ◌==◌}
 use Rattle.std.specs.List.{list_any}
-use Rattle.std.proofs.lemmas.Bool.{both_ways, cond_both, cond-true, cond-false, cases_Bool, and_left, or_from, eqb-true, eq-eqb, false_from_ne_true}
+use Rattle.std.proofs.lemmas.Bool.{both_ways, cond_both, cond-true, cond-false, and_left, or_from, eqb-true, eq-eqb, false_from_ne_true}
 use Rattle.ip_scope.specs.Prefix.{PrefixValue}
 use Rattle.acl_lists.specs.declared.acl.Acl.{Acl}
 use Rattle.acl_lists.specs.declared.acl.Activation.{Activation}

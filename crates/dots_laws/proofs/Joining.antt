@@ -19,7 +19,7 @@ use Rattle.dots_history.specs.Histories.{Mitigation, Within, tally, is_nil, live
 use Rattle.dots_history.specs.Keeping.{moved}
 use Rattle.dots_laws.specs.Calm.{no_domain, role_of, may_act, may_configure, prefixes_of, change_inside, is_of_settings, came_rightly, is_own, capacities_of, IsCalmBy}
 use Rattle.dots_laws.specs.Capacities.{KeepsCapacities, is_registration, is_alias, is_list, has_client}
-use Rattle.dots_laws.specs.Fits.{last_time, is_registered, registers_rightly, keeps_room, fits, is_of_mitigations, has_one_peer, joins}
+use Rattle.dots_laws.specs.Fits.{last_or, last_time, is_registered, registers_rightly, keeps_room, fits, is_of_mitigations, has_one_peer, joins}
 use Rattle.dots_laws.specs.Tables.{client_of, is_of}
 use Rattle.dots_laws.specs.Views.{mitigations_with, held_with}
 use Rattle.dots_laws.proofs.Adding.{adding}
@@ -142,10 +142,12 @@ joins_so settings before e is =
     record { fits = fits_so settings before e parts.0; came = more.0; peers = more.1 }
 
 -- ---- times
+last_or_push : (t : ℕ) (before : List Entry) (e : Entry) → last_or t (before ++ e ∷ []) ≡ e.time
+last_or_push t [] e = refl
+last_or_push t (x ∷ before) e = last_or_push x.time before e
+
 pub last_of_push : (before : List Entry) (e : Entry) → last_time (before ++ e ∷ []) ≡ e.time
-last_of_push [] e = refl
-last_of_push (x ∷ []) e = refl
-last_of_push (x ∷ y ∷ later) e = last_of_push (y ∷ later) e
+last_of_push before e = last_or_push 0 before e
 
 within_push : (low high : ℕ) (xs : List Entry) (e : Entry) → Within low xs high → high ≤ e.time → Within low (xs ++ e ∷ []) e.time
 within_push low high [] e within less = (le_trans within less, le_refl e.time)

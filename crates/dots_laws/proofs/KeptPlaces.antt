@@ -1,5 +1,5 @@
 -- The places that a view names.
-use Rattle.std.proofs.Common.{◌≡◌, ℕ, ◌+◌, ◌<◌, ◌≤◌, zero, suc, Bool, true, false, cond, ◌||◌, List, [], ◌∷◌, ◌++◌, length, Option, Some, None, refl, sym, ap, ◌∙◌, subst, le_refl, le_trans, append_assoc, arith}
+use Rattle.std.proofs.Common.{◌≡◌, ℕ, ◌+◌, ◌<◌, ◌≤◌, zero, suc, Bool, true, false, cond, ◌||◌, List, [], ◌∷◌, ◌++◌, length, Some, refl, sym, ap, ◌∙◌, le_refl, le_trans, append_assoc, arith}
 use Rattle.std.specs.Prelude.{option_to_list, slice_get, nat_lt, ◌==◌}
 use Rattle.std.specs.List.{list_any, All}
 use Rattle.std.proofs.lemmas.Bool.{cond_both, or_left, or_right, eq-eqb, ltb-true, ltb-false, lt-ltb, le-ltb, eqb-true, eqb-false, false_from_ne_true, cond-true, cond-false}

@@ -14,7 +14,8 @@ pushed true false p x rest tail pushed_rest is same =
     same ∙ ap (λ b. cond b (x ∷ filter p rest) (filter p rest) ++ tail) (sym is)
 pushed false passes p x rest tail pushed_rest is same = same
 
--- where one more entry adds a test of its own, those are kept that pass it too, and the entry itself where it is kept alone
+-- where one more entry adds a test of its own, those are kept that pass it too, and the entry itself where it is kept
+-- alone
 pub kept_push : (test : Entry → List Entry → Bool) (p : Entry → Bool) (e : Entry)
     → ((x : Entry) (later : List Entry) → test x (later ++ e ∷ []) ≡ (test x later && p x))
     → (entries : List Entry) → kept_where test (entries ++ e ∷ []) ≡ filter p (kept_where test entries) ++ kept_where test (e ∷ [])

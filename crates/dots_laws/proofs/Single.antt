@@ -1,5 +1,5 @@
--- What there is one of at most: live mitigations of a client and mid, aliases and lists of a client and name, configurations of
--- a peer.
+-- What there is one of at most: live mitigations of a client and mid, aliases and lists of a client and name,
+-- configurations of a peer.
 use Rattle.std.proofs.Common.{◌≡◌, ℕ, ◌+◌, ◌≤◌, Bool, true, false, cond, not, ◌&&◌, ◌||◌, List, [], ◌∷◌, ◌++◌, Option, Some, None, refl, sym, ap, ◌∙◌, arith}
 use Rattle.std.specs.Prelude.{option_to_list, bytes_eq, ◌==◌}
 use Rattle.std.specs.List.{list_any}

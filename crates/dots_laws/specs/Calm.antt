@@ -60,15 +60,16 @@ abbrev pub destination_inside : List PrefixValue → Option PrefixValue → Bool
 destination_inside domain None = true
 destination_inside domain (Some prefix) = list_any (inside prefix) domain
 
--- what a change names lies inside the domain: the prefixes of targets, those of aliases and of their host names, and the
--- destinations of access lists
+-- what a change names lies inside the domain: the prefixes of targets, those of aliases and of their host names, and
+-- the destinations of access lists
 abbrev pub change_inside : SettingsValue → List PrefixValue → Change → Bool
 change_inside settings domain (change.Put put) = list_all (λ (target : Target). all_inside domain target.prefixes) put.targets
 change_inside settings domain (change.SetAlias alias) = all_inside domain alias.asked.prefixes && list_all (name_inside settings domain) alias.asked.names
 change_inside settings domain (change.SetAcl acl) = list_all (λ (ace : Ace). destination_inside domain ace.destination) acl.aces
 change_inside settings domain _ = true
 
--- the peer may act for the domain, inside which lies what the entry names, or it configures its session and names no client
+-- the peer may act for the domain, inside which lies what the entry names, or it configures its session and names no
+-- client
 abbrev pub is_of_settings : SettingsValue → Entry → Bool
 is_of_settings settings e =
     if is_configuration e.change
@@ -107,9 +108,9 @@ capacities_of settings = record {
   acls = settings.limits.acls;
 }
 
--- What a calm history is at its end, at a time t not before its last entry: its times don't fall; each entry is the settings'
--- own; what ends or withdraws a mitigation that was live just before has its peer; and the capacities are kept in what it
--- comes to at t.
+-- What a calm history is at its end, at a time t not before its last entry: its times don't fall; each entry is the
+-- settings' own; what ends or withdraws a mitigation that was live just before has its peer; and the capacities are
+-- kept in what it comes to at t.
 pub record IsCalmBy (settings : SettingsValue) (t : ℕ) (entries : List Entry) : Type 0 where
   pub times : Within 0 entries t
   pub own : list_all (is_own settings) entries ≡ true

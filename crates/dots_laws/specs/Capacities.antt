@@ -1,4 +1,5 @@
--- How much a history may come to: by the peers and domains that there are, and the capacities of a domain and of a client.
+-- How much a history may come to: by the peers and domains that there are, and the capacities of a domain and of a
+-- client.
 use Rattle.std.specs.Prelude.{◌≡◌, ℕ, ◌+◌, ◌*◌, ◌≤◌, Bool, true, false, not, ◌&&◌, ◌||◌, ◌==◌, if◌then◌else◌, List, length}
 use Rattle.std.specs.List.{list_any, list_all}
 use Rattle.dots_history.specs.declared.entry.Entry.{Entry}
@@ -36,7 +37,8 @@ unfoldable pub is_setting : Change → Bool
 is_setting (change.SetConfig sid config) = true
 is_setting _ = false
 
--- a signal entry is of an actor; a session configuration is of one of the peers, and any other entry of one of the domains
+-- a signal entry is of an actor; a session configuration is of one of the peers, and any other entry of one of the
+-- domains
 abbrev pub belongs : Capacities → Entry → Bool
 belongs room e =
     (not (is_signal e.change) || list_any (λ actor. signals actor.0 actor.1 e) room.actors)

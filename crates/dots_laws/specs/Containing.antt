@@ -1,5 +1,5 @@
 -- The rows of a filter table lie inside the domains of their clients, by the settings.
-use Rattle.std.specs.Prelude.{Bool, List}
+use Rattle.std.specs.Prelude.{Bool}
 use Rattle.std.specs.List.{list_any, list_all}
 use Rattle.ip_scope.specs.Prefix.{inside}
 use Rattle.acl_lists.specs.declared.ace.Ace.{Ace}

@@ -11,17 +11,20 @@ use Rattle.dots_history.specs.Histories.{Mitigation, tally, mitigations, held}
 use Rattle.dots_laws.specs.Calm.{is_of_settings, came_rightly}
 use Rattle.dots_laws.specs.Capacities.{is_registration, is_alias, is_list, has_client}
 
--- the time of the last entry, or 0 where there is none
+-- the time of the last entry, or this one where there is none
+abbrev pub last_or : ℕ → List Entry → ℕ
+last_or t [] = t
+last_or t (e ∷ later) = last_or e.time later
+
 abbrev pub last_time : List Entry → ℕ
-last_time [] = 0
-last_time (e ∷ []) = e.time
-last_time (e ∷ x ∷ later) = last_time (x ∷ later)
+last_time entries = last_or 0 entries
 
 -- a registration of the entry's client is held
 abbrev pub is_registered : List Entry → Entry → Bool
 is_registered standing e = list_any (λ r. is_registration r.change && same_client r e) standing
 
--- only a client that isn't registered registers (RFC 8783, section 5.1), and only one that is writes aliases and access lists
+-- only a client that isn't registered registers (RFC 8783, section 5.1), and only one that is writes aliases and access
+-- lists
 abbrev pub registers_rightly : List Entry → Entry → Bool
 registers_rightly standing e = (not (is_registration e.change) || not (is_registered standing e)) && has_client standing e
 
@@ -34,9 +37,9 @@ keeps_room limits e ms standing =
     && (nat_le (tally (λ (x : Entry). is_alias x.change && same_client e x) standing) limits.aliases
     && nat_le (tally (λ (x : Entry). is_list x.change && same_client e x) standing) limits.acls))
 
--- An entry fits those before it: its time isn't before theirs and is below 2^48; it is of a peer that may act for its domain,
--- inside which lies what it names; its client is registered where it must be; and after it, at its time, the capacities are
--- kept.
+-- An entry fits those before it: its time isn't before theirs and is below 2^48; it is of a peer that may act for its
+-- domain, inside which lies what it names; its client is registered where it must be; and after it, at its time, the
+-- capacities are kept.
 abbrev pub fits : SettingsValue → List Entry → Entry → Bool
 fits settings before e =
     ((nat_le (last_time before) e.time && nat_lt e.time (2 ^ 48)) && is_of_settings settings e)

@@ -1,9 +1,9 @@
 -- The places that a view names, and those that each of its parts names.
-use Rattle.std.specs.Prelude.{ℕ, Bool, List, [], ◌∷◌, ◌++◌, option_to_list, slice_get}
+use Rattle.std.specs.Prelude.{ℕ, List, [], ◌∷◌, ◌++◌, option_to_list, slice_get}
 use Rattle.std.specs.List.{list_any}
 use Rattle.dots_history.specs.declared.entry.Entry.{Entry}
 use Rattle.dots_history.specs.declared.status.Status.TheVariants.{Open}
-use Rattle.dots_history.specs.Histories.{Mitigation, live, status, is_recent, is_nil, stays}
+use Rattle.dots_history.specs.Histories.{live, status, is_recent, is_nil, stays}
 use Rattle.dots_history.specs.Keeping.{is_first, kept_places}
 use Rattle.dots_history.specs.Slots.{placed}
 

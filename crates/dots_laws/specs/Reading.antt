@@ -8,9 +8,9 @@ use Rattle.dots_history.specs.declared.entry.Entry.{Entry}
 use Rattle.dots_history.specs.Histories.{Mitigation, seconds_left, mitigations, held, last, remembered}
 use Rattle.dots_history.specs.Rows.{scrub_rows, list_rows, acl_rows, is_mitigating, is_active, fate}
 
--- Two histories say the same at time t, when n messages of a peer and domain are remembered: the live mitigations with their
--- status and the seconds left of them, which peers and clients have one, what is held, the rows of the filter table and which
--- access lists are active, the fate of each packet, the reply to each repeat, and the last entry.
+-- Two histories say the same at time t, when n messages of a peer and domain are remembered: the live mitigations with
+-- their status and the seconds left of them, which peers and clients have one, what is held, the rows of the filter
+-- table and which access lists are active, the fate of each packet, the reply to each repeat, and the last entry.
 pub record SaySame (n t : ℕ) (xs ys : List Entry) : Type 0 where
   pub live : mitigations t xs ≡ mitigations t ys
   pub seconds :

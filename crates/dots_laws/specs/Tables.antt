@@ -61,8 +61,8 @@ unfoldable pub writes_acl : List ℕ → Change → Bool
 writes_acl name (change.SetAcl acl) = bytes_eq name acl.name
 writes_acl name _ = false
 
--- When a mitigation is over: from the start, at a second, which may lie before every time since a grant may be negative,
--- or never.
+-- When a mitigation is over: from the start, at a second, which may lie before every time since a grant may be
+-- negative, or never.
 pub data End : Type 0 where
   Over : End
   Until : ℤ → End

@@ -10,8 +10,8 @@ ghost use Rattle.dots_laws.specs.Capacities.{is_registration};
 ghost use Rattle.dots_laws.specs.Fits.{last_time, joins, is_calm};
 ghost use Rattle.dots_laws.specs.Tables.{Client, is_of};
 
-/// The empty history is calm, and an entry that joins a calm history keeps it calm; what stands before an entry of a calm
-/// history is calm, and the entry joins it.
+/// The empty history is calm, and an entry that joins a calm history keeps it calm; what stands before an entry of a
+/// calm history is calm, and the entry joins it.
 pub fn entries_join()
     ensures empty { (settings : SettingsValue) → is_calm settings [] ≡ true }
     ensures more { (settings : SettingsValue) (entries : List Entry) (e : Entry) → is_calm settings entries ≡ true → joins settings entries e ≡ true
@@ -20,13 +20,14 @@ pub fn entries_join()
         → (is_calm settings entries ≡ true) × (joins settings entries e ≡ true) }
 {}
 
-/// What a view names of a calm history is calm again, entry by entry: each of its entries joins those of them before it.
+/// What a view names of a calm history is calm again, entry by entry: each of its entries joins those of them before
+/// it.
 pub fn what_is_named_is_calm()
     ensures { (settings : SettingsValue) (n t : ℕ) (entries : List Entry) → is_calm settings entries ≡ true → is_calm settings (kept n t entries) ≡ true }
 {}
 
-/// A calm history is a history; it is calm at its end, at each time from its last entry on; and what is calm at a time is calm
-/// later.
+/// A calm history is a history; it is calm at its end, at each time from its last entry on; and what is calm at a time
+/// is calm later.
 pub fn calm_holds_at_the_end()
     ensures history { (settings : SettingsValue) (entries : List Entry) → is_calm settings entries ≡ true → IsHistory entries }
     ensures end { (settings : SettingsValue) (t : ℕ) (entries : List Entry) → is_calm settings entries ≡ true → last_time entries ≤ t

@@ -33,17 +33,17 @@ pub fn what_is_over_stays_over()
     ensures first { (put : Entry) (later : List Entry) (j k : ℕ) → IsFirstEnder put later j → IsFirstEnder put later k → j ≡ k }
 {}
 
-/// Views go on: the view at a later time is a function of the view now, in which the mitigations that are no longer live
-/// are left out; the view with one more entry, at its time, is a function of the view at any time up to that, and of the
-/// entry. So histories whose views are equal at a time keep equal views, whatever is appended to both.
+/// Views go on: the view at a later time is a function of the view now, in which the mitigations that are no longer
+/// live are left out; the view with one more entry, at its time, is a function of the view at any time up to that, and
+/// of the entry. So histories whose views are equal at a time keep equal views, whatever is appended to both.
 pub fn views_go_on()
     ensures ageing { (n t u : ℕ) (entries : List Entry) → t ≤ u → view n u entries ≡ view_at u (view n t entries) }
     ensures adding { (n t : ℕ) (e : Entry) (entries : List Entry) → t ≤ e.time → view n e.time (entries ++ e ∷ []) ≡ view_with n e (view n t entries) }
     ensures going_on { (n t u : ℕ) (xs ys more : List Entry) → view n t xs ≡ view n t ys → Within t more u → view n u (xs ++ more) ≡ view n u (ys ++ more) }
 {}
 
-/// Keeping composes: a history keeps itself; what keeps a part that keeps the whole keeps the whole; what keeps it at a time
-/// keeps it later; and the same entries may be appended to both.
+/// Keeping composes: a history keeps itself; what keeps a part that keeps the whole keeps the whole; what keeps it at a
+/// time keeps it later; and the same entries may be appended to both.
 pub fn keeping_composes()
     ensures itself { (n t : ℕ) (entries : List Entry) → Kept n t entries entries }
     ensures twice { (n t : ℕ) (fewest few all : List Entry) → Kept n t fewest few → Kept n t few all → Kept n t fewest all }
@@ -51,8 +51,8 @@ pub fn keeping_composes()
     ensures appended { (n t u : ℕ) (few all more : List Entry) → Kept n t few all → Within t more u → Kept n u (few ++ more) (all ++ more) }
 {}
 
-/// From a history and its view at a time, a list of turns in each of which time moves or an entry is accepted makes the view
-/// of the history with these entries, at the time of the last turn.
+/// From a history and its view at a time, a list of turns in each of which time moves or an entry is accepted makes the
+/// view of the history with these entries, at the time of the last turn.
 pub fn turns_make_the_view()
     ensures { (n low : ℕ) (before : List Entry) (turns : List Turn) → TurnsRise low turns
         → view_after n (view n low before) turns ≡ view n (time_after low turns) (before ++ applied turns) }
@@ -75,15 +75,15 @@ pub fn what_is_named_has_the_view()
 {}
 
 /// A history that keeps its capacities has a view that names at most so many entries: for each domain two for each live
-/// mitigation, one for each registered client and one for each alias and access list of those; the remembered messages of
-/// each peer and domain; one session configuration of each peer; and the last entry.
+/// mitigation, one for each registered client and one for each alias and access list of those; the remembered messages
+/// of each peer and domain; one session configuration of each peer; and the last entry.
 pub fn capacities_bound_what_is_named()
     ensures { (room : Capacities) (n t : ℕ) (entries : List Entry) → list_all (belongs room) entries ≡ true → KeepsCapacities room t entries
         → length (kept n t entries) ≤ most_named room n }
 {}
 
-/// By the settings of a server: the empty history is calm; of a calm history the entries that its view names are calm again, and they
-/// are at most so many as the settings' capacities say.
+/// By the settings of a server: the empty history is calm; of a calm history the entries that its view names are calm
+/// again, and they are at most so many as the settings' capacities say.
 pub fn calm_by_settings()
     ensures empty { (settings : SettingsValue) (t : ℕ) → IsCalmBy settings t [] }
     ensures named { (settings : SettingsValue) (n t : ℕ) (entries : List Entry) → IsCalmBy settings t entries → IsCalmBy settings t (kept n t entries) }
@@ -91,17 +91,19 @@ pub fn calm_by_settings()
         → length (kept n t entries) ≤ most_named (capacities_of settings) n }
 {}
 
-/// The empty history is calm; and an entry of the settings' own that has the peer of each live mitigation that it touches keeps
-/// a history of such entries calm. That the session configurations of a peer are of one domain follows from the settings.
+/// The empty history is calm; and an entry of the settings' own that has the peer of each live mitigation that it
+/// touches keeps a history of such entries calm. That the session configurations of a peer are of one domain follows
+/// from the settings.
 pub fn calm_goes_on()
     ensures empty { Calm [] }
     ensures more { (settings : SettingsValue) (entries : List Entry) (e : Entry) → Calm entries → HasPeerOfEach entries e
         → list_all (is_own settings) entries ≡ true → is_own settings e ≡ true → Calm (entries ++ e ∷ []) }
 {}
 
-/// What a domain comes to is what its own entries come to alone: its live mitigations and the replies to its repeats; which of its
-/// clients mitigate, and whether a list of theirs is active; its scrub rows and list rows, and so the fate of a packet by these;
-/// and, of a calm history, what is held of it, its registrations, aliases, access lists and session configurations.
+/// What a domain comes to is what its own entries come to alone: its live mitigations and the replies to its repeats;
+/// which of its clients mitigate, and whether a list of theirs is active; its scrub rows and list rows, and so the fate
+/// of a packet by these; and, of a calm history, what is held of it, its registrations, aliases, access lists and
+/// session configurations.
 pub fn domains_are_apart()
     ensures mitigations { (domain t : ℕ) (entries : List Entry) → mitigations t (alone domain entries) ≡ mitigations_of domain (mitigations t entries) }
     ensures replies { (n t peer domain id : ℕ) (entries : List Entry)
@@ -115,12 +117,13 @@ pub fn domains_are_apart()
     ensures lists { (domain t : ℕ) (entries : List Entry) → acl_rows t (alone domain entries) ≡ filter (λ row. row.domain == domain) (acl_rows t entries) }
     ensures fates { (prefixes : ℕ → List PrefixValue) (domain t : ℕ) (entries : List Entry) (packet : Packet)
         → fate prefixes t (alone domain entries) packet ≡ fate_by_rows prefixes (filter (λ row. row.domain == domain) (plain_rows t entries))
-            (filter (λ row. row.domain == domain) (acl_rows t entries)) packet }
+        (filter (λ row. row.domain == domain) (acl_rows t entries)) packet }
     ensures written { (domain : ℕ) (entries : List Entry) → Calm entries → held (alone domain entries) ≡ alone domain (held entries) }
 {}
 
-/// Where the entries are the settings' own, the prefix of each scrub row lies inside the domain of its client, and so does each
-/// destination in a list row; and an entry of a list without a destination matches only packets that go to the domain.
+/// Where the entries are the settings' own, the prefix of each scrub row lies inside the domain of its client, and so
+/// does each destination in a list row; and an entry of a list without a destination matches only packets that go to
+/// the domain.
 pub fn filters_lie_inside()
     ensures scrubs { (settings : SettingsValue) (t : ℕ) (entries : List Entry) → list_all (is_own settings) entries ≡ true
         → list_all (scrubs_inside settings) (plain_rows t entries) ≡ true }

@@ -23,8 +23,8 @@ pub fn clients_are_values()
     ensures own { (e : Entry) → is_of (client_of e) e ≡ true }
 {}
 
-/// All but the remembered replies is the same for entries without their message and reply: the live mitigations, what is
-/// held, the rows, who is mitigating, and the fate of each packet.
+/// All but the remembered replies is the same for entries without their message and reply: the live mitigations, what
+/// is held, the rows, who is mitigating, and the fate of each packet.
 pub fn messages_matter_to_repeats_alone()
     ensures live { (t : ℕ) (entries : List Entry) → mitigations t (map bare entries) ≡ map bare_mitigation (mitigations t entries) }
     ensures written { (entries : List Entry) → held (map bare entries) ≡ map bare (held entries) }
@@ -35,8 +35,8 @@ pub fn messages_matter_to_repeats_alone()
         → fate prefixes t (map bare entries) packet ≡ fate prefixes t entries packet }
 {}
 
-/// There is at most one live mitigation of a client and mid, and no two live ones of a client overlap; at most one alias and one
-/// access list of a client and name is held, and one session configuration of a peer.
+/// There is at most one live mitigation of a client and mid, and no two live ones of a client overlap; at most one
+/// alias and one access list of a client and name is held, and one session configuration of a peer.
 pub fn there_is_one_at_most()
     ensures mid { (client : Client) (mid t : ℕ) (entries : List Entry)
         → tally (λ (m : Mitigation). is_of client m.put && has_mid mid m.put) (mitigations t entries) ≤ 1 }
@@ -48,8 +48,8 @@ pub fn there_is_one_at_most()
     ensures configuration { (peer : ℕ) (entries : List Entry) → tally (λ (e : Entry). is_setting e.change && (e.peer == peer)) (held entries) ≤ 1 }
 {}
 
-/// A mitigation has an end, by what was done to it: it is live exactly before that; while it is, the seconds left are those until
-/// then; and of the mitigations that are live now those are live later that aren't due.
+/// A mitigation has an end, by what was done to it: it is live exactly before that; while it is, the seconds left are
+/// those until then; and of the mitigations that are live now those are live later that aren't due.
 pub fn a_mitigation_has_an_end()
     ensures lives { (t : ℕ) (put : Entry) (s : Status) → live t put s ≡ is_before t (end_of put s) }
     ensures left { (t : ℕ) (put : Entry) (s : Status) → live t put s ≡ true → seconds_left t put s ≡ seconds_until t (end_of put s) }
@@ -57,8 +57,8 @@ pub fn a_mitigation_has_an_end()
     ensures none_due { (u : ℕ) (ms : List Mitigation) → list_any (is_due u) ms ≡ false → mitigations_at u ms ≡ ms }
 {}
 
-/// One more entry acts on the live mitigations of its own domain alone; on those of the others time alone acts; and an entry that
-/// is no signal entry acts on none.
+/// One more entry acts on the live mitigations of its own domain alone; on those of the others time alone acts; and an
+/// entry that is no signal entry acts on none.
 pub fn entries_act_in_their_domain()
     ensures own { (domain : ℕ) (e : Entry) (ms : List Mitigation) → (e.domain == domain) ≡ true
         → mitigations_of domain (mitigations_with e ms) ≡ mitigations_with e (mitigations_of domain ms) }
@@ -67,8 +67,8 @@ pub fn entries_act_in_their_domain()
     ensures quiet { (e : Entry) (ms : List Mitigation) → is_signal e.change ≡ false → mitigations_with e ms ≡ mitigations_at e.time ms }
 {}
 
-/// The last so many signal entries of a peer and domain are a ring: one more of theirs goes to its end, and the first goes
-/// where the ring is full; any other entry leaves it as it is.
+/// The last so many signal entries of a peer and domain are a ring: one more of theirs goes to its end, and the first
+/// goes where the ring is full; any other entry leaves it as it is.
 pub fn messages_are_remembered_in_a_ring()
     ensures push { (n peer domain : ℕ) (e : Entry) (entries : List Entry)
         → ring n peer domain (entries ++ e ∷ []) ≡ (if signals peer domain e then pushed n e (ring n peer domain entries) else ring n peer domain entries) }
@@ -77,9 +77,9 @@ pub fn messages_are_remembered_in_a_ring()
     ensures few { (n peer domain : ℕ) (entries : List Entry) → length (ring n peer domain entries) ≤ n }
 {}
 
-/// What stands at the places that a view names is what it names; these places rise and are places of the history, the last of
-/// which is among them; and they are the union of the places of the live mitigations, of their first withdrawals, of the
-/// last so many signal entries of each peer and domain, of the last entry and of what is held.
+/// What stands at the places that a view names is what it names; these places rise and are places of the history, the
+/// last of which is among them; and they are the union of the places of the live mitigations, of their first
+/// withdrawals, of the last so many signal entries of each peer and domain, of the last entry and of what is held.
 pub fn kept_places_are_places()
     ensures there { (n t : ℕ) (entries : List Entry) → at_places entries (kept_places (names n t) [] 0 entries) ≡ kept n t entries }
     ensures rise { (n t : ℕ) (entries : List Entry) → Rises (kept_places (names n t) [] 0 entries) }
@@ -88,5 +88,5 @@ pub fn kept_places_are_places()
         → list_any (λ place. place == length entries) (kept_places (names n t) [] 0 (entries ++ e ∷ [])) ≡ true }
     ensures union { (n t : ℕ) (entries : List Entry) → kept_places (names n t) [] 0 entries
         ≡ union (union (live_places t entries) (withdrawal_places t entries))
-            (union (union (recent_places n entries) (last_places entries)) (held_places entries)) }
+        (union (union (recent_places n entries) (last_places entries)) (held_places entries)) }
 {}

@@ -24,9 +24,9 @@ pub enum Fate<'a> {
     Scrubbed { mid: u32 },
 }
 
-/// The fate of a packet by rows in order: what the first matching entry of the active access lists says (RFC 8519, section
-/// 2); else it is scrubbed for the greatest mid of the active scrub rows that match; else it passes. `domains` has the
-/// prefixes of each domain, by its number.
+/// The fate of a packet by rows in order: what the first matching entry of the active access lists says (RFC 8519,
+/// section 2); else it is scrubbed for the greatest mid of the active scrub rows that match; else it passes. `domains`
+/// has the prefixes of each domain, by its number.
 pub fn fate_by_rows<'a>(
     domains: &[PrefixList],
     scrubs: &[ScrubRow],

@@ -7,8 +7,8 @@ ghost use Rattle.filter_rows.specs.Matching.{has_protocol, has_port, is_scrubbed
 use acl_lists::Packet;
 use ip_scope::{PortRange, Prefix, holds};
 
-/// Whether the packet goes to an address of the prefix, its protocol is listed or none is, and its destination port lies
-/// in a range or there is none.
+/// Whether the packet goes to an address of the prefix, its protocol is listed or none is, and its destination port
+/// lies in a range or there is none.
 pub fn is_scrubbed(prefix: &Prefix, protocols: &[u8], ranges: &[PortRange], packet: &Packet) -> bool
     ensures { result ≡ is_scrubbed prefix.now protocols.now ranges.now packet.now }
 {

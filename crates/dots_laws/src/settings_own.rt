@@ -1,0 +1,174 @@
+//! Which entries are the settings' own.
+
+ghost use Rattle.std.specs.Prelude.{◌≡◌};
+ghost use Rattle.std.specs.List.{list_all};
+ghost use Rattle.dots_history.specs.Entries.{is_configuration};
+ghost use Rattle.dots_history.specs.declared.change.Change.TheVariants as change;
+ghost use Rattle.dots_laws.specs.Calm.{role_of, may_act, may_configure, prefixes_of, addresses_of, all_inside, name_inside, destination_inside, change_inside, is_of_settings, came_rightly, is_http};
+
+use acl_lists::{Ace, Alias};
+use dots_history::{Change, Entry, MessageKey, Target, is_signal};
+use dots_lists::Name;
+use dots_settings::{Role, Settings};
+use ip_scope::{Prefix, inside_any};
+
+/// The domain in which a gateway configures its session, which is no domain of the settings.
+const NO_DOMAIN: u16 = 65535;
+
+/// Whether the peer may act for the entry's domain, inside which lies what the entry names, or it configures its
+/// session and names no client.
+pub fn is_of_settings(settings: &Settings, entry: &Entry) -> bool
+    ensures { result ≡ is_of_settings settings.now entry.now }
+{
+    let role = role_of(settings, entry.peer);
+    if is_configuration(&entry.change) {
+        return entry.cuid.bytes().is_empty() && may_configure(role, entry.domain);
+    }
+    may_act(settings, role, entry.domain)
+        && change_inside(settings, prefixes_of(settings, entry.domain), &entry.change)
+}
+
+/// Whether the entry is a signal entry or came by HTTP.
+pub fn came_rightly(entry: &Entry) -> bool
+    ensures { result ≡ came_rightly entry.now }
+{
+    is_signal(&entry.change) || is_http(entry.key)
+}
+
+fn is_http(key: MessageKey) -> bool
+    ensures { result ≡ is_http key }
+{
+    match key {
+        MessageKey::Http => true,
+        MessageKey::Non(_) | MessageKey::Con(_) => false,
+    }
+}
+
+#[tactic(auto, unfolding(dots_history::specs::Entries::is_configuration))]
+fn is_configuration(change: &Change) -> bool
+    ensures { result ≡ is_configuration change.now }
+{
+    match change {
+        Change::SetConfig { .. } | Change::ClearConfig => true,
+        Change::Put(_)
+        | Change::Withdraw { .. }
+        | Change::SetAlias(_)
+        | Change::DropAlias { .. }
+        | Change::SetAcl(_)
+        | Change::DropAcl { .. }
+        | Change::Register
+        | Change::Deregister => false,
+    }
+}
+
+#[tactic(auto, using(crate::proofs::Readers::same_role))]
+fn role_of(settings: &Settings, peer: u32) -> Role
+    ensures { result ≡ role_of settings.now peer }
+{
+    settings.domain_of(peer)
+}
+
+fn may_act(settings: &Settings, role: Role, domain: u16) -> bool
+    ensures { result ≡ may_act settings.now role domain }
+{
+    match role {
+        Role::Stranger => false,
+        Role::Client(own) => own == domain && domain < settings.domains(),
+        Role::Gateway => domain < settings.domains(),
+    }
+}
+
+fn may_configure(role: Role, domain: u16) -> bool
+    ensures { result ≡ may_configure role domain }
+{
+    match role {
+        Role::Stranger => false,
+        Role::Client(own) => own == domain,
+        Role::Gateway => domain == NO_DOMAIN,
+    }
+}
+
+/// The prefixes of the domain of this number; none where there is no such domain.
+#[tactic(auto, using(crate::proofs::Readers::prefixes_there, crate::proofs::Readers::prefixes_beyond))]
+fn prefixes_of(settings: &Settings, domain: u16) -> &[Prefix]
+    ensures { result.now ≡ prefixes_of settings.now domain }
+{
+    if domain < settings.domains() {
+        return settings.prefixes(domain);
+    }
+    &[]
+}
+
+fn change_inside(settings: &Settings, domain: &[Prefix], change: &Change) -> bool
+    ensures { result ≡ change_inside settings.now domain.now change.now }
+{
+    match change {
+        Change::Put(put) => targets_inside(domain, put.targets.items()),
+        Change::SetAlias(alias) => alias_inside(settings, domain, alias),
+        Change::SetAcl(acl) => aces_inside(domain, acl.aces.items()),
+        Change::Withdraw { .. }
+        | Change::DropAlias { .. }
+        | Change::DropAcl { .. }
+        | Change::Register
+        | Change::Deregister
+        | Change::SetConfig { .. }
+        | Change::ClearConfig => true,
+    }
+}
+
+fn targets_inside(domain: &[Prefix], targets: &[Target]) -> bool
+    ensures { result ≡ list_all (λ target. all_inside domain.now target.prefixes) targets.now }
+{
+    targets
+        .iter()
+        .all(|target| all_inside(domain, target.prefixes.items()))
+}
+
+fn alias_inside(settings: &Settings, domain: &[Prefix], alias: &Alias) -> bool
+    ensures { result ≡ change_inside settings.now domain.now (change.SetAlias alias.now) }
+{
+    all_inside(domain, alias.asked.prefixes.items())
+        && names_inside(settings, domain, alias.asked.names.items())
+}
+
+fn names_inside(settings: &Settings, domain: &[Prefix], names: &[Name]) -> bool
+    ensures { result ≡ list_all (name_inside settings.now domain.now) names.now }
+{
+    names.iter().all(|name| name_inside(settings, domain, name))
+}
+
+#[tactic(auto, using(crate::proofs::Readers::same_addresses))]
+fn name_inside(settings: &Settings, domain: &[Prefix], name: &Name) -> bool
+    ensures { result ≡ name_inside settings.now domain.now name.now }
+{
+    let addresses = addresses_of(settings, name);
+    !addresses.is_empty() && all_inside(domain, addresses)
+}
+
+#[tactic(auto, using(crate::proofs::Readers::same_addresses))]
+fn addresses_of<'a>(settings: &'a Settings, name: &Name) -> &'a [Prefix]
+    ensures { result.now ≡ addresses_of settings.now name.now }
+{
+    settings.addresses(name.bytes())
+}
+
+fn aces_inside(domain: &[Prefix], aces: &[Ace]) -> bool
+    ensures { result ≡ list_all (λ ace. destination_inside domain.now ace.destination) aces.now }
+{
+    aces.iter().all(|ace| destination_inside(domain, ace))
+}
+
+fn destination_inside(domain: &[Prefix], ace: &Ace) -> bool
+    ensures { result ≡ destination_inside domain.now ace.now.destination }
+{
+    match &ace.destination {
+        Some(prefix) => inside_any(prefix, domain),
+        None => true,
+    }
+}
+
+fn all_inside(domain: &[Prefix], prefixes: &[Prefix]) -> bool
+    ensures { result ≡ all_inside domain.now prefixes.now }
+{
+    prefixes.iter().all(|prefix| inside_any(prefix, domain))
+}
