@@ -13,7 +13,7 @@ ghost use Rattle.dots_machine.specs.Running.{running};
 ghost use Rattle.dots_machine.specs.Machine.{State, begun_at, Decides, sends_of, after, Step};
 ghost use Rattle.dots_machine.specs.Report.{report_of};
 ghost use Rattle.dots_server.specs.Standing.{StandsFor, KeepsAll, CanCarryOut};
-ghost use Rattle.std.specs.Prelude.{length};
+
 
 use crate::gathering::Gatherer;
 use crate::overlaps::leave_running;
