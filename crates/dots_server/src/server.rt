@@ -1,6 +1,6 @@
 //! The server: the settings, the requests that run and the time.
 
-ghost use Rattle.std.specs.Prelude.{◌≡◌, [], ◌∷◌, ◌++◌, max, flat_map, List, OnOk, OnErr};
+ghost use Rattle.std.specs.Prelude.{◌≡◌, [], ◌∷◌, length, max, List, OnOk, OnErr};
 ghost use Rattle.std.specs.Io.KnownBytes.{Appends};
 ghost use Rattle.dots_host.specs.Acts.{IsWithin, event_of};
 ghost use Rattle.dots_host.specs.Causes.{HasCause};
