@@ -33,15 +33,7 @@ fn run_program(rt: &HostRuntime, words: &[String]) -> u8 {
     let script = StdSource::new(Some(rt.reader()));
     let sends = StdSink::new(io::writer(rt));
     let mut report = StdSink::new(io::writer(rt));
-    run_script(
-        rt.alloc(),
-        words,
-        &mut settings,
-        script,
-        sends,
-        &mut report,
-    )
-    .status
+    run_script(rt.alloc(), words, &mut settings, script, sends, &mut report).status
 }
 
 fn main(rt: HostRuntime) -> ExitCode {

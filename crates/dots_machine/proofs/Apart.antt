@@ -213,8 +213,12 @@ module _ (settings : SettingsValue) where
             where
               joined : Apart peer x r (asked_verdict settings one peer x r) (asked_verdict settings other peer x r) → Elsewhere ⊎ AlsoThere
               joined (inl (another, there, (path, body, r_is, found), untouched)) =
-                  inl (another, there, by_datagram peer datagram x path body refl (subst (λ r. IsReceived datagram (is_gateway (role_of settings peer)) (received.Asked x r)) r_is got) found,
-                  ap (λ state. alone domain state.history) (a.3 ∙ ap (λ v. after v one) is) ∙ untouched)
+                  inl (
+                    another,
+                    there,
+                    by_datagram peer datagram x path body refl (subst (λ r. IsReceived datagram (is_gateway (role_of settings peer)) (received.Asked x r)) r_is got) found,
+                    ap (λ state. alone domain state.history) (a.3 ∙ ap (λ v. after v one) is) ∙ untouched,
+                  )
               joined (inr alike) = inr (also_there a.0 (asked_verdict settings other peer x r) a.2 a.3 (by_rules n (received.Asked x r) got refl) (subst (λ v. Alike v (asked_verdict settings other peer x r)) (sym is) alike))
 
   module _ (domain : ℕ) (old other : State) (same : SameFor domain old other) (at : ℕ) (new : State) where

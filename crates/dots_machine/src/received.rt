@@ -9,7 +9,10 @@ pub enum Received {
     /// It asks nothing.
     Dismissed(Dismissal),
     /// A message that is refused for what it has.
-    Refused { exchange: Exchange, reject: Reject },
+    Refused {
+        exchange: Exchange,
+        reject: Reject,
+    },
     /// A request.
     Asked {
         exchange: Exchange,

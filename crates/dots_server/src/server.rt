@@ -14,7 +14,6 @@ ghost use Rattle.dots_machine.specs.Machine.{State, begun_at, Decides, sends_of,
 ghost use Rattle.dots_machine.specs.Report.{report_of};
 ghost use Rattle.dots_server.specs.Standing.{StandsFor, KeepsAll, CanCarryOut};
 
-
 use crate::gathering::Gatherer;
 use crate::overlaps::leave_running;
 use crate::report::put_entries;

@@ -24,11 +24,7 @@ pub enum Resolved {
 }
 
 /// What a scope comes to in a domain of these prefixes. Each name is looked up once.
-pub fn resolve(
-    settings: &Settings,
-    domain: &[Prefix],
-    asked: &Asked,
-) -> Result<Resolved, NoMemory>
+pub fn resolve(settings: &Settings, domain: &[Prefix], asked: &Asked) -> Result<Resolved, NoMemory>
     ensures { IfOk result (IsResolved settings.now domain.now asked.now) }
 {
     if let Some(fault) = first_prefix_fault(domain, asked.prefixes.items()) {

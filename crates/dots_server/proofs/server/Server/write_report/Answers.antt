@@ -12,7 +12,7 @@ returns-in-Ok-clause-ok g c = λ settings state stands.
     let start = sunk g.K.Sink.holds g.K.Sink.faults c.args.report.now in
     let lines = c.put_entries.ensures start [] (rw c.new-gatherer.ensures (nothing_written start)) in
     let is = ap (flat_map (scrub_lines c.self.inside.settings)) c.as_slice.ensures.value
-        ∙ ap (λ (server : ServerValue). flat_map (scrub_lines server.settings) server.running) c.self.view_is ∙ report_is c.args.self.now settings state stands in
+    ∙ ap (λ (server : ServerValue). flat_map (scrub_lines server.settings) server.running) c.self.view_is ∙ report_is c.args.self.now settings state stands in
     subst (Appends (g.K.Sink.holds c.args.report.now) (g.K.Sink.holds c.finish.new.sink)) is (c.in-Ok.ensures start _ lines).0
 
 pub returns-in-Ok-clause-cause : goal.returns-in-Ok-clause-cause
@@ -27,7 +27,7 @@ returns-in-Err-clause-err g c = λ settings state stands.
     let start = sunk g.K.Sink.holds g.K.Sink.faults c.args.report.now in
     let lines = c.put_entries.ensures start [] (rw c.new-gatherer.ensures (nothing_written start)) in
     let is = ap (flat_map (scrub_lines c.self.inside.settings)) c.as_slice.ensures.value
-        ∙ ap (λ (server : ServerValue). flat_map (scrub_lines server.settings) server.running) c.self.view_is ∙ report_is c.args.self.now settings state stands in
+    ∙ ap (λ (server : ServerValue). flat_map (scrub_lines server.settings) server.running) c.self.view_is ∙ report_is c.args.self.now settings state stands in
     subst (AppendsBeginning (g.K.Sink.holds c.args.report.now) (g.K.Sink.holds c.finish.new.sink)) is (c.in-Err.ensures start _ lines).1
 
 pub returns-in-Err-clause-cause : goal.returns-in-Err-clause-cause
