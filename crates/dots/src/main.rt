@@ -1,6 +1,9 @@
 //! The program `dots`: it makes the real sources and sinks, calls [`run_script`], and ends with its status.
 #![tactic(auto)]
 
+ghost use Rattle.std.specs.Prelude.{◌≡◌, ◌⊎◌, ℕ, List, map, string_bytes};
+ghost use Rattle.dots.specs.Programs.{HasRun};
+
 use dots_host::{NoMemory, StdSink, StdSource};
 use dots_run::{run_script, settings_name};
 use std::io::ErrorKind;
@@ -23,8 +26,10 @@ fn words_of(rt: &HostRuntime) -> Result<Vec<String>, NoMemory> {
 }
 
 /// Runs over the settings file that the words name, and over standard input and output. A file that can't be opened is a
-/// source without a reader.
-fn run_program(rt: &HostRuntime, words: &[String]) -> u8 {
+/// source without a reader. The status is that of the run, or 4 where no memory is found to make them.
+fn run_program(rt: &HostRuntime, words: &[String]) -> u8
+    ensures ran { (result ≡ 4) ⊎ HasRun (map string_bytes words.now) result }
+{
     let reader = match settings_name(words) {
         Some(name) => fs::open(rt, name).ok(),
         None => None,
@@ -36,9 +41,16 @@ fn run_program(rt: &HostRuntime, words: &[String]) -> u8 {
     run_script(rt.alloc(), words, &mut settings, script, sends, &mut report).status
 }
 
-fn main(rt: HostRuntime) -> ExitCode {
-    match words_of(&rt) {
-        Ok(words) => ExitCode::from(run_program(&rt, words.as_slice())),
-        Err(_) => ExitCode::from(NO_MEMORY),
+/// The exit status: that of the run over the words of the command line, or 4 where no memory is found for them.
+fn exit_status(rt: &HostRuntime) -> u8
+    ensures { (result ≡ 4) ⊎ ((words : List (List ℕ)) × HasRun words result) }
+{
+    match words_of(rt) {
+        Ok(words) => run_program(rt, words.as_slice()),
+        Err(_) => NO_MEMORY,
     }
+}
+
+fn main(rt: HostRuntime) -> ExitCode {
+    ExitCode::from(exit_status(&rt))
 }
