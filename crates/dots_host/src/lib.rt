@@ -23,8 +23,6 @@ mod sink;
 mod source;
 mod standard;
 mod tape;
-#[cfg(test)]
-mod tests;
 mod wire;
 mod writing;
 

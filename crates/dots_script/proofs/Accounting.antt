@@ -13,7 +13,7 @@ use Rattle.dots_host.specs.Causes.{Rose}
 use Rattle.dots_host.specs.declared.act.Act.{Act}
 use Rattle.dots_host.specs.Memory.{Coming, told}
 use Rattle.dots_host.specs.Writing.{AppendsBeginning}
-use Rattle.dots_script.specs.Lines.{to_come, with_feed, with_feeds, AreSkipped, IsFault, Takes, Fails, Ends, Answers}
+use Rattle.dots_script.specs.Lines.{to_come, with_feed, with_feeds, AreSkipped, IsFault, Takes, Fails, Ends, NextIs}
 use Rattle.dots_script.specs.Sends.{line_of}
 use Rattle.dots_script.specs.Accounts.{AreMade, LineSays, event_in, events_among, IsTaken, HasRead, HasReadKnown, WireWrites, ActWrites, HasWritten, Standing, Accounts, AccountsKnown}
 use Rattle.dots_script.proofs.OneAnswer.{stops_at_fault, no_fault_at_end, no_fault_at_event}
@@ -91,7 +91,7 @@ pass_taken before after got at other is t =
         let size : 1 ≡ 0 = sym (ap length is) ∙ ap (λ e. length (event_in (took e at))) same ∙ ap length none in
         absurd (omega (arith, size))
 
-passing : (before after : List ℕ) (got : Event) (at : ℕ) (other : Type 0) → Answers (Some before) (Some after) got at other → Passing before after got at other
+passing : (before after : List ℕ) (got : Event) (at : ℕ) (other : Type 0) → NextIs (Some before) (Some after) got at other → Passing before after got at other
 passing before after event.Failed at other a = pass_failed before after at other a.0
 passing before after event.End at other a = pass_end before after at other a.0
 passing before after (event.Datagram peer bytes) at other a = pass_taken before after _ at other refl a
@@ -101,7 +101,7 @@ passing before after (event.Closed conn) at other a = pass_taken before after _ 
 passing before after event.Tick at other a = pass_taken before after _ at other refl a
 passing before after event.Restart at other a = pass_taken before after _ at other refl a
 
-no_answer : (before : List ℕ) (got : Event) (at : ℕ) (other : Type 0) → Answers (Some before) None got at other → ⊥
+no_answer : (before : List ℕ) (got : Event) (at : ℕ) (other : Type 0) → NextIs (Some before) None got at other → ⊥
 no_answer before event.Failed at other a = a.0.2.passed
 no_answer before event.End at other a = a.0.2.passed
 no_answer before (event.Datagram peer bytes) at other a = a.passed
@@ -112,7 +112,7 @@ no_answer before event.Tick at other a = a.passed
 no_answer before event.Restart at other a = a.passed
 
 -- at a fault a call fails, and reads no further
-fault_known : (before after : List ℕ) (got : Event) (at : ℕ) (other : Type 0) → IsFault before → Answers (Some before) (Some after) got at other → (got ≡ event.Failed) × (after ≡ before)
+fault_known : (before after : List ℕ) (got : Event) (at : ℕ) (other : Type 0) → IsFault before → NextIs (Some before) (Some after) got at other → (got ≡ event.Failed) × (after ≡ before)
 fault_known before after event.Failed at other fault a = (refl, sym (fault_stays a.0.2.lines before after a.0.2.skipped a.0.2.passed fault))
 fault_known before after event.End at other fault a = absurd (no_fault_at_end after a.0.3 (fault_kept a.0.2.lines before after a.0.2.skipped a.0.2.passed fault))
 fault_known before after (event.Datagram peer bytes) at other fault a = absurd (no_taken before after _ at a fault)
@@ -122,7 +122,7 @@ fault_known before after (event.Closed conn) at other fault a = absurd (no_taken
 fault_known before after event.Tick at other fault a = absurd (no_taken before after _ at a fault)
 fault_known before after event.Restart at other fault a = absurd (no_taken before after _ at a fault)
 
-pub fault_stands : (before : List ℕ) (new : Option (List ℕ)) (got : Event) (at : ℕ) (other : Type 0) → IsFault before → Answers (Some before) new got at other → (got ≡ event.Failed) × (new ≡ Some before)
+pub fault_stands : (before : List ℕ) (new : Option (List ℕ)) (got : Event) (at : ℕ) (other : Type 0) → IsFault before → NextIs (Some before) new got at other → (got ≡ event.Failed) × (new ≡ Some before)
 fault_stands before None got at other fault a = absurd (no_answer before got at other a)
 fault_stands before (Some after) got at other fault a = let same = fault_known before after got at other fault a in (same.0, ap Some same.1)
 
@@ -172,7 +172,7 @@ rose_after : (start old new : ℕ) → old ≤ new → Rose start old → Rose s
 rose_after start old new later rose = omega (arith, later, rose)
 
 read_known : (script before after : Option (List ℕ)) (start old new : ℕ) (acts : List Timed) (timed : Timed) (got : Event) (at : ℕ) → timed.act ≡ took got at → start ≤ old → old ≤ new
-    → HasReadKnown script before (Rose start old) acts → Answers before after got at (Rose old new) → HasReadKnown script after (Rose start new) (acts ++ timed ∷ [])
+    → HasReadKnown script before (Rose start old) acts → NextIs before after got at (Rose old new) → HasReadKnown script after (Rose start new) (acts ++ timed ∷ [])
 read_known None before after start old new acts timed got at is first later h a = tt
 read_known (Some script) None after start old new acts timed got at is first later h a = absurd h
 read_known (Some script) (Some before) None start old new acts timed got at is first later h a = absurd (no_answer before got at (Rose old new) a)
@@ -205,7 +205,7 @@ appends_none (Some xs) (Some ys) is = ap (λ known. known_or known) is ∙ sym (
 -- ---- a call of next, and a call of send
 
 pub accounts_taken : (start old new : Standing) (before after : Option (List Timed)) (moment now : ℕ) (got : Event) (at : ℕ) → Adds before moment after now (took got at)
-    → Answers old.script new.script got at (Rose old.failures new.failures) → old.failures ≤ new.failures → new.held ≡ old.held → AccountsKnown start old before → AccountsKnown start new after
+    → NextIs old.script new.script got at (Rose old.failures new.failures) → old.failures ≤ new.failures → new.held ≡ old.held → AccountsKnown start old before → AccountsKnown start new after
 accounts_taken start old new before None moment now got at adds a later held h = tt
 accounts_taken start old new None (Some after) moment now got at adds a later held h = absurd adds
 accounts_taken start old new (Some before) (Some after) moment now got at adds a later held h =

@@ -5,7 +5,7 @@ use Rattle.std.specs.Io.KnownBytes.{IsAtEnd}
 use Rattle.dots_host.specs.declared.event.Event.{Event}
 use Rattle.dots_host.specs.declared.event.Event.TheVariants as event
 use Rattle.dots_script.specs.Script.{IsSkipped, IsEventLine}
-use Rattle.dots_script.specs.Lines.{IsLine, with_feed, with_feeds, AreSkipped, IsTooLong, IsUnended, IsFault, Skips, Takes, Fails, Ends, Answers}
+use Rattle.dots_script.specs.Lines.{IsLine, with_feed, with_feeds, AreSkipped, IsTooLong, IsUnended, IsFault, Skips, Takes, Fails, Ends, NextIs}
 use Rattle.dots_script.proofs.Splits.{one_split}
 use Rattle.dots_script.proofs.EventLines.{one_event, event_not_skipped}
 
@@ -179,7 +179,7 @@ cause_of new rest count is (inr (inr none)) = absurd none
 of_fails : (text : List ℕ) (new : Option (List ℕ)) (at : ℕ) → Fails (Some text) new ⊥ → at ≡ 0 → Apart text new event.Failed at
 of_fails text new at f zero_at = of_skips text new event.Failed at f.0 f.2 f.1 (λ rest is. fails (cause_of new rest f.0 is f.3) refl refl zero_at)
 
-apart : (text : List ℕ) (new : Option (List ℕ)) (event : Event) (at : ℕ) → Answers (Some text) new event at ⊥ → Apart text new event at
+apart : (text : List ℕ) (new : Option (List ℕ)) (event : Event) (at : ℕ) → NextIs (Some text) new event at ⊥ → Apart text new event at
 apart text new event.Failed at a = of_fails text new at a.0 a.1
 apart text new event.End at a = of_ends text new at a.0 a.1
 apart text new (event.Datagram peer bytes) at a = of_takes text new _ at a
@@ -203,6 +203,6 @@ one_apart text new next event other at time a b =
     let same = one_saying a.tail (length a.lines) a.rest b.rest event other at time a.says says in
     (same.0, same.1, a.known ∙ ap Some same.2 ∙ sym b.known)
 
-pub one_answer : (text : List ℕ) (new next : Option (List ℕ)) (event other : Event) (at time : ℕ) → Answers (Some text) new event at ⊥ → Answers (Some text) next other time ⊥
+pub one_answer : (text : List ℕ) (new next : Option (List ℕ)) (event other : Event) (at time : ℕ) → NextIs (Some text) new event at ⊥ → NextIs (Some text) next other time ⊥
     → (event ≡ other) × (at ≡ time) × (new ≡ next)
 one_answer text new next event other at time a b = one_apart text new next event other at time (apart text new event at a) (apart text next other time b)

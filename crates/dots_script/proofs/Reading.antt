@@ -9,7 +9,7 @@ use Rattle.dots_host.specs.declared.event.Event.TheVariants as event
 use Rattle.dots_script.specs.declared.lines.Found.{Found}
 use Rattle.dots_script.specs.declared.lines.Found.TheVariants as found
 use Rattle.dots_script.specs.Script.{IsSkipped, IsEventLine}
-use Rattle.dots_script.specs.Lines.{IsLine, with_feed, with_feeds, AreSkipped, IsTooLong, IsUnended, IsFault, Skips, Takes, Answers, to_come}
+use Rattle.dots_script.specs.Lines.{IsLine, with_feed, with_feeds, AreSkipped, IsTooLong, IsUnended, IsFault, Skips, Takes, NextIs, to_come}
 use Rattle.dots_script.specs.Finding.{HasLine, HasNone, Finds, Reaches}
 use Rattle.dots_script.proofs.Splits.{split_at, none_in_front}
 
@@ -89,7 +89,7 @@ takes_line a left ahead len count event at skips few has is = record {
   passed = Consumes-trans a (to_come ahead left) (to_come (drop (len + 1) ahead) left) (with_feeds skips.lines) (with_feed (take len ahead)) skips.passed (line_passes left ahead len has);
 }
 
-answers_takes : (a b : Option (List ℕ)) (line : List ℕ) (event : Event) (at : ℕ) (other : Type 0) → IsEventLine line event at → Takes a b event at → Answers a b event at other
+answers_takes : (a b : Option (List ℕ)) (line : List ℕ) (event : Event) (at : ℕ) (other : Type 0) → IsEventLine line event at → Takes a b event at → NextIs a b event at other
 answers_takes a b line (event.Datagram peer bytes) at other is takes = takes
 answers_takes a b line (event.Opened conn peer) at other is takes = takes
 answers_takes a b line (event.Piece conn bytes) at other is takes = takes
@@ -100,7 +100,7 @@ answers_takes a b line event.End at other is takes = absurd is.says
 answers_takes a b line event.Failed at other is takes = absurd is.says
 
 pub answers_line : (a left : Option (List ℕ)) (ahead : List ℕ) (len : ℕ) (event : Event) (at : ℕ) (other : Type 0) → Reaches a (found.Line len) ahead left other
-    → IsEventLine (take len ahead) event at → Answers a (to_come (drop (len + 1) ahead) left) event at other
+    → IsEventLine (take len ahead) event at → NextIs a (to_come (drop (len + 1) ahead) left) event at other
 answers_line a left ahead len event at other reach is =
     answers_takes a _ (take len ahead) event at other is (takes_line a left ahead len reach.0 event at reach.2 reach.1 reach.3 is)
 
@@ -117,22 +117,22 @@ other_form (Some xs) ahead len has unlike none = inr (inr (record {
 }))
 
 pub answers_other : (a left : Option (List ℕ)) (ahead : List ℕ) (len : ℕ) (other : Type 0) → Reaches a (found.Line len) ahead left other
-    → ((event : Event) (at : ℕ) → ¬ (IsEventLine (take len ahead) event at)) → Answers a (to_come ahead left) event.Failed 0 other
+    → ((event : Event) (at : ℕ) → ¬ (IsEventLine (take len ahead) event at)) → NextIs a (to_come ahead left) event.Failed 0 other
 answers_other a left ahead len other reach none = ((reach.0, omega (arith, reach.1), reach.2, inr (inl (other_form left ahead len reach.3 reach.4 none))), refl)
 
 at_end : (left : Option (List ℕ)) (ahead : List ℕ) → HasNone ahead left → IsAtEnd (to_come ahead left)
 at_end None ahead none = tt
 at_end (Some xs) ahead none = ap (λ bytes. bytes ++ xs) none.none_ahead ∙ none.none_left
 
-pub answers_end : (a left : Option (List ℕ)) (ahead : List ℕ) (other : Type 0) → Reaches a found.End ahead left other → Answers a (to_come ahead left) event.End 0 other
+pub answers_end : (a left : Option (List ℕ)) (ahead : List ℕ) (other : Type 0) → Reaches a found.End ahead left other → NextIs a (to_come ahead left) event.End 0 other
 answers_end a left ahead other reach = ((reach.0, reach.1, reach.2, at_end left ahead reach.3), refl)
 
 fault_of : (text : Option (List ℕ)) → IfSome text (λ t. IsTooLong t ⊎ IsUnended t) → IfSome text IsFault
 fault_of None fault = tt
 fault_of (Some t) fault = elim fault [ inl long ↦ inl long | inr cut ↦ inr (inl cut) ]
 
-pub answers_fault : (a left : Option (List ℕ)) (ahead : List ℕ) (other : Type 0) → Reaches a found.Fault ahead left other → Answers a (to_come ahead left) event.Failed 0 other
+pub answers_fault : (a left : Option (List ℕ)) (ahead : List ℕ) (other : Type 0) → Reaches a found.Fault ahead left other → NextIs a (to_come ahead left) event.Failed 0 other
 answers_fault a left ahead other reach = ((reach.0, reach.1, reach.2, elim reach.3 [ inl full ↦ inl full | inr fault ↦ inr (inl (fault_of _ fault)) ]), refl)
 
-pub answers_failed : (a left : Option (List ℕ)) (ahead : List ℕ) (other : Type 0) → Reaches a found.Failed ahead left other → Answers a (to_come ahead left) event.Failed 0 other
+pub answers_failed : (a left : Option (List ℕ)) (ahead : List ℕ) (other : Type 0) → Reaches a found.Failed ahead left other → NextIs a (to_come ahead left) event.Failed 0 other
 answers_failed a left ahead other reach = ((reach.0, reach.1, reach.2, inr (inr reach.3)), refl)

@@ -75,10 +75,10 @@ abbrev pub Ends : Option (List ℕ) → Option (List ℕ) → Type 0
 Ends old new = (count : ℕ) × (count < 2 ^ 40) × Skips old new count × IsAtEnd new
 
 -- The answer of a call, where what is known to come was old before it and is new after it. A line that is a fault stays.
-abbrev pub Answers : Option (List ℕ) → Option (List ℕ) → Event → ℕ → Type 0 → Type 0
-Answers old new event.Failed at other = Fails old new other × (at ≡ 0)
-Answers old new event.End at other = Ends old new × (at ≡ 0)
-Answers old new event at other = Takes old new event at
+abbrev pub NextIs : Option (List ℕ) → Option (List ℕ) → Event → ℕ → Type 0 → Type 0
+NextIs old new event.Failed at other = Fails old new other × (at ≡ 0)
+NextIs old new event.End at other = Ends old new × (at ≡ 0)
+NextIs old new event at other = Takes old new event at
 
 -- what is known to come: the bytes that were read ahead, and what the source has left
 abbrev pub to_come : List ℕ → Option (List ℕ) → Option (List ℕ)

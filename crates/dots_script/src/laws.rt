@@ -1,7 +1,7 @@
 ghost use Rattle.std.specs.Prelude.{◌≡◌, ℕ, List, Option, Some};
 ghost use Rattle.dots_host.specs.Causes.{Rose};
 ghost use Rattle.dots_host.specs.Memory.{Coming};
-ghost use Rattle.dots_script.specs.Lines.{Answers, IsFault, with_feeds};
+ghost use Rattle.dots_script.specs.Lines.{NextIs, IsFault, with_feeds};
 ghost use Rattle.dots_script.specs.Accounts.{AreMade, LineSays};
 
 use dots_host::Event;
@@ -10,7 +10,7 @@ use dots_host::Event;
 /// after it.
 pub fn a_script_has_one_answer()
     ensures { (text : List ℕ) (new next : Option (List ℕ)) (event other : Event) (at time : ℕ) →
-        Answers (Some text) new event at ⊥ → Answers (Some text) next other time ⊥ →
+        NextIs (Some text) new event at ⊥ → NextIs (Some text) next other time ⊥ →
         (event ≡ other) × (at ≡ time) × (new ≡ next) }
 {}
 
@@ -18,7 +18,7 @@ pub fn a_script_has_one_answer()
 /// call fails too.
 pub fn a_fault_stays()
     ensures { (text : List ℕ) (new : Option (List ℕ)) (event : Event) (at before now : ℕ) → IsFault text →
-        Answers (Some text) new event at (Rose before now) → (event ≡ Event.Failed) × (new ≡ Some text) }
+        NextIs (Some text) new event at (Rose before now) → (event ≡ Event.Failed) × (new ≡ Some text) }
 {}
 
 /// However a text is split into lines, they say one list of events.

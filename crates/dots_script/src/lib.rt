@@ -14,8 +14,6 @@ mod laws;
 mod lines;
 mod script_host;
 mod send_line;
-#[cfg(test)]
-mod tests;
 
 pub use event_line::parse_event;
 pub use laws::{a_fault_stays, a_script_has_one_answer, lines_say_one_list};

@@ -5,7 +5,7 @@ ghost use Rattle.dots_host.specs.Acts.{IsWithin, OnFailed, OnEvent, Adds, taken,
 ghost use Rattle.dots_host.specs.Memory.{told};
 ghost use Rattle.dots_host.specs.Writing.{AppendsBeginning};
 ghost use Rattle.dots_host.specs.declared.TheConstants.{MAX_EVENT_BYTES};
-ghost use Rattle.dots_script.specs.Lines.{to_come, Answers};
+ghost use Rattle.dots_script.specs.Lines.{to_come, NextIs};
 ghost use Rattle.dots_script.specs.Sends.{line_of};
 ghost use Rattle.dots_script.specs.Accounts.{Standing, AccountsSince};
 
@@ -93,7 +93,7 @@ fn next_event<S: Source>(block: &mut Block, source: &mut S, into: &mut [u8]) -> 
     requires { length into.old ≡ MAX_EVENT_BYTES }
     ensures at { result.at < 2 ^ 48 }
     ensures within { IsWithin result.what MAX_EVENT_BYTES }
-    ensures answer { Answers (to_come block.old (S.left source.old))
+    ensures answer { NextIs (to_come block.old (S.left source.old))
         (to_come block.new (S.left source.new)) (event_of result.what into.new) result.at
         (Rose (S.faults source.old) (S.faults source.new)) }
     ensures later { S.faults source.old ≤ S.faults source.new }
@@ -163,7 +163,7 @@ impl<S: Source, K: Sink> Wire for ScriptHost<S, K> {
             AccountsSince S.left S.faults K.holds start self.new }
 
         // What it answers is what the first line that isn't skipped says.
-        ensures answer { Answers (to_come self.old.ahead (S.left self.old.source))
+        ensures answer { NextIs (to_come self.old.ahead (S.left self.old.source))
             (to_come self.new.ahead (S.left self.new.source)) (event_of result.what into.new) result.at
             (Rose (S.faults self.old.source) (S.faults self.new.source)) }
         ensures source { S.faults self.old.source ≤ S.faults self.new.source }

@@ -3,7 +3,7 @@ use Rattle.dots_host.specs.declared.event.Event.{Event}
 use Rattle.dots_host.specs.Acts.{event_of}
 use Rattle.dots_host.specs.Causes.{Rose}
 use Rattle.dots_script.specs.Script.{IsEventLine}
-use Rattle.dots_script.specs.Lines.{Answers, to_come}
+use Rattle.dots_script.specs.Lines.{NextIs, to_come}
 use Rattle.dots_script.proofs.Reading.{answers_line, answers_other}
 use Rattle.dots_script.proofs.script_host.next_event.Goals as goal
 
@@ -22,4 +22,4 @@ returns-in-Line-clause-answer g c =
     let event = event_of c.in-Some.got.what c.parse_event.new.into in
     let is = subst (λ (bytes : List ℕ). IsEventLine (take c.in-Line.len bytes) event c.in-Some.got.at) c.bytes.ensures c.in-Some.ensures.some in
     let answer = answers_line old (left c.find_unskipped.new.source) c.find_unskipped.new.block c.in-Line.len event c.in-Some.got.at rose c.in-Line.ensures.found is in
-    subst (λ (ahead : List ℕ). Answers old (to_come ahead (left c.find_unskipped.new.source)) event c.in-Some.got.at rose) (sym c.pass.ensures) answer
+    subst (λ (ahead : List ℕ). NextIs old (to_come ahead (left c.find_unskipped.new.source)) event c.in-Some.got.at rose) (sym c.pass.ensures) answer
