@@ -1,2 +1,4 @@
 pub mod Bits
 pub mod Resolving
+pub mod Places
+pub mod Ending

@@ -11,6 +11,7 @@
 mod asking;
 mod by_mid;
 mod by_overlap;
+pub mod laws;
 mod live;
 mod meeting;
 mod request;
