@@ -2,3 +2,4 @@ pub mod Bits
 pub mod Resolving
 pub mod Places
 pub mod Ending
+pub mod Contesting

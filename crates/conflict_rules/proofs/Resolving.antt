@@ -1,7 +1,8 @@
 -- One target more of those whose prefixes are resolved.
-use Rattle.std.proofs.Common.{◌≡◌, ℕ, suc, ◌+◌, ◌*◌, ◌^◌, ◌<◌, Bool, List, ◌∷◌, ◌++◌, length, map, drop, get_or, drop-cons, add-one, sym, ap, ◌∙◌, arith, length-append}
+use Rattle.std.proofs.Common.{◌≡◌, ℕ, suc, ◌+◌, ◌*◌, ◌^◌, ◌<◌, Bool, List, [], ◌∷◌, ◌++◌, refl, length, map, drop, get_or, drop-cons, add-one, sym, ap, ◌∙◌, arith, length-append}
 use Rattle.ip_scope.specs.Prefix.{PrefixValue}
 use Rattle.dots_history.specs.declared.put.Target.{Target}
+use Rattle.dots_history.specs.Bounds.{prefix_count}
 use Rattle.conflict_rules.specs.ByOverlap.{bits, resolved}
 use Rattle.conflict_rules.proofs.Bits.{part_more}
 
@@ -25,8 +26,17 @@ target_marked test x targets prefixes place index marks mark all below is its ma
 
 pub target_passed : (x : Target) (targets : List Target) (prefixes : List PrefixValue) (place index total : ℕ)
     → index < length targets → x ≡ get_or targets index x → prefixes ≡ x.prefixes
-    → place + length (resolved (drop index targets)) ≡ total
-    → place + length prefixes + length (resolved (drop (index + 1) targets)) ≡ total
+    → place + prefix_count (drop index targets) ≡ total
+    → place + length prefixes + prefix_count (drop (index + 1) targets) ≡ total
 target_passed x targets prefixes place index total below is its so_far =
-    let whole : length prefixes + length (resolved (drop (index + 1) targets)) ≡ length (resolved (drop index targets)) = sym (length-append prefixes (resolved (drop (index + 1) targets))) ∙ ap length (resolved_from x targets index prefixes below is its) in
-    omega (arith, whole, so_far)
+    let rest : List Target = drop (suc index) targets in
+    let front : drop index targets ≡ x ∷ rest = drop-cons targets index x below ∙ ap (λ y. y ∷ rest) (sym is) in
+    let whole : prefix_count (drop index targets) ≡ length x.prefixes + prefix_count rest = ap prefix_count front in
+    let behind : prefix_count (drop (index + 1) targets) ≡ prefix_count rest = ap (λ n. prefix_count (drop n targets)) (add-one index) in
+    let size : length prefixes ≡ length x.prefixes = ap length its in
+    omega (arith, whole, behind, size, so_far)
+
+-- as many as the targets have
+pub resolved_count : (targets : List Target) → length (resolved targets) ≡ prefix_count targets
+resolved_count [] = refl
+resolved_count (x ∷ xs) = length-append x.prefixes (resolved xs) ∙ ap (λ n. length x.prefixes + n) (resolved_count xs)

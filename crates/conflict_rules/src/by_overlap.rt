@@ -1,9 +1,10 @@
 //! The judgement by overlaps and capacities.
 
-ghost use Rattle.std.specs.Prelude.{◌≡◌, ◌≤◌, ◌&&◌, not, length, count_by};
+ghost use Rattle.std.specs.Prelude.{◌≡◌, ◌≤◌, ◌&&◌, not, nat_le};
+ghost use Rattle.dots_history.specs.Bounds.{prefix_count};
 ghost use Rattle.conflict_rules.specs.Wanted.{wanted};
 ghost use Rattle.conflict_rules.specs.Live.{would_end};
-ghost use Rattle.conflict_rules.specs.ByOverlap.{is_higher, highest_mid, is_contested, resolved, staying, own_staying, judge_room, judge_others, judge_overlap};
+ghost use Rattle.conflict_rules.specs.ByOverlap.{is_higher, highest_mid, is_contested, staying, own_staying, judge_room, judge_others, judge_overlap};
 
 use crate::live::Live;
 use crate::meeting::meeting;
@@ -34,10 +35,27 @@ pub enum Which {
     Domain,
 }
 
+/// How many prefixes the targets of a mitigation may have together.
+const MAX_RESOLVED: usize = 64;
+
+/// Whether the targets have at most 64 prefixes together, as [`judge_overlap`] wants it.
+pub fn are_few(targets: &TargetList) -> bool
+    ensures { result ≡ nat_le (prefix_count targets.now) 64 }
+{
+    let mut left = MAX_RESOLVED;
+    for target in targets.items() {
+        match left.checked_sub(target.prefixes.items().len()) {
+            Some(rest) => left = rest,
+            None => return false,
+        }
+    }
+    true
+}
+
 /// Judges a new mitigation, of which `targets` is what was asked for, by the live mitigations of its domain: whether it
 /// overlaps with a standing one of its client that has a higher mid, or with one of another client, and whether there
 /// is room, for the client and then for the domain, beside those that it wouldn't end (RFC 9132, section 4.4.1). The
-/// first of these that applies is answered.
+/// first of these that applies is answered. The targets have at most 64 prefixes together.
 pub fn judge_overlap(
     live: &[Live],
     cuid: &[u8],
@@ -46,7 +64,7 @@ pub fn judge_overlap(
     targets: &TargetList,
     limits: &Limits,
 ) -> Judgement
-    requires { length (resolved targets.now) ≤ 64 }
+    requires { prefix_count targets.now ≤ 64 }
     ensures { result ≡ judge_overlap live.now cuid.now (wanted mid asked.now targets.now) limits.now }
 {
     let request = Request {
@@ -61,7 +79,7 @@ pub fn judge_overlap(
 }
 
 fn judge_others(live: &[Live], cuid: &[u8], request: &Request<'_>, limits: &Limits) -> Judgement
-    requires { length (resolved request.now.targets) ≤ 64 }
+    requires { prefix_count request.now.targets ≤ 64 }
     ensures { result ≡ judge_others live.now cuid.now request.now limits.now }
 {
     if is_contested(live, cuid, request) {

@@ -17,5 +17,5 @@ mod meeting;
 mod request;
 
 pub use by_mid::{MidJudgement, collides, judge_mid};
-pub use by_overlap::{Judgement, Which, judge_overlap};
+pub use by_overlap::{Judgement, Which, are_few, judge_overlap};
 pub use live::Live;

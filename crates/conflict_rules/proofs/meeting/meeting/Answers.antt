@@ -2,7 +2,7 @@ use Rattle.std.proofs.Common.{◌+◌, ◌*◌, ◌^◌, ◌≤◌, ◌<◌, len
 use Rattle.std.proofs.lemmas.List.{length-map}
 use Rattle.conflict_rules.specs.ByOverlap.{meets_another, resolved, bits}
 use Rattle.conflict_rules.proofs.Bits.{bits_fit}
-use Rattle.conflict_rules.proofs.Resolving.{target_marked, target_passed}
+use Rattle.conflict_rules.proofs.Resolving.{target_marked, target_passed, resolved_count}
 use Rattle.conflict_rules.proofs.meeting.meeting.Goals as goal
 
 pub loop-target-preserved : goal.loop-target-preserved
@@ -18,7 +18,7 @@ loop-target-preserved c = record {
 pub overflow_add-meeting : goal.overflow_add-meeting
 overflow_add-meeting c =
     let all = map (meets_another c.args.live.now c.args.cuid.now) (resolved c.args.targets.now) in
-    let few : 0 + length all ≤ 64 = rw (length-map (resolved c.args.targets.now) (meets_another c.args.live.now c.args.cuid.now)) (omega (arith, c.requires)) in
+    let few : 0 + length all ≤ 64 = rw (length-map (resolved c.args.targets.now) (meets_another c.args.live.now c.args.cuid.now), resolved_count c.args.targets.now) (omega (arith, c.requires)) in
     let fit : 2 ^ 0 * bits all < 2 ^ 64 = bits_fit 0 all few in
     let more = (loop-target-preserved c).marked in
     omega (arith, fit, more)
