@@ -9,7 +9,7 @@ use Rattle.conflict_rules.specs.Asking.{asks_the_same}
 use Rattle.conflict_rules.specs.Live.{is_of, stands_for}
 
 -- The cuid is in use by another peer: a live mitigation of the client, standing or terminating, has another peer (RFC
--- 9132, section 4.4.1: conflict-cause 3, a cuid collision).
+-- 9132, section 4.4.1.3: conflict-cause 3, a cuid collision).
 abbrev pub collides : List Live → ℕ → List ℕ → Bool
 collides live peer cuid = list_any (λ m. is_of cuid m && not (m.peer == peer)) live
 

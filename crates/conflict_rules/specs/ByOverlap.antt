@@ -24,7 +24,7 @@ is_higher cuid request m =
 abbrev pub highest_mid : List Live → List ℕ → Put → Option ℕ
 highest_mid live cuid request = greatest (map (λ (m : Live). m.put.mid) (filter (is_higher cuid request) live))
 
--- A standing mitigation of another client of the domain overlaps with the request (RFC 9132, section 4.4.1:
+-- A standing mitigation of another client of the domain overlaps with the request (RFC 9132, section 4.4.1.3:
 -- conflict-cause 1, overlapping targets).
 abbrev pub is_contested : List Live → List ℕ → Put → Bool
 is_contested live cuid request = list_any (λ m. stands_against cuid m && overlaps false m.put request) live
