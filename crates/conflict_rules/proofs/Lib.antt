@@ -1,0 +1,5 @@
+pub mod Bits
+pub mod Resolving
+pub mod Places
+pub mod Ending
+pub mod Contesting

@@ -1,0 +1,61 @@
+//! The judgement by the mid of a request.
+
+ghost use Rattle.std.specs.Prelude.{◌≡◌};
+ghost use Rattle.conflict_rules.specs.ByMid.{collides, has_mid, judge_same_mid, judge_mid};
+
+use crate::asking::asks_the_same;
+use crate::live::Live;
+use acl_lists::Asked;
+
+/// What the live mitigations of its client with its mid make of a mitigation request.
+#[derive(Clone, Copy, Debug, PartialEq, Eq)]
+pub enum MidJudgement {
+    /// The client's name is in use by another peer: a live mitigation of the client has another one.
+    Collision,
+    /// The request refreshes the standing mitigation at this place of the list: it asks for the same.
+    Refresh { at: usize },
+    /// A mitigation of this mid stands, and the request asks for something else.
+    Changed,
+    /// No mitigation of this mid stands.
+    New,
+}
+
+/// Judges a request by the live mitigations of its domain: whether its client's name is in use by another peer, and
+/// whether it refreshes a mitigation or would change one (RFC 9132, section 4.4.1). The first of these that applies is
+/// answered.
+pub fn judge_mid(live: &[Live], peer: u32, cuid: &[u8], mid: u32, asked: &Asked) -> MidJudgement
+    ensures { result ≡ judge_mid live.now peer cuid.now mid asked.now }
+{
+    if collides(live, peer, cuid) {
+        return MidJudgement::Collision;
+    }
+    judge_same_mid(live, cuid, mid, asked)
+}
+
+/// Whether a live mitigation of the client, standing or terminating, has another peer.
+pub fn collides(live: &[Live], peer: u32, cuid: &[u8]) -> bool
+    ensures { result ≡ collides live.now peer cuid.now }
+{
+    live.iter()
+        .any(|held| held.is_of(cuid) && held.peer != peer)
+}
+
+fn judge_same_mid(live: &[Live], cuid: &[u8], mid: u32, asked: &Asked) -> MidJudgement
+    ensures { result ≡ judge_same_mid cuid.now mid asked.now 0 live.now }
+{
+    for (at, held) in live.iter().enumerate() {
+        if has_mid(held, cuid, mid) {
+            if asks_the_same(&held.put.asked, asked) {
+                return MidJudgement::Refresh { at };
+            }
+            return MidJudgement::Changed;
+        }
+    }
+    MidJudgement::New
+}
+
+fn has_mid(held: &Live, cuid: &[u8], mid: u32) -> bool
+    ensures { result ≡ has_mid cuid.now mid held.now }
+{
+    held.stands_for(cuid) && held.put.mid == mid
+}

@@ -1,0 +1,168 @@
+//! The judgement by overlaps and capacities.
+
+ghost use Rattle.std.specs.Prelude.{◌≡◌, ◌≤◌, ◌&&◌, not, nat_le};
+ghost use Rattle.dots_history.specs.Bounds.{prefix_count};
+ghost use Rattle.conflict_rules.specs.Wanted.{wanted};
+ghost use Rattle.conflict_rules.specs.Live.{would_end};
+ghost use Rattle.conflict_rules.specs.ByOverlap.{is_higher, highest_mid, is_contested, staying, own_staying, judge_room, judge_others, judge_overlap};
+
+use crate::live::Live;
+use crate::meeting::meeting;
+use crate::request::Request;
+use acl_lists::Asked;
+use dots_history::TargetList;
+use dots_settings::Limits;
+use filter_rows::greatest_from;
+
+/// What the live mitigations of its domain make of a new mitigation.
+#[derive(Clone, Copy, Debug, PartialEq, Eq)]
+pub enum Judgement {
+    /// A standing mitigation of the client overlaps and has a higher mid; this is the highest such mid.
+    Higher { mid: u32 },
+    /// A standing mitigation of another client overlaps. Bit i is set exactly where the resolved prefix i, of those of
+    /// the targets in order, meets such a mitigation.
+    Other { meeting: u64 },
+    /// As many live mitigations as may be would stay beside it, of the client or of the domain; this is their number.
+    Full { which: Which, number: u64 },
+    /// Nothing stands against it.
+    Fresh,
+}
+
+/// Whose live mitigations are as many as may be.
+#[derive(Clone, Copy, Debug, PartialEq, Eq)]
+pub enum Which {
+    Client,
+    Domain,
+}
+
+/// How many prefixes the targets of a mitigation may have together.
+const MAX_RESOLVED: usize = 64;
+
+/// Whether the targets have at most 64 prefixes together, as [`judge_overlap`] wants it.
+pub fn are_few(targets: &TargetList) -> bool
+    ensures { result ≡ nat_le (prefix_count targets.now) 64 }
+{
+    let mut left = MAX_RESOLVED;
+    for target in targets.items() {
+        match left.checked_sub(target.prefixes.items().len()) {
+            Some(rest) => left = rest,
+            None => return false,
+        }
+    }
+    true
+}
+
+/// Judges a new mitigation, of which `targets` is what was asked for, by the live mitigations of its domain: whether it
+/// overlaps with a standing one of its client that has a higher mid, or with one of another client, and whether there
+/// is room, for the client and then for the domain, beside those that it wouldn't end (RFC 9132, section 4.4.1). The
+/// first of these that applies is answered. The targets have at most 64 prefixes together.
+pub fn judge_overlap(
+    live: &[Live],
+    cuid: &[u8],
+    mid: u32,
+    asked: &Asked,
+    targets: &TargetList,
+    limits: &Limits,
+) -> Judgement
+    requires { prefix_count targets.now ≤ 64 }
+    ensures { result ≡ judge_overlap live.now cuid.now (wanted mid asked.now targets.now) limits.now }
+{
+    let request = Request {
+        mid,
+        asked,
+        targets,
+    };
+    match highest_mid(live, cuid, &request) {
+        Some(mid) => Judgement::Higher { mid },
+        None => judge_others(live, cuid, &request, limits),
+    }
+}
+
+fn judge_others(live: &[Live], cuid: &[u8], request: &Request<'_>, limits: &Limits) -> Judgement
+    requires { prefix_count request.now.targets ≤ 64 }
+    ensures { result ≡ judge_others live.now cuid.now request.now limits.now }
+{
+    if is_contested(live, cuid, request) {
+        return Judgement::Other {
+            meeting: meeting(live, cuid, request.targets.items()),
+        };
+    }
+    judge_room(
+        own_staying(live, cuid, request),
+        staying(live, cuid, request),
+        limits,
+    )
+}
+
+#[tactic(auto, using(filter_rows::proofs::Greatest::greater_more))]
+fn highest_mid(live: &[Live], cuid: &[u8], request: &Request<'_>) -> Option<u32>
+    ensures { result ≡ highest_mid live.now cuid.now request.now }
+{
+    let mut highest = None;
+    for held in live {
+        if is_higher(held, cuid, request) {
+            highest = Some(greatest_from(held.put.mid, highest));
+        }
+    }
+    highest
+}
+
+fn is_higher(held: &Live, cuid: &[u8], request: &Request<'_>) -> bool
+    ensures { result ≡ is_higher cuid.now request.now held.now }
+{
+    held.stands_for(cuid) && request.mid < held.put.mid && request.overlaps_own(&held.put)
+}
+
+fn is_contested(live: &[Live], cuid: &[u8], request: &Request<'_>) -> bool
+    ensures { result ≡ is_contested live.now cuid.now request.now }
+{
+    live.iter().any(|held| held.stands_against(cuid) && request.overlaps_another(&held.put))
+}
+
+fn staying(live: &[Live], cuid: &[u8], request: &Request<'_>) -> u64
+    ensures { result ≡ staying live.now cuid.now request.now }
+{
+    let mut number = 0;
+    for held in live {
+        if !would_end(held, cuid, request) {
+            number += 1;
+        }
+    }
+    number
+}
+
+fn own_staying(live: &[Live], cuid: &[u8], request: &Request<'_>) -> u64
+    ensures { result ≡ own_staying live.now cuid.now request.now }
+{
+    let mut number = 0;
+    for held in live {
+        if held.is_of(cuid) && !would_end(held, cuid, request) {
+            number += 1;
+        }
+    }
+    number
+}
+
+fn would_end(held: &Live, cuid: &[u8], request: &Request<'_>) -> bool
+    ensures { result ≡ would_end cuid.now request.now held.now }
+{
+    held.is_of(cuid) && request.replaces(&held.put)
+}
+
+fn judge_room(own: u64, all: u64, limits: &Limits) -> Judgement
+    ensures { result ≡ judge_room own all limits.now }
+{
+    if own >= u64::from(limits.client_mitigations) {
+        return Judgement::Full {
+            which: Which::Client,
+            number: own,
+        };
+    }
+    if all >= u64::from(limits.domain_mitigations) {
+        return Judgement::Full {
+            which: Which::Domain,
+            number: all,
+        };
+    }
+    Judgement::Fresh
+}

@@ -1,0 +1,21 @@
+//! How a mitigation request stands to the live mitigations of its domain (RFC 9132, section 4.4.1).
+//!
+//! A [`Live`] is a live mitigation: it stands, or was withdrawn and is terminating. [`judge_mid`] and [`judge_overlap`]
+//! judge a request by the list of those of one domain. Each answers by the first rule that applies, and its contract is
+//! the definition in `specs/`: `Live` says what a live mitigation is to a request, `Asking` when two requests ask for
+//! the same, `ByMid` and `ByOverlap` have the rules in their order.
+//!
+//! When two mitigations overlap, and when one ends another, is defined in `dots_history`. No call takes memory.
+#![tactic(auto)]
+
+mod asking;
+mod by_mid;
+mod by_overlap;
+pub mod laws;
+mod live;
+mod meeting;
+mod request;
+
+pub use by_mid::{MidJudgement, collides, judge_mid};
+pub use by_overlap::{Judgement, Which, are_few, judge_overlap};
+pub use live::Live;

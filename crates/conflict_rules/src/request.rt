@@ -1,0 +1,93 @@
+//! When a live mitigation overlaps with a request.
+
+ghost use Rattle.std.specs.Prelude.{◌≡◌, true, false, bytes_eq};
+ghost use Rattle.std.specs.List.{list_any};
+ghost use Rattle.ip_scope.specs.Prefix.{meets};
+ghost use Rattle.dots_history.specs.Entries.{some_prefix, overlaps, replaces, targets_meet, share_alias};
+ghost use Rattle.dots_history.specs.declared.change.Change.TheVariants as change;
+
+use crate::asking::is_among;
+use acl_lists::Asked;
+use dots_history::{Put, Target, TargetList};
+use dots_lists::Name;
+use ip_scope::{Prefix, meets};
+use std::marker::Model;
+
+/// A request as a mitigation, by what counts for an overlap. Contracts see it as the mitigation that it asks for.
+#[derive(Drop)]
+pub(crate) struct Request<'a> {
+    pub(crate) mid: u32,
+    pub(crate) asked: &'a Asked,
+    pub(crate) targets: &'a TargetList,
+}
+
+impl<'a> Model for Request<'a> {
+    ghost use Rattle.dots_history.specs.declared.put.Put.{Put};
+    ghost use Rattle.conflict_rules.specs.Wanted.{wanted};
+
+    ghost Value = { Put };
+
+    ghost view = { λ request. wanted request.mid request.asked.now request.targets.now };
+}
+
+impl Request<'_> {
+    /// Whether it overlaps with a mitigation of its own client: their targets meet, or they share an alias.
+    #[tactic(auto, unfolding(dots_history::specs::Entries::overlaps, dots_history::specs::Entries::targets_meet, dots_history::specs::Entries::share_alias))]
+    pub(crate) fn overlaps_own(&self, put: &Put) -> bool
+        ensures { result ≡ overlaps true put.now self.now }
+    {
+        some_target_meets(put.targets.items(), self.targets.items())
+            || share_name(put.asked.aliases.items(), self.asked.aliases.items())
+    }
+
+    /// Whether it overlaps with a mitigation of another client: their targets meet.
+    #[tactic(auto, unfolding(dots_history::specs::Entries::overlaps, dots_history::specs::Entries::targets_meet))]
+    pub(crate) fn overlaps_another(&self, put: &Put) -> bool
+        ensures { result ≡ overlaps false put.now self.now }
+    {
+        some_target_meets(put.targets.items(), self.targets.items())
+    }
+
+    /// Whether it would take the place of a mitigation of its own client: it has its mid, or overlaps with it.
+    #[tactic(auto, unfolding(dots_history::specs::Entries::replaces))]
+    pub(crate) fn replaces(&self, put: &Put) -> bool
+        ensures { result ≡ replaces (change.Put put.now) (change.Put self.now) }
+    {
+        put.mid == self.mid || self.overlaps_own(put)
+    }
+}
+
+fn some_target_meets(targets: &[Target], others: &[Target]) -> bool
+    ensures { result ≡ some_prefix (λ prefix. some_prefix (meets prefix) others.now) targets.now }
+{
+    targets
+        .iter()
+        .any(|target| some_meets(target.prefixes.items(), others))
+}
+
+fn some_meets(prefixes: &[Prefix], targets: &[Target]) -> bool
+    ensures { result ≡ list_any (λ prefix. some_prefix (meets prefix) targets.now) prefixes.now }
+{
+    prefixes.iter().any(|prefix| meets_some(prefix, targets))
+}
+
+/// Whether the prefix meets one of the targets.
+pub(crate) fn meets_some(prefix: &Prefix, targets: &[Target]) -> bool
+    ensures { result ≡ some_prefix (meets prefix.now) targets.now }
+{
+    targets
+        .iter()
+        .any(|target| meets_any(prefix, target.prefixes.items()))
+}
+
+fn meets_any(prefix: &Prefix, list: &[Prefix]) -> bool
+    ensures { result ≡ list_any (meets prefix.now) list.now }
+{
+    list.iter().any(|other| meets(prefix, other))
+}
+
+fn share_name(names: &[Name], others: &[Name]) -> bool
+    ensures { result ≡ list_any (λ name. list_any (bytes_eq name) others.now) names.now }
+{
+    names.iter().any(|name| is_among(name, others))
+}
