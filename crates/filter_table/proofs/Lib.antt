@@ -1,2 +1,3 @@
 pub mod Ranked
 pub mod Order
+pub mod Slots

@@ -1,1 +1,3 @@
+pub mod Held
 pub mod Ranks
+pub mod Slots

@@ -4,5 +4,6 @@
 mod held;
 mod rank;
 mod ranking;
+mod scrubs;
 
 pub use held::{HeldAcl, HeldScrub};
