@@ -1,3 +1,4 @@
 pub mod Ranked
 pub mod Order
+pub mod Places
 pub mod Slots

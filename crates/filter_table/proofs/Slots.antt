@@ -1,8 +1,8 @@
 -- Slots that are taken and given back.
-use Rattle.std.proofs.Common.{◌≡◌, ℕ, ◌+◌, ◌<◌, ◌≤◌, Bool, true, false, not, cond, if◌then◌else◌, ◌==◌, nat_lt, nat_le, List, [], ◌∷◌, ◌++◌, map, length, get_or, length-append, subst, take, drop, zero, suc, refl, sym, ap, ◌∙◌, arith, rules, one-add, Option, Some, None}
-use Rattle.std.specs.List.{insert, remove, count_by, find, prefix_len, filter, position, position_or_len}
+use Rattle.std.proofs.Common.{◌≡◌, ℕ, ◌+◌, ◌<◌, ◌≤◌, Bool, true, false, not, cond, if◌then◌else◌, ◌==◌, nat_lt, nat_le, List, [], ◌∷◌, ◌++◌, map, length, get_or, length-append, subst, zero, suc, refl, sym, ap, ◌∙◌, arith, one-add, Some, None}
+use Rattle.std.specs.List.{insert, remove, count_by, prefix_len, filter, position, position_or_len}
 use Rattle.std.proofs.lemmas.Grind.{common_steps}
-use Rattle.std.proofs.lemmas.Bool.{cases_eq, ne_eqb, eq-eqb}
+use Rattle.std.proofs.lemmas.Bool.{eq-eqb}
 use Rattle.std.proofs.lemmas.List.{length-map}
 use Rattle.std.proofs.lemmas.List.Sums.{sum_by-cons, prefix_len-le-length, sum_by-append, sum_by-insert, sum_by-remove}
 use Rattle.std.proofs.lemmas.List.Edits.{length-insert, length-remove}
@@ -23,8 +23,14 @@ pub after_install : (room : ℕ) (before free : List ℕ) (slot : ℕ) (held : L
 after_install room before free slot held i scrub taken is within has = record {
   once = λ s.
       let same : once_at s scrub.slot ≡ once_at s slot = ap (once_at s) is in
-      omega (arith, same, has.once s, ap (count_by (λ other. other == s)) taken, sum_by-append (once_at s) free (slot ∷ []),
-        sum_by-insert (λ (x : HeldScrub). once_at s x.slot) held i scrub);
+      omega (
+        arith,
+        same,
+        has.once s,
+        ap (count_by (λ other. other == s)) taken,
+        sum_by-append (once_at s) free (slot ∷ []),
+        sum_by-insert (λ (x : HeldScrub). once_at s x.slot) held i scrub,
+      );
   number = omega (arith, has.number, length-insert held i scrub within, ap length taken, length-append free (slot ∷ []));
 }
 
@@ -103,12 +109,13 @@ pub ranks_after_removal : (ranks : List Rank) (held : List HeldScrub) (i : ℕ) 
 ranks_after_removal ranks held i scrub are within is =
     let rest = ranked (map rank_of (remove held i)) in
     let split : ranks ≡ with_rank (rank_of scrub) rest =
-        are ∙ ranked_remove (map rank_of held) i (rank_of scrub) (omega (arith, within, length-map held rank_of)) (get-map held i scrub within is)
-        ∙ ap (λ rs. with_rank (rank_of scrub) (ranked rs)) (sym (map-remove held i)) in
-    (subst (λ rs. place_of (rank_of scrub) rs < length rs) (sym split) (place_within (rank_of scrub) rest),
-      ap (λ rs. remove rs (place_of (rank_of scrub) rs)) split ∙ taken_back (rank_of scrub) rest)
+    are ∙ ranked_remove (map rank_of held) i (rank_of scrub) (omega (arith, within, length-map held rank_of)) (get-map held i scrub within is)
+    ∙ ap (λ rs. with_rank (rank_of scrub) (ranked rs)) (sym (map-remove held i)) in (
+      subst (λ rs. place_of (rank_of scrub) rs < length rs) (sym split) (place_within (rank_of scrub) rest),
+      ap (λ rs. remove rs (place_of (rank_of scrub) rs)) split ∙ taken_back (rank_of scrub) rest,
+    )
 
-length-ranked : (rs : List Rank) → length (ranked rs) ≡ length rs
+pub length-ranked : (rs : List Rank) → length (ranked rs) ≡ length rs
 length-ranked [] = refl
 length-ranked (r ∷ rs) = omega (arith, length-insert (ranked rs) (place_of r (ranked rs)) r (prefix_len-le-length (λ other. is_before other r) (ranked rs)), length-ranked rs)
 
@@ -135,7 +142,8 @@ installed room ranking after rank before free slot held later i scrub are has ta
     in_order = ap (λ (r : RankingValue). r.ranks) now ∙ ap (λ r. with_rank r ranking.ranks) ranks ∙ ranks_after_install ranking.ranks held i scrub are.in_order ∙ ap (λ hs. ranked (map rank_of hs)) (sym rows);
     room_is = ap (λ (r : RankingValue). r.room) now ∙ are.room_is;
   },
-  subst (λ (hs : List HeldScrub). HasEachSlot room free hs) (sym rows) (after_install room before free slot held i scrub taken is within has))
+  subst (λ (hs : List HeldScrub). HasEachSlot room free hs) (sym rows) (after_install room before free slot held i scrub taken is within has),
+)
 
 pub rank_there : (room : ℕ) (ranking : RankingValue) (rank : Rank) (held : List HeldScrub) (i : ℕ) (scrub : HeldScrub)
     → RanksAre ranking room held → i < length held → get_or held i scrub ≡ scrub → rank ≡ rank_of scrub
@@ -155,7 +163,8 @@ removed room ranking after rank free given held later i scrub are has within is 
     room_is = ap (λ (r : RankingValue). r.room) now ∙ are.room_is;
   },
   subst (λ (hs : List HeldScrub). HasEachSlot room given hs) (sym rows)
-    (subst (λ (slots : List ℕ). HasEachSlot room slots (remove held i)) (sym back) (after_removal room free held i scrub within is has)))
+      (subst (λ (slots : List ℕ). HasEachSlot room slots (remove held i)) (sym back) (after_removal room free held i scrub within is has)),
+)
 
 abbrev pub scrubs_value : ℕ → List HeldScrub → ScrubsValue
 scrubs_value room held = record { room = room; held = held }
@@ -184,11 +193,12 @@ pub changed : (f : HeldScrub → HeldScrub) → ((x : HeldScrub) → rank_of (f 
     → RanksAre ranking room held → HasEachSlot room free held → later ≡ map f held → RanksAre ranking room later × HasEachSlot room free later
 changed f same room ranking free held later are has rows =
     let slots : (x : HeldScrub) → (f x).slot ≡ x.slot = λ x. ap (λ (r : Rank). r.slot) (same x) in (
-  record { in_order = are.in_order ∙ ap ranked (sym (ap (map rank_of) rows ∙ same_ranks f same held)); room_is = are.room_is },
-  record {
-    once = λ s. omega (arith, has.once s, same_counts f slots s held, ap (count_by (λ (x : HeldScrub). x.slot == s)) rows);
-    number = omega (arith, has.number, ap length rows, length-map held f);
-  })
+      record { in_order = are.in_order ∙ ap ranked (sym (ap (map rank_of) rows ∙ same_ranks f same held)); room_is = are.room_is },
+      record {
+        once = λ s. omega (arith, has.once s, same_counts f slots s held, ap (count_by (λ (x : HeldScrub). x.slot == s)) rows);
+        number = omega (arith, has.number, ap length rows, length-map held f);
+      },
+    )
 
 pub woken_rank : (domain : ℕ) (cuid : List ℕ) (mid : ℕ) (active : Bool) (x : HeldScrub) → rank_of (woken domain cuid mid active x) ≡ rank_of x
 woken_rank domain cuid mid active x =
@@ -201,7 +211,7 @@ first_out : (p : HeldScrub → Bool) (xs : List HeldScrub) → position_or_len p
 first_out p [] within = absurd (omega arith)
 first_out p (x ∷ xs) below =
     elim (p x) as (λ v. p x ≡ v → cond (not v) (1 + position_or_len p xs) 0 < length (x ∷ xs)
-        → filter (λ y. not (p y)) (remove (x ∷ xs) (cond (not v) (1 + position_or_len p xs) 0)) ≡ cond (not v) (x ∷ filter (λ y. not (p y)) xs) (filter (λ y. not (p y)) xs)) [
+    → filter (λ y. not (p y)) (remove (x ∷ xs) (cond (not v) (1 + position_or_len p xs) 0)) ≡ cond (not v) (x ∷ filter (λ y. not (p y)) xs) (filter (λ y. not (p y)) xs)) [
       | true ↦ λ is within. refl
       | false ↦ λ is within. rw (one-add (position_or_len p xs)) rw is (ap (λ ys. x ∷ ys) (first_out p xs (omega (arith, within))))
     ] refl below

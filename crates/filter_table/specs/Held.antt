@@ -114,3 +114,17 @@ renumbered_from place_of at last number (x ∷ xs) =
 abbrev pub renumbered : {A : Type 0} → (A → ℕ) → (ℕ → A → A) → List A → List A
 renumbered place_of at [] = []
 renumbered place_of at (x ∷ xs) = renumbered_from place_of at (place_of x) 0 (x ∷ xs)
+
+-- ---- what a table comes to
+
+abbrev pub row_of_scrub : HeldScrub → ScrubRow
+row_of_scrub scrub = scrub.row
+
+abbrev pub row_of_acl : HeldAcl → AclRow
+row_of_acl list = list.row
+
+abbrev pub is_active : ScrubRow → Bool
+is_active row = row.active
+
+abbrev pub active_rows : List HeldScrub → List ScrubRow
+active_rows held = filter is_active (map row_of_scrub held)

@@ -1,3 +1,4 @@
 pub mod Held
 pub mod Ranks
 pub mod Slots
+pub mod Table

@@ -6,7 +6,7 @@ ghost use Rattle.filter_table.specs.Held.{ScrubsValue, scrub_in, with_scrub, is_
 ghost use Rattle.filter_table.specs.Slots.{HasEachSlot};
 ghost use Rattle.filter_table.specs.Ranks.{kind_of, rank_of, ranked, is_of_kind, slot_of};
 
-use crate::held::HeldScrub;
+use crate::held::{HeldScrub, is_of_client, number_after};
 use crate::rank::{Rank, kind_of};
 use crate::ranking::Ranking;
 use dots_lists::NoMemory;
@@ -59,8 +59,8 @@ impl Scrubs {
     pub fn install(&mut self, place: u64, row: ScrubRow)
         requires { length self.old.held < self.old.room }
         ensures { (slot : ℕ) × (slot < self.old.room) × (scrub_in slot self.old.held ≡ None) × (self.new ≡ record {
-            room = self.old.room;
-            held = with_scrub (record { slot = slot; place = place; row = row }) self.old.held;
+          room = self.old.room;
+          held = with_scrub (record { slot = slot; place = place; row = row }) self.old.held;
         }) }
     {
         let slot = match self.free.pop() {
@@ -113,6 +113,14 @@ impl Scrubs {
         wake_rows(&mut self.held, domain, cuid, mid, active);
     }
 
+    /// Gives the rows places from 0 on in their order, equal places staying equal.
+    pub fn renumber(&mut self)
+        ensures { self.new ≡ record { room = self.old.room; held = renumbered place_of_scrub scrub_at_place self.old.held } }
+    {
+        renumber_rows(&mut self.held);
+        rank_all(&mut self.ranking, self.held.as_slice());
+    }
+
     /// The rows in order of place.
     pub fn held(&self) -> &[HeldScrub]
         ensures { result.now ≡ self.now.held }
@@ -163,14 +171,15 @@ fn place_after(place: u64, held: &[HeldScrub]) -> usize
 fn is_of(scrub: &HeldScrub, domain: u16, cuid: &[u8], mid: u32) -> bool
     ensures { result ≡ is_of domain cuid.now mid scrub.now }
 {
-    scrub.row.domain == domain && scrub.row.cuid.bytes() == cuid && scrub.row.mid == mid
+    is_of_client(domain, cuid, scrub.row.domain, &scrub.row.cuid) && scrub.row.mid == mid
 }
 
 /// The position of the first row of this mitigation.
 fn position_of(held: &[HeldScrub], domain: u16, cuid: &[u8], mid: u32) -> Option<usize>
     ensures { result ≡ position (is_of domain cuid.now mid) held.now }
 {
-    held.iter().position(|scrub| is_of(scrub, domain, cuid, mid))
+    held.iter()
+        .position(|scrub| is_of(scrub, domain, cuid, mid))
 }
 
 /// The row that stands in this slot.
@@ -200,5 +209,39 @@ fn wake_one(scrub: &mut HeldScrub, domain: u16, cuid: &[u8], mid: u32, active: b
 {
     if is_of(scrub, domain, cuid, mid) {
         scrub.row.active = active;
+    }
+}
+
+fn renumber_rows(held: &mut Vec<HeldScrub>)
+    ensures items { held.new.items ≡ renumbered place_of_scrub scrub_at_place held.old.items }
+    ensures capacity { vec_capacity held.new ≡ vec_capacity held.old }
+{
+    renumber_all(held.as_mut_slice());
+}
+
+fn renumber_all(held: &mut [HeldScrub])
+    ensures { held.new ≡ renumbered place_of_scrub scrub_at_place held.old }
+{
+    let Some(first) = held.first() else {
+        return;
+    };
+    let mut last = first.place;
+    let mut number = 0;
+    for scrub in held.iter_mut() {
+        let place = scrub.place;
+        number = number_after(last, number, place);
+        last = place;
+        scrub.place = number;
+    }
+}
+
+/// Ranks these rows and no others.
+fn rank_all(ranking: &mut Ranking, held: &[HeldScrub])
+    requires { length held.now ≤ ranking.old.room }
+    ensures { ranking.new ≡ record { room = ranking.old.room; ranks = ranked (map rank_of held.now) } }
+{
+    ranking.clear();
+    for scrub in held {
+        ranking.put(Rank::of(scrub));
     }
 }

@@ -1,4 +1,4 @@
-use Rattle.std.proofs.Common.{◌≡◌, ℕ, ◌≤◌, vec_capacity, length}
+use Rattle.std.proofs.Common.{◌≡◌, ◌≤◌, vec_capacity, length}
 use Rattle.filter_table.proofs.Slots.{below}
 use Rattle.filter_table.proofs.scrubs.all_slots.Given as goal
 

@@ -21,8 +21,9 @@ invariant_of-self c =
 
 pub returns : goal.returns
 returns c =
-    let rows : c.insert-room_was_reserved.new.self.items ≡ insert c.self.inside.held.items c.place_after-at.result (record { slot = c.in-Some.slot; place = c.args.place; row = c.args.row }) = grind (arith, common_steps) in
-    (c.in-Some.slot,
+    let rows : c.insert-room_was_reserved.new.self.items ≡ insert c.self.inside.held.items c.place_after-at.result (record { slot = c.in-Some.slot; place = c.args.place; row = c.args.row }) = grind (arith, common_steps) in (
+      c.in-Some.slot,
       subst (λ (o : ScrubsValue). c.in-Some.slot < o.room) c.self.view_is (slot_within _ _ _ _ _ c.in-Some.ensures.items c.self.invariant.1),
       subst (λ (o : ScrubsValue). scrub_in c.in-Some.slot o.held ≡ None) c.self.view_is (none_in _ _ _ _ _ c.in-Some.ensures.items c.self.invariant.1),
-      installed_value _ _ _ _ _ _ c.self.view_is (c.place_after-at.ensures.value ∙ ap (prefix_len (λ (other : HeldScrub). nat_le other.place c.args.place)) c.as_slice.ensures.value) rows)
+      installed_value _ _ _ _ _ _ c.self.view_is (c.place_after-at.ensures.value ∙ ap (prefix_len (λ (other : HeldScrub). nat_le other.place c.args.place)) c.as_slice.ensures.value) rows,
+    )

@@ -1,4 +1,4 @@
-use Rattle.std.proofs.Common.{arith, sym, ◌≡◌, ◌<◌, length}
+use Rattle.std.proofs.Common.{arith, sym, ◌<◌, length}
 use Rattle.filter_table.proofs.Slots.{rank_there, removed}
 use Rattle.filter_table.proofs.scrubs.Scrubs.take_out.Goals as goal
 
@@ -11,5 +11,5 @@ pub invariant_of-self : goal.invariant_of-self
 invariant_of-self c =
     let within : c.args.at < length c.self.inside.held.items = grind (arith, c.self.view_is, c.requires) in
     let kept = removed _ _ _ _ _ _ _ _ _ _ c.self.invariant.0 c.self.invariant.1 within (sym c.remove-scrub.ensures.value) c.of.ensures
-      c.push_reserved.ensures.items c.remove-scrub.ensures.items c.take.ensures in
+    c.push_reserved.ensures.items c.remove-scrub.ensures.items c.take.ensures in
     (kept.0, kept.1, omega arith, omega arith)
