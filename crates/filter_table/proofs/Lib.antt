@@ -2,3 +2,4 @@ pub mod Ranked
 pub mod Order
 pub mod Places
 pub mod Slots
+pub mod There

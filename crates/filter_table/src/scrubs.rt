@@ -1,6 +1,6 @@
 //! The rows of mitigations, each in a slot of its own.
 
-ghost use Rattle.std.specs.Prelude.{◌≡◌, ℕ, ◌<◌, ◌≤◌, ◌^◌, [], None, Some, true, false, not, map, filter, length, nat_le, option_map, option_copied, IsSome, IfOk, vec_capacity};
+ghost use Rattle.std.specs.Prelude.{◌≡◌, ℕ, ◌<◌, ◌≤◌, ◌^◌, [], None, Some, true, false, not, map, filter, length, nat_le, nat_lt, option_map, option_copied, IsSome, IfOk, vec_capacity};
 ghost use Rattle.std.specs.List.{prefix_len, position, remove};
 ghost use Rattle.filter_table.specs.Held.{ScrubsValue, scrub_in, with_scrub, is_of, is_of_client, without_mitigation, woken, renumbered, scrub_at_place, place_of_scrub};
 ghost use Rattle.filter_table.specs.Slots.{HasEachSlot};
@@ -53,6 +53,13 @@ impl Scrubs {
             ranking: Ranking::new(alloc, room)?,
             room,
         })
+    }
+
+    /// Whether there is room for one more row.
+    pub fn has_room(&self) -> bool
+        ensures { result ≡ nat_lt (length self.now.held) self.now.room }
+    {
+        self.held.len() < self.room
     }
 
     /// Puts a row into a free slot, behind those whose place is not greater.

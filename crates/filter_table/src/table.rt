@@ -1,5 +1,5 @@
-ghost use Rattle.std.specs.Prelude.{◌≡◌, ℕ, ◌+◌, ◌<◌, ◌≤◌, ◌^◌, [], None, Some, map, filter, length, option_map, IsSome, IfOk};
-ghost use Rattle.std.specs.List.{AllByRecursion};
+ghost use Rattle.std.specs.Prelude.{◌≡◌, ℕ, ◌+◌, ◌<◌, ◌≤◌, ◌^◌, [], None, Some, map, filter, length, nat_lt, option_map, IsSome, IfOk};
+ghost use Rattle.std.specs.List.{All, AllByRecursion};
 ghost use Rattle.filter_rows.specs.Told.{fate_of};
 ghost use Rattle.filter_rows.specs.Fates.{fate_by_rows};
 ghost use Rattle.filter_table.specs.Held.{scrub_in, with_scrub, without_mitigation, woken, with_acl, without_acl, activated, renumbered, place_of_scrub, scrub_at_place, place_of_acl, acl_at_place, row_of_scrub, row_of_acl, active_rows};
@@ -52,6 +52,13 @@ impl FilterTable {
         })
     }
 
+    /// Whether there is room for one more row of a mitigation.
+    pub fn has_scrub_room(&self) -> bool
+        ensures { result ≡ nat_lt (length self.now.scrubs) self.now.scrub_room }
+    {
+        self.scrubs.has_room()
+    }
+
     /// Puts the row of a mitigation into a free slot. Which one is left open. No other row changes its slot.
     pub fn install(&mut self, place: u64, row: ScrubRow)
         requires { length self.old.scrubs < self.old.scrub_room }
@@ -87,6 +94,13 @@ impl FilterTable {
         } }
     {
         self.scrubs.wake(domain, cuid, mid, active);
+    }
+
+    /// Whether the row of this client's list of this name is there, or there is room for it.
+    pub fn has_acl_room(&self, domain: u16, cuid: &[u8], name: &Name) -> bool
+        ensures { result ≡ nat_lt (length (without_acl domain cuid.now name.now self.now.acls)) self.now.acl_room }
+    {
+        self.acls.has_room(domain, cuid, name.bytes())
     }
 
     /// Puts the row of an access list in place of that of the same client and name. It is there, or there is room.
@@ -173,7 +187,8 @@ impl FilterTable {
     /// The slots of the rows of mitigations, active or not, whose prefix has this family and length, each once, in order of
     /// the prefix's number and then of place.
     pub fn slots_of(&self, family: Family, length: u8) -> &[u32]
-        ensures { result.now ≡ slots_of family length self.now.scrubs }
+        ensures value { result.now ≡ slots_of family length self.now.scrubs }
+        ensures there { All (λ slot. IsSome (scrub_in slot self.now.scrubs)) result.now }
     {
         self.scrubs.slots_of(family, length)
     }
