@@ -3,3 +3,4 @@ pub mod Order
 pub mod Places
 pub mod Slots
 pub mod There
+pub mod Orders

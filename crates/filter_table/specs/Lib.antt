@@ -2,3 +2,4 @@ pub mod Held
 pub mod Ranks
 pub mod Slots
 pub mod Table
+pub mod Laws

@@ -10,6 +10,7 @@
 mod acls;
 mod fates;
 mod held;
+pub mod laws;
 mod rank;
 mod ranking;
 mod rows;

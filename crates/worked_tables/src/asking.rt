@@ -70,11 +70,7 @@ fn told(fate: &Fate<'_>) -> (&'static str, u32) {
 }
 
 /// The fate of a packet of UDP without ports to this address of IPv4.
-pub fn fate(
-    alloc: Global,
-    acts: &[Act<'_>],
-    number: u32,
-) -> Result<(&'static str, u32), Fail> {
+pub fn fate(alloc: Global, acts: &[Act<'_>], number: u32) -> Result<(&'static str, u32), Fail> {
     let address = Addr {
         family: Family::V4,
         number: u128::from(number),
