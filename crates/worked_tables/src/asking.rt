@@ -30,9 +30,11 @@ pub fn in_slots(
 pub fn listed(alloc: Global, acts: &[Act<'_>]) -> Result<[u32; 4], Fail> {
     let table = table(alloc, acts)?;
     let mut mids = [0; 4];
-    for (at, row) in table.scrubs().enumerate() {
+    let mut at = 0;
+    for row in table.scrubs() {
         if at < 4 {
             mids[at] = row.mid;
+            at += 1;
         }
     }
     Ok(mids)
@@ -42,9 +44,11 @@ pub fn listed(alloc: Global, acts: &[Act<'_>]) -> Result<[u32; 4], Fail> {
 pub fn lists(alloc: Global, acts: &[Act<'_>]) -> Result<[usize; 3], Fail> {
     let table = table(alloc, acts)?;
     let mut lengths = [0; 3];
-    for (at, row) in table.acls().enumerate() {
+    let mut at = 0;
+    for row in table.acls() {
         if at < 3 {
             lengths[at] = row.acl.name.bytes().len();
+            at += 1;
         }
     }
     Ok(lengths)
