@@ -1,0 +1,8 @@
+-- the rows before the one at hand are changed
+use Rattle.std.proofs.Common.{◌≡◌, ◌++◌, map, take, drop}
+use Rattle.filter_table.specs.Held.{activated}
+use Rattle.filter_table.proofs.acls.activate_all.Given as goal
+
+abbrev pub invariant-loop-list : goal.invariant-loop-list
+invariant-loop-list l =
+    l.held ≡ map (activated l.domain l.cuid l.active) (take l.list-index l.fn.held) ++ drop l.list-index l.fn.held

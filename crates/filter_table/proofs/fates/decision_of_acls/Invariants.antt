@@ -1,0 +1,11 @@
+-- what the lists of the rest say, those of all say
+use Rattle.std.proofs.Common.{◌≡◌, map, drop}
+use Rattle.filter_rows.specs.Fates.{decision_of_rows}
+use Rattle.filter_table.specs.Held.{row_of_acl}
+use Rattle.filter_table.specs.Table.{prefixes_of}
+use Rattle.filter_table.proofs.fates.decision_of_acls.Given as goal
+
+abbrev pub invariant-loop-list : goal.invariant-loop-list
+invariant-loop-list l =
+    decision_of_rows (prefixes_of l.settings) l.packet (map row_of_acl (drop l.list-index l.acls))
+    ≡ decision_of_rows (prefixes_of l.settings) l.packet (map row_of_acl l.acls)

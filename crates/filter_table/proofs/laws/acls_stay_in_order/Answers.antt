@@ -1,0 +1,12 @@
+use Rattle.std.proofs.Common.{not, refl}
+use Rattle.filter_table.specs.Held.{is_named, activated, place_of_acl, acl_at_place}
+use Rattle.filter_table.proofs.Orders.{order_insert, order_filter, order_map, order_renumbered, activated_place}
+use Rattle.filter_table.proofs.laws.acls_stay_in_order.Goals as goal
+
+pub returns : goal.returns
+returns c = record {
+  set = λ list held order. order_insert place_of_acl list held order;
+  dropped = λ domain cuid name held order. order_filter place_of_acl (λ list. not (is_named domain cuid name list)) held order;
+  activated = λ domain cuid active held order. order_map place_of_acl (activated domain cuid active) (activated_place domain cuid active) held order;
+  renumbered = λ held. order_renumbered place_of_acl acl_at_place (λ n x. refl) held;
+}

@@ -1,0 +1,12 @@
+use Rattle.std.proofs.Common.{not, refl}
+use Rattle.filter_table.specs.Held.{is_of, woken, place_of_scrub, scrub_at_place}
+use Rattle.filter_table.proofs.Orders.{order_insert, order_filter, order_map, order_renumbered, woken_place}
+use Rattle.filter_table.proofs.laws.scrubs_stay_in_order.Goals as goal
+
+pub returns : goal.returns
+returns c = record {
+  installed = λ scrub held order. order_insert place_of_scrub scrub held order;
+  removed = λ domain cuid mid held order. order_filter place_of_scrub (λ scrub. not (is_of domain cuid mid scrub)) held order;
+  woken = λ domain cuid mid active held order. order_map place_of_scrub (woken domain cuid mid active) (woken_place domain cuid mid active) held order;
+  renumbered = λ held. order_renumbered place_of_scrub scrub_at_place (λ n x. refl) held;
+}

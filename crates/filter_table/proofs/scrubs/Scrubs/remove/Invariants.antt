@@ -1,0 +1,12 @@
+-- what is left once this mitigation's rows are out stays the same
+use Rattle.std.proofs.Common.{◌≡◌, length}
+use Rattle.filter_table.specs.Held.{without_mitigation}
+use Rattle.filter_table.proofs.scrubs.Scrubs.remove.Given as goal
+
+abbrev pub invariant-loop : goal.invariant-loop
+invariant-loop l =
+    (l.self.room ≡ l.fn.self.room)
+    × (without_mitigation l.domain l.cuid l.mid l.self.held ≡ without_mitigation l.domain l.cuid l.mid l.fn.self.held)
+
+abbrev pub decreases-loop : goal.decreases-loop
+decreases-loop l = length l.self.held

@@ -1,0 +1,130 @@
+-- The rows that a filter table holds, in order of place, and what each call makes of them.
+use Rattle.std.specs.Prelude.{ℕ, ◌+◌, Bool, not, ◌&&◌, ◌==◌, nat_le, true, false, if◌then◌else◌, List, [], ◌∷◌, map, filter, Option, bytes_eq}
+use Rattle.std.specs.List.{insert, prefix_len, find}
+use Rattle.acl_lists.specs.declared.acl.Activation.{Activation}
+use Rattle.acl_lists.specs.declared.acl.Activation.TheVariants.{WhenMitigating, Immediate, Deactivate}
+use Rattle.filter_rows.specs.declared.rows.ScrubRow.{ScrubRow}
+use Rattle.filter_rows.specs.declared.rows.AclRow.{AclRow}
+use Rattle.filter_table.specs.declared.held.HeldScrub.{HeldScrub}
+use Rattle.filter_table.specs.declared.held.HeldAcl.{HeldAcl}
+
+-- the rows of mitigations, in order of place, and how many there may be
+pub record ScrubsValue : Type 0 where
+  pub room : ℕ
+  pub held : List HeldScrub
+
+-- the rows of access lists, in order of place, and how many there may be
+pub record AclsValue : Type 0 where
+  pub room : ℕ
+  pub held : List HeldAcl
+
+-- the client of a row is the one of this name in this domain
+abbrev pub is_of_client : ℕ → List ℕ → ℕ → List ℕ → Bool
+is_of_client domain cuid row_domain row_cuid = (row_domain == domain) && bytes_eq row_cuid cuid
+
+-- ---- rows of mitigations
+
+-- the row that stands in a slot
+abbrev pub scrub_in : ℕ → List HeldScrub → Option HeldScrub
+scrub_in slot held = find (λ (scrub : HeldScrub). scrub.slot == slot) held
+
+-- one more row, behind those whose place is not greater
+abbrev pub with_scrub : HeldScrub → List HeldScrub → List HeldScrub
+with_scrub scrub held = insert held (prefix_len (λ (other : HeldScrub). nat_le other.place scrub.place) held) scrub
+
+-- the row is one of this mitigation
+abbrev pub is_of : ℕ → List ℕ → ℕ → HeldScrub → Bool
+is_of domain cuid mid scrub = is_of_client domain cuid scrub.row.domain scrub.row.cuid && (scrub.row.mid == mid)
+
+abbrev pub without_mitigation : ℕ → List ℕ → ℕ → List HeldScrub → List HeldScrub
+without_mitigation domain cuid mid held = filter (λ scrub. not (is_of domain cuid mid scrub)) held
+
+abbrev pub scrub_set : Bool → HeldScrub → HeldScrub
+scrub_set active scrub = record {
+  slot = scrub.slot;
+  place = scrub.place;
+  row = record {
+    domain = scrub.row.domain;
+    cuid = scrub.row.cuid;
+    mid = scrub.row.mid;
+    prefix = scrub.row.prefix;
+    ports = scrub.row.ports;
+    protocols = scrub.row.protocols;
+    active = active;
+  };
+}
+
+-- a row of this mitigation is active or not, as said; another is as it was
+abbrev pub woken : ℕ → List ℕ → ℕ → Bool → HeldScrub → HeldScrub
+woken domain cuid mid active scrub = if is_of domain cuid mid scrub then scrub_set active scrub else scrub
+
+abbrev pub scrub_at_place : ℕ → HeldScrub → HeldScrub
+scrub_at_place place scrub = record { slot = scrub.slot; place = place; row = scrub.row }
+
+abbrev pub place_of_scrub : HeldScrub → ℕ
+place_of_scrub scrub = scrub.place
+
+-- ---- rows of access lists
+
+-- one more row, behind those whose place is not greater
+abbrev pub with_acl : HeldAcl → List HeldAcl → List HeldAcl
+with_acl list held = insert held (prefix_len (λ (other : HeldAcl). nat_le other.place list.place) held) list
+
+-- the row is that of this client's list of this name
+abbrev pub is_named : ℕ → List ℕ → List ℕ → HeldAcl → Bool
+is_named domain cuid name list = is_of_client domain cuid list.row.domain list.row.cuid && bytes_eq list.row.acl.name name
+
+abbrev pub without_acl : ℕ → List ℕ → List ℕ → List HeldAcl → List HeldAcl
+without_acl domain cuid name held = filter (λ list. not (is_named domain cuid name list)) held
+
+abbrev pub waits : Activation → Bool
+waits WhenMitigating = true
+waits Immediate = false
+waits Deactivate = false
+
+abbrev pub acl_set : Bool → HeldAcl → HeldAcl
+acl_set active list = record {
+  place = list.place;
+  row = record { domain = list.row.domain; cuid = list.row.cuid; acl = list.row.acl; active = active };
+}
+
+-- a row of this client whose list is active while the client mitigates is active or not, as said; another is as it was
+abbrev pub activated : ℕ → List ℕ → Bool → HeldAcl → HeldAcl
+activated domain cuid active list =
+    if is_of_client domain cuid list.row.domain list.row.cuid && waits list.row.acl.activation then acl_set active list else list
+
+abbrev pub acl_at_place : ℕ → HeldAcl → HeldAcl
+acl_at_place place list = record { place = place; row = list.row }
+
+abbrev pub place_of_acl : HeldAcl → ℕ
+place_of_acl list = list.place
+
+-- ---- places anew
+
+-- the number of a row behind one of this place and number: the same where their places are equal, and else the next
+abbrev pub number_after : ℕ → ℕ → ℕ → ℕ
+number_after last number place = if place == last then number else number + 1
+
+abbrev pub renumbered_from : {A : Type 0} → (A → ℕ) → (ℕ → A → A) → ℕ → ℕ → List A → List A
+renumbered_from place_of at last number [] = []
+renumbered_from place_of at last number (x ∷ xs) =
+    at (number_after last number (place_of x)) x ∷ renumbered_from place_of at (place_of x) (number_after last number (place_of x)) xs
+
+-- rows in order of place get places from 0 on in their order, where equal places stay equal
+abbrev pub renumbered : {A : Type 0} → (A → ℕ) → (ℕ → A → A) → List A → List A
+renumbered place_of at [] = []
+renumbered place_of at (x ∷ xs) = renumbered_from place_of at (place_of x) 0 (x ∷ xs)
+
+-- ---- what a table comes to
+
+abbrev pub row_of_scrub : HeldScrub → ScrubRow
+row_of_scrub scrub = scrub.row
+
+abbrev pub row_of_acl : HeldAcl → AclRow
+row_of_acl list = list.row
+
+abbrev pub is_active : ScrubRow → Bool
+is_active row = row.active
+
+abbrev pub active_rows : List HeldScrub → List ScrubRow
+active_rows held = filter is_active (map row_of_scrub held)

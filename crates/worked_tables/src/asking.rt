@@ -1,0 +1,91 @@
+//! What a table says, as plain values.
+
+use crate::filling::{Act, table};
+use acl_lists::Packet;
+use dots_host::MemorySource;
+use dots_settings::{Settings, read_settings};
+use filter_rows::Fate;
+use ip_scope::{Addr, Family};
+use std::alloc::Global;
+use std::test::Fail;
+
+/// The mids of the rows whose prefix has this family and length, in the order of their slots.
+pub fn in_slots(
+    alloc: Global,
+    acts: &[Act<'_>],
+    family: Family,
+    length: u8,
+) -> Result<[u32; 4], Fail> {
+    let table = table(alloc, acts)?;
+    let mut mids = [0; 4];
+    for (at, slot) in table.slots_of(family, length).iter().enumerate() {
+        if at < 4 {
+            mids[at] = table.scrub_at(*slot).mid;
+        }
+    }
+    Ok(mids)
+}
+
+/// The mids of the active rows, in order.
+pub fn listed(alloc: Global, acts: &[Act<'_>]) -> Result<[u32; 4], Fail> {
+    let table = table(alloc, acts)?;
+    let mut mids = [0; 4];
+    let mut at = 0;
+    for row in table.scrubs() {
+        if at < 4 {
+            mids[at] = row.mid;
+            at += 1;
+        }
+    }
+    Ok(mids)
+}
+
+/// The lengths of the names of the lists, in order.
+pub fn lists(alloc: Global, acts: &[Act<'_>]) -> Result<[usize; 3], Fail> {
+    let table = table(alloc, acts)?;
+    let mut lengths = [0; 3];
+    let mut at = 0;
+    for row in table.acls() {
+        if at < 3 {
+            lengths[at] = row.acl.name.bytes().len();
+            at += 1;
+        }
+    }
+    Ok(lengths)
+}
+
+fn settings(alloc: Global) -> Result<Settings, Fail> {
+    let text = b"domain net\nprefix net 192.0.2.0/24\nclient 0 net\n";
+    let mut source = MemorySource::new(alloc, text)?;
+    match read_settings(alloc, &mut source) {
+        Ok(settings) => Ok(settings),
+        Err(_) => Err(Fail::from("settings")),
+    }
+}
+
+/// What is said of a fate, with the mid where it is scrubbed.
+fn told(fate: &Fate<'_>) -> (&'static str, u32) {
+    match fate {
+        Fate::Pass => ("pass", 0),
+        Fate::Accepted { .. } => ("accepted", 0),
+        Fate::Dropped { .. } => ("dropped", 0),
+        Fate::Scrubbed { mid } => ("scrubbed", *mid),
+    }
+}
+
+/// The fate of a packet of UDP without ports to this address of IPv4.
+pub fn fate(alloc: Global, acts: &[Act<'_>], number: u32) -> Result<(&'static str, u32), Fail> {
+    let address = Addr {
+        family: Family::V4,
+        number: u128::from(number),
+    };
+    let packet = Packet {
+        source: address,
+        destination: address,
+        protocol: 17,
+        ports: None,
+    };
+    let settings = settings(alloc)?;
+    let table = table(alloc, acts)?;
+    Ok(told(&table.fate(&packet, &settings)))
+}
