@@ -1,7 +1,7 @@
 //! The program `dots`: it makes the real sources and sinks, calls [`run_script`], and ends with its status.
 #![tactic(auto)]
 
-ghost use Rattle.std.specs.Prelude.{◌≡◌, ◌⊎◌, ℕ, List, map, string_bytes};
+ghost use Rattle.std.specs.Prelude.{◌≡◌, ◌⊎◌, map, string_bytes, IfOk, OnErr};
 ghost use Rattle.dots.specs.Programs.{HasRun};
 
 use dots_host::{NoMemory, StdSink, StdSource};
@@ -41,16 +41,18 @@ fn run_program(rt: &HostRuntime, words: &[String]) -> u8
     run_script(rt.alloc(), words, &mut settings, script, sends, &mut report).status
 }
 
-/// The exit status: that of the run over the words of the command line, or 4 where no memory is found for them.
-fn exit_status(rt: &HostRuntime) -> u8
-    ensures { (result ≡ 4) ⊎ ((words : List (List ℕ)) × HasRun words result) }
+/// The exit status: that of the run over the words, or 4 where no memory was found for them.
+fn exit_status(rt: &HostRuntime, words: &Result<Vec<String>, NoMemory>) -> u8
+    ensures ran { IfOk words.now (λ words. (result ≡ 4) ⊎ HasRun (map string_bytes words.items) result) }
+    ensures lacks { OnErr words.now (result ≡ 4) }
 {
-    match words_of(rt) {
+    match words {
         Ok(words) => run_program(rt, words.as_slice()),
         Err(_) => NO_MEMORY,
     }
 }
 
 fn main(rt: HostRuntime) -> ExitCode {
-    ExitCode::from(exit_status(&rt))
+    let words = words_of(&rt);
+    ExitCode::from(exit_status(&rt, &words))
 }
