@@ -15,7 +15,7 @@ use Rattle.cbor_profile.specs.Valid.{IsBefore, RiseFrom, KeysRise, ArePairsSound
 use Rattle.cbor_profile.proofs.Heads.{Size, none, one, two, four, eight, size_of}
 use Rattle.dots_keys.specs.declared.keys.Role.TheVariants as role
 use Rattle.dots_keys.specs.Fields.{Field, fields_in, field_before, all_unsigned, number_of, AllAbove, Ascend}
-use Rattle.dots_keys.specs.Keys.{role_of, is_known, is_ignored}
+use Rattle.dots_keys.specs.Keys.{key_role, is_known, is_ignored}
 
 -- ---- bytes, the highest first
 
@@ -176,7 +176,7 @@ above_more m n [] below all = tt
 above_more m n (field ∷ fields) below all = let first : n < number_of field = all.0 in (omega arith, above_more m n fields below all.1)
 
 field_ascends : (m n : ℕ) (value : Tree) (fields : List Field) → m < n → AllAbove n fields → Ascend fields
-    → AllAbove m (field_before (role_of n) value fields) × Ascend (field_before (role_of n) value fields)
+    → AllAbove m (field_before (key_role n) value fields) × Ascend (field_before (key_role n) value fields)
 field_ascends m n value fields below above ascend = by_role (is_known n) (is_ignored n)
   where
     by_role : (a b : Bool) → AllAbove m (field_before (cond a (role.Known n) (cond b role.Ignored (role.Unknown n))) value fields)

@@ -28,7 +28,7 @@ use Rattle.dots_keys.specs.Fields.{Field, known, unknown, fields_of, each_field,
 use Rattle.dots_heads.specs.Heads.{Head, refuse_critical, refuse_hop_limit, refuse_media, refuse_format, content_of, head_of}
 use Rattle.dots_keys.specs.Heartbeats.{heartbeat_of}
 use Rattle.dots_keys.specs.Lifetimes.{HasLifetime}
-use Rattle.dots_keys.specs.Meaning.{AnswersBody, Completes, Answers, put_mitigation_with, put_config_with, put_heartbeat_with}
+use Rattle.dots_keys.specs.Meaning.{AnswersBody, Completes, ReadsAs, put_mitigation_with, put_config_with, put_heartbeat_with}
 use Rattle.dots_keys.specs.Mitigations.{each_item, at_most, array_under, prefix_of, range_of, protocol_of, name_of, lifetime_of, refuse_trigger, scope_key_of, take_target, scope_field, nothing_asked, has_target, with_lifetime, whole_scope, scope_of, only_item, only_scope, mitigation_of}
 use Rattle.dots_heads.specs.Operations.{Operation, put_mitigation, get_mitigation, delete_mitigation, put_config, get_config, delete_config, put_heartbeat, method_of, is_client_name, client_name, identifier, optional, mandatory, domain_of, mitigation_path, with_mid, mitigation_operation, config_operation, operation_of}
 use Rattle.dots_heads.specs.Options.{first_critical, value_of, values_of}
@@ -252,7 +252,7 @@ completes_ok put_heartbeat content observe payload answer names is =
     body_ok payload put_heartbeat_with answer (λ tree. then_ok (heartbeat_of tree) _ IsAskable (λ heard. tt)) is
 
 -- the request that answers a message and its payload
-pub answered_askable : (message : CoapMessage) (gateway : Bool) (head : Head) (payload : List ℕ) (answer : Result Request Reject) → head_of message gateway ≡ Ok head → UnlessNoMemory answer (Answers (Ok head) payload answer) → IfOk answer IsAskable
+pub answered_askable : (message : CoapMessage) (gateway : Bool) (head : Head) (payload : List ℕ) (answer : Result Request Reject) → head_of message gateway ≡ Ok head → UnlessNoMemory answer (ReadsAs (Ok head) payload answer) → IfOk answer IsAskable
 answered_askable message gateway head payload (Ok request) read is =
     completes_ok head.operation head.content head.observe payload (Ok request) (IfOk-at_ok HeadHasParameters read (head_ok message gateway)) is
 answered_askable message gateway head payload (Err refusal) read is = tt

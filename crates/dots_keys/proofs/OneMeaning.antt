@@ -13,7 +13,7 @@ use Rattle.dots_heads.specs.declared.request.Content.{Content}
 use Rattle.dots_heads.specs.declared.request.Observe.{Observe}
 use Rattle.dots_keys.specs.declared.request.Request.{Request}
 use Rattle.dots_heads.specs.Heads.{Head, head_of}
-use Rattle.dots_keys.specs.Meaning.{IsBody, AnswersBody, Completes, Answers, Means, put_mitigation_with, put_config_with, put_heartbeat_with}
+use Rattle.dots_keys.specs.Meaning.{IsBody, AnswersBody, Completes, ReadsAs, Means, put_mitigation_with, put_config_with, put_heartbeat_with}
 use Rattle.dots_heads.specs.Operations.{Operation, put_mitigation, get_mitigation, delete_mitigation, put_config, get_config, delete_config, put_heartbeat}
 use Rattle.dots_heads.specs.Results.{◌>>=◌}
 
@@ -60,7 +60,7 @@ completes_once (get_config sid) content observe payload a b one x y = x ∙ sym 
 completes_once (delete_config sid) content observe payload a b one x y = x ∙ sym y
 completes_once put_heartbeat content observe payload a b one x y = one_answer payload put_heartbeat_with a b one x y
 
-answers_once : (head : Result Head Reject) (payload : List ℕ) (a b : Result Request Reject) → OneReading payload → Answers head payload a → Answers head payload b → a ≡ b
+answers_once : (head : Result Head Reject) (payload : List ℕ) (a b : Result Request Reject) → OneReading payload → ReadsAs head payload a → ReadsAs head payload b → a ≡ b
 answers_once (Ok head) payload a b one x y = completes_once head.operation head.content head.observe payload a b one x y
 answers_once (Err e) payload a b one x y = x ∙ sym y
 

@@ -5,7 +5,7 @@ use Rattle.cbor_profile.specs.Kind.{number_in, pairs_in}
 use Rattle.dots_heads.specs.declared.reject.Reject.{Reject}
 use Rattle.dots_keys.specs.declared.keys.Role.{Role}
 use Rattle.dots_keys.specs.declared.keys.Role.TheVariants as role
-use Rattle.dots_keys.specs.Keys.{role_of}
+use Rattle.dots_keys.specs.Keys.{key_role}
 use Rattle.dots_heads.specs.Results.{◌>>=◌, invalid, missing, unknown_key}
 
 -- A key of the table with its value, or a number outside the table.
@@ -21,7 +21,7 @@ field_before role.Ignored value fields = fields
 field_before (role.Unknown n) value fields = unknown n ∷ fields
 
 abbrev pub pair_before : Option ℕ → Tree → List Field → List Field
-pair_before (Some n) value fields = field_before (role_of n) value fields
+pair_before (Some n) value fields = field_before (key_role n) value fields
 pair_before None value fields = fields
 
 abbrev pub fields_in : Pairs → List Field

@@ -20,5 +20,5 @@ is_known n = is_within 1 45 n || is_within 49 51 n
 abbrev pub is_ignored : ℕ → Bool
 is_ignored n = is_within 128 255 n || is_within 16384 65535 n
 
-abbrev pub role_of : ℕ → Role
-role_of n = if is_known n then role.Known n else if is_ignored n then role.Ignored else role.Unknown n
+abbrev pub key_role : ℕ → Role
+key_role n = if is_known n then role.Known n else if is_ignored n then role.Ignored else role.Unknown n

@@ -49,10 +49,10 @@ Completes (get_config sid) content observe payload answer = answer ≡ Ok (reque
 Completes (delete_config sid) content observe payload answer = answer ≡ Ok (request.DeleteConfig sid)
 Completes put_heartbeat content observe payload answer = AnswersBody payload put_heartbeat_with answer
 
-abbrev pub Answers : Result Head Reject → List ℕ → Result Request Reject → Type 0
-Answers (Ok head) payload answer = Completes head.operation head.content head.observe payload answer
-Answers (Err refusal) payload answer = answer ≡ Err refusal
+abbrev pub ReadsAs : Result Head Reject → List ℕ → Result Request Reject → Type 0
+ReadsAs (Ok head) payload answer = Completes head.operation head.content head.observe payload answer
+ReadsAs (Err refusal) payload answer = answer ≡ Err refusal
 
 -- what a message from a gateway or from a client means
 abbrev pub Means : CoapMessage → Bool → Result Request Reject → Type 0
-Means message gateway answer = Answers (head_of message gateway) message.payload answer
+Means message gateway answer = ReadsAs (head_of message gateway) message.payload answer

@@ -6,7 +6,7 @@ ghost use Rattle.dots_keys.specs.Fields.{Field, known, unknown, fields_of, first
 ghost use Rattle.dots_keys.specs.FieldViews.{fields_left, pairs_seen};
 ghost use Rattle.dots_heads.specs.Results.{Reads, unknown_key};
 
-use crate::keys::{Role, role_of};
+use crate::keys::{Role, key_role};
 use crate::refusing::{invalid, missing, unknown};
 use cbor_profile::Item;
 use dots_heads::Reject;
@@ -43,7 +43,7 @@ impl<'a> Fields<'a> {
             let Some(number) = pair.0.as_unsigned() else {
                 continue;
             };
-            match role_of(number) {
+            match key_role(number) {
                 Role::Known(number) => return Ok(Some((number, &pair.1))),
                 Role::Unknown(number) => return Err(unknown(number)),
                 Role::Ignored => {}

@@ -1,7 +1,7 @@
 //! The keys of the maps in a body.
 
 ghost use Rattle.std.specs.Prelude.{◌≡◌};
-ghost use Rattle.dots_keys.specs.Keys.{role_of, is_known, is_ignored};
+ghost use Rattle.dots_keys.specs.Keys.{key_role, is_known, is_ignored};
 
 /// What a number is as a key.
 #[derive(Clone, Copy, Debug, PartialEq, Eq)]
@@ -15,8 +15,8 @@ pub enum Role {
 }
 
 /// What the number is as a key.
-pub fn role_of(number: u64) -> Role
-    ensures { result ≡ role_of number }
+pub fn key_role(number: u64) -> Role
+    ensures { result ≡ key_role number }
 {
     match number {
         1..=45 | 49..=51 => Role::Known(number as u8),

@@ -7,7 +7,7 @@ ghost use Rattle.dots_heads.specs.HeadViews.{head_view};
 ghost use Rattle.dots_heads.specs.Heads.{head_of};
 ghost use Rattle.dots_keys.specs.Askable.{IsAskable};
 ghost use Rattle.dots_keys.specs.Lifetimes.{HasLifetime};
-ghost use Rattle.dots_keys.specs.Meaning.{IsBody, AnswersBody, Answers, Means, put_mitigation_with, put_config_with, put_heartbeat_with};
+ghost use Rattle.dots_keys.specs.Meaning.{IsBody, AnswersBody, ReadsAs, Means, put_mitigation_with, put_config_with, put_heartbeat_with};
 ghost use Rattle.dots_heads.specs.OperationViews.{IsNamed};
 ghost use Rattle.dots_heads.specs.Results.{Fulfils, UnlessNoMemory};
 
@@ -41,7 +41,7 @@ pub fn read_request(alloc: Global, message: &Message<'_>, gateway: bool) -> Resu
 /// The request of this head with this payload.
 fn complete(alloc: Global, head: &Head<'_>, payload: &[u8]) -> Result<Request, Reject>
     requires { IsNamed head.now.operation }
-    ensures { UnlessNoMemory result (Answers (Ok (head_view head.now)) payload.now result) }
+    ensures { UnlessNoMemory result (ReadsAs (Ok (head_view head.now)) payload.now result) }
 {
     match head.operation {
         Operation::PutMitigation(parameters) => {

@@ -12,7 +12,7 @@ use crate::refusing::{invalid, missing};
 use crate::request::MitigationBody;
 use crate::targets::{
     ALIAS_NAME, TARGET_FQDN, TARGET_PORT_RANGE, TARGET_PREFIX, TARGET_PROTOCOL, names_of, ports_of,
-    prefixes_of, protocols_of,
+    prefixes_in, protocols_of,
 };
 use acl_lists::Asked;
 use cbor_profile::Item;
@@ -125,7 +125,7 @@ impl Scope {
     {
         match scope_key_of(key) {
             Some(ScopeKey::Prefixes) => {
-                self.asked.prefixes = prefixes_of(alloc, value)?;
+                self.asked.prefixes = prefixes_in(alloc, value)?;
                 Ok(())
             }
             Some(ScopeKey::Ports) => {

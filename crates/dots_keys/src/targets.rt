@@ -88,7 +88,7 @@ fn name_of(alloc: Global, key: u8, item: &Item) -> Result<Name, Reject>
 }
 
 /// `target-prefix`: at most 16 texts of prefixes.
-pub fn prefixes_of(alloc: Global, item: &Item) -> Result<PrefixList, Reject>
+pub fn prefixes_in(alloc: Global, item: &Item) -> Result<PrefixList, Reject>
     ensures { Gives result (array_under 6 16 prefix_of (tree_of item.now)) }
 {
     let items = at_most(item, MAX_TARGETS).ok_or(invalid(TARGET_PREFIX))?;

@@ -1,8 +1,8 @@
 -- Calm by the settings of a server.
 use Rattle.std.proofs.Common.{◌≡◌, ℕ, ◌+◌, ◌<◌, ◌≤◌, zero, suc, Bool, true, false, cond, not, ◌&&◌, ◌||◌, List, [], ◌∷◌, map, length, Some, inl, inr, refl, sym, ap, ◌∙◌, subst, arith}
-use Rattle.std.specs.Prelude.{◌==◌, nat_lt}
+use Rattle.std.specs.Prelude.{◌==◌, nat_lt, unwrap_or}
 use Rattle.std.specs.List.{list_any, list_all, find, flat_map}
-use Rattle.std.specs.Option.{option_map_or}
+use Rattle.std.specs.Option.{option_map}
 use Rattle.std.proofs.lemmas.Bool.{false≢true, both_ways, cases_Bool, and_parts, and_from, or_left, or_right, eqb-true, eq-eqb, ltb-true}
 use Rattle.std.proofs.lemmas.List.Folds.{list_any-append}
 use Rattle.dots_settings.specs.declared.peer.PeerRow.{PeerRow}
@@ -13,7 +13,8 @@ use Rattle.dots_history.specs.declared.entry.Entry.{Entry}
 use Rattle.dots_history.specs.Entries.{same_client, is_signal, signals, is_configuration}
 use Rattle.dots_history.specs.Histories.{Mitigation, IsPart, tally, is_nil, mitigations, held}
 use Rattle.dots_history.specs.Keeping.{names, kept}
-use Rattle.dots_laws.specs.Calm.{no_domain, role_of, may_act, may_configure, is_http, prefixes_of, change_inside, is_own, numbers_from, acts_by, acts_for, capacities_of, IsCalmBy}
+use Rattle.dots_settings.specs.Lookups.{no_domain, role_of, prefixes_of}
+use Rattle.dots_laws.specs.Calm.{may_act, may_configure, is_http, change_inside, is_own, numbers_from, acts_by, acts_for, capacities_of, IsCalmBy}
 use Rattle.dots_laws.specs.Capacities.{Capacities, belongs, KeepsCapacities, has_client, is_registration, is_alias, is_list, most_named}
 use Rattle.dots_laws.proofs.Touching.{as_signal}
 use Rattle.dots_laws.proofs.Keeping.{kept_is_part, kept_within}
@@ -95,7 +96,7 @@ by_role settings e role.Gateway may signal = gateway (is_configuration e.change)
         (among_numbers 0 (length settings.domains) e.domain (omega arith) (omega (arith, below))))
 
 abbrev role_in : List PeerRow → ℕ → Role
-role_in rows peer = option_map_or (λ (row : PeerRow). row.role) (find (λ (row : PeerRow). row.peer == peer) rows) role.Stranger
+role_in rows peer = unwrap_or (option_map (λ (row : PeerRow). row.role) (find (λ (row : PeerRow). row.peer == peer) rows)) role.Stranger
 
 by_rows : (settings : SettingsValue) (e : Entry) (rows : List PeerRow) → Acts settings e (role_in rows e.peer) → is_signal e.change ≡ true
     → list_any (acts e) (flat_map (acts_for settings) rows) ≡ true
@@ -105,7 +106,7 @@ by_rows settings e (row ∷ rows) may signal =
       | inl here ↦
           let peer : row.peer ≡ e.peer = eqb-true row.peer e.peer here in
           let told : role_in (row ∷ rows) e.peer ≡ row.role =
-          ap (λ b. option_map_or (λ (r : PeerRow). r.role) (cond b (Some row) (find (λ (r : PeerRow). r.peer == e.peer) rows)) role.Stranger) here in
+          ap (λ b. unwrap_or (option_map (λ (r : PeerRow). r.role) (cond b (Some row) (find (λ (r : PeerRow). r.peer == e.peer) rows))) role.Stranger) here in
           list_any-append (acts e) (acts_for settings row) (flat_map (acts_for settings) rows)
           ∙ or_left
           (list_any (acts e) (acts_for settings row))
@@ -116,7 +117,7 @@ by_rows settings e (row ∷ rows) may signal =
           (by_role settings e row.role (subst (Acts settings e) told may) signal))
       | inr other ↦
           let told : role_in (row ∷ rows) e.peer ≡ role_in rows e.peer =
-          ap (λ b. option_map_or (λ (r : PeerRow). r.role) (cond b (Some row) (find (λ (r : PeerRow). r.peer == e.peer) rows)) role.Stranger) other in
+          ap (λ b. unwrap_or (option_map (λ (r : PeerRow). r.role) (cond b (Some row) (find (λ (r : PeerRow). r.peer == e.peer) rows))) role.Stranger) other in
           list_any-append (acts e) (acts_for settings row) (flat_map (acts_for settings) rows)
           ∙ or_right
           (list_any (acts e) (acts_for settings row))
@@ -141,7 +142,7 @@ has_peer settings e (row ∷ rows) may =
           (eq-eqb e.peer row.peer (sym (eqb-true row.peer e.peer here)))
       | inr other ↦
           let told : role_in (row ∷ rows) e.peer ≡ role_in rows e.peer =
-          ap (λ b. option_map_or (λ (r : PeerRow). r.role) (cond b (Some row) (find (λ (r : PeerRow). r.peer == e.peer) rows)) role.Stranger) other in
+          ap (λ b. unwrap_or (option_map (λ (r : PeerRow). r.role) (cond b (Some row) (find (λ (r : PeerRow). r.peer == e.peer) rows))) role.Stranger) other in
           or_right
           (e.peer == row.peer)
           (list_any (λ peer. e.peer == peer) (map (λ (r : PeerRow). r.peer) rows))

@@ -23,7 +23,8 @@ use Rattle.dots_history.specs.declared.status.Status.TheVariants.{Open}
 use Rattle.dots_history.specs.Entries.{is_configuration, option_any}
 use Rattle.dots_history.specs.Histories.{Mitigation, live, status, stays, is_nil, mitigations, held}
 use Rattle.dots_history.specs.Rows.{Row, targets_of, rows_of, plain_row, plain_rows, acl_of, acl_row, acl_rows_of, acl_rows, list_rows}
-use Rattle.dots_laws.specs.Calm.{role_of, may_act, may_configure, prefixes_of, all_inside, destination_inside, change_inside, is_of_settings, came_rightly, is_own}
+use Rattle.dots_settings.specs.Lookups.{role_of, prefixes_of}
+use Rattle.dots_laws.specs.Calm.{may_act, may_configure, all_inside, destination_inside, change_inside, is_of_settings, came_rightly, is_own}
 use Rattle.dots_laws.specs.Containing.{scrubs_inside, lists_inside}
 
 -- ---- what an entry of the settings' own names lies inside its domain

@@ -17,7 +17,8 @@ use Rattle.dots_history.specs.declared.change.Change.TheVariants as change
 use Rattle.dots_history.specs.Entries.{same_client, put_of, withdrawn_mid, holds_of_both, overlaps, ends, replaces, withdraws, takes_back, is_held, undoes, undoes_of_client, undoes_alias, undoes_acl, is_leave, undoes_of_peer, is_configuration, reconfigures}
 use Rattle.dots_history.specs.Histories.{Mitigation, Within, tally, is_nil, live, step, mitigations, held}
 use Rattle.dots_history.specs.Keeping.{moved}
-use Rattle.dots_laws.specs.Calm.{no_domain, role_of, may_act, may_configure, prefixes_of, change_inside, is_of_settings, came_rightly, is_own, capacities_of, IsCalmBy}
+use Rattle.dots_settings.specs.Lookups.{no_domain, role_of, prefixes_of}
+use Rattle.dots_laws.specs.Calm.{may_act, may_configure, change_inside, is_of_settings, came_rightly, is_own, capacities_of, IsCalmBy}
 use Rattle.dots_laws.specs.Capacities.{KeepsCapacities, is_registration, is_alias, is_list, has_client}
 use Rattle.dots_laws.specs.Fits.{last_or, last_time, is_registered, registers_rightly, keeps_room, fits, is_of_mitigations, has_one_peer, joins}
 use Rattle.dots_laws.specs.Tables.{client_of, is_of}

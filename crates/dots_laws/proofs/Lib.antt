@@ -33,4 +33,3 @@ pub mod CalmCuts
 pub mod Isolating
 pub mod Containing
 pub mod KeptPlaces
-pub mod Readers

@@ -9,6 +9,7 @@ use Rattle.dots_settings.specs.declared.peer.Role.{Role}
 use Rattle.dots_settings.specs.declared.peer.Role.TheVariants as role
 use Rattle.dots_settings.specs.Draft.{same_name}
 use Rattle.dots_settings.specs.Settings.{SettingsValue}
+use Rattle.dots_settings.specs.Lookups.{no_domain, role_of, prefixes_of, addresses_of}
 use Rattle.dots_history.specs.declared.entry.Entry.{Entry}
 use Rattle.dots_history.specs.declared.entry.MessageKey.{MessageKey}
 use Rattle.dots_history.specs.declared.entry.MessageKey.TheVariants as key
@@ -18,13 +19,6 @@ use Rattle.dots_history.specs.declared.change.Change.TheVariants as change
 use Rattle.dots_history.specs.Entries.{same_client, is_signal, is_configuration}
 use Rattle.dots_history.specs.Histories.{Mitigation, Within, Calm, tally, is_nil, mitigations}
 use Rattle.dots_laws.specs.Capacities.{Capacities, KeepsCapacities}
-
--- the domain in which a gateway configures its session, which is no domain of the settings
-abbrev pub no_domain : ℕ
-no_domain = 65535
-
-abbrev pub role_of : SettingsValue → ℕ → Role
-role_of settings peer = option_map_or (λ (row : PeerRow). row.role) (find (λ (row : PeerRow). row.peer == peer) settings.peers) role.Stranger
 
 -- a peer of this role may act for the domain, which is one of the settings: a client for its own, a gateway for each
 abbrev pub may_act : SettingsValue → Role → ℕ → Bool
@@ -41,13 +35,6 @@ may_configure role.Gateway domain = domain == no_domain
 abbrev pub is_http : MessageKey → Bool
 is_http key.Http = true
 is_http _ = false
-
--- the prefixes of a domain, and the addresses of a host name
-abbrev pub prefixes_of : SettingsValue → ℕ → List PrefixValue
-prefixes_of settings domain = option_map_or (λ d. d.prefixes) (slice_get settings.domains domain) []
-
-abbrev pub addresses_of : SettingsValue → List ℕ → List PrefixValue
-addresses_of settings name = option_map_or (λ row. row.prefixes) (find (λ row. same_name name row.name) settings.names) []
 
 abbrev pub all_inside : List PrefixValue → List PrefixValue → Bool
 all_inside domain prefixes = list_all (λ prefix. list_any (inside prefix) domain) prefixes

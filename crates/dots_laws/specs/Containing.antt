@@ -6,7 +6,8 @@ use Rattle.acl_lists.specs.declared.ace.Ace.{Ace}
 use Rattle.filter_rows.specs.declared.rows.ScrubRow.{ScrubRow}
 use Rattle.filter_rows.specs.declared.rows.AclRow.{AclRow}
 use Rattle.dots_settings.specs.Settings.{SettingsValue}
-use Rattle.dots_laws.specs.Calm.{prefixes_of, destination_inside}
+use Rattle.dots_settings.specs.Lookups.{prefixes_of}
+use Rattle.dots_laws.specs.Calm.{destination_inside}
 
 -- the prefix of a scrub row lies inside a prefix of the domain
 abbrev pub scrubs_inside : SettingsValue → ScrubRow → Bool

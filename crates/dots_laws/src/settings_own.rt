@@ -4,28 +4,26 @@ ghost use Rattle.std.specs.Prelude.{◌≡◌};
 ghost use Rattle.std.specs.List.{list_all};
 ghost use Rattle.dots_history.specs.Entries.{is_configuration};
 ghost use Rattle.dots_history.specs.declared.change.Change.TheVariants as change;
-ghost use Rattle.dots_laws.specs.Calm.{role_of, may_act, may_configure, prefixes_of, addresses_of, all_inside, name_inside, destination_inside, change_inside, is_of_settings, came_rightly, is_http};
+ghost use Rattle.dots_settings.specs.Lookups.{role_of, prefixes_of, addresses_of};
+ghost use Rattle.dots_laws.specs.Calm.{may_act, may_configure, all_inside, name_inside, destination_inside, change_inside, is_of_settings, came_rightly, is_http};
 
 use acl_lists::{Ace, Alias};
 use dots_history::{Change, Entry, MessageKey, Target, is_signal};
 use dots_lists::Name;
-use dots_settings::{Role, Settings};
+use dots_settings::{NO_DOMAIN, Role, Settings};
 use ip_scope::{Prefix, inside_any};
-
-/// The domain in which a gateway configures its session, which is no domain of the settings.
-const NO_DOMAIN: u16 = 65535;
 
 /// Whether the peer may act for the entry's domain, inside which lies what the entry names, or it configures its
 /// session and names no client.
 pub fn is_of_settings(settings: &Settings, entry: &Entry) -> bool
     ensures { result ≡ is_of_settings settings.now entry.now }
 {
-    let role = role_of(settings, entry.peer);
+    let role = settings.domain_of(entry.peer);
     if is_configuration(&entry.change) {
         return entry.cuid.bytes().is_empty() && may_configure(role, entry.domain);
     }
     may_act(settings, role, entry.domain)
-        && change_inside(settings, prefixes_of(settings, entry.domain), &entry.change)
+        && change_inside(settings, settings.prefixes_of(entry.domain), &entry.change)
 }
 
 /// Whether the entry is a signal entry or came by HTTP.
@@ -61,13 +59,6 @@ fn is_configuration(change: &Change) -> bool
     }
 }
 
-#[tactic(auto, using(crate::proofs::Readers::same_role))]
-fn role_of(settings: &Settings, peer: u32) -> Role
-    ensures { result ≡ role_of settings.now peer }
-{
-    settings.domain_of(peer)
-}
-
 fn may_act(settings: &Settings, role: Role, domain: u16) -> bool
     ensures { result ≡ may_act settings.now role domain }
 {
@@ -86,17 +77,6 @@ fn may_configure(role: Role, domain: u16) -> bool
         Role::Client(own) => own == domain,
         Role::Gateway => domain == NO_DOMAIN,
     }
-}
-
-/// The prefixes of the domain of this number; none where there is no such domain.
-#[tactic(auto, using(crate::proofs::Readers::prefixes_there, crate::proofs::Readers::prefixes_beyond))]
-fn prefixes_of(settings: &Settings, domain: u16) -> &[Prefix]
-    ensures { result.now ≡ prefixes_of settings.now domain }
-{
-    if domain < settings.domains() {
-        return settings.prefixes(domain);
-    }
-    &[]
 }
 
 fn change_inside(settings: &Settings, domain: &[Prefix], change: &Change) -> bool
@@ -137,19 +117,11 @@ fn names_inside(settings: &Settings, domain: &[Prefix], names: &[Name]) -> bool
     names.iter().all(|name| name_inside(settings, domain, name))
 }
 
-#[tactic(auto, using(crate::proofs::Readers::same_addresses))]
 fn name_inside(settings: &Settings, domain: &[Prefix], name: &Name) -> bool
     ensures { result ≡ name_inside settings.now domain.now name.now }
 {
-    let addresses = addresses_of(settings, name);
+    let addresses = settings.addresses(name.bytes());
     !addresses.is_empty() && all_inside(domain, addresses)
-}
-
-#[tactic(auto, using(crate::proofs::Readers::same_addresses))]
-fn addresses_of<'a>(settings: &'a Settings, name: &Name) -> &'a [Prefix]
-    ensures { result.now ≡ addresses_of settings.now name.now }
-{
-    settings.addresses(name.bytes())
 }
 
 fn aces_inside(domain: &[Prefix], aces: &[Ace]) -> bool

@@ -31,7 +31,8 @@ use Rattle.dots_machine.specs.declared.received.Received.TheVariants as received
 use Rattle.dots_machine.specs.declared.mitigation_request.MitigationRequest.{MitigationRequest}
 use Rattle.dots_machine.specs.declared.verdict.Verdict.{Verdict}
 use Rattle.dots_machine.specs.declared.verdict.Verdict.TheVariants as verdict
-use Rattle.dots_machine.specs.Domains.{role_of, is_gateway, domain_for, prefixes_of}
+use Rattle.dots_settings.specs.Lookups.{role_of, prefixes_of}
+use Rattle.dots_machine.specs.Domains.{is_gateway, domain_for}
 use Rattle.dots_machine.specs.Targets.{scope_fault, resolved}
 use Rattle.dots_machine.specs.Replies.{not_implemented, bad_parameter, rejection}
 use Rattle.dots_machine.specs.Requests.{IsReceived}

@@ -16,7 +16,7 @@ use Rattle.dots_machine.specs.declared.target.TargetFault.{TargetFault}
 use Rattle.dots_machine.specs.declared.target.TargetFault.TheVariants.{NotATarget, OutsideDomain}
 use Rattle.dots_machine.specs.declared.mitigation_request.MitigationRequest.{MitigationRequest}
 use Rattle.dots_machine.specs.declared.verdict.Verdict.{Verdict}
-use Rattle.dots_machine.specs.Domains.{prefixes_of, addresses}
+use Rattle.dots_settings.specs.Lookups.{prefixes_of, addresses_of}
 use Rattle.dots_machine.specs.Targets.{is_target, prefix_fault, first_fault, fault_of_addresses, name_fault, scope_fault, resolved}
 use Rattle.dots_machine.specs.Running.{running}
 use Rattle.dots_machine.specs.Machine.{State, later, with_entry, entry_of, after, Answers, Step}
@@ -51,25 +51,25 @@ addresses_inside domain [] is = refl
 addresses_inside domain (p ∷ ps) is = all_inside domain (p ∷ ps) is
 
 names_inside : (settings : SettingsValue) (domain : List PrefixValue) (names : List (List ℕ)) → first_fault (name_fault settings domain) names ≡ None
-    → list_all (λ prefix. list_any (inside prefix) domain) (flat_map (addresses settings) names) ≡ true
+    → list_all (λ prefix. list_any (inside prefix) domain) (flat_map (addresses_of settings) names) ≡ true
 names_inside settings domain [] is = refl
 names_inside settings domain (name ∷ names) is =
     let parts = or_else_none (name_fault settings domain name) (first_fault (name_fault settings domain) names) is in
-    list_all-append (λ prefix. list_any (inside prefix) domain) (addresses settings name) (flat_map (addresses settings) names)
+    list_all-append (λ prefix. list_any (inside prefix) domain) (addresses_of settings name) (flat_map (addresses_of settings) names)
     ∙ and_from
-    (list_all (λ prefix. list_any (inside prefix) domain) (addresses settings name))
-    (list_all (λ prefix. list_any (inside prefix) domain) (flat_map (addresses settings) names))
-    (addresses_inside domain (addresses settings name) parts.0)
+    (list_all (λ prefix. list_any (inside prefix) domain) (addresses_of settings name))
+    (list_all (λ prefix. list_any (inside prefix) domain) (flat_map (addresses_of settings) names))
+    (addresses_inside domain (addresses_of settings name) parts.0)
     (names_inside settings domain names parts.1)
 
 resolved_inside : (settings : SettingsValue) (domain : List PrefixValue) (scope : Asked) → scope_fault settings domain scope ≡ None
     → list_all (λ prefix. list_any (inside prefix) domain) (resolved settings scope) ≡ true
 resolved_inside settings domain scope is =
     let parts = or_else_none (first_fault (prefix_fault domain) scope.prefixes) (first_fault (name_fault settings domain) scope.names) is in
-    list_all-append (λ prefix. list_any (inside prefix) domain) scope.prefixes (flat_map (addresses settings) scope.names)
+    list_all-append (λ prefix. list_any (inside prefix) domain) scope.prefixes (flat_map (addresses_of settings) scope.names)
     ∙ and_from
     (list_all (λ prefix. list_any (inside prefix) domain) scope.prefixes)
-    (list_all (λ prefix. list_any (inside prefix) domain) (flat_map (addresses settings) scope.names))
+    (list_all (λ prefix. list_any (inside prefix) domain) (flat_map (addresses_of settings) scope.names))
     (all_inside domain scope.prefixes parts.0)
     (names_inside settings domain scope.names parts.1)
 

@@ -12,7 +12,8 @@ use Rattle.coap_message.specs.Message.{CoapMessage, header, options_bytes, paylo
 use Rattle.dots_keys.proofs.OneMeaning.{OneReading}
 use Rattle.dots_settings.specs.Settings.{SettingsValue}
 use Rattle.dots_machine.specs.declared.verdict.Verdict.{Verdict}
-use Rattle.dots_machine.specs.Domains.{role_of, is_gateway}
+use Rattle.dots_settings.specs.Lookups.{role_of}
+use Rattle.dots_machine.specs.Domains.{is_gateway}
 use Rattle.dots_machine.specs.Machine.{State, later, is_stranger, verdict_on, LacksMemory, Decides, by_silence, by_rules, for_want_of_memory, sends_of, after, Answers, Step}
 use Rattle.dots_machine.specs.Answering.{AreBytes, IsHandedIn, SaysUnavailable, IsUnavailable}
 use Rattle.dots_machine.proofs.OneRequest.{one_received}

@@ -11,7 +11,8 @@ use Rattle.dots_settings.specs.Settings.{SettingsValue}
 use Rattle.dots_machine.specs.declared.verdict.Verdict.{Verdict}
 use Rattle.dots_machine.specs.declared.verdict.Verdict.TheVariants as verdict
 use Rattle.dots_machine.specs.declared.received.Received.{Received}
-use Rattle.dots_machine.specs.Domains.{role_of, is_gateway}
+use Rattle.dots_settings.specs.Lookups.{role_of}
+use Rattle.dots_machine.specs.Domains.{is_gateway}
 use Rattle.dots_machine.specs.Machine.{State, later, is_stranger, verdict_on, Decides, by_silence, by_rules, for_want_of_memory, sends_of, after, Answers, Step}
 use Rattle.dots_machine.proofs.OneRequest.{Same, one, first_refused, second_refused, same_received}
 use Rattle.dots_machine.proofs.Outcomes.{code_of, IsPlain, plain_after, Outcome, plain, accepted, reject_plain, decided_outcome}

@@ -19,7 +19,8 @@ use Rattle.dots_machine.specs.declared.received.Received.TheVariants as received
 use Rattle.dots_machine.specs.declared.mitigation_request.MitigationRequest.{MitigationRequest}
 use Rattle.dots_machine.specs.declared.verdict.Verdict.{Verdict}
 use Rattle.dots_machine.specs.declared.verdict.Verdict.TheVariants as verdict
-use Rattle.dots_machine.specs.Domains.{role_of, domain_for, prefixes_of}
+use Rattle.dots_settings.specs.Lookups.{role_of, prefixes_of}
+use Rattle.dots_machine.specs.Domains.{domain_for}
 use Rattle.dots_machine.specs.Targets.{scope_fault}
 use Rattle.dots_heads.specs.RejectText.{reject_code}
 use Rattle.dots_machine.specs.Replies.{rejection}

@@ -9,7 +9,8 @@ use Rattle.dots_keys.specs.declared.request.MitigationBody.{MitigationBody}
 use Rattle.dots_keys.specs.declared.request.Request.TheVariants as request
 use Rattle.dots_settings.specs.Settings.{SettingsValue}
 use Rattle.dots_history.specs.Histories.{alone}
-use Rattle.dots_machine.specs.Domains.{role_of, is_gateway, domain_for}
+use Rattle.dots_settings.specs.Lookups.{role_of}
+use Rattle.dots_machine.specs.Domains.{is_gateway, domain_for}
 use Rattle.dots_machine.specs.declared.exchange.Exchange.{Exchange}
 use Rattle.dots_machine.specs.Requests.{IsReceived}
 use Rattle.dots_machine.specs.Machine.{State, Step}

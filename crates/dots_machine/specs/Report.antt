@@ -8,7 +8,7 @@ use Rattle.dots_settings.specs.Settings.{SettingsValue}
 use Rattle.dots_history.specs.declared.entry.Entry.{Entry}
 use Rattle.dots_history.specs.declared.put.Target.{Target}
 use Rattle.dots_history.specs.Rows.{Row, rows_of, targets_of, mid_of}
-use Rattle.dots_machine.specs.Domains.{name_of, prefixes_of}
+use Rattle.dots_settings.specs.Lookups.{name_of, prefixes_of}
 use Rattle.dots_machine.specs.Running.{running}
 use Rattle.dots_machine.specs.Machine.{State}
 

@@ -9,7 +9,7 @@ use Rattle.dots_history.specs.Histories.{or_else}
 use Rattle.dots_settings.specs.Settings.{SettingsValue}
 use Rattle.dots_machine.specs.declared.target.TargetFault.{TargetFault}
 use Rattle.dots_machine.specs.declared.target.TargetFault.TheVariants.{NotATarget, OutsideDomain, UnknownName}
-use Rattle.dots_machine.specs.Domains.{addresses}
+use Rattle.dots_settings.specs.Lookups.{addresses_of}
 
 -- loopback, multicast and limited broadcast: 127.0.0.0/8, 224.0.0.0/4, 255.255.255.255/32, ::1/128 and ff00::/8
 abbrev pub never_targets : List PrefixValue
@@ -40,7 +40,7 @@ fault_of_addresses domain [] = Some UnknownName
 fault_of_addresses domain (p ∷ ps) = first_fault (prefix_fault domain) (p ∷ ps)
 
 abbrev pub name_fault : SettingsValue → List PrefixValue → List ℕ → Option TargetFault
-name_fault settings domain name = fault_of_addresses domain (addresses settings name)
+name_fault settings domain name = fault_of_addresses domain (addresses_of settings name)
 
 -- the fault of the first asked prefix that has one, else of the first name that has one
 abbrev pub scope_fault : SettingsValue → List PrefixValue → Asked → Option TargetFault
@@ -50,7 +50,7 @@ scope_fault settings domain asked =
 -- The targets of a scope without aliases: one, with the asked prefixes, those of the names in order, and the asked ports and
 -- protocols.
 abbrev pub resolved : SettingsValue → Asked → List PrefixValue
-resolved settings asked = asked.prefixes ++ flat_map (addresses settings) asked.names
+resolved settings asked = asked.prefixes ++ flat_map (addresses_of settings) asked.names
 
 abbrev pub targets_of : SettingsValue → Asked → List Target
 targets_of settings asked = record { prefixes = resolved settings asked; ports = asked.ports; protocols = asked.protocols } ∷ []

@@ -7,7 +7,7 @@ use Rattle.dots_heads.specs.declared.reject.Reject.{Reject}
 use Rattle.dots_heads.specs.declared.reject.Reject.TheVariants as reject
 use Rattle.dots_keys.specs.declared.request.Request.{Request}
 use Rattle.dots_heads.specs.Heads.{Head, head_of}
-use Rattle.dots_keys.specs.Meaning.{Answers as Completed, Means}
+use Rattle.dots_keys.specs.Meaning.{ReadsAs, Means}
 use Rattle.dots_heads.specs.Results.{Fulfils}
 use Rattle.dots_settings.specs.Settings.{SettingsValue}
 use Rattle.dots_machine.specs.declared.exchange.Exchange.{Exchange}
@@ -17,7 +17,8 @@ use Rattle.dots_machine.specs.declared.received.Received.{Received}
 use Rattle.dots_machine.specs.declared.received.Received.TheVariants as received
 use Rattle.dots_machine.specs.declared.verdict.Verdict.{Verdict}
 use Rattle.dots_machine.specs.declared.verdict.Verdict.TheVariants as verdict
-use Rattle.dots_machine.specs.Domains.{role_of, is_gateway}
+use Rattle.dots_settings.specs.Lookups.{role_of}
+use Rattle.dots_machine.specs.Domains.{is_gateway}
 use Rattle.dots_machine.specs.Exchanges.{exchange_in, may_ask, rejected, dismissed}
 use Rattle.dots_machine.specs.Requests.{received_as, IsReceived, unread, asks_nothing, meant}
 use Rattle.dots_machine.specs.Replies.{unavailable}
@@ -55,7 +56,7 @@ module _ (settings : SettingsValue) (state : State) (peer : ℕ) (datagram : Lis
   gateway = is_gateway (role_of settings peer)
 
   -- a request has all that stands before its body
-  head_is_right : (head : Result Head Reject) (payload : List ℕ) (r : Request) → Completed head payload (Ok r) → IsOk head
+  head_is_right : (head : Result Head Reject) (payload : List ℕ) (r : Request) → ReadsAs head payload (Ok r) → IsOk head
   head_is_right (Ok head) payload r answers = refl
   head_is_right (Err e) payload r answers = absurd (cc answers)
 

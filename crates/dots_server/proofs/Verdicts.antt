@@ -14,7 +14,8 @@ use Rattle.dots_machine.specs.declared.exchange.Exchange.{Exchange}
 use Rattle.dots_machine.specs.declared.mitigation_request.MitigationRequest.{MitigationRequest}
 use Rattle.dots_machine.specs.declared.verdict.Verdict.{Verdict}
 use Rattle.dots_machine.specs.declared.verdict.Verdict.TheVariants as verdict
-use Rattle.dots_machine.specs.Domains.{role_of, domain_for, prefixes_of}
+use Rattle.dots_settings.specs.Lookups.{role_of, prefixes_of}
+use Rattle.dots_machine.specs.Domains.{domain_for}
 use Rattle.dots_machine.specs.Targets.{scope_fault, resolved}
 use Rattle.dots_machine.specs.Replies.{not_implemented, bad_target, conflicting, bad_parameter}
 use Rattle.dots_machine.specs.Running.{running}

@@ -7,7 +7,7 @@ use Rattle.dots_settings.specs.Settings.{SettingsValue}
 use Rattle.dots_history.specs.declared.entry.Entry.{Entry}
 use Rattle.dots_history.specs.declared.put.Target.{Target}
 use Rattle.dots_history.specs.Rows.{rows_of}
-use Rattle.dots_machine.specs.Domains.{name_of}
+use Rattle.dots_settings.specs.Lookups.{name_of}
 use Rattle.dots_machine.specs.Report.{any_or, texts_of, ports_text, scrub_line}
 
 abbrev pub scrub_lines : SettingsValue → Entry → List ℕ

@@ -11,7 +11,7 @@ ghost use Rattle.dots_machine.specs.declared.verdict.Verdict.TheVariants as verd
 ghost use Rattle.dots_server.specs.Asking.{IsOwn, domain_asked, DecidesOn};
 ghost use Rattle.std.specs.List.{list_any};
 ghost use Rattle.dots_history.specs.Histories.{is_nil};
-ghost use Rattle.dots_machine.specs.Domains.{prefixes_of};
+ghost use Rattle.dots_settings.specs.Lookups.{prefixes_of};
 ghost use Rattle.dots_machine.specs.Machine.{in_the_way};
 ghost use Rattle.dots_server.specs.declared.targets.Resolved.TheVariants as found;
 ghost use Rattle.dots_server.specs.Receiving.{IsGrantable};
@@ -19,7 +19,6 @@ ghost use Rattle.dots_server.specs.Resolving.{IsResolved};
 ghost use Rattle.dots_server.specs.Standing.{StandsFor, KeepsAll, CanCarryOut};
 
 use crate::entries::accepted;
-use crate::naming::prefixes_of;
 use crate::overlaps::any_in_the_way;
 use crate::receiving::receive;
 use crate::replies::{
@@ -158,7 +157,7 @@ impl Server {
     fn resolved(&self, asked: &MitigationRequest) -> Result<Resolved, NoMemory>
         ensures { IfOk result (IsResolved self.now.settings (prefixes_of self.now.settings asked.now.domain) asked.now.body.asked) }
     {
-        let domain = prefixes_of(&self.settings, asked.domain);
+        let domain = self.settings.prefixes_of(asked.domain);
         resolve(&self.settings, domain, &asked.body.asked)
     }
 

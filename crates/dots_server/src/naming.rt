@@ -1,7 +1,7 @@
 //! What the settings say of a domain and of a host name.
 
 ghost use Rattle.std.specs.Prelude.{◌≡◌};
-ghost use Rattle.dots_machine.specs.Domains.{name_of, prefixes_of, addresses};
+ghost use Rattle.dots_settings.specs.Lookups.{name_of, prefixes_of, addresses_of};
 
 use dots_lists::Name;
 use dots_settings::Settings;
@@ -13,16 +13,6 @@ pub fn name_of(settings: &Settings, domain: u16) -> &[u8]
 {
     if domain < settings.domains() {
         return settings.domain_name(domain);
-    }
-    &[]
-}
-
-/// The prefixes of the domain of this number; none where there is none.
-pub fn prefixes_of(settings: &Settings, domain: u16) -> &[Prefix]
-    ensures { result.now ≡ prefixes_of settings.now domain }
-{
-    if domain < settings.domains() {
-        return settings.prefixes(domain);
     }
     &[]
 }

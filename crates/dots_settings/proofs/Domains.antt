@@ -7,7 +7,7 @@ use Rattle.indexmap.specs.IndexMap.{insert_entry}
 use Rattle.ip_scope.specs.Prefix.{PrefixValue}
 use Rattle.dots_settings.specs.Draft.{DraftValue}
 use Rattle.dots_settings.specs.Admitting.{AreDistinct}
-use Rattle.dots_settings.specs.Settings.{DomainValue, domain_value, domain_of, prefixes_of}
+use Rattle.dots_settings.specs.Settings.{DomainValue, domain_value, domain_of, draft_prefixes}
 
 before_named : (name : List ℕ) (es : List (Vec ℕ Global × List PrefixValue))
     → prefix_len (λ key. not (bytes_eq name key.items)) (map (λ (e : Vec ℕ Global × List PrefixValue). e.0) es) ≡ prefix_len (λ domain. not (bytes_eq name domain.name)) (map domain_value es)
@@ -53,7 +53,7 @@ distinct_at before (name ∷ names) are (suc i) d within =
 
 -- the domains so far with one more
 pub domain_inserted : (draft : DraftValue) (i : ℕ) (es new : List (Vec ℕ Global × List PrefixValue)) (key : Vec ℕ Global) (name : List ℕ) (value : List PrefixValue)
-    → AreDistinct [] draft.domains → i < length draft.domains → name ≡ get_or draft.domains i name → key.items ≡ name → value ≡ prefixes_of draft name
+    → AreDistinct [] draft.domains → i < length draft.domains → name ≡ get_or draft.domains i name → key.items ≡ name → value ≡ draft_prefixes draft name
     → map domain_value es ≡ map (domain_of draft) (take i draft.domains) → new ≡ insert_entry (λ x y. bytes_eq x.items y.items) es key value
     → map domain_value new ≡ map (domain_of draft) (take (i + 1) draft.domains)
 domain_inserted draft i es new key name value distinct within at named prefixes before inserted =

@@ -14,7 +14,7 @@ use Rattle.dots_settings.specs.declared.peer.PeerRow.{PeerRow}
 use Rattle.dots_settings.specs.declared.peer.Role.TheVariants as role
 use Rattle.dots_settings.specs.Draft.{DraftValue, same_name}
 use Rattle.dots_settings.specs.Faults.{is_gateway}
-use Rattle.dots_settings.specs.Settings.{DomainValue, domain_of, prefixes_of, role_of, peer_row_of, name_row_of, addresses_of, IsNoStranger, is_gateway_role}
+use Rattle.dots_settings.specs.Settings.{DomainValue, domain_of, draft_prefixes, draft_role, peer_row_of, name_row_of, draft_addresses, IsNoStranger, is_gateway_role}
 use Rattle.dots_settings.proofs.Whole.{IsWhole, IsDeclared, at_name, all_then}
 
 pub mapped_length : {A B : Type 0} (f : A → B) (xs : List A) → length (map f xs) ≡ length xs
@@ -41,7 +41,7 @@ mapped_all f P (x ∷ xs) all = (all.0, mapped_all f P xs all.1)
 pub domains_once : (draft : DraftValue) → IsWhole draft → (name : List ℕ) → count_by (λ domain. bytes_eq name domain.name) (map (domain_of draft) draft.domains) ≤ 1
 domains_once draft whole name = subst (λ (n : ℕ). n ≤ 1) (sym (mapped_count (domain_of draft) (λ (d : DomainValue). bytes_eq name d.name) draft.domains)) (whole.domains name)
 
-prefix_count : (draft : DraftValue) (name : List ℕ) → length (prefixes_of draft name) ≡ count_by (λ (scope : Scope). bytes_eq scope.domain name) draft.scopes
+prefix_count : (draft : DraftValue) (name : List ℕ) → length (draft_prefixes draft name) ≡ count_by (λ (scope : Scope). bytes_eq scope.domain name) draft.scopes
 prefix_count draft name =
     mapped_length (λ (scope : Scope). scope.prefix) (filter (λ (scope : Scope). bytes_eq scope.domain name) draft.scopes)
     ∙ length-filter (λ (scope : Scope). bytes_eq scope.domain name) draft.scopes
@@ -52,21 +52,21 @@ prefixes_few draft whole (name ∷ names) = (subst (λ (n : ℕ). n ≤ 16) (sym
 
 -- ---- peers
 
-gateway_row : (draft : DraftValue) (peer : Peer) → is_gateway_role (role_of draft peer.domain) ≡ is_gateway peer
+gateway_row : (draft : DraftValue) (peer : Peer) → is_gateway_role (draft_role draft peer.domain) ≡ is_gateway peer
 gateway_row draft peer = by peer.domain
   where
     placed : (o : Option ℕ) → is_gateway_role (unwrap_or (option_map role.Client o) role.Stranger) ≡ false
     placed None = refl
     placed (Some place) = refl
 
-    by : (domain : Option (List ℕ)) → is_gateway_role (role_of draft domain) ≡ is_none domain
+    by : (domain : Option (List ℕ)) → is_gateway_role (draft_role draft domain) ≡ is_none domain
     by None = refl
     by (Some name) = placed (position (bytes_eq name) draft.domains)
 
 pub gateways_few : (draft : DraftValue) → IsWhole draft → count_by (λ row. is_gateway_role row.role) (map (peer_row_of draft) draft.peers) ≤ 4
 gateways_few draft whole =
     let mapped = mapped_count (peer_row_of draft) (λ (row : PeerRow). is_gateway_role row.role) draft.peers in
-    let same : count_by (λ (peer : Peer). is_gateway_role (role_of draft peer.domain)) draft.peers ≡ count_by is_gateway draft.peers =
+    let same : count_by (λ (peer : Peer). is_gateway_role (draft_role draft peer.domain)) draft.peers ≡ count_by is_gateway draft.peers =
     (λ i. count_by (λ (peer : Peer). gateway_row draft peer i) draft.peers) in
     subst (λ (n : ℕ). n ≤ 4) (sym (mapped ∙ same)) whole.peers.gateways
 
@@ -81,7 +81,7 @@ place_below p (x ∷ xs) some = by (place_below p xs) (p x) some
     by rest true e = omega arith
     by rest false e = omega (arith, rest e)
 
-declared_placed : (draft : DraftValue) (domain : Option (List ℕ)) → IsDeclared draft.domains domain → IsNoStranger (role_of draft domain)
+declared_placed : (draft : DraftValue) (domain : Option (List ℕ)) → IsDeclared draft.domains domain → IsNoStranger (draft_role draft domain)
 declared_placed draft None is = tt
 declared_placed draft (Some name) is = by (nat_lt (position_or_len (bytes_eq name) draft.domains) (length draft.domains)) (lt-ltb _ _ (place_below (bytes_eq name) draft.domains is))
   where
@@ -92,7 +92,7 @@ declared_placed draft (Some name) is = by (nat_lt (position_or_len (bytes_eq nam
 pub no_strangers : (draft : DraftValue) → IsWhole draft → AllByRecursion (λ row. IsNoStranger row.role) (map (peer_row_of draft) draft.peers)
 no_strangers draft whole =
     mapped_all (peer_row_of draft) (λ (row : PeerRow). IsNoStranger row.role) draft.peers
-    (all_then (λ (peer : Peer). IsDeclared draft.domains peer.domain) (λ (peer : Peer). IsNoStranger (role_of draft peer.domain)) draft.peers (λ peer is. declared_placed draft peer.domain is)
+    (all_then (λ (peer : Peer). IsDeclared draft.domains peer.domain) (λ (peer : Peer). IsNoStranger (draft_role draft peer.domain)) draft.peers (λ peer is. declared_placed draft peer.domain is)
     whole.peers.declared)
 
 -- ---- host names
@@ -100,7 +100,7 @@ no_strangers draft whole =
 pub names_once : (draft : DraftValue) → IsWhole draft → (fqdn : List ℕ) → count_by (λ row. same_name fqdn row.name) (map (name_row_of draft) draft.names) ≤ 1
 names_once draft whole fqdn = subst (λ (n : ℕ). n ≤ 1) (sym (mapped_count (name_row_of draft) (λ (row : NameRow). same_name fqdn row.name) draft.names)) (whole.names.once fqdn)
 
-address_count : (draft : DraftValue) (fqdn : List ℕ) → length (addresses_of draft fqdn) ≡ at_name fqdn draft.addresses
+address_count : (draft : DraftValue) (fqdn : List ℕ) → length (draft_addresses draft fqdn) ≡ at_name fqdn draft.addresses
 address_count draft fqdn =
     mapped_length (λ (address : Address). address.prefix) (filter (λ (address : Address). same_name fqdn address.name) draft.addresses)
     ∙ length-filter (λ (address : Address). same_name fqdn address.name) draft.addresses
@@ -123,7 +123,7 @@ each_among (name ∷ names) whole within = (
 pub names_addressed : (draft : DraftValue) → IsWhole draft → AllByRecursion (λ row. (1 ≤ length row.prefixes) × (length row.prefixes ≤ 4)) (map (name_row_of draft) draft.names)
 names_addressed draft whole =
     mapped_all (name_row_of draft) (λ (row : NameRow). (1 ≤ length row.prefixes) × (length row.prefixes ≤ 4)) draft.names
-    (all_then (λ (name : List ℕ). list_any (same_name name) draft.names ≡ true) (λ (name : List ℕ). (1 ≤ length (addresses_of draft name)) × (length (addresses_of draft name) ≤ 4)) draft.names
+    (all_then (λ (name : List ℕ). list_any (same_name name) draft.names ≡ true) (λ (name : List ℕ). (1 ≤ length (draft_addresses draft name)) × (length (draft_addresses draft name) ≤ 4)) draft.names
     (λ name is. (
       subst (λ (n : ℕ). 1 ≤ n) (sym (address_count draft name)) (leb-true 1 (at_name name draft.addresses) (sym (whole.names.told name) ∙ is)),
       subst (λ (n : ℕ). n ≤ 4) (sym (address_count draft name)) (whole.names.most name),

@@ -15,3 +15,4 @@ pub mod Sound
 pub mod Files
 pub mod OneForm
 pub mod OneFile
+pub mod Lookups

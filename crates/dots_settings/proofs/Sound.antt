@@ -15,7 +15,7 @@ use Rattle.dots_settings.specs.Lines.{is_skipped, lines_of, content_of}
 use Rattle.dots_settings.specs.Row.{Row, row_of, AreRows}
 use Rattle.dots_settings.specs.Draft.{DraftValue, draft_of, first_of, forms_by, ceiling_in, capacity_in}
 use Rattle.dots_settings.specs.File.{IsSound, SettingsAre}
-use Rattle.dots_settings.specs.Settings.{SettingsValue, settings_by, digest_text, role_of, peer_row_of, name_row_of, limits_of, domain_of, IsKnown, IsInRange, AreLimits, IsSettings, AreApart}
+use Rattle.dots_settings.specs.Settings.{SettingsValue, settings_by, digest_text, draft_role, peer_row_of, name_row_of, limits_of, domain_of, IsKnown, IsInRange, AreLimits, IsSettings, AreApart}
 use Rattle.dots_settings.specs.Admitting.{AreDistinct}
 use Rattle.dots_settings.proofs.Whole.{sound_whole}
 use Rattle.dots_settings.proofs.Finished.{mapped_length, domains_once, prefixes_few, gateways_few, peers_once, no_strangers, names_once, names_addressed}
@@ -121,7 +121,7 @@ all_in_range draft all = record {
 below_length : (n k : ℕ) → nat_lt n k ≡ true → n < k
 below_length n k e = grind (arith, nat_tests)
 
-role_known : (draft : DraftValue) (domain : Option (List ℕ)) → IsKnown (length draft.domains) (role_of draft domain)
+role_known : (draft : DraftValue) (domain : Option (List ℕ)) → IsKnown (length draft.domains) (draft_role draft domain)
 role_known draft None = tt
 role_known draft (Some name) = by (nat_lt (position_or_len (bytes_eq name) draft.domains) (length draft.domains)) refl
   where

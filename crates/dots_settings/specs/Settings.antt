@@ -36,26 +36,26 @@ pub record SettingsValue : Type 0 where
   pub digest : List ℕ
 
 -- the prefixes of a domain, in the file's order
-abbrev pub prefixes_of : DraftValue → List ℕ → List PrefixValue
-prefixes_of draft name = map (λ scope. scope.prefix) (filter (λ scope. bytes_eq scope.domain name) draft.scopes)
+abbrev pub draft_prefixes : DraftValue → List ℕ → List PrefixValue
+draft_prefixes draft name = map (λ scope. scope.prefix) (filter (λ scope. bytes_eq scope.domain name) draft.scopes)
 
 abbrev pub domain_of : DraftValue → List ℕ → DomainValue
-domain_of draft name = record { name = name; prefixes = prefixes_of draft name }
+domain_of draft name = record { name = name; prefixes = draft_prefixes draft name }
 
 -- the number of a client's domain; each is declared, so none is a stranger
-abbrev pub role_of : DraftValue → Option (List ℕ) → Role
-role_of draft None = role.Gateway
-role_of draft (Some name) = unwrap_or (option_map role.Client (position (bytes_eq name) draft.domains)) role.Stranger
+abbrev pub draft_role : DraftValue → Option (List ℕ) → Role
+draft_role draft None = role.Gateway
+draft_role draft (Some name) = unwrap_or (option_map role.Client (position (bytes_eq name) draft.domains)) role.Stranger
 
 abbrev pub peer_row_of : DraftValue → Peer → PeerRow
-peer_row_of draft peer = record { peer = peer.number; role = role_of draft peer.domain }
+peer_row_of draft peer = record { peer = peer.number; role = draft_role draft peer.domain }
 
 -- the prefixes of a host name, in the file's order
-abbrev pub addresses_of : DraftValue → List ℕ → List PrefixValue
-addresses_of draft fqdn = map (λ address. address.prefix) (filter (λ address. same_name fqdn address.name) draft.addresses)
+abbrev pub draft_addresses : DraftValue → List ℕ → List PrefixValue
+draft_addresses draft fqdn = map (λ address. address.prefix) (filter (λ address. same_name fqdn address.name) draft.addresses)
 
 abbrev pub name_row_of : DraftValue → List ℕ → NameRow
-name_row_of draft fqdn = record { name = fqdn; prefixes = addresses_of draft fqdn }
+name_row_of draft fqdn = record { name = fqdn; prefixes = draft_addresses draft fqdn }
 
 abbrev pub limit_of : DraftValue → Capacity → ℕ
 limit_of draft what = unwrap_or (option_map (λ chosen. chosen.limit) (find (λ chosen. same_capacity chosen.what what) draft.capacities)) (default_of what)

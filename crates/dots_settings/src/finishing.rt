@@ -4,7 +4,7 @@ ghost use Rattle.std.specs.Prelude.{◌≡◌, ◌≤◌, [], length, map, filte
 ghost use Rattle.dots_settings.specs.Admitting.{draft_value, AreDistinct};
 ghost use Rattle.dots_settings.specs.Draft.{same_name};
 ghost use Rattle.dots_settings.specs.File.{IsSound};
-ghost use Rattle.dots_settings.specs.Settings.{settings_by, prefixes_of, addresses_of, name_row_of, peer_row_of, role_of, limit_of, limits_of, domain_of, domain_value};
+ghost use Rattle.dots_settings.specs.Settings.{settings_by, draft_prefixes, draft_addresses, name_row_of, peer_row_of, draft_role, limit_of, limits_of, domain_of, domain_value};
 
 use crate::capacity::Capacity;
 use crate::draft::{Address, Draft, Peer, Scope};
@@ -58,7 +58,7 @@ impl Draft {
     }
 
     fn make_prefixes(&self, name: &[u8]) -> Result<PrefixList, NoMemory>
-        ensures { IfOk result (λ prefixes. prefixes ≡ prefixes_of (draft_value self.now) name.now) }
+        ensures { IfOk result (λ prefixes. prefixes ≡ draft_prefixes (draft_value self.now) name.now) }
     {
         let prefixes = prefixes_among(self.alloc, &self.scopes, name)?;
         Ok(List::from_vec(prefixes))
@@ -72,15 +72,15 @@ impl Draft {
         for peer in &self.peers {
             peers.push(PeerRow {
                 peer: peer.number,
-                role: self.role_of(peer),
+                role: self.role_declared(peer),
             })?;
         }
         Ok(peers)
     }
 
-    fn role_of(&self, peer: &Peer) -> Role
+    fn role_declared(&self, peer: &Peer) -> Role
         requires { length (draft_value self.now).domains ≤ 16 }
-        ensures { result ≡ role_of (draft_value self.now) peer.now.domain }
+        ensures { result ≡ draft_role (draft_value self.now) peer.now.domain }
     {
         let Some(name) = &peer.domain else {
             return Role::Gateway;
@@ -112,7 +112,7 @@ impl Draft {
     }
 
     fn make_addresses(&self, fqdn: &[u8]) -> Result<PrefixList, NoMemory>
-        ensures { IfOk result (λ prefixes. prefixes ≡ addresses_of (draft_value self.now) fqdn.now) }
+        ensures { IfOk result (λ prefixes. prefixes ≡ draft_addresses (draft_value self.now) fqdn.now) }
     {
         let prefixes = addresses_among(self.alloc, &self.addresses, fqdn)?;
         Ok(List::from_vec(prefixes))

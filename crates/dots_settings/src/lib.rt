@@ -29,6 +29,6 @@ mod source;
 pub use fault::{MAX_FAULT_LINE, SettingsFault};
 pub use limits::Limits;
 pub use names::NameRow;
-pub use peer::{PeerRow, Role};
+pub use peer::{NO_DOMAIN, PeerRow, Role};
 pub use settings::Settings;
 pub use source::read_settings;

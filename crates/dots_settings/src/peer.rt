@@ -1,3 +1,6 @@
+/// The domain in which a gateway configures its session, which is no domain of the settings: they have at most 16.
+pub const NO_DOMAIN: u16 = 65_535;
+
 /// What a peer is in the settings.
 #[derive(Clone, Copy, Debug, PartialEq, Eq)]
 pub enum Role {

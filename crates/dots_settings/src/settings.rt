@@ -3,6 +3,7 @@ ghost use Rattle.std.specs.List.{AllByRecursion};
 ghost use Rattle.std.specs.Option.{option_map, option_copied};
 ghost use Rattle.dots_settings.specs.Draft.{same_name};
 ghost use Rattle.dots_settings.specs.Settings.{AreApart, AreLimits, IsKnown, IsSettings};
+ghost use Rattle.dots_settings.specs.Lookups.{role_of, prefixes_of, addresses_of};
 ghost use Rattle.dots_settings.specs.declared.peer.Role.TheVariants as role;
 
 use crate::judging::is_same_name;
@@ -90,6 +91,18 @@ impl Settings {
         }
     }
 
+    /// The prefixes of a domain, in the file's order; none where there is no domain of this number.
+    #[tactic(auto, using(crate::proofs::Lookups::prefixes_there, crate::proofs::Lookups::prefixes_beyond))]
+    pub fn prefixes_of(&self, domain: u16) -> &[Prefix]
+        ensures value { result.now ≡ prefixes_of self.now domain }
+        ensures valid { IsSettings self.now }
+    {
+        if domain < self.domains() {
+            return self.prefixes(domain);
+        }
+        &[]
+    }
+
     /// The number of the domain of this name.
     pub fn domain_named(&self, name: &[u8]) -> Option<u16>
         ensures number { result ≡ position (λ domain. bytes_eq name.now domain.name) self.now.domains }
@@ -111,8 +124,7 @@ impl Settings {
 
     /// What a peer is: a stranger where the settings don't name it.
     pub fn domain_of(&self, peer: u32) -> Role
-        ensures role { result ≡ unwrap_or (option_map (λ row. row.role)
-            (find (λ row. row.peer == peer) self.now.peers)) role.Stranger }
+        ensures role { result ≡ role_of self.now peer }
         ensures known { IsKnown (length self.now.domains) result }
         ensures valid { IsSettings self.now }
     {
@@ -133,8 +145,7 @@ impl Settings {
 
     /// The addresses of a host name, whatever the case of its letters; none where the settings don't name it.
     pub fn addresses(&self, fqdn: &[u8]) -> &[Prefix]
-        ensures value { result.now ≡ unwrap_or (option_map (λ row. row.prefixes)
-            (find (λ row. same_name fqdn.now row.name) self.now.names)) [] }
+        ensures value { result.now ≡ addresses_of self.now fqdn.now }
         ensures valid { IsSettings self.now }
     {
         match row_named(&self.names, fqdn) {

@@ -1,9 +1,6 @@
 -- A filter table as a value.
-use Rattle.std.specs.Prelude.{ℕ, List, map, filter, slice_get, option_map}
+use Rattle.std.specs.Prelude.{ℕ, List, map, filter}
 use Rattle.ip_scope.specs.declared.family.Family.{Family}
-use Rattle.ip_scope.specs.Prefix.{PrefixValue}
-use Rattle.filter_rows.specs.Told.{or_none}
-use Rattle.dots_settings.specs.Settings.{SettingsValue, DomainValue}
 use Rattle.filter_table.specs.declared.held.HeldScrub.{HeldScrub}
 use Rattle.filter_table.specs.declared.held.HeldAcl.{HeldAcl}
 use Rattle.filter_table.specs.Ranks.{kind_of, rank_of, ranked, is_of_kind, slot_of}
@@ -18,7 +15,3 @@ pub record TableValue : Type 0 where
 -- the slots of the rows whose prefix has this family and length, in order of the prefix's number and then of place
 abbrev pub slots_of : Family → ℕ → List HeldScrub → List ℕ
 slots_of family length held = map slot_of (filter (is_of_kind (kind_of family length)) (ranked (map rank_of held)))
-
--- the prefixes of a domain; a number beyond the domains has none
-abbrev pub prefixes_of : SettingsValue → ℕ → List PrefixValue
-prefixes_of settings domain = or_none (option_map (λ (of : DomainValue). of.prefixes) (slice_get settings.domains domain))

@@ -4,7 +4,7 @@ ghost use Rattle.std.specs.Prelude.{◌≡◌, map, option_map};
 ghost use Rattle.filter_rows.specs.Fates.{scrubs, scrubbing_mid, decision_of_row, decision_of_rows, fate_by_rows};
 ghost use Rattle.filter_rows.specs.Told.{fate_of};
 ghost use Rattle.filter_table.specs.Held.{row_of_scrub, row_of_acl};
-ghost use Rattle.filter_table.specs.Table.{prefixes_of};
+ghost use Rattle.dots_settings.specs.Lookups.{prefixes_of};
 
 use crate::held::{HeldAcl, HeldScrub};
 use acl_lists::Packet;
@@ -81,15 +81,5 @@ fn decision_of_row<'a>(settings: &Settings, row: &'a AclRow, packet: &Packet) ->
     if !row.active {
         return None;
     }
-    decision(prefixes_of(settings, row.domain), packet, &row.acl)
-}
-
-/// The prefixes of a domain; none where the settings don't have it.
-fn prefixes_of(settings: &Settings, domain: u16) -> &[Prefix]
-    ensures { result.now ≡ prefixes_of settings.now domain }
-{
-    if domain < settings.domains() {
-        return settings.prefixes(domain);
-    }
-    &[]
+    decision(settings.prefixes_of(row.domain), packet, &row.acl)
 }

@@ -2,7 +2,7 @@
 use Rattle.std.proofs.Common.{◌≡◌, map, drop}
 use Rattle.filter_rows.specs.Fates.{decision_of_rows}
 use Rattle.filter_table.specs.Held.{row_of_acl}
-use Rattle.filter_table.specs.Table.{prefixes_of}
+use Rattle.dots_settings.specs.Lookups.{prefixes_of}
 use Rattle.filter_table.proofs.fates.decision_of_acls.Given as goal
 
 abbrev pub invariant-loop-list : goal.invariant-loop-list

@@ -1,5 +1,5 @@
 use Rattle.std.proofs.Common.{◌∙◌, sym, ap}
-use Rattle.dots_machine.specs.Domains.{role_of}
+use Rattle.dots_settings.specs.Lookups.{role_of}
 use Rattle.dots_server.specs.Standing.{ServerValue}
 use Rattle.dots_server.proofs.server.Server.decide.Goals as goal
 

@@ -1,6 +1,7 @@
 use Rattle.std.proofs.Common.{◌≡◌, sym, ◌∙◌, ap, false, subst}
 use Rattle.dots_machine.specs.declared.verdict.Verdict.TheVariants as verdict
-use Rattle.dots_machine.specs.Domains.{role_of, is_gateway}
+use Rattle.dots_settings.specs.Lookups.{role_of}
+use Rattle.dots_machine.specs.Domains.{is_gateway}
 use Rattle.dots_machine.specs.Machine.{is_stranger}
 use Rattle.dots_server.proofs.Received.{decided, lacking}
 use Rattle.dots_server.proofs.Verdicts.{known_is, gateway_is}
