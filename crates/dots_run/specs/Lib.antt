@@ -1,2 +1,4 @@
 pub mod Living
+pub mod Outcomes
+pub mod Programs
 pub mod Scripted

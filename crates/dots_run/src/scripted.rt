@@ -1,11 +1,9 @@
 //! The top call over a script.
 
-ghost use Rattle.std.specs.Prelude.{◌≡◌, [], map, string_bytes, true, Some, None, IfSome};
+ghost use Rattle.std.specs.Prelude.{◌≡◌, [], map, string_bytes, Some, None, IfSome};
 ghost use Rattle.dots_host.specs.Memory.{told};
 ghost use Rattle.dots_script.specs.Accounts.{standing};
-ghost use Rattle.dots_machine.specs.declared.ending.Ending as endings;
-ghost use Rattle.dots_machine.specs.Endings.{status_of, Behaves};
-ghost use Rattle.dots_run.specs.Scripted.{JoinsTexts};
+ghost use Rattle.dots_run.specs.Programs.{Runs};
 
 use crate::outcome::run;
 use dots_host::{Sink, Source};
@@ -36,19 +34,12 @@ pub fn run_script<P: Source + Drop, K: Sink + Drop, S: Source, R: Sink>(
 ) -> Scripted<P, K>
     // Without a host nothing was read or written.
     ensures lacks { result.host ≡ None → (result.status ≡ 4) × (settings.new ≡ settings.old) × (report.new ≡ report.old) }
-    // With one: what the run has done, by the ending that its status is of.
-    ensures machine { IfSome result.host (λ host. (ending : endings.Ending) × (result.status ≡ status_of ending)
-        × Behaves ending (map string_bytes words.now)
-        (record { left = S.left settings.old; source_faults = S.faults settings.old; acts = Some []; wire_faults = 0; held = R.holds report.old; report_faults = R.faults report.old })
-        (record { left = S.left settings.new; source_faults = S.faults settings.new; acts = told host.whole host.acts; wire_faults = host.faults; held = R.holds report.new; report_faults = R.faults report.new })) }
-    // From text to text, as long as each call could be recorded: what the machine sends on the events of the script's lines stands
-    // line by line in the sink, and the machine's report in the report.
-    ensures texts { IfSome result.host (λ host. host.whole ≡ true → (ending : endings.Ending) × (result.status ≡ status_of ending)
-        × JoinsTexts ending
+    // With one: what the run has done.
+    ensures runs { IfSome result.host (λ host. Runs (map string_bytes words.now) result.status
         (record { left = S.left settings.old; source_faults = S.faults settings.old; acts = Some []; wire_faults = 0; held = R.holds report.old; report_faults = R.faults report.old })
         (record { left = S.left settings.new; source_faults = S.faults settings.new; acts = told host.whole host.acts; wire_faults = host.faults; held = R.holds report.new; report_faults = R.faults report.new })
         (record { script = P.left script; held = K.holds sends; failures = P.faults script })
-        (standing P.left P.faults K.holds host)) }
+        (standing P.left P.faults K.holds host) host.whole) }
 {
     match ScriptHost::new(alloc, script, sends) {
         Ok(mut host) => {

@@ -1,0 +1,20 @@
+-- What a status of a run says of its words, of what the settings' source gives, and of what failed.
+use Rattle.std.specs.Prelude.{◌≡◌, ◌≢◌, ◌⊎◌, ◌↔◌, ¬◌, ℕ, List, true, false}
+use Rattle.dots_machine.specs.Commands.{is_replay, is_show, is_command, second_of}
+use Rattle.dots_machine.specs.Endings.{GivesFault, GivesSettings, IsReadable}
+use Rattle.dots_machine.specs.Outside.{Outside, SourceFailed, WireFailed, ReportFailed}
+
+pub record Outcome (words : List (List ℕ)) (status : ℕ) (before now : Outside) : Type 0 where
+  -- when the words are no command; which faults there must have been, and where none was
+  pub words : (status ≡ 2) ↔ (is_command words ≡ false)
+  pub read : status ≡ 5 → SourceFailed before now ⊎ WireFailed before now
+  pub heard : status ≢ 4 → status ≢ 5 → now.source_faults ≡ before.source_faults
+  pub written : status ≡ 9 → ReportFailed before now
+  -- when the settings are refused, and when a run must go well, want of memory and 2^40 events without End aside
+  pub refused : is_replay words ≡ true → GivesFault before.left
+      → ((status ≡ 3) × (now.source_faults ≡ before.source_faults)) ⊎ (status ≡ 4) ⊎ ((status ≡ 5) × SourceFailed before now)
+  pub complete : is_replay words ≡ true → GivesSettings before.left
+      → ¬ (SourceFailed before now) → ¬ (WireFailed before now) → ¬ (ReportFailed before now) → (status ≡ 0) ⊎ (status ≡ 4) ⊎ (status ≡ 11)
+  -- when a message is shown, and when a fault is, want of memory aside
+  pub readable : is_show words ≡ true → IsReadable (second_of words) → ¬ (ReportFailed before now) → (status ≡ 0) ⊎ (status ≡ 4)
+  pub unreadable : is_show words ≡ true → ¬ (IsReadable (second_of words)) → (status ≡ 1) ⊎ (status ≡ 4)

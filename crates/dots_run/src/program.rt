@@ -1,0 +1,91 @@
+//! The whole program over the streams that it is handed.
+
+ghost use Rattle.std.specs.Prelude.{◌≡◌, [], map, string_bytes, Some, None, option_and_then, IfOk, OnErr, MatchOption};
+ghost use Rattle.std.specs.Fn.{FnOnceReturnsAt};
+ghost use Rattle.dots_host.specs.Memory.{told};
+ghost use Rattle.dots_script.specs.Accounts.{standing};
+ghost use Rattle.dots_run.specs.Programs.{Runs, IsOpened};
+
+use crate::scripted::{Scripted, run_script};
+use crate::words::settings_name;
+use dots_host::{Sink, Source, StdSink, StdSource};
+use dots_lists::NoMemory;
+use dots_script::ScriptHost;
+use std::alloc::Global;
+use std::io::{Read, Write};
+
+/// The exit status where no memory is found.
+const NO_MEMORY: u8 = 4;
+
+/// What is left of a run of the program.
+#[derive(Debug, Drop)]
+pub struct Finished<F, I, O, R> {
+    /// The exit status.
+    pub status: u8,
+    /// The file of the settings.
+    pub settings: StdSource<F>,
+    /// The script and the sink of its sends, in their host. None where no memory was found, and nothing was read or written.
+    pub host: Option<ScriptHost<StdSource<I>, StdSink<O>>>,
+    /// The sink of the report.
+    pub report: StdSink<R>,
+}
+
+/// Does all that the program does with the words of its command line, without its name: `opening` opens the file of the settings, the script is
+/// read from `input`, its sends are written to `sends`, and what is reported to `report`. A file that can't be opened, where `opening` gives
+/// None, fails when it is read. Status 4 where no memory was found for the words, or is found for the host.
+pub fn run_program<F: Read + Drop, I: Read + Drop, O: Write + Drop, R: Write + Drop, Open: FnOnce(&str) -> Option<F> + Drop>(
+    alloc: Global,
+    words: &Result<Vec<String>, NoMemory>,
+    opening: Open,
+    input: I,
+    sends: O,
+    report: R,
+) -> Finished<F, I, O, R>
+    requires { Open.IsAlwaysCallable opening }
+    // Where the words found no memory, or the host finds none, nothing was read or written.
+    ensures lacks { OnErr words.now (result.status ≡ 4) }
+    ensures ran { IfOk words.now (λ list. (file : Option F) × IsOpened (FnOnceReturnsAt Open.FnOnce opening) (map string_bytes list.items) file
+        × MatchOption result.host ((result.status ≡ 4) × (⟦<StdSource<F> as Source>⟧.left result.settings ≡ option_and_then F.remaining file) × (⟦<StdSink<R> as Sink>⟧.holds result.report ≡ R.contents report))
+            (λ host. Runs (map string_bytes list.items) result.status
+                (record { left = option_and_then F.remaining file; source_faults = 0; acts = Some []; wire_faults = 0; held = R.contents report; report_faults = 0 })
+                (record {
+                  left = ⟦<StdSource<F> as Source>⟧.left result.settings; source_faults = ⟦<StdSource<F> as Source>⟧.faults result.settings;
+                  acts = told host.whole host.acts; wire_faults = host.faults;
+                  held = ⟦<StdSink<R> as Sink>⟧.holds result.report; report_faults = ⟦<StdSink<R> as Sink>⟧.faults result.report;
+                })
+                (record { script = I.remaining input; held = O.contents sends; failures = 0 })
+                (standing ⟦<StdSource<I> as Source>⟧.left ⟦<StdSource<I> as Source>⟧.faults ⟦<StdSink<O> as Sink>⟧.holds host) host.whole)) }
+{
+    let mut report = StdSink::new(report);
+    let words = match words {
+        Ok(words) => words.as_slice(),
+        Err(_) => {
+            return Finished {
+                status: NO_MEMORY,
+                settings: StdSource::new(None),
+                host: None,
+                report,
+            };
+        }
+    };
+    let file = match settings_name(words) {
+        Some(name) => opening(name),
+        None => None,
+    };
+    let mut settings = StdSource::new(file);
+    let script = StdSource::new(Some(input));
+    let Scripted { status, host } = run_script(
+        alloc,
+        words,
+        &mut settings,
+        script,
+        StdSink::new(sends),
+        &mut report,
+    );
+    Finished {
+        status,
+        settings,
+        host,
+        report,
+    }
+}
