@@ -9,7 +9,7 @@ use std::test::Fail;
 /// The deterministic encoding of what the bytes spell.
 fn written_again(alloc: Global, bytes: &[u8]) -> Result<Bytes, CborFault> {
     let item = decode(alloc, bytes)?;
-    Ok(encode(alloc, &item)?)
+    encode(alloc, &item).map_err(CborFault::from)
 }
 
 /// The same in hexadecimal, or the words of the first fault.
@@ -66,35 +66,51 @@ fn first_at(item: &Item, key: u64) -> Option<&Item> {
     value_at(item, key)?.as_array()?.first()
 }
 
-#[test]
-fn a_mitigation_request_is_a_map(rt: HostRuntime) -> Result<(), Fail> {
-    let request = b"\xa1\x01\xa1\x02\x81\xa2\x06\x81\x6c192.0.2.0/24\x0e\x19\x0e\x10";
-    let item = decode(rt.alloc(), request)?;
+/// The lifetime of the first scope of a mitigation request, and whether its first prefix is this text.
+fn first_scope(
+    alloc: Global,
+    bytes: &[u8],
+    prefix: &str,
+) -> Result<(Option<u64>, bool), CborFault> {
+    let item = decode(alloc, bytes)?;
     let scope = value_at(&item, 1).and_then(|scopes| first_at(scopes, 2));
     let lifetime = scope
         .and_then(|scope| value_at(scope, 14))
         .and_then(Item::as_unsigned);
-    assert_eq!(rt; lifetime, Some(3600));
-    let prefix = scope
+    let text = scope
         .and_then(|scope| first_at(scope, 6))
         .and_then(Item::as_text);
-    assert!(rt; prefix.is_some_and(|prefix| prefix.as_str() == "192.0.2.0/24"));
+    Ok((lifetime, text.is_some_and(|text| text.as_str() == prefix)))
+}
+
+#[test]
+fn a_mitigation_request_is_a_map(rt: HostRuntime) -> Result<(), Fail> {
+    let request = b"\xa1\x01\xa1\x02\x81\xa2\x06\x81\x6c192.0.2.0/24\x0e\x19\x0e\x10";
+    let found = first_scope(rt.alloc(), request, "192.0.2.0/24")?;
+    assert_eq!(rt; found, (Some(3600), true));
     Ok(())
 }
 
-/// Whether an array of one item is valid, which the digits spell.
-fn is_valid_in_array(alloc: Global, digits: &str) -> Result<bool, Fail> {
-    let bytes = hex::decode(alloc, digits)?;
+/// Whether an array of this one item is valid.
+fn is_valid_alone(alloc: Global, item: Item) -> Result<bool, NoMemory> {
     let mut items = ItemList::new(alloc);
-    items.push(decode(alloc, bytes.as_slice())?)?;
+    items.push(item)?;
     Ok(is_valid(&Item::Array(items)))
 }
 
+/// The same of the item that the digits spell.
+fn is_valid_in_array(alloc: Global, digits: &str) -> Result<bool, Fail> {
+    let bytes = hex::decode(alloc, digits)?;
+    let item = decode(alloc, bytes.as_slice())?;
+    Ok(is_valid_alone(alloc, item)?)
+}
+
 /// Whether a map of two such keys is valid.
-fn is_valid_map(alloc: Global, first: u64, second: u64) -> Result<bool, NoMemory> {
+fn is_valid_map(alloc: Global, keys: [u64; 2]) -> Result<bool, NoMemory> {
     let mut pairs = PairList::new(alloc);
-    pairs.push((Item::Unsigned(first), Item::Null))?;
-    pairs.push((Item::Unsigned(second), Item::Null))?;
+    for key in keys {
+        pairs.push((Item::Unsigned(key), Item::Null))?;
+    }
     Ok(is_valid(&Item::Map(pairs)))
 }
 
@@ -113,12 +129,8 @@ fn valid_items_nest_sixteen_deep(rt: HostRuntime) -> Result<(), Fail> {
 
 #[test]
 fn keys_of_valid_items_rise(rt: HostRuntime) -> Result<(), Fail> {
-    for (first, second, want) in [(255, 256, true), (256, 255, false), (7, 7, false)] {
-        assert_eq!(rt;
-            is_valid_map(rt.alloc(), first, second)?,
-            want,
-            "{first} {second}"
-        );
+    for (keys, want) in [([255, 256], true), ([256, 255], false), ([7, 7], false)] {
+        assert_eq!(rt; is_valid_map(rt.alloc(), keys)?, want, "{keys:?}");
     }
     Ok(())
 }
