@@ -1,9 +1,12 @@
-use crate::reading::{fault, numbered, read};
+//! Files that are read, and their limits.
+
+use crate::reading::{Asked, Told, addresses, ask, fault, numbered, read};
 use dots_settings::{Limits, Role, SettingsFault};
+use std::alloc::Global;
 use std::test::Fail;
 
 /// Two domains, three clients, a gateway.
-const EXAMPLE: &[u8] = b"domain net1
+const EXAMPLE: &str = "domain net1
 prefix net1 192.0.2.0/24
 prefix net1 2001:db8:1::/48
 domain net2
@@ -31,36 +34,39 @@ const DEFAULTS: Limits = Limits {
     observers: 8,
 };
 
-#[test]
-fn the_example_has_domains_and_peers(rt: HostRuntime) -> Result<(), Fail> {
-    let settings = read(rt.alloc(), EXAMPLE)??;
-    assert_eq!(rt; settings.domains(), 2);
-    assert_eq!(rt; settings.domain_name(0), b"net1".as_slice());
-    assert_eq!(rt; settings.prefixes(0).len(), 2);
-    assert_eq!(rt; settings.domain_named(b"net2"), Some(1));
-    assert_eq!(rt; settings.domain_named(b"net3"), None);
-    assert_eq!(rt; settings.peers().len(), 4);
-    assert_eq!(rt; settings.domain_of(2), Role::Client(1));
-    assert_eq!(rt; settings.domain_of(3), Role::Gateway);
-    assert_eq!(rt; settings.domain_of(4), Role::Stranger);
-    Ok(())
-}
+/// What is told of the example.
+const TOLD: Told = Told {
+    domains: 2,
+    peers: 4,
+    names: 0,
+    packets: 0,
+    ceiling: 86_400,
+    indefinite: false,
+    limits: DEFAULTS,
+    digest: DIGEST,
+};
 
 #[test]
-fn the_example_has_defaults(rt: HostRuntime) -> Result<(), Fail> {
-    let settings = read(rt.alloc(), EXAMPLE)??;
-    assert_eq!(rt; settings.addresses(b"www.example").len(), 0);
-    assert_eq!(rt; settings.ceiling(), 86_400);
-    assert_eq!(rt; settings.indefinite(), false);
-    assert_eq!(rt; settings.limits(), DEFAULTS);
-    assert_eq!(rt; settings.digest(), DIGEST);
+fn the_example_has_domains_and_peers(rt: HostRuntime) -> Result<(), Fail> {
+    assert_eq!(rt; read(rt.alloc(), EXAMPLE)?, Ok(TOLD));
+    let want = Asked {
+        named: true,
+        prefixes: 2,
+        numbers: [Some(1), None],
+        roles: [Role::Client(1), Role::Gateway, Role::Stranger],
+        addresses: 0,
+    };
+    assert_eq!(rt;
+        ask(rt.alloc(), EXAMPLE, "net1", "www.example")?,
+        Some(want)
+    );
     Ok(())
 }
 
 /// Packets, empty lines and comments leave the digest as it is; the last line may lack its line feed.
 #[test]
 fn other_lines_are_read(rt: HostRuntime) -> Result<(), Fail> {
-    let text = b"# the example, with more\n\npacket 203.0.113.5 192.0.2.9 17 4000 53\ndomain net1
+    let text = "# the example, with more\n\npacket 203.0.113.5 192.0.2.9 17 4000 53\ndomain net1
 prefix net1 192.0.2.0/24
 prefix net1 2001:db8:1::/48
 domain net2
@@ -71,20 +77,31 @@ client 2 net2
 gateway 3
 packet 2001:db8::1 2001:db8:1::1 58 - -
 ceiling 86400";
-    let settings = read(rt.alloc(), text)??;
-    assert_eq!(rt; settings.packets().len(), 2);
-    assert_eq!(rt; settings.digest(), DIGEST);
+    let want = Told { packets: 2, ..TOLD };
+    assert_eq!(rt; read(rt.alloc(), text)?, Ok(want));
     Ok(())
 }
 
 #[test]
 fn names_have_addresses(rt: HostRuntime) -> Result<(), Fail> {
-    let text = b"name WWW.example 192.0.2.1/32\nname www.Example 192.0.2.2/32\ncapacity acls 3";
-    let settings = read(rt.alloc(), text)??;
-    assert_eq!(rt; settings.names().len(), 1);
-    assert_eq!(rt; settings.addresses(b"www.EXAMPLE").len(), 2);
-    assert_eq!(rt; settings.limits().acls, 3);
+    let text = "name WWW.example 192.0.2.1/32\nname www.Example 192.0.2.2/32\ncapacity acls 3";
+    let told = read(rt.alloc(), text)??;
+    assert_eq!(rt; told.names, 1);
+    assert_eq!(rt; told.limits.acls, 3);
+    assert_eq!(rt; addresses(rt.alloc(), text, "www.EXAMPLE")?, Some(2));
     Ok(())
+}
+
+/// What becomes of a file with so many numbered lines behind its first.
+fn fault_of_lines(
+    alloc: Global,
+    first: &str,
+    front: &str,
+    back: &str,
+    count: u32,
+) -> Result<Option<SettingsFault>, Fail> {
+    let text = numbered(alloc, first, front, back, count)?;
+    Ok(fault(alloc, text.as_bytes())?)
 }
 
 /// As many lines as a list may have, and one more.
@@ -98,15 +115,11 @@ fn lists_have_their_limits(rt: HostRuntime) -> Result<(), Fail> {
         ("", "name n", " 10.0.0.0/8", 64, 0),
         ("", "name a 10.", ".0.0/16", 4, 0),
     ] {
-        let full = numbered(rt.alloc(), first, front, back, most)?;
-        let over = numbered(rt.alloc(), first, front, back, most + 1)?;
+        let full = fault_of_lines(rt.alloc(), first, front, back, most)?;
+        assert_eq!(rt; full, None, "{front}");
+        let over = fault_of_lines(rt.alloc(), first, front, back, most + 1)?;
         let n = most + 1 + before;
-        assert_eq!(rt; fault(rt.alloc(), full.as_bytes())?, None, "{front}");
-        assert_eq!(rt;
-            fault(rt.alloc(), over.as_bytes())?,
-            Some(SettingsFault::Capacity { n }),
-            "{front}"
-        );
+        assert_eq!(rt; over, Some(SettingsFault::Capacity { n }), "{front}");
     }
     Ok(())
 }
