@@ -1,13 +1,14 @@
 //! What requests hold, the bodies of replies, and the texts and codes of refusals.
 
-use crate::messages::{CONFIG, MITIGATION, MITIGATIONS, asked, datagram};
+use crate::messages::{CONFIG, MITIGATION, MITIGATIONS, Question, asked, datagram};
 use cbor_profile::CborFault;
 use coap_message::codes::{BAD_OPTION, BAD_REQUEST, GET, NOT_FOUND, PUT};
 use dots_keys::{Cause, Content, MAX_TEXT, Observe, Reject, Reply, Request, body_of};
+use std::alloc::Global;
 use std::test::Fail;
 
 /// Whether it is the PUT of the first test.
-fn is_mitigation(request: &Request) -> bool {
+pub fn is_mitigation(request: &Request) -> bool {
     let Request::PutMitigation { path, body } = request else {
         return false;
     };
@@ -23,7 +24,7 @@ fn is_mitigation(request: &Request) -> bool {
 }
 
 /// Whether it is the GET of the first test: Observe is 0, and the query `c=n`.
-fn is_observation(request: &Request) -> bool {
+pub fn is_observation(request: &Request) -> bool {
     let Request::GetMitigation {
         path,
         content,
@@ -36,37 +37,46 @@ fn is_observation(request: &Request) -> bool {
 }
 
 /// Whether it is the configuration of the first test.
-fn is_configuration(request: &Request) -> bool {
+pub fn is_configuration(request: &Request) -> bool {
     let Request::PutConfig { sid, body } = request else {
         return false;
     };
     *sid == 5 && body.idle.timeout == Some(2560) && body.mitigating.timeout.is_none()
 }
 
+/// Whether a request of this method with these options and this payload is what is asked.
+fn is_request(
+    alloc: Global,
+    code: u8,
+    options: &[u8],
+    payload: &[u8],
+    ask: Question,
+) -> Result<bool, Fail> {
+    let bytes = datagram(alloc, code, options, payload)?;
+    Ok(asked(alloc, bytes.as_slice(), false, ask)? == Ok(true))
+}
+
 #[test]
 fn requests_hold_what_was_sent(rt: HostRuntime) -> Result<(), Fail> {
-    let payload = b"\xa1\x01\xa1\x02\x81\xa2\x06\x81\x6c192.0.2.7/24\x0e\x19\x0e\x10";
-    let put = datagram(rt.alloc(), PUT, MITIGATION, payload)?;
-    let config = b"\xa1\x18\x1e\xa1\x18\x2c\xa1\x18\x27\xa1\x18\x2b\xc4\x82\x20\x19\x01\x00";
-    let configure = datagram(rt.alloc(), PUT, CONFIG, config)?;
+    let alloc = rt.alloc();
+    let payload = b"\xa1\x01\xa1\x02\x81\xa2\x06\x81\x6c192.0.2.7/24\x0e\x19\x0e\x10".as_slice();
+    let config =
+        b"\xa1\x18\x1e\xa1\x18\x2c\xa1\x18\x27\xa1\x18\x2b\xc4\x82\x20\x19\x01\x00".as_slice();
     // Observe is 0 in two bytes, the query `c=n`.
-    let observed = [
-        b"\x62\x00\x00\x5b".as_slice(),
-        &MITIGATIONS[1..],
-        b"\x43c=n",
-    ]
-    .concat(rt.alloc())?;
-    let observe = datagram(rt.alloc(), GET, &observed, b"")?;
-    let is_put = asked(rt.alloc(), &put, false)?.is_ok_and(|request| is_mitigation(&request));
-    assert!(rt; is_put);
-    let is_config = asked(rt.alloc(), &configure, false)?.is_ok_and(|request| is_configuration(
-        &request,
-    ));
-    assert!(rt; is_config);
-    let is_observed = asked(rt.alloc(), &observe, false)?.is_ok_and(|request| is_observation(
-        &request,
-    ));
-    assert!(rt; is_observed);
+    let mut observed = Vec::from_slice(alloc, b"\x62\x00\x00\x5b")?;
+    observed.extend_from_slice(&MITIGATIONS[1..])?;
+    observed.extend_from_slice(b"\x43c=n")?;
+    assert!(rt; is_request(alloc, PUT, MITIGATION, payload, Question::IsMitigation)?);
+    assert!(rt; is_request(alloc, PUT, CONFIG, config, Question::IsConfiguration)?);
+    assert!(rt;
+        is_request(
+            alloc,
+            GET,
+            observed.as_slice(),
+            b"",
+            Question::IsObservation
+        )?
+    );
     Ok(())
 }
 
