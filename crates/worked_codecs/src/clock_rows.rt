@@ -5,6 +5,11 @@ use lifetime_clock::{Deadlines, grant};
 use std::alloc::Global;
 use std::test::Fail;
 
+/// Whether this is granted of what is asked for.
+fn is_granted(asked: i32, ceiling: i32, indefinite: bool, want: i32) -> bool {
+    (asked == -1 || asked > 0) && grant(asked, ceiling, indefinite) == want
+}
+
 #[test]
 fn grants_up_to_the_ceiling(rt: HostRuntime) {
     for (asked, ceiling, indefinite, want) in [
@@ -15,10 +20,8 @@ fn grants_up_to_the_ceiling(rt: HostRuntime) {
         (3_600, 3_600, true, 3_600),
         (3_601, 3_600, true, 3_600),
     ] {
-        assert!(rt; asked == -1 || asked > 0, "no lifetime: {asked}");
-        assert_eq!(rt;
-            grant(asked, ceiling, indefinite),
-            want,
+        assert!(rt;
+            is_granted(asked, ceiling, indefinite, want),
             "at {asked} of {ceiling}"
         );
     }
@@ -56,16 +59,18 @@ fn take_due(
     Ok(keys)
 }
 
-/// The keys that are handed out at a time, where these were set and then these cleared.
-fn handed_out(
+/// Whether these keys are handed out at a time, where these were set and then these cleared.
+fn hands_out(
     alloc: Global,
     set: &[(u32, u64)],
     cleared: &[u32],
     now: u64,
-) -> Result<Vec<u32>, NoMemory> {
+    want: &[u32],
+) -> Result<bool, NoMemory> {
     let mut deadlines = deadlines_of(alloc, set)?;
     clear_all(&mut deadlines, cleared);
-    take_due(alloc, &mut deadlines, set.len().saturating_add(1), now)
+    let most = set.len().saturating_add(1);
+    Ok(take_due(alloc, &mut deadlines, most, now).is_ok_and(|keys| keys.as_slice() == want))
 }
 
 #[test]
@@ -84,8 +89,10 @@ fn hands_out_what_is_due(rt: HostRuntime) -> Result<(), Fail> {
         (&[(1, 10), (2, 20), (3, 30)], &[9, 1, 1], 40, &[2, 3]),
     ];
     for (set, cleared, now, want) in rows {
-        let keys = handed_out(rt.alloc(), set, cleared, now)?;
-        assert_eq!(rt; keys.as_slice(), want, "at {set:?}, {cleared:?}");
+        assert!(rt;
+            hands_out(rt.alloc(), set, cleared, now, want)?,
+            "at {set:?}"
+        );
     }
     Ok(())
 }
@@ -137,41 +144,34 @@ fn levels_left(
     levels(alloc, &deadlines)
 }
 
-/// The keys from 0 on below the first, from the second on below 1000, and each second one between them.
-fn at_both_ends(alloc: Global, first: u32, second: u32) -> Result<Vec<u32>, NoMemory> {
+/// The keys below 300, from 700 on below 1000, and each second one between them.
+fn at_both_ends(alloc: Global) -> Result<Vec<u32>, NoMemory> {
     let mut keys = Vec::new(alloc);
     for key in 0..1_000u32 {
-        if key < first || key >= second || key % 2 == 0 {
+        if key < 300 || key >= 700 || key % 2 == 0 {
             keys.push(key)?;
         }
     }
     Ok(keys)
 }
 
-/// A tree in which no side of a branch is more than a level higher than the other has at most 14 levels for 1000 branches, 10
-/// for 200 and 9 for 100: for keys that rise, fall and come in turns, where keys are taken out at both ends and between, and where
-/// what is due is handed out.
+/// A tree in which no side of a branch is more than a level higher than the other has 10 to 14 levels for 1000 branches, 8 to 10
+/// for 200, and 7 to 9 for 100.
+fn is_low(alloc: Global, step: u32) -> Result<bool, Fail> {
+    let set = in_steps(alloc, 1_000, step)?;
+    let cleared = at_both_ends(alloc)?;
+    let whole = levels_left(alloc, set.as_slice(), &[], 0)?;
+    let fewer = levels_left(alloc, set.as_slice(), cleared.as_slice(), 0)?;
+    let later = levels_left(alloc, set.as_slice(), cleared.as_slice(), 100)?;
+    Ok((10..=14).contains(&whole) && (8..=10).contains(&fewer) && (7..=9).contains(&later))
+}
+
+/// For keys that rise, fall and come in turns, where keys are taken out at both ends and between, and where what is due is then
+/// handed out.
 #[test]
 fn the_tree_is_low(rt: HostRuntime) -> Result<(), Fail> {
-    let none = Vec::new(rt.alloc());
-    let cleared = at_both_ends(rt.alloc(), 300, 700)?;
     for step in [1, 999, 617] {
-        let set = in_steps(rt.alloc(), 1_000, step)?;
-        let whole = levels_left(rt.alloc(), set.as_slice(), none.as_slice(), 0)?;
-        assert!(rt;
-            whole >= 10 && whole <= 14,
-            "{whole} levels, by steps of {step}"
-        );
-        let fewer = levels_left(rt.alloc(), set.as_slice(), cleared.as_slice(), 0)?;
-        assert!(rt;
-            fewer >= 8 && fewer <= 10,
-            "{fewer} levels, by steps of {step}"
-        );
-        let later = levels_left(rt.alloc(), set.as_slice(), cleared.as_slice(), 100)?;
-        assert!(rt;
-            later >= 7 && later <= 9,
-            "{later} levels, by steps of {step}"
-        );
+        assert!(rt; is_low(rt.alloc(), step)?, "by steps of {step}");
     }
     Ok(())
 }
@@ -185,14 +185,18 @@ fn keys_of(alloc: Global, rows: &[(u32, u64)]) -> Result<Vec<u32>, NoMemory> {
     Ok(keys)
 }
 
-/// Sixty thousand keys that rise or fall with their times. In a tree that isn't balanced the calls would nest too deep.
+/// Whether sixty thousand keys whose times rise are handed out in this order.
+fn keeps_the_order(alloc: Global, step: u32) -> Result<bool, NoMemory> {
+    let rows = in_steps(alloc, 60_000, step)?;
+    let want = keys_of(alloc, rows.as_slice())?;
+    hands_out(alloc, rows.as_slice(), &[], u64::MAX, want.as_slice())
+}
+
+/// Keys that rise or fall with their times. In a tree that isn't balanced the calls would nest too deep.
 #[test]
-fn stays_low(rt: HostRuntime) -> Result<(), Fail> {
+fn many_keys_are_handed_out(rt: HostRuntime) -> Result<(), Fail> {
     for step in [1, 59_999] {
-        let rows = in_steps(rt.alloc(), 60_000, step)?;
-        let found = handed_out(rt.alloc(), rows.as_slice(), &[], u64::MAX)?;
-        let want = keys_of(rt.alloc(), rows.as_slice())?;
-        assert_eq!(rt; found.as_slice(), want.as_slice(), "by steps of {step}");
+        assert!(rt; keeps_the_order(rt.alloc(), step)?, "by steps of {step}");
     }
     Ok(())
 }

@@ -27,12 +27,8 @@ fn rows_of(alloc: Global, of: Going) -> Result<Vec<(u32, u64)>, NoMemory> {
     Ok(rows)
 }
 
-fn place_of(rows: &[(u32, u64)], key: u32) -> Option<usize> {
-    rows.iter().position(|row| row.0 == key)
-}
-
 fn clear(rows: &mut Vec<(u32, u64)>, key: u32) {
-    if let Some(place) = place_of(rows.as_slice(), key) {
+    if let Some(place) = rows.iter().position(|row| row.0 == key) {
         let _row = rows.swap_remove(place);
     }
 }

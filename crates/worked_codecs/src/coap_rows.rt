@@ -1,9 +1,11 @@
 //! Messages of CoAP (RFC 7252, section 3).
 
-ghost use Rattle.std.specs.Prelude.{◌≤◌, length};
+ghost use Rattle.std.specs.Prelude.{◌≤◌};
+ghost use Rattle.coap_message.specs.Parts.{IsValid};
 
 use coap_message::{
-    CoapFault, Kind, OptionPart, Parts, Token, decode, encode_into, encoded_len, salvage,
+    CoapFault, Kind, Message, OptionPart, Options, Parts, Token, decode, encode_into, encoded_len,
+    salvage,
 };
 use std::alloc::Global;
 use std::test::Fail;
@@ -119,85 +121,100 @@ fn writes_each_form_of_an_option(rt: HostRuntime) -> Result<(), Fail> {
     Ok(())
 }
 
-/// The option at this place among those of a message.
-fn option_at(bytes: &[u8], place: usize) -> Option<(u16, &[u8])> {
-    let message = decode(bytes).ok()?;
-    let mut options = message.options();
-    for _ in 0..place {
-        options.next()?;
+/// Whether the next of the options has this number and this value.
+fn is_next(options: &mut Options<'_>, number: u16, value: &str) -> bool {
+    match options.next() {
+        Some(row) => row.number == number && row.value == value.as_bytes(),
+        None => false,
     }
-    let row = options.next()?;
-    Some((row.number, row.value))
 }
 
-#[test]
-fn reads_the_options_of_a_request(rt: HostRuntime) {
-    for (place, number, value) in [
-        (0, 11, ".well-known"),
-        (1, 11, "dots"),
-        (2, 11, "mitigate"),
-        (3, 11, "cuid=dz6pHjaADkaFTbjr0JGBpw"),
-        (4, 11, "mid=123"),
-        (5, 12, "\x01\x0f"),
-    ] {
-        let found = option_at(&REQUEST, place);
-        assert_eq!(rt; found, Some((number, value.as_bytes())), "at {place}");
-    }
-    assert_eq!(rt; option_at(&REQUEST, 6), None);
+fn has_options(message: &Message<'_>) -> bool {
+    let mut options = message.options();
+    is_next(&mut options, 11, ".well-known")
+        && is_next(&mut options, 11, "dots")
+        && is_next(&mut options, 11, "mitigate")
+        && is_next(&mut options, 11, "cuid=dz6pHjaADkaFTbjr0JGBpw")
+        && is_next(&mut options, 11, "mid=123")
+        && is_next(&mut options, 12, "\x01\x0f")
+        && options.next().is_none()
+}
+
+fn has_parts(message: &Message<'_>) -> bool {
+    message.kind() == Kind::Non
+        && message.code() == 0x03
+        && message.id() == 1
+        && message.token() == b"\x4a".as_slice()
+        && message.payload() == &REQUEST[72..]
 }
 
 #[test]
 fn reads_a_request(rt: HostRuntime) -> Result<(), Fail> {
     let message = decode(&REQUEST)?;
-    assert_eq!(rt; message.kind(), Kind::Non);
-    assert_eq!(rt; message.code(), 0x03);
-    assert_eq!(rt; message.id(), 1);
-    assert_eq!(rt; message.token(), b"\x4a".as_slice());
-    assert_eq!(rt; message.payload(), &REQUEST[72..]);
+    assert!(rt; has_options(&message));
+    assert!(rt; has_parts(&message));
     Ok(())
 }
 
-/// What is told of the fault of the bytes that the digits spell, nothing where they are a message.
-fn fault_of(alloc: Global, digits: &str) -> Result<String, Fail> {
+/// Whether what is told of the bytes that the digits spell is this, nothing where they are a message.
+fn is_told(alloc: Global, digits: &str, want: &str) -> Result<bool, Fail> {
     let bytes = hex::decode(alloc, digits)?;
-    match decode(bytes.as_slice()).err() {
-        Some(fault) => Ok(format!(in alloc; "{fault}")?),
-        None => Ok(String::new(alloc)),
-    }
+    let said = match decode(bytes.as_slice()).err() {
+        Some(fault) => format!(in alloc; "{fault}")?,
+        None => String::new(alloc),
+    };
+    Ok(said.as_str() == want)
+}
+
+fn holds(alloc: Global, row: &str) -> Result<bool, Fail> {
+    let (digits, want) = row.split_once(": ").ok_or("a row")?;
+    is_told(alloc, digits, want)
 }
 
 #[test]
 fn names_the_first_fault(rt: HostRuntime) -> Result<(), Fail> {
-    for line in FAULTS.lines() {
-        let (digits, want) = line.split_once(": ").ok_or("a row")?;
-        assert_eq!(rt; fault_of(rt.alloc(), digits)?.as_str(), want, "at {digits}");
+    for row in FAULTS.lines() {
+        assert!(rt; holds(rt.alloc(), row)?, "at {row}");
     }
     Ok(())
 }
 
-#[test]
-fn salvages_a_kind_and_an_id(rt: HostRuntime) {
-    assert_eq!(rt; salvage(b"\x40\x01\x12"), None);
-    assert_eq!(rt; salvage(b"\xf0\x01\x12\x34"), None);
-    assert_eq!(rt; salvage(b"\x4f\x01\x12\x34"), Some((Kind::Con, 0x1234)));
-    assert_eq!(rt; salvage(b"\x50\x01\xff\x00\xf0"), Some((Kind::Non, 0xff00)));
-    assert_eq!(rt; salvage(b"\x61\x00\x00\xff"), Some((Kind::Ack, 0x00ff)));
-    assert_eq!(rt; salvage(b"\x70\x00\xff\xff\xff"), Some((Kind::Rst, 0xffff)));
-}
-
-#[test]
-fn prints_a_fault_with_its_place(rt: HostRuntime) -> Result<(), Fail> {
+/// A fault deep inside, with its place.
+fn is_printed(alloc: Global) -> Result<bool, Fail> {
     let fault = CoapFault::NumberTooLarge { at: 4_096 };
-    let text = format!(in rt.alloc(); "{fault}")?;
-    assert_eq!(rt; text.as_str(), "an option's number is above 65535 at 4096");
-    Ok(())
+    let text = format!(in alloc; "{fault}")?;
+    Ok(text.as_str() == "an option's number is above 65535 at 4096")
 }
 
-/// A reply with a token, an option and a payload. The bytes behind it stay.
-#[test]
-fn writes_a_reply(rt: HostRuntime) -> Result<(), Fail> {
-    assert!(rt; Token::new(b"ninebytes").is_none());
-    let token = Token::new(b"\x4a").ok_or("the token is too long")?;
+/// A kind and an id are salvaged of bytes that are no message.
+fn are_salvaged() -> bool {
+    salvage(b"\x40\x01\x12").is_none()
+        && salvage(b"\xf0\x01\x12\x34").is_none()
+        && salvage(b"\x4f\x01\x12\x34") == Some((Kind::Con, 0x1234))
+        && salvage(b"\x50\x01\xff\x00\xf0") == Some((Kind::Non, 0xff00))
+        && salvage(b"\x61\x00\x00\xff") == Some((Kind::Ack, 0x00ff))
+        && salvage(b"\x70\x00\xff\xff\xff") == Some((Kind::Rst, 0xffff))
+}
+
+/// Whether these parts take the bytes that are wanted at the front of the room, behind which it stays.
+fn is_encoded(parts: &Parts<'_>, want: &[u8]) -> bool
+    requires { IsValid parts.now }
+{
+    let mut room = [0xee; 24];
+    let len = encoded_len(parts);
+    if len != want.len() || len > room.len() {
+        return false;
+    }
+    encode_into(parts, &mut room) == len
+        && room.starts_with(want)
+        && room[len..].iter().all(|byte| *byte == 0xee)
+}
+
+/// A reply with a token, an option and a payload.
+fn is_reply_written() -> bool {
+    let Some(token) = Token::new(b"\x4a") else {
+        return false;
+    };
     let parts = Parts {
         kind: Kind::Non,
         code: 0x41,
@@ -210,34 +227,33 @@ fn writes_a_reply(rt: HostRuntime) -> Result<(), Fail> {
         values: b"\x01\x0f",
         payload: &REPLY[9..],
     };
-    let mut buffer = [0xee; 24];
-    assert_eq!(rt; encoded_len(&parts), 22);
-    assert_eq!(rt; encode_into(&parts, &mut buffer), 22);
-    assert_eq!(rt; &buffer[..22], REPLY);
-    assert_eq!(rt; &buffer[22..], b"\xee\xee".as_slice());
-    Ok(())
+    is_encoded(&parts, REPLY)
 }
 
 /// Without options and a payload, and so without a marker.
-#[test]
-fn writes_headers_alone(rt: HostRuntime) {
-    let rows: [(Kind, u8, &[u8], &[u8]); 2] = [
-        (Kind::Ack, 0, b"", b"\x60\x00\x12\x34"),
-        (Kind::Rst, 0xff, b"coltsabb", b"\x78\xff\x12\x34coltsabb"),
-    ];
-    for (kind, code, token, want) in rows {
-        assert!(rt; token.len() <= 8);
-        let parts = Parts {
-            kind,
-            code,
-            id: 0x1234,
-            token,
-            options: &[],
-            values: &[],
-            payload: &[],
-        };
-        let mut buffer = [0xee; 12];
-        assert_eq!(rt; encode_into(&parts, &mut buffer), want.len());
-        assert_eq!(rt; &buffer[..want.len()], want);
+fn is_header_written(kind: Kind, code: u8, token: &[u8], want: &[u8]) -> bool {
+    if token.len() > 8 {
+        return false;
     }
+    let parts = Parts {
+        kind,
+        code,
+        id: 0x1234,
+        token,
+        options: &[],
+        values: &[],
+        payload: &[],
+    };
+    is_encoded(&parts, want)
+}
+
+#[test]
+fn writes_messages(rt: HostRuntime) -> Result<(), Fail> {
+    assert!(rt; is_reply_written());
+    assert!(rt; Token::new(b"ninebytes").is_none());
+    assert!(rt; is_header_written(Kind::Ack, 0, b"", b"\x60\x00\x12\x34"));
+    assert!(rt; is_header_written(Kind::Rst, 0xff, b"coltsabb", b"\x78\xff\x12\x34coltsabb"));
+    assert!(rt; are_salvaged());
+    assert!(rt; is_printed(rt.alloc())?);
+    Ok(())
 }

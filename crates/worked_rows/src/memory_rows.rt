@@ -26,21 +26,19 @@ enum Step {
 }
 
 /// What a host hands in, each at its second, and which of its calls fails, or from which on all do.
-#[derive(Clone, Copy, Debug)]
+#[derive(Clone, Copy)]
 struct Case {
     steps: [(Step, u64); 2],
     failing: Option<u64>,
     stopping: Option<u64>,
 }
 
-/// What a run left: whether the host could be made, the status, whether it reported what is expected, whether the host still tells
-/// its acts, how many of these are sends, and how many are the reply to the client, and were done.
-#[derive(Clone, Copy, Debug, PartialEq, Eq)]
-struct Left {
-    made: bool,
+/// What a run is to leave: its status and its report, how many sends there are among the acts, and how many of these are the
+/// reply to the client, and were done.
+#[derive(Clone, Copy)]
+struct Want<'a> {
     status: u8,
-    reported: bool,
-    whole: bool,
+    report: &'a str,
     sends: usize,
     replies: usize,
 }
@@ -113,7 +111,13 @@ fn is_send(act: &Act) -> bool {
     matches!(act, Act::Gave { .. })
 }
 
-fn left_by(alloc: Global, case: &Case, report: &str) -> Result<Left, Fail> {
+fn has_acts(acts: &[Act], want: &Want, reply: &[u8]) -> bool {
+    acts.iter().filter(|act| is_send(act)).count() == want.sends
+        && acts.iter().filter(|act| is_reply(act, reply)).count() == want.replies
+}
+
+/// Whether a run of the case leaves what is wanted, and the host still tells its acts.
+fn leaves(alloc: Global, case: &Case, want: &Want) -> Result<bool, Fail> {
     let words = words_of(alloc, &COMMAND)?;
     let reply = hex::decode(alloc, REPLY)?;
     let mut settings = MemorySource::new(alloc, SETTINGS.as_bytes())?;
@@ -121,49 +125,56 @@ fn left_by(alloc: Global, case: &Case, report: &str) -> Result<Left, Fail> {
     let mut host = MemoryHost::new(alloc)?;
     let made = prepare(alloc, &mut host, case);
     let status = run(alloc, words.as_slice(), &mut settings, &mut host, &mut sink);
-    let acts = host.acts();
-    Ok(Left {
-        made,
-        status,
-        reported: sink.bytes() == report.as_bytes(),
-        whole: host.whole(),
-        sends: acts.iter().filter(|act| is_send(act)).count(),
-        replies: acts
-            .iter()
-            .filter(|act| is_reply(act, reply.as_slice()))
-            .count(),
-    })
+    Ok(
+        made && status == want.status
+            && sink.bytes() == want.report.as_bytes()
+            && host.whole()
+            && has_acts(host.acts(), want, reply.as_slice()),
+    )
+}
+
+/// Whether the reply to the request, which this follows, was sent so often, and this is reported.
+fn is_answered(
+    alloc: Global,
+    step: (Step, u64),
+    failing: Option<u64>,
+    report: &str,
+    replies: usize,
+) -> Result<bool, Fail> {
+    let case = Case {
+        steps: [(Step::Request, 1000), step],
+        failing,
+        stopping: None,
+    };
+    let want = Want {
+        status: 0,
+        report,
+        sends: 1,
+        replies,
+    };
+    leaves(alloc, &case, &want)
 }
 
 /// The request is answered once. End has a time beside it, and moves none, so the mitigation stands in the report; a stranger
-/// moves the time, and so do events that aren't served yet. A reply that is lost is no fault, and a host that fails is one.
+/// moves the time, and so do events that aren't served yet. A reply that is lost is no fault.
 #[test]
 fn runs_over_a_host_in_memory(rt: HostRuntime) -> Result<(), Fail> {
-    for (step, at, failing, report, replies) in [
-        (Step::End, 9999, None, ROW, 1),
-        (Step::Stranger, 5000, None, "", 1),
-        (Step::Opened, 4600, None, "", 1),
-        (Step::Piece, 4600, None, "", 1),
-        (Step::Closed, 4600, None, "", 1),
-        (Step::Tick, 4600, None, "", 1),
-        (Step::Restart, 4600, None, "", 1),
-        // the second call is the send
-        (Step::Nothing, 0, Some(2), ROW, 0),
+    let end = (Step::End, 9999);
+    assert!(rt; is_answered(rt.alloc(), end, None, ROW, 1)?);
+    // the second call is the send
+    assert!(rt; is_answered(rt.alloc(), (Step::Nothing, 0), Some(2), ROW, 0)?);
+    for (step, at) in [
+        (Step::Stranger, 5000),
+        (Step::Opened, 4600),
+        (Step::Piece, 4600),
+        (Step::Closed, 4600),
+        (Step::Tick, 4600),
+        (Step::Restart, 4600),
     ] {
-        let case = Case {
-            steps: [(Step::Request, 1000), (step, at)],
-            failing,
-            stopping: None,
-        };
-        let want = Left {
-            made: true,
-            status: 0,
-            reported: true,
-            whole: true,
-            sends: 1,
-            replies,
-        };
-        assert_eq!(rt; left_by(rt.alloc(), &case, report)?, want, "at {step:?}");
+        assert!(rt;
+            is_answered(rt.alloc(), (step, at), None, "", 1)?,
+            "at {step:?}"
+        );
     }
     Ok(())
 }
@@ -175,14 +186,12 @@ fn a_failing_host(rt: HostRuntime) -> Result<(), Fail> {
         failing: None,
         stopping: Some(1),
     };
-    let want = Left {
-        made: true,
+    let want = Want {
         status: 5,
-        reported: true,
-        whole: true,
+        report: "",
         sends: 0,
         replies: 0,
     };
-    assert_eq!(rt; left_by(rt.alloc(), &case, "")?, want);
+    assert!(rt; leaves(rt.alloc(), &case, &want)?);
     Ok(())
 }

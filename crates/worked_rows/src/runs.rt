@@ -16,15 +16,6 @@ pub struct Case<'a> {
     pub failing_write: Option<u64>,
 }
 
-/// What a run left: its status, whether it sent and reported what is expected, and whether the host still tells its acts.
-#[derive(Clone, Copy, Debug, PartialEq, Eq)]
-pub struct Left {
-    pub status: u8,
-    pub sent: bool,
-    pub reported: bool,
-    pub whole: bool,
-}
-
 impl<'a> Case<'a> {
     /// No words over nothing, and nothing fails.
     pub fn new() -> Self {
@@ -69,17 +60,18 @@ fn host_of(alloc: Global, script: &[u8]) -> Result<ScriptHost<MemorySource, Memo
     ScriptHost::new(alloc, source, MemorySink::new(alloc))
 }
 
-/// Runs the case, of which these sends and this report are expected.
-pub fn left_by(alloc: Global, case: &Case, sends: &[u8], report: &[u8]) -> Result<Left, NoMemory> {
+/// Whether a run of the case ends with this status and leaves these sends and this report, and the host still tells its acts.
+pub fn leaves(
+    alloc: Global,
+    case: &Case,
+    status: u8,
+    sends: &[u8],
+    report: &[u8],
+) -> Result<bool, NoMemory> {
     let words = words_of(alloc, case.words)?;
     let mut settings = source_of(alloc, case.settings, case.failing_read)?;
     let mut sink = sink_of(alloc, case.failing_write)?;
     let mut host = host_of(alloc, case.script)?;
-    let status = run(alloc, words.as_slice(), &mut settings, &mut host, &mut sink);
-    Ok(Left {
-        status,
-        sent: host.sink().bytes() == sends,
-        reported: sink.bytes() == report,
-        whole: host.whole(),
-    })
+    let ended = run(alloc, words.as_slice(), &mut settings, &mut host, &mut sink);
+    Ok(ended == status && host.whole() && host.sink().bytes() == sends && sink.bytes() == report)
 }

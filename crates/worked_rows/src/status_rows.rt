@@ -1,8 +1,9 @@
 //! Words and settings that are refused, and reads and writes that fail.
 
-use crate::runs::{Case, left_by};
-use crate::tables::{COMMAND, as_told};
+use crate::runs::{Case, leaves};
+use crate::tables::COMMAND;
 use crate::texts::{REPLY, REQUEST, SETTINGS};
+use std::alloc::Global;
 use std::test::Fail;
 
 /// A message that is answered.
@@ -23,43 +24,56 @@ ceiling 86400
 prefix net2 192.0.2.0/25
 ";
 
-/// Other words, other settings, and settings whose first read fails. Nothing is sent.
+/// Whether a run with these words and settings, of which this read fails, ends so and sends nothing.
+fn is_refused(
+    alloc: Global,
+    words: &[&str],
+    settings: &str,
+    failing_read: Option<u64>,
+    status: u8,
+    report: &str,
+) -> Result<bool, Fail> {
+    let case = Case {
+        words,
+        settings: settings.as_bytes(),
+        script: LINE.as_bytes(),
+        failing_read,
+        failing_write: None,
+    };
+    Ok(leaves(alloc, &case, status, b"", report.as_bytes())?)
+}
+
 #[test]
-fn runs_that_do_not_serve(rt: HostRuntime) -> Result<(), Fail> {
-    let other = ["replay", "-a"];
-    let empty = ["replay", ""];
-    for (words, settings, failing_read, status, report) in [
-        (&other, SETTINGS, None, 2, "words\n"),
-        (&empty, SETTINGS, None, 2, "words\n"),
-        (&COMMAND, "domain Net1\n", None, 3, "settings line 1\n"),
+fn words_and_settings_that_are_refused(rt: HostRuntime) -> Result<(), Fail> {
+    for last in ["-a", ""] {
+        let words = ["replay", last];
+        assert!(rt;
+            is_refused(rt.alloc(), &words, SETTINGS, None, 2, "words\n")?,
+            "at {last}"
+        );
+    }
+    for (settings, failing_read, status, report) in [
+        ("domain Net1\n", None, 3, "settings line 1\n"),
         (
-            &COMMAND,
             "domain net1\nprefix net1 192.0.2.0/33\n",
             None,
             3,
             "settings line 2\n",
         ),
-        (&COMMAND, OVERLAPPING, None, 3, "settings overlap 2 11\n"),
-        (&COMMAND, SETTINGS, Some(1), 5, ""),
+        (OVERLAPPING, None, 3, "settings overlap 2 11\n"),
+        // the first read fails
+        (SETTINGS, Some(1), 5, ""),
     ] {
-        let case = Case {
-            words,
-            settings: settings.as_bytes(),
-            script: LINE.as_bytes(),
-            failing_read,
-            failing_write: None,
-        };
-        let left = left_by(rt.alloc(), &case, b"", report.as_bytes())?;
-        assert_eq!(rt; left, as_told(status), "at {words:?} and {settings}");
+        let is_so = is_refused(rt.alloc(), &COMMAND, settings, failing_read, status, report)?;
+        assert!(rt; is_so, "at {settings}");
     }
     Ok(())
 }
 
-/// The first write of the report fails, after the reply was sent.
-#[test]
-fn a_report_that_cannot_be_written(rt: HostRuntime) -> Result<(), Fail> {
-    let script = format!(in rt.alloc(); "at 1000 from 0 {REQUEST}\n")?;
-    let sends = format!(in rt.alloc(); "to 0 {REPLY}\n")?;
+/// Whether the first write of the report fails after the reply was sent.
+fn cannot_report(alloc: Global) -> Result<bool, Fail> {
+    let script = format!(in alloc; "at 1000 from 0 {REQUEST}\n")?;
+    let sends = format!(in alloc; "to 0 {REPLY}\n")?;
     let case = Case {
         words: &COMMAND,
         settings: SETTINGS.as_bytes(),
@@ -67,7 +81,11 @@ fn a_report_that_cannot_be_written(rt: HostRuntime) -> Result<(), Fail> {
         failing_read: None,
         failing_write: Some(1),
     };
-    let left = left_by(rt.alloc(), &case, sends.as_bytes(), b"")?;
-    assert_eq!(rt; left, as_told(9));
+    Ok(leaves(alloc, &case, 9, sends.as_bytes(), b"")?)
+}
+
+#[test]
+fn a_report_that_cannot_be_written(rt: HostRuntime) -> Result<(), Fail> {
+    assert!(rt; cannot_report(rt.alloc())?);
     Ok(())
 }

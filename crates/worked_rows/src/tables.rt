@@ -3,7 +3,7 @@
 //! Rows stand apart by an empty line. In a row a line behind `< ` is one of the script, one behind `> ` is sent, one behind `= `
 //! is reported, and one behind `# ` is a remark. The last word of a line is names of [`NAMES`] and other texts, joined by `+`.
 
-use crate::runs::{Case, Left, left_by};
+use crate::runs::{Case, leaves};
 use crate::texts::NAMES;
 use dots_host::NoMemory;
 use std::alloc::Global;
@@ -12,16 +12,6 @@ use std::test::Fail;
 
 /// The words that run over a script.
 pub const COMMAND: [&str; 2] = ["replay", "settings"];
-
-/// A run that ended with this status, and sent and reported what it was to.
-pub fn as_told(status: u8) -> Left {
-    Left {
-        status,
-        sent: true,
-        reported: true,
-        whole: true,
-    }
-}
 
 /// What a part of a word stands for: the text behind a name, else itself.
 fn meaning(part: &str) -> &str {
@@ -73,8 +63,8 @@ fn is_row(row: &str) -> bool {
     true
 }
 
-/// What the run of a row left.
-fn left_by_row(alloc: Global, settings: &str, row: &str) -> Result<Left, Fail> {
+/// Whether the run of a row goes as it says.
+fn holds(alloc: Global, settings: &str, row: &str) -> Result<bool, Fail> {
     if !is_row(row) {
         return Err(Fail::from("a line without a mark"));
     }
@@ -87,13 +77,13 @@ fn left_by_row(alloc: Global, settings: &str, row: &str) -> Result<Left, Fail> {
         script: script.as_slice(),
         ..Case::new()
     };
-    Ok(left_by(alloc, &case, sends.as_slice(), report.as_slice())?)
+    Ok(leaves(alloc, &case, 0, sends.as_slice(), report.as_slice())?)
 }
 
 /// Each row of the table runs as it says.
 pub fn all_hold(rt: &impl Abort, alloc: Global, settings: &str, table: &str) -> Result<(), Fail> {
     for row in table.split("\n\n") {
-        assert_eq!(rt; left_by_row(alloc, settings, row)?, as_told(0), "at {row}");
+        assert!(rt; holds(alloc, settings, row)?, "at {row}");
     }
     Ok(())
 }
