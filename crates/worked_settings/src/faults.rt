@@ -1,6 +1,6 @@
 //! Files that are refused.
 
-use crate::reading::{fault, fault_text, fault_where};
+use crate::reading::{fault, fault_where, is_refused};
 use dots_settings::SettingsFault;
 use std::alloc::Global;
 use std::test::Fail;
@@ -31,61 +31,63 @@ capacity clients 01|
 packet 192.0.2.1 192.0.2.2 17 - 53|
 packet 192.0.2.1 192.0.2.2 256 1 2|";
 
+fn has_no_form(alloc: Global, row: &str) -> Result<bool, Fail> {
+    let line = row.strip_suffix('|').ok_or("a row")?;
+    is_refused(alloc, line, "settings line 1")
+}
+
 #[test]
 fn lines_have_their_forms(rt: HostRuntime) -> Result<(), Fail> {
     for row in LINES.lines() {
-        let line = row.strip_suffix('|').ok_or("a row")?;
-        let found = fault_text(rt.alloc(), line)?;
-        assert_eq!(rt; found.as_str(), "settings line 1", "at {line}");
+        assert!(rt; has_no_form(rt.alloc(), row)?, "at {row}");
     }
-    assert_eq!(rt; fault(rt.alloc(), b"gateway 4294967295")?, None);
+    assert!(rt; fault(rt.alloc(), b"gateway 4294967295")?.is_none());
     Ok(())
 }
 
 /// Faults, each in front of its file, in which `;` stands for a line feed.
 const FAULTS: &str = "\
-line 3: #;;ceiling 604801;
-twice 3: domain a;;domain a;
-twice 2: gateway 1;client 1 a;
-twice 2: ceiling 1;ceiling 1;
-twice 2: indefinite no;indefinite yes;
-twice 2: capacity acls 1;capacity acls 9;
-unknown 1: client 1 a;
-unknown 1: prefix a ::/0;domain a;
-overlap 2 4: domain a;prefix a ::/9;domain b;prefix b ::/8;
-capacity 1: capacity clients 0;
-capacity 1: capacity aliases 17;
-capacity 1: capacity clients 100000000000000000000000;";
+settings line 3: #;;ceiling 604801;
+settings twice 3: domain a;;domain a;
+settings twice 2: gateway 1;client 1 a;
+settings twice 2: ceiling 1;ceiling 1;
+settings twice 2: indefinite no;indefinite yes;
+settings twice 2: capacity acls 1;capacity acls 9;
+settings unknown 1: client 1 a;
+settings unknown 1: prefix a ::/0;domain a;
+settings overlap 2 4: domain a;prefix a ::/9;domain b;prefix b ::/8;
+settings capacity 1: capacity clients 0;
+settings capacity 1: capacity aliases 17;
+settings capacity 1: capacity clients 100000000000000000000000;";
 
-fn is_refused_with(alloc: Global, file: &str, want: &str) -> Result<bool, Fail> {
-    let found = fault_text(alloc, file)?;
-    Ok(found.as_str().strip_prefix("settings ") == Some(want))
+fn is_at_fault(alloc: Global, row: &str) -> Result<bool, Fail> {
+    let (want, file) = row.split_once(": ").ok_or("a row")?;
+    is_refused(alloc, file, want)
 }
 
 #[test]
 fn faults_have_their_lines(rt: HostRuntime) -> Result<(), Fail> {
     for row in FAULTS.lines() {
-        let (want, file) = row.split_once(": ").ok_or("a row")?;
-        assert!(rt; is_refused_with(rt.alloc(), file, want)?, "at {row}");
+        assert!(rt; is_at_fault(rt.alloc(), row)?, "at {row}");
     }
-    assert_eq!(rt;
-        fault(rt.alloc(), b"domain a\nprefix a ::/8\nprefix a ::/8\n")?,
-        None
-    );
+    let same = b"domain a\nprefix a ::/8\nprefix a ::/8\n";
+    assert!(rt; fault(rt.alloc(), same)?.is_none());
     Ok(())
 }
 
-/// The fault of a file of so many bytes `#`, with this text behind it and these bytes in front.
-fn fault_of_long(
+/// Whether the line of this number is told where a file has so many bytes `#`, with these texts in front and behind; or none is.
+fn is_too_long(
     alloc: Global,
-    front: &[u8],
+    front: &str,
     count: usize,
-    behind: &[u8],
-) -> Result<Option<SettingsFault>, Fail> {
-    let mut text = Vec::from_slice(alloc, front)?;
+    behind: &str,
+    line: Option<u32>,
+) -> Result<bool, Fail> {
+    let mut text = Vec::from_slice(alloc, front.as_bytes())?;
     text.extend_from_slice(vec![in alloc; b'#'; count]?.as_slice())?;
-    text.extend_from_slice(behind)?;
-    Ok(fault(alloc, text.as_slice())?)
+    text.extend_from_slice(behind.as_bytes())?;
+    let want = line.map(|n| SettingsFault::Capacity { n });
+    Ok(fault(alloc, text.as_slice())? == want)
 }
 
 #[test]
@@ -96,9 +98,10 @@ fn the_byte_after_the_last_is_too_much(rt: HostRuntime) -> Result<(), Fail> {
         ("\n", 65_535, "\n", Some(2)),
         ("\nx", 65_534, "\n", Some(2)),
     ] {
-        let found = fault_of_long(rt.alloc(), front.as_bytes(), count, behind.as_bytes())?;
-        let want = n.map(|n| SettingsFault::Capacity { n });
-        assert_eq!(rt; found, want, "at {front:?} and {behind:?}");
+        assert!(rt;
+            is_too_long(rt.alloc(), front, count, behind, n)?,
+            "at {count}"
+        );
     }
     Ok(())
 }
@@ -111,9 +114,8 @@ fn a_failed_read_is_told(rt: HostRuntime) -> Result<(), Fail> {
         (2, SettingsFault::ReadFault),
         (3, SettingsFault::Line { n: 1 }),
     ] {
-        assert_eq!(rt;
-            fault_where(rt.alloc(), b"x\n", call)?,
-            Some(want),
+        assert!(rt;
+            fault_where(rt.alloc(), b"x\n", call)? == Some(want),
             "at {call}"
         );
     }

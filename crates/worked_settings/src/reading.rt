@@ -1,92 +1,26 @@
 //! What reading a file answers, as plain values.
 
+use crate::files::{is_example, is_named};
 use dots_host::{MemorySource, NoMemory};
-use dots_settings::{Limits, Role, Settings, SettingsFault, read_settings};
+use dots_settings::{SettingsFault, read_settings};
 use std::alloc::Global;
 use std::test::Fail;
 
-/// What is told of settings.
-#[derive(Clone, Copy, Debug, PartialEq, Eq)]
-pub struct Told {
-    pub domains: u16,
-    pub peers: usize,
-    pub names: usize,
-    pub packets: usize,
-    pub ceiling: i32,
-    pub indefinite: bool,
-    pub limits: Limits,
-    pub digest: [u8; 32],
-}
-
-fn tell(settings: &Settings) -> Told {
-    Told {
-        domains: settings.domains(),
-        peers: settings.peers().len(),
-        names: settings.names().len(),
-        packets: settings.packets().len(),
-        ceiling: settings.ceiling(),
-        indefinite: settings.indefinite(),
-        limits: settings.limits(),
-        digest: settings.digest(),
-    }
-}
-
-/// What is told of the settings of a text, or the fault that it is refused for.
-pub fn read(alloc: Global, text: &str) -> Result<Result<Told, SettingsFault>, NoMemory> {
+/// Whether a text has the settings of the example, with so many packets.
+pub fn gives_example(alloc: Global, text: &str, packets: usize) -> Result<bool, NoMemory> {
     let mut source = MemorySource::new(alloc, text.as_bytes())?;
     Ok(match read_settings(alloc, &mut source) {
-        Ok(settings) => Ok(tell(&settings)),
-        Err(fault) => Err(fault),
+        Ok(settings) => is_example(&settings, packets),
+        Err(_) => false,
     })
 }
 
-/// What is told of a domain, of the peers 2 to 4, and how many addresses a host name has.
-#[derive(Clone, Copy, Debug, PartialEq, Eq)]
-pub struct Asked {
-    /// Whether the first domain has this name.
-    pub named: bool,
-    pub prefixes: usize,
-    /// The numbers of the domains `net2` and `net3`.
-    pub numbers: [Option<u16>; 2],
-    pub roles: [Role; 3],
-    pub addresses: usize,
-}
-
-fn look_up(settings: &Settings, domain: &str, host: &str) -> Option<Asked> {
-    if settings.domains() == 0 {
-        return None;
-    }
-    Some(Asked {
-        named: settings.domain_name(0) == domain.as_bytes(),
-        prefixes: settings.prefixes(0).len(),
-        numbers: [
-            settings.domain_named(b"net2"),
-            settings.domain_named(b"net3"),
-        ],
-        roles: [
-            settings.domain_of(2),
-            settings.domain_of(3),
-            settings.domain_of(4),
-        ],
-        addresses: settings.addresses(host.as_bytes()).len(),
-    })
-}
-
-/// The same of the settings of a text. None where they have no domain or a fault.
-pub fn ask(alloc: Global, text: &str, domain: &str, host: &str) -> Result<Option<Asked>, NoMemory> {
+/// Whether a text has settings with the host name of the tests.
+pub fn gives_name(alloc: Global, text: &str) -> Result<bool, NoMemory> {
     let mut source = MemorySource::new(alloc, text.as_bytes())?;
     Ok(match read_settings(alloc, &mut source) {
-        Ok(settings) => look_up(&settings, domain, host),
-        Err(_) => None,
-    })
-}
-
-/// How many addresses a host name has in the settings of a text, if they have no fault.
-pub fn addresses(alloc: Global, text: &str, host: &str) -> Result<Option<usize>, NoMemory> {
-    let mut source = MemorySource::new(alloc, text.as_bytes())?;
-    Ok(match read_settings(alloc, &mut source) {
-        Ok(settings) => Some(settings.addresses(host.as_bytes()).len()),
-        Err(_) => None,
+        Ok(settings) => is_named(&settings),
+        Err(_) => false,
     })
 }
 
@@ -118,13 +52,13 @@ pub fn file_of(alloc: Global, row: &str) -> Result<Vec<u8>, NoMemory> {
     Ok(text)
 }
 
-/// What is printed of the fault that the text of a row is refused for, nothing where it is not.
-pub fn fault_text(alloc: Global, row: &str) -> Result<String, Fail> {
+/// Whether the text of a row is refused with this, which is printed of the fault.
+pub fn is_refused(alloc: Global, row: &str, want: &str) -> Result<bool, Fail> {
     let file = file_of(alloc, row)?;
-    match fault(alloc, file.as_slice())? {
-        Some(fault) => Ok(String::from_str(alloc, fault.text().as_str())?),
-        None => Ok(String::new(alloc)),
-    }
+    Ok(match fault(alloc, file.as_slice())? {
+        Some(fault) => fault.text().as_str() == want,
+        None => false,
+    })
 }
 
 /// So many lines, of which each has its number, from 0 on, between the front and the back.
