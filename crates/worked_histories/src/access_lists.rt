@@ -119,7 +119,7 @@ fn an_entry_matches_by_its_fields(rt: HostRuntime) -> Result<(), Fail> {
             protocol,
         };
         let found = matches(rt.alloc(), Family::V4, NET, fields, PortTest::Any, packet())?;
-        assert_eq!(rt; found, want, "{source:?} {destination:?} {protocol:?}");
+        assert!(rt; found == want, "{source:?} {destination:?} {protocol:?}");
     }
     Ok(())
 }
@@ -133,7 +133,7 @@ fn no_destination_is_the_domain(rt: HostRuntime) -> Result<(), Fail> {
         (Family::V6, "192.0.2.0/24", false),
     ] {
         let found = matches(rt.alloc(), family, domain, NOTHING, PortTest::Any, packet())?;
-        assert_eq!(rt; found, want, "{family:?} {domain:?}");
+        assert!(rt; found == want, "{family:?} {domain:?}");
     }
     Ok(())
 }
@@ -157,7 +157,7 @@ fn port_tests(rt: HostRuntime) -> Result<(), Fail> {
         (PortTest::Range(range), packet(), true),
     ] {
         let found = matches(rt.alloc(), Family::V4, NET, NOTHING, test, packet)?;
-        assert_eq!(rt; found, want, "{test:?}");
+        assert!(rt; found == want, "{test:?}");
     }
     Ok(())
 }
@@ -228,7 +228,7 @@ fn copied_list(alloc: Global) -> Result<usize, Fail> {
 /// With ample memory a copy is there.
 #[test]
 fn copies(rt: HostRuntime) -> Result<(), Fail> {
-    assert_eq!(rt; copied_alias(rt.alloc())?, (1, 2, 1));
-    assert_eq!(rt; copied_list(rt.alloc())?, 2);
+    assert!(rt; copied_alias(rt.alloc())? == (1, 2, 1));
+    assert!(rt; copied_list(rt.alloc())? == 2);
     Ok(())
 }

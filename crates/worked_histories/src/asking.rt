@@ -1,7 +1,7 @@
 //! What the programs say of a history of steps, as text.
 
-use crate::reading::{mid, number, steps};
-use crate::steps::{history, scope};
+use crate::reading::{number, steps};
+use crate::steps::{Step, history, scope};
 use acl_lists::{Packet, PrefixList};
 use dots_history::{
     Entry, ends, fate_of_packet, held, is_live_after, is_within_bounds, list_rows, mitigations,
@@ -71,11 +71,18 @@ fn counts(alloc: Global, count: usize, t: u64, entries: &[Entry]) -> Result<Stri
 }
 
 /// The second of the message that peer 0 repeats for domain 0, 0 where none is remembered.
-fn remembers(count: usize, t: u64, id: u16, entries: &[Entry]) -> u64 {
-    match remembered(count, t, 0, 0, id, entries) {
+fn remembers(
+    alloc: Global,
+    count: usize,
+    t: u64,
+    id: u16,
+    entries: &[Entry],
+) -> Result<String, Fail> {
+    let time = match remembered(count, t, 0, 0, id, entries) {
         Some(entry) => entry.time,
         None => 0,
-    }
+    };
+    Ok(format!(in alloc; "{time}")?)
 }
 
 /// The places that the view names.
@@ -102,44 +109,55 @@ fn calm(alloc: Global, entries: &[Entry]) -> Result<bool, SettingsFault> {
     Ok(is_calm(&settings, entries))
 }
 
-fn count_of(word: &str) -> Result<usize, Fail> {
+fn size(word: &str) -> Result<usize, Fail> {
     Ok(word.parse::<usize>()?)
+}
+
+fn flag(alloc: Global, flag: bool) -> Result<String, Fail> {
+    Ok(format!(in alloc; "{flag}")?)
 }
 
 /// What is said of the entries by a question: `live SECOND` and `ended` of the first, by the others; `bounded`; `remembers COUNT
 /// SECOND ID`; `counts COUNT SECOND`; `places COUNT SECOND`; or `calm`.
-fn said(alloc: Global, question: &str, entries: &[Entry]) -> Result<String, Fail> {
-    let words: Vec<&str> = question.split_whitespace().collect(alloc)?;
-    let flag = match words.as_slice() {
-        ["live", t] => is_live(number(t)?, entries),
-        ["ended"] => is_ended(entries),
-        ["bounded"] => is_bounded(entries),
-        ["calm"] => calm(alloc, entries)?,
-        ["counts", count, t] => return counts(alloc, count_of(count)?, number(t)?, entries),
-        ["places", count, t] => return places(alloc, count_of(count)?, number(t)?, entries),
+fn said(alloc: Global, words: &[&str], entries: &[Entry]) -> Result<String, Fail> {
+    match words {
+        ["live", t] => flag(alloc, is_live(number(t)?, entries)),
+        ["ended"] => flag(alloc, is_ended(entries)),
+        ["bounded"] => flag(alloc, is_bounded(entries)),
+        ["calm"] => flag(alloc, calm(alloc, entries)?),
+        ["counts", count, t] => counts(alloc, size(count)?, number(t)?, entries),
+        ["places", count, t] => places(alloc, size(count)?, number(t)?, entries),
         ["remembers", count, t, id] => {
-            let time = remembers(count_of(count)?, number(t)?, id.parse::<u16>()?, entries);
-            return Ok(format!(in alloc; "{time}")?);
+            remembers(alloc, size(count)?, number(t)?, id.parse::<u16>()?, entries)
         }
-        _ => return Err(Fail::from("a question")),
-    };
-    Ok(format!(in alloc; "{flag}")?)
+        _ => Err(Fail::from("a question")),
+    }
 }
 
-/// What is said of the steps of a text.
-fn said_of(alloc: Global, question: &str, text: &str) -> Result<String, Fail> {
+/// Whether that is said of the steps of a text.
+fn is_said(alloc: Global, question: &str, text: &str, want: &str) -> Result<bool, Fail> {
+    let words: Vec<&str> = question.split_whitespace().collect(alloc)?;
     let steps = steps(alloc, text)?;
-    let entries = history(alloc, steps.as_slice())?;
-    said(alloc, question, entries.items())
+    let said = said_of(alloc, words.as_slice(), steps.as_slice())?;
+    Ok(said.as_str() == want)
 }
 
-/// Of each row of the table, QUESTION: STEPS = WANT, that is said.
+fn said_of(alloc: Global, words: &[&str], steps: &[Step<'_>]) -> Result<String, Fail> {
+    let entries = history(alloc, steps)?;
+    said(alloc, words, entries.items())
+}
+
+/// Whether the row of a table, QUESTION: STEPS = WANT, is so.
+fn holds(alloc: Global, row: &str) -> Result<bool, Fail> {
+    let (question, rest) = row.split_once(": ").ok_or("a question")?;
+    let (steps, want) = rest.rsplit_once(" = ").ok_or("steps")?;
+    is_said(alloc, question, steps, want)
+}
+
+/// Each row of the table is so.
 pub fn all_hold(rt: &impl Abort, alloc: Global, table: &str) -> Result<(), Fail> {
     for row in table.lines() {
-        let (question, rest) = row.split_once(": ").ok_or("a question")?;
-        let (steps, want) = rest.rsplit_once(" = ").ok_or("steps")?;
-        let said = said_of(alloc, question, steps)?;
-        assert_eq!(rt; said.as_str(), want, "at {row}");
+        assert!(rt; holds(alloc, row)?, "at {row}");
     }
     Ok(())
 }
@@ -170,9 +188,24 @@ fn fate_by(alloc: Global, t: u64, entries: &[Entry], packet: Packet) -> Result<&
     Ok(word(&fate))
 }
 
-/// The fate of a packet after the steps of a text, where domain 0 is 192.0.2.0/24.
-pub fn fate(alloc: Global, t: u64, text: &str, packet: Packet) -> Result<&'static str, Fail> {
-    let steps = steps(alloc, text)?;
-    let entries = history(alloc, steps.as_slice())?;
+fn fate_of(
+    alloc: Global,
+    t: u64,
+    steps: &[Step<'_>],
+    packet: Packet,
+) -> Result<&'static str, Fail> {
+    let entries = history(alloc, steps)?;
     fate_by(alloc, t, entries.items(), packet)
+}
+
+/// Whether this is the fate of a packet after the steps of a text, where domain 0 is 192.0.2.0/24.
+pub fn has_fate(
+    alloc: Global,
+    t: u64,
+    text: &str,
+    packet: Packet,
+    want: &str,
+) -> Result<bool, Fail> {
+    let steps = steps(alloc, text)?;
+    Ok(fate_of(alloc, t, steps.as_slice(), packet)? == want)
 }

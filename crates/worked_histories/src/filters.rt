@@ -1,6 +1,6 @@
 //! What is held, and what becomes of packets (RFC 8783, sections 5.2, 6.3 and 7.2; RFC 8519, section 4.2).
 
-use crate::asking::{all_hold, fate};
+use crate::asking::{all_hold, has_fate};
 use acl_lists::Packet;
 use ip_scope::{Addr, Family};
 use std::test::Fail;
@@ -53,8 +53,11 @@ fn lists_come_before_mitigations(rt: HostRuntime) -> Result<(), Fail> {
             (4599, MITIGATED, during),
             (4600, MITIGATED, before),
         ] {
-            let found = fate(rt.alloc(), t, steps, packet(source, protocol, port))?;
-            assert_eq!(rt; found, want, "{source} {protocol} at {t}");
+            let packet = packet(source, protocol, port);
+            assert!(rt;
+                has_fate(rt.alloc(), t, steps, packet, want)?,
+                "{source} at {t}"
+            );
         }
     }
     Ok(())
