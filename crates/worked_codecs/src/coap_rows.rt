@@ -232,7 +232,7 @@ fn is_reply_written() -> bool {
 
 /// Without options and a payload, and so without a marker.
 fn is_header_written(kind: Kind, code: u8, token: &[u8], want: &[u8]) -> bool {
-    if token.len() > 8 {
+    if token.len() > 8 || code == 0 && !token.is_empty() {
         return false;
     }
     let parts = Parts {
