@@ -9,22 +9,29 @@ use std::test::Fail;
 /// The deterministic encoding of what the bytes spell.
 fn written_again(alloc: Global, bytes: &[u8]) -> Result<Bytes, CborFault> {
     let item = decode(alloc, bytes)?;
-    Ok(encode(alloc, &item)?)
+    encode(alloc, &item).map_err(CborFault::from)
 }
 
-/// The same in hexadecimal, or the words of the first fault.
-fn answer(alloc: Global, digits: &str) -> Result<String, Fail> {
+/// Whether that is this in hexadecimal, or the words of the first fault are these.
+fn answers(alloc: Global, digits: &str, want: &str) -> Result<bool, Fail> {
     let bytes = hex::decode(alloc, digits)?;
-    match written_again(alloc, bytes.as_slice()) {
-        Ok(encoding) => Ok(hex::encode(alloc, encoding.items())?),
-        Err(fault) => Ok(format!(in alloc; "{fault}")?),
-    }
+    let said = match written_again(alloc, bytes.as_slice()) {
+        Ok(encoding) => hex::encode(alloc, encoding.items())?,
+        Err(fault) => format!(in alloc; "{fault}")?,
+    };
+    Ok(said.as_str() == want)
+}
+
+/// Whether the bytes in front of a row are answered with what stands behind them.
+fn holds(alloc: Global, row: &str) -> Result<bool, Fail> {
+    let (digits, want) = row.split_once(": ").ok_or("a row")?;
+    answers(alloc, digits, want)
 }
 
 #[test]
 fn encodings_are_read_and_written(rt: HostRuntime) -> Result<(), Fail> {
     for digits in DETERMINISTIC.split_whitespace() {
-        assert_eq!(rt; answer(rt.alloc(), digits)?.as_str(), digits);
+        assert!(rt; answers(rt.alloc(), digits, digits)?, "at {digits}");
     }
     Ok(())
 }
@@ -32,23 +39,25 @@ fn encodings_are_read_and_written(rt: HostRuntime) -> Result<(), Fail> {
 #[test]
 fn other_spellings_and_faults_are_told(rt: HostRuntime) -> Result<(), Fail> {
     for table in [OTHERS, FAULTS] {
-        for line in table.lines() {
-            let (digits, want) = line.split_once(": ").ok_or("a row")?;
-            assert_eq!(rt; answer(rt.alloc(), digits)?.as_str(), want, "at {digits}");
+        for row in table.lines() {
+            assert!(rt; holds(rt.alloc(), row)?, "at {row}");
         }
     }
-    for digits in UNSUPPORTED.split_whitespace() {
-        assert_eq!(rt;
-            answer(rt.alloc(), digits)?.as_str(),
-            "a float or another simple value at 0",
-            "at {digits}"
-        );
-    }
-    assert_eq!(rt;
-        format!(in rt.alloc(); "{}", CborFault::NoMemory)?.as_str(),
-        "out of memory"
-    );
     Ok(())
+}
+
+#[test]
+fn floats_are_refused(rt: HostRuntime) -> Result<(), Fail> {
+    let want = "a float or another simple value at 0";
+    for digits in UNSUPPORTED.split_whitespace() {
+        assert!(rt; answers(rt.alloc(), digits, want)?, "at {digits}");
+    }
+    Ok(())
+}
+
+fn is_out_of_memory(alloc: Global, fault: CborFault) -> Result<bool, Fail> {
+    let text = format!(in alloc; "{fault}")?;
+    Ok(text.as_str() == "out of memory")
 }
 
 /// The value beside an unsigned key of a map.
@@ -66,59 +75,72 @@ fn first_at(item: &Item, key: u64) -> Option<&Item> {
     value_at(item, key)?.as_array()?.first()
 }
 
+/// Whether the first scope of a mitigation request has this lifetime, and its first prefix is this text.
+fn has_scope(alloc: Global, bytes: &[u8], lifetime: u64, prefix: &str) -> Result<bool, CborFault> {
+    let item = decode(alloc, bytes)?;
+    let scope = value_at(&item, 1).and_then(|scopes| first_at(scopes, 2));
+    let found = scope
+        .and_then(|scope| value_at(scope, 14))
+        .and_then(Item::as_unsigned);
+    let text = scope
+        .and_then(|scope| first_at(scope, 6))
+        .and_then(Item::as_text);
+    Ok(found == Some(lifetime) && text.is_some_and(|text| text.as_str() == prefix))
+}
+
 #[test]
 fn a_mitigation_request_is_a_map(rt: HostRuntime) -> Result<(), Fail> {
     let request = b"\xa1\x01\xa1\x02\x81\xa2\x06\x81\x6c192.0.2.0/24\x0e\x19\x0e\x10";
-    let item = decode(rt.alloc(), request)?;
-    let scope = value_at(&item, 1).and_then(|scopes| first_at(scopes, 2));
-    let lifetime = scope
-        .and_then(|scope| value_at(scope, 14))
-        .and_then(Item::as_unsigned);
-    assert_eq!(rt; lifetime, Some(3600));
-    let prefix = scope
-        .and_then(|scope| first_at(scope, 6))
-        .and_then(Item::as_text);
-    assert!(rt; prefix.is_some_and(|prefix| prefix.as_str() == "192.0.2.0/24"));
+    assert!(rt; has_scope(rt.alloc(), request, 3600, "192.0.2.0/24")?);
+    assert!(rt; is_out_of_memory(rt.alloc(), CborFault::NoMemory)?);
     Ok(())
 }
 
-/// Whether an array of one item is valid, which the digits spell.
-fn is_valid_in_array(alloc: Global, digits: &str) -> Result<bool, Fail> {
-    let bytes = hex::decode(alloc, digits)?;
+/// Whether an array of this one item is valid.
+fn is_valid_alone(alloc: Global, item: Item) -> Result<bool, NoMemory> {
     let mut items = ItemList::new(alloc);
-    items.push(decode(alloc, bytes.as_slice())?)?;
+    items.push(item)?;
     Ok(is_valid(&Item::Array(items)))
 }
 
+/// Whether an array of the item that the digits spell is valid.
+fn is_valid_in_array(alloc: Global, digits: &str) -> Result<bool, Fail> {
+    let bytes = hex::decode(alloc, digits)?;
+    let item = decode(alloc, bytes.as_slice())?;
+    Ok(is_valid_alone(alloc, item)?)
+}
+
 /// Whether a map of two such keys is valid.
-fn is_valid_map(alloc: Global, first: u64, second: u64) -> Result<bool, NoMemory> {
+fn is_valid_map(alloc: Global, keys: [u64; 2]) -> Result<bool, NoMemory> {
     let mut pairs = PairList::new(alloc);
-    pairs.push((Item::Unsigned(first), Item::Null))?;
-    pairs.push((Item::Unsigned(second), Item::Null))?;
+    for key in keys {
+        pairs.push((Item::Unsigned(key), Item::Null))?;
+    }
     Ok(is_valid(&Item::Map(pairs)))
 }
 
+/// Valid items nest sixteen deep.
 #[test]
-fn valid_items_nest_sixteen_deep(rt: HostRuntime) -> Result<(), Fail> {
+fn arrays_are_valid(rt: HostRuntime) -> Result<(), Fail> {
     for (digits, want) in [
         ("81818181818181818181818181818100", true),
         ("8181818181818181818181818181818100", false),
         ("d818c1c1c1c1c1c1c1c1c1c1c1c1c1c100", true),
         ("c1c1c1c1c1c1c1c1c1c1c1c1c1c1c1c100", false),
     ] {
-        assert_eq!(rt; is_valid_in_array(rt.alloc(), digits)?, want, "at {digits}");
+        assert!(rt;
+            is_valid_in_array(rt.alloc(), digits)? == want,
+            "at {digits}"
+        );
     }
     Ok(())
 }
 
+/// The keys of valid items rise.
 #[test]
-fn keys_of_valid_items_rise(rt: HostRuntime) -> Result<(), Fail> {
-    for (first, second, want) in [(255, 256, true), (256, 255, false), (7, 7, false)] {
-        assert_eq!(rt;
-            is_valid_map(rt.alloc(), first, second)?,
-            want,
-            "{first} {second}"
-        );
+fn maps_are_valid(rt: HostRuntime) -> Result<(), Fail> {
+    for (keys, want) in [([255, 256], true), ([256, 255], false), ([7, 7], false)] {
+        assert!(rt; is_valid_map(rt.alloc(), keys)? == want, "{keys:?}");
     }
     Ok(())
 }

@@ -1,9 +1,11 @@
 //! Messages of CoAP (RFC 7252, section 3).
 
-ghost use Rattle.std.specs.Prelude.{◌≤◌, length};
+ghost use Rattle.std.specs.Prelude.{◌≤◌};
+ghost use Rattle.coap_message.specs.Parts.{IsValid};
 
 use coap_message::{
-    CoapFault, Kind, OptionPart, Parts, Token, decode, encode_into, encoded_len, salvage,
+    CoapFault, Kind, Message, OptionPart, Options, Parts, Token, decode, encode_into, encoded_len,
+    salvage,
 };
 use std::alloc::Global;
 use std::test::Fail;
@@ -20,62 +22,44 @@ const REPLY: &[u8] =
 /// The header of a CON GET without a token.
 const HEADER: &[u8] = b"\x40\x01\x12\x34";
 
-/// An option behind that header: its number, how many bytes its value has, and what stands in front of these. Each
-/// number and each length is the last or the first with so long an extension.
-const FORMS: [(u16, usize, &[u8]); 12] = [
-    (12, 0, b"\xc0"),
-    (13, 0, b"\xd0\x00"),
-    (268, 0, b"\xd0\xff"),
-    (269, 0, b"\xe0\x00\x00"),
-    (65_535, 0, b"\xe0\xfe\xf2"),
-    (1, 12, b"\x1c"),
-    (1, 13, b"\x1d\x00"),
-    (1, 268, b"\x1d\xff"),
-    (1, 269, b"\x1e\x00\x00"),
-    (1, 65_804, b"\x1e\xff\xff"),
-    // The extension of the delta comes first.
-    (14, 527, b"\xde\x01\x01\x02"),
-    (1041, 15, b"\xed\x03\x04\x02"),
-];
+/// An option behind that header: its number, how many bytes its value has, and what stands in front of these, in hexadecimal.
+/// Each number and each length is the last or the first with so long an extension. In the last two the extension of the delta
+/// comes first.
+const FORMS: &str = "\
+    12 0 c0\n\
+    13 0 d000\n\
+    268 0 d0ff\n\
+    269 0 e00000\n\
+    65535 0 e0fef2\n\
+    1 12 1c\n\
+    1 13 1d00\n\
+    1 268 1dff\n\
+    1 269 1e0000\n\
+    1 65804 1effff\n\
+    14 527 de010102\n\
+    1041 15 ed030402";
 
-/// One or two of each fault, and where several are in one place.
-const FAULTS: [(&[u8], CoapFault); 19] = [
-    (b"\x89\x00\x12", CoapFault::Short { at: 3 }),
-    (b"\x00\x01\x12\x34", CoapFault::Version { at: 0 }),
-    (b"\x89\x00\x12\x34\xff", CoapFault::Version { at: 0 }),
-    (b"\x49\x00\x12\x34\xff", CoapFault::TokenLength { at: 0 }),
-    (b"\x4f\x03\x00\x01", CoapFault::TokenLength { at: 0 }),
-    (b"\x42\x00\x12\x34", CoapFault::EmptyWithMore { at: 0 }),
-    (b"\x40\x00\x12\x34\xff", CoapFault::EmptyWithMore { at: 4 }),
-    (b"\x48\x01\x12\x34\xff", CoapFault::Short { at: 5 }),
-    (b"\x40\x01\x12\x34\xdf", CoapFault::ReservedNibble { at: 4 }),
-    (b"\x40\x01\x12\x34\xf0", CoapFault::ReservedNibble { at: 4 }),
-    (
-        b"\x40\x03\x00\x02\xb0\x0f",
-        CoapFault::ReservedNibble { at: 5 },
-    ),
-    // The extension of the delta is cut, and that of the length behind a delta that is too large.
-    (b"\x40\x01\x12\x34\xe0\x00", CoapFault::Short { at: 6 }),
-    (b"\x40\x01\x12\x34\xed\xff\xff", CoapFault::Short { at: 7 }),
-    (
-        b"\x40\x01\x12\x34\xe1\xff\xff",
-        CoapFault::NumberTooLarge { at: 4 },
-    ),
-    (
-        b"\x41\x03\x00\x03\x4a\xe0\xfe\xf2\x10",
-        CoapFault::NumberTooLarge { at: 8 },
-    ),
-    (
-        b"\x40\x03\x00\x03\xe0\xfe\xf3",
-        CoapFault::NumberTooLarge { at: 4 },
-    ),
-    (b"\x50\x01\x12\x36\xb2\x61", CoapFault::Short { at: 6 }),
-    (b"\x40\x01\x12\x35\xff", CoapFault::EmptyPayload { at: 4 }),
-    (
-        b"\x40\x01\x12\x35\xb0\xff",
-        CoapFault::EmptyPayload { at: 5 },
-    ),
-];
+/// One or two of each fault, in front of what is told of it, and where several are in one place.
+const FAULTS: &str = "\
+    890012: the bytes end too early at 3\n\
+    00011234: the version isn't 1 at 0\n\
+    89001234ff: the version isn't 1 at 0\n\
+    49001234ff: the token is longer than 8 bytes at 0\n\
+    4f030001: the token is longer than 8 bytes at 0\n\
+    42001234: an empty message has more than a header at 0\n\
+    40001234ff: an empty message has more than a header at 4\n\
+    48011234ff: the bytes end too early at 5\n\
+    40011234df: a nibble of an option is 15 at 4\n\
+    40011234f0: a nibble of an option is 15 at 4\n\
+    40030002b00f: a nibble of an option is 15 at 5\n\
+    40011234e000: the bytes end too early at 6\n\
+    40011234edffff: the bytes end too early at 7\n\
+    40011234e1ffff: an option's number is above 65535 at 4\n\
+    410300034ae0fef210: an option's number is above 65535 at 8\n\
+    40030003e0fef3: an option's number is above 65535 at 4\n\
+    50011236b261: the bytes end too early at 6\n\
+    40011235ff: no payload follows the marker at 4\n\
+    40011235b0ff: no payload follows the marker at 5";
 
 /// What is written of a CON GET with one option, whose value has so many zeros.
 fn written(alloc: Global, number: u16, size: usize) -> Result<Vec<u8>, Fail>
@@ -109,89 +93,128 @@ fn spelled(alloc: Global, front: &[u8], size: usize) -> Result<Vec<u8>, Fail> {
     Ok(bytes)
 }
 
+/// The number, the length and the front of a row of forms.
+fn form_of(alloc: Global, row: &str) -> Result<(u16, usize, Vec<u8>), Fail> {
+    let (number, rest) = row.split_once(' ').ok_or("a number")?;
+    let (size, front) = rest.split_once(' ').ok_or("a length")?;
+    let number = number.parse::<u16>()?;
+    let size = size.parse::<usize>()?;
+    Ok((number, size, hex::decode(alloc, front)?))
+}
+
+/// Whether what is written of the option of a row is spelled as the row says.
+fn is_written(alloc: Global, row: &str) -> Result<bool, Fail> {
+    let (number, size, front) = form_of(alloc, row)?;
+    if size > 65_804 {
+        return Err(Fail::from("a length that no option has"));
+    }
+    let bytes = spelled(alloc, front.as_slice(), size)?;
+    let found = written(alloc, number, size)?;
+    Ok(found.as_slice() == bytes.as_slice())
+}
+
 #[test]
 fn writes_each_form_of_an_option(rt: HostRuntime) -> Result<(), Fail> {
-    for (number, size, front) in FORMS {
-        assert!(rt; size <= 65_804);
-        let bytes = spelled(rt.alloc(), front, size)?;
-        assert_eq!(rt; written(rt.alloc(), number, size)?, bytes, "at {front:?}");
+    for row in FORMS.lines() {
+        assert!(rt; is_written(rt.alloc(), row)?, "at {row}");
     }
     Ok(())
 }
 
-/// The option at this place among those of a message.
-fn option_at(bytes: &[u8], place: usize) -> Option<(u16, &[u8])> {
-    let message = decode(bytes).ok()?;
-    let mut options = message.options();
-    for _ in 0..place {
-        options.next()?;
+/// Whether the next of the options has this number and this value.
+fn is_next(options: &mut Options<'_>, number: u16, value: &str) -> bool {
+    match options.next() {
+        Some(row) => row.number == number && row.value == value.as_bytes(),
+        None => false,
     }
-    let row = options.next()?;
-    Some((row.number, row.value))
 }
 
-#[test]
-fn reads_the_options_of_a_request(rt: HostRuntime) {
-    let rows: [(usize, Option<(u16, &[u8])>); 7] = [
-        (0, Some((11, b".well-known"))),
-        (1, Some((11, b"dots"))),
-        (2, Some((11, b"mitigate"))),
-        (3, Some((11, b"cuid=dz6pHjaADkaFTbjr0JGBpw"))),
-        (4, Some((11, b"mid=123"))),
-        (5, Some((12, b"\x01\x0f"))),
-        (6, None),
-    ];
-    for (place, want) in rows {
-        assert_eq!(rt; option_at(&REQUEST, place), want, "at {place}");
-    }
+fn has_options(message: &Message<'_>) -> bool {
+    let mut options = message.options();
+    is_next(&mut options, 11, ".well-known")
+        && is_next(&mut options, 11, "dots")
+        && is_next(&mut options, 11, "mitigate")
+        && is_next(&mut options, 11, "cuid=dz6pHjaADkaFTbjr0JGBpw")
+        && is_next(&mut options, 11, "mid=123")
+        && is_next(&mut options, 12, "\x01\x0f")
+        && options.next().is_none()
+}
+
+fn has_parts(message: &Message<'_>) -> bool {
+    message.kind() == Kind::Non
+        && message.code() == 0x03
+        && message.id() == 1
+        && message.token() == b"\x4a".as_slice()
+        && message.payload() == &REQUEST[72..]
 }
 
 #[test]
 fn reads_a_request(rt: HostRuntime) -> Result<(), Fail> {
     let message = decode(&REQUEST)?;
-    assert_eq!(rt; message.kind(), Kind::Non);
-    assert_eq!(rt; message.code(), 0x03);
-    assert_eq!(rt; message.id(), 1);
-    assert_eq!(rt; message.token(), b"\x4a".as_slice());
-    assert_eq!(rt; message.payload(), &REQUEST[72..]);
+    assert!(rt; has_options(&message));
+    assert!(rt; has_parts(&message));
     Ok(())
 }
 
-#[test]
-fn names_the_first_fault(rt: HostRuntime) {
-    for (bytes, fault) in FAULTS {
-        assert_eq!(rt; decode(bytes).err(), Some(fault), "at {bytes:?}");
-    }
+/// Whether what is told of the bytes that the digits spell is this, nothing where they are a message.
+fn is_told(alloc: Global, digits: &str, want: &str) -> Result<bool, Fail> {
+    let bytes = hex::decode(alloc, digits)?;
+    let said = match decode(bytes.as_slice()).err() {
+        Some(fault) => format!(in alloc; "{fault}")?,
+        None => String::new(alloc),
+    };
+    Ok(said.as_str() == want)
+}
+
+fn holds(alloc: Global, row: &str) -> Result<bool, Fail> {
+    let (digits, want) = row.split_once(": ").ok_or("a row")?;
+    is_told(alloc, digits, want)
 }
 
 #[test]
-fn salvages_a_kind_and_an_id(rt: HostRuntime) {
-    let rows: [(&[u8], Option<(Kind, u16)>); 6] = [
-        (b"\x40\x01\x12", None),
-        (b"\xf0\x01\x12\x34", None),
-        (b"\x4f\x01\x12\x34", Some((Kind::Con, 0x1234))),
-        (b"\x50\x01\xff\x00\xf0", Some((Kind::Non, 0xff00))),
-        (b"\x61\x00\x00\xff", Some((Kind::Ack, 0x00ff))),
-        (b"\x70\x00\xff\xff\xff", Some((Kind::Rst, 0xffff))),
-    ];
-    for (bytes, want) in rows {
-        assert_eq!(rt; salvage(bytes), want, "at {bytes:?}");
+fn names_the_first_fault(rt: HostRuntime) -> Result<(), Fail> {
+    for row in FAULTS.lines() {
+        assert!(rt; holds(rt.alloc(), row)?, "at {row}");
     }
+    Ok(())
 }
 
-#[test]
-fn prints_a_fault_with_its_place(rt: HostRuntime) -> Result<(), Fail> {
+/// A fault deep inside, with its place.
+fn is_printed(alloc: Global) -> Result<bool, Fail> {
     let fault = CoapFault::NumberTooLarge { at: 4_096 };
-    let text = format!(in rt.alloc(); "{fault}")?;
-    assert_eq!(rt; text.as_str(), "an option's number is above 65535 at 4096");
-    Ok(())
+    let text = format!(in alloc; "{fault}")?;
+    Ok(text.as_str() == "an option's number is above 65535 at 4096")
 }
 
-/// A reply with a token, an option and a payload. The bytes behind it stay.
-#[test]
-fn writes_a_reply(rt: HostRuntime) -> Result<(), Fail> {
-    assert!(rt; Token::new(b"ninebytes").is_none());
-    let token = Token::new(b"\x4a").ok_or("the token is too long")?;
+/// A kind and an id are salvaged of bytes that are no message.
+fn are_salvaged() -> bool {
+    salvage(b"\x40\x01\x12").is_none()
+        && salvage(b"\xf0\x01\x12\x34").is_none()
+        && salvage(b"\x4f\x01\x12\x34") == Some((Kind::Con, 0x1234))
+        && salvage(b"\x50\x01\xff\x00\xf0") == Some((Kind::Non, 0xff00))
+        && salvage(b"\x61\x00\x00\xff") == Some((Kind::Ack, 0x00ff))
+        && salvage(b"\x70\x00\xff\xff\xff") == Some((Kind::Rst, 0xffff))
+}
+
+/// Whether these parts take the bytes that are wanted at the front of the room, behind which it stays.
+fn is_encoded(parts: &Parts<'_>, want: &[u8]) -> bool
+    requires { IsValid parts.now }
+{
+    let mut room = [0xee; 24];
+    let len = encoded_len(parts);
+    if len != want.len() || len > room.len() {
+        return false;
+    }
+    encode_into(parts, &mut room) == len
+        && room.starts_with(want)
+        && room[len..].iter().all(|byte| *byte == 0xee)
+}
+
+/// A reply with a token, an option and a payload.
+fn is_reply_written() -> bool {
+    let Some(token) = Token::new(b"\x4a") else {
+        return false;
+    };
     let parts = Parts {
         kind: Kind::Non,
         code: 0x41,
@@ -204,34 +227,33 @@ fn writes_a_reply(rt: HostRuntime) -> Result<(), Fail> {
         values: b"\x01\x0f",
         payload: &REPLY[9..],
     };
-    let mut buffer = [0xee; 24];
-    assert_eq!(rt; encoded_len(&parts), 22);
-    assert_eq!(rt; encode_into(&parts, &mut buffer), 22);
-    assert_eq!(rt; &buffer[..22], REPLY);
-    assert_eq!(rt; &buffer[22..], b"\xee\xee".as_slice());
-    Ok(())
+    is_encoded(&parts, REPLY)
 }
 
 /// Without options and a payload, and so without a marker.
-#[test]
-fn writes_headers_alone(rt: HostRuntime) {
-    let rows: [(Kind, u8, &[u8], &[u8]); 2] = [
-        (Kind::Ack, 0, b"", b"\x60\x00\x12\x34"),
-        (Kind::Rst, 0xff, b"coltsabb", b"\x78\xff\x12\x34coltsabb"),
-    ];
-    for (kind, code, token, want) in rows {
-        assert!(rt; token.len() <= 8);
-        let parts = Parts {
-            kind,
-            code,
-            id: 0x1234,
-            token,
-            options: &[],
-            values: &[],
-            payload: &[],
-        };
-        let mut buffer = [0xee; 12];
-        assert_eq!(rt; encode_into(&parts, &mut buffer), want.len());
-        assert_eq!(rt; &buffer[..want.len()], want);
+fn is_header_written(kind: Kind, code: u8, token: &[u8], want: &[u8]) -> bool {
+    if token.len() > 8 || code == 0 && !token.is_empty() {
+        return false;
     }
+    let parts = Parts {
+        kind,
+        code,
+        id: 0x1234,
+        token,
+        options: &[],
+        values: &[],
+        payload: &[],
+    };
+    is_encoded(&parts, want)
+}
+
+#[test]
+fn writes_messages(rt: HostRuntime) -> Result<(), Fail> {
+    assert!(rt; is_reply_written());
+    assert!(rt; Token::new(b"ninebytes").is_none());
+    assert!(rt; is_header_written(Kind::Ack, 0, b"", b"\x60\x00\x12\x34"));
+    assert!(rt; is_header_written(Kind::Rst, 0xff, b"coltsabb", b"\x78\xff\x12\x34coltsabb"));
+    assert!(rt; are_salvaged());
+    assert!(rt; is_printed(rt.alloc())?);
+    Ok(())
 }

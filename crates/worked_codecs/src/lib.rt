@@ -10,6 +10,8 @@ mod cbor_rows;
 #[cfg(test)]
 mod clock_rows;
 #[cfg(test)]
+mod clock_scans;
+#[cfg(test)]
 mod coap_rows;
 #[cfg(test)]
 mod text_rows;

@@ -4,17 +4,13 @@ use dots_host::{Event, Got, MAX_EVENT_BYTES, MemoryHost, NoMemory, Out, Sent, Wh
 use std::alloc::Global;
 use std::test::Fail;
 
-/// What a host answers to which a tick comes at 1000, and whose second and fourth calls fail.
-#[derive(Clone, Copy, Debug, PartialEq, Eq)]
-struct Outcome {
-    pushed: bool,
-    planned: bool,
-    got: [Got; 3],
-    sent: [Sent; 2],
-    whole: bool,
+/// Whether the event that the host hands in is this.
+fn hands_in(host: &mut MemoryHost, room: &mut [u8; MAX_EVENT_BYTES], what: What, at: u64) -> bool {
+    host.next(room) == Got { what, at }
 }
 
-fn ask_host(alloc: Global) -> Result<Outcome, NoMemory> {
+/// Whether a host to which a tick comes at 1000, and whose second and fourth calls fail, answers so.
+fn hands_in_what_was_pushed(alloc: Global) -> Result<bool, NoMemory> {
     let mut host = MemoryHost::new(alloc)?;
     let pushed = host.push(Event::Tick, 1000).is_ok();
     let planned = host.fail_at(2).is_ok() && host.fail_at(4).is_ok();
@@ -23,30 +19,20 @@ fn ask_host(alloc: Global) -> Result<Outcome, NoMemory> {
         peer: 7,
         bytes: &[9],
     };
-    let first = host.next(&mut room);
-    let second = host.next(&mut room);
-    let done = host.send(&reply);
-    let lost = host.send(&reply);
-    let last = host.next(&mut room);
-    Ok(Outcome {
-        pushed,
-        planned,
-        got: [first, second, last],
-        sent: [done, lost],
-        whole: host.whole(),
-    })
+    Ok(
+        pushed
+            && planned
+            && hands_in(&mut host, &mut room, What::Tick, 1000)
+            && hands_in(&mut host, &mut room, What::Failed, 0)
+            && host.send(&reply) == Sent::Done
+            && host.send(&reply) == Sent::Lost
+            && hands_in(&mut host, &mut room, What::End, 0)
+            && host.whole(),
+    )
 }
 
 #[test]
 fn a_host_hands_in_what_was_pushed(rt: HostRuntime) -> Result<(), Fail> {
-    let got = [(What::Tick, 1000), (What::Failed, 0), (What::End, 0)];
-    let want = Outcome {
-        pushed: true,
-        planned: true,
-        got: got.map(|(what, at)| Got { what, at }),
-        sent: [Sent::Done, Sent::Lost],
-        whole: true,
-    };
-    assert_eq!(rt; ask_host(rt.alloc())?, want);
+    assert!(rt; hands_in_what_was_pushed(rt.alloc())?);
     Ok(())
 }

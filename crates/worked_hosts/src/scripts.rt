@@ -9,12 +9,23 @@ use std::test::Fail;
 
 type Room = [u8; MAX_EVENT_BYTES];
 
-/// What two calls answer of a script, the bytes of the second at the front of the room, and whether both were recorded.
-fn two_events(alloc: Global, script: &[u8], room: &mut Room) -> Result<([Got; 2], bool), NoMemory> {
+/// Whether two calls answer this of a script, with these bytes of the second at the front of the room, and both were recorded.
+fn are_events(
+    alloc: Global,
+    script: &[u8],
+    want: &[Got; 2],
+    front: &[u8],
+) -> Result<bool, NoMemory> {
+    let mut room: Room = [0; MAX_EVENT_BYTES];
     let source = MemorySource::new(alloc, script)?;
     let mut host = ScriptHost::new(alloc, source, MemorySink::new(alloc))?;
-    let got = [host.next(room), host.next(room)];
-    Ok((got, host.whole()))
+    let [first, second] = want;
+    Ok(
+        host.next(&mut room) == *first
+            && host.next(&mut room) == *second
+            && room.starts_with(front)
+            && host.whole(),
+    )
 }
 
 fn got(what: What, at: u64) -> Got {
@@ -30,52 +41,51 @@ fn datagram(from: u32, len: usize, at: u64) -> Got {
 
 #[test]
 fn a_script_is_read(rt: HostRuntime) -> Result<(), Fail> {
-    let mut room: Room = [0; MAX_EVENT_BYTES];
     let script = b"# comment\n\nat 1000 from 0 50030002\nat 281474976710655 from 4294967295 aAfF\n";
-    let (events, whole) = two_events(rt.alloc(), script, &mut room)?;
-    assert_eq!(rt;
-        events,
-        [
-            datagram(0, 4, 1000),
-            datagram(4_294_967_295, 2, 281_474_976_710_655)
-        ]
-    );
-    assert_eq!(rt; &room[..4], b"\xaa\xff\0\x02".as_slice());
-    assert!(rt; whole);
-
-    let (events, whole) = two_events(rt.alloc(), b"at 0 from 7 00\n#\n", &mut room)?;
-    assert_eq!(rt; events, [datagram(7, 1, 0), got(What::End, 0)]);
-    assert!(rt; whole);
+    let want = [
+        datagram(0, 4, 1000),
+        datagram(4_294_967_295, 2, 281_474_976_710_655),
+    ];
+    assert!(rt; are_events(rt.alloc(), script, &want, b"\xaa\xff\0\x02")?);
+    let want = [datagram(7, 1, 0), got(What::End, 0)];
+    assert!(rt; are_events(rt.alloc(), b"at 0 from 7 00\n#\n", &want, b"\0")?);
     Ok(())
 }
 
-/// A line that lacks its line feed, a number with leading zeros, half a byte, no byte, and a time of 49 bits.
+/// A line that lacks its line feed, a number with leading zeros, half a byte, no byte, and a time of 49 bits. `;` stands for a
+/// line feed.
+const FAULTS: &str = "\
+at 1 from 0 00
+# comment
+at 01 from 0 00;
+at 1 from 0 0;
+at 1 from 0 ;
+at 281474976710656 from 0 00;
+at 1 tick;";
+
+fn is_fault(alloc: Global, row: &str) -> Result<bool, NoMemory> {
+    let mut script = Vec::from_slice(alloc, row.as_bytes())?;
+    for byte in script.iter_mut() {
+        if *byte == b';' {
+            *byte = b'\n';
+        }
+    }
+    are_events(alloc, script.as_slice(), &[got(What::Failed, 0); 2], b"")
+}
+
 #[test]
 fn other_lines_are_faults(rt: HostRuntime) -> Result<(), Fail> {
-    let mut room: Room = [0; MAX_EVENT_BYTES];
-    let scripts: [&[u8]; 7] = [
-        b"at 1 from 0 00",
-        b"# comment",
-        b"at 01 from 0 00\n",
-        b"at 1 from 0 0\n",
-        b"at 1 from 0 \n",
-        b"at 281474976710656 from 0 00\n",
-        b"at 1 tick\n",
-    ];
-    for script in scripts {
-        let (events, whole) = two_events(rt.alloc(), script, &mut room)?;
-        assert_eq!(rt; events, [got(What::Failed, 0); 2], "at {script:?}");
-        assert!(rt; whole, "at {script:?}");
+    for row in FAULTS.lines() {
+        assert!(rt; is_fault(rt.alloc(), row)?, "at {row}");
     }
     Ok(())
 }
 
-/// What a send answers, whether the sink then holds this line alone, and whether the call was recorded.
-fn is_line(alloc: Global, out: &Out, line: &str) -> Result<(Sent, bool, bool), NoMemory> {
+/// Whether a send is done, the sink then holds this line alone, and the call was recorded.
+fn is_line(alloc: Global, out: &Out, line: &str) -> Result<bool, NoMemory> {
     let source = MemorySource::new(alloc, b"")?;
     let mut host = ScriptHost::new(alloc, source, MemorySink::new(alloc))?;
-    let sent = host.send(out);
-    Ok((sent, host.sink().bytes() == line.as_bytes(), host.whole()))
+    Ok(host.send(out) == Sent::Done && host.sink().bytes() == line.as_bytes() && host.whole())
 }
 
 #[test]
@@ -84,30 +94,21 @@ fn a_send_is_a_line(rt: HostRuntime) -> Result<(), Fail> {
         peer: 0,
         bytes: &[0x50, 0xa1, 0x00, 0x02],
     };
+    assert!(rt; is_line(rt.alloc(), &reply, "to 0 50a10002\n")?);
     let piece = Out::Conn {
         conn: 4_294_967_295,
         bytes: &[0xc0],
     };
-    for (out, line) in [
-        (reply, "to 0 50a10002\n"),
-        (piece, "conn 4294967295 c0\n"),
-        (Out::Close { conn: 10 }, "close 10\n"),
-    ] {
-        assert_eq!(rt;
-            is_line(rt.alloc(), &out, line)?,
-            (Sent::Done, true, true),
-            "{line}"
-        );
-    }
+    assert!(rt; is_line(rt.alloc(), &piece, "conn 4294967295 c0\n")?);
+    assert!(rt; is_line(rt.alloc(), &Out::Close { conn: 10 }, "close 10\n")?);
     Ok(())
 }
 
-/// What a send answers where the sink has room for seven bytes, and whether the call was recorded.
-fn cut_send(alloc: Global, room: &mut [u8; 7], out: &Out) -> Result<(Sent, bool), NoMemory> {
+/// Whether a send is lost where the sink has room for seven bytes, and the call was recorded.
+fn is_cut(alloc: Global, room: &mut [u8; 7], out: &Out) -> Result<bool, NoMemory> {
     let source = MemorySource::new(alloc, b"")?;
     let mut host = ScriptHost::new(alloc, source, StdSink::new(room.as_mut_slice()))?;
-    let sent = host.send(out);
-    Ok((sent, host.whole()))
+    Ok(host.send(out) == Sent::Lost && host.whole())
 }
 
 #[test]
@@ -117,31 +118,26 @@ fn a_line_that_is_cut_is_lost(rt: HostRuntime) -> Result<(), Fail> {
         peer: 0,
         bytes: &[0xab, 0xcd],
     };
-    assert_eq!(rt; cut_send(rt.alloc(), &mut room, &out)?, (Sent::Lost, true));
-    assert_eq!(rt; room, *b"to 0 ab");
+    assert!(rt; is_cut(rt.alloc(), &mut room, &out)?);
+    assert!(rt; room == *b"to 0 ab");
     Ok(())
 }
 
-/// What two sends of these bytes answer where the second call of the sink fails, and whether both were recorded.
-fn two_sends(alloc: Global, bytes: &[u8]) -> Result<([Sent; 2], bool), NoMemory> {
+/// Whether two sends of these bytes answer so where the second call of the sink fails, and both were recorded.
+fn are_sent(alloc: Global, bytes: &[u8], first: Sent, second: Sent) -> Result<bool, NoMemory> {
     let mut sink = MemorySink::new(alloc);
     sink.fail_at(2)?;
     let source = MemorySource::new(alloc, b"")?;
     let mut host = ScriptHost::new(alloc, source, sink)?;
     let out = Out::Conn { conn: 1, bytes };
-    let sent = [host.send(&out), host.send(&out)];
-    Ok((sent, host.whole()))
+    Ok(host.send(&out) == first && host.send(&out) == second && host.whole())
 }
 
 /// The whole line goes to one call of the sink, and a send of more bytes than an event has takes two.
 #[test]
 fn a_line_takes_one_call(rt: HostRuntime) -> Result<(), Fail> {
     let bytes = [7; MAX_EVENT_BYTES + 1];
-    let (most, recorded) = two_sends(rt.alloc(), &bytes[1..])?;
-    assert_eq!(rt; most, [Sent::Done, Sent::Lost]);
-    assert!(rt; recorded);
-    let (more, recorded) = two_sends(rt.alloc(), &bytes)?;
-    assert_eq!(rt; more, [Sent::Lost, Sent::Done]);
-    assert!(rt; recorded);
+    assert!(rt; are_sent(rt.alloc(), &bytes[1..], Sent::Done, Sent::Lost)?);
+    assert!(rt; are_sent(rt.alloc(), &bytes, Sent::Lost, Sent::Done)?);
     Ok(())
 }

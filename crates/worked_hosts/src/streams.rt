@@ -8,82 +8,87 @@ use std::test::Fail;
 
 type Counts = [Result<usize, Failed>; 3];
 
-/// What three reads answer, each into three bytes of the room.
-fn three_reads<S: Source>(source: &mut S, room: &mut [u8; 9]) -> Counts {
-    [
-        source.read(&mut room[..3]),
-        source.read(&mut room[3..6]),
-        source.read(&mut room[6..]),
-    ]
+/// Whether three reads answer so, each into three bytes of a room that then holds these bytes.
+fn reads<S: Source>(source: &mut S, want: &Counts, bytes: &[u8; 9]) -> bool {
+    let mut room = [0; 9];
+    let [first, second, third] = want;
+    source.read(&mut room[..3]) == *first
+        && source.read(&mut room[3..6]) == *second
+        && source.read(&mut room[6..]) == *third
+        && room == *bytes
 }
 
 /// The same of a source over these bytes, of which the second call fails.
-fn memory_reads(alloc: Global, bytes: &[u8], room: &mut [u8; 9]) -> Result<Counts, NoMemory> {
-    let mut source = MemorySource::new(alloc, bytes)?;
+fn memory_reads(
+    alloc: Global,
+    from: &[u8],
+    want: &Counts,
+    bytes: &[u8; 9],
+) -> Result<bool, NoMemory> {
+    let mut source = MemorySource::new(alloc, from)?;
     source.fail_at(2)?;
-    Ok(three_reads(&mut source, room))
+    Ok(reads(&mut source, want, bytes))
 }
 
 #[test]
 fn sources_give_their_bytes(rt: HostRuntime) -> Result<(), Fail> {
-    let mut room = [0; 9];
-    let counts = memory_reads(rt.alloc(), b"abcde", &mut room)?;
-    assert_eq!(rt; counts, [Ok(3), Err(Failed), Ok(2)]);
-    assert_eq!(rt; room, *b"abc\0\0\0de\0");
-
-    let mut room = [0; 9];
+    let want = [Ok(3), Err(Failed), Ok(2)];
+    assert!(rt; memory_reads(rt.alloc(), b"abcde", &want, b"abc\0\0\0de\0")?);
     let mut source = StdSource::new(Some(b"abcde".as_slice()));
-    assert_eq!(rt; three_reads(&mut source, &mut room), [Ok(3), Ok(2), Ok(0)]);
-    assert_eq!(rt; room, *b"abcde\0\0\0\0");
+    assert!(rt; reads(&mut source, &[Ok(3), Ok(2), Ok(0)], b"abcde\0\0\0\0"));
     Ok(())
 }
 
-/// What three writes answer.
-fn three_writes<K: Sink>(sink: &mut K, texts: [&[u8]; 3]) -> Counts {
+/// Whether three writes answer so.
+fn writes<K: Sink>(sink: &mut K, texts: [&[u8]; 3], want: &Counts) -> bool {
     let [first, second, third] = texts;
-    [sink.write(first), sink.write(second), sink.write(third)]
+    let [one, two, three] = want;
+    sink.write(first) == *one && sink.write(second) == *two && sink.write(third) == *three
 }
 
+/// The texts of which three writes are made.
+const TEXTS: [&[u8]; 3] = [b"ab", b"xy", b"cde"];
+
 /// The same of a sink over a list, of which the second call fails, and whether it then holds these bytes.
-fn memory_writes(
-    alloc: Global,
-    texts: [&[u8]; 3],
-    want: &[u8],
-) -> Result<(Counts, bool), NoMemory> {
+fn memory_writes(alloc: Global, want: &Counts, bytes: &[u8]) -> Result<bool, NoMemory> {
     let mut sink = MemorySink::new(alloc);
     sink.fail_at(2)?;
-    let counts = three_writes(&mut sink, texts);
-    Ok((counts, sink.bytes() == want))
+    Ok(writes(&mut sink, TEXTS, want) && sink.bytes() == bytes)
+}
+
+/// The same of a writer over a list.
+fn writes_through(alloc: Global, want: &Counts, bytes: &[u8]) -> bool {
+    let mut held = Vec::new(alloc);
+    writes(&mut StdSink::new(&mut held), TEXTS, want) && held.as_slice() == bytes
 }
 
 #[test]
 fn sinks_take_bytes(rt: HostRuntime) -> Result<(), Fail> {
-    let texts = [b"ab".as_slice(), b"xy".as_slice(), b"cde".as_slice()];
-    let (counts, holds) = memory_writes(rt.alloc(), texts, b"abcde")?;
-    assert_eq!(rt; counts, [Ok(2), Err(Failed), Ok(3)]);
-    assert!(rt; holds);
-
-    let mut held = Vec::new(rt.alloc());
-    assert_eq!(rt;
-        three_writes(&mut StdSink::new(&mut held), texts),
-        [Ok(2), Ok(2), Ok(3)]
-    );
-    assert_eq!(rt; held.as_slice(), b"abxycde".as_slice());
+    let want = [Ok(2), Err(Failed), Ok(3)];
+    assert!(rt; memory_writes(rt.alloc(), &want, b"abcde")?);
+    assert!(rt; writes_through(rt.alloc(), &[Ok(2), Ok(2), Ok(3)], b"abxycde"));
     Ok(())
+}
+
+/// Whether a writer with room for three bytes takes these, and then no more.
+fn is_full() -> bool {
+    let mut room = [0; 3];
+    let texts = [b"abcd".as_slice(), b"d".as_slice(), b"".as_slice()];
+    writes(
+        &mut StdSink::new(room.as_mut_slice()),
+        texts,
+        &[Ok(3), Err(Failed), Ok(0)],
+    ) && room == *b"abc"
+}
+
+fn is_filled() -> bool {
+    let mut room = [0; 3];
+    write_all(&mut StdSink::new(room.as_mut_slice()), b"abcd") == Err(Failed) && room == *b"abc"
 }
 
 /// A full writer takes 0 bytes of some, and that is a failure.
 #[test]
 fn a_full_writer_fails(rt: HostRuntime) {
-    let mut room = [0; 3];
-    let mut sink = StdSink::new(room.as_mut_slice());
-    let texts = [b"abcd".as_slice(), b"d".as_slice(), b"".as_slice()];
-    let counts = three_writes(&mut sink, texts);
-    assert_eq!(rt; counts, [Ok(3), Err(Failed), Ok(0)]);
-    assert_eq!(rt; room, *b"abc");
-
-    let mut room = [0; 3];
-    let mut sink = StdSink::new(room.as_mut_slice());
-    assert_eq!(rt; write_all(&mut sink, b"abcd"), Err(Failed));
-    assert_eq!(rt; room, *b"abc");
+    assert!(rt; is_full());
+    assert!(rt; is_filled());
 }

@@ -1,111 +1,117 @@
-use crate::replays::{leaves, replay};
-use crate::rows::{CLIENT, FEED, HEAD, MID_123, NONE, ROW, SENT};
+//! Datagrams that ask for nothing, bodies in other spellings, and bodies that are refused.
+
+use crate::runs::{Case, leaves};
+use crate::tables::{COMMAND, all_hold};
+use crate::texts::SETTINGS;
+use std::alloc::Global;
 use std::test::Fail;
 
-/// Messages that ask for nothing that is served, and what is sent to the client.
-const ASKS_NOTHING: [(&[u8], &[u8]); 18] = [
-    // a ping, and a confirmable message that can't be read
-    (b"40001234", b"to 0 70001234\n"),
-    (b"40011235ff", b"to 0 70001235\n"),
-    // three bytes; a non-confirmable request with an option that isn't known
-    (b"400112", NONE),
-    (b"5001123690", NONE),
-    (b"4001123790", b"to 0 60821237ff6f7074696f6e2039\n"),
-    // another version, an empty non-confirmable message, an acknowledgement, a response
-    (b"00011235", NONE),
-    (b"50001234", NONE),
-    (b"60001234", NONE),
-    (b"40451238", b"to 0 70001238\n"),
-    (b"50451238", NONE),
-    // an option that isn't known and is critical, a second Content-Format, and a Uri-Host
-    (b"41011239aa1133", b"to 0 61821239aaff6f7074696f6e2031\n"),
-    (b"41031239aac000", b"to 0 61841239aaff70617468\n"),
-    (b"41031239aac00000", b"to 0 61841239aaff70617468\n"),
-    (b"41031239aa3100", b"to 0 61841239aaff70617468\n"),
-    // Accept of three bytes, and twice
-    (
-        b"41031239aad304010203",
-        b"to 0 61821239aaff6f7074696f6e203137\n",
-    ),
-    (
-        b"41031239aad10400010f",
-        b"to 0 61821239aaff6f7074696f6e203137\n",
-    ),
-    // paths that there aren't, with their tokens
-    (b"5103000249", b"to 0 5184000249ff70617468\n"),
-    (b"52050002494a", b"to 0 52840002494aff70617468\n"),
-];
+/// Messages that ask for nothing that is served, and what is sent to the client: `-` stands for nothing.
+const ASKS_NOTHING: &str = "\
+# a ping, and a confirmable message that can't be read
+40001234 70001234
+40011235ff 70001235
+# three bytes; a non-confirmable request with an option that isn't known
+400112 -
+5001123690 -
+4001123790 60821237ff6f7074696f6e2039
+# another version, an empty non-confirmable message, an acknowledgement, a response
+00011235 -
+50001234 -
+60001234 -
+40451238 70001238
+50451238 -
+# an option that isn't known and is critical, a second Content-Format, and a Uri-Host
+41011239aa1133 61821239aaff6f7074696f6e2031
+41031239aac000 61841239aaff70617468
+41031239aac00000 61841239aaff70617468
+41031239aa3100 61841239aaff70617468
+# Accept of three bytes, and twice
+41031239aad304010203 61821239aaff6f7074696f6e203137
+41031239aad10400010f 61821239aaff6f7074696f6e203137
+# paths that there aren't, with their tokens
+5103000249 5184000249ff70617468
+52050002494a 52840002494aff70617468";
 
-/// Each from the client and then from a stranger, who is never answered.
+/// Whether this is sent where a datagram comes from the client and then from a stranger, who is never answered.
+fn is_answered(alloc: Global, datagram: &str, reply: &str) -> Result<bool, Fail> {
+    let script = format!(in alloc; "at 1000 from 0 {datagram}\nat 1000 from 77 {datagram}\n")?;
+    let sends = match reply {
+        "-" => String::new(alloc),
+        _ => format!(in alloc; "to 0 {reply}\n")?,
+    };
+    let case = Case {
+        words: &COMMAND,
+        settings: SETTINGS.as_bytes(),
+        script: script.as_bytes(),
+        ..Case::new()
+    };
+    Ok(leaves(alloc, &case, 0, sends.as_bytes(), b"")?)
+}
+
+fn holds(alloc: Global, row: &str) -> Result<bool, Fail> {
+    if row.starts_with("# ") {
+        return Ok(true);
+    }
+    let (datagram, reply) = row.split_once(' ').ok_or("a row")?;
+    is_answered(alloc, datagram, reply)
+}
+
 #[test]
 fn datagrams_that_ask_for_nothing(rt: HostRuntime) -> Result<(), Fail> {
-    for (datagram, sends) in ASKS_NOTHING {
-        let script = [
-            b"at 1000 from 0 ".as_slice(),
-            datagram,
-            FEED,
-            b"at 1000 from 77 ",
-            datagram,
-            FEED,
-        ];
-        let left = replay(rt.alloc(), &script)?;
-        leaves(&rt, &left, &[sends], NONE);
+    for row in ASKS_NOTHING.lines() {
+        assert!(rt; holds(rt.alloc(), row)?, "at {row}");
     }
     Ok(())
 }
 
 /// The request of all rows, confirmable: it is acknowledged with the same reply.
-#[test]
-fn a_confirmable_request(rt: HostRuntime) -> Result<(), Fail> {
-    let request =
-        b"at 1000 from 0 410300014abb2e77656c6c2d6b6e6f776e04646f7473086d697469676174650d0e637569643d647a3670486a6141446b614654626a72304a47427077076d69643d31323312010fffa101a10281a206816c3139322e302e322e302f32340e190e10\n".as_slice();
-    let reply = b"to 0 614100014ac2010fffa101a10281a205187b0e190e10\n".as_slice();
-    let left = replay(rt.alloc(), &[request])?;
-    leaves(&rt, &left, &[reply], ROW);
-    Ok(())
-}
+const CONFIRMABLE: &str = "\
+< at 1000 from 0 410300014abb2e77656c6c2d6b6e6f776e04646f7473086d697469676174650d0e637569643d647a3670486a6141446b614654626a72304a47427077076d69643d31323312010fffa101a10281a206816c3139322e302e322e302f32340e190e10
+> to 0 614100014ac2010fffa101a10281a205187b0e190e10
+= ROW";
 
 /// The request of all rows with its body in another spelling: longer arguments, indefinite lengths and a text in parts.
-#[test]
-fn a_body_in_another_spelling(rt: HostRuntime) -> Result<(), Fail> {
-    let body =
-        b"bf1801bf18029fbf18069f780c3139322e302e322e302f3234ff180e1a00000e10ffffffff".as_slice();
-    let in_parts =
-        b"bf1801bf18029fbf18069f7f663139322e302e66322e302f3234ffff180e1a00000e10ffffffff".as_slice();
-    for payload in [body, in_parts] {
-        let script = [CLIENT, HEAD, MID_123, b"12010fff", payload, FEED];
-        let left = replay(rt.alloc(), &script)?;
-        leaves(&rt, &left, &SENT, ROW);
-    }
-    Ok(())
-}
+const OTHER_SPELLINGS: &str = "\
+< at 1000 from 0 HEAD+MID_123+12010fff+bf1801bf18029fbf18069f780c3139322e302e322e302f3234ff180e1a00000e10ffffffff
+> to 0 REPLY
+= ROW
+
+< at 1000 from 0 HEAD+MID_123+12010fff+bf1801bf18029fbf18069f7f663139322e302e66322e302f3234ffff180e1a00000e10ffffffff
+> to 0 REPLY
+= ROW";
 
 /// Bodies that can't be decoded: two lifetimes, a body that is cut, one with a byte behind it; and none at all. Items that
 /// aren't the body of a request are refused by their key.
+const REFUSED_BODIES: &str = "\
+< at 1000 from 0 HEAD+MID_123+12010fffa101a10281a306816c3139322e302e322e302f32340e190e100e190e10
+> to 0 NO_CBOR
+
+< at 1000 from 0 HEAD+MID_123+12010fffa101a10281a2
+> to 0 NO_CBOR
+
+< at 1000 from 0 HEAD+MID_123+12010fff0000
+> to 0 NO_CBOR
+
+< at 1000 from 0 HEAD+MID_123+12010f
+> to 0 NO_CBOR
+
+# invalid 0
+< at 1000 from 0 HEAD+MID_123+12010fff00
+> to 0 518000014aff696e76616c69642030
+
+# missing 14
+< at 1000 from 0 HEAD+MID_123+12010fffa101a10281a106816c3139322e302e322e302f3234
+> to 0 518000014aff6d697373696e67203134
+
+# missing 6
+< at 1000 from 0 HEAD+MID_123+12010fffa101a10281a206800e190e10
+> to 0 518000014aff6d697373696e672036";
+
 #[test]
-fn bodies_that_are_refused(rt: HostRuntime) -> Result<(), Fail> {
-    let no_cbor = b"518000014aff63626f72".as_slice();
-    let no_map = b"518000014aff696e76616c69642030".as_slice();
-    let no_lifetime = b"518000014aff6d697373696e67203134".as_slice();
-    let no_target = b"518000014aff6d697373696e672036".as_slice();
-    for (body, reply) in [
-        (
-            b"12010fffa101a10281a306816c3139322e302e322e302f32340e190e100e190e10".as_slice(),
-            no_cbor,
-        ),
-        (b"12010fffa101a10281a2", no_cbor),
-        (b"12010fff0000", no_cbor),
-        (b"12010f", no_cbor),
-        (b"12010fff00", no_map),
-        (
-            b"12010fffa101a10281a106816c3139322e302e322e302f3234",
-            no_lifetime,
-        ),
-        (b"12010fffa101a10281a206800e190e10", no_target),
-    ] {
-        let script = [CLIENT, HEAD, MID_123, body, FEED];
-        let left = replay(rt.alloc(), &script)?;
-        leaves(&rt, &left, &[b"to 0 ", reply, FEED], NONE);
+fn bodies(rt: HostRuntime) -> Result<(), Fail> {
+    for table in [CONFIRMABLE, OTHER_SPELLINGS, REFUSED_BODIES] {
+        all_hold(&rt, rt.alloc(), SETTINGS, table)?;
     }
     Ok(())
 }

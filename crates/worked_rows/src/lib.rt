@@ -2,6 +2,8 @@
 //!
 //! Each row is run through `dots_run::run`, as a user would: over a script, or over a host in memory whose acts
 //! are looked at. The expected bytes come from the protocol's documents and not from the program.
+//!
+//! Rows are text: [`tables`] says how they are read, and [`texts`] has the names that stand in them.
 #![tactic(auto)]
 
 #[cfg(test)]
@@ -17,12 +19,14 @@ mod option_rows;
 #[cfg(test)]
 mod refusal_rows;
 #[cfg(test)]
-mod replays;
-#[cfg(test)]
-mod rows;
+mod runs;
 #[cfg(test)]
 mod script_rows;
 #[cfg(test)]
 mod show_rows;
 #[cfg(test)]
 mod status_rows;
+#[cfg(test)]
+mod tables;
+#[cfg(test)]
+mod texts;

@@ -1,52 +1,69 @@
-use crate::replays::{is_joined, leaves, replay};
-use crate::rows::{CLIENT, FEED, NONE, REQUEST, ROW, SENT};
+//! A request over a script, and the time.
+
+use crate::runs::{Case, leaves};
+use crate::tables::{COMMAND, all_hold, lines_of};
+use crate::texts::SETTINGS;
+use dots_host::NoMemory;
+use std::alloc::Global;
 use std::test::Fail;
 
-#[test]
-fn a_request_is_granted(rt: HostRuntime) -> Result<(), Fail> {
-    let left = replay(rt.alloc(), &[CLIENT, REQUEST, FEED])?;
-    leaves(&rt, &left, &SENT, ROW);
-    Ok(())
-}
-
-/// One datagram of four bytes.
-#[test]
-fn another_message_is_refused(rt: HostRuntime) -> Result<(), Fail> {
-    let left = replay(rt.alloc(), &[b"at 1000 from 0 50030002\n"])?;
-    leaves(&rt, &left, &[b"to 0 50840002ff70617468\n"], NONE);
-    Ok(())
-}
-
 /// A mitigation ends 3600 s after it was accepted, that second excluded, and the time doesn't fall.
-#[test]
-fn a_stranger_moves_the_time(rt: HostRuntime) -> Result<(), Fail> {
-    for (line, report) in [
-        (b"at 5000 from 77 00\n".as_slice(), NONE),
-        (b"at 4600 from 77 00\n", NONE),
-        (b"at 4599 from 77 00\n", ROW),
-        (b"at 500 from 77 00\n", ROW),
-    ] {
-        let left = replay(rt.alloc(), &[CLIENT, REQUEST, FEED, line])?;
-        leaves(&rt, &left, &SENT, report);
-    }
-    Ok(())
-}
+const TIMES: &str = "\
+< at 1000 from 0 REQUEST
+> to 0 REPLY
+= ROW
+
+# one datagram of four bytes
+< at 1000 from 0 50030002
+> to 0 50840002ff70617468
+
+# a stranger moves the time
+< at 1000 from 0 REQUEST
+< at 5000 from 77 00
+> to 0 REPLY
+
+< at 1000 from 0 REQUEST
+< at 4600 from 77 00
+> to 0 REPLY
+
+< at 1000 from 0 REQUEST
+< at 4599 from 77 00
+> to 0 REPLY
+= ROW
+
+< at 1000 from 0 REQUEST
+< at 500 from 77 00
+> to 0 REPLY
+= ROW
+
+# an empty script";
 
 #[test]
-fn an_empty_script(rt: HostRuntime) -> Result<(), Fail> {
-    let left = replay(rt.alloc(), &[])?;
-    leaves(&rt, &left, &[], NONE);
-    Ok(())
+fn times(rt: HostRuntime) -> Result<(), Fail> {
+    all_hold(&rt, rt.alloc(), SETTINGS, TIMES)
+}
+
+/// Whether these lines end as a fault where the last lacks its line feed.
+fn is_fault_where_cut(alloc: Global, lines: &str) -> Result<bool, NoMemory> {
+    let mut script = lines_of(alloc, lines, "< ")?;
+    let _feed = script.pop();
+    let sends = lines_of(alloc, lines, "> ")?;
+    let case = Case {
+        words: &COMMAND,
+        settings: SETTINGS.as_bytes(),
+        script: script.as_slice(),
+        ..Case::new()
+    };
+    leaves(alloc, &case, 5, sends.as_slice(), b"")
 }
 
 /// A last line without its line feed is a fault, so the run ends without a report.
 #[test]
 fn a_line_that_is_cut(rt: HostRuntime) -> Result<(), Fail> {
-    let cut = b"at 1001 from 0 50030002".as_slice();
-    let left = replay(rt.alloc(), &[CLIENT, REQUEST, FEED, cut])?;
-    assert_eq!(rt; left.status, 5);
-    assert!(rt; is_joined(left.sends.as_slice(), &SENT));
-    assert_eq!(rt; left.report.as_slice(), NONE);
-    assert!(rt; left.whole);
+    let lines = "\
+< at 1000 from 0 REQUEST
+< at 1001 from 0 50030002
+> to 0 REPLY";
+    assert!(rt; is_fault_where_cut(rt.alloc(), lines)?);
     Ok(())
 }

@@ -1,40 +1,63 @@
-use crate::replays::replay_over;
-use crate::rows::NONE;
-use dots_host::{MemorySink, MemorySource};
+//! Words that are shown, with no settings and no script.
+
+use crate::runs::{Case, leaves};
+use std::alloc::Global;
 use std::test::Fail;
 
-/// A message and a fault, and no settings and no script.
-#[test]
-fn words_that_are_shown(rt: HostRuntime) -> Result<(), Fail> {
-    let alloc = rt.alloc();
-    for (word, status, report) in [
-        ("40001234", 0, b"con 0.00 4660 -\n".as_slice()),
-        ("40011235ff", 1, b"fault empty-payload 4\n"),
-        ("4001123790", 0, b"con 0.01 4663 -\noption 9 -\n"),
-        ("400", 1, b"fault hex\n"),
-        ("-4", 2, b"words\n"),
-    ] {
-        let settings = MemorySource::new(alloc, NONE)?;
-        let sink = MemorySink::new(alloc);
-        let left = replay_over(alloc, &["show", word], settings, &[], sink)?;
-        assert_eq!(rt; left.status, status);
-        assert_eq!(rt; left.report.as_slice(), report);
-        assert_eq!(rt; left.sends.as_slice(), NONE);
+/// Messages and faults with the status and, behind a bar, what is reported, where `;` stands for a line feed.
+const WORDS: &str = "\
+40001234 0|con 0.00 4660 -;
+40011235ff 1|fault empty-payload 4;
+4001123790 0|con 0.01 4663 -;option 9 -;
+400 1|fault hex;
+-4 2|words;";
+
+/// Whether a run over this word ends so.
+fn is_shown(
+    alloc: Global,
+    word: &str,
+    failing_write: Option<u64>,
+    status: u8,
+    report: &[u8],
+) -> Result<bool, Fail> {
+    let words = ["show", word];
+    let case = Case {
+        words: &words,
+        failing_write,
+        ..Case::new()
+    };
+    Ok(leaves(alloc, &case, status, b"", report)?)
+}
+
+/// The text with a line feed in place of each semicolon.
+fn lines(alloc: Global, text: &str) -> Result<Vec<u8>, Fail> {
+    let mut lines = Vec::from_slice(alloc, text.as_bytes())?;
+    for byte in lines.iter_mut() {
+        if *byte == b';' {
+            *byte = b'\n';
+        }
     }
-    Ok(())
+    Ok(lines)
+}
+
+fn holds(alloc: Global, row: &str) -> Result<bool, Fail> {
+    let (front, text) = row.split_once('|').ok_or("a row")?;
+    let (word, status) = front.split_once(' ').ok_or("a word")?;
+    let report = lines(alloc, text)?;
+    is_shown(alloc, word, None, status.parse::<u8>()?, report.as_slice())
 }
 
 /// Where the first write fails the status of a fault stays.
 #[test]
-fn lines_that_cannot_be_written(rt: HostRuntime) -> Result<(), Fail> {
-    let alloc = rt.alloc();
+fn words_that_are_shown(rt: HostRuntime) -> Result<(), Fail> {
+    for row in WORDS.lines() {
+        assert!(rt; holds(rt.alloc(), row)?, "at {row}");
+    }
     for (word, status) in [("40001234", 9), ("40011235ff", 1)] {
-        let settings = MemorySource::new(alloc, NONE)?;
-        let mut sink = MemorySink::new(alloc);
-        sink.fail_at(1)?;
-        let left = replay_over(alloc, &["show", word], settings, &[], sink)?;
-        assert_eq!(rt; left.status, status);
-        assert_eq!(rt; left.report.as_slice(), NONE);
+        assert!(rt;
+            is_shown(rt.alloc(), word, Some(1), status, b"")?,
+            "at {word}"
+        );
     }
     Ok(())
 }

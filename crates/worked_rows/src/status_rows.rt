@@ -1,76 +1,91 @@
-use crate::replays::{Replayed, is_joined, replay_over};
-use crate::rows::{COMMAND, NONE, REQUEST, SENT, SETTINGS};
-use dots_host::{MemorySink, MemorySource};
-use std::process::Abort;
+//! Words and settings that are refused, and reads and writes that fail.
+
+use crate::runs::{Case, leaves};
+use crate::tables::COMMAND;
+use crate::texts::{REPLY, REQUEST, SETTINGS};
+use std::alloc::Global;
 use std::test::Fail;
 
 /// A message that is answered.
-const LINE: &[u8] = b"at 1000 from 0 50030002\n";
+const LINE: &str = "at 1000 from 0 50030002\n";
 
-/// The run ended so, sent nothing, and reported this.
-fn refuses(rt: &impl Abort, left: &Replayed, status: u8, report: &[u8]) {
-    assert_eq!(rt; left.status, status);
-    assert_eq!(rt; left.sends.as_slice(), NONE);
-    assert_eq!(rt; left.report.as_slice(), report);
+/// The settings of all rows, and in the last line a prefix that meets one of another domain.
+const OVERLAPPING: &str = "\
+domain net1
+prefix net1 192.0.2.0/24
+prefix net1 2001:db8:1::/48
+domain net2
+prefix net2 198.51.100.0/24
+client 0 net1
+client 1 net1
+client 2 net2
+gateway 3
+ceiling 86400
+prefix net2 192.0.2.0/25
+";
+
+/// Whether a run with these words and settings, of which this read fails, ends so and sends nothing.
+fn is_refused(
+    alloc: Global,
+    words: &[&str],
+    settings: &str,
+    failing_read: Option<u64>,
+    status: u8,
+    report: &str,
+) -> Result<bool, Fail> {
+    let case = Case {
+        words,
+        settings: settings.as_bytes(),
+        script: LINE.as_bytes(),
+        failing_read,
+        failing_write: None,
+    };
+    Ok(leaves(alloc, &case, status, b"", report.as_bytes())?)
 }
 
 #[test]
-fn other_words(rt: HostRuntime) -> Result<(), Fail> {
-    let alloc = rt.alloc();
+fn words_and_settings_that_are_refused(rt: HostRuntime) -> Result<(), Fail> {
     for last in ["-a", ""] {
-        let settings = MemorySource::new(alloc, SETTINGS)?;
-        let sink = MemorySink::new(alloc);
-        let left = replay_over(alloc, &["replay", last], settings, &[LINE], sink)?;
-        refuses(&rt, &left, 2, b"words\n");
+        let words = ["replay", last];
+        assert!(rt;
+            is_refused(rt.alloc(), &words, SETTINGS, None, 2, "words\n")?,
+            "at {last}"
+        );
     }
-    Ok(())
-}
-
-#[test]
-fn other_settings(rt: HostRuntime) -> Result<(), Fail> {
-    let alloc = rt.alloc();
-    for (text, report) in [
-        (b"domain Net1\n".as_slice(), b"settings line 1\n".as_slice()),
+    for (settings, failing_read, status, report) in [
+        ("domain Net1\n", None, 3, "settings line 1\n"),
         (
-            b"domain net1\nprefix net1 192.0.2.0/33\n",
-            b"settings line 2\n",
+            "domain net1\nprefix net1 192.0.2.0/33\n",
+            None,
+            3,
+            "settings line 2\n",
         ),
-        (
-            b"domain net1\nprefix net1 192.0.2.0/24\nprefix net1 2001:db8:1::/48\ndomain net2\nprefix net2 198.51.100.0/24\nclient 0 net1\nclient 1 net1\nclient 2 net2\ngateway 3\nceiling 86400\nprefix net2 192.0.2.0/25\n",
-            b"settings overlap 2 11\n",
-        ),
+        (OVERLAPPING, None, 3, "settings overlap 2 11\n"),
+        // the first read fails
+        (SETTINGS, Some(1), 5, ""),
     ] {
-        let settings = MemorySource::new(alloc, text)?;
-        let sink = MemorySink::new(alloc);
-        let left = replay_over(alloc, &COMMAND, settings, &[LINE], sink)?;
-        refuses(&rt, &left, 3, report);
+        let is_so = is_refused(rt.alloc(), &COMMAND, settings, failing_read, status, report)?;
+        assert!(rt; is_so, "at {settings}");
     }
     Ok(())
 }
 
-/// The first read of the settings fails.
-#[test]
-fn settings_that_cannot_be_read(rt: HostRuntime) -> Result<(), Fail> {
-    let alloc = rt.alloc();
-    let mut settings = MemorySource::new(alloc, SETTINGS)?;
-    settings.fail_at(1)?;
-    let sink = MemorySink::new(alloc);
-    let left = replay_over(alloc, &COMMAND, settings, &[LINE], sink)?;
-    refuses(&rt, &left, 5, NONE);
-    Ok(())
+/// Whether the first write of the report fails after the reply was sent.
+fn cannot_report(alloc: Global) -> Result<bool, Fail> {
+    let script = format!(in alloc; "at 1000 from 0 {REQUEST}\n")?;
+    let sends = format!(in alloc; "to 0 {REPLY}\n")?;
+    let case = Case {
+        words: &COMMAND,
+        settings: SETTINGS.as_bytes(),
+        script: script.as_bytes(),
+        failing_read: None,
+        failing_write: Some(1),
+    };
+    Ok(leaves(alloc, &case, 9, sends.as_bytes(), b"")?)
 }
 
-/// The first write of the report fails, after the reply was sent.
 #[test]
 fn a_report_that_cannot_be_written(rt: HostRuntime) -> Result<(), Fail> {
-    let alloc = rt.alloc();
-    let settings = MemorySource::new(alloc, SETTINGS)?;
-    let mut sink = MemorySink::new(alloc);
-    sink.fail_at(1)?;
-    let script = [b"at 1000 from 0 ".as_slice(), REQUEST, b"\n"];
-    let left = replay_over(alloc, &COMMAND, settings, &script, sink)?;
-    assert_eq!(rt; left.status, 9);
-    assert!(rt; is_joined(left.sends.as_slice(), &SENT));
-    assert_eq!(rt; left.report.as_slice(), NONE);
+    assert!(rt; cannot_report(rt.alloc())?);
     Ok(())
 }
