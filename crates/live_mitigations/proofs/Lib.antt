@@ -2,4 +2,4 @@ pub mod Ends
 pub mod Rows
 pub mod Updates
 pub mod Standing
-pub mod Counting
+pub mod Room

@@ -5,7 +5,7 @@ use Rattle.live_mitigations.specs.Rows.{grown}
 use Rattle.live_mitigations.specs.Standing.{LiveValue}
 use Rattle.live_mitigations.proofs.Updates.{length_updated}
 use Rattle.live_mitigations.proofs.Standing.{changed_to, within_tables, changed_own, changed_other, put_stands}
-use Rattle.live_mitigations.proofs.Counting.{fits_inside}
+use Rattle.live_mitigations.proofs.Room.{fits_inside}
 use Rattle.live_mitigations.proofs.live.LiveMitigations.put.Goals as goal
 
 pub put-requires : goal.put-requires

@@ -1,6 +1,6 @@
 use Rattle.std.proofs.Common.{ap, ◌∙◌}
 use Rattle.live_mitigations.specs.Standing.{LiveValue, kept_of}
-use Rattle.live_mitigations.proofs.Counting.{kept_is}
+use Rattle.live_mitigations.proofs.Room.{kept_is}
 use Rattle.live_mitigations.proofs.live.LiveMitigations.rows.Goals as goal
 
 pub returns-clause-live : goal.returns-clause-live
