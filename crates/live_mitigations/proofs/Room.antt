@@ -5,7 +5,8 @@ use Rattle.std.proofs.lemmas.Bool.{cond_both, and_parts, and_from, eq-eqb, eqb-t
 use Rattle.std.proofs.lemmas.Slice.Eq.{bytes_eq-Decides}
 use Rattle.dots_settings.specs.declared.limits.Limits.{Limits}
 use Rattle.dots_history.specs.declared.entry.Entry.{Entry}
-use Rattle.dots_history.specs.declared.status.Status.TheVariants.{Open}
+use Rattle.dots_history.specs.declared.status.Status.{Status}
+use Rattle.dots_history.specs.declared.status.Status.TheVariants.{Ended, Open, Withdrawn}
 use Rattle.dots_history.specs.Entries.{same_client, runs}
 use Rattle.dots_history.specs.Histories.{Mitigation, live, step, tally, mitigations, alone}
 use Rattle.dots_history.specs.Keeping.{moved}
@@ -15,6 +16,8 @@ use Rattle.dots_laws.proofs.Apart.{apart}
 use Rattle.dots_laws.proofs.Bare.{bare_mitigations}
 use Rattle.live_mitigations.specs.Rows.{LiveTable, rows_or_none, of_entry, is_left, lives_at_first}
 use Rattle.live_mitigations.specs.Standing.{LiveValue, kept_of, StandsFor, keeps_live_room, has_live_room}
+use Rattle.live_mitigations.specs.Judging.{live_of, lives_of}
+use Rattle.live_mitigations.specs.Reading.{shown, of_cuid, shown_of, shown_in}
 use Rattle.live_mitigations.proofs.Rows.{grown_rows}
 use Rattle.live_mitigations.proofs.Standing.{own_with}
 
@@ -207,3 +210,60 @@ pub fits_inside : (inside live : LiveValue) (entries : List Entry) (e : Entry) �
     → (table : LiveTable) → slice_get inside.tables e.domain ≡ Some table → length (mitigations_with (bare e) table.rows) ≤ table.room
 fits_inside inside live entries e is at within stands has table there =
     fits_table live entries e table (omega (arith, at)) within stands has (ap (λ (v : LiveValue). slice_get v.tables e.domain) (sym is) ∙ there)
+
+-- what is read of the rows of a domain doesn't have messages and replies in it
+pub read_bare : {A : Type 0} → (f : Mitigation → A) (domain : ℕ) (ms : List Mitigation) → ((m : Mitigation) → f (bare_mitigation m) ≡ f m)
+    → map f (mitigations_of domain (map bare_mitigation ms)) ≡ map f (mitigations_of domain ms)
+read_bare f domain [] same = refl
+read_bare f domain (m ∷ ms) same =
+    let go = read_bare f domain ms same in
+    cond_both
+    (m.put.domain == domain)
+    (m ∷ mitigations_of domain ms)
+    (mitigations_of domain ms)
+    (λ xs. map f (cond (m.put.domain == domain) (bare_mitigation m ∷ mitigations_of domain (map bare_mitigation ms)) (mitigations_of domain (map bare_mitigation ms))) ≡ map f xs)
+    (λ is. ap (λ b. map f (cond b (bare_mitigation m ∷ mitigations_of domain (map bare_mitigation ms)) (mitigations_of domain (map bare_mitigation ms)))) is
+    ∙ ap (λ y. y ∷ map f (mitigations_of domain (map bare_mitigation ms))) (same m)
+    ∙ ap (λ ys. f m ∷ ys) go)
+    (λ out. ap (λ b. map f (cond b (bare_mitigation m ∷ mitigations_of domain (map bare_mitigation ms)) (mitigations_of domain (map bare_mitigation ms)))) out ∙ go)
+
+shown_bare : (t : ℕ) (m : Mitigation) → shown t (bare_mitigation m) ≡ shown t m
+shown_bare t m = by_status m.put m.status
+  where
+    by_status : (e : Entry) (s : Status) → shown t (record { put = bare e; status = s }) ≡ shown t (record { put = e; status = s })
+    by_status e Ended = refl
+    by_status e Open = refl
+    by_status e (Withdrawn at) = refl
+
+of_cuid_bare : (cuid : List ℕ) (t : ℕ) (ms : List Mitigation) → shown_of t cuid (map bare_mitigation ms) ≡ shown_of t cuid ms
+of_cuid_bare cuid t [] = refl
+of_cuid_bare cuid t (m ∷ ms) =
+    let go = of_cuid_bare cuid t ms in
+    cond_both
+    (bytes_eq m.put.cuid cuid)
+    (m ∷ of_cuid cuid ms)
+    (of_cuid cuid ms)
+    (λ xs. map (shown t) (cond (bytes_eq m.put.cuid cuid) (bare_mitigation m ∷ of_cuid cuid (map bare_mitigation ms)) (of_cuid cuid (map bare_mitigation ms))) ≡ map (shown t) xs)
+    (λ is. ap (λ b. map (shown t) (cond b (bare_mitigation m ∷ of_cuid cuid (map bare_mitigation ms)) (of_cuid cuid (map bare_mitigation ms)))) is
+    ∙ ap (λ y. y ∷ map (shown t) (of_cuid cuid (map bare_mitigation ms))) (shown_bare t m)
+    ∙ ap (λ ys. shown t m ∷ ys) go)
+    (λ out. ap (λ b. map (shown t) (cond b (bare_mitigation m ∷ of_cuid cuid (map bare_mitigation ms)) (of_cuid cuid (map bare_mitigation ms)))) out ∙ go)
+
+of_domain_bare : (domain : ℕ) (ms : List Mitigation) → mitigations_of domain (map bare_mitigation ms) ≡ map bare_mitigation (mitigations_of domain ms)
+of_domain_bare domain [] = refl
+of_domain_bare domain (m ∷ ms) = ap (λ rest. cond (m.put.domain == domain) (bare_mitigation m ∷ rest) rest) (of_domain_bare domain ms) ∙ by_test (m.put.domain == domain)
+  where
+    by_test : (b : Bool) → cond b (bare_mitigation m ∷ map bare_mitigation (mitigations_of domain ms)) (map bare_mitigation (mitigations_of domain ms))
+        ≡ map bare_mitigation (cond b (m ∷ mitigations_of domain ms) (mitigations_of domain ms))
+    by_test true = refl
+    by_test false = refl
+
+pub lives_are : (t domain : ℕ) (entries : List Entry) → map live_of (mitigations_of domain (mitigations t (map bare entries))) ≡ lives_of domain t entries
+lives_are t domain entries =
+    ap (λ ms. map live_of (mitigations_of domain ms)) (bare_mitigations t entries) ∙ read_bare live_of domain (mitigations t entries) (λ m. refl)
+
+pub shown_are : (t domain : ℕ) (cuid : List ℕ) (entries : List Entry) → shown_of t cuid (mitigations_of domain (mitigations t (map bare entries))) ≡ shown_in domain cuid t entries
+shown_are t domain cuid entries =
+    ap (λ ms. shown_of t cuid (mitigations_of domain ms)) (bare_mitigations t entries)
+    ∙ ap (shown_of t cuid) (of_domain_bare domain (mitigations t entries))
+    ∙ of_cuid_bare cuid t (mitigations_of domain (mitigations t entries))

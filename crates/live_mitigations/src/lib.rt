@@ -2,10 +2,13 @@
 #![tactic(auto)]
 
 mod counting;
+mod judging;
 mod list;
 mod live;
+mod reading;
 mod row;
 mod tables;
 
 pub use live::LiveMitigations;
+pub use reading::{MitigationRow, Mitigations};
 pub use row::Row;

@@ -62,6 +62,20 @@ impl LiveMitigations {
         })
     }
 
+    /// The time at which they are live, in seconds.
+    pub fn time(&self) -> u64
+        ensures { result ≡ self.now.time }
+    {
+        self.time
+    }
+
+    /// How much there is room for.
+    pub fn limits(&self) -> Limits
+        ensures { result ≡ self.now.limits }
+    {
+        self.limits
+    }
+
     /// The live mitigations of a domain, in order of their entries.
     pub fn rows(&self, domain: u16) -> &[Row]
         requires { domain < self.now.domains }

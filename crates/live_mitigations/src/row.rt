@@ -2,14 +2,17 @@
 
 ghost use Rattle.std.specs.Prelude.{◌≡◌, ◌≤◌, ◌+◌, IfSome, IfNone, None, Some, nat_lt};
 ghost use Rattle.dots_history.specs.Entries.{ends, withdraws, runs, same_client, replaces, takes_back, lasts, put_of};
-ghost use Rattle.dots_history.specs.Histories.{step, live};
+ghost use Rattle.dots_history.specs.Histories.{step, live, seconds_left, seconds_of};
 ghost use Rattle.dots_history.specs.Keeping.{moved};
 ghost use Rattle.dots_history.specs.declared.status.Status.TheVariants.{Open};
 ghost use Rattle.dots_history.specs.declared.change.Change.TheVariants as change;
 ghost use Rattle.dots_laws.specs.Tables.{bare, end_of_grant};
 ghost use Rattle.live_mitigations.specs.Ends.{never, second_of, end_second};
 ghost use Rattle.live_mitigations.specs.Rows.{is_left};
+ghost use Rattle.live_mitigations.specs.Judging.{put_or_nothing};
+ghost use Rattle.live_mitigations.specs.Reading.{fitted, status_number};
 
+use conflict_rules::Mitigates;
 use dots_history::{Change, Entry, Put, Status, is_granted_at, overlaps, put_of};
 use dots_lists::Text;
 use std::marker::Model;
@@ -52,6 +55,31 @@ impl Model for Row {
       };
       status = row.status;
     } };
+}
+
+impl Mitigates for Row {
+    ghost use Rattle.live_mitigations.specs.Judging.{live_of};
+
+    ghost live = { live_of };
+
+    fn peer(&self) -> u32 {
+        self.peer
+    }
+
+    fn cuid(&self) -> &[u8] {
+        self.cuid.bytes()
+    }
+
+    fn put(&self) -> &Put {
+        &self.put
+    }
+
+    fn is_standing(&self) -> bool {
+        match self.status {
+            Status::Open => true,
+            Status::Withdrawn(_) | Status::Ended => false,
+        }
+    }
 }
 
 impl Row {
@@ -105,9 +133,38 @@ impl Row {
 
     /// What was granted.
     pub fn put(&self) -> &Put
-        ensures { self.now.put.change ≡ change.Put result.now }
+        ensures change { self.now.put.change ≡ change.Put result.now }
+        ensures value { result.now ≡ put_or_nothing (put_of self.now.put.change) }
     {
         &self.put
+    }
+
+    /// The seconds left of it at the time t, as an i32.
+    pub(crate) fn left(&self, t: u64) -> i32
+        ensures { result ≡ fitted (seconds_left t self.now.put self.now.status) }
+    {
+        fit(self.seconds_left(t))
+    }
+
+    fn seconds_left(&self, t: u64) -> i128
+        ensures { result ≡ seconds_left t self.now.put self.now.status }
+    {
+        match self.status {
+            Status::Open => seconds_of(t, self.time, self.put.granted),
+            Status::Withdrawn(at) => i128::from(at) + i128::from(TERMINATING) - i128::from(t),
+            Status::Ended => 0,
+        }
+    }
+
+    /// 2 where it stands, 5 where it is terminating.
+    pub(crate) fn status_number(&self) -> u8
+        ensures { result ≡ status_number self.now.status }
+    {
+        match self.status {
+            Status::Open => 2,
+            Status::Withdrawn(_) => 5,
+            Status::Ended => 0,
+        }
     }
 
     /// What was done to it.
@@ -254,6 +311,25 @@ impl Row {
             }
         }
     }
+}
+
+/// The seconds from the time t until a lifetime granted at one time is over, or -1 where it is indefinite.
+fn seconds_of(t: u64, at: u64, granted: i32) -> i128
+    ensures { result ≡ seconds_of t at granted }
+{
+    if granted == INDEFINITE {
+        return -1;
+    }
+    i128::from(at) + i128::from(granted) - i128::from(t)
+}
+
+/// The nearest number of an i32.
+fn fit(seconds: i128) -> i32
+    ensures { result ≡ fitted seconds }
+{
+    seconds
+        .max(i128::from(i32::MIN))
+        .min(i128::from(i32::MAX)) as i32
 }
 
 /// Whether t is less than 120 seconds after the other time.
