@@ -8,12 +8,13 @@ use Rattle.std.proofs.lemmas.List.Folds.{list_all-append}
 use Rattle.std.proofs.lemmas.Bool.{cases_eq, cond-true, cond-false, eq-eqb, ne_eqb, and_from, or_right, lt-ltb, lt-leb, le-leb}
 use Rattle.dots_settings.specs.declared.limits.Limits.{Limits}
 use Rattle.dots_history.specs.declared.entry.Entry.{Entry}
-use Rattle.dots_history.specs.Histories.{Mitigation, Within, mitigations, alone}
-use Rattle.dots_laws.specs.Tables.{bare, is_due}
+use Rattle.dots_history.specs.Histories.{Mitigation, Within, tally, mitigations, alone}
+use Rattle.dots_laws.specs.Tables.{Client, is_of, has_mid, AreApart, bare, is_due}
 use Rattle.dots_laws.specs.Views.{mitigations_at, mitigations_with}
 use Rattle.dots_laws.proofs.Ageing.{mitigations_age}
 use Rattle.dots_laws.proofs.Adding.{adding}
 use Rattle.dots_laws.proofs.Endings.{none_due}
+use Rattle.dots_laws.proofs.Single.{one_mid, live_apart}
 use Rattle.live_mitigations.specs.Ends.{never, first_end}
 use Rattle.live_mitigations.specs.Rows.{LiveTable, AreEmpty, rows_or_none, rows_at, update, count_rows, noted, grown, moved_all}
 use Rattle.live_mitigations.specs.Standing.{LiveValue, kept_of, count_kept, has_due, puts, is_inside, AreTables, StandsFor, ComesTo, SameButRows}
@@ -263,3 +264,15 @@ put_stands old new entries put e changed same at within stands =
     (time ∙ at)
     (within_inside old.domains e (subst (λ d. d < old.domains) (sym domain) within))
     stands
+
+-- ---- one at most of each
+pub one_kept : (client : Client) (mid domain : ℕ) (live : LiveValue) (entries : List Entry) → domain < live.domains → StandsFor live entries
+    → tally (λ (m : Mitigation). is_of client m.put && has_mid mid m.put) (kept_of live domain) ≤ 1
+one_kept client mid domain live entries within stands =
+    subst
+    (λ ms. tally (λ (m : Mitigation). is_of client m.put && has_mid mid m.put) ms ≤ 1)
+    (sym (stands.rows domain within))
+    (one_mid client mid live.time (alone domain (map bare entries)))
+
+pub kept_apart : (domain : ℕ) (live : LiveValue) (entries : List Entry) → domain < live.domains → StandsFor live entries → AreApart (kept_of live domain)
+kept_apart domain live entries within stands = subst AreApart (sym (stands.rows domain within)) (live_apart live.time (alone domain (map bare entries)))

@@ -3,6 +3,7 @@
 
 mod counting;
 mod judging;
+pub mod laws;
 mod list;
 mod live;
 mod reading;
