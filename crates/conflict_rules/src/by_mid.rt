@@ -1,10 +1,10 @@
 //! The judgement by the mid of a request.
 
-ghost use Rattle.std.specs.Prelude.{◌≡◌};
+ghost use Rattle.std.specs.Prelude.{◌≡◌, map};
 ghost use Rattle.conflict_rules.specs.ByMid.{collides, has_mid, judge_same_mid, judge_mid};
 
 use crate::asking::asks_the_same;
-use crate::live::Live;
+use crate::live::{Mitigates, is_of, stands_for};
 use acl_lists::Asked;
 
 /// What the live mitigations of its client with its mid make of a mitigation request.
@@ -23,8 +23,8 @@ pub enum MidJudgement {
 /// Judges a request by the live mitigations of its domain: whether its client's name is in use by another peer, and
 /// whether it refreshes a mitigation or would change one (RFC 9132, section 4.4.1). The first of these that applies is
 /// answered.
-pub fn judge_mid(live: &[Live], peer: u32, cuid: &[u8], mid: u32, asked: &Asked) -> MidJudgement
-    ensures { result ≡ judge_mid live.now peer cuid.now mid asked.now }
+pub fn judge_mid<T: Mitigates>(live: &[T], peer: u32, cuid: &[u8], mid: u32, asked: &Asked) -> MidJudgement
+    ensures { result ≡ judge_mid (map T.live live.now) peer cuid.now mid asked.now }
 {
     if collides(live, peer, cuid) {
         return MidJudgement::Collision;
@@ -33,19 +33,23 @@ pub fn judge_mid(live: &[Live], peer: u32, cuid: &[u8], mid: u32, asked: &Asked)
 }
 
 /// Whether a live mitigation of the client, standing or terminating, has another peer.
-pub fn collides(live: &[Live], peer: u32, cuid: &[u8]) -> bool
-    ensures { result ≡ collides live.now peer cuid.now }
+pub fn collides<T: Mitigates>(live: &[T], peer: u32, cuid: &[u8]) -> bool
+    ensures { result ≡ collides (map T.live live.now) peer cuid.now }
 {
-    live.iter()
-        .any(|held| held.is_of(cuid) && held.peer != peer)
+    for held in live {
+        if is_of(held, cuid) && held.peer() != peer {
+            return true;
+        }
+    }
+    false
 }
 
-fn judge_same_mid(live: &[Live], cuid: &[u8], mid: u32, asked: &Asked) -> MidJudgement
-    ensures { result ≡ judge_same_mid cuid.now mid asked.now 0 live.now }
+fn judge_same_mid<T: Mitigates>(live: &[T], cuid: &[u8], mid: u32, asked: &Asked) -> MidJudgement
+    ensures { result ≡ judge_same_mid cuid.now mid asked.now 0 (map T.live live.now) }
 {
     for (at, held) in live.iter().enumerate() {
         if has_mid(held, cuid, mid) {
-            if asks_the_same(&held.put.asked, asked) {
+            if asks_the_same(&held.put().asked, asked) {
                 return MidJudgement::Refresh { at };
             }
             return MidJudgement::Changed;
@@ -54,8 +58,8 @@ fn judge_same_mid(live: &[Live], cuid: &[u8], mid: u32, asked: &Asked) -> MidJud
     MidJudgement::New
 }
 
-fn has_mid(held: &Live, cuid: &[u8], mid: u32) -> bool
-    ensures { result ≡ has_mid cuid.now mid held.now }
+fn has_mid<T: Mitigates>(held: &T, cuid: &[u8], mid: u32) -> bool
+    ensures { result ≡ has_mid cuid.now mid (T.live held.now) }
 {
-    held.stands_for(cuid) && held.put.mid == mid
+    stands_for(held, cuid) && held.put().mid == mid
 }

@@ -1,12 +1,12 @@
 //! The judgement by overlaps and capacities.
 
-ghost use Rattle.std.specs.Prelude.{◌≡◌, ◌≤◌, ◌&&◌, not, nat_le};
+ghost use Rattle.std.specs.Prelude.{◌≡◌, ◌≤◌, ◌&&◌, not, nat_le, map};
 ghost use Rattle.dots_history.specs.Bounds.{prefix_count};
 ghost use Rattle.conflict_rules.specs.Wanted.{wanted};
 ghost use Rattle.conflict_rules.specs.Live.{would_end};
 ghost use Rattle.conflict_rules.specs.ByOverlap.{is_higher, highest_mid, is_contested, staying, own_staying, judge_room, judge_others, judge_overlap};
 
-use crate::live::Live;
+use crate::live::{Mitigates, is_of, stands_against, stands_for};
 use crate::meeting::meeting;
 use crate::request::Request;
 use acl_lists::Asked;
@@ -56,8 +56,8 @@ pub fn are_few(targets: &TargetList) -> bool
 /// overlaps with a standing one of its client that has a higher mid, or with one of another client, and whether there
 /// is room, for the client and then for the domain, beside those that it wouldn't end (RFC 9132, section 4.4.1). The
 /// first of these that applies is answered. The targets have at most 64 prefixes together.
-pub fn judge_overlap(
-    live: &[Live],
+pub fn judge_overlap<T: Mitigates>(
+    live: &[T],
     cuid: &[u8],
     mid: u32,
     asked: &Asked,
@@ -65,7 +65,7 @@ pub fn judge_overlap(
     limits: &Limits,
 ) -> Judgement
     requires { prefix_count targets.now ≤ 64 }
-    ensures { result ≡ judge_overlap live.now cuid.now (wanted mid asked.now targets.now) limits.now }
+    ensures { result ≡ judge_overlap (map T.live live.now) cuid.now (wanted mid asked.now targets.now) limits.now }
 {
     let request = Request {
         mid,
@@ -78,9 +78,9 @@ pub fn judge_overlap(
     }
 }
 
-fn judge_others(live: &[Live], cuid: &[u8], request: &Request<'_>, limits: &Limits) -> Judgement
+fn judge_others<T: Mitigates>(live: &[T], cuid: &[u8], request: &Request<'_>, limits: &Limits) -> Judgement
     requires { prefix_count request.now.targets ≤ 64 }
-    ensures { result ≡ judge_others live.now cuid.now request.now limits.now }
+    ensures { result ≡ judge_others (map T.live live.now) cuid.now request.now limits.now }
 {
     if is_contested(live, cuid, request) {
         return Judgement::Other {
@@ -95,32 +95,37 @@ fn judge_others(live: &[Live], cuid: &[u8], request: &Request<'_>, limits: &Limi
 }
 
 #[tactic(auto, using(filter_rows::proofs::Greatest::greater_more))]
-fn highest_mid(live: &[Live], cuid: &[u8], request: &Request<'_>) -> Option<u32>
-    ensures { result ≡ highest_mid live.now cuid.now request.now }
+fn highest_mid<T: Mitigates>(live: &[T], cuid: &[u8], request: &Request<'_>) -> Option<u32>
+    ensures { result ≡ highest_mid (map T.live live.now) cuid.now request.now }
 {
     let mut highest = None;
     for held in live {
         if is_higher(held, cuid, request) {
-            highest = Some(greatest_from(held.put.mid, highest));
+            highest = Some(greatest_from(held.put().mid, highest));
         }
     }
     highest
 }
 
-fn is_higher(held: &Live, cuid: &[u8], request: &Request<'_>) -> bool
-    ensures { result ≡ is_higher cuid.now request.now held.now }
+fn is_higher<T: Mitigates>(held: &T, cuid: &[u8], request: &Request<'_>) -> bool
+    ensures { result ≡ is_higher cuid.now request.now (T.live held.now) }
 {
-    held.stands_for(cuid) && request.mid < held.put.mid && request.overlaps_own(&held.put)
+    stands_for(held, cuid) && request.mid < held.put().mid && request.overlaps_own(held.put())
 }
 
-fn is_contested(live: &[Live], cuid: &[u8], request: &Request<'_>) -> bool
-    ensures { result ≡ is_contested live.now cuid.now request.now }
+fn is_contested<T: Mitigates>(live: &[T], cuid: &[u8], request: &Request<'_>) -> bool
+    ensures { result ≡ is_contested (map T.live live.now) cuid.now request.now }
 {
-    live.iter().any(|held| held.stands_against(cuid) && request.overlaps_another(&held.put))
+    for held in live {
+        if stands_against(held, cuid) && request.overlaps_another(held.put()) {
+            return true;
+        }
+    }
+    false
 }
 
-fn staying(live: &[Live], cuid: &[u8], request: &Request<'_>) -> u64
-    ensures { result ≡ staying live.now cuid.now request.now }
+fn staying<T: Mitigates>(live: &[T], cuid: &[u8], request: &Request<'_>) -> u64
+    ensures { result ≡ staying (map T.live live.now) cuid.now request.now }
 {
     let mut number = 0;
     for held in live {
@@ -131,22 +136,22 @@ fn staying(live: &[Live], cuid: &[u8], request: &Request<'_>) -> u64
     number
 }
 
-fn own_staying(live: &[Live], cuid: &[u8], request: &Request<'_>) -> u64
-    ensures { result ≡ own_staying live.now cuid.now request.now }
+fn own_staying<T: Mitigates>(live: &[T], cuid: &[u8], request: &Request<'_>) -> u64
+    ensures { result ≡ own_staying (map T.live live.now) cuid.now request.now }
 {
     let mut number = 0;
     for held in live {
-        if held.is_of(cuid) && !would_end(held, cuid, request) {
+        if is_of(held, cuid) && !would_end(held, cuid, request) {
             number += 1;
         }
     }
     number
 }
 
-fn would_end(held: &Live, cuid: &[u8], request: &Request<'_>) -> bool
-    ensures { result ≡ would_end cuid.now request.now held.now }
+fn would_end<T: Mitigates>(held: &T, cuid: &[u8], request: &Request<'_>) -> bool
+    ensures { result ≡ would_end cuid.now request.now (T.live held.now) }
 {
-    held.is_of(cuid) && request.replaces(&held.put)
+    is_of(held, cuid) && request.replaces(held.put())
 }
 
 fn judge_room(own: u64, all: u64, limits: &Limits) -> Judgement

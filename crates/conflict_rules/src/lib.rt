@@ -18,4 +18,4 @@ mod request;
 
 pub use by_mid::{MidJudgement, collides, judge_mid};
 pub use by_overlap::{Judgement, Which, are_few, judge_overlap};
-pub use live::Live;
+pub use live::{Live, Mitigates};

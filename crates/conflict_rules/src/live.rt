@@ -1,3 +1,5 @@
+//! Live mitigations, as the rules see them.
+
 ghost use Rattle.std.specs.Prelude.{◌≡◌};
 ghost use Rattle.conflict_rules.specs.Live.{is_of, stands_for, stands_against};
 
@@ -17,25 +19,66 @@ pub struct Live {
     pub standing: bool,
 }
 
-impl Live {
-    /// Whether it is of the client.
-    pub(crate) fn is_of(&self, cuid: &[u8]) -> bool
-        ensures { result ≡ is_of cuid.now self.now }
-    {
-        self.cuid.bytes() == cuid
+/// What the rules can judge by: a [`Live`], or a row that has one in it. Contracts see the `live` of a row.
+pub trait Mitigates {
+    ghost use Rattle.conflict_rules.specs.declared.live.Live.{Live};
+
+    ghost live: { Self → Live };
+
+    /// Who asked for it.
+    fn peer(&self) -> u32
+        ensures { result ≡ (live self.now).peer };
+
+    /// The client's name in its domain.
+    fn cuid(&self) -> &[u8]
+        ensures { result.now ≡ (live self.now).cuid };
+
+    /// What was granted.
+    fn put(&self) -> &Put
+        ensures { result.now ≡ (live self.now).put };
+
+    /// Whether it stands; else it was withdrawn and is terminating.
+    fn is_standing(&self) -> bool
+        ensures { result ≡ (live self.now).standing };
+}
+
+impl Mitigates for Live {
+    ghost live = { λ held. held };
+
+    fn peer(&self) -> u32 {
+        self.peer
     }
 
-    /// Whether it stands and is of the client.
-    pub(crate) fn stands_for(&self, cuid: &[u8]) -> bool
-        ensures { result ≡ stands_for cuid.now self.now }
-    {
-        self.standing && self.is_of(cuid)
+    fn cuid(&self) -> &[u8] {
+        self.cuid.bytes()
     }
 
-    /// Whether it stands and is of another client.
-    pub(crate) fn stands_against(&self, cuid: &[u8]) -> bool
-        ensures { result ≡ stands_against cuid.now self.now }
-    {
-        self.standing && !self.is_of(cuid)
+    fn put(&self) -> &Put {
+        &self.put
     }
+
+    fn is_standing(&self) -> bool {
+        self.standing
+    }
+}
+
+/// Whether it is of the client.
+pub(crate) fn is_of<T: Mitigates>(held: &T, cuid: &[u8]) -> bool
+    ensures { result ≡ is_of cuid.now (T.live held.now) }
+{
+    held.cuid() == cuid
+}
+
+/// Whether it stands and is of the client.
+pub(crate) fn stands_for<T: Mitigates>(held: &T, cuid: &[u8]) -> bool
+    ensures { result ≡ stands_for cuid.now (T.live held.now) }
+{
+    held.is_standing() && is_of(held, cuid)
+}
+
+/// Whether it stands and is of another client.
+pub(crate) fn stands_against<T: Mitigates>(held: &T, cuid: &[u8]) -> bool
+    ensures { result ≡ stands_against cuid.now (T.live held.now) }
+{
+    held.is_standing() && !is_of(held, cuid)
 }

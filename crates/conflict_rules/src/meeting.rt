@@ -4,15 +4,15 @@ ghost use Rattle.std.specs.Prelude.{◌≡◌, ◌+◌, ◌*◌, ◌^◌, ◌≤
 ghost use Rattle.dots_history.specs.Bounds.{prefix_count};
 ghost use Rattle.conflict_rules.specs.ByOverlap.{meets_another, resolved, bits, meeting};
 
-use crate::live::Live;
+use crate::live::{Mitigates, stands_against};
 use crate::request::meets_some;
 use dots_history::Target;
 use ip_scope::Prefix;
 
 /// The number whose bit i is set exactly where the resolved prefix i meets a standing mitigation of another client.
-pub(crate) fn meeting(live: &[Live], cuid: &[u8], targets: &[Target]) -> u64
+pub(crate) fn meeting<T: Mitigates>(live: &[T], cuid: &[u8], targets: &[Target]) -> u64
     requires { prefix_count targets.now ≤ 64 }
-    ensures { result ≡ meeting live.now cuid.now targets.now }
+    ensures { result ≡ meeting (map T.live live.now) cuid.now targets.now }
 {
     let mut meeting = 0;
     let mut place = 0;
@@ -25,9 +25,9 @@ pub(crate) fn meeting(live: &[Live], cuid: &[u8], targets: &[Target]) -> u64
 }
 
 /// The bits of these prefixes, of which the first has this place.
-fn marks(live: &[Live], cuid: &[u8], prefixes: &[Prefix], place: usize) -> u64
+fn marks<T: Mitigates>(live: &[T], cuid: &[u8], prefixes: &[Prefix], place: usize) -> u64
     requires { place + length prefixes.now ≤ 64 }
-    ensures { result ≡ 2 ^ place * bits (map (meets_another live.now cuid.now) prefixes.now) }
+    ensures { result ≡ 2 ^ place * bits (map (meets_another (map T.live live.now) cuid.now) prefixes.now) }
 {
     let mut marks = 0;
     for (index, prefix) in prefixes.iter().enumerate() {
@@ -44,9 +44,13 @@ fn bit(place: usize, is_set: bool) -> u64
     u64::from(is_set) << place
 }
 
-fn meets_another(live: &[Live], cuid: &[u8], prefix: &Prefix) -> bool
-    ensures { result ≡ meets_another live.now cuid.now prefix.now }
+fn meets_another<T: Mitigates>(live: &[T], cuid: &[u8], prefix: &Prefix) -> bool
+    ensures { result ≡ meets_another (map T.live live.now) cuid.now prefix.now }
 {
-    live.iter().any(|held| held.stands_against(cuid)
-        && meets_some(prefix, held.put.targets.items()))
+    for held in live {
+        if stands_against(held, cuid) && meets_some(prefix, held.put().targets.items()) {
+            return true;
+        }
+    }
+    false
 }

@@ -1,9 +1,9 @@
 -- the greater of the mid found and of those of the rest is the highest of all
-use Rattle.std.proofs.Common.{◌≡◌, drop}
+use Rattle.std.proofs.Common.{◌≡◌, drop, map}
 use Rattle.filter_rows.proofs.Greatest.{greater_of}
 use Rattle.conflict_rules.specs.ByOverlap.{highest_mid}
 use Rattle.conflict_rules.proofs.by_overlap.highest_mid.Given as goal
 
 abbrev pub invariant-loop-held : goal.invariant-loop-held
-invariant-loop-held l =
-    greater_of l.highest (highest_mid (drop l.held-index l.live) l.cuid l.request) ≡ highest_mid l.live l.cuid l.request
+invariant-loop-held g l =
+    greater_of l.highest (highest_mid (map g.T.Mitigates.live (drop l.held-index l.live)) l.cuid l.request) ≡ highest_mid (map g.T.Mitigates.live l.live) l.cuid l.request

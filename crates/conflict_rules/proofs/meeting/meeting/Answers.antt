@@ -6,8 +6,8 @@ use Rattle.conflict_rules.proofs.Resolving.{target_marked, target_passed, resolv
 use Rattle.conflict_rules.proofs.meeting.meeting.Goals as goal
 
 pub loop-target-preserved : goal.loop-target-preserved
-loop-target-preserved c = record {
-  marked = target_marked (meets_another c.args.live.now c.args.cuid.now) c.target-item.result c.args.targets.now c.items-prefixes.result.now
+loop-target-preserved g c = record {
+  marked = target_marked (meets_another (map g.T.Mitigates.live c.args.live.now) c.args.cuid.now) c.target-item.result c.args.targets.now c.items-prefixes.result.now
       c.loop-target.place c.loop-target.target-index c.loop-target.meeting c.marks-meeting.result _
       c.loop-target-test.true c.target-item.is c.items-prefixes.ensures c.marks-meeting.ensures c.loop-target.invariant.marked;
   passed = target_passed c.target-item.result c.args.targets.now c.items-prefixes.result.now
@@ -16,9 +16,9 @@ loop-target-preserved c = record {
 }
 
 pub overflow_add-meeting : goal.overflow_add-meeting
-overflow_add-meeting c =
-    let all = map (meets_another c.args.live.now c.args.cuid.now) (resolved c.args.targets.now) in
-    let few : 0 + length all ≤ 64 = rw (length-map (resolved c.args.targets.now) (meets_another c.args.live.now c.args.cuid.now), resolved_count c.args.targets.now) (omega (arith, c.requires)) in
+overflow_add-meeting g c =
+    let all = map (meets_another (map g.T.Mitigates.live c.args.live.now) c.args.cuid.now) (resolved c.args.targets.now) in
+    let few : 0 + length all ≤ 64 = rw (length-map (resolved c.args.targets.now) (meets_another (map g.T.Mitigates.live c.args.live.now) c.args.cuid.now), resolved_count c.args.targets.now) (omega (arith, c.requires)) in
     let fit : 2 ^ 0 * bits all < 2 ^ 64 = bits_fit 0 all few in
-    let more = (loop-target-preserved c).marked in
+    let more = (loop-target-preserved g c).marked in
     omega (arith, fit, more)

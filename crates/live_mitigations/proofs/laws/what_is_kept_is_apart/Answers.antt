@@ -1,0 +1,5 @@
+use Rattle.live_mitigations.proofs.Standing.{one_kept, kept_apart}
+use Rattle.live_mitigations.proofs.laws.what_is_kept_is_apart.Goals as goal
+
+pub returns : goal.returns
+returns c = record { mid = one_kept; apart = kept_apart }

@@ -1,0 +1,10 @@
+-- the first end so far and that of the rest is that of all
+use Rattle.std.proofs.Common.{◌≡◌, ◌≤◌, min, drop}
+use Rattle.live_mitigations.specs.Ends.{never, first_end}
+use Rattle.live_mitigations.proofs.list.first_end.Given as goal
+
+abbrev pub invariant-loop-row : goal.invariant-loop-row
+invariant-loop-row l = record {
+  first : min l.first (first_end (drop l.row-index l.rows)) ≡ first_end l.rows;
+  most : l.first ≤ never;
+}

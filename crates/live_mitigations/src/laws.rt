@@ -1,0 +1,31 @@
+//! What the definitions come to: each function's contract is a law, and its body does nothing.
+
+ghost use Rattle.std.specs.Prelude.{◌≡◌, ℕ, ◌<◌, ◌≤◌, ◌++◌, ◌∷◌, ◌==◌, ◌&&◌, [], List, nat_lt, nat_le, true};
+ghost use Rattle.std.specs.List.{list_any};
+ghost use Rattle.dots_history.specs.declared.entry.Entry.{Entry};
+ghost use Rattle.dots_history.specs.declared.status.Status.{Status};
+ghost use Rattle.dots_history.specs.Histories.{Mitigation, live, tally, mitigations};
+ghost use Rattle.dots_history.specs.Entries.{same_client};
+ghost use Rattle.dots_laws.specs.Tables.{Client, is_of, has_mid, AreApart, is_due, end_of, bare};
+ghost use Rattle.dots_laws.specs.Views.{mitigations_at, mitigations_with};
+ghost use Rattle.live_mitigations.specs.Ends.{never, second_of, first_end};
+ghost use Rattle.live_mitigations.specs.Standing.{LiveValue, StandsFor, ComesTo, kept_of};
+
+/// A mitigation is live exactly before the first second at which it is over; and one of several is over exactly from the
+/// first of these seconds on.
+pub fn mitigations_end_at_a_second()
+    ensures live { (t : ℕ) (put : Entry) (s : Status) → t < never → live t put s ≡ nat_lt t (second_of (end_of put s)) }
+    ensures first { (t : ℕ) (ms : List Mitigation) → t < never → list_any (is_due t) ms ≡ nat_le (first_end ms) t }
+{}
+
+/// What stands for a history comes to it at each later time.
+pub fn what_stands_comes_later()
+    ensures { (now : ℕ) (live : LiveValue) (entries : List Entry) → live.time ≤ now → StandsFor live entries → ComesTo now live entries }
+{}
+
+/// Of what is kept of a domain no two mitigations of a client have one mid, and no two overlap.
+pub fn what_is_kept_is_apart()
+    ensures mid { (client : Client) (mid domain : ℕ) (live : LiveValue) (entries : List Entry) → domain < live.domains → StandsFor live entries
+        → tally (λ m. is_of client m.put && has_mid mid m.put) (kept_of live domain) ≤ 1 }
+    ensures apart { (domain : ℕ) (live : LiveValue) (entries : List Entry) → domain < live.domains → StandsFor live entries → AreApart (kept_of live domain) }
+{}

@@ -1,0 +1,171 @@
+//! The live mitigations of all domains at a time.
+
+ghost use Rattle.std.specs.Prelude.{◌≡◌, ◌≢◌, ℕ, ◌<◌, ◌≤◌, ◌++◌, ◌∷◌, ◌==◌, [], true, false, List, length, map, IfOk, IfSome, IfNone};
+ghost use Rattle.dots_history.specs.declared.entry.Entry.{Entry};
+ghost use Rattle.dots_history.specs.Histories.{mitigations, alone};
+ghost use Rattle.dots_laws.specs.Tables.{bare};
+ghost use Rattle.dots_laws.specs.Views.{mitigations_at, mitigations_with, mitigations_of};
+ghost use Rattle.live_mitigations.specs.Ends.{never};
+ghost use Rattle.live_mitigations.specs.Standing.{kept_of, count_kept, has_due, puts, StandsFor, ComesTo, SameButRows, has_live_room};
+
+use crate::counting::keep_limits;
+use crate::row::Row;
+use crate::tables::LiveTables;
+use dots_history::Entry;
+use dots_lists::NoMemory;
+use dots_settings::{Limits, Settings};
+use std::alloc::Global;
+use std::marker::Model;
+
+/// The live mitigations of each domain, standing and terminating ones, with room for as many as the settings say.
+#[derive(Debug, Drop)]
+pub struct LiveMitigations {
+    tables: LiveTables,
+    domains: u16,
+    limits: Limits,
+    time: u64,
+}
+
+impl Model for LiveMitigations {
+    ghost use Rattle.std.specs.Prelude.{◌≡◌, length};
+    ghost use Rattle.live_mitigations.specs.Standing.{LiveValue};
+
+    ghost Value = { LiveValue };
+
+    ghost view = { λ live. record {
+      domains = live.domains;
+      limits = live.limits;
+      time = live.time;
+      tables = live.tables;
+    } };
+
+    ghost invariant = { λ live. length live.tables ≡ live.domains };
+}
+
+impl LiveMitigations {
+    /// Those of no entries, at time 0. This is the only call that takes memory.
+    #[tactic(auto, using(crate::proofs::Standing::stands_empty))]
+    pub fn new(alloc: Global, settings: &Settings) -> Result<Self, NoMemory>
+        ensures stands { IfOk result (λ live. StandsFor live []) }
+        ensures domains { IfOk result (λ live. live.domains ≡ length settings.now.domains) }
+        ensures limits { IfOk result (λ live. live.limits ≡ settings.now.limits) }
+        ensures time { IfOk result (λ live. live.time ≡ 0) }
+    {
+        let limits = settings.limits();
+        let domains = settings.domains();
+        let room = limits.domain_mitigations as usize;
+        Ok(LiveMitigations {
+            tables: LiveTables::new(alloc, domains, room)?,
+            domains,
+            limits,
+            time: 0,
+        })
+    }
+
+    /// The time at which they are live, in seconds.
+    pub fn time(&self) -> u64
+        ensures { result ≡ self.now.time }
+    {
+        self.time
+    }
+
+    /// How much there is room for.
+    pub fn limits(&self) -> Limits
+        ensures { result ≡ self.now.limits }
+    {
+        self.limits
+    }
+
+    /// The live mitigations of a domain, in order of their entries.
+    pub fn rows(&self, domain: u16) -> &[Row]
+        requires { domain < self.now.domains }
+        ensures kept { result.now ≡ kept_of self.now domain }
+        ensures live { (entries : List Entry) → StandsFor self.now entries → result.now ≡ mitigations_of domain (mitigations self.now.time (map bare entries)) }
+    {
+        self.tables.rows(domain)
+    }
+
+    /// The number of a domain in which a mitigation is over by this time; None where there is none.
+    pub fn next_due(&mut self, now: u64) -> Option<u16>
+        requires { now < never }
+        ensures same { self.new ≡ self.old }
+        ensures none { IfNone result ((domain : ℕ) → has_due now self.old domain ≡ false) }
+        ensures some { IfSome result (λ domain. (domain < self.old.domains) × (has_due now self.old domain ≡ true)) }
+    {
+        self.tables.next_due(now)
+    }
+
+    /// Takes the mitigations of a domain out that are over by this time.
+    pub fn expire(&mut self, domain: u16, now: u64)
+        requires { domain < self.old.domains }
+        ensures own { kept_of self.new domain ≡ mitigations_at now (kept_of self.old domain) }
+        ensures others { (other : ℕ) → other ≢ domain → kept_of self.new other ≡ kept_of self.old other }
+        ensures comes { (entries : List Entry) → ComesTo now self.old entries → ComesTo now self.new entries }
+        ensures fewer { has_due now self.old domain ≡ true → count_kept self.new < count_kept self.old }
+        ensures same { SameButRows self.old self.new }
+    {
+        self.tables.expire(domain, now);
+    }
+
+    /// Moves the time, and takes out what is over then.
+    pub fn tick(&mut self, now: u64)
+        requires { now < never }
+        ensures stands { (entries : List Entry) → ComesTo now self.old entries → StandsFor self.new entries }
+        ensures time { self.new.time ≡ now }
+        ensures domains { self.new.domains ≡ self.old.domains }
+        ensures limits { self.new.limits ≡ self.old.limits }
+    {
+        self.expire_all(now);
+        self.time = now;
+    }
+
+    /// Takes all out that are over by this time.
+    fn expire_all(&mut self, now: u64)
+        requires { now < never }
+        ensures none { (domain : ℕ) → has_due now self.new domain ≡ false }
+        ensures comes { (entries : List Entry) → ComesTo now self.old entries → ComesTo now self.new entries }
+        ensures same { SameButRows self.old self.new }
+    {
+        while let Some(domain) = self.next_due(now) {
+            self.expire(domain, now);
+        }
+    }
+
+    /// Whether with the entry, at its time, its domain and its client have at most as many live mitigations as the settings
+    /// say. Terminating ones count.
+    pub fn has_room(&self, entry: &Entry) -> bool
+        requires later { self.now.time ≤ entry.now.time }
+        requires inside { entry.now.domain < self.now.domains }
+        ensures { (entries : List Entry) → StandsFor self.now entries → result ≡ has_live_room self.now.limits entries entry.now }
+    {
+        keep_limits(self.tables.rows(entry.domain), entry, &self.limits)
+    }
+
+    /// Takes an entry that puts no mitigation, at the time: a withdrawal, or one that changes nothing here.
+    pub fn note(&mut self, entry: &Entry)
+        requires at { entry.now.time ≡ self.old.time }
+        requires quiet { puts entry.now ≡ false }
+        ensures stands { (entries : List Entry) → StandsFor self.old entries → StandsFor self.new (entries ++ entry.now ∷ []) }
+        ensures own { entry.now.domain < self.old.domains → kept_of self.new entry.now.domain ≡ mitigations_with (bare entry.now) (kept_of self.old entry.now.domain) }
+        ensures others { (other : ℕ) → other ≢ entry.now.domain → kept_of self.new other ≡ kept_of self.old other }
+        ensures same { SameButRows self.old self.new }
+    {
+        if entry.domain < self.domains {
+            self.tables.note(entry);
+        }
+    }
+
+    /// Takes an entry at the time, of one of the domains: one that puts a mitigation for which there is room. Its message
+    /// and its reply don't matter, so they may be taken out of it before.
+    pub fn put(&mut self, entry: Entry)
+        requires at { entry.time ≡ self.old.time }
+        requires inside { entry.domain < self.old.domains }
+        requires room { (entries : List Entry) × StandsFor self.old entries × (has_live_room self.old.limits entries entry ≡ true) }
+        ensures stands { (entries : List Entry) (e : Entry) → bare e ≡ bare entry → StandsFor self.old entries → StandsFor self.new (entries ++ e ∷ []) }
+        ensures own { kept_of self.new entry.domain ≡ mitigations_with (bare entry) (kept_of self.old entry.domain) }
+        ensures others { (other : ℕ) → other ≢ entry.domain → kept_of self.new other ≡ kept_of self.old other }
+        ensures same { SameButRows self.old self.new }
+    {
+        self.tables.put(entry);
+    }
+}

@@ -1,0 +1,82 @@
+//! The live mitigations of a client, one after the other.
+
+ghost use Rattle.std.specs.Prelude.{◌≡◌, ◌∷◌, [], IfSome, IfNone};
+ghost use Rattle.live_mitigations.specs.Reading.{of_cuid, shown_of};
+
+use crate::row::Row;
+use dots_history::Put;
+use std::marker::Model;
+
+/// A live mitigation, as it is read (RFC 9132, section 4.4.2).
+#[derive(Debug, Drop)]
+pub struct MitigationRow<'a> {
+    pub put: &'a Put,
+    /// Who asked for it.
+    pub peer: u32,
+    /// The seconds left of its lifetime, or -1 where that is indefinite; of a terminating one the seconds until it is over.
+    pub left: i32,
+    /// 2 where it stands, 5 where it is terminating.
+    pub status: u8,
+}
+
+/// The live mitigations of a client that are left.
+#[derive(Debug, Drop)]
+pub struct Mitigations<'a> {
+    left: &'a [Row],
+    cuid: &'a [u8],
+    now: u64,
+}
+
+impl<'a> Model for Mitigations<'a> {
+    ghost use Rattle.std.specs.Prelude.{List};
+    ghost use Rattle.live_mitigations.specs.Reading.{Shown, shown_of};
+
+    ghost Value = { List Shown };
+
+    ghost view = { λ rows. shown_of rows.now rows.cuid.now rows.left.now };
+}
+
+impl<'a> Mitigations<'a> {
+    /// Those of the client among these, at this time.
+    pub(crate) fn of(left: &'a [Row], cuid: &'a [u8], now: u64) -> Mitigations<'a>
+        ensures { result ≡ shown_of now cuid.now left.now }
+    {
+        Mitigations { left, cuid, now }
+    }
+}
+
+impl<'a> Iterator for Mitigations<'a> {
+    type Item = MitigationRow<'a>;
+
+    ghost use Rattle.std.specs.Iterator.{YieldsFirstBy, item_count};
+    ghost use Rattle.live_mitigations.specs.Reading.{row_view};
+
+    ghost next_gives = { YieldsFirstBy row_view (λ rows. rows) };
+
+    ghost remaining = { item_count (λ rows. rows) };
+
+    fn next(&mut self) -> Option<MitigationRow<'a>> {
+        let (row, left) = next_of(self.left, self.cuid)?;
+        self.left = left;
+        Some(MitigationRow {
+            put: row.put(),
+            peer: row.peer(),
+            left: row.left(self.now),
+            status: row.status_number(),
+        })
+    }
+}
+
+/// The first of the client, and what stands behind it.
+fn next_of<'a>(rows: &'a [Row], cuid: &[u8]) -> Option<(&'a Row, &'a [Row])>
+    ensures none { IfNone result (of_cuid cuid.now rows.now ≡ []) }
+    ensures some { IfSome result (λ found. of_cuid cuid.now rows.now ≡ found.0.now ∷ of_cuid cuid.now found.1.now) }
+{
+    for (at, row) in rows.iter().enumerate() {
+        if row.cuid().bytes() == cuid {
+            let (_, left) = rows.split_at(at + 1);
+            return Some((row, left));
+        }
+    }
+    None
+}

@@ -1,0 +1,108 @@
+//! The live mitigations of each domain, and when the first of each are over.
+
+ghost use Rattle.std.specs.Prelude.{◌≡◌, ℕ, ◌<◌, ◌≤◌, length, IfOk, IfSome, IfNone, Some, slice_get};
+ghost use Rattle.dots_laws.specs.Tables.{bare};
+ghost use Rattle.dots_laws.specs.Views.{mitigations_with};
+ghost use Rattle.live_mitigations.specs.Ends.{never, first_end};
+ghost use Rattle.live_mitigations.specs.Rows.{LiveTable, AreEmpty, aged, noted, grown, update, rows_at};
+
+use crate::list::LiveList;
+use crate::row::Row;
+use dots_history::Entry;
+use dots_lists::NoMemory;
+use lifetime_clock::Deadlines;
+use std::alloc::Global;
+use std::marker::Model;
+
+/// A list for each domain, and for each the first second at which one of its mitigations is over.
+#[derive(Debug, Drop)]
+pub(crate) struct LiveTables {
+    lists: Vec<LiveList>,
+    deadlines: Deadlines,
+}
+
+impl Model for LiveTables {
+    ghost use Rattle.std.specs.Prelude.{List, ◌≤◌, length};
+    ghost use Rattle.live_mitigations.specs.Rows.{LiveTable, Tied};
+
+    ghost Value = { List LiveTable };
+
+    ghost view = { λ tables. tables.lists.items };
+
+    ghost invariant = { λ tables.
+        Tied tables.deadlines tables.lists.items × (length tables.lists.items ≤ 65535) };
+}
+
+impl LiveTables {
+    /// No mitigations, and room for so many of each of so many domains.
+    pub fn new(alloc: Global, domains: u16, room: usize) -> Result<Self, NoMemory>
+        ensures { IfOk result (λ tables. AreEmpty domains room tables) }
+    {
+        let count = usize::from(domains);
+        let mut lists = Vec::with_capacity(alloc, count)?;
+        let mut deadlines = Deadlines::new(alloc, count)?;
+        for domain in 0..domains {
+            lists.push_reserved(LiveList::new(alloc, room)?);
+            deadlines.set(u32::from(domain), u64::MAX);
+        }
+        Ok(LiveTables { lists, deadlines })
+    }
+
+    /// Those of a domain; none where there is no such domain.
+    pub fn rows(&self, domain: u16) -> &[Row]
+        ensures { result.now ≡ rows_at domain self.now }
+    {
+        match self.lists.get(usize::from(domain)) {
+            Some(list) => list.rows(),
+            None => &[],
+        }
+    }
+
+    /// The number of a domain in which a mitigation is over by this time, where there is one.
+    pub fn next_due(&mut self, now: u64) -> Option<u16>
+        requires { now < never }
+        ensures same { self.new ≡ self.old }
+        ensures none { IfNone result ((domain : ℕ) → now < first_end (rows_at domain self.old)) }
+        ensures some { IfSome result (λ domain. (domain < length self.old) × (first_end (rows_at domain self.old) ≤ now)) }
+    {
+        let key = self.deadlines.due(now)?;
+        let due = self.lists[key as usize].due();
+        self.deadlines.set(key, due);
+        Some(key as u16)
+    }
+
+    /// Takes those of a domain out that are over by this time.
+    pub fn expire(&mut self, domain: u16, now: u64)
+        requires { domain < length self.old }
+        ensures { self.new ≡ update (aged now) domain self.old }
+    {
+        let list = &mut self.lists[usize::from(domain)];
+        list.expire(now);
+        let due = list.due();
+        self.deadlines.set(u32::from(domain), due);
+    }
+
+    /// Does to those of the entry's domain what the entry does, and takes those out that are then over.
+    pub fn note(&mut self, entry: &Entry)
+        requires { entry.now.domain < length self.old }
+        ensures { self.new ≡ update (noted entry.now) entry.now.domain self.old }
+    {
+        let list = &mut self.lists[usize::from(entry.domain)];
+        list.note(entry);
+        let due = list.due();
+        self.deadlines.set(u32::from(entry.domain), due);
+    }
+
+    /// Does the same, and puts the mitigation of the entry behind them, where it is live.
+    pub fn put(&mut self, entry: Entry)
+        requires domain { entry.domain < length self.old }
+        requires room { (table : LiveTable) → slice_get self.old entry.domain ≡ Some table → length (mitigations_with (bare entry) table.rows) ≤ table.room }
+        ensures { self.new ≡ update (grown (bare entry)) entry.domain self.old }
+    {
+        let domain = entry.domain;
+        let list = &mut self.lists[usize::from(domain)];
+        list.put(entry);
+        let due = list.due();
+        self.deadlines.set(u32::from(domain), due);
+    }
+}
