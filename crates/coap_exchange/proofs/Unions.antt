@@ -7,6 +7,7 @@ use Rattle.dots_history.specs.Slots.{placed}
 use Rattle.dots_laws.specs.KeptPlaces.{union}
 use Rattle.coap_exchange.specs.declared.message.Message.{Message}
 use Rattle.coap_exchange.specs.Rings.{RingValue, slots_of, all_slots}
+use Rattle.coap_exchange.proofs.Places.{drop_more}
 
 -- ---- one slot
 
@@ -106,9 +107,6 @@ union_longer [] ys = le_refl (length ys)
 union_longer (x ∷ xs) ys = let rest = union_longer xs ys in let one = placed_longer x (union xs ys) in omega (arith, rest, one)
 
 -- ---- a step of a loop
-
-drop_more : {A : Type 0} (xs : List A) (i : ℕ) (x : A) → i < length xs → x ≡ get_or xs i x → drop i xs ≡ x ∷ drop (i + 1) xs
-drop_more xs i x less is = drop-cons xs i x less ∙ ap (λ y. y ∷ drop (suc i) xs) (sym is) ∙ ap (λ k. x ∷ drop k xs) (sym (add-one i))
 
 pub put_message : (messages : List Message) (i : ℕ) (message : Message) (items all : List ℕ) → i < length messages → message ≡ get_or messages i message
     → union (slots_of (drop i messages)) items ≡ all → union (slots_of (drop (i + 1) messages)) (placed message.slot items) ≡ all

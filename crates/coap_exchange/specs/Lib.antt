@@ -1,5 +1,9 @@
 pub mod Firsts
+pub mod Noting
+pub mod Observed
+pub mod Observing
 pub mod Pairs
 pub mod Resending
 pub mod Rings
+pub mod Seen
 pub mod Sent

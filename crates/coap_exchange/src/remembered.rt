@@ -1,4 +1,5 @@
-ghost use Rattle.std.specs.Prelude.{◌≡◌, ◌≤◌, map, length, option_copied, IfOk, IsSome};
+ghost use Rattle.std.specs.Prelude.{◌≡◌, ◌≤◌, map, length, option_copied, true, IfOk};
+ghost use Rattle.std.specs.List.{list_any};
 ghost use Rattle.dots_history.specs.Slots.{Rises};
 ghost use Rattle.dots_laws.specs.KeptPlaces.{union};
 ghost use Rattle.coap_exchange.specs.Pairs.{pairs_of};
@@ -41,11 +42,18 @@ impl Remembered {
         Ok(Remembered { rings })
     }
 
+    /// Whether messages of this peer for this domain are remembered: the settings let it act for the domain.
+    pub fn holds(&self, peer: u32, domain: u16) -> bool
+        ensures { result ≡ list_any (is_ring_of peer domain) self.now }
+    {
+        self.rings.iter().any(|ring| ring.is_of(peer, domain))
+    }
+
     /// Remembers an accepted message of this peer for this domain, which is a pair that the settings gave: its key, when
     /// it was accepted in seconds, where its entry stands in the journal, and its reply. The oldest of the pair goes where
     /// its room is used.
     pub fn note(&mut self, peer: u32, domain: u16, key: MessageKey, time: u64, slot: u32, reply: Bytes)
-        requires { IsSome (ring_of peer domain self.old) }
+        requires { list_any (is_ring_of peer domain) self.old ≡ true }
         ensures { self.new ≡ noted peer domain (record { key = key; time = time; slot = slot; reply = reply }) self.old }
     {
         let message = Message {
