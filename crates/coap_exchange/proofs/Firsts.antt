@@ -75,18 +75,19 @@ by_first : (b : Bool) (n len : ℕ) → cond (nat_lt (cond (not b) (1 + n) 0) (s
 by_first true n len none =
     let there = cond-true {A = Option ℕ} (nat_lt 0 (suc len)) (Some 0) None (lt-ltb 0 (suc len) (omega arith)) in
     cc (none, there)
-by_first false n len none =
-    (refl,
-    cond_both
-    (nat_lt n len)
-    (Some n)
-    None
-    (λ o. o ≡ None)
-    (λ is.
-    let less = ltb-true n len is in
-    let there = cond-true {A = Option ℕ} (nat_lt (1 + n) (suc len)) (Some (1 + n)) None (lt-ltb (1 + n) (suc len) (omega (arith, less))) in
-    cc (none, there))
-    (λ out. refl))
+by_first false n len none = (
+  refl,
+  cond_both
+      (nat_lt n len)
+      (Some n)
+      None
+      (λ o. o ≡ None)
+      (λ is.
+      let less = ltb-true n len is in
+      let there = cond-true {A = Option ℕ} (nat_lt (1 + n) (suc len)) (Some (1 + n)) None (lt-ltb (1 + n) (suc len) (omega (arith, less))) in
+      cc (none, there))
+      (λ out. refl),
+)
 
 -- what `position` says where it finds none
 pub none_passes : {A : Type 0} (test : A → Bool) (xs : List A) → position test xs ≡ None → NonePasses test xs

@@ -22,19 +22,19 @@ length_more x (y ∷ xs) = let rest = length_more x xs in omega (arith, rest)
 pub pushed_lasts : {A : Type 0} (n : ℕ) (x : A) (xs : List A) → pushed n x (lasts n xs) ≡ lasts n (xs ++ x ∷ [])
 pushed_lasts n x xs =
     elim (cases_lt n (length xs)) [
-      inl less ↦
-        let k = length xs - n in
-        let long = length-drop k xs in
-        let full : length (drop k xs) ≡ n = omega (arith, long, less) in
-        let more = length_more x xs in
-        let one_more : suc k ≡ length (xs ++ x ∷ []) - n = omega (arith, more, less) in
-        push_full n x (drop k xs) full
-        ∙ ap (drop 1) (sym (drop-append-le k xs (x ∷ []) (omega (arith, less))))
-        ∙ drop_next k (xs ++ x ∷ [])
-        ∙ ap (λ j. drop j (xs ++ x ∷ [])) one_more
-    | inr over ↦
-        let none : length xs - n ≡ 0 = omega (arith, over) in
-        ap (λ j. pushed n x (drop j xs)) none
+      | inl less ↦
+          let k = length xs - n in
+          let long = length-drop k xs in
+          let full : length (drop k xs) ≡ n = omega (arith, long, less) in
+          let more = length_more x xs in
+          let one_more : suc k ≡ length (xs ++ x ∷ []) - n = omega (arith, more, less) in
+          push_full n x (drop k xs) full
+          ∙ ap (drop 1) (sym (drop-append-le k xs (x ∷ []) (omega (arith, less))))
+          ∙ drop_next k (xs ++ x ∷ [])
+          ∙ ap (λ j. drop j (xs ++ x ∷ [])) one_more
+      | inr over ↦
+          let none : length xs - n ≡ 0 = omega (arith, over) in
+          ap (λ j. pushed n x (drop j xs)) none
     ]
 
 length_map : {A B : Type 0} (f : A → B) (xs : List A) → length (map f xs) ≡ length xs

@@ -1,14 +1,9 @@
-pub mod Counting
-pub mod Entering
 pub mod Firsts
 pub mod Lasts
 pub mod Noting
-pub mod Numbers
 pub mod Places
 pub mod Rising
-pub mod Seeing
 pub mod Standing
-pub mod Telling
 pub mod Times
 pub mod Turning
 pub mod Unions

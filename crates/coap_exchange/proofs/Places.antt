@@ -6,7 +6,6 @@ use Rattle.coap_exchange.proofs.Firsts.{one_there}
 pub drop_more : {A : Type 0} (xs : List A) (i : ℕ) (x : A) → i < length xs → x ≡ get_or xs i x → drop i xs ≡ x ∷ drop (i + 1) xs
 drop_more xs i x less is = drop-cons xs i x less ∙ ap (λ y. y ∷ drop (suc i) xs) (sym is) ∙ ap (λ k. x ∷ drop k xs) (sym (add-one i))
 
-
 -- what stands at a place, where there is something, is the front of what is left
 abbrev pub at_front : {A : Type 0} → Option A → List A → List A
 at_front None rest = []

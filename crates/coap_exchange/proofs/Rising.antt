@@ -44,14 +44,14 @@ place_below xs rises (suc i) within =
 pub number_there : (xs : List ℕ) (slot i : ℕ) → Rises xs → i < length xs → get_or xs i 0 ≡ slot → i ≡ number_in xs slot
 number_there xs slot i rises within is =
     let at : position_or_len (λ other. other == slot) xs ≡ i =
-        position_or_len_is
-        (λ other. other == slot)
-        xs
-        i
-        0
-        (omega (arith, within))
-        (λ k less. ne_eqb (get_or xs k 0) slot (λ same. let more = rises_at xs rises k i less within in omega (arith, more, same, is)))
-        (λ inside. eq-eqb (get_or xs i 0) slot is)
+    position_or_len_is
+    (λ other. other == slot)
+    xs
+    i
+    0
+    (omega (arith, within))
+    (λ k less. ne_eqb (get_or xs k 0) slot (λ same. let more = rises_at xs rises k i less within in omega (arith, more, same, is)))
+    (λ inside. eq-eqb (get_or xs i 0) slot is)
     in
     sym
     (ap
@@ -66,14 +66,14 @@ number_there xs slot i rises within is =
 pub number_absent : (xs : List ℕ) (slot : ℕ) → ((k : ℕ) → k < length xs → get_or xs k 0 ≡ slot → ⊥) → slot ≡ number_in xs slot
 number_absent xs slot absent =
     let at : position_or_len (λ other. other == slot) xs ≡ length xs =
-        position_or_len_is
-        (λ other. other == slot)
-        xs
-        (length xs)
-        0
-        (omega arith)
-        (λ k less. ne_eqb (get_or xs k 0) slot (absent k less))
-        (λ inside. absurd (omega (arith, inside)))
+    position_or_len_is
+    (λ other. other == slot)
+    xs
+    (length xs)
+    0
+    (omega arith)
+    (λ k less. ne_eqb (get_or xs k 0) slot (absent k less))
+    (λ inside. absurd (omega (arith, inside)))
     in
     sym
     (ap

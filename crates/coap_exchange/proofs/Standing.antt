@@ -25,15 +25,15 @@ ring_same : (peer domain : ℕ) (message : Message) (rings : List RingValue)
 ring_same peer domain message [] = refl
 ring_same peer domain message (r ∷ rs) =
     elim (cases_Bool (is_ring_of peer domain r)) [
-      inl is ↦
-        ap (ring_of peer domain) (cond-true (is_ring_of peer domain r) (grown message r ∷ rs) (r ∷ noted peer domain message rs) is)
-        ∙ cond-true (is_ring_of peer domain r) (Some (grown message r)) (ring_of peer domain rs) is
-        ∙ sym (ap (option_map (grown message)) (cond-true (is_ring_of peer domain r) (Some r) (ring_of peer domain rs) is))
-    | inr out ↦
-        ap (ring_of peer domain) (cond-false (is_ring_of peer domain r) (grown message r ∷ rs) (r ∷ noted peer domain message rs) out)
-        ∙ cond-false (is_ring_of peer domain r) (Some r) (ring_of peer domain (noted peer domain message rs)) out
-        ∙ ring_same peer domain message rs
-        ∙ sym (ap (option_map (grown message)) (cond-false (is_ring_of peer domain r) (Some r) (ring_of peer domain rs) out))
+      | inl is ↦
+          ap (ring_of peer domain) (cond-true (is_ring_of peer domain r) (grown message r ∷ rs) (r ∷ noted peer domain message rs) is)
+          ∙ cond-true (is_ring_of peer domain r) (Some (grown message r)) (ring_of peer domain rs) is
+          ∙ sym (ap (option_map (grown message)) (cond-true (is_ring_of peer domain r) (Some r) (ring_of peer domain rs) is))
+      | inr out ↦
+          ap (ring_of peer domain) (cond-false (is_ring_of peer domain r) (grown message r ∷ rs) (r ∷ noted peer domain message rs) out)
+          ∙ cond-false (is_ring_of peer domain r) (Some r) (ring_of peer domain (noted peer domain message rs)) out
+          ∙ ring_same peer domain message rs
+          ∙ sym (ap (option_map (grown message)) (cond-false (is_ring_of peer domain r) (Some r) (ring_of peer domain rs) out))
     ]
 
 same_pair : (peer domain other number : ℕ) (r : RingValue) → is_ring_of other number r ≡ true → is_ring_of peer domain r ≡ true → is_same peer domain other number ≡ true
@@ -51,18 +51,18 @@ ring_other : (peer domain other number : ℕ) (message : Message) (rings : List 
 ring_other peer domain other number message [] apart = refl
 ring_other peer domain other number message (r ∷ rs) apart =
     elim (cases_Bool (is_ring_of other number r)) [
-      inl is ↦
-        let out : is_ring_of peer domain r ≡ false =
-            false_from_ne_true
-            (is_ring_of peer domain r)
-            (λ own. both_ways (is_same peer domain other number) apart (same_pair peer domain other number r is own))
-        in
-        ap (ring_of peer domain) (cond-true (is_ring_of other number r) (grown message r ∷ rs) (r ∷ noted other number message rs) is)
-        ∙ cond-false (is_ring_of peer domain r) (Some (grown message r)) (ring_of peer domain rs) out
-        ∙ sym (cond-false (is_ring_of peer domain r) (Some r) (ring_of peer domain rs) out)
-    | inr not ↦
-        ap (ring_of peer domain) (cond-false (is_ring_of other number r) (grown message r ∷ rs) (r ∷ noted other number message rs) not)
-        ∙ ap (λ o. cond (is_ring_of peer domain r) (Some r) o) (ring_other peer domain other number message rs apart)
+      | inl is ↦
+          let out : is_ring_of peer domain r ≡ false =
+          false_from_ne_true
+          (is_ring_of peer domain r)
+          (λ own. both_ways (is_same peer domain other number) apart (same_pair peer domain other number r is own))
+          in
+          ap (ring_of peer domain) (cond-true (is_ring_of other number r) (grown message r ∷ rs) (r ∷ noted other number message rs) is)
+          ∙ cond-false (is_ring_of peer domain r) (Some (grown message r)) (ring_of peer domain rs) out
+          ∙ sym (cond-false (is_ring_of peer domain r) (Some r) (ring_of peer domain rs) out)
+      | inr not ↦
+          ap (ring_of peer domain) (cond-false (is_ring_of other number r) (grown message r ∷ rs) (r ∷ noted other number message rs) not)
+          ∙ ap (λ o. cond (is_ring_of peer domain r) (Some r) o) (ring_other peer domain other number message rs apart)
     ]
 
 ring_moved : (peer domain : ℕ) (keep : List ℕ) (rings : List RingValue)
@@ -81,14 +81,14 @@ ring_empty : (peer domain n : ℕ) (pairs : List Pair) → list_any (is_pair pee
 ring_empty peer domain n [] is = absurd (false≢true is)
 ring_empty peer domain n (q ∷ qs) is =
     elim (cases_Bool (is_pair peer domain q)) [
-      inl own ↦ (q, cond-true (is_pair peer domain q) (Some (empty_ring n q)) (ring_of peer domain (map (empty_ring n) qs)) own)
-    | inr out ↦
-      elim (or_cases (is_pair peer domain q) (list_any (is_pair peer domain) qs) is) [
-        inl own ↦ absurd (both_ways (is_pair peer domain q) out own)
-      | inr rest ↦
-        let found = ring_empty peer domain n qs rest in
-        (found.0, cond-false (is_pair peer domain q) (Some (empty_ring n q)) (ring_of peer domain (map (empty_ring n) qs)) out ∙ found.1)
-      ]
+      | inl own ↦ (q, cond-true (is_pair peer domain q) (Some (empty_ring n q)) (ring_of peer domain (map (empty_ring n) qs)) own)
+      | inr out ↦
+          elim (or_cases (is_pair peer domain q) (list_any (is_pair peer domain) qs) is) [
+            | inl own ↦ absurd (both_ways (is_pair peer domain q) out own)
+            | inr rest ↦
+                let found = ring_empty peer domain n qs rest in
+                (found.0, cond-false (is_pair peer domain q) (Some (empty_ring n q)) (ring_of peer domain (map (empty_ring n) qs)) out ∙ found.1)
+          ]
     ]
 
 pub record IsEmpty (n : ℕ) (r : RingValue) : Type 0 where
@@ -99,11 +99,11 @@ only_empty : (peer domain n : ℕ) (pairs : List Pair) (r : RingValue) → ring_
 only_empty peer domain n [] r there = cc there
 only_empty peer domain n (q ∷ qs) r there =
     elim (cases_Bool (is_pair peer domain q)) [
-      inl own ↦
-        let same = one_there (empty_ring n q) r (sym (cond-true (is_pair peer domain q) (Some (empty_ring n q)) (ring_of peer domain (map (empty_ring n) qs)) own) ∙ there) in
-        subst (IsEmpty n) same (record { room = refl; messages = refl })
-    | inr out ↦
-        only_empty peer domain n qs r (sym (cond-false (is_pair peer domain q) (Some (empty_ring n q)) (ring_of peer domain (map (empty_ring n) qs)) out) ∙ there)
+      | inl own ↦
+          let same = one_there (empty_ring n q) r (sym (cond-true (is_pair peer domain q) (Some (empty_ring n q)) (ring_of peer domain (map (empty_ring n) qs)) own) ∙ there) in
+          subst (IsEmpty n) same (record { room = refl; messages = refl })
+      | inr out ↦
+          only_empty peer domain n qs r (sym (cond-false (is_pair peer domain q) (Some (empty_ring n q)) (ring_of peer domain (map (empty_ring n) qs)) out) ∙ there)
     ]
 
 -- ---- after a list of calls
@@ -118,25 +118,25 @@ after_one : (room peer domain : ℕ) (rings : List RingValue) (notes : List Mess
     → HasLast room peer domain (after_call rings call) (noted_by peer domain notes call)
 after_one room peer domain rings notes (Note other number message) has =
     elim (cases_Bool (is_same peer domain other number)) [
-      inl same ↦
-        let parts = and_parts (other == peer) (number == domain) same in
-        let one : other ≡ peer = eqb-true other peer parts.0 in
-        let two : number ≡ domain = eqb-true number domain parts.1 in
-        record {
-          r = grown message has.r;
-          there =
-              ap (λ p. ring_of peer domain (noted p number message rings)) one
-              ∙ ap (λ d. ring_of peer domain (noted peer d message rings)) two
-              ∙ ring_same peer domain message rings
-              ∙ ap (option_map (grown message)) has.there;
-          room_is = has.room_is;
-          messages =
-              ap (λ k. pushed k message has.r.messages) has.room_is
-              ∙ ap (pushed room message) has.messages
-              ∙ pushed_lasts room message notes
-              ∙ ap (lasts room) (sym (cond-true (is_same peer domain other number) (notes ++ message ∷ []) notes same));
-        }
-    | inr apart ↦ record {
+      | inl same ↦
+          let parts = and_parts (other == peer) (number == domain) same in
+          let one : other ≡ peer = eqb-true other peer parts.0 in
+          let two : number ≡ domain = eqb-true number domain parts.1 in
+          record {
+            r = grown message has.r;
+            there =
+                ap (λ p. ring_of peer domain (noted p number message rings)) one
+                ∙ ap (λ d. ring_of peer domain (noted peer d message rings)) two
+                ∙ ring_same peer domain message rings
+                ∙ ap (option_map (grown message)) has.there;
+            room_is = has.room_is;
+            messages =
+                ap (λ k. pushed k message has.r.messages) has.room_is
+                ∙ ap (pushed room message) has.messages
+                ∙ pushed_lasts room message notes
+                ∙ ap (lasts room) (sym (cond-true (is_same peer domain other number) (notes ++ message ∷ []) notes same));
+          }
+      | inr apart ↦ record {
         r = has.r;
         there = ring_other peer domain other number message rings apart ∙ has.there;
         room_is = has.room_is;
@@ -219,20 +219,20 @@ pub noted_remembers : (n slot : ℕ) (rings : List RingValue) (entries : List En
     → AllRemember n (noted e.peer e.domain (message_of slot e) rings) (entries ++ e ∷ [])
 noted_remembers n slot rings entries e signal all peer domain r there =
     elim (cases_Bool (is_same peer domain e.peer e.domain)) [
-      inl same ↦
-        let parts = and_parts (e.peer == peer) (e.domain == domain) same in
-        let one : e.peer ≡ peer = eqb-true e.peer peer parts.0 in
-        let two : e.domain ≡ domain = eqb-true e.domain domain parts.1 in
-        let after = sym (ring_same peer domain (message_of slot e) rings)
-            ∙ sym (ap (λ d. ring_of peer domain (noted peer d (message_of slot e) rings)) two)
-            ∙ sym (ap (λ p. ring_of peer domain (noted p e.domain (message_of slot e) rings)) one)
-            ∙ there
-        in
-        let old = image_of (grown (message_of slot e)) (ring_of peer domain rings) r after in
-        subst (Remembers n (entries ++ e ∷ []) peer domain) old.image (more old.x (all peer domain old.x old.there) (signals_same peer domain e signal same))
-    | inr apart ↦
-        without n peer domain entries e r (signals_apart peer domain e apart)
-        (all peer domain r (sym (ring_other peer domain e.peer e.domain (message_of slot e) rings apart) ∙ there))
+      | inl same ↦
+          let parts = and_parts (e.peer == peer) (e.domain == domain) same in
+          let one : e.peer ≡ peer = eqb-true e.peer peer parts.0 in
+          let two : e.domain ≡ domain = eqb-true e.domain domain parts.1 in
+          let after = sym (ring_same peer domain (message_of slot e) rings)
+          ∙ sym (ap (λ d. ring_of peer domain (noted peer d (message_of slot e) rings)) two)
+          ∙ sym (ap (λ p. ring_of peer domain (noted p e.domain (message_of slot e) rings)) one)
+          ∙ there
+          in
+          let old = image_of (grown (message_of slot e)) (ring_of peer domain rings) r after in
+          subst (Remembers n (entries ++ e ∷ []) peer domain) old.image (more old.x (all peer domain old.x old.there) (signals_same peer domain e signal same))
+      | inr apart ↦
+          without n peer domain entries e r (signals_apart peer domain e apart)
+          (all peer domain r (sym (ring_other peer domain e.peer e.domain (message_of slot e) rings apart) ∙ there))
     ]
   where
     more : (x : RingValue) → Remembers n entries peer domain x → signals peer domain e ≡ true
@@ -264,6 +264,7 @@ moved_remembers n keep rings entries all peer domain r there =
     same_said : (ms : List Message) → map said_by_message (map (renumbered keep) ms) ≡ map said_by_message ms
     same_said [] = refl
     same_said (m ∷ ms) = ap (λ ss. said_by_message m ∷ ss) (same_said ms)
+
     same : (x : RingValue) → Remembers n entries peer domain x → Remembers n entries peer domain (ring_renumbered keep x)
     same x rem = record { room = rem.room; messages = same_said x.messages ∙ rem.messages }
 

@@ -62,30 +62,30 @@ swap_lower a b [] less = placed_before a b [] less ∙ sym (placed_behind b a []
 swap_lower a b (x ∷ xs) less =
     let rest = swap_lower a b xs less in
     elim (cases_order x a) [
-      inl same ↦
-        let below : x < b = omega (arith, same, less) in
-        ap (placed a) (placed_behind b x xs below)
-        ∙ placed_there a x (placed b xs) same
-        ∙ sym (ap (placed b) (placed_there a x xs same) ∙ placed_behind b x xs below)
-    | inr order ↦
-      elim order [
-        inl before ↦
-          let below : x < b = omega (arith, before, less) in
+      | inl same ↦
+          let below : x < b = omega (arith, same, less) in
           ap (placed a) (placed_behind b x xs below)
-          ∙ placed_behind a x (placed b xs) before
-          ∙ ap (λ zs. x ∷ zs) rest
-          ∙ sym (ap (placed b) (placed_behind a x xs before) ∙ placed_behind b x (placed a xs) below)
-      | inr after ↦
-          lower_first a b x xs less after
-          ∙ sym (ap (placed b) (placed_before a x xs after) ∙ placed_behind b a (x ∷ xs) less)
-      ]
+          ∙ placed_there a x (placed b xs) same
+          ∙ sym (ap (placed b) (placed_there a x xs same) ∙ placed_behind b x xs below)
+      | inr order ↦
+          elim order [
+            | inl before ↦
+                let below : x < b = omega (arith, before, less) in
+                ap (placed a) (placed_behind b x xs below)
+                ∙ placed_behind a x (placed b xs) before
+                ∙ ap (λ zs. x ∷ zs) rest
+                ∙ sym (ap (placed b) (placed_behind a x xs before) ∙ placed_behind b x (placed a xs) below)
+            | inr after ↦
+                lower_first a b x xs less after
+                ∙ sym (ap (placed b) (placed_before a x xs after) ∙ placed_behind b a (x ∷ xs) less)
+          ]
     ]
 
 placed_swap : (a b : ℕ) (xs : List ℕ) → placed a (placed b xs) ≡ placed b (placed a xs)
 placed_swap a b xs =
     elim (cases_order a b) [
-      inl same ↦ ap (λ s. placed a (placed s xs)) (sym same) ∙ ap (λ s. placed s (placed a xs)) same
-    | inr order ↦ elim order [ inl less ↦ swap_lower a b xs less | inr more ↦ sym (swap_lower b a xs more) ]
+      | inl same ↦ ap (λ s. placed a (placed s xs)) (sym same) ∙ ap (λ s. placed s (placed a xs)) same
+      | inr order ↦ elim order [ inl less ↦ swap_lower a b xs less | inr more ↦ sym (swap_lower b a xs more) ]
     ]
 
 -- ---- many slots

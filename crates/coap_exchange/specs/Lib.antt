@@ -1,9 +1,6 @@
 pub mod Firsts
 pub mod Noting
-pub mod Observed
-pub mod Observing
 pub mod Pairs
 pub mod Resending
 pub mod Rings
-pub mod Seen
 pub mod Sent

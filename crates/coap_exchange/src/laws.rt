@@ -1,6 +1,6 @@
 //! What the definitions come to: each function's contract is a law, and its body does nothing.
 
-ghost use Rattle.std.specs.Prelude.{◌≡◌, ◌≢◌, ℕ, ◌+◌, ◌*◌, ◌<◌, ◌++◌, ◌∷◌, [], true, false, List, Some, map, option_map, slice_get};
+ghost use Rattle.std.specs.Prelude.{◌≡◌, ℕ, ◌+◌, ◌*◌, ◌++◌, ◌∷◌, [], true, false, List, Some, map, option_map, slice_get};
 ghost use Rattle.std.specs.List.{list_any};
 ghost use Rattle.dots_history.specs.declared.entry.Entry.{Entry};
 ghost use Rattle.dots_history.specs.Entries.{is_signal};
@@ -10,12 +10,8 @@ ghost use Rattle.dots_history.specs.Slots.{Rises};
 ghost use Rattle.coap_exchange.specs.declared.pair.Pair.{Pair};
 ghost use Rattle.coap_exchange.specs.Noting.{Call, after_calls, all_noted, message_of, AllRemember};
 ghost use Rattle.coap_exchange.specs.declared.message.Message.{Message};
-ghost use Rattle.coap_exchange.specs.declared.observer.Observer.{Observer};
-ghost use Rattle.coap_exchange.specs.Observed.{ObservedValue, next_number, number_after, is_due, told};
-ghost use Rattle.coap_exchange.specs.Observing.{own_of, number_for, entered};
 ghost use Rattle.coap_exchange.specs.Pairs.{is_pair};
 ghost use Rattle.coap_exchange.specs.Resending.{GaveUp, answer_to_timeout};
-ghost use Rattle.coap_exchange.specs.Seen.{Lists, list_for};
 ghost use Rattle.coap_exchange.specs.Sent.{given, repeated, due_at, timeout_of};
 ghost use Rattle.coap_exchange.specs.Rings.{RingValue, empty_ring, ring_of, messages_of, reply_to, noted, number_in, ring_renumbered};
 
@@ -50,23 +46,6 @@ pub fn rings_stay()
 /// A slot that is kept gets its place among those that are kept.
 pub fn slots_become_places()
     ensures { (keep : List ℕ) (place slot : ℕ) → Rises keep → slice_get keep place ≡ Some slot → number_in keep slot ≡ place }
-{}
-
-/// An observer is due exactly where what there is to see isn't what it was told last.
-pub fn observers_are_due_where_lists_differ()
-    ensures due { (lists : Lists) (o : ObservedValue) → is_due lists o ≡ true → o.seen ≢ list_for lists o.observer }
-    ensures told { (lists : Lists) (o : ObservedValue) → is_due lists o ≡ false → o.seen ≡ list_for lists o.observer }
-    ensures after { (lists : Lists) (id : ℕ) (o : ObservedValue) → is_due lists (told id (list_for lists o.observer) o) ≡ false }
-{}
-
-/// The numbers of an observer rise by one with each reply and notification, in 24 bits, so no two of them within 2^24 are the
-/// same (RFC 7641, section 3.4).
-pub fn numbers_tell_the_order()
-    ensures rise { (n k : ℕ) → next_number (number_after k n) ≡ number_after (k + 1) n }
-    ensures apart { (n j k : ℕ) → j < k → k < j + 16777216 → number_after j n ≢ number_after k n }
-    ensures reply { (observer : Observer) (seen : List (ℕ × ℕ)) (observed : List ObservedValue)
-        → option_map (λ o. o.number) (own_of observer (entered observer seen observed)) ≡ Some (next_number (number_for observer observed)) }
-    ensures notice { (id : ℕ) (seen : List (ℕ × ℕ)) (o : ObservedValue) → (told id seen o).number ≡ next_number o.number }
 {}
 
 /// A message that is given at n is due at n + W, n + 3·W and n + 7·W, when it is repeated, and at n + 15·W, when it is given

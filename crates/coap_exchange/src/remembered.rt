@@ -52,7 +52,15 @@ impl Remembered {
     /// Remembers an accepted message of this peer for this domain, which is a pair that the settings gave: its key, when
     /// it was accepted in seconds, where its entry stands in the journal, and its reply. The oldest of the pair goes where
     /// its room is used.
-    pub fn note(&mut self, peer: u32, domain: u16, key: MessageKey, time: u64, slot: u32, reply: Bytes)
+    pub fn note(
+        &mut self,
+        peer: u32,
+        domain: u16,
+        key: MessageKey,
+        time: u64,
+        slot: u32,
+        reply: Bytes,
+    )
         requires { list_any (is_ring_of peer domain) self.old ≡ true }
         ensures { self.new ≡ noted peer domain (record { key = key; time = time; slot = slot; reply = reply }) self.old }
     {

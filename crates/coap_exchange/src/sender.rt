@@ -1,6 +1,6 @@
 //! Confirmable messages that are sent again until they are acknowledged.
 
-ghost use Rattle.std.specs.Prelude.{◌≡◌, ℕ, ◌+◌, ◌<◌, ◌≤◌, ◌++◌, ◌∷◌, [], length, option_map, position, slice_get, vec_capacity, Some, IfOk, IfSome, OnOk, OnErr};
+ghost use Rattle.std.specs.Prelude.{◌≡◌, ℕ, ◌+◌, ◌<◌, ◌≤◌, ◌++◌, ◌∷◌, [], length, nat_lt, option_map, position, slice_get, vec_capacity, Some, IfOk, IfSome, OnOk, OnErr};
 ghost use Rattle.std.specs.Borrow.{sem};
 ghost use Rattle.std.specs.List.{list_any};
 ghost use Rattle.coap_exchange.specs.Firsts.{replace_at, without_first};
@@ -66,6 +66,13 @@ impl Sender {
             sent: Vec::with_capacity(alloc, room)?,
             room,
         })
+    }
+
+    /// Whether there is room for one more message.
+    pub fn has_room(&self) -> bool
+        ensures { result ≡ nat_lt (length self.now.sent) self.now.room }
+    {
+        self.sent.len() < self.room
     }
 
     /// Takes a message that is sent at the time `now`, in milliseconds. Its timeouts begin with 3,000 to 4,000 milliseconds,

@@ -2,8 +2,8 @@
 
 use crate::plain_views::PlainViews;
 use crate::settings::settings;
-use coap_exchange::{Observer, Observers};
 use coap_message::Token;
+use coap_observe::{Observer, Observers};
 use dots_heads::Content;
 use dots_lists::Name;
 use std::alloc::Global;
@@ -48,7 +48,14 @@ fn observer(alloc: Global, peer: u32, domain: u16, token: u8) -> Result<Observer
     }
 }
 
-fn register(alloc: Global, observers: &mut Observers, views: &PlainViews<'_>, peer: u32, domain: u16, token: u8) -> Result<u32, Fail> {
+fn register(
+    alloc: Global,
+    observers: &mut Observers,
+    views: &PlainViews<'_>,
+    peer: u32,
+    domain: u16,
+    token: u8,
+) -> Result<u32, Fail> {
     if !observers.holds(peer, domain) {
         return Err(Fail::from("a peer and a domain that it may act for"));
     }
@@ -140,14 +147,29 @@ fn two_of_a_peer(rt: HostRuntime) -> Result<(), Fail> {
         // another peer has room of its own
         ([Step::Notify(8), Step::Register(1, 0, 3)], Shown::Reply(1)),
         // the notification with Message ID 7 was to the first, and one with 9 there was none
-        ([Step::Reset(0, 7), Step::Register(0, 0, 3)], Shown::Reply(1)),
-        ([Step::Reset(0, 9), Step::Register(0, 0, 3)], Shown::Reply(0)),
-        ([Step::Reset(1, 7), Step::Register(0, 0, 3)], Shown::Reply(0)),
+        (
+            [Step::Reset(0, 7), Step::Register(0, 0, 3)],
+            Shown::Reply(1),
+        ),
+        (
+            [Step::Reset(0, 9), Step::Register(0, 0, 3)],
+            Shown::Reply(0),
+        ),
+        (
+            [Step::Reset(1, 7), Step::Register(0, 0, 3)],
+            Shown::Reply(0),
+        ),
         ([Step::Deregister(0, 2), Step::Notify(8)], Shown::Nothing),
-        ([Step::Deregister(0, 1), Step::Notify(8)], Shown::Notice(2, 2)),
+        (
+            [Step::Deregister(0, 1), Step::Notify(8)],
+            Shown::Notice(2, 2),
+        ),
         // one that was told is due again only when something changes
         ([Step::Notify(8), Step::Notify(9)], Shown::Nothing),
-        ([Step::See(&[(1, 5), (2, 2)]), Step::Notify(8)], Shown::Notice(1, 3)),
+        (
+            [Step::See(&[(1, 5), (2, 2)]), Step::Notify(8)],
+            Shown::Notice(1, 3),
+        ),
     ] {
         let [sixth, seventh] = last;
         let steps = [

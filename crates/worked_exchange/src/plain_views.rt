@@ -2,9 +2,10 @@
 
 ghost use Rattle.std.specs.Prelude.{◌≤◌, length};
 
-use coap_exchange::Views;
+use coap_observe::Views;
 
 /// What there is to see, whoever looks.
+#[derive(Drop)]
 pub struct PlainViews<'a> {
     pub list: &'a [(u32, u8)],
     ghost few: { length list.now ≤ 64 },

@@ -33,7 +33,13 @@ fn of_the_last_two(rt: HostRuntime) -> Result<(), Fail> {
         (Call::Note(1, 0, Non(2), 1000, 2, 9), 1, 0, 2, Some(9)),
         (Call::Note(3, 0, Non(2), 1000, 2, 9), 3, 0, 2, Some(9)),
         (Call::Note(3, 1, Non(2), 1000, 2, 9), 3, 0, 2, None),
-        (Call::Note(3, 65_535, Non(2), 1000, 2, 9), 3, 65_535, 2, Some(9)),
+        (
+            Call::Note(3, 65_535, Non(2), 1000, 2, 9),
+            3,
+            65_535,
+            2,
+            Some(9),
+        ),
         (Call::Move(0, 1), 0, 0, 2, Some(8)),
     ] {
         let calls = [
@@ -53,7 +59,12 @@ fn by_its_own_key(rt: HostRuntime) -> Result<(), Fail> {
         Call::Note(0, 0, Con(1), 1000, 0, 7),
         Call::Note(0, 0, Non(1), 1010, 1, 8),
     ];
-    for (now, want) in [(1155, Some(8)), (1156, Some(7)), (1247, Some(7)), (1248, None)] {
+    for (now, want) in [
+        (1155, Some(8)),
+        (1156, Some(7)),
+        (1247, Some(7)),
+        (1248, None),
+    ] {
         assert_eq!(rt; reply_to(rt.alloc(), &calls, 0, 0, 1, now)?, want);
     }
     Ok(())

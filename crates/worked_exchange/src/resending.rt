@@ -51,7 +51,8 @@ fn last_shown(alloc: Global, times: &[u64]) -> Result<Shown, Fail> {
 #[test]
 fn timeouts(rt: HostRuntime) -> Result<(), Fail> {
     let times = [
-        12_999, 13_000, 13_999, 14_000, 18_999, 19_000, 22_000, 31_000, 38_000, 54_999, 55_000, 69_999, 70_000, 100_000,
+        12_999, 13_000, 13_999, 14_000, 18_999, 19_000, 22_000, 31_000, 38_000, 54_999, 55_000,
+        69_999, 70_000, 100_000,
     ];
     for (count, want) in [
         (1, Shown::Nothing),
@@ -98,7 +99,10 @@ fn one_time_a_call(rt: HostRuntime) -> Result<(), Fail> {
 /// What is acknowledged isn't sent again, and there is no room for a third message while two wait.
 #[test]
 fn acknowledged(rt: HostRuntime) -> Result<(), Fail> {
-    for (id, want) in [(7, (true, false, Shown::Again(2))), (9, (false, true, Shown::Again(1)))] {
+    for (id, want) in [
+        (7, (true, false, Shown::Again(2))),
+        (9, (false, true, Shown::Again(1))),
+    ] {
         let mut sender = sender(rt.alloc())?;
         let gone = sender.acknowledged(id);
         let bytes = Bytes::new(rt.alloc());

@@ -21,6 +21,6 @@ returns-in-Err c =
     number_absent c.args.keep.now c.args.slot
     (λ k within same.
     elim (cases_lt k c.in-Err.field-0) [
-      inl less ↦ let low = at.1 k less in omega (arith, low, same)
-    | inr more ↦ let high = at.2 k more within in omega (arith, high, same)
+      | inl less ↦ let low = at.1 k less in omega (arith, low, same)
+      | inr more ↦ let high = at.2 k more within in omega (arith, high, same)
     ])
