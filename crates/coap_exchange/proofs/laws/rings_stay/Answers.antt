@@ -1,0 +1,5 @@
+use Rattle.coap_exchange.proofs.Standing.{pairs_noted, pairs_moved}
+use Rattle.coap_exchange.proofs.laws.rings_stay.Goals as goal
+
+pub returns : goal.returns
+returns c = record { noted = pairs_noted; moved = pairs_moved }

@@ -1,0 +1,27 @@
+//! What an agent keeps between messages of the signal channel: replies to messages that may be repeated, and messages of its own that
+//! wait for an acknowledgement.
+//!
+//! - [`Remembered`] keeps the last accepted messages of each peer and domain with their replies (RFC 7252, section 4.5).
+//!   Contracts see it as its rings, one for each peer and domain.
+//! - [`Sender`] keeps confirmable messages until they are acknowledged or given up (RFC 7252, section 4.2).
+//!
+//! Neither knows a clock or a socket: times and random words are handed in. Only their calls of the name `new` take memory.
+//!
+//! Start reading at `specs/Rings.antt` and `specs/Resending.antt`; [`laws`] has what they come to, and how the rings stand for a
+//! history.
+#![tactic(auto)]
+
+pub mod laws;
+mod message;
+mod pair;
+mod remembered;
+mod ring;
+mod sender;
+mod sent;
+
+pub use message::Message;
+pub use pair::{Pair, pairs_of};
+pub use remembered::Remembered;
+pub use ring::Ring;
+pub use sender::{Resend, SendFault, Sender};
+pub use sent::Sent;

@@ -1,0 +1,84 @@
+-- The numbers of notifications, and lists that are the same.
+use Rattle.std.proofs.Common.{◌≡◌, ◌≢◌, ℕ, ◌+◌, ◌%◌, ◌<◌, Bool, true, false, List, [], ◌∷◌, Option, Some, refl, sym, ap, ◌∙◌, inl, inr, arith}
+use Rattle.std.specs.Prelude.{◌&&◌, ◌==◌, option_map, unwrap_or, bytes_eq, not}
+use Rattle.std.proofs.lemmas.Slice.Eq.{bytes_eq-Decides}
+use Rattle.std.proofs.lemmas.Bool.{and_parts, and_from, eqb-true, eq-eqb, cases_Bool, cond-true, cond-false, false≢true, both_ways, not_from_true}
+use Rattle.coap_observe.specs.declared.observer.Observer.{Observer}
+use Rattle.coap_observe.specs.Seen.{Lists, list_for, same_one, same_seen}
+use Rattle.coap_observe.specs.Observed.{ObservedValue, next_number, number_after, is_token, is_due, told, registered_again}
+use Rattle.coap_observe.specs.Observing.{own_of, number_for, registered_first, entered}
+
+pub rise : (n k : ℕ) → next_number (number_after k n) ≡ number_after (k + 1) n
+rise n k = omega arith
+
+pub apart : (n j k : ℕ) → j < k → k < j + 16777216 → number_after j n ≢ number_after k n
+apart n j k less near same = omega arith
+
+-- ---- the same lists
+
+same_pair : (a b : ℕ × ℕ) → same_one a b ≡ true → a ≡ b
+same_pair a b is =
+    let parts = and_parts (a.0 == b.0) (a.1 == b.1) is in
+    let first : a.0 ≡ b.0 = eqb-true a.0 b.0 parts.0 in
+    let second : a.1 ≡ b.1 = eqb-true a.1 b.1 parts.1 in
+    ap (λ x. (x, a.1)) first ∙ ap (λ y. (b.0, y)) second
+
+same_lists : (xs ys : List (ℕ × ℕ)) → same_seen xs ys ≡ true → xs ≡ ys
+same_lists [] [] is = refl
+same_lists [] (y ∷ ys) is = absurd (false≢true is)
+same_lists (x ∷ xs) [] is = absurd (false≢true is)
+same_lists (x ∷ xs) (y ∷ ys) is =
+    let parts = and_parts (same_one x y) (same_seen xs ys) is in
+    ap (λ z. z ∷ xs) (same_pair x y parts.0) ∙ ap (λ zs. y ∷ zs) (same_lists xs ys parts.1)
+
+own_list : (xs : List (ℕ × ℕ)) → same_seen xs xs ≡ true
+own_list [] = refl
+own_list (x ∷ xs) =
+    and_from (same_one x x) (same_seen xs xs) (and_from (x.0 == x.0) (x.1 == x.1) (eq-eqb x.0 x.0 refl) (eq-eqb x.1 x.1 refl)) (own_list xs)
+
+pub due_differs : (lists : Lists) (o : ObservedValue) → is_due lists o ≡ true → o.seen ≢ list_for lists o.observer
+due_differs lists o due same =
+    both_ways (is_due lists o) (not_from_true (same_seen o.seen (list_for lists o.observer)) (ap (same_seen o.seen) (sym same) ∙ own_list o.seen)) due
+
+pub told_same : (lists : Lists) (o : ObservedValue) → is_due lists o ≡ false → o.seen ≡ list_for lists o.observer
+told_same lists o not_due = same_lists o.seen (list_for lists o.observer) (of_not (same_seen o.seen (list_for lists o.observer)) not_due)
+  where
+    of_not : (b : Bool) → not b ≡ false → b ≡ true
+    of_not true is = refl
+    of_not false is = sym is
+
+pub then_told : (lists : Lists) (id : ℕ) (o : ObservedValue) → is_due lists (told id (list_for lists o.observer) o) ≡ false
+then_told lists id o = ap not (own_list (list_for lists o.observer))
+
+-- ---- the number of a reply
+
+own_token : (peer : ℕ) (token : List ℕ) (o : ObservedValue) → o.observer.peer ≡ peer → o.observer.token ≡ token → is_token peer token o ≡ true
+own_token peer token o same also = and_from (o.observer.peer == peer) (bytes_eq o.observer.token token) (eq-eqb o.observer.peer peer same) (bytes_same o.observer.token token also)
+  where
+    bytes_same : (xs ys : List ℕ) → xs ≡ ys → bytes_eq xs ys ≡ true
+    bytes_same xs ys is = (bytes_eq-Decides xs ys).1 is
+
+pub reply_number : (observer : Observer) (seen : List (ℕ × ℕ)) (observed : List ObservedValue)
+    → option_map (λ (o : ObservedValue). o.number) (own_of observer (entered observer seen observed)) ≡ Some (next_number (number_for observer observed))
+reply_number observer seen [] =
+    ap (option_map (λ (o : ObservedValue). o.number))
+    (cond-true (is_token observer.peer observer.token (registered_first observer seen)) (Some (registered_first observer seen)) _
+    (own_token observer.peer observer.token (registered_first observer seen) refl refl))
+reply_number observer seen (o ∷ os) =
+    elim (cases_Bool (is_token observer.peer observer.token o)) [
+      inl is ↦
+        ap (λ xs. option_map (λ (y : ObservedValue). y.number) (own_of observer xs))
+        (cond-true (is_token observer.peer observer.token o) (registered_again observer seen o ∷ os) (o ∷ entered observer seen os) is)
+        ∙ ap (option_map (λ (y : ObservedValue). y.number))
+        (cond-true (is_token observer.peer observer.token (registered_again observer seen o)) (Some (registered_again observer seen o)) (own_of observer os)
+        (own_token observer.peer observer.token (registered_again observer seen o) refl refl))
+        ∙ ap (λ x. Some (next_number (unwrap_or (option_map (λ (y : ObservedValue). y.number) x) 1)))
+        (sym (cond-true (is_token observer.peer observer.token o) (Some o) (own_of observer os) is))
+    | inr out ↦
+        ap (λ xs. option_map (λ (y : ObservedValue). y.number) (own_of observer xs))
+        (cond-false (is_token observer.peer observer.token o) (registered_again observer seen o ∷ os) (o ∷ entered observer seen os) out)
+        ∙ ap (option_map (λ (y : ObservedValue). y.number)) (cond-false (is_token observer.peer observer.token o) (Some o) (own_of observer (entered observer seen os)) out)
+        ∙ reply_number observer seen os
+        ∙ ap (λ x. Some (next_number (unwrap_or (option_map (λ (y : ObservedValue). y.number) x) 1)))
+        (sym (cond-false (is_token observer.peer observer.token o) (Some o) (own_of observer os) out))
+    ]

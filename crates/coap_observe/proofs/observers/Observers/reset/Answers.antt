@@ -1,0 +1,13 @@
+use Rattle.std.proofs.Common.{sym, subst, arith}
+use Rattle.std.specs.Prelude.{not}
+use Rattle.coap_observe.specs.Observed.{had_id}
+use Rattle.coap_observe.specs.Observing.{AreBounded}
+use Rattle.coap_observe.proofs.Counting.{bounded_kept}
+use Rattle.coap_observe.proofs.observers.Observers.reset.Goals as goal
+
+pub invariant_of-self : goal.invariant_of-self
+invariant_of-self c = (
+    subst (AreBounded c.self.inside.pairs.items c.self.inside.room) (sym c.leave_other_ids.ensures.items)
+    (bounded_kept c.self.inside.pairs.items c.self.inside.room (λ o. not (had_id c.args.peer c.args.id o)) c.self.inside.observed.items c.self.invariant.0),
+    omega (arith, c.self.invariant.1, c.leave_other_ids.ensures.capacity),
+  )

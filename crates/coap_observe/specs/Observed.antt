@@ -1,0 +1,48 @@
+-- An observer with what it was told.
+use Rattle.std.specs.Prelude.{ℕ, ◌+◌, ◌%◌, Bool, ◌&&◌, ◌==◌, not, bytes_eq, List, Option, Some}
+use Rattle.coap_observe.specs.declared.observer.Observer.{Observer}
+use Rattle.dots_history.specs.Entries.{option_any}
+use Rattle.coap_observe.specs.Seen.{Lists, list_for, same_seen}
+
+pub record ObservedValue : Type 0 where
+  pub observer : Observer
+  -- the number of its next notification
+  pub number : ℕ
+  -- the Message ID of its last notification
+  pub last : Option ℕ
+  -- what it was told last
+  pub seen : List (ℕ × ℕ)
+
+-- numbers rise by one, in 24 bits (RFC 7641, section 3.4)
+abbrev pub next_number : ℕ → ℕ
+next_number number = (number + 1) % 16777216
+
+-- the number after so many
+abbrev pub number_after : ℕ → ℕ → ℕ
+number_after k number = (number + k) % 16777216
+
+-- a peer and a token are one observer (RFC 7641, section 4.1)
+abbrev pub is_token : ℕ → List ℕ → ObservedValue → Bool
+is_token peer token o = (o.observer.peer == peer) && bytes_eq o.observer.token token
+
+abbrev pub is_of : ℕ → ℕ → ObservedValue → Bool
+is_of peer domain o = (o.observer.peer == peer) && (o.observer.domain == domain)
+
+-- the last notification of this peer's observer had this Message ID
+abbrev pub same_id : ℕ → Option ℕ → Bool
+same_id id last = option_any (λ other. other == id) last
+
+abbrev pub had_id : ℕ → ℕ → ObservedValue → Bool
+had_id peer id o = (o.observer.peer == peer) && same_id id o.last
+
+-- what it was told last isn't what there is to see
+abbrev pub is_due : Lists → ObservedValue → Bool
+is_due lists o = not (same_seen o.seen (list_for lists o.observer))
+
+-- it is told what there is to see, by a notification of this Message ID
+abbrev pub told : ℕ → List (ℕ × ℕ) → ObservedValue → ObservedValue
+told id seen o = record { observer = o.observer; number = next_number o.number; last = Some id; seen = seen }
+
+-- it is registered again, perhaps for something else, and its numbers go on
+abbrev pub registered_again : Observer → List (ℕ × ℕ) → ObservedValue → ObservedValue
+registered_again observer seen o = record { observer = observer; number = next_number o.number; last = o.last; seen = seen }
