@@ -1,0 +1,3 @@
+pub mod ContentLemmas
+pub mod DiskLemmas
+pub mod WrittenLemmas
