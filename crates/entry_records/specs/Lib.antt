@@ -1,0 +1,4 @@
+pub mod Values
+pub mod Layout
+pub mod Records
+pub mod FaultText

@@ -1,0 +1,10 @@
+//! The records of history entries: the bytes by which a journal keeps them.
+//!
+//! `specs/Layout` says the bytes of an entry, field by field, `specs/Values` what the types of its fields say, and
+//! `specs/Records` which bytes are the record of an entry and at which place no record can go on. An entry that is within
+//! bounds has one record, and no other entry has any.
+#![tactic(auto)]
+
+mod fault;
+
+pub use fault::EntryFault;
