@@ -1,0 +1,6 @@
+pub mod Paths
+pub mod Heads
+pub mod Bodies
+pub mod Rest
+pub mod Views
+pub mod Replies

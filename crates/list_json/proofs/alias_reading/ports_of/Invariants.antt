@@ -1,0 +1,9 @@
+use Rattle.std.proofs.Common.{◌≡◌, drop}
+use Rattle.serde_json.specs.View.{items_view}
+use Rattle.list_json.specs.Aliases.{range_of}
+use Rattle.list_json.specs.Steps.{each_item}
+use Rattle.list_json.proofs.Arrays.{behind}
+use Rattle.list_json.proofs.alias_reading.ports_of.Given as goal
+
+abbrev pub invariant-loop-item : goal.invariant-loop-item
+invariant-loop-item l = each_item range_of (items_view l.items) ≡ behind l.ports (each_item range_of (items_view (drop l.item-index l.items)))

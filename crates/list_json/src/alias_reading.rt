@@ -1,0 +1,165 @@
+//! Aliases of JSON (RFC 8783, section 6.1).
+
+ghost use Rattle.std.specs.Prelude.{◌≡◌, codes};
+ghost use Rattle.serde_json.specs.Find.{get};
+ghost use Rattle.serde_json.specs.View.{view};
+ghost use Rattle.list_json.specs.declared.fault.Member.TheVariants as the;
+ghost use Rattle.list_json.specs.Aliases.{alias_in, range_between, range_of, targets_of, with_target};
+ghost use Rattle.list_json.specs.Steps.{Gives, needed, otherwise, items_in};
+ghost use Rattle.list_json.specs.Values.{name_of, prefix_of, protocol_of, port_of};
+
+use crate::fault::{ListFault, Member};
+use crate::shape::{Shape, check_members};
+use crate::values::{few_items, name_of, own_name, port_of, prefix_of, protocol_of};
+use acl_lists::{Alias, Asked, ByteList, NameList, PortList, PrefixList};
+use dots_lists::{Bytes, List};
+use ip_scope::PortRange;
+use serde_json::Value;
+use std::alloc::Global;
+
+/// The most prefixes, port ranges and protocols, and the most names.
+const MAX_TARGETS: usize = 16;
+
+const MAX_NAMES: usize = 8;
+
+/// The member `lower-port`, which a range has to have.
+fn lower_port(range: &Value) -> Result<u16, ListFault>
+    ensures { result ≡ needed the.LowerPort (port_of the.LowerPort) (get (codes "lower-port") (view range.now)) }
+{
+    match range.get("lower-port") {
+        Some(value) => port_of(Member::LowerPort, value),
+        None => Err(ListFault::Missing(Member::LowerPort)),
+    }
+}
+
+/// The member `upper-port`, which is the lower port where it is absent.
+fn upper_port(range: &Value, lower: u16) -> Result<u16, ListFault>
+    ensures { result ≡ otherwise lower (port_of the.UpperPort) (get (codes "upper-port") (view range.now)) }
+{
+    match range.get("upper-port") {
+        Some(value) => port_of(Member::UpperPort, value),
+        None => Ok(lower),
+    }
+}
+
+/// The range between two ports, the upper of which isn't below the lower.
+pub fn range_between(lower: u16, upper: u16) -> Result<PortRange, ListFault>
+    ensures { result ≡ range_between lower upper }
+{
+    PortRange::new(lower, upper).ok_or(ListFault::Invalid(Member::UpperPort))
+}
+
+/// A range of ports.
+fn range_of(value: &Value) -> Result<PortRange, ListFault>
+    ensures { result ≡ range_of (view value.now) }
+{
+    check_members(value, Shape::Range, Member::TargetPortRange)?;
+    let lower = lower_port(value)?;
+    let upper = upper_port(value, lower)?;
+    range_between(lower, upper)
+}
+
+/// The member `target-prefix`: at most 16 texts of prefixes.
+fn prefixes_of(alloc: Global, alias: &Value) -> Result<PrefixList, ListFault>
+    ensures { Gives result (items_in the.TargetPrefix 16 (prefix_of the.TargetPrefix) (get (codes "target-prefix") (view alias.now))) }
+{
+    let mut prefixes = List::new(alloc);
+    let Some(value) = alias.get("target-prefix") else {
+        return Ok(prefixes);
+    };
+    let Some(items) = few_items(value, MAX_TARGETS) else {
+        return Err(ListFault::Invalid(Member::TargetPrefix));
+    };
+    for item in items {
+        prefixes.push(prefix_of(Member::TargetPrefix, item)?)?;
+    }
+    Ok(prefixes)
+}
+
+/// The member `target-port-range`: at most 16 ranges of ports.
+fn ports_of(alloc: Global, alias: &Value) -> Result<PortList, ListFault>
+    ensures { Gives result (items_in the.TargetPortRange 16 range_of (get (codes "target-port-range") (view alias.now))) }
+{
+    let mut ports = List::new(alloc);
+    let Some(value) = alias.get("target-port-range") else {
+        return Ok(ports);
+    };
+    let Some(items) = few_items(value, MAX_TARGETS) else {
+        return Err(ListFault::Invalid(Member::TargetPortRange));
+    };
+    for item in items {
+        ports.push(range_of(item)?)?;
+    }
+    Ok(ports)
+}
+
+/// The member `target-protocol`: at most 16 numbers of protocols.
+fn protocols_of(alloc: Global, alias: &Value) -> Result<ByteList, ListFault>
+    ensures { Gives result (items_in the.TargetProtocol 16 (protocol_of the.TargetProtocol) (get (codes "target-protocol") (view alias.now))) }
+{
+    let mut protocols = Bytes::new(alloc);
+    let Some(value) = alias.get("target-protocol") else {
+        return Ok(protocols);
+    };
+    let Some(items) = few_items(value, MAX_TARGETS) else {
+        return Err(ListFault::Invalid(Member::TargetProtocol));
+    };
+    for item in items {
+        protocols.push(protocol_of(Member::TargetProtocol, item)?)?;
+    }
+    Ok(protocols)
+}
+
+/// The member `target-fqdn`: at most 8 names.
+fn names_of(alloc: Global, alias: &Value) -> Result<NameList, ListFault>
+    ensures { Gives result (items_in the.TargetFqdn 8 (name_of the.TargetFqdn) (get (codes "target-fqdn") (view alias.now))) }
+{
+    let mut names = List::new(alloc);
+    let Some(value) = alias.get("target-fqdn") else {
+        return Ok(names);
+    };
+    let Some(items) = few_items(value, MAX_NAMES) else {
+        return Err(ListFault::Invalid(Member::TargetFqdn));
+    };
+    for item in items {
+        names.push(name_of(alloc, Member::TargetFqdn, item)?)?;
+    }
+    Ok(names)
+}
+
+/// Refuses targets without a prefix and a name.
+fn with_target(asked: Asked) -> Result<Asked, ListFault>
+    ensures { result ≡ with_target asked }
+{
+    if asked.prefixes.items().is_empty() && asked.names.items().is_empty() {
+        return Err(ListFault::Missing(Member::TargetPrefix));
+    }
+    Ok(asked)
+}
+
+/// What an alias stands for.
+fn targets_of(alloc: Global, alias: &Value) -> Result<Asked, ListFault>
+    ensures { Gives result (targets_of (view alias.now)) }
+{
+    let prefixes = prefixes_of(alloc, alias)?;
+    let ports = ports_of(alloc, alias)?;
+    let protocols = protocols_of(alloc, alias)?;
+    let names = names_of(alloc, alias)?;
+    with_target(Asked {
+        prefixes,
+        ports,
+        protocols,
+        names,
+        aliases: List::new(alloc),
+    })
+}
+
+/// The alias that a value is, or its first fault in the order of `specs/Aliases.antt`.
+pub fn alias_of(alloc: Global, value: &Value) -> Result<Alias, ListFault>
+    ensures { Gives result (alias_in (view value.now)) }
+{
+    check_members(value, Shape::Alias, Member::Alias)?;
+    let name = own_name(alloc, value)?;
+    let asked = targets_of(alloc, value)?;
+    Ok(Alias { name, asked })
+}
