@@ -5,8 +5,15 @@ use Rattle.acl_lists.specs.declared.acl.Activation.{Activation}
 use Rattle.acl_lists.specs.declared.acl.Activation.TheVariants.{WhenMitigating, Immediate, Deactivate}
 use Rattle.filter_rows.specs.declared.rows.ScrubRow.{ScrubRow}
 use Rattle.filter_rows.specs.declared.rows.AclRow.{AclRow}
-use Rattle.filter_table.specs.declared.held.HeldScrub.{HeldScrub}
+use Rattle.prefix_ranks.specs.declared.rank.Rank.{Rank}
+use Rattle.prefix_ranks.specs.Ranks as order
 use Rattle.filter_table.specs.declared.held.HeldAcl.{HeldAcl}
+
+-- a row of a mitigation, the slot that it stands in, and its place among the others
+pub record HeldScrub : Type 0 where
+  pub slot : ℕ
+  pub place : ℕ
+  pub row : ScrubRow
 
 -- the rows of mitigations, in order of place, and how many there may be
 pub record ScrubsValue : Type 0 where
@@ -32,12 +39,29 @@ scrub_in slot held = find (λ (scrub : HeldScrub). scrub.slot == slot) held
 abbrev pub with_scrub : HeldScrub → List HeldScrub → List HeldScrub
 with_scrub scrub held = insert held (prefix_len (λ (other : HeldScrub). nat_le other.place scrub.place) held) scrub
 
+abbrev pub row_is_of : ℕ → List ℕ → ℕ → ScrubRow → Bool
+row_is_of domain cuid mid row = is_of_client domain cuid row.domain row.cuid && (row.mid == mid)
+
 -- the row is one of this mitigation
 abbrev pub is_of : ℕ → List ℕ → ℕ → HeldScrub → Bool
 is_of domain cuid mid scrub = is_of_client domain cuid scrub.row.domain scrub.row.cuid && (scrub.row.mid == mid)
 
 abbrev pub without_mitigation : ℕ → List ℕ → ℕ → List HeldScrub → List HeldScrub
 without_mitigation domain cuid mid held = filter (λ scrub. not (is_of domain cuid mid scrub)) held
+
+abbrev pub row_set : Bool → ScrubRow → ScrubRow
+row_set active row = record {
+  domain = row.domain;
+  cuid = row.cuid;
+  mid = row.mid;
+  prefix = row.prefix;
+  ports = row.ports;
+  protocols = row.protocols;
+  active = active;
+}
+
+abbrev pub row_woken : ℕ → List ℕ → ℕ → Bool → ScrubRow → ScrubRow
+row_woken domain cuid mid active row = if row_is_of domain cuid mid row then row_set active row else row
 
 abbrev pub scrub_set : Bool → HeldScrub → HeldScrub
 scrub_set active scrub = record {
@@ -63,6 +87,10 @@ scrub_at_place place scrub = record { slot = scrub.slot; place = place; row = sc
 
 abbrev pub place_of_scrub : HeldScrub → ℕ
 place_of_scrub scrub = scrub.place
+
+-- where its prefix stands among the others
+abbrev pub rank_of : HeldScrub → Rank
+rank_of scrub = order.rank_of scrub.row.prefix scrub.place scrub.slot
 
 -- ---- rows of access lists
 

@@ -1,9 +1,7 @@
 -- What the definitions of a filter table come to.
-use Rattle.std.specs.Prelude.{◌≡◌, ◌≢◌, ℕ, ◌≤◌, false, List, [], ◌∷◌}
+use Rattle.std.specs.Prelude.{◌≢◌, ℕ, ◌≤◌, List, [], ◌∷◌}
 use Rattle.std.specs.List.{AllByRecursion}
-use Rattle.filter_table.specs.declared.held.HeldScrub.{HeldScrub}
-use Rattle.filter_table.specs.declared.rank.Rank.{Rank}
-use Rattle.filter_table.specs.Ranks.{is_before}
+use Rattle.filter_table.specs.Held.{HeldScrub}
 
 -- no place is above a later one
 abbrev pub AreInOrder : {A : Type 0} → (A → ℕ) → List A → Type 0
@@ -14,8 +12,3 @@ AreInOrder place_of (x ∷ xs) = AllByRecursion (λ later. place_of x ≤ place_
 abbrev pub HaveTheirSlots : List HeldScrub → Type 0
 HaveTheirSlots [] = Unit {0}
 HaveTheirSlots (x ∷ xs) = AllByRecursion (λ (later : HeldScrub). x.slot ≢ later.slot) xs × HaveTheirSlots xs
-
--- none comes before an earlier one
-abbrev pub AreRanked : List Rank → Type 0
-AreRanked [] = Unit {0}
-AreRanked (rank ∷ ranks) = AllByRecursion (λ later. is_before later rank ≡ false) ranks × AreRanked ranks

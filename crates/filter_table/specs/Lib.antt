@@ -1,5 +1,6 @@
 pub mod Held
-pub mod Ranks
-pub mod Slots
 pub mod Table
 pub mod Laws
+pub mod Rows
+pub mod Slots
+pub mod Best

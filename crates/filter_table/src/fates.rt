@@ -1,61 +1,35 @@
 //! What becomes of a packet by the rows that a table holds.
 
 ghost use Rattle.std.specs.Prelude.{◌≡◌, map, option_map};
-ghost use Rattle.filter_rows.specs.Fates.{scrubs, scrubbing_mid, decision_of_row, decision_of_rows, fate_by_rows};
+ghost use Rattle.filter_rows.specs.Fates.{decision_of_row, decision_of_rows, fate_by_rows};
 ghost use Rattle.filter_rows.specs.Told.{fate_of};
 ghost use Rattle.filter_table.specs.Held.{row_of_scrub, row_of_acl};
 ghost use Rattle.dots_settings.specs.Lookups.{prefixes_of};
 
-use crate::held::{HeldAcl, HeldScrub};
+use crate::held::HeldAcl;
+use crate::scrubs::Scrubs;
 use acl_lists::Packet;
 use dots_settings::Settings;
-use filter_rows::{AclRow, Fate, ScrubRow, decision, greatest_from, is_scrubbed};
+use filter_rows::{AclRow, Fate, decision};
 use ip_scope::Prefix;
 
 /// What the first matching entry of the active access lists says; else the packet is scrubbed for the greatest mid of the active
 /// rows of mitigations that match; else it passes.
 pub fn fate_by_held<'a>(
     settings: &Settings,
-    scrubs: &[HeldScrub],
+    scrubs: &Scrubs,
     acls: &'a [HeldAcl],
     packet: &Packet,
 ) -> Fate<'a>
-    ensures { fate_of result ≡ fate_by_rows (prefixes_of settings.now) (map row_of_scrub scrubs.now) (map row_of_acl acls.now) packet.now }
+    ensures { fate_of result ≡ fate_by_rows (prefixes_of settings.now) (map row_of_scrub scrubs.now.held) (map row_of_acl acls.now) packet.now }
 {
     if let Some(decided) = decision_of_acls(settings, acls, packet) {
         return decided;
     }
-    match greatest_mid(scrubs, packet) {
+    match scrubs.greatest_mid(packet) {
         Some(mid) => Fate::Scrubbed { mid },
         None => Fate::Pass,
     }
-}
-
-/// The greatest mid of the active rows that match.
-#[tactic(auto, using(filter_rows::proofs::Greatest::greater_more))]
-fn greatest_mid(held: &[HeldScrub], packet: &Packet) -> Option<u32>
-    ensures { result ≡ scrubbing_mid packet.now (map row_of_scrub held.now) }
-{
-    let mut found = None;
-    for scrub in held {
-        if scrubs(packet, &scrub.row) {
-            found = Some(greatest_from(scrub.row.mid, found));
-        }
-    }
-    found
-}
-
-/// Whether the row is active and matches.
-fn scrubs(packet: &Packet, row: &ScrubRow) -> bool
-    ensures { result ≡ scrubs packet.now row.now }
-{
-    row.active
-        && is_scrubbed(
-            &row.prefix,
-            row.protocols.items(),
-            row.ports.items(),
-            packet,
-        )
 }
 
 /// What the first active list with an entry that matches says.

@@ -1,13 +1,9 @@
 //! What the definitions come to: each function's contract is a law, and its body does nothing.
 
 ghost use Rattle.std.specs.Prelude.{◌≡◌, ℕ, Bool, List, None, map};
-ghost use Rattle.std.specs.List.Sorted.{IsPermutation};
-ghost use Rattle.filter_table.specs.declared.held.HeldScrub.{HeldScrub};
 ghost use Rattle.filter_table.specs.declared.held.HeldAcl.{HeldAcl};
-ghost use Rattle.filter_table.specs.declared.rank.Rank.{Rank};
-ghost use Rattle.filter_table.specs.Held.{scrub_in, with_scrub, without_mitigation, woken, with_acl, without_acl, activated, renumbered, place_of_scrub, scrub_at_place, place_of_acl, acl_at_place};
-ghost use Rattle.filter_table.specs.Laws.{AreInOrder, HaveTheirSlots, AreRanked};
-ghost use Rattle.filter_table.specs.Ranks.{ranked};
+ghost use Rattle.filter_table.specs.Held.{HeldScrub, scrub_in, with_scrub, without_mitigation, woken, with_acl, without_acl, activated, renumbered, place_of_scrub, scrub_at_place, place_of_acl, acl_at_place};
+ghost use Rattle.filter_table.specs.Laws.{AreInOrder, HaveTheirSlots};
 
 /// The rows of mitigations stay in order of place, whatever call is made.
 pub fn scrubs_stay_in_order()
@@ -37,10 +33,4 @@ pub fn slots_stay_apart()
     ensures woken { (domain : ℕ) (cuid : List ℕ) (mid : ℕ) (active : Bool) (held : List HeldScrub) → HaveTheirSlots held
         → HaveTheirSlots (map (woken domain cuid mid active) held) }
     ensures renumbered { (held : List HeldScrub) → HaveTheirSlots held → HaveTheirSlots (renumbered place_of_scrub scrub_at_place held) }
-{}
-
-/// The order of the slots is an order of all of them: by family and length, then number, then place.
-pub fn ranks_are_in_order()
-    ensures order { (ranks : List Rank) → AreRanked (ranked ranks) }
-    ensures all { (ranks : List Rank) → IsPermutation ranks (ranked ranks) }
 {}

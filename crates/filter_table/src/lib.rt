@@ -4,19 +4,22 @@
 //! with their places, and how many of each there may be. Each call says what the two lists are after it, and [`FilterTable::fate`]
 //! is the definition of `filter_rows` on them. Only [`FilterTable::new`] takes memory.
 //!
-//! Start reading at `specs/Table.antt` and `specs/Held.antt`; `specs/Ranks.antt` has the order of the slots.
+//! Rows of mitigations are stored by slot. Beside them stand their turns in order of place, and their ranks (`prefix_ranks`), so
+//! what is moved where a row comes or goes is small numbers.
+//!
+//! Start reading at `specs/Table.antt` and `specs/Held.antt`; `specs/Rows.antt` has how the rows are stored.
 #![tactic(auto)]
 
 mod acls;
 mod fates;
 mod held;
 pub mod laws;
-mod rank;
-mod ranking;
 mod rows;
 mod scrubs;
+mod slots;
 mod table;
+mod turn;
 
-pub use held::{HeldAcl, HeldScrub};
+pub use held::HeldAcl;
 pub use rows::{AclRows, ScrubRows};
 pub use table::FilterTable;

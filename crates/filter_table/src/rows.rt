@@ -1,35 +1,40 @@
 //! The rows of a table, one after the other.
 
-ghost use Rattle.std.specs.Prelude.{◌≡◌, map, IfSome, IfNone, [], ◌∷◌};
+ghost use Rattle.std.specs.Prelude.{◌≡◌, map, option_copied, IfSome, IfNone, [], ◌∷◌};
 ghost use Rattle.std.specs.Iterator.{YieldsFirstRef, item_count};
 ghost use Rattle.filter_table.specs.Held.{row_of_acl, active_rows};
+ghost use Rattle.filter_table.specs.Rows.{gathered, active_in};
 
-use crate::held::{HeldAcl, HeldScrub};
+use crate::held::HeldAcl;
+use crate::slots::row_in;
+use crate::turn::Turn;
 use filter_rows::{AclRow, ScrubRow};
 use std::marker::Model;
 
 /// The active rows of mitigations that are left.
 #[derive(Debug, Drop)]
 pub struct ScrubRows<'a> {
-    left: &'a [HeldScrub],
+    left: &'a [Turn],
+    rows: &'a [Option<ScrubRow>],
 }
 
 impl<'a> Model for ScrubRows<'a> {
     ghost use Rattle.std.specs.Prelude.{List};
     ghost use Rattle.filter_rows.specs.declared.rows.ScrubRow.{ScrubRow};
     ghost use Rattle.filter_table.specs.Held.{active_rows};
+    ghost use Rattle.filter_table.specs.Rows.{gathered};
 
     ghost Value = { List ScrubRow };
 
-    ghost view = { λ rows. active_rows rows.left.now };
+    ghost view = { λ scrubs. active_rows (gathered scrubs.rows.now scrubs.left.now) };
 }
 
 impl<'a> ScrubRows<'a> {
-    /// The active ones of these.
-    pub(crate) fn of(left: &'a [HeldScrub]) -> ScrubRows<'a>
-        ensures { result ≡ active_rows left.now }
+    /// The active ones of the rows of these turns.
+    pub(crate) fn of(left: &'a [Turn], rows: &'a [Option<ScrubRow>]) -> ScrubRows<'a>
+        ensures { result ≡ active_rows (gathered rows.now left.now) }
     {
-        ScrubRows { left }
+        ScrubRows { left, rows }
     }
 }
 
@@ -41,21 +46,35 @@ impl<'a> Iterator for ScrubRows<'a> {
     ghost remaining = { item_count (λ rows. rows) };
 
     fn next(&mut self) -> Option<&'a ScrubRow> {
-        let (row, left) = next_active(self.left)?;
+        let (row, left) = next_active(self.left, self.rows)?;
         self.left = left;
         Some(row)
     }
 }
 
-/// The first active row, and what stands behind it.
-fn next_active(held: &[HeldScrub]) -> Option<(&ScrubRow, &[HeldScrub])>
-    ensures none { IfNone result (active_rows held.now ≡ []) }
-    ensures some { IfSome result (λ found. active_rows held.now ≡ found.0.now ∷ active_rows found.1.now) }
+/// The row in this slot, where it is active.
+fn active_in(slot: u32, rows: &[Option<ScrubRow>]) -> Option<&ScrubRow>
+    ensures { option_copied result ≡ active_in rows.now slot }
 {
-    for (at, scrub) in held.iter().enumerate() {
-        if scrub.row.active {
-            let (_, left) = held.split_at(at + 1);
-            return Some((&scrub.row, left));
+    let row = row_in(slot, rows)?;
+    if !row.active {
+        return None;
+    }
+    Some(row)
+}
+
+/// The first active row, and the turns behind its own.
+fn next_active<'a>(
+    turns: &'a [Turn],
+    rows: &'a [Option<ScrubRow>],
+) -> Option<(&'a ScrubRow, &'a [Turn])>
+    ensures none { IfNone result (active_rows (gathered rows.now turns.now) ≡ []) }
+    ensures some { IfSome result (λ found. active_rows (gathered rows.now turns.now) ≡ found.0.now ∷ active_rows (gathered rows.now found.1.now)) }
+{
+    for (at, turn) in turns.iter().enumerate() {
+        if let Some(row) = active_in(turn.slot, rows) {
+            let (_, left) = turns.split_at(at + 1);
+            return Some((row, left));
         }
     }
     None

@@ -1,24 +1,31 @@
 //! The rows of mitigations, each in a slot of its own.
 
-ghost use Rattle.std.specs.Prelude.{◌≡◌, ℕ, ◌<◌, ◌≤◌, ◌^◌, [], None, Some, true, false, not, map, filter, length, nat_le, nat_lt, option_map, option_copied, IsSome, IfOk, vec_capacity};
-ghost use Rattle.std.specs.List.{prefix_len, position, remove};
-ghost use Rattle.filter_table.specs.Held.{ScrubsValue, scrub_in, with_scrub, is_of, is_of_client, without_mitigation, woken, renumbered, scrub_at_place, place_of_scrub};
-ghost use Rattle.filter_table.specs.Slots.{HasEachSlot};
-ghost use Rattle.filter_table.specs.Ranks.{kind_of, rank_of, ranked, is_of_kind, slot_of};
+ghost use Rattle.std.specs.Prelude.{◌≡◌, ℕ, ◌<◌, ◌≤◌, ◌^◌, [], None, Some, true, false, map, filter, length, nat_le, nat_lt, option_map, IsSome, IfOk, vec_capacity};
+ghost use Rattle.std.specs.List.{prefix_len, remove, AllByRecursion};
+ghost use Rattle.filter_rows.specs.Fates.{scrubbing_mid, scrubs};
+ghost use Rattle.prefix_ranks.specs.Ranks.{kind_of, ranked, is_of_kind, slot_of};
+ghost use Rattle.filter_table.specs.Held.{ScrubsValue, scrub_in, with_scrub, without_mitigation, woken, renumbered, scrub_at_place, place_of_scrub, rank_of, row_of_scrub, active_rows};
+ghost use Rattle.filter_table.specs.Laws.{AreInOrder};
+ghost use Rattle.filter_table.specs.Rows.{gathered, place_of_turn, turn_at_place, IsTied};
+ghost use Rattle.filter_table.specs.Best.{best, greater_of, mid_in};
 
-use crate::held::{HeldScrub, is_of_client, number_after};
-use crate::rank::{Rank, kind_of};
-use crate::ranking::Ranking;
+use crate::held::number_after;
+use crate::rows::ScrubRows;
+use crate::slots::{all_slots, empty_slot, empty_slots, fill_slot, position_of, row_in, wake_rows};
+use crate::turn::Turn;
+use acl_lists::Packet;
 use dots_lists::NoMemory;
-use filter_rows::ScrubRow;
+use filter_rows::{ScrubRow, greatest_from, is_scrubbed};
 use ip_scope::Family;
+use prefix_ranks::{Rank, Ranking, kind_of};
 use std::alloc::Global;
 use std::marker::Model;
 
-/// The rows in order of place, and the slots in the order of what their rows cover.
+/// The rows by slot, the turns of those that are held, and the slots in the order of what their rows cover.
 #[derive(Debug, Drop)]
 pub struct Scrubs {
-    held: Vec<HeldScrub>,
+    rows: Vec<Option<ScrubRow>>,
+    turns: Vec<Turn>,
     /// The slots that no row stands in.
     free: Vec<u32>,
     ranking: Ranking,
@@ -28,16 +35,16 @@ pub struct Scrubs {
 impl Model for Scrubs {
     ghost use Rattle.std.specs.Prelude.{◌≤◌, vec_capacity};
     ghost use Rattle.filter_table.specs.Held.{ScrubsValue};
-    ghost use Rattle.filter_table.specs.Slots.{HasEachSlot, RanksAre};
+    ghost use Rattle.filter_table.specs.Rows.{gathered};
+    ghost use Rattle.filter_table.specs.Slots.{StandInSlots};
 
     ghost Value = { ScrubsValue };
 
-    ghost view = { λ scrubs. record { room = scrubs.room; held = scrubs.held.items } };
+    ghost view = { λ scrubs. record { room = scrubs.room; held = gathered scrubs.rows.items scrubs.turns.items } };
 
     ghost invariant = { λ scrubs.
-        RanksAre scrubs.ranking scrubs.room scrubs.held.items
-        × HasEachSlot scrubs.room scrubs.free.items scrubs.held.items
-        × (scrubs.room ≤ vec_capacity scrubs.held)
+        StandInSlots scrubs.room scrubs.rows.items scrubs.turns.items scrubs.free.items scrubs.ranking
+        × (scrubs.room ≤ vec_capacity scrubs.turns)
         × (scrubs.room ≤ vec_capacity scrubs.free) };
 }
 
@@ -48,7 +55,8 @@ impl Scrubs {
         ensures { IfOk result (λ made. made ≡ record { room = room; held = [] }) }
     {
         Ok(Scrubs {
-            held: Vec::with_capacity(alloc, room)?,
+            rows: empty_slots(alloc, room)?,
+            turns: Vec::with_capacity(alloc, room)?,
             free: all_slots(alloc, room as u32)?,
             ranking: Ranking::new(alloc, room)?,
             room,
@@ -59,7 +67,7 @@ impl Scrubs {
     pub fn has_room(&self) -> bool
         ensures { result ≡ nat_lt (length self.now.held) self.now.room }
     {
-        self.held.len() < self.room
+        self.turns.len() < self.room
     }
 
     /// Puts a row into a free slot, behind those whose place is not greater.
@@ -74,20 +82,30 @@ impl Scrubs {
             Some(slot) => slot,
             None => unreachable!(),
         };
-        let at = place_after(place, self.held.as_slice());
-        let scrub = HeldScrub { slot, place, row };
-        self.ranking.put(Rank::of(&scrub));
-        let _room_was_reserved = self.held.insert(at, scrub);
+        let at = place_after(place, self.turns.as_slice());
+        let turn = Turn {
+            place,
+            slot,
+            mid: row.mid,
+        };
+        self.ranking.put(Rank::of(&row.prefix, place, slot));
+        let _room_was_reserved = self.turns.insert(at, turn);
+        fill_slot(&mut self.rows, slot, row);
     }
 
-    /// Takes the row at this position out.
+    /// Takes the row whose turn is at this position out.
     fn take_out(&mut self, at: usize)
         requires { at < length self.old.held }
         ensures { self.new ≡ record { room = self.old.room; held = remove self.old.held at } }
     {
-        let scrub = self.held.remove(at);
-        self.ranking.take(&Rank::of(&scrub));
-        self.free.push_reserved(scrub.slot);
+        let turn = self.turns.remove(at);
+        let row = match empty_slot(&mut self.rows, turn.slot) {
+            Some(row) => row,
+            None => unreachable!(),
+        };
+        self.ranking
+            .take(&Rank::of(&row.prefix, turn.place, turn.slot));
+        self.free.push_reserved(turn.slot);
     }
 
     /// Takes a row of this mitigation out, and says whether there was one.
@@ -97,7 +115,7 @@ impl Scrubs {
         ensures fewer { result ≡ true → length self.new.held < length self.old.held }
         ensures done { result ≡ false → self.new.held ≡ without_mitigation domain cuid.now mid self.old.held }
     {
-        match position_of(self.held.as_slice(), domain, cuid, mid) {
+        match position_of(self.turns.as_slice(), self.rows.as_slice(), domain, cuid, mid) {
             Some(at) => {
                 self.take_out(at);
                 true
@@ -117,22 +135,29 @@ impl Scrubs {
     pub fn wake(&mut self, domain: u16, cuid: &[u8], mid: u32, active: bool)
         ensures { self.new ≡ record { room = self.old.room; held = map (woken domain cuid.now mid active) self.old.held } }
     {
-        wake_rows(&mut self.held, domain, cuid, mid, active);
+        wake_rows(&mut self.rows, domain, cuid, mid, active);
     }
 
     /// Gives the rows places from 0 on in their order, equal places staying equal.
     pub fn renumber(&mut self)
         ensures { self.new ≡ record { room = self.old.room; held = renumbered place_of_scrub scrub_at_place self.old.held } }
     {
-        renumber_rows(&mut self.held);
-        rank_all(&mut self.ranking, self.held.as_slice());
+        renumber_turns(&mut self.turns);
+        rank_all(&mut self.ranking, self.turns.as_slice(), self.rows.as_slice());
     }
 
-    /// The rows in order of place.
-    pub fn held(&self) -> &[HeldScrub]
-        ensures { result.now ≡ self.now.held }
+    /// How many rows there are.
+    pub fn len(&self) -> usize
+        ensures { result ≡ length self.now.held }
     {
-        self.held.as_slice()
+        self.turns.len()
+    }
+
+    /// The active rows, in order.
+    pub fn active(&self) -> ScrubRows<'_>
+        ensures { result ≡ active_rows self.now.held }
+    {
+        ScrubRows::of(self.turns.as_slice(), self.rows.as_slice())
     }
 
     /// The slots of the rows whose prefix has this family and length, in order of the prefix's number and then of place.
@@ -145,110 +170,114 @@ impl Scrubs {
     /// The row of a slot.
     pub fn scrub_at(&self, slot: u32) -> &ScrubRow
         requires { IsSome (scrub_in slot self.now.held) }
-        ensures { option_map (λ scrub. scrub.row) (scrub_in slot self.now.held) ≡ Some result.now }
+        ensures { option_map row_of_scrub (scrub_in slot self.now.held) ≡ Some result.now }
     {
-        match scrub_in(slot, self.held.as_slice()) {
-            Some(scrub) => &scrub.row,
+        match row_in(slot, self.rows.as_slice()) {
+            Some(row) => row,
+            None => unreachable!(),
+        }
+    }
+
+    /// The greatest mid of the active rows that match.
+    pub fn greatest_mid(&self, packet: &Packet) -> Option<u32>
+        ensures { result ≡ scrubbing_mid packet.now (map row_of_scrub self.now.held) }
+    {
+        let mut found = None;
+        let mut covering = self.ranking.covering(packet.destination);
+        while let Some(slots) = covering.next() {
+            found = greater_in(self.rows.as_slice(), slots, packet, found);
+        }
+        found
+    }
+}
+
+/// How many turns stand before one that is put in at this place.
+fn place_after(place: u64, turns: &[Turn]) -> usize
+    requires { AreInOrder place_of_turn turns.now }
+    ensures value { result ≡ prefix_len (λ other. nat_le other.place place) turns.now }
+    ensures within { result ≤ length turns.now }
+{
+    turns.partition_point(|other| other.place <= place)
+}
+
+fn renumber_turns(turns: &mut Vec<Turn>)
+    ensures items { turns.new.items ≡ renumbered place_of_turn turn_at_place turns.old.items }
+    ensures capacity { vec_capacity turns.new ≡ vec_capacity turns.old }
+{
+    renumber_all(turns.as_mut_slice());
+}
+
+fn renumber_all(turns: &mut [Turn])
+    ensures { turns.new ≡ renumbered place_of_turn turn_at_place turns.old }
+{
+    let Some(first) = turns.first() else {
+        return;
+    };
+    let mut last = first.place;
+    let mut number = 0;
+    for turn in turns.iter_mut() {
+        let place = turn.place;
+        number = number_after(last, number, place);
+        last = place;
+        turn.place = number;
+    }
+}
+
+/// Ranks the rows of these turns and no others.
+fn rank_all(ranking: &mut Ranking, turns: &[Turn], rows: &[Option<ScrubRow>])
+    requires tied { AllByRecursion (IsTied rows.now) turns.now }
+    requires room { length turns.now ≤ ranking.old.room }
+    ensures { ranking.new ≡ record { room = ranking.old.room; ranks = ranked (map rank_of (gathered rows.now turns.now)) } }
+{
+    ranking.clear();
+    for turn in turns {
+        match row_in(turn.slot, rows) {
+            Some(row) => ranking.put(Rank::of(&row.prefix, turn.place, turn.slot)),
             None => unreachable!(),
         }
     }
 }
 
-/// Each slot below the room.
-fn all_slots(alloc: Global, room: u32) -> Result<Vec<u32>, NoMemory>
-    ensures slots { IfOk result (λ slots. HasEachSlot room slots.items []) }
-    ensures capacity { IfOk result (λ slots. room ≤ vec_capacity slots) }
+/// The greatest of the mid found and of those of the rows in these slots that scrub the packet.
+#[tactic(auto, using(crate::proofs::Bests::greater_more))]
+#[inline(always)]
+fn greater_in(
+    rows: &[Option<ScrubRow>],
+    slots: &[u32],
+    packet: &Packet,
+    before: Option<u32>,
+) -> Option<u32>
+    ensures { result ≡ greater_of before (best (mid_in packet.now rows.now) slots.now) }
 {
-    let mut slots = Vec::with_capacity(alloc, room as usize)?;
-    for slot in 0..room {
-        slots.push_reserved(slot);
+    let mut found = before;
+    for slot in slots {
+        if let Some(mid) = mid_in(rows, *slot, packet) {
+            found = Some(greatest_from(mid, found));
+        }
     }
-    Ok(slots)
+    found
 }
 
-/// How many rows stand before one that is put in at this place.
-fn place_after(place: u64, held: &[HeldScrub]) -> usize
-    ensures value { result ≡ prefix_len (λ other. nat_le other.place place) held.now }
-    ensures within { result ≤ length held.now }
+/// The mid of the row in this slot, where it is active and matches.
+fn mid_in(rows: &[Option<ScrubRow>], slot: u32, packet: &Packet) -> Option<u32>
+    ensures { result ≡ mid_in packet.now rows.now slot }
 {
-    held.iter().take_while(|other| other.place <= place).count()
-}
-
-/// Whether the row is one of this mitigation.
-fn is_of(scrub: &HeldScrub, domain: u16, cuid: &[u8], mid: u32) -> bool
-    ensures { result ≡ is_of domain cuid.now mid scrub.now }
-{
-    is_of_client(domain, cuid, scrub.row.domain, &scrub.row.cuid) && scrub.row.mid == mid
-}
-
-/// The position of the first row of this mitigation.
-fn position_of(held: &[HeldScrub], domain: u16, cuid: &[u8], mid: u32) -> Option<usize>
-    ensures { result ≡ position (is_of domain cuid.now mid) held.now }
-{
-    held.iter()
-        .position(|scrub| is_of(scrub, domain, cuid, mid))
-}
-
-/// The row that stands in this slot.
-fn scrub_in(slot: u32, held: &[HeldScrub]) -> Option<&HeldScrub>
-    ensures { option_copied result ≡ scrub_in slot held.now }
-{
-    held.iter().find(|scrub| scrub.slot == slot)
-}
-
-fn wake_rows(held: &mut Vec<HeldScrub>, domain: u16, cuid: &[u8], mid: u32, active: bool)
-    ensures items { held.new.items ≡ map (woken domain cuid.now mid active) held.old.items }
-    ensures capacity { vec_capacity held.new ≡ vec_capacity held.old }
-{
-    wake_all(held.as_mut_slice(), domain, cuid, mid, active);
-}
-
-fn wake_all(held: &mut [HeldScrub], domain: u16, cuid: &[u8], mid: u32, active: bool)
-    ensures { held.new ≡ map (woken domain cuid.now mid active) held.old }
-{
-    for scrub in held.iter_mut() {
-        wake_one(scrub, domain, cuid, mid, active);
+    let row = row_in(slot, rows)?;
+    if !scrubs(packet, row) {
+        return None;
     }
+    Some(row.mid)
 }
 
-fn wake_one(scrub: &mut HeldScrub, domain: u16, cuid: &[u8], mid: u32, active: bool)
-    ensures { scrub.new ≡ woken domain cuid.now mid active scrub.old }
+/// Whether the row is active and matches.
+fn scrubs(packet: &Packet, row: &ScrubRow) -> bool
+    ensures { result ≡ scrubs packet.now row.now }
 {
-    if is_of(scrub, domain, cuid, mid) {
-        scrub.row.active = active;
-    }
-}
-
-fn renumber_rows(held: &mut Vec<HeldScrub>)
-    ensures items { held.new.items ≡ renumbered place_of_scrub scrub_at_place held.old.items }
-    ensures capacity { vec_capacity held.new ≡ vec_capacity held.old }
-{
-    renumber_all(held.as_mut_slice());
-}
-
-fn renumber_all(held: &mut [HeldScrub])
-    ensures { held.new ≡ renumbered place_of_scrub scrub_at_place held.old }
-{
-    let Some(first) = held.first() else {
-        return;
-    };
-    let mut last = first.place;
-    let mut number = 0;
-    for scrub in held.iter_mut() {
-        let place = scrub.place;
-        number = number_after(last, number, place);
-        last = place;
-        scrub.place = number;
-    }
-}
-
-/// Ranks these rows and no others.
-fn rank_all(ranking: &mut Ranking, held: &[HeldScrub])
-    requires { length held.now ≤ ranking.old.room }
-    ensures { ranking.new ≡ record { room = ranking.old.room; ranks = ranked (map rank_of held.now) } }
-{
-    ranking.clear();
-    for scrub in held {
-        ranking.put(Rank::of(scrub));
-    }
+    row.active
+        && is_scrubbed(
+            &row.prefix,
+            row.protocols.items(),
+            row.ports.items(),
+            packet,
+        )
 }

@@ -157,7 +157,7 @@ impl FilterTable {
     {
         self.scrubs.renumber();
         self.acls.renumber();
-        let scrubs = self.scrubs.held().len();
+        let scrubs = self.scrubs.len();
         let acls = self.acls.held().len();
         scrubs.max(acls) as u64
     }
@@ -168,14 +168,14 @@ impl FilterTable {
     pub fn fate<'a>(&'a self, packet: &Packet, settings: &Settings) -> Fate<'a>
         ensures { fate_of result ≡ fate_by_rows (prefixes_of settings.now) (map row_of_scrub self.now.scrubs) (map row_of_acl self.now.acls) packet.now }
     {
-        fate_by_held(settings, self.scrubs.held(), self.acls.held(), packet)
+        fate_by_held(settings, &self.scrubs, self.acls.held(), packet)
     }
 
     /// The active rows of mitigations, in order of place.
     pub fn scrubs(&self) -> ScrubRows<'_>
         ensures { result ≡ active_rows self.now.scrubs }
     {
-        ScrubRows::of(self.scrubs.held())
+        self.scrubs.active()
     }
 
     /// All rows of access lists, in order of place.

@@ -1,19 +1,21 @@
-//! Where a scrub row stands among the rows of its kind.
+//! Where a prefix stands among the others.
 
-ghost use Rattle.std.specs.Prelude.{◌≡◌};
-ghost use Rattle.filter_table.specs.Ranks.{kind_of, rank_of, is_before, before_by};
+ghost use Rattle.std.specs.Prelude.{◌≡◌, ◌%◌, ◌^◌};
+ghost use Rattle.prefix_ranks.specs.Ranks.{kind_of, rank_of, is_before, before_by};
+ghost use Rattle.prefix_ranks.specs.Numbers.{low_of};
 
-use crate::held::HeldScrub;
-use ip_scope::Family;
+use ip_scope::{Family, Prefix};
 
-/// What the order of the scrub rows looks at, the first that differs deciding. No two rows have the same slot.
+/// What the order of prefixes looks at, the first that differs deciding.
 #[derive(Clone, Copy, Debug, Drop)]
 pub struct Rank {
-    /// The family and the length of the row's prefix, as one number.
+    /// The family and the length of the prefix, as one number.
     pub kind: u16,
     /// The number of the prefix.
     pub number: u128,
+    /// Where it stands among those of its number.
     pub place: u64,
+    /// What it stands for. No two have the same.
     pub slot: u32,
 }
 
@@ -28,16 +30,15 @@ pub fn kind_of(family: Family, length: u8) -> u16
 }
 
 impl Rank {
-    /// The rank of a row.
-    pub fn of(held: &HeldScrub) -> Rank
-        ensures { result ≡ rank_of held.now }
+    /// The rank of a prefix.
+    pub fn of(prefix: &Prefix, place: u64, slot: u32) -> Rank
+        ensures { result ≡ rank_of prefix.now place slot }
     {
-        let prefix = held.row.prefix;
         Rank {
             kind: kind_of(prefix.family(), prefix.length()),
             number: prefix.number(),
-            place: held.place,
-            slot: held.slot,
+            place,
+            slot,
         }
     }
 
@@ -58,6 +59,13 @@ impl Rank {
                 ),
             ),
         )
+    }
+
+    /// The lower half of its number: the whole number of a prefix of IPv4.
+    pub(crate) fn low_number(&self) -> u64
+        ensures { result ≡ low_of self.now }
+    {
+        (self.number % (1 << 64)) as u64
     }
 }
 

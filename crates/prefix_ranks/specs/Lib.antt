@@ -1,0 +1,6 @@
+pub mod Ranks
+pub mod Numbers
+pub mod Levels
+pub mod Laws
+pub mod Covers
+pub mod Beside
