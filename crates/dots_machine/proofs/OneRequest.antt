@@ -52,7 +52,7 @@ completed_once (get_config sid) content observe payload r q a b = ok_same r q (a
 completed_once (delete_config sid) content observe payload r q a b = ok_same r q (a ∙ sym b)
 completed_once put_heartbeat content observe payload r q a b = one_ok payload put_heartbeat_with r q a b
 
-answered_once : (head : Result Head Reject) (payload : List ℕ) (r q : Request) → meaning.ReadsAs head payload (Ok r) → meaning.Answers head payload (Ok q) → r ≡ q
+answered_once : (head : Result Head Reject) (payload : List ℕ) (r q : Request) → meaning.ReadsAs head payload (Ok r) → meaning.ReadsAs head payload (Ok q) → r ≡ q
 answered_once (Ok head) payload r q a b = completed_once head.operation head.content head.observe payload r q a b
 answered_once (Err e) payload r q a b = absurd (not_err r e a)
 

@@ -1,12 +1,12 @@
 -- What a status of a run says of its words, of what the settings' source gives, and of what failed.
-use Rattle.std.specs.Prelude.{◌≡◌, ◌≢◌, ◌⊎◌, ◌↔◌, ¬◌, ℕ, List, true, false}
+use Rattle.std.specs.Prelude.{◌≡◌, ◌≢◌, ◌⊎◌, ◌↔◌, ℕ, List, true, false}
 use Rattle.dots_machine.specs.Commands.{is_replay, is_show, is_command, second_of}
 use Rattle.dots_machine.specs.Endings.{GivesFault, GivesSettings, IsReadable}
 use Rattle.dots_machine.specs.Outside.{Outside, SourceFailed, WireFailed, ReportFailed}
 
 pub record Outcome (words : List (List ℕ)) (status : ℕ) (before now : Outside) : Type 0 where
   -- when the words are no command; which faults there must have been, and where none was
-  pub words : (status ≡ 2) ↔ (is_command words ≡ false)
+  pub commands : (status ≡ 2) ↔ (is_command words ≡ false)
   pub read : status ≡ 5 → SourceFailed before now ⊎ WireFailed before now
   pub heard : status ≢ 4 → status ≢ 5 → now.source_faults ≡ before.source_faults
   pub written : status ≡ 9 → ReportFailed before now

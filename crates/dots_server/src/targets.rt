@@ -6,7 +6,6 @@ ghost use Rattle.ip_scope.specs.Prefix.{prefix_of};
 ghost use Rattle.dots_machine.specs.Targets.{is_target, prefix_fault, first_fault, fault_of_addresses};
 ghost use Rattle.dots_server.specs.Resolving.{IsResolved};
 
-use crate::naming::addresses;
 use crate::overlaps::meets_any;
 use acl_lists::{Asked, PrefixList};
 use dots_lists::NoMemory;
@@ -32,7 +31,7 @@ pub fn resolve(settings: &Settings, domain: &[Prefix], asked: &Asked) -> Result<
     }
     let mut prefixes = asked.prefixes.copy()?;
     for name in asked.names.items() {
-        let found = addresses(settings, name);
+        let found = settings.addresses(name.bytes());
         if let Some(fault) = fault_of_addresses(domain, found) {
             return Ok(Resolved::Fault(fault));
         }

@@ -5,18 +5,20 @@ use Rattle.dots_machine.specs.Outside.{Outside}
 use Rattle.dots_machine.specs.Endings.{Behaves}
 use Rattle.dots_script.specs.Accounts.{Standing, standing}
 use Rattle.dots_script.specs.Scripting.{Scripting}
+use Rattle.dots_run.specs.Outcomes.{Outcome}
 use Rattle.dots_run.proofs.Texts.{standing_of, known, told_whole, joins, stands_at_first}
 use Rattle.dots_run.proofs.scripted.run_script.Goals as goal
 
-pub returns-in-Ok-clause-texts : goal.returns-in-Ok-clause-texts
-returns-in-Ok-clause-texts g c = λ whole.
+pub returns-in-Ok-clause-runs : goal.returns-in-Ok-clause-runs
+returns-in-Ok-clause-runs g c =
     let left = g.P.Source.left in
     let faults = g.P.Source.faults in
     let holds = g.K.Sink.holds in
     let words = map string_bytes c.args.words.now in
+    let status = c.run-status.result in
     let host = c.run-status.new.host in
     let start : Standing = standing_of (left c.args.script) (holds c.args.sends) (faults c.args.script) in
-    let (ending, status, behaves, uncalled) = c.run-status.ensures.machine in
+    let (ending, status_is, behaves, uncalled) = c.run-status.ensures.machine in
     let after : Outside = record {
       left = g.S.Source.left c.run-status.new.settings;
       source_faults = g.S.Source.faults c.run-status.new.settings;
@@ -34,10 +36,26 @@ returns-in-Ok-clause-texts g c = λ whole.
       report_faults = g.R.Sink.faults c.args.report.now;
     } in
     let first = c.in-Ok.ensures.host in
-    let accounts = known start (standing left faults holds host) host.whole host.acts whole (c.run-status.ensures.leads start c.in-Ok.ensures.accounts) in (
-      ending,
-      status,
-      joins words _ after (wire_acts 0 host.acts) refl (told_whole host.whole host.acts whole) start (standing left faults holds host) accounts ending
-          (subst (λ h. Behaves ending words (before h) after) first behaves)
-          (λ none. ap (standing left faults holds) (uncalled none ∙ first) ∙ stands_at_first (left c.args.script) (holds c.args.sends) (faults c.args.script)),
-    )
+    let did = subst (λ h. Behaves ending words (before h) after) first behaves in
+    let said = c.run-status.ensures in
+    let outcome : Outcome words status (before c.in-Ok.host) after = record {
+      commands = said.words;
+      read = said.read;
+      heard = said.heard;
+      written = said.written;
+      refused = said.refused;
+      complete = said.complete;
+      readable = said.readable;
+      unreadable = said.unreadable;
+    } in
+    record {
+      machine = (ending, status_is, did);
+      texts = λ whole.
+        let accounts = known start (standing left faults holds host) host.whole host.acts whole (c.run-status.ensures.leads start c.in-Ok.ensures.accounts) in (
+          ending,
+          status_is,
+          joins words _ after (wire_acts 0 host.acts) refl (told_whole host.whole host.acts whole) start (standing left faults holds host) accounts ending did
+              (λ none. ap (standing left faults holds) (uncalled none ∙ first) ∙ stands_at_first (left c.args.script) (holds c.args.sends) (faults c.args.script)),
+        );
+      outcome = subst (λ h. Outcome words status (before h) after) first outcome;
+    }
