@@ -11,3 +11,5 @@ mod live;
 mod mids;
 #[cfg(test)]
 mod overlaps;
+#[cfg(test)]
+mod reading;
