@@ -11,5 +11,3 @@ mod live;
 mod mids;
 #[cfg(test)]
 mod overlaps;
-#[cfg(test)]
-mod reading;

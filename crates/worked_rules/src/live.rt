@@ -8,29 +8,35 @@ use ip_scope::{PortRange, Prefix, parse_prefix};
 use std::alloc::Global;
 use std::test::Fail;
 
-/// A mitigation: its peer, its client, its mid, what it names, each as a list with commas, and whether it stands.
+/// What a request names.
+#[derive(Clone, Copy)]
+pub struct Scope<'a> {
+    pub prefixes: &'a [&'a str],
+    pub ports: &'a [(u16, u16)],
+    pub protocols: &'a [u8],
+    pub names: &'a [&'a str],
+    pub aliases: &'a [&'a str],
+}
+
+/// A request that names these prefixes alone.
+pub fn net<'a>(prefixes: &'a [&'a str]) -> Scope<'a> {
+    Scope {
+        prefixes,
+        ports: &[],
+        protocols: &[],
+        names: &[],
+        aliases: &[],
+    }
+}
+
+/// A mitigation: its peer, its client, its mid, what it names, and whether it stands.
 #[derive(Clone, Copy)]
 pub struct Held<'a> {
     pub peer: u32,
     pub cuid: &'a str,
     pub mid: u32,
-    pub prefixes: &'a str,
-    pub ports: &'a str,
-    pub protocols: &'a str,
-    pub names: &'a str,
-    pub aliases: &'a str,
+    pub scope: Scope<'a>,
     pub standing: bool,
-}
-
-/// The parts of a list.
-fn parts<'a>(alloc: Global, list: &'a str) -> Result<Vec<&'a str>, Fail> {
-    let mut parts = Vec::new(alloc);
-    for part in list.split(',') {
-        if !part.is_empty() {
-            parts.push(part)?;
-        }
-    }
-    Ok(parts)
 }
 
 fn text(alloc: Global, text: &str) -> Result<Text, Fail> {
@@ -47,10 +53,10 @@ fn name(alloc: Global, text: &str) -> Result<Name, Fail> {
     }
 }
 
-fn names(alloc: Global, list: &str) -> Result<NameList, Fail> {
+fn names(alloc: Global, texts: &[&str]) -> Result<NameList, Fail> {
     let mut names = List::new(alloc);
-    for part in parts(alloc, list)?.iter() {
-        names.push(name(alloc, part)?)?;
+    for text in texts {
+        names.push(name(alloc, text)?)?;
     }
     Ok(names)
 }
@@ -62,56 +68,37 @@ fn prefix(text: &str) -> Result<Prefix, Fail> {
     }
 }
 
-fn prefixes(alloc: Global, list: &str) -> Result<PrefixList, Fail> {
+fn prefixes(alloc: Global, texts: &[&str]) -> Result<PrefixList, Fail> {
     let mut prefixes = List::new(alloc);
-    for part in parts(alloc, list)?.iter() {
-        prefixes.push(prefix(part)?)?;
+    for text in texts {
+        prefixes.push(prefix(text)?)?;
     }
     Ok(prefixes)
 }
 
-/// The range of a text `LOWER-UPPER`.
-fn range(text: &str) -> Result<PortRange, Fail> {
-    let (lower, upper) = text.split_once('-').ok_or("a range")?;
-    match PortRange::new(lower.parse::<u16>()?, upper.parse::<u16>()?) {
-        Some(range) => Ok(range),
-        None => Err(Fail::from("a range")),
-    }
-}
-
-fn ports(alloc: Global, list: &str) -> Result<PortList, Fail> {
+fn ports(alloc: Global, pairs: &[(u16, u16)]) -> Result<PortList, Fail> {
     let mut ports = List::new(alloc);
-    for part in parts(alloc, list)?.iter() {
-        ports.push(range(part)?)?;
+    for (lower, upper) in pairs {
+        match PortRange::new(*lower, *upper) {
+            Some(range) => ports.push(range)?,
+            None => return Err(Fail::from("a range")),
+        }
     }
     Ok(ports)
 }
 
-fn protocols(alloc: Global, list: &str) -> Result<Bytes, Fail> {
-    let mut protocols = Bytes::new(alloc);
-    for part in parts(alloc, list)?.iter() {
-        protocols.push(part.parse::<u8>()?)?;
-    }
-    Ok(protocols)
-}
-
-fn asked(alloc: Global, held: &Held<'_>) -> Result<Asked, Fail> {
-    let protocols = protocols(alloc, held.protocols)?;
-    let ports = ports(alloc, held.ports)?;
-    let prefixes = prefixes(alloc, held.prefixes)?;
-    let names = names(alloc, held.names)?;
-    let aliases = crate::live::names(alloc, held.aliases)?;
+fn asked(alloc: Global, scope: Scope<'_>) -> Result<Asked, Fail> {
     Ok(Asked {
-        prefixes,
-        ports,
-        protocols,
-        names,
-        aliases,
+        prefixes: prefixes(alloc, scope.prefixes)?,
+        ports: ports(alloc, scope.ports)?,
+        protocols: Bytes::from_slice(alloc, scope.protocols)?,
+        names: names(alloc, scope.names)?,
+        aliases: names(alloc, scope.aliases)?,
     })
 }
 
 fn target(alloc: Global, text: &str) -> Result<Target, Fail> {
-    let prefixes = prefixes(alloc, text)?;
+    let prefixes = prefixes(alloc, &[text])?;
     Ok(Target {
         prefixes,
         ports: List::new(alloc),
@@ -120,10 +107,10 @@ fn target(alloc: Global, text: &str) -> Result<Target, Fail> {
 }
 
 /// A target for each prefix.
-fn targets(alloc: Global, list: &str) -> Result<TargetList, Fail> {
+fn targets(alloc: Global, scope: Scope<'_>) -> Result<TargetList, Fail> {
     let mut targets = List::new(alloc);
-    for part in parts(alloc, list)?.iter() {
-        targets.push(target(alloc, part)?)?;
+    for text in scope.prefixes {
+        targets.push(target(alloc, text)?)?;
     }
     Ok(targets)
 }
@@ -138,10 +125,10 @@ fn put(mid: u32, asked: Asked, targets: TargetList) -> Put {
     }
 }
 
-fn mitigation(alloc: Global, held: &Held<'_>) -> Result<Live, Fail> {
+fn mitigation(alloc: Global, held: Held<'_>) -> Result<Live, Fail> {
     let cuid = text(alloc, held.cuid)?;
-    let targets = targets(alloc, held.prefixes)?;
-    let asked = asked(alloc, held)?;
+    let targets = targets(alloc, held.scope)?;
+    let asked = asked(alloc, held.scope)?;
     Ok(Live {
         peer: held.peer,
         cuid,
@@ -150,11 +137,16 @@ fn mitigation(alloc: Global, held: &Held<'_>) -> Result<Live, Fail> {
     })
 }
 
-/// The mitigations of these rows.
-pub fn live_of(alloc: Global, rows: &[Held<'_>]) -> Result<List<Live>, Fail> {
+/// The request as a mitigation, and the live mitigations behind it.
+pub fn request_and_live(
+    alloc: Global,
+    request: Held<'_>,
+    rows: &[Held<'_>],
+) -> Result<List<Live>, Fail> {
     let mut live = List::new(alloc);
+    live.push(mitigation(alloc, request)?)?;
     for held in rows {
-        live.push(mitigation(alloc, held)?)?;
+        live.push(mitigation(alloc, *held)?)?;
     }
     Ok(live)
 }
