@@ -119,7 +119,7 @@ fn an_entry_matches_by_its_fields(rt: HostRuntime) -> Result<(), Fail> {
             protocol,
         };
         let found = matches(rt.alloc(), Family::V4, NET, fields, PortTest::Any, packet())?;
-        assert!(rt; found == want, "{source:?} {destination:?} {protocol:?}");
+        assert_eq!(rt; found, want, "{source:?} {destination:?} {protocol:?}");
     }
     Ok(())
 }
@@ -133,7 +133,7 @@ fn no_destination_is_the_domain(rt: HostRuntime) -> Result<(), Fail> {
         (Family::V6, "192.0.2.0/24", false),
     ] {
         let found = matches(rt.alloc(), family, domain, NOTHING, PortTest::Any, packet())?;
-        assert!(rt; found == want, "{family:?} {domain:?}");
+        assert_eq!(rt; found, want, "{family:?} {domain:?}");
     }
     Ok(())
 }
@@ -157,28 +157,19 @@ fn port_tests(rt: HostRuntime) -> Result<(), Fail> {
         (PortTest::Range(range), packet(), true),
     ] {
         let found = matches(rt.alloc(), Family::V4, NET, NOTHING, test, packet)?;
-        assert!(rt; found == want, "{test:?}");
+        assert_eq!(rt; found, want, "{test:?}");
     }
     Ok(())
 }
 
-fn names(alloc: Global, text: &str) -> Result<List<Name>, Fail> {
-    let mut names = List::new(alloc);
-    names.push(name(alloc, text)?)?;
-    Ok(names)
-}
-
-fn prefixes(alloc: Global, text: &str) -> Result<List<Prefix>, Fail> {
-    let mut prefixes = List::new(alloc);
-    prefixes.push(scope(text)?)?;
-    Ok(prefixes)
-}
-
-fn alias(alloc: Global) -> Result<Alias, Fail> {
+/// How many prefixes, protocols and host names the copy of an alias has.
+fn copied_alias(alloc: Global) -> Result<(usize, usize, usize), Fail> {
     let name = name(alloc, "web")?;
+    let mut names = List::new(alloc);
+    names.push(crate::steps::name(alloc, "www.example.net")?)?;
+    let mut prefixes = List::new(alloc);
+    prefixes.push(scope("192.0.2.0/24")?)?;
     let protocols = Bytes::from_slice(alloc, &[6, 17])?;
-    let prefixes = prefixes(alloc, NET)?;
-    let names = names(alloc, "www.example.net")?;
     let asked = Asked {
         prefixes,
         ports: List::new(alloc),
@@ -186,49 +177,26 @@ fn alias(alloc: Global) -> Result<Alias, Fail> {
         names,
         aliases: List::new(alloc),
     };
-    Ok(Alias { name, asked })
+    let copy = Alias { name, asked }.copy(alloc)?;
+    Ok((
+        copy.asked.prefixes.items().len(),
+        copy.asked.protocols.items().len(),
+        copy.asked.names.items().len(),
+    ))
 }
 
-/// How many prefixes, protocols and host names an alias has.
-fn parts_of(alias: &Alias) -> (usize, usize, usize) {
-    (
-        alias.asked.prefixes.items().len(),
-        alias.asked.protocols.items().len(),
-        alias.asked.names.items().len(),
-    )
-}
-
-fn parts_of_copy(alloc: Global, alias: &Alias) -> Result<(usize, usize, usize), Fail> {
-    let copy = alias.copy(alloc)?;
-    Ok(parts_of(&copy))
-}
-
-fn copied_alias(alloc: Global) -> Result<(usize, usize, usize), Fail> {
-    let alias = alias(alloc)?;
-    parts_of_copy(alloc, &alias)
-}
-
-fn two_entries(alloc: Global) -> Result<Acl, Fail> {
+/// How many entries the copy of a list has.
+fn copied_list(alloc: Global) -> Result<usize, Fail> {
     let name = name(alloc, "list")?;
-    let aces = entries(alloc, 2, NOTHING, PortTest::Any)?;
-    Ok(list(name, Family::V6, aces))
-}
-
-fn entries_of_copy(alloc: Global, acl: &Acl) -> Result<usize, Fail> {
+    let acl = list(name, Family::V6, entries(alloc, 2, NOTHING, PortTest::Any)?);
     let copy = acl.copy(alloc)?;
     Ok(copy.aces.items().len())
-}
-
-/// How many entries the copy of a list of two has.
-fn copied_list(alloc: Global) -> Result<usize, Fail> {
-    let acl = two_entries(alloc)?;
-    entries_of_copy(alloc, &acl)
 }
 
 /// With ample memory a copy is there.
 #[test]
 fn copies(rt: HostRuntime) -> Result<(), Fail> {
-    assert!(rt; copied_alias(rt.alloc())? == (1, 2, 1));
-    assert!(rt; copied_list(rt.alloc())? == 2);
+    assert_eq!(rt; copied_alias(rt.alloc())?, (1, 2, 1));
+    assert_eq!(rt; copied_list(rt.alloc())?, 2);
     Ok(())
 }

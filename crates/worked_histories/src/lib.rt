@@ -1,7 +1,7 @@
 //! Worked histories: short lists of accepted changes, and what they come to at a time; and worked access lists.
 //!
 //! Each is put to the plain programs of `dots_history` and `acl_lists`. The expected values come from the protocol's
-//! documents. Rows are text: `reading` says how they are read.
+//! documents.
 #![tactic(auto)]
 
 #[cfg(test)]
@@ -14,7 +14,5 @@ mod calm;
 mod filters;
 #[cfg(test)]
 mod lifetimes;
-#[cfg(test)]
-mod reading;
 #[cfg(test)]
 mod steps;

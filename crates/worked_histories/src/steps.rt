@@ -41,6 +41,13 @@ pub struct Who<'a> {
     pub cuid: &'a str,
 }
 
+/// The client `client` of domain 0, by peer 0.
+pub const CLIENT: Who<'static> = Who {
+    peer: 0,
+    domain: 0,
+    cuid: "client",
+};
+
 /// An act at a second.
 pub type Step<'a> = (u64, Who<'a>, Act<'a>);
 

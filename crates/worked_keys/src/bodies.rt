@@ -1,63 +1,89 @@
 //! Bodies, and what they are refused with.
 
-use crate::messages::{CONFIG, HEARTBEAT, MITIGATION, answer, datagram, spelled};
+use crate::messages::{CONFIG, HEARTBEAT, MITIGATION, answer, datagram};
 use coap_message::codes::PUT;
 use std::alloc::Global;
 use std::test::Fail;
 
-/// Bodies of requests for mitigations whose scope isn't there or can't be read, each behind its answer.
-const MITIGATIONS: &str = "\
-cbor: a1
-invalid 0: a1 61 'a 00
-unknown 46: a1 182e 00
-invalid 2: a1 01 a1 02 82 a0 a0
-missing 2: a2 01 a0 183c 00
-unknown 0: a2 00 00 01 a0";
-
-/// Bodies of heartbeats.
-const HEARTBEATS: &str = "\
-asked: a1 1831 a1 1833 f5
-invalid 51: a1 1831 a1 1833 f6";
-
-/// Scopes of a request for a mitigation. In the last the upper port is below the lower.
-const SCOPES: &str = "\
-asked: a3 06 81 6c '192.0.2.0/24 0e 190e10 1882 00
-unknown 60: a3 06 81 6c '192.0.2.0/24 0e 190e10 183c 00
-invalid 14: a2 06 81 6c '192.0.2.0/24 0e 00
-asked: a2 06 81 6c '192.0.2.0/24 0e 20
-missing 6: a2 06 80 0e 01
-invalid 13: a2 0d 89 61 'a 61 'a 61 'a 61 'a 61 'a 61 'a 61 'a 61 'a 61 'a 0e 01
-invalid 9: a3 07 81 a2 08 1850 09 184f 0b 81 61 'a 0e 01";
-
-/// Configurations at the edges of their grammar: what stands under 30.
-const CONFIGURATIONS: &str = "\
-missing 32: a0
-missing 33: a1 1820 a0
-asked: a1 182c a1 1827 a1 182b c4 82 21 18c8
-invalid 43: a1 182c a1 1827 a1 182b c4 82 01 02
-invalid 43: a1 182c a1 1827 a1 182b c4 82 20 1bffffffffffffffff";
-
-/// Whether the answer to a PUT of the body of a row is that in front of it.
-fn is_answered(alloc: Global, path: &[u8], front: &[u8], row: &str) -> Result<bool, Fail> {
-    let (want, body) = row.split_once(": ").ok_or("a row")?;
-    let payload = spelled(alloc, front, body)?;
-    let bytes = datagram(alloc, PUT, path, payload.as_slice())?;
-    let found = answer(alloc, bytes.as_slice(), false)?;
-    Ok(found.as_str() == want)
+/// The answer to a PUT of a body that is made of these parts.
+fn answer_to(alloc: Global, path: &[u8], parts: &[&[u8]]) -> Result<String, Fail> {
+    let payload = parts.concat(alloc)?;
+    let bytes = datagram(alloc, PUT, path, &payload)?;
+    answer(alloc, &bytes, false)
 }
 
+/// Bodies of requests for mitigations whose scope isn't there or can't be read, and of heartbeats.
 #[test]
 fn bodies(rt: HostRuntime) -> Result<(), Fail> {
-    let rows: [(&[u8], &[u8], &str); 4] = [
-        (MITIGATION, b"", MITIGATIONS),
-        (HEARTBEAT, b"", HEARTBEATS),
-        (MITIGATION, b"\xa1\x01\xa1\x02\x81", SCOPES),
-        (CONFIG, b"\xa1\x18\x1e", CONFIGURATIONS),
-    ];
-    for (path, front, table) in rows {
-        for row in table.lines() {
-            assert!(rt; is_answered(rt.alloc(), path, front, row)?, "at {row}");
-        }
+    for (path, payload, want) in [
+        (MITIGATION, b"\xa1".as_slice(), "cbor"),
+        (MITIGATION, b"\xa1\x61a\x00", "invalid 0"),
+        (MITIGATION, b"\xa1\x18\x2e\x00", "unknown 46"),
+        (MITIGATION, b"\xa1\x01\xa1\x02\x82\xa0\xa0", "invalid 2"),
+        // what is wrong inside comes at its key's turn
+        (MITIGATION, b"\xa2\x01\xa0\x18\x3c\x00", "missing 2"),
+        (MITIGATION, b"\xa2\x00\x00\x01\xa0", "unknown 0"),
+        (HEARTBEAT, b"\xa1\x18\x31\xa1\x18\x33\xf5", "asked"),
+        (HEARTBEAT, b"\xa1\x18\x31\xa1\x18\x33\xf6", "invalid 51"),
+    ] {
+        let text = answer_to(rt.alloc(), path, &[payload])?;
+        assert_eq!(rt; text.as_str(), want, "at {want}");
+    }
+    Ok(())
+}
+
+/// Scopes of a request for a mitigation.
+#[test]
+fn scopes(rt: HostRuntime) -> Result<(), Fail> {
+    for (scope, want) in [
+        (
+            b"\xa3\x06\x81\x6c192.0.2.0/24\x0e\x19\x0e\x10\x18\x82\x00".as_slice(),
+            "asked",
+        ),
+        (
+            b"\xa3\x06\x81\x6c192.0.2.0/24\x0e\x19\x0e\x10\x18\x3c\x00",
+            "unknown 60",
+        ),
+        (b"\xa2\x06\x81\x6c192.0.2.0/24\x0e\x00", "invalid 14"),
+        (b"\xa2\x06\x81\x6c192.0.2.0/24\x0e\x20", "asked"),
+        (b"\xa2\x06\x80\x0e\x01", "missing 6"),
+        (
+            b"\xa2\x0d\x89\x61a\x61a\x61a\x61a\x61a\x61a\x61a\x61a\x61a\x0e\x01",
+            "invalid 13",
+        ),
+        // the upper port below the lower
+        (
+            b"\xa3\x07\x81\xa2\x08\x18\x50\x09\x18\x4f\x0b\x81\x61a\x0e\x01",
+            "invalid 9",
+        ),
+    ] {
+        let text = answer_to(rt.alloc(), MITIGATION, &[b"\xa1\x01\xa1\x02\x81", scope])?;
+        assert_eq!(rt; text.as_str(), want, "at {want}");
+    }
+    Ok(())
+}
+
+/// Configurations at the edges of their grammar: what stands under 30.
+#[test]
+fn configurations(rt: HostRuntime) -> Result<(), Fail> {
+    for (config, want) in [
+        (b"\xa0".as_slice(), "missing 32"),
+        (b"\xa1\x18\x20\xa0", "missing 33"),
+        (
+            b"\xa1\x18\x2c\xa1\x18\x27\xa1\x18\x2b\xc4\x82\x21\x18\xc8",
+            "asked",
+        ),
+        (
+            b"\xa1\x18\x2c\xa1\x18\x27\xa1\x18\x2b\xc4\x82\x01\x02",
+            "invalid 43",
+        ),
+        (
+            b"\xa1\x18\x2c\xa1\x18\x27\xa1\x18\x2b\xc4\x82\x20\x1b\xff\xff\xff\xff\xff\xff\xff\xff",
+            "invalid 43",
+        ),
+    ] {
+        let text = answer_to(rt.alloc(), CONFIG, &[b"\xa1\x18\x1e", config])?;
+        assert_eq!(rt; text.as_str(), want, "at {want}");
     }
     Ok(())
 }

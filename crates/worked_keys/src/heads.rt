@@ -1,70 +1,69 @@
 //! What is refused before the body.
 
-use crate::messages::{DOTS, MITIGATION, answer, datagram, spelled};
+use crate::messages::{MITIGATION, answer, datagram};
 use coap_message::codes::{DELETE, GET, PUT};
 use std::alloc::Global;
 use std::test::Fail;
 
-/// Refusals before the body, in their order, each in front of a method and the options behind the path of a mitigation.
-const HEADS: &str = "\
-cbor: PUT
-asked: GET
-option 21: GET a1 00 00
-option 17: GET 62 010f 02 010f
-cbor: PUT 52 0000
-method: POST 51 00
-hop limit: PUT 51 00
-accept: PUT 11 3c 51 32
-content format: PUT 11 3c 33 'c=a
-query: GET 43 'c=a 03 'c=a";
-
-/// Paths and their parameters, from a client: what stands behind the path of all resources.
-const PATHS: &str = "\
-path: PUT 03 'hbb
-path: PUT 08 'mitigate 05 'mid=1 06 'cuid=a
-method: GET 02 'hb
-path parameter: PUT 08 'mitigate 06 'cuid=a
-path parameter: GET 08 'mitigate 07 'cuid=a/
-path parameter: GET 08 'mitigate 06 'cuid=a 0d01 'mid=4294967296
-path parameter: DELETE 06 'config
-asked: DELETE 06 'config 05 'sid=5";
-
-/// The same from a gateway.
-const GATEWAY_PATHS: &str = "\
-path parameter: GET 08 'mitigate 06 'cuid=a
-asked: GET 08 'mitigate 06 'cdid=b 06 'cuid=a";
-
-fn code_of(method: &str) -> Option<u8> {
-    match method {
-        "GET" => Some(GET),
-        "POST" => Some(2),
-        "PUT" => Some(PUT),
-        "DELETE" => Some(DELETE),
-        _ => None,
-    }
+/// The answer to a mitigation with these options behind its path.
+fn answer_behind(alloc: Global, code: u8, behind: &[u8]) -> Result<String, Fail> {
+    let options = [MITIGATION, behind].concat(alloc)?;
+    let bytes = datagram(alloc, code, &options, b"")?;
+    answer(alloc, &bytes, false)
 }
 
-/// Whether the answer to the message of a row, whose options stand behind these, is that in front of it.
-fn is_answered(alloc: Global, front: &[u8], row: &str, gateway: bool) -> Result<bool, Fail> {
-    let (want, message) = row.split_once(": ").ok_or("a row")?;
-    let (method, options) = message.split_once(' ').unwrap_or((message, ""));
-    let code = code_of(method).ok_or("a method")?;
-    let options = spelled(alloc, front, options)?;
-    let bytes = datagram(alloc, code, options.as_slice(), b"")?;
-    let found = answer(alloc, bytes.as_slice(), gateway)?;
-    Ok(found.as_str() == want)
-}
-
+/// Refusals before the body, in their order, with the options behind the path of a mitigation.
 #[test]
 fn heads(rt: HostRuntime) -> Result<(), Fail> {
-    for (front, table, gateway) in [
-        (MITIGATION, HEADS, false),
-        (DOTS, PATHS, false),
-        (DOTS, GATEWAY_PATHS, true),
+    for (code, behind, want) in [
+        (PUT, b"".as_slice(), "cbor"),
+        (GET, b"", "asked"),
+        // a critical option that is not known, and a second Accept
+        (GET, b"\xa1\x00\x00", "option 21"),
+        (GET, b"\x62\x01\x0f\x02\x01\x0f", "option 17"),
+        // ignored: a Hop-Limit of two bytes
+        (PUT, b"\x52\x00\x00", "cbor"),
+        (2, b"\x51\x00", "method"),
+        (PUT, b"\x51\x00", "hop limit"),
+        (PUT, b"\x11\x3c\x51\x32", "accept"),
+        (PUT, b"\x11\x3c\x33c=a", "content format"),
+        (GET, b"\x43c=a\x03c=a", "query"),
     ] {
-        for row in table.lines() {
-            assert!(rt; is_answered(rt.alloc(), front, row, gateway)?, "at {row}");
-        }
+        let text = answer_behind(rt.alloc(), code, behind)?;
+        assert_eq!(rt; text.as_str(), want, "at {want}");
+    }
+    Ok(())
+}
+
+/// The answer to a message with these segments of a path.
+fn answer_at(alloc: Global, code: u8, segments: &[u8], gateway: bool) -> Result<String, Fail> {
+    let options = [b"\xbb.well-known\x04dots", segments].concat(alloc)?;
+    let bytes = datagram(alloc, code, &options, b"")?;
+    answer(alloc, &bytes, gateway)
+}
+
+/// Paths and their parameters, from a client or from a gateway.
+#[test]
+fn paths(rt: HostRuntime) -> Result<(), Fail> {
+    for (code, segments, gateway, want) in [
+        (PUT, b"\x03hbb".as_slice(), false, "path"),
+        (PUT, b"\x08mitigate\x05mid=1\x06cuid=a", false, "path"),
+        (GET, b"\x02hb", false, "method"),
+        (PUT, b"\x08mitigate\x06cuid=a", false, "path parameter"),
+        (GET, b"\x08mitigate\x07cuid=a/", false, "path parameter"),
+        (
+            GET,
+            b"\x08mitigate\x06cuid=a\x0d\x01mid=4294967296",
+            false,
+            "path parameter",
+        ),
+        (GET, b"\x08mitigate\x06cuid=a", true, "path parameter"),
+        (GET, b"\x08mitigate\x06cdid=b\x06cuid=a", true, "asked"),
+        (DELETE, b"\x06config", false, "path parameter"),
+        (DELETE, b"\x06config\x05sid=5", false, "asked"),
+    ] {
+        let text = answer_at(rt.alloc(), code, segments, gateway)?;
+        assert_eq!(rt; text.as_str(), want, "at {want}");
     }
     Ok(())
 }

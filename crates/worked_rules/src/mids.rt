@@ -38,9 +38,9 @@ fn a_name_is_of_one_peer(rt: HostRuntime) -> Result<(), Fail> {
     ] {
         let request = Held { peer, cuid, ..HELD };
         let in_use = is_in_use(rt.alloc(), &[held], request)?;
-        assert!(rt; in_use == want, "{peer} {cuid}");
+        assert_eq!(rt; in_use, want, "{peer} {cuid}");
         let collides = by_mid(rt.alloc(), &[held], request)? == MidJudgement::Collision;
-        assert!(rt; collides == want, "a request of {peer} {cuid}");
+        assert_eq!(rt; collides, want, "a request of {peer} {cuid}");
     }
     Ok(())
 }
@@ -67,7 +67,7 @@ fn a_standing_mid_is_refreshed(rt: HostRuntime) -> Result<(), Fail> {
         (1, MidJudgement::New),
     ] {
         let request = Held { mid, ..HELD };
-        assert!(rt; by_mid(rt.alloc(), &rows, request)? == want, "{mid}");
+        assert_eq!(rt; by_mid(rt.alloc(), &rows, request)?, want, "{mid}");
     }
     Ok(())
 }
@@ -120,10 +120,7 @@ fn a_refresh_asks_for_the_same_sets(rt: HostRuntime) -> Result<(), Fail> {
         (8, net(&["192.0.2.0/24"]), MidJudgement::Changed),
     ] {
         let request = Held { scope, ..HELD };
-        assert!(rt;
-            by_mid(rt.alloc(), &[HELD], request)? == want,
-            "row {place}"
-        );
+        assert_eq!(rt; by_mid(rt.alloc(), &[HELD], request)?, want, "row {place}");
     }
     Ok(())
 }

@@ -63,7 +63,7 @@ fn the_highest_mid_that_overlaps_refuses(rt: HostRuntime) -> Result<(), Fail> {
     ] {
         let request = Held { mid, scope, ..HELD };
         let found = by_overlap(rt.alloc(), &rows, request, limits(16, 64))?;
-        assert!(rt; found == Some(want), "{mid}");
+        assert_eq!(rt; found, Some(want), "{mid}");
     }
     Ok(())
 }
@@ -118,7 +118,7 @@ fn another_client_refuses_what_it_meets(rt: HostRuntime) -> Result<(), Fail> {
             ..HELD
         };
         let found = by_overlap(rt.alloc(), &rows, request, limits(16, 64))?;
-        assert!(rt; found == Some(want), "{cuid} {mid}");
+        assert_eq!(rt; found, Some(want), "{cuid} {mid}");
     }
     Ok(())
 }
@@ -167,8 +167,9 @@ fn what_stays_takes_room(rt: HostRuntime) -> Result<(), Fail> {
             ..HELD
         };
         let found = by_overlap(rt.alloc(), &rows, request, limits(client, domain))?;
-        assert!(rt;
-            found == Some(want),
+        assert_eq!(rt;
+            found,
+            Some(want),
             "{mid} {prefix} at {client} and {domain}"
         );
     }
@@ -191,12 +192,12 @@ fn sixty_four_prefixes_are_judged(rt: HostRuntime) -> Result<(), Fail> {
     };
     let judged = by_overlap(rt.alloc(), &[held], request, limits(16, 64))?;
     let meeting = 1 << 63;
-    assert!(rt; judged == Some(Judgement::Other { meeting }));
+    assert_eq!(rt; judged, Some(Judgement::Other { meeting }));
     let request = Held {
         scope: net(&prefixes),
         ..HELD
     };
     let many = by_overlap(rt.alloc(), &[held], request, limits(16, 64))?;
-    assert!(rt; many.is_none());
+    assert_eq!(rt; many, None);
     Ok(())
 }

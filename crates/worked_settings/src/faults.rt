@@ -1,108 +1,105 @@
-//! Files that are refused.
-
-use crate::reading::{fault, fault_where, is_refused};
+use crate::reading::{fault, fault_where};
 use dots_settings::SettingsFault;
-use std::alloc::Global;
 use std::test::Fail;
 
 /// One blank stands between the fields, and nothing else does: a line with a tab, a second blank, a blank at its end, a
-/// carriage return, a capital in a domain or a number with leading zeros has none of the forms. Each row ends with a bar, and
-/// `;` stands for a line feed.
-const LINES: &str = "\
-domain\tnet1|
- |
-domain  net1|
-domain net1 |
-domain net1\r;|
-domain Net1|
-Domain net1|
-gateway 03|
-gateway +3|
-gateway 4294967296|
-name a b 192.0.2.1/32|
-name a 192.0.2.1|
-name a 192.0.2.1/033|
-name a 192.0.2.1/33|
-ceiling 0|
-ceiling 604801|
-indefinite maybe|
-capacity cells 1|
-capacity clients 01|
-packet 192.0.2.1 192.0.2.2 17 - 53|
-packet 192.0.2.1 192.0.2.2 256 1 2|";
-
-fn has_no_form(alloc: Global, row: &str) -> Result<bool, Fail> {
-    let line = row.strip_suffix('|').ok_or("a row")?;
-    is_refused(alloc, line, "settings line 1")
-}
-
+/// carriage return, a capital in a domain or a number with leading zeros has none of the forms.
 #[test]
 fn lines_have_their_forms(rt: HostRuntime) -> Result<(), Fail> {
-    for row in LINES.lines() {
-        assert!(rt; has_no_form(rt.alloc(), row)?, "at {row}");
+    let rows: [&[u8]; 21] = [
+        b" ",
+        b"domain\tnet1",
+        b"domain  net1",
+        b"domain net1 ",
+        b"domain net1\r\n",
+        b"domain Net1",
+        b"Domain net1",
+        b"gateway 03",
+        b"gateway +3",
+        b"gateway 4294967296",
+        b"name a b 192.0.2.1/32",
+        b"name a 192.0.2.1",
+        b"name a 192.0.2.1/033",
+        b"name a 192.0.2.1/33",
+        b"ceiling 0",
+        b"ceiling 604801",
+        b"indefinite maybe",
+        b"capacity cells 1",
+        b"capacity clients 01",
+        b"packet 192.0.2.1 192.0.2.2 17 - 53",
+        b"packet 192.0.2.1 192.0.2.2 256 1 2",
+    ];
+    for text in rows {
+        assert_eq!(rt;
+            fault(rt.alloc(), text)?,
+            Some(SettingsFault::Line { n: 1 }),
+            "at {text:?}"
+        );
     }
-    assert!(rt; fault(rt.alloc(), b"gateway 4294967295")?.is_none());
+    assert_eq!(rt; fault(rt.alloc(), b"gateway 4294967295")?, None);
     Ok(())
-}
-
-/// Faults, each in front of its file, in which `;` stands for a line feed.
-const FAULTS: &str = "\
-settings line 3: #;;ceiling 604801;
-settings twice 3: domain a;;domain a;
-settings twice 2: gateway 1;client 1 a;
-settings twice 2: ceiling 1;ceiling 1;
-settings twice 2: indefinite no;indefinite yes;
-settings twice 2: capacity acls 1;capacity acls 9;
-settings unknown 1: client 1 a;
-settings unknown 1: prefix a ::/0;domain a;
-settings overlap 2 4: domain a;prefix a ::/9;domain b;prefix b ::/8;
-settings capacity 1: capacity clients 0;
-settings capacity 1: capacity aliases 17;
-settings capacity 1: capacity clients 100000000000000000000000;";
-
-fn is_at_fault(alloc: Global, row: &str) -> Result<bool, Fail> {
-    let (want, file) = row.split_once(": ").ok_or("a row")?;
-    is_refused(alloc, file, want)
 }
 
 #[test]
 fn faults_have_their_lines(rt: HostRuntime) -> Result<(), Fail> {
-    for row in FAULTS.lines() {
-        assert!(rt; is_at_fault(rt.alloc(), row)?, "at {row}");
+    let rows: [(&[u8], SettingsFault); 12] = [
+        (b"#\n\nceiling 604801\n", SettingsFault::Line { n: 3 }),
+        (b"domain a\n\ndomain a\n", SettingsFault::Twice { n: 3 }),
+        (b"gateway 1\nclient 1 a\n", SettingsFault::Twice { n: 2 }),
+        (b"ceiling 1\nceiling 1\n", SettingsFault::Twice { n: 2 }),
+        (
+            b"indefinite no\nindefinite yes\n",
+            SettingsFault::Twice { n: 2 },
+        ),
+        (
+            b"capacity acls 1\ncapacity acls 9\n",
+            SettingsFault::Twice { n: 2 },
+        ),
+        (b"client 1 a\n", SettingsFault::Unknown { n: 1 }),
+        (
+            b"prefix a ::/0\ndomain a\n",
+            SettingsFault::Unknown { n: 1 },
+        ),
+        (
+            b"domain a\nprefix a ::/9\ndomain b\nprefix b ::/8\n",
+            SettingsFault::Overlap { a: 2, b: 4 },
+        ),
+        (b"capacity clients 0\n", SettingsFault::Capacity { n: 1 }),
+        (b"capacity aliases 17\n", SettingsFault::Capacity { n: 1 }),
+        (
+            b"capacity clients 100000000000000000000000\n",
+            SettingsFault::Capacity { n: 1 },
+        ),
+    ];
+    for (text, want) in rows {
+        assert_eq!(rt; fault(rt.alloc(), text)?, Some(want), "at {text:?}");
     }
-    let same = b"domain a\nprefix a ::/8\nprefix a ::/8\n";
-    assert!(rt; fault(rt.alloc(), same)?.is_none());
+    assert_eq!(rt;
+        fault(rt.alloc(), b"domain a\nprefix a ::/8\nprefix a ::/8\n")?,
+        None
+    );
     Ok(())
-}
-
-/// Whether the line of this number is told where a file has so many bytes `#`, with these texts in front and behind; or none is.
-fn is_too_long(
-    alloc: Global,
-    front: &str,
-    count: usize,
-    behind: &str,
-    line: Option<u32>,
-) -> Result<bool, Fail> {
-    let mut text = Vec::from_slice(alloc, front.as_bytes())?;
-    text.extend_from_slice(vec![in alloc; b'#'; count]?.as_slice())?;
-    text.extend_from_slice(behind.as_bytes())?;
-    let want = line.map(|n| SettingsFault::Capacity { n });
-    Ok(fault(alloc, text.as_slice())? == want)
 }
 
 #[test]
 fn the_byte_after_the_last_is_too_much(rt: HostRuntime) -> Result<(), Fail> {
-    for (front, count, behind, n) in [
-        ("", 65_536, "", None),
-        ("", 65_536, "\n", Some(1)),
-        ("\n", 65_535, "\n", Some(2)),
-        ("\nx", 65_534, "\n", Some(2)),
-    ] {
-        assert!(rt;
-            is_too_long(rt.alloc(), front, count, behind, n)?,
-            "at {count}"
-        );
-    }
+    let mut text = vec![in rt.alloc(); b'#'; 65_536]?;
+    assert_eq!(rt; fault(rt.alloc(), text.as_slice())?, None);
+    text.push(b'\n')?;
+    assert_eq!(rt;
+        fault(rt.alloc(), text.as_slice())?,
+        Some(SettingsFault::Capacity { n: 1 })
+    );
+    text[0] = b'\n';
+    assert_eq!(rt;
+        fault(rt.alloc(), text.as_slice())?,
+        Some(SettingsFault::Capacity { n: 2 })
+    );
+    text[1] = b'x';
+    assert_eq!(rt;
+        fault(rt.alloc(), text.as_slice())?,
+        Some(SettingsFault::Capacity { n: 2 })
+    );
     Ok(())
 }
 
@@ -114,8 +111,9 @@ fn a_failed_read_is_told(rt: HostRuntime) -> Result<(), Fail> {
         (2, SettingsFault::ReadFault),
         (3, SettingsFault::Line { n: 1 }),
     ] {
-        assert!(rt;
-            fault_where(rt.alloc(), b"x\n", call)? == Some(want),
+        assert_eq!(rt;
+            fault_where(rt.alloc(), b"x\n", call)?,
+            Some(want),
             "at {call}"
         );
     }

@@ -1,12 +1,9 @@
-//! Files that are read, and their limits.
-
-use crate::reading::{fault, gives_example, gives_name, numbered};
-use dots_settings::{Limits, Role, Settings, SettingsFault};
-use std::alloc::Global;
+use crate::reading::{fault, numbered, read};
+use dots_settings::{Limits, Role, SettingsFault};
 use std::test::Fail;
 
 /// Two domains, three clients, a gateway.
-const EXAMPLE: &str = "domain net1
+const EXAMPLE: &[u8] = b"domain net1
 prefix net1 192.0.2.0/24
 prefix net1 2001:db8:1::/48
 domain net2
@@ -34,51 +31,36 @@ const DEFAULTS: Limits = Limits {
     observers: 8,
 };
 
-fn has_domains(settings: &Settings) -> bool {
-    settings.domains() == 2
-        && settings.domain_name(0) == b"net1".as_slice()
-        && settings.prefixes(0).len() == 2
-        && settings.domain_named(b"net2") == Some(1)
-        && settings.domain_named(b"net3").is_none()
+#[test]
+fn the_example_has_domains_and_peers(rt: HostRuntime) -> Result<(), Fail> {
+    let settings = read(rt.alloc(), EXAMPLE)??;
+    assert_eq!(rt; settings.domains(), 2);
+    assert_eq!(rt; settings.domain_name(0), b"net1".as_slice());
+    assert_eq!(rt; settings.prefixes(0).len(), 2);
+    assert_eq!(rt; settings.domain_named(b"net2"), Some(1));
+    assert_eq!(rt; settings.domain_named(b"net3"), None);
+    assert_eq!(rt; settings.peers().len(), 4);
+    assert_eq!(rt; settings.domain_of(2), Role::Client(1));
+    assert_eq!(rt; settings.domain_of(3), Role::Gateway);
+    assert_eq!(rt; settings.domain_of(4), Role::Stranger);
+    Ok(())
 }
 
-fn has_peers(settings: &Settings) -> bool {
-    settings.peers().len() == 4
-        && settings.domain_of(2) == Role::Client(1)
-        && settings.domain_of(3) == Role::Gateway
-        && settings.domain_of(4) == Role::Stranger
+#[test]
+fn the_example_has_defaults(rt: HostRuntime) -> Result<(), Fail> {
+    let settings = read(rt.alloc(), EXAMPLE)??;
+    assert_eq!(rt; settings.addresses(b"www.example").len(), 0);
+    assert_eq!(rt; settings.ceiling(), 86_400);
+    assert_eq!(rt; settings.indefinite(), false);
+    assert_eq!(rt; settings.limits(), DEFAULTS);
+    assert_eq!(rt; settings.digest(), DIGEST);
+    Ok(())
 }
 
-fn has_defaults(settings: &Settings) -> bool {
-    settings.names().len() == 0
-        && settings.addresses(b"www.example").len() == 0
-        && settings.ceiling() == 86_400
-        && !settings.indefinite()
-        && settings.limits() == DEFAULTS
-}
-
-/// Whether the settings are those of the example, with so many packets.
-pub fn is_example(settings: &Settings, packets: usize) -> bool {
-    has_domains(settings)
-        && has_peers(settings)
-        && has_defaults(settings)
-        && settings.packets().len() == packets
-        && settings.digest() == DIGEST
-}
-
-/// Whether there is one host name, with two addresses, and the capacity of access lists is 3.
-pub fn is_named(settings: &Settings) -> bool {
-    settings.names().len() == 1
-        && settings.addresses(b"www.EXAMPLE").len() == 2
-        && settings.limits().acls == 3
-}
-
-/// The example with more lines: packets, empty lines and comments leave the digest as it is; the last line may lack its line
-/// feed.
-const MORE: &str = "# the example, with more
-
-packet 203.0.113.5 192.0.2.9 17 4000 53
-domain net1
+/// Packets, empty lines and comments leave the digest as it is; the last line may lack its line feed.
+#[test]
+fn other_lines_are_read(rt: HostRuntime) -> Result<(), Fail> {
+    let text = b"# the example, with more\n\npacket 203.0.113.5 192.0.2.9 17 4000 53\ndomain net1
 prefix net1 192.0.2.0/24
 prefix net1 2001:db8:1::/48
 domain net2
@@ -89,37 +71,20 @@ client 2 net2
 gateway 3
 packet 2001:db8::1 2001:db8:1::1 58 - -
 ceiling 86400";
-
-const NAMED: &str = "name WWW.example 192.0.2.1/32
-name www.Example 192.0.2.2/32
-capacity acls 3";
-
-#[test]
-fn files_are_read(rt: HostRuntime) -> Result<(), Fail> {
-    assert!(rt; gives_example(rt.alloc(), EXAMPLE, 0)?);
-    assert!(rt; gives_example(rt.alloc(), MORE, 2)?);
-    assert!(rt; gives_name(rt.alloc(), NAMED)?);
+    let settings = read(rt.alloc(), text)??;
+    assert_eq!(rt; settings.packets().len(), 2);
+    assert_eq!(rt; settings.digest(), DIGEST);
     Ok(())
 }
 
-/// Whether the line of this number is one too much where so many numbered lines stand behind the first; or none is.
-fn is_too_many(
-    alloc: Global,
-    list: &List<'_>,
-    count: u32,
-    line: Option<u32>,
-) -> Result<bool, Fail> {
-    let text = numbered(alloc, list.first, list.front, list.back, count)?;
-    let want = line.map(|n| SettingsFault::Capacity { n });
-    Ok(fault(alloc, text.as_bytes())? == want)
-}
-
-/// The first line of a file, and what stands around the numbers of the others.
-#[derive(Clone, Copy)]
-struct List<'a> {
-    first: &'a str,
-    front: &'a str,
-    back: &'a str,
+#[test]
+fn names_have_addresses(rt: HostRuntime) -> Result<(), Fail> {
+    let text = b"name WWW.example 192.0.2.1/32\nname www.Example 192.0.2.2/32\ncapacity acls 3";
+    let settings = read(rt.alloc(), text)??;
+    assert_eq!(rt; settings.names().len(), 1);
+    assert_eq!(rt; settings.addresses(b"www.EXAMPLE").len(), 2);
+    assert_eq!(rt; settings.limits().acls, 3);
+    Ok(())
 }
 
 /// As many lines as a list may have, and one more.
@@ -133,11 +98,13 @@ fn lists_have_their_limits(rt: HostRuntime) -> Result<(), Fail> {
         ("", "name n", " 10.0.0.0/8", 64, 0),
         ("", "name a 10.", ".0.0/16", 4, 0),
     ] {
-        let list = List { first, front, back };
-        assert!(rt; is_too_many(rt.alloc(), &list, most, None)?, "{front}");
-        let over = most + 1;
-        assert!(rt;
-            is_too_many(rt.alloc(), &list, over, Some(over + before))?,
+        let full = numbered(rt.alloc(), first, front, back, most)?;
+        let over = numbered(rt.alloc(), first, front, back, most + 1)?;
+        let n = most + 1 + before;
+        assert_eq!(rt; fault(rt.alloc(), full.as_bytes())?, None, "{front}");
+        assert_eq!(rt;
+            fault(rt.alloc(), over.as_bytes())?,
+            Some(SettingsFault::Capacity { n }),
             "{front}"
         );
     }

@@ -1,75 +1,57 @@
-//! Byte strings, lists, texts and names.
-
-use dots_lists::{Bytes, List, Name, NoMemory, Text};
-use std::alloc::Global;
+use dots_lists::{Bytes, List, Name, Text};
 use std::test::Fail;
 
-/// Whether bytes and their copy are those that were pushed.
-fn bytes_are_held(alloc: Global) -> Result<bool, NoMemory> {
-    let mut bytes = Bytes::from_slice(alloc, &[0, 128])?;
+#[test]
+fn bytes_hold_what_was_pushed(rt: HostRuntime) -> Result<(), Fail> {
+    let mut bytes = Bytes::from_slice(rt.alloc(), &[0, 128])?;
     bytes.push(255)?;
     let copy = bytes.copy()?;
-    Ok(bytes.items() == [0, 128, 255].as_slice() && copy.items() == [0, 128, 255].as_slice())
-}
-
-/// The same of a list.
-fn items_are_held(alloc: Global) -> Result<bool, NoMemory> {
-    let mut list = List::new(alloc);
-    list.push((1_u16, true))?;
-    list.push((2, false))?;
-    let copy = list.copy()?;
-    let want = [(1, true), (2, false)];
-    Ok(list.items() == want.as_slice() && copy.items() == want.as_slice())
-}
-
-#[test]
-fn what_was_pushed_is_held(rt: HostRuntime) -> Result<(), Fail> {
-    assert!(rt; bytes_are_held(rt.alloc())?);
-    assert!(rt; items_are_held(rt.alloc())?);
+    assert_eq!(rt; bytes.items(), [0, 128, 255].as_slice());
+    assert_eq!(rt; copy.items(), [0, 128, 255].as_slice());
     Ok(())
 }
 
-/// Whether the bytes and their copy are this text.
-fn is_text(alloc: Global, bytes: &[u8], want: &str) -> Result<bool, NoMemory> {
-    let Some(text) = Text::new(alloc, bytes)? else {
-        return Ok(false);
-    };
-    let copy = text.copy()?;
-    Ok(text.as_str() == want && copy.bytes() == bytes)
-}
-
-/// Whether the bytes and their copy are a name.
-fn is_name(alloc: Global, bytes: &[u8]) -> Result<bool, NoMemory> {
-    let Some(name) = Name::new(alloc, bytes)? else {
-        return Ok(false);
-    };
-    let copy = name.copy()?;
-    Ok(name.bytes() == bytes && copy.bytes() == bytes)
-}
-
-fn is_no_text(alloc: Global, bytes: &[u8]) -> Result<bool, NoMemory> {
-    Ok(Text::new(alloc, bytes)?.is_none())
-}
-
-fn is_no_name(alloc: Global, bytes: &[u8]) -> Result<bool, NoMemory> {
-    Ok(Name::new(alloc, bytes)?.is_none())
+#[test]
+fn lists_hold_what_was_pushed(rt: HostRuntime) -> Result<(), Fail> {
+    let mut list = List::new(rt.alloc());
+    list.push((1_u16, true))?;
+    list.push((2, false))?;
+    let copy = list.copy()?;
+    assert_eq!(rt; list.items(), [(1, true), (2, false)].as_slice());
+    assert_eq!(rt; copy.items(), [(1, true), (2, false)].as_slice());
+    Ok(())
 }
 
 /// RFC 3629: no overlong forms, no surrogates, nothing past U+10FFFF.
 #[test]
 fn texts_are_utf8(rt: HostRuntime) -> Result<(), Fail> {
-    let spelled = b"\x41\xe2\x89\xa2\xce\x91\x2e";
-    assert!(rt; is_text(rt.alloc(), spelled, "A\u{2262}\u{391}.")?);
-    assert!(rt; is_no_text(rt.alloc(), b"\xff")?);
-    assert!(rt; is_no_text(rt.alloc(), b"\xc0\x80")?);
-    assert!(rt; is_no_text(rt.alloc(), b"\xed\xa0\x80")?);
-    assert!(rt; is_no_text(rt.alloc(), b"\xf4\x90\x80\x80")?);
+    let spelled: &[u8] = &[0x41, 0xe2, 0x89, 0xa2, 0xce, 0x91, 0x2e];
+    let Some(text) = Text::new(rt.alloc(), spelled)? else {
+        return Err(Fail::from("a text"));
+    };
+    let copy = text.copy()?;
+    assert_eq!(rt; text.as_str(), "A\u{2262}\u{391}.");
+    assert_eq!(rt; copy.bytes(), spelled);
+    let rows: [&[u8]; 4] = [
+        &[0xff],
+        &[0xc0, 0x80],
+        &[0xed, 0xa0, 0x80],
+        &[0xf4, 0x90, 0x80, 0x80],
+    ];
+    for bytes in rows {
+        assert!(rt; Text::new(rt.alloc(), bytes)?.is_none(), "at {bytes:?}");
+    }
     Ok(())
 }
 
 #[test]
 fn names_are_visible_ascii(rt: HostRuntime) -> Result<(), Fail> {
-    assert!(rt; is_name(rt.alloc(), b"dz6pHjaADkaFTbjr0JGBpw")?);
-    assert!(rt; is_no_name(rt.alloc(), b"a b")?);
+    let Some(name) = Name::new(rt.alloc(), b"dz6pHjaADkaFTbjr0JGBpw")? else {
+        return Err(Fail::from("a name"));
+    };
+    let copy = name.copy()?;
+    assert_eq!(rt; name.bytes(), b"dz6pHjaADkaFTbjr0JGBpw".as_slice());
+    assert_eq!(rt; copy.bytes(), name.bytes());
+    assert!(rt; Name::new(rt.alloc(), b"a b")?.is_none());
     Ok(())
 }

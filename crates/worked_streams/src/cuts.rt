@@ -4,7 +4,7 @@ use std::alloc::Global;
 use std::test::Fail;
 
 /// What stands at the front, by its length or its fault.
-#[derive(Clone, Copy, PartialEq, Eq)]
+#[derive(Clone, Copy, Debug, PartialEq, Eq)]
 enum Seen {
     Request(usize),
     More,
@@ -57,8 +57,11 @@ fn sees_what_stands_in_front(rt: HostRuntime) -> Result<(), Fail> {
         ),
     ];
     for (bytes, first, second) in rows {
-        let found = fronts_of(rt.alloc(), bytes)?;
-        assert!(rt; found == (first, second), "at {bytes:?}");
+        assert_eq!(rt;
+            fronts_of(rt.alloc(), bytes)?,
+            (first, second),
+            "at {bytes:?}"
+        );
     }
     Ok(())
 }
@@ -79,20 +82,16 @@ fn has_its_parts(request: &HttpRequest) -> bool {
         && are(request.body, b"xy")
 }
 
-fn are_parts(alloc: Global, bytes: &[u8]) -> Result<bool, NoMemory> {
-    let mut room = HeadRoom::new(alloc)?;
-    let mut stream = Stream::new(alloc)?;
-    let _count = stream.take(bytes);
-    Ok(match stream.cut(&mut room) {
-        Cut::Request(request) => has_its_parts(&request),
-        _ => false,
-    })
-}
-
 #[test]
 fn hands_out_the_parts(rt: HostRuntime) -> Result<(), Fail> {
-    let bytes =
-        b"PUT /a HTTP/1.1\r\ncontent-type:\t a/b ;c=d\r\nConnection: keep-alive , CLOSE\r\nContent-Length: 2\r\n\r\nxyGET";
-    assert!(rt; are_parts(rt.alloc(), bytes)?);
+    let mut room = HeadRoom::new(rt.alloc())?;
+    let mut stream = Stream::new(rt.alloc())?;
+    let _count = stream.take(
+        b"PUT /a HTTP/1.1\r\ncontent-type:\t a/b ;c=d\r\nConnection: keep-alive , CLOSE\r\nContent-Length: 2\r\n\r\nxyGET",
+    );
+    match stream.cut(&mut room) {
+        Cut::Request(request) => assert!(rt; has_its_parts(&request)),
+        _ => assert!(rt; false, "no request"),
+    }
     Ok(())
 }

@@ -117,21 +117,21 @@ fn streams_end_as_they_say(rt: HostRuntime) -> Result<(), Fail> {
         ),
     ];
     for (pieces, count, end) in rows {
-        let found = count_of(rt.alloc(), &pieces)?;
-        assert!(rt; found == (count, end), "at {end:?}");
+        assert_eq!(rt; count_of(rt.alloc(), &pieces)?, (count, end), "at {end:?}");
     }
     Ok(())
 }
 
-fn is_named(alloc: Global, fault: HttpFault, want: &str) -> Result<bool, Fail> {
-    let text = format!(in alloc; "{fault}")?;
-    Ok(text.as_str() == want)
-}
-
 #[test]
 fn refusals_have_names(rt: HostRuntime) -> Result<(), Fail> {
-    assert!(rt; is_named(rt.alloc(), HttpFault::BadHead, "bad head")?);
-    assert!(rt; is_named(rt.alloc(), HttpFault::LengthRequired, "length required")?);
-    assert!(rt; is_named(rt.alloc(), HttpFault::BodyTooLong, "body too long")?);
+    let rows = [
+        (HttpFault::BadHead, "bad head"),
+        (HttpFault::LengthRequired, "length required"),
+        (HttpFault::BodyTooLong, "body too long"),
+    ];
+    for (fault, want) in rows {
+        let text = format!(in rt.alloc(); "{fault}")?;
+        assert_eq!(rt; text.as_str(), want);
+    }
     Ok(())
 }
