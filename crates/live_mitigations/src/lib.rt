@@ -10,6 +10,6 @@ mod reading;
 mod row;
 mod tables;
 
-pub use live::LiveMitigations;
+pub use live::{LiveMitigations, puts};
 pub use reading::{MitigationRow, Mitigations};
 pub use row::Row;
