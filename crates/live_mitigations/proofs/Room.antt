@@ -245,7 +245,7 @@ of_cuid_bare cuid t (m ∷ ms) =
     ∙ ap (λ ys. shown t m ∷ ys) go)
     (λ out. ap (λ b. map (shown t) (cond b (bare_mitigation m ∷ of_cuid cuid (map bare_mitigation ms)) (of_cuid cuid (map bare_mitigation ms)))) out ∙ go)
 
-of_domain_bare : (domain : ℕ) (ms : List Mitigation) → mitigations_of domain (map bare_mitigation ms) ≡ map bare_mitigation (mitigations_of domain ms)
+pub of_domain_bare : (domain : ℕ) (ms : List Mitigation) → mitigations_of domain (map bare_mitigation ms) ≡ map bare_mitigation (mitigations_of domain ms)
 of_domain_bare domain [] = refl
 of_domain_bare domain (m ∷ ms) = ap (λ rest. cond (m.put.domain == domain) (bare_mitigation m ∷ rest) rest) (of_domain_bare domain ms) ∙ by_test (m.put.domain == domain)
   where

@@ -1,6 +1,7 @@
 //! The live mitigations of all domains at a time.
 
 ghost use Rattle.std.specs.Prelude.{◌≡◌, ◌≢◌, ℕ, ◌<◌, ◌≤◌, ◌++◌, ◌∷◌, ◌==◌, [], true, false, List, length, map, IfOk, IfSome, IfNone};
+ghost use Rattle.std.specs.List.{list_any};
 ghost use Rattle.dots_history.specs.declared.entry.Entry.{Entry};
 ghost use Rattle.dots_history.specs.Histories.{mitigations, alone};
 ghost use Rattle.dots_laws.specs.Tables.{bare};
@@ -96,6 +97,13 @@ impl LiveMitigations {
         self.tables.rows(domain)
     }
 
+    /// Whether a live mitigation has this peer.
+    pub fn mitigating(&self, peer: u32) -> bool
+        ensures { (entries : List Entry) → StandsFor self.now entries → result ≡ list_any (λ m. m.put.peer == peer) (mitigations self.now.time entries) }
+    {
+        self.tables.has_peer(peer)
+    }
+
     /// The number of a domain in which a mitigation is over by this time; None where there is none.
     pub fn next_due(&mut self, now: u64) -> Option<u16>
         requires { now < never }
@@ -120,7 +128,8 @@ impl LiveMitigations {
 
     /// Moves the time, and takes out what is over then.
     pub fn tick(&mut self, now: u64)
-        requires { now < never }
+        requires later { self.old.time ≤ now }
+        requires bounded { now < never }
         ensures stands { (entries : List Entry) → ComesTo now self.old entries → StandsFor self.new entries }
         ensures time { self.new.time ≡ now }
         ensures domains { self.new.domains ≡ self.old.domains }
