@@ -9,6 +9,7 @@ pub fn agree(live: &LiveMitigations, entries: &[Entry], domain: u16, cuid: &str,
         && same_mitigations(live, entries, domain, cuid.as_bytes())
         && live.collides(domain, cuid.as_bytes(), peer)
             == collides(entries, live.time(), domain, cuid.as_bytes(), peer)
+        && live.mitigating(peer) == is_mitigating(entries, live.time(), peer)
 }
 
 fn same_mitigations(live: &LiveMitigations, entries: &[Entry], domain: u16, cuid: &[u8]) -> bool {
@@ -50,6 +51,16 @@ fn is_row_of(row: &MitigationRow<'_>, t: u64, put: &Entry, status: Status) -> bo
     same && row.peer == put.peer
         && row.status == number
         && i128::from(row.left) == seconds_left(t, put, status)
+}
+
+/// A live mitigation has the peer.
+fn is_mitigating(entries: &[Entry], t: u64, peer: u32) -> bool {
+    for (place, put) in entries.iter().enumerate() {
+        if put.peer == peer && is_live_after(t, put, &entries[place + 1..]) {
+            return true;
+        }
+    }
+    false
 }
 
 /// A live mitigation of the client has another peer.
