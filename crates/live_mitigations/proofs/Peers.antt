@@ -82,21 +82,21 @@ domain_any test t domains (e ∷ later) all is =
               e.domain,
               within domains e (live_puts t e later now) parts.0,
               ap (λ ms. list_any test (mitigations_of e.domain ms)) shows
-              ∙ ap (λ b. list_any test (cond b (m ∷ mitigations_of e.domain rest) (mitigations_of e.domain rest))) (eq-eqb e.domain e.domain refl)
-              ∙ or_left (test m) (list_any test (mitigations_of e.domain rest)) here,
+                  ∙ ap (λ b. list_any test (cond b (m ∷ mitigations_of e.domain rest) (mitigations_of e.domain rest))) (eq-eqb e.domain e.domain refl)
+                  ∙ or_left (test m) (list_any test (mitigations_of e.domain rest)) here,
             )
             | inr there ↦
                 let found = domain_any test t domains later parts.1 there in (
                   found.0,
                   found.1,
                   ap (λ ms. list_any test (mitigations_of found.0 ms)) shows
-                  ∙ cond_both
-                  (e.domain == found.0)
-                  (m ∷ mitigations_of found.0 rest)
-                  (mitigations_of found.0 rest)
-                  (λ ms. list_any test ms ≡ true)
-                  (λ own. or_right (test m) (list_any test (mitigations_of found.0 rest)) found.2)
-                  (λ other. found.2),
+                      ∙ cond_both
+                      (e.domain == found.0)
+                      (m ∷ mitigations_of found.0 rest)
+                      (mitigations_of found.0 rest)
+                      (λ ms. list_any test ms ≡ true)
+                      (λ own. or_right (test m) (list_any test (mitigations_of found.0 rest)) found.2)
+                      (λ other. found.2),
                 )
           ]
       | inr dead ↦
@@ -122,14 +122,14 @@ any_kept test live entries same stands =
     let found = there_any (λ (table : LiveTable). list_any (tests test) table.rows) live.tables is in
     let less : found.0 < live.domains = omega (arith, slice_get_within live.tables found.0 found.1 found.2, stands.are_tables.number) in
     let rows : found.1.rows ≡ mitigations_of found.0 (mitigations live.time (map bare entries)) =
-        sym (ap rows_or_none found.2) ∙ kept_is live entries found.0 less stands in
+    sym (ap rows_or_none found.2) ∙ kept_is live entries found.0 less stands in
     sym (ap (list_any (tests test)) (bare_mitigations live.time entries) ∙ any_bare test (mitigations live.time entries) same)
     ∙ any_of_domain (tests test) found.0 (mitigations live.time (map bare entries)) (sym (ap (list_any (tests test)) rows) ∙ found.3))
     (λ is.
     let found = domain_any (tests test) live.time live.domains entries stands.inside is in
     let there = there_within live.tables found.0 (omega (arith, found.1, stands.are_tables.number)) in
     let rows : there.0.rows ≡ mitigations_of found.0 (map bare_mitigation (mitigations live.time entries)) =
-        sym (ap rows_or_none there.1) ∙ kept_is live entries found.0 found.1 stands ∙ ap (mitigations_of found.0) (bare_mitigations live.time entries) in
+    sym (ap rows_or_none there.1) ∙ kept_is live entries found.0 found.1 stands ∙ ap (mitigations_of found.0) (bare_mitigations live.time entries) in
     any_there (λ (table : LiveTable). list_any (tests test) table.rows) live.tables found.0 there.0 there.1
     (ap (list_any (tests test)) (rows ∙ of_domain_bare found.0 (mitigations live.time entries))
     ∙ any_bare test (mitigations_of found.0 (mitigations live.time entries)) same

@@ -198,12 +198,12 @@ fits_kept inside live e is are keeps table there =
     let here : keeps_limits inside.limits e (kept_of inside e.domain) ≡ true = ap (λ (v : LiveValue). keeps_limits v.limits e (kept_of v e.domain)) is ∙ keeps in
     let rows : kept_of inside e.domain ≡ table.rows = ap rows_or_none there in
     let few : tally (is_left e) (kept_of inside e.domain) + cond (lives_at_first e) 1 0 ≤ inside.limits.domain_mitigations =
-        leb-true _ _ (and_parts
-        (nat_le (tally (is_left e) (kept_of inside e.domain) + cond (lives_at_first e) 1 0) inside.limits.domain_mitigations)
-        (nat_le (tally (λ (m : Mitigation). is_left e m && same_client e m.put) (kept_of inside e.domain) + cond (lives_at_first e) 1 0) inside.limits.client_mitigations)
-        here).0 in
+    leb-true _ _ (and_parts
+    (nat_le (tally (is_left e) (kept_of inside e.domain) + cond (lives_at_first e) 1 0) inside.limits.domain_mitigations)
+    (nat_le (tally (λ (m : Mitigation). is_left e m && same_client e m.put) (kept_of inside e.domain) + cond (lives_at_first e) 1 0) inside.limits.client_mitigations)
+    here).0 in
     let long : length (mitigations_with (bare e) table.rows) ≡ tally (is_left e) (kept_of inside e.domain) + cond (lives_at_first e) 1 0 =
-        length_grown e table.rows ∙ ap (λ ms. tally (is_left e) ms + cond (lives_at_first e) 1 0) (sym rows) in
+    length_grown e table.rows ∙ ap (λ ms. tally (is_left e) ms + cond (lives_at_first e) 1 0) (sym rows) in
     let room : table.room ≡ inside.limits.domain_mitigations = are.rooms e.domain table there in
     omega (arith, long, few, room)
 

@@ -96,7 +96,11 @@ fn steps(alloc: Global, seed: u32, count: usize) -> Result<Vec<Step<'static>>, F
 }
 
 /// After how many entries the table and the plain programs first differ.
-fn first_difference(live: &mut LiveMitigations, taken: List<Entry>, entries: &[Entry]) -> Option<usize> {
+fn first_difference(
+    live: &mut LiveMitigations,
+    taken: List<Entry>,
+    entries: &[Entry],
+) -> Option<usize> {
     let mut count = 0;
     for entry in taken.into_vec() {
         count += 1;

@@ -40,7 +40,11 @@ fn what_is_live_is_shown(rt: HostRuntime) -> Result<(), Fail> {
         (&never_was, 1100, 1, Some((123, 1000, 3500, 2))),
     ];
     for (steps, now, count, last) in rows {
-        assert_eq!(rt; shown(rt.alloc(), steps, now, 0, "client")?, (count, last), "at {now}");
+        assert_eq!(rt;
+            shown(rt.alloc(), steps, now, 0, "client")?,
+            (count, last),
+            "at {now}"
+        );
     }
     Ok(())
 }
@@ -60,7 +64,11 @@ fn a_request_is_judged_by_its_mid(rt: HostRuntime) -> Result<(), Fail> {
         (&by_another, 1100, 9, NET, MidJudgement::Collision),
     ];
     for (steps, now, mid, prefix, want) in rows {
-        assert_eq!(rt; by_mid(rt.alloc(), steps, now, mid, prefix)?, want, "{mid} at {now}");
+        assert_eq!(rt;
+            by_mid(rt.alloc(), steps, now, mid, prefix)?,
+            want,
+            "{mid} at {now}"
+        );
     }
     Ok(())
 }
@@ -81,14 +89,24 @@ fn a_request_is_judged_by_what_overlaps(rt: HostRuntime) -> Result<(), Fail> {
     };
     let rows: [(&[Step<'_>], &str, u32, &str, Judgement); 6] = [
         (&higher, "client", 123, NET, Judgement::Higher { mid: 124 }),
-        (&[PUT], "b", 7, "192.0.2.128/25", Judgement::Other { meeting: 1 }),
+        (
+            &[PUT],
+            "b",
+            7,
+            "192.0.2.128/25",
+            Judgement::Other { meeting: 1 },
+        ),
         (&withdrawn, "b", 7, "192.0.2.128/25", Judgement::Fresh),
         (&full, "client", 3, "192.0.2.2/32", client),
         (&full, "client", 3, "192.0.2.1/32", Judgement::Fresh),
         (&full, "b", 3, "192.0.2.2/32", Judgement::Fresh),
     ];
     for (steps, cuid, mid, prefix, want) in rows {
-        assert_eq!(rt; by_overlap(rt.alloc(), steps, 1100, cuid, mid, prefix)?, want, "{cuid} {mid} {prefix}");
+        assert_eq!(rt;
+            by_overlap(rt.alloc(), steps, 1100, cuid, mid, prefix)?,
+            want,
+            "{cuid} {mid} {prefix}"
+        );
     }
     Ok(())
 }
@@ -109,7 +127,14 @@ fn what_fits_is_taken(rt: HostRuntime) -> Result<(), Fail> {
         cuid: "client",
     };
     let far = (1100, elsewhere, Act::Put(1, "198.51.100.0/24", 600));
-    let nowhere = (1100, Who { domain: 2, ..CLIENT }, Act::Put(1, NET, 600));
+    let nowhere = (
+        1100,
+        Who {
+            domain: 2,
+            ..CLIENT
+        },
+        Act::Put(1, NET, 600),
+    );
     let rows: [(&[Step<'_>], usize); 8] = [
         (&[first, second], 2),
         (&[first, second, third], 2),

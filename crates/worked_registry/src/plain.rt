@@ -4,7 +4,13 @@ use dots_history::{Entry, Status, is_live_after, put_of, seconds_left, status_af
 use live_mitigations::{LiveMitigations, MitigationRow};
 
 /// Whether the table says of the client what the entries say.
-pub fn agree(live: &LiveMitigations, entries: &[Entry], domain: u16, cuid: &str, peer: u32) -> bool {
+pub fn agree(
+    live: &LiveMitigations,
+    entries: &[Entry],
+    domain: u16,
+    cuid: &str,
+    peer: u32,
+) -> bool {
     domain < live.domains()
         && same_mitigations(live, entries, domain, cuid.as_bytes())
         && live.collides(domain, cuid.as_bytes(), peer)
