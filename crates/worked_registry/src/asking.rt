@@ -55,10 +55,10 @@ pub fn take(live: &mut LiveMitigations, entry: Entry) -> bool {
 
 /// Takes the entries and moves the time. Says how many of them fit.
 fn take_all(live: &mut LiveMitigations, entries: List<Entry>, now: u64) -> usize {
-    let mut count = 0;
+    let mut count: usize = 0;
     for entry in entries.into_vec() {
         if take(live, entry) {
-            count += 1;
+            count = count.saturating_add(1);
         }
     }
     if live.time() <= now && now < LATEST {
@@ -98,11 +98,11 @@ pub fn shown(
 }
 
 fn last_shown(live: &LiveMitigations, domain: u16, cuid: &str) -> (usize, Option<Shown>) {
-    let mut count = 0;
+    let mut count: usize = 0;
     let mut last = None;
     if domain < live.domains() {
         for row in live.mitigations(domain, cuid.as_bytes()) {
-            count += 1;
+            count = count.saturating_add(1);
             last = Some((row.put.mid, row.put.start, row.left, row.status));
         }
     }

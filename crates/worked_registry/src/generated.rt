@@ -101,9 +101,9 @@ fn first_difference(
     taken: List<Entry>,
     entries: &[Entry],
 ) -> Option<usize> {
-    let mut count = 0;
+    let mut count: usize = 0;
     for entry in taken.into_vec() {
-        count += 1;
+        count = count.saturating_add(1);
         if count > entries.len() || !take(live, entry) {
             return Some(count);
         }

@@ -22,22 +22,42 @@ fn same_mitigations(live: &LiveMitigations, entries: &[Entry], domain: u16, cuid
     if domain >= live.domains() {
         return false;
     }
-    let mut rows = live.mitigations(domain, cuid);
+    let mut count: usize = 0;
+    for row in live.mitigations(domain, cuid) {
+        let same = match nth_live(entries, live.time(), domain, cuid, count) {
+            Some((put, later)) => {
+                let status = status_after(put, Status::Open, later);
+                is_row_of(&row, live.time(), put, status)
+            }
+            None => false,
+        };
+        if !same {
+            return false;
+        }
+        count = count.saturating_add(1);
+    }
+    nth_live(entries, live.time(), domain, cuid, count).is_none()
+}
+
+/// The live mitigation of the client behind so many of them, and the entries after it.
+fn nth_live<'a>(
+    entries: &'a [Entry],
+    t: u64,
+    domain: u16,
+    cuid: &[u8],
+    number: usize,
+) -> Option<(&'a Entry, &'a [Entry])> {
+    let mut before = number;
     for (place, put) in entries.iter().enumerate() {
         let later = &entries[place + 1..];
-        if is_of(put, domain, cuid) && is_live_after(live.time(), put, later) {
-            let status = status_after(put, Status::Open, later);
-            match rows.next() {
-                Some(row) => {
-                    if !is_row_of(&row, live.time(), put, status) {
-                        return false;
-                    }
-                }
-                None => return false,
+        if is_of(put, domain, cuid) && is_live_after(t, put, later) {
+            if before == 0 {
+                return Some((put, later));
             }
+            before -= 1;
         }
     }
-    rows.next().is_none()
+    None
 }
 
 fn is_of(entry: &Entry, domain: u16, cuid: &[u8]) -> bool {
