@@ -23,7 +23,13 @@ pub enum MidJudgement {
 /// Judges a request by the live mitigations of its domain: whether its client's name is in use by another peer, and
 /// whether it refreshes a mitigation or would change one (RFC 9132, section 4.4.1). The first of these that applies is
 /// answered.
-pub fn judge_mid<T: Mitigates>(live: &[T], peer: u32, cuid: &[u8], mid: u32, asked: &Asked) -> MidJudgement
+pub fn judge_mid<T: Mitigates>(
+    live: &[T],
+    peer: u32,
+    cuid: &[u8],
+    mid: u32,
+    asked: &Asked,
+) -> MidJudgement
     ensures { result ≡ judge_mid (map T.live live.now) peer cuid.now mid asked.now }
 {
     if collides(live, peer, cuid) {

@@ -78,7 +78,12 @@ pub fn judge_overlap<T: Mitigates>(
     }
 }
 
-fn judge_others<T: Mitigates>(live: &[T], cuid: &[u8], request: &Request<'_>, limits: &Limits) -> Judgement
+fn judge_others<T: Mitigates>(
+    live: &[T],
+    cuid: &[u8],
+    request: &Request<'_>,
+    limits: &Limits,
+) -> Judgement
     requires { prefix_count request.now.targets ≤ 64 }
     ensures { result ≡ judge_others (map T.live live.now) cuid.now request.now limits.now }
 {

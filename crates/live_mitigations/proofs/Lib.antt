@@ -3,3 +3,4 @@ pub mod Rows
 pub mod Updates
 pub mod Standing
 pub mod Room
+pub mod Peers

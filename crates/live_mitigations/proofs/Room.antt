@@ -15,7 +15,7 @@ use Rattle.dots_laws.specs.Views.{mitigations_at, mitigations_with, mitigations_
 use Rattle.dots_laws.proofs.Apart.{apart}
 use Rattle.dots_laws.proofs.Bare.{bare_mitigations}
 use Rattle.live_mitigations.specs.Rows.{LiveTable, rows_or_none, of_entry, is_left, lives_at_first}
-use Rattle.live_mitigations.specs.Standing.{LiveValue, kept_of, StandsFor, keeps_live_room, has_live_room}
+use Rattle.live_mitigations.specs.Standing.{LiveValue, AreTables, kept_of, StandsFor, keeps_limits, has_live_room}
 use Rattle.live_mitigations.specs.Judging.{live_of, lives_of}
 use Rattle.live_mitigations.specs.Reading.{shown, of_cuid, shown_of, shown_in}
 use Rattle.live_mitigations.proofs.Rows.{grown_rows}
@@ -82,6 +82,10 @@ tally_of test domain (m ∷ ms) same own =
     let none : cond (test m.put) 1 0 ≡ nought = cond_both (test m.put) 1 0 (λ n. n ≡ 0) (λ is. absurd (both_ways (m.put.domain == domain) out (own m.put is))) (λ no. refl) in
     omega (arith, none, go))
 
+and_true : (b : Bool) → (b && true) ≡ b
+and_true true = refl
+and_true false = refl
+
 -- in those of a domain that they are of it is no further test
 tally_in : (test : Mitigation → Bool) (domain : ℕ) (ms : List Mitigation)
     → tally (λ (m : Mitigation). test m && (m.put.domain == domain)) (mitigations_of domain ms) ≡ tally test (mitigations_of domain ms)
@@ -96,22 +100,6 @@ tally_in test domain (m ∷ ms) =
     (λ is. ap (λ b. cond (test m && b) 1 0 + tally (λ (x : Mitigation). test x && (x.put.domain == domain)) (mitigations_of domain ms)) is
     ∙ ap (λ b. cond b 1 0 + tally (λ (x : Mitigation). test x && (x.put.domain == domain)) (mitigations_of domain ms)) (and_true (test m))
     ∙ ap (λ n. cond (test m) 1 0 + n) go)
-    (λ out. go)
-  where
-    and_true : (b : Bool) → (b && true) ≡ b
-    and_true true = refl
-    and_true false = refl
-
-length_in : (domain : ℕ) (ms : List Mitigation) → tally (λ (m : Mitigation). m.put.domain == domain) (mitigations_of domain ms) ≡ length (mitigations_of domain ms)
-length_in domain [] = refl
-length_in domain (m ∷ ms) =
-    let go = length_in domain ms in
-    cond_both
-    (m.put.domain == domain)
-    (m ∷ mitigations_of domain ms)
-    (mitigations_of domain ms)
-    (λ xs. tally (λ (x : Mitigation). x.put.domain == domain) xs ≡ length xs)
-    (λ is. ap (λ b. cond b 1 0 + tally (λ (x : Mitigation). x.put.domain == domain) (mitigations_of domain ms)) is ∙ (let more : 1 + tally (λ (x : Mitigation). x.put.domain == domain) (mitigations_of domain ms) ≡ suc (length (mitigations_of domain ms)) = omega (arith, go) in more))
     (λ out. go)
 
 -- what is kept of the entry's domain after it, by the history
@@ -186,30 +174,38 @@ has_room_is live entries e later within stands =
     (λ n. nat_le (tally (is_left e) (kept_of live e.domain) + cond (lives_at_first e) 1 0) live.limits.domain_mitigations && nat_le n live.limits.client_mitigations)
     (client_count live entries e later within stands)
 
--- where there is, it fits into the table of the domain
-pub fits_table : (live : LiveValue) (entries : List Entry) (e : Entry) (table : LiveTable) → live.time ≤ e.time → e.domain < live.domains → StandsFor live entries
-    → has_live_room live.limits entries e ≡ true → slice_get live.tables e.domain ≡ Some table → length (mitigations_with (bare e) table.rows) ≤ table.room
-fits_table live entries e table later within stands has there =
-    let all : List Mitigation = mitigations e.time (entries ++ e ∷ []) in
-    let rows : kept_of live e.domain ≡ table.rows = ap rows_or_none there in
-    let long : length (mitigations_with (bare e) table.rows) ≡ length (mitigations_of e.domain (map bare_mitigation all)) =
-        ap (λ ms. length (mitigations_with (bare e) ms)) (sym rows) ∙ ap length (after_is live entries e later within stands) in
-    let many : length (mitigations_of e.domain (map bare_mitigation all)) ≡ tally (λ (m : Mitigation). m.put.domain == e.domain) all =
-        sym (length_in e.domain (map bare_mitigation all))
-        ∙ tally_of (λ (p : Entry). p.domain == e.domain) e.domain all (λ p. refl) (λ p own. own) in
-    let few : tally (λ (m : Mitigation). m.put.domain == e.domain) all ≤ live.limits.domain_mitigations =
-        leb-true _ _ (and_parts
-        (nat_le (tally (λ (m : Mitigation). m.put.domain == e.domain) all) live.limits.domain_mitigations)
-        (nat_le (tally (λ (m : Mitigation). same_client e m.put) all) live.limits.client_mitigations)
-        has).0 in
-    let room : table.room ≡ live.limits.domain_mitigations = stands.are_tables.rooms e.domain table there in
-    omega (arith, long, many, few, room)
+tally_all : (ms : List Mitigation) → tally (λ (m : Mitigation). true) ms ≡ length ms
+tally_all [] = refl
+tally_all (m ∷ ms) = let go = tally_all ms in omega (arith, go)
 
-pub fits_inside : (inside live : LiveValue) (entries : List Entry) (e : Entry) → inside ≡ live → e.time ≡ live.time → e.domain < live.domains → StandsFor live entries
-    → has_live_room live.limits entries e ≡ true
+tally_and_true : (test : Mitigation → Bool) (ms : List Mitigation) → tally (λ (m : Mitigation). test m && true) ms ≡ tally test ms
+tally_and_true test [] = refl
+tally_and_true test (m ∷ ms) =
+    ap (λ n. cond (test m && true) 1 0 + n) (tally_and_true test ms) ∙ ap (λ b. cond b 1 0 + tally test ms) (and_true (test m))
+
+-- how many there are of a domain after an entry
+length_grown : (e : Entry) (ms : List Mitigation) → length (mitigations_with (bare e) ms) ≡ tally (is_left e) ms + cond (lives_at_first e) 1 0
+length_grown e ms =
+    sym (tally_all (mitigations_with (bare e) ms))
+    ∙ tally_grown (λ p. true) e ms refl
+    ∙ ap (λ n. n + cond (live e.time (bare e) Open) 1 0) (tally_and_true (is_left e) ms)
+    ∙ ap (λ b. tally (is_left e) ms + cond b 1 0) (first_bare e)
+
+-- where the limits are kept, the table of the domain has room for them
+pub fits_kept : (inside live : LiveValue) (e : Entry) → inside ≡ live → AreTables inside → keeps_limits live.limits e (kept_of live e.domain) ≡ true
     → (table : LiveTable) → slice_get inside.tables e.domain ≡ Some table → length (mitigations_with (bare e) table.rows) ≤ table.room
-fits_inside inside live entries e is at within stands has table there =
-    fits_table live entries e table (omega (arith, at)) within stands has (ap (λ (v : LiveValue). slice_get v.tables e.domain) (sym is) ∙ there)
+fits_kept inside live e is are keeps table there =
+    let here : keeps_limits inside.limits e (kept_of inside e.domain) ≡ true = ap (λ (v : LiveValue). keeps_limits v.limits e (kept_of v e.domain)) is ∙ keeps in
+    let rows : kept_of inside e.domain ≡ table.rows = ap rows_or_none there in
+    let few : tally (is_left e) (kept_of inside e.domain) + cond (lives_at_first e) 1 0 ≤ inside.limits.domain_mitigations =
+    leb-true _ _ (and_parts
+    (nat_le (tally (is_left e) (kept_of inside e.domain) + cond (lives_at_first e) 1 0) inside.limits.domain_mitigations)
+    (nat_le (tally (λ (m : Mitigation). is_left e m && same_client e m.put) (kept_of inside e.domain) + cond (lives_at_first e) 1 0) inside.limits.client_mitigations)
+    here).0 in
+    let long : length (mitigations_with (bare e) table.rows) ≡ tally (is_left e) (kept_of inside e.domain) + cond (lives_at_first e) 1 0 =
+    length_grown e table.rows ∙ ap (λ ms. tally (is_left e) ms + cond (lives_at_first e) 1 0) (sym rows) in
+    let room : table.room ≡ inside.limits.domain_mitigations = are.rooms e.domain table there in
+    omega (arith, long, few, room)
 
 -- what is read of the rows of a domain doesn't have messages and replies in it
 pub read_bare : {A : Type 0} → (f : Mitigation → A) (domain : ℕ) (ms : List Mitigation) → ((m : Mitigation) → f (bare_mitigation m) ≡ f m)
@@ -249,7 +245,7 @@ of_cuid_bare cuid t (m ∷ ms) =
     ∙ ap (λ ys. shown t m ∷ ys) go)
     (λ out. ap (λ b. map (shown t) (cond b (bare_mitigation m ∷ of_cuid cuid (map bare_mitigation ms)) (of_cuid cuid (map bare_mitigation ms)))) out ∙ go)
 
-of_domain_bare : (domain : ℕ) (ms : List Mitigation) → mitigations_of domain (map bare_mitigation ms) ≡ map bare_mitigation (mitigations_of domain ms)
+pub of_domain_bare : (domain : ℕ) (ms : List Mitigation) → mitigations_of domain (map bare_mitigation ms) ≡ map bare_mitigation (mitigations_of domain ms)
 of_domain_bare domain [] = refl
 of_domain_bare domain (m ∷ ms) = ap (λ rest. cond (m.put.domain == domain) (bare_mitigation m ∷ rest) rest) (of_domain_bare domain ms) ∙ by_test (m.put.domain == domain)
   where

@@ -142,10 +142,7 @@ pub stands_empty : (live : LiveValue) → AreEmpty live.domains live.limits.doma
 stands_empty live are at = record {
   in_order = omega arith;
   inside = refl;
-  are_tables = record {
-    number = are.counted;
-    rooms = λ domain table is. ap (λ (t : LiveTable). t.room) (are.each domain table is);
-  };
+  are_tables = record { number = are.counted; rooms = λ domain table is. ap (λ (t : LiveTable). t.room) (are.each domain table is) };
   rows = λ domain within. empty_rows live.domains live.limits.domain_mitigations live.tables domain are;
 }
 
@@ -182,7 +179,7 @@ pub changed_own : (f : LiveTable → LiveTable) (g : List Mitigation → List Mi
     → domain < length old.tables → ((table : LiveTable) → (f table).rows ≡ g table.rows) → kept_of new domain ≡ g (kept_of old domain)
 changed_own f g domain old new changed within is = ap (rows_at domain) changed.tables ∙ rows_changed f g domain old.tables within is
 
-changed_are : (f : LiveTable → LiveTable) (domain : ℕ) (old new : LiveValue) → Changed f domain old new → ((table : LiveTable) → (f table).room ≡ table.room)
+pub changed_are : (f : LiveTable → LiveTable) (domain : ℕ) (old new : LiveValue) → Changed f domain old new → ((table : LiveTable) → (f table).room ≡ table.room)
     → AreTables old → AreTables new
 changed_are f domain old new changed keeps are = record {
   number = ap length changed.tables ∙ length_updated f domain old.tables ∙ are.number ∙ sym changed.domains;
@@ -242,6 +239,12 @@ some_is_due now inside old (Some domain) less is counted some = (
   ap (λ (v : LiveValue). has_due now v domain) (sym is) ∙ any_due now (kept_of inside domain) less ∙ le-leb (first_end (kept_of inside domain)) now some.1,
 )
 
+-- the change, without the value behind it
+pub changed_here : (f : LiveTable → LiveTable) (domain : ℕ) (inside : LiveValue) (tables : List LiveTable) → tables ≡ update f domain inside.tables
+    → ((table : LiveTable) → (f table).room ≡ table.room) → AreTables inside → AreTables (with_tables inside tables)
+changed_here f domain inside tables made keeps are =
+    changed_are f domain inside (with_tables inside tables) (record { domains = refl; limits = refl; time = refl; tables = made }) keeps are
+
 -- an entry that puts none, of no domain
 pub stands_outside : (live : LiveValue) (entries : List Entry) (e : Entry) → live.domains ≤ e.domain → puts e ≡ false → e.time ≡ live.time
     → StandsFor live entries → StandsFor live (entries ++ e ∷ [])
@@ -276,3 +279,9 @@ one_kept client mid domain live entries within stands =
 
 pub kept_apart : (domain : ℕ) (live : LiveValue) (entries : List Entry) → domain < live.domains → StandsFor live entries → AreApart (kept_of live domain)
 kept_apart domain live entries within stands = subst AreApart (sym (stands.rows domain within)) (live_apart live.time (alone domain (map bare entries)))
+
+pub are_empty_tables : (live : LiveValue) → AreEmpty live.domains live.limits.domain_mitigations live.tables → AreTables live
+are_empty_tables live are = record {
+  number = are.counted;
+  rooms = λ domain table is. ap (λ (t : LiveTable). t.room) (are.each domain table is);
+}

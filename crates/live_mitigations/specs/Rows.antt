@@ -1,5 +1,6 @@
 -- The live mitigations of a domain, and those of all domains, as tables keep them.
 use Rattle.std.specs.Prelude.{◌≡◌, ℕ, zero, suc, ◌+◌, Bool, List, [], ◌∷◌, map, length, slice_get, Option, Some, None, option_map}
+use Rattle.std.specs.List.{list_any}
 use Rattle.dots_history.specs.declared.entry.Entry.{Entry}
 use Rattle.dots_history.specs.declared.status.Status.TheVariants.{Open}
 use Rattle.dots_history.specs.Histories.{Mitigation, live, step}
@@ -68,6 +69,10 @@ count_rows (table ∷ tables) = length table.rows + count_rows tables
 pub record AreEmpty (number room : ℕ) (tables : List LiveTable) : Type 0 where
   pub counted : length tables ≡ number
   pub each : (domain : ℕ) (table : LiveTable) → slice_get tables domain ≡ Some table → table ≡ record { room = room; rows = [] }
+
+-- one of them passes
+abbrev pub any_row : (Mitigation → Bool) → List LiveTable → Bool
+any_row test tables = list_any (λ (table : LiveTable). list_any test table.rows) tables
 
 abbrev pub due_of : LiveTable → ℕ
 due_of table = first_end table.rows

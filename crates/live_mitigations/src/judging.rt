@@ -66,13 +66,6 @@ impl LiveMitigations {
         ensures { (entries : List Entry) → StandsFor self.now entries
             → result ≡ judge_overlap (lives_of domain self.now.time entries) cuid.now (wanted mid asked.now targets.now) self.now.limits }
     {
-        judge_overlap(
-            self.rows(domain),
-            cuid,
-            mid,
-            asked,
-            targets,
-            &self.limits(),
-        )
+        judge_overlap(self.rows(domain), cuid, mid, asked, targets, &self.limits())
     }
 }

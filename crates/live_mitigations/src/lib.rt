@@ -1,4 +1,20 @@
 //! The live mitigations of all domains, with the times at which they are over.
+//!
+//! [`LiveMitigations`] stands for a history at a time (`specs/Standing`): of each domain it keeps what the entries of that
+//! domain come to, and no other entries. The contract of each call is said for every history that it stands for. `Ends`
+//! says at which second a mitigation is over, `Judging` and `Reading` what is read; `Rows` and `Standing` have the tables.
+//! Only [`LiveMitigations::new`] takes memory.
+//!
+//! Who keeps more by the live mitigations, as rows of filters, learns of each that goes before it goes:
+//!
+//! - Time: while [`LiveMitigations::next_due`] answers a domain, those of its [`LiveMitigations::rows`] that aren't
+//!   [`Row::is_live`] at the new time go; take out what was kept by them, and then call [`LiveMitigations::expire`] for this
+//!   domain. After that a client that has no row left in the domain is no longer mitigating. In the end
+//!   [`LiveMitigations::tick`] moves the time. Between these calls what is kept `ComesTo` the histories that it stood for,
+//!   and the rows of the other domains are as they were.
+//! - An entry at the time: of a domain's rows those go that [`Row::is_ended_by`] it. A mitigation is handed over with
+//!   [`LiveMitigations::put`], where [`LiveMitigations::has_room`]; any other entry is shown to [`LiveMitigations::note`], so
+//!   that it can be moved elsewhere.
 #![tactic(auto)]
 
 mod counting;
@@ -10,6 +26,6 @@ mod reading;
 mod row;
 mod tables;
 
-pub use live::LiveMitigations;
+pub use live::{LiveMitigations, puts};
 pub use reading::{MitigationRow, Mitigations};
 pub use row::Row;

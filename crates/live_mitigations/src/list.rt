@@ -1,6 +1,7 @@
 //! The live mitigations of one domain.
 
-ghost use Rattle.std.specs.Prelude.{◌≡◌, ◌≤◌, ◌++◌, ◌∷◌, [], None, length, map, IfOk, vec_capacity};
+ghost use Rattle.std.specs.Prelude.{◌≡◌, ◌≤◌, ◌++◌, ◌∷◌, ◌==◌, [], None, length, map, IfOk, vec_capacity};
+ghost use Rattle.std.specs.List.{list_any};
 ghost use Rattle.dots_history.specs.Entries.{put_of};
 ghost use Rattle.dots_history.specs.Keeping.{moved};
 ghost use Rattle.dots_history.specs.declared.status.Status.TheVariants.{Open};
@@ -49,6 +50,13 @@ impl LiveList {
         ensures { result.now ≡ self.now.rows }
     {
         self.rows.as_slice()
+    }
+
+    /// Whether one of them has this peer.
+    pub fn has_peer(&self, peer: u32) -> bool
+        ensures { result ≡ list_any (λ m. m.put.peer == peer) self.now.rows }
+    {
+        self.rows.iter().any(|row| row.peer() == peer)
     }
 
     /// Takes those out that are over.

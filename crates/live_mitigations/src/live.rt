@@ -1,17 +1,18 @@
 //! The live mitigations of all domains at a time.
 
 ghost use Rattle.std.specs.Prelude.{◌≡◌, ◌≢◌, ℕ, ◌<◌, ◌≤◌, ◌++◌, ◌∷◌, ◌==◌, [], true, false, List, length, map, IfOk, IfSome, IfNone};
+ghost use Rattle.std.specs.List.{list_any};
 ghost use Rattle.dots_history.specs.declared.entry.Entry.{Entry};
 ghost use Rattle.dots_history.specs.Histories.{mitigations, alone};
 ghost use Rattle.dots_laws.specs.Tables.{bare};
 ghost use Rattle.dots_laws.specs.Views.{mitigations_at, mitigations_with, mitigations_of};
 ghost use Rattle.live_mitigations.specs.Ends.{never};
-ghost use Rattle.live_mitigations.specs.Standing.{kept_of, count_kept, has_due, puts, StandsFor, ComesTo, SameButRows, has_live_room};
+ghost use Rattle.live_mitigations.specs.Standing.{kept_of, count_kept, has_due, puts, StandsFor, ComesTo, SameButRows, keeps_limits, has_live_room};
 
 use crate::counting::keep_limits;
 use crate::row::Row;
 use crate::tables::LiveTables;
-use dots_history::Entry;
+use dots_history::{Entry, put_of};
 use dots_lists::NoMemory;
 use dots_settings::{Limits, Settings};
 use std::alloc::Global;
@@ -27,8 +28,7 @@ pub struct LiveMitigations {
 }
 
 impl Model for LiveMitigations {
-    ghost use Rattle.std.specs.Prelude.{◌≡◌, length};
-    ghost use Rattle.live_mitigations.specs.Standing.{LiveValue};
+    ghost use Rattle.live_mitigations.specs.Standing.{LiveValue, AreTables};
 
     ghost Value = { LiveValue };
 
@@ -39,12 +39,17 @@ impl Model for LiveMitigations {
       tables = live.tables;
     } };
 
-    ghost invariant = { λ live. length live.tables ≡ live.domains };
+    ghost invariant = { λ live. AreTables (record {
+      domains = live.domains;
+      limits = live.limits;
+      time = live.time;
+      tables = live.tables;
+    }) };
 }
 
 impl LiveMitigations {
     /// Those of no entries, at time 0. This is the only call that takes memory.
-    #[tactic(auto, using(crate::proofs::Standing::stands_empty))]
+    #[tactic(auto, using(crate::proofs::Standing::stands_empty, crate::proofs::Standing::are_empty_tables))]
     pub fn new(alloc: Global, settings: &Settings) -> Result<Self, NoMemory>
         ensures stands { IfOk result (λ live. StandsFor live []) }
         ensures domains { IfOk result (λ live. live.domains ≡ length settings.now.domains) }
@@ -69,6 +74,13 @@ impl LiveMitigations {
         self.time
     }
 
+    /// How many domains there are.
+    pub fn domains(&self) -> u16
+        ensures { result ≡ self.now.domains }
+    {
+        self.domains
+    }
+
     /// How much there is room for.
     pub fn limits(&self) -> Limits
         ensures { result ≡ self.now.limits }
@@ -83,6 +95,13 @@ impl LiveMitigations {
         ensures live { (entries : List Entry) → StandsFor self.now entries → result.now ≡ mitigations_of domain (mitigations self.now.time (map bare entries)) }
     {
         self.tables.rows(domain)
+    }
+
+    /// Whether a live mitigation has this peer.
+    pub fn mitigating(&self, peer: u32) -> bool
+        ensures { (entries : List Entry) → StandsFor self.now entries → result ≡ list_any (λ m. m.put.peer == peer) (mitigations self.now.time entries) }
+    {
+        self.tables.has_peer(peer)
     }
 
     /// The number of a domain in which a mitigation is over by this time; None where there is none.
@@ -109,7 +128,8 @@ impl LiveMitigations {
 
     /// Moves the time, and takes out what is over then.
     pub fn tick(&mut self, now: u64)
-        requires { now < never }
+        requires later { self.old.time ≤ now }
+        requires bounded { now < never }
         ensures stands { (entries : List Entry) → ComesTo now self.old entries → StandsFor self.new entries }
         ensures time { self.new.time ≡ now }
         ensures domains { self.new.domains ≡ self.old.domains }
@@ -136,7 +156,8 @@ impl LiveMitigations {
     pub fn has_room(&self, entry: &Entry) -> bool
         requires later { self.now.time ≤ entry.now.time }
         requires inside { entry.now.domain < self.now.domains }
-        ensures { (entries : List Entry) → StandsFor self.now entries → result ≡ has_live_room self.now.limits entries entry.now }
+        ensures kept { result ≡ keeps_limits self.now.limits entry.now (kept_of self.now entry.now.domain) }
+        ensures room { (entries : List Entry) → StandsFor self.now entries → result ≡ has_live_room self.now.limits entries entry.now }
     {
         keep_limits(self.tables.rows(entry.domain), entry, &self.limits)
     }
@@ -155,12 +176,12 @@ impl LiveMitigations {
         }
     }
 
-    /// Takes an entry at the time, of one of the domains: one that puts a mitigation for which there is room. Its message
-    /// and its reply don't matter, so they may be taken out of it before.
+    /// Takes an entry at the time, of one of the domains: one that puts a mitigation for which there is room, as
+    /// [`LiveMitigations::has_room`] says. Its message and its reply don't matter, so they may be taken out of it before.
     pub fn put(&mut self, entry: Entry)
         requires at { entry.time ≡ self.old.time }
         requires inside { entry.domain < self.old.domains }
-        requires room { (entries : List Entry) × StandsFor self.old entries × (has_live_room self.old.limits entries entry ≡ true) }
+        requires room { keeps_limits self.old.limits entry (kept_of self.old entry.domain) ≡ true }
         ensures stands { (entries : List Entry) (e : Entry) → bare e ≡ bare entry → StandsFor self.old entries → StandsFor self.new (entries ++ e ∷ []) }
         ensures own { kept_of self.new entry.domain ≡ mitigations_with (bare entry) (kept_of self.old entry.domain) }
         ensures others { (other : ℕ) → other ≢ entry.domain → kept_of self.new other ≡ kept_of self.old other }
@@ -168,4 +189,11 @@ impl LiveMitigations {
     {
         self.tables.put(entry);
     }
+}
+
+/// Whether the entry puts a mitigation.
+pub fn puts(entry: &Entry) -> bool
+    ensures { result ≡ puts entry.now }
+{
+    put_of(&entry.change).is_some()
 }

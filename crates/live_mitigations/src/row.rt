@@ -327,9 +327,7 @@ fn seconds_of(t: u64, at: u64, granted: i32) -> i128
 fn fit(seconds: i128) -> i32
     ensures { result ≡ fitted seconds }
 {
-    seconds
-        .max(i128::from(i32::MIN))
-        .min(i128::from(i32::MAX)) as i32
+    seconds.max(i128::from(i32::MIN)).min(i128::from(i32::MAX)) as i32
 }
 
 /// Whether t is less than 120 seconds after the other time.

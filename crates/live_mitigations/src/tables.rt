@@ -1,10 +1,10 @@
 //! The live mitigations of each domain, and when the first of each are over.
 
-ghost use Rattle.std.specs.Prelude.{◌≡◌, ℕ, ◌<◌, ◌≤◌, length, IfOk, IfSome, IfNone, Some, slice_get};
+ghost use Rattle.std.specs.Prelude.{◌≡◌, ℕ, ◌<◌, ◌≤◌, ◌==◌, length, IfOk, IfSome, IfNone, Some, slice_get};
 ghost use Rattle.dots_laws.specs.Tables.{bare};
 ghost use Rattle.dots_laws.specs.Views.{mitigations_with};
 ghost use Rattle.live_mitigations.specs.Ends.{never, first_end};
-ghost use Rattle.live_mitigations.specs.Rows.{LiveTable, AreEmpty, aged, noted, grown, update, rows_at};
+ghost use Rattle.live_mitigations.specs.Rows.{LiveTable, AreEmpty, aged, noted, grown, update, rows_at, any_row};
 
 use crate::list::LiveList;
 use crate::row::Row;
@@ -56,6 +56,13 @@ impl LiveTables {
             Some(list) => list.rows(),
             None => &[],
         }
+    }
+
+    /// Whether one of a domain has this peer.
+    pub fn has_peer(&self, peer: u32) -> bool
+        ensures { result ≡ any_row (λ m. m.put.peer == peer) self.now }
+    {
+        self.lists.iter().any(|list| list.has_peer(peer))
     }
 
     /// The number of a domain in which a mitigation is over by this time, where there is one.

@@ -1,18 +1,17 @@
-use Rattle.std.proofs.Common.{length, refl, ap, ◌∙◌}
+use Rattle.std.proofs.Common.{refl}
 use Rattle.dots_laws.specs.Views.{mitigations_at}
 use Rattle.live_mitigations.specs.Rows.{aged}
-use Rattle.live_mitigations.proofs.Updates.{length_updated}
-use Rattle.live_mitigations.proofs.Standing.{changed_to, within_tables, changed_own, changed_other, changed_comes, changed_fewer}
+use Rattle.live_mitigations.proofs.Standing.{changed_to, changed_here, within_tables, changed_own, changed_other, changed_comes, changed_fewer}
 use Rattle.live_mitigations.proofs.live.LiveMitigations.expire.Goals as goal
 
 pub invariant_of-self : goal.invariant_of-self
-invariant_of-self c = ap length c.expire.ensures ∙ length_updated (aged c.args.now) c.args.domain c.self.inside.tables ∙ c.self.invariant
+invariant_of-self c = changed_here (aged c.args.now) c.args.domain _ c.expire.new.self c.expire.ensures (λ table. refl) c.self.invariant
 
 pub returns-clause-own : goal.returns-clause-own
 returns-clause-own c =
     changed_own (aged c.args.now) (mitigations_at c.args.now) c.args.domain c.args.self.now _
     (changed_to (aged c.args.now) c.args.domain _ c.args.self.now c.expire.new.self c.self.view_is c.expire.ensures)
-    (within_tables c.args.domain _ c.args.self.now c.self.view_is c.self.invariant c.requires)
+    (within_tables c.args.domain _ c.args.self.now c.self.view_is c.self.invariant.number c.requires)
     (λ table. refl)
 
 pub returns-clause-others : goal.returns-clause-others
@@ -24,7 +23,7 @@ pub returns-clause-comes : goal.returns-clause-comes
 returns-clause-comes c = λ entries comes.
     changed_comes (aged c.args.now) c.args.now c.args.domain c.args.self.now _ entries
     (changed_to (aged c.args.now) c.args.domain _ c.args.self.now c.expire.new.self c.self.view_is c.expire.ensures)
-    (within_tables c.args.domain _ c.args.self.now c.self.view_is c.self.invariant c.requires)
+    (within_tables c.args.domain _ c.args.self.now c.self.view_is c.self.invariant.number c.requires)
     (λ table. refl)
     (λ table. refl)
     comes
@@ -33,6 +32,6 @@ pub returns-clause-fewer : goal.returns-clause-fewer
 returns-clause-fewer c = λ due.
     changed_fewer (aged c.args.now) c.args.now c.args.domain c.args.self.now _
     (changed_to (aged c.args.now) c.args.domain _ c.args.self.now c.expire.new.self c.self.view_is c.expire.ensures)
-    (within_tables c.args.domain _ c.args.self.now c.self.view_is c.self.invariant c.requires)
+    (within_tables c.args.domain _ c.args.self.now c.self.view_is c.self.invariant.number c.requires)
     (λ table. refl)
     due

@@ -1,23 +1,22 @@
-use Rattle.std.proofs.Common.{length, refl, ap, ◌∙◌, arith}
+use Rattle.std.proofs.Common.{refl, ap, arith}
 use Rattle.dots_laws.specs.Tables.{bare}
 use Rattle.dots_laws.specs.Views.{mitigations_with}
 use Rattle.live_mitigations.specs.Rows.{grown}
 use Rattle.live_mitigations.specs.Standing.{LiveValue}
-use Rattle.live_mitigations.proofs.Updates.{length_updated}
-use Rattle.live_mitigations.proofs.Standing.{changed_to, within_tables, changed_own, changed_other, put_stands}
-use Rattle.live_mitigations.proofs.Room.{fits_inside}
+use Rattle.live_mitigations.proofs.Standing.{changed_to, changed_here, within_tables, changed_own, changed_other, put_stands}
+use Rattle.live_mitigations.proofs.Room.{fits_kept}
 use Rattle.live_mitigations.proofs.live.LiveMitigations.put.Goals as goal
 
 pub put-requires : goal.put-requires
 put-requires c =
     let same = ap (λ (v : LiveValue). v.domains) c.self.view_is in
     record {
-      domain = omega (arith, same, c.self.invariant, c.requires.inside);
-      room = fits_inside _ c.args.self.now c.requires.room.0 c.args.entry c.self.view_is c.requires.at c.requires.inside c.requires.room.1 c.requires.room.2;
+      domain = omega (arith, same, c.self.invariant.number, c.requires.inside);
+      room = fits_kept _ c.args.self.now c.args.entry c.self.view_is c.self.invariant c.requires.room;
     }
 
 pub invariant_of-self : goal.invariant_of-self
-invariant_of-self c = ap length c.put.ensures ∙ length_updated (grown (bare c.args.entry)) c.args.entry.domain c.self.inside.tables ∙ c.self.invariant
+invariant_of-self c = changed_here (grown (bare c.args.entry)) c.args.entry.domain _ c.put.new.self c.put.ensures (λ table. refl) c.self.invariant
 
 pub returns-clause-stands : goal.returns-clause-stands
 returns-clause-stands c = λ entries e same stands.
@@ -29,7 +28,7 @@ pub returns-clause-own : goal.returns-clause-own
 returns-clause-own c =
     changed_own (grown (bare c.args.entry)) (mitigations_with (bare c.args.entry)) c.args.entry.domain c.args.self.now _
     (changed_to (grown (bare c.args.entry)) c.args.entry.domain _ c.args.self.now c.put.new.self c.self.view_is c.put.ensures)
-    (within_tables c.args.entry.domain _ c.args.self.now c.self.view_is c.self.invariant c.requires.inside)
+    (within_tables c.args.entry.domain _ c.args.self.now c.self.view_is c.self.invariant.number c.requires.inside)
     (λ table. refl)
 
 pub returns-clause-others : goal.returns-clause-others
