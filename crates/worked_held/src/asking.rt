@@ -25,11 +25,7 @@ pub fn take(alloc: Global, things: &mut HeldThings, step: Step<'_>) -> Result<bo
 }
 
 /// The tables after these steps, each of which fits.
-pub fn things(
-    alloc: Global,
-    settings: &Settings,
-    steps: &[Step<'_>],
-) -> Result<HeldThings, Fail>
+pub fn things(alloc: Global, settings: &Settings, steps: &[Step<'_>]) -> Result<HeldThings, Fail>
     ensures { IfOk result (λ things. (entries : List Entry) × StandsFor things entries) }
 {
     let mut things = HeldThings::new(alloc, settings)?;

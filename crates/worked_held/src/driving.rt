@@ -28,6 +28,7 @@ capacity acls 1
 ";
 
 const CUIDS: [&str; 3] = ["a", "b", "c"];
+
 const NAMES: [&str; 3] = ["x", "y", "z"];
 
 /// The next of some numbers that look like chance.
@@ -95,10 +96,7 @@ fn step(state: u32) -> Step<'static> {
         1 => (who(state), Act::Withdraw(pick(state, 65_536, 5))),
         2..5 => (who(state), Act::SetAlias(name, length)),
         5 => (who(state), Act::DropAlias(name)),
-        6..8 => (
-            who(state),
-            Act::SetAcl(name, length, Activation::Immediate),
-        ),
+        6..8 => (who(state), Act::SetAcl(name, length, Activation::Immediate)),
         8 => (who(state), Act::DropAcl(name)),
         9..11 => (who(state), Act::Register),
         11 => (who(state), Act::Deregister),

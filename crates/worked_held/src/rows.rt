@@ -1,6 +1,6 @@
 //! Worked rows: clients, aliases, access lists and session configurations.
 
-use crate::asking::{activation, alias_length, fails, session, things, client};
+use crate::asking::{activation, alias_length, client, fails, session, things};
 use crate::steps::{Act, CLIENT, SESSION, Step, Who, settings};
 use acl_lists::Activation;
 use std::alloc::Global;
@@ -32,9 +32,13 @@ const NAMESAKE: Who<'static> = Who {
 };
 
 const REGISTERED: Step<'static> = (CLIENT, Act::Register);
+
 const OK: Step<'static> = (CLIENT, Act::SetAcl("ok", 24, Activation::Immediate));
+
 const NO: Step<'static> = (CLIENT, Act::SetAcl("no", 24, Activation::WhenMitigating));
+
 const WEB: Step<'static> = (CLIENT, Act::SetAlias("web", 32));
+
 const DNS: Step<'static> = (CLIENT, Act::SetAlias("dns", 32));
 
 /// What is told of the first client: whether it is registered, the first two letters of its aliases and of its lists, and the number
@@ -59,10 +63,7 @@ fn ask(alloc: Global, steps: &[Step<'_>]) -> Result<Row, Fail> {
 fn what_a_client_holds(rt: HostRuntime) -> Result<(), Fail> {
     let rows: [(&[Step<'_>], Row); 8] = [
         (&[], (false, [0, 0], [0, 0], None)),
-        (
-            &[REGISTERED, OK, NO],
-            (true, [0, 0], [b'o', b'n'], None),
-        ),
+        (&[REGISTERED, OK, NO], (true, [0, 0], [b'o', b'n'], None)),
         (
             &[REGISTERED, OK, NO, OK],
             (true, [0, 0], [b'n', b'o'], None),
@@ -119,7 +120,13 @@ fn what_does_not_fit(rt: HostRuntime) -> Result<(), Fail> {
             true,
         ),
         (
-            &[REGISTERED, WEB, (OTHER, Act::Register), (OTHER, Act::SetAlias("web", 31)), DNS],
+            &[
+                REGISTERED,
+                WEB,
+                (OTHER, Act::Register),
+                (OTHER, Act::SetAlias("web", 31)),
+                DNS,
+            ],
             false,
         ),
     ];

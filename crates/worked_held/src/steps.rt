@@ -78,7 +78,11 @@ pub fn name(alloc: Global, text: &str) -> Result<Name, Fail> {
 fn prefix(domain: u16, length: u8) -> Result<Prefix, Fail> {
     let address = Addr {
         family: Family::V4,
-        number: if domain == 1 { 0xc633_6400 } else { 0xc000_0200 },
+        number: if domain == 1 {
+            0xc633_6400
+        } else {
+            0xc000_0200
+        },
     };
     match Prefix::new(address, length) {
         Some(prefix) => Ok(prefix),
