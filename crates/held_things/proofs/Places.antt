@@ -103,14 +103,16 @@ same_any cuid other c (h ∷ hs) =
 
 pub apart_changed : (cuid : List ℕ) (c : Change) (hs : List Holding) → AreApart hs → AreApart (map (changed cuid c) hs)
 apart_changed cuid c [] apart = record {}
-apart_changed cuid c (h ∷ hs) apart =
-    (cond_both
-    (has_cuid cuid h)
-    (holding_with c h)
-    h
-    (λ x. list_any (has_cuid x.cuid) (map (changed cuid c) hs) ≡ false)
-    (λ is. same_any cuid h.cuid c hs ∙ apart.0)
-    (λ out. same_any cuid h.cuid c hs ∙ apart.0), apart_changed cuid c hs apart.1)
+apart_changed cuid c (h ∷ hs) apart = (
+  cond_both
+      (has_cuid cuid h)
+      (holding_with c h)
+      h
+      (λ x. list_any (has_cuid x.cuid) (map (changed cuid c) hs) ≡ false)
+      (λ is. same_any cuid h.cuid c hs ∙ apart.0)
+      (λ out. same_any cuid h.cuid c hs ∙ apart.0),
+  apart_changed cuid c hs apart.1,
+)
 
 none_filtered : (other : List ℕ) (test : Holding → Bool) (hs : List Holding) → list_any (has_cuid other) hs ≡ false → list_any (has_cuid other) (filter test hs) ≡ false
 none_filtered other test [] none = refl
@@ -180,13 +182,15 @@ register_keeps rooms list spare after left x y cuid sum apart have empty popped 
     let a = ap length is in
     let b = length-append list (no_holding rooms cuid ∷ []) in
     let d = ap length popped in
-    let e = length-append left (x ∷ []) in
-    ((
-      omega (arith, sum, a, b, d, e),
-      subst AreApart (sym is) (apart_pushed list (no_holding rooms cuid) apart fresh),
-      subst (HaveRooms rooms) (sym is) (rooms_pushed rooms list (no_holding rooms cuid) have refl),
-      parts.0,
-    ), is)
+    let e = length-append left (x ∷ []) in (
+      (
+        omega (arith, sum, a, b, d, e),
+        subst AreApart (sym is) (apart_pushed list (no_holding rooms cuid) apart fresh),
+        subst (HaveRooms rooms) (sym is) (rooms_pushed rooms list (no_holding rooms cuid) have refl),
+        parts.0,
+      ),
+      is,
+    )
 
 pub leave_keeps : (rooms : Rooms) (list spare after more : List Holding) (x y : Holding) (place : ℕ) (cuid : List ℕ)
     → length list + length spare ≡ rooms.clients → AreApart list → HaveRooms rooms list → AreEmpty rooms spare
@@ -201,13 +205,15 @@ leave_keeps rooms list spare after more x y place cuid sum apart have empty foun
     let a = ap length removed in
     let b = length-remove list place facts.0 in
     let d = ap length pushed in
-    let e = length-append spare (y ∷ []) in
-    ((
-      omega (arith, sum, a, b, d, e),
-      subst AreApart (sym is) (apart_filtered (λ h. not (has_cuid cuid h)) list apart),
-      subst (HaveRooms rooms) (sym is) (rooms_filtered rooms (λ h. not (has_cuid cuid h)) list have),
-      subst (AreEmpty rooms) (sym pushed) (empty_pushed rooms spare y empty (cleared_so ∙ ap (no_holding rooms) (sym same_cuid))),
-    ), is)
+    let e = length-append spare (y ∷ []) in (
+      (
+        omega (arith, sum, a, b, d, e),
+        subst AreApart (sym is) (apart_filtered (λ h. not (has_cuid cuid h)) list apart),
+        subst (HaveRooms rooms) (sym is) (rooms_filtered rooms (λ h. not (has_cuid cuid h)) list have),
+        subst (AreEmpty rooms) (sym pushed) (empty_pushed rooms spare y empty (cleared_so ∙ ap (no_holding rooms) (sym same_cuid))),
+      ),
+      is,
+    )
 
 pub change_keeps : (rooms : Rooms) (list spare after : List Holding) (x : Holding) (place : ℕ) (cuid : List ℕ) (c : Change)
     → length list + length spare ≡ rooms.clients → AreApart list → HaveRooms rooms list → AreEmpty rooms spare
@@ -216,13 +222,15 @@ pub change_keeps : (rooms : Rooms) (list spare after : List Holding) (x : Holdin
 change_keeps rooms list spare after x place cuid c sum apart have empty found at put =
     let is : after ≡ map (changed cuid c) list = put ∙ changed_there cuid c list place x found at apart in
     let a = ap length put in
-    let b = length-set list place (holding_with c x) in
-    ((
-      omega (arith, sum, a, b),
-      subst AreApart (sym is) (apart_changed cuid c list apart),
-      subst (HaveRooms rooms) (sym is) (rooms_changed rooms cuid c list have),
-      empty,
-    ), is)
+    let b = length-set list place (holding_with c x) in (
+      (
+        omega (arith, sum, a, b),
+        subst AreApart (sym is) (apart_changed cuid c list apart),
+        subst (HaveRooms rooms) (sym is) (rooms_changed rooms cuid c list have),
+        empty,
+      ),
+      is,
+    )
 
 -- nothing changes where nobody has the cuid
 pub leave_none : (cuid : List ℕ) (list : List Holding) → position (has_cuid cuid) list ≡ None → filter (λ h. not (has_cuid cuid h)) list ≡ list

@@ -582,3 +582,33 @@ sizes_first settings rooms count clients sessions limits number empty none =
   where
     sizes_by : ℕ → Rooms → List ℕ → Sizes
     sizes_by domains rooms peers = record { domains = domains; rooms = rooms; peers = peers }
+
+-- ---- tables of one history
+all_same : {A : Type 0} (xs ys : List A) → length xs ≡ length ys
+    → ((i : ℕ) (x y : A) → slice_get xs i ≡ Some x → slice_get ys i ≡ Some y → x ≡ y) → xs ≡ ys
+all_same [] [] size each = refl
+all_same [] (y ∷ ys) size each = absurd (omega (arith, size))
+all_same (x ∷ xs) [] size each = absurd (omega (arith, size))
+all_same (x ∷ xs) (y ∷ ys) size each =
+    ap (λ z. z ∷ xs) (each zero x y refl refl)
+    ∙ ap (λ zs. y ∷ zs) (all_same xs ys (omega (arith, size)) (λ i a b in_xs in_ys. each (suc i) a b in_xs in_ys))
+
+abbrev tables_by : Sizes → List Clients → List Session → Tables
+tables_by sizes clients sessions = record { sizes = sizes; clients = clients; sessions = sessions }
+
+pub one_value : (a b : Tables) (entries : List Entry) → a.sizes ≡ b.sizes → StandsFor a entries → StandsFor b entries → a ≡ b
+one_value a b entries sizes first second =
+    ap (λ s. tables_by s a.clients a.sessions) sizes
+    ∙ ap
+    (λ cs. tables_by b.sizes cs a.sessions)
+    (all_same
+    a.clients
+    b.clients
+    (first.domains ∙ ap (λ (s : Sizes). s.domains) sizes ∙ sym second.domains)
+    (λ i x y in_a in_b.
+    first.clients i x in_a
+    ∙ ap (λ (s : Sizes). clients_of s.rooms i (held entries)) sizes
+    ∙ sym (second.clients i y in_b)))
+    ∙ ap
+    (tables_by b.sizes b.clients)
+    (first.sessions ∙ ap (λ (s : Sizes). map (session_of (held entries)) s.peers) sizes ∙ sym second.sessions)

@@ -41,3 +41,8 @@ pub fn what_fits_is_accepted()
     ensures same { (tables : Tables) (xs ys : List Entry) (e : Entry) → StandsFor tables xs → StandsFor tables ys
         → accepts tables.sizes xs e ≡ accepts tables.sizes ys e }
 {}
+
+/// Tables of one size that stand for one history are the same: nothing of them is left open.
+pub fn tables_are_one()
+    ensures { (a b : Tables) (entries : List Entry) → a.sizes ≡ b.sizes → StandsFor a entries → StandsFor b entries → a ≡ b }
+{}

@@ -35,7 +35,10 @@ pub fn configure(sessions: &mut Vec<Session>, entry: &Entry)
     ensures { sessions.new.items ≡ map (session_with entry.now) sessions.old.items }
 {
     match &entry.change {
-        Change::SetConfig { .. } | Change::ClearConfig => configure_all(sessions.as_mut_slice(), entry),
+        Change::SetConfig { .. } | Change::ClearConfig => configure_all(
+            sessions.as_mut_slice(),
+            entry,
+        ),
         Change::Put(_)
         | Change::Withdraw { .. }
         | Change::SetAlias(_)

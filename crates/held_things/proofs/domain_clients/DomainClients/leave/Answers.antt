@@ -15,8 +15,7 @@ invariant_of-self c =
     c.remove-client.ensures.value
     c.remove-client.ensures.items
     c.clear.ensures
-    c.push_reserved.ensures.items in
-    (
+    c.push_reserved.ensures.items in (
       keeps.0.0,
       keeps.0.1,
       keeps.0.2,

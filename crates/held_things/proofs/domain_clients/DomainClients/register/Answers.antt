@@ -15,8 +15,7 @@ invariant_of-self c =
     (c.pop.ensures.items ∙ ap (λ o. c.pop.new.self.items ++ option_to_list o) c.unwrap-client.ensures)
     c.rename.ensures
     c.push_reserved.ensures.items
-    (ap (λ (v : Clients). list_any (has_cuid c.args.cuid) v.list) c.self.view_is ∙ c.requires.fresh) in
-    (
+    (ap (λ (v : Clients). list_any (has_cuid c.args.cuid) v.list) c.self.view_is ∙ c.requires.fresh) in (
       keeps.0.0,
       keeps.0.1,
       keeps.0.2,
