@@ -31,21 +31,19 @@ enum Shown {
     Nothing,
 }
 
-fn observer(alloc: Global, peer: u32, domain: u16, token: u8) -> Result<Observer, Fail> {
-    let Some(token) = Token::new(&[token]) else {
-        return Err(Fail::from("a token"));
+fn observer(alloc: Global, peer: u32, domain: u16, token: u8) -> Option<Observer> {
+    let token = Token::new(&[token])?;
+    let Ok(Some(cuid)) = Name::new(alloc, b"client") else {
+        return None;
     };
-    match Name::new(alloc, b"client")? {
-        Some(cuid) => Ok(Observer {
-            peer,
-            domain,
-            token,
-            cuid,
-            mid: None,
-            content: Content::All,
-        }),
-        None => Err(Fail::from("a name")),
-    }
+    Some(Observer {
+        peer,
+        domain,
+        token,
+        cuid,
+        mid: None,
+        content: Content::All,
+    })
 }
 
 /// The number of the reply, 0 for none.
@@ -85,8 +83,8 @@ fn take(
 ) -> Shown {
     match step {
         Step::Register(peer, domain, token) => match observer(alloc, peer, domain, token) {
-            Ok(observer) => Shown::Reply(register(observers, views, observer)),
-            Err(_) => Shown::Reply(998),
+            Some(observer) => Shown::Reply(register(observers, views, observer)),
+            None => Shown::Reply(998),
         },
         Step::Deregister(peer, token) => {
             observers.deregister(peer, &[token]);
