@@ -12,7 +12,7 @@ use Rattle.dots_laws.specs.Tables.{ring, pushed}
 use Rattle.dots_laws.proofs.Rings.{ring_push}
 use Rattle.coap_exchange.specs.declared.message.Message.{Message}
 use Rattle.coap_exchange.specs.declared.pair.Pair.{Pair}
-use Rattle.coap_exchange.specs.Noting.{Call, Note, Move, Said, after_call, after_calls, is_same, noted_by, all_noted, said_by_entry, said_by_message, message_of, Remembers, AllRemember}
+use Rattle.coap_exchange.specs.Noting.{Call, Note, Move, Said, after_call, after_calls, is_same, noted_by, all_noted, said_by_entry, said_by_message, message_of, HasLasts, AllHave, Remembers, AllRemember}
 use Rattle.coap_exchange.specs.Pairs.{is_pair}
 use Rattle.coap_exchange.specs.Rings.{RingValue, empty_ring, is_ring_of, ring_of, messages_of, reply_to, answers, reply_of, grown, noted, renumbered, ring_renumbered}
 use Rattle.coap_exchange.proofs.Firsts.{one_there}
@@ -267,6 +267,57 @@ moved_remembers n keep rings entries all peer domain r there =
 
     same : (x : RingValue) → Remembers n entries peer domain x → Remembers n entries peer domain (ring_renumbered keep x)
     same x rem = record { room = rem.room; messages = same_said x.messages ∙ rem.messages }
+
+-- ---- what was noted, call by call
+
+pub start_has : (n : ℕ) (pairs : List Pair) → AllHave n (map (empty_ring n) pairs) (λ peer domain. [])
+start_has n pairs peer domain r there =
+    let empty = only_empty peer domain n pairs r there in
+    record { room = empty.room; messages = empty.messages ∙ sym (drop_nil (0 - n)) }
+
+pub step_has : (n : ℕ) (rings : List RingValue) (notes : ℕ → ℕ → List Message) (call : Call) → AllHave n rings notes
+    → AllHave n (after_call rings call) (λ peer domain. noted_by peer domain (notes peer domain) call)
+step_has n rings notes (Note other number message) all peer domain r there =
+    elim (cases_Bool (is_same peer domain other number)) [
+      inl same ↦
+        let parts = and_parts (other == peer) (number == domain) same in
+        let one : other ≡ peer = eqb-true other peer parts.0 in
+        let two : number ≡ domain = eqb-true number domain parts.1 in
+        let after = sym (ring_same peer domain message rings)
+            ∙ sym (ap (λ d. ring_of peer domain (noted peer d message rings)) two)
+            ∙ sym (ap (λ p. ring_of peer domain (noted p number message rings)) one)
+            ∙ there
+        in
+        let old = image_of (grown message) (ring_of peer domain rings) r after in
+        subst (HasLasts n (noted_by peer domain (notes peer domain) (Note other number message))) old.image
+        (more old.x (all peer domain old.x old.there) same)
+    | inr apart ↦
+        fewer r (all peer domain r (sym (ring_other peer domain other number message rings apart) ∙ there)) apart
+    ]
+  where
+    more : (x : RingValue) → HasLasts n (notes peer domain) x → is_same peer domain other number ≡ true
+        → HasLasts n (noted_by peer domain (notes peer domain) (Note other number message)) (grown message x)
+    more x has is = record {
+      room = has.room;
+      messages =
+          ap (λ k. pushed k message x.messages) has.room
+          ∙ ap (pushed n message) has.messages
+          ∙ pushed_lasts n message (notes peer domain)
+          ∙ ap (lasts n) (sym (cond-true (is_same peer domain other number) (notes peer domain ++ message ∷ []) (notes peer domain) is));
+    }
+    fewer : (x : RingValue) → HasLasts n (notes peer domain) x → is_same peer domain other number ≡ false
+        → HasLasts n (noted_by peer domain (notes peer domain) (Note other number message)) x
+    fewer x has out = record {
+      room = has.room;
+      messages = has.messages ∙ ap (lasts n) (sym (cond-false (is_same peer domain other number) (notes peer domain ++ message ∷ []) (notes peer domain) out));
+    }
+step_has n rings notes (Move keep) all peer domain r there =
+    let old = image_of (ring_renumbered keep) (ring_of peer domain rings) r (sym (ring_moved peer domain keep rings) ∙ there) in
+    let has = all peer domain old.x old.there in
+    subst (HasLasts n (map (renumbered keep) (notes peer domain))) old.image (record {
+      room = has.room;
+      messages = ap (map (renumbered keep)) has.messages ∙ map_lasts (renumbered keep) n (notes peer domain);
+    })
 
 -- ---- replies
 

@@ -2,6 +2,7 @@
 use Rattle.std.specs.Prelude.{◌≡◌, ℕ, Bool, ◌&&◌, ◌==◌, if◌then◌else◌, List, [], ◌∷◌, ◌++◌, map, Some}
 use Rattle.dots_history.specs.declared.entry.Entry.{Entry}
 use Rattle.dots_history.specs.declared.entry.MessageKey.{MessageKey}
+use Rattle.dots_history.specs.Places.{lasts}
 use Rattle.dots_laws.specs.Tables.{ring}
 use Rattle.coap_exchange.specs.declared.message.Message.{Message}
 use Rattle.coap_exchange.specs.Rings.{RingValue, ring_of, noted, renumbered, ring_renumbered}
@@ -33,6 +34,15 @@ noted_by peer domain notes (Move keep) = map (renumbered keep) notes
 abbrev pub all_noted : ℕ → ℕ → List Message → List Call → List Message
 all_noted peer domain notes [] = notes
 all_noted peer domain notes (call ∷ calls) = all_noted peer domain (noted_by peer domain notes call) calls
+
+-- the ring has the last n of these messages
+pub record HasLasts (n : ℕ) (notes : List Message) (r : RingValue) : Type 0 where
+  pub room : r.room ≡ n
+  pub messages : r.messages ≡ lasts n notes
+
+-- each ring that is kept has the last n of what was noted of its peer and domain
+abbrev pub AllHave : ℕ → List RingValue → (ℕ → ℕ → List Message) → Type 0
+AllHave n rings notes = (peer domain : ℕ) (r : RingValue) → ring_of peer domain rings ≡ Some r → HasLasts n (notes peer domain) r
 
 -- ---- histories
 

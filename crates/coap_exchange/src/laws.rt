@@ -8,16 +8,20 @@ ghost use Rattle.dots_history.specs.Histories.{remembered};
 ghost use Rattle.dots_history.specs.Places.{lasts};
 ghost use Rattle.dots_history.specs.Slots.{Rises};
 ghost use Rattle.coap_exchange.specs.declared.pair.Pair.{Pair};
-ghost use Rattle.coap_exchange.specs.Noting.{Call, after_calls, all_noted, message_of, AllRemember};
+ghost use Rattle.coap_exchange.specs.Noting.{Call, after_call, after_calls, noted_by, all_noted, AllHave, message_of, AllRemember};
 ghost use Rattle.coap_exchange.specs.declared.message.Message.{Message};
 ghost use Rattle.coap_exchange.specs.Pairs.{is_pair};
 ghost use Rattle.coap_exchange.specs.Resending.{GaveUp, answer_to_timeout};
 ghost use Rattle.coap_exchange.specs.Sent.{given, repeated, due_at, timeout_of};
 ghost use Rattle.coap_exchange.specs.Rings.{RingValue, empty_ring, ring_of, messages_of, reply_to, noted, number_in, ring_renumbered};
 
-/// After any list of calls what is remembered of a peer and domain is the last so many of what was noted of them.
+/// After any list of calls what is remembered of a peer and domain is the last so many of what was noted of them, with the slots as
+/// they are numbered last; and each call keeps it so.
 pub fn rings_have_the_last()
-    ensures { (room : ℕ) (pairs : List Pair) (calls : List Call) (peer domain : ℕ) → list_any (is_pair peer domain) pairs ≡ true
+    ensures start { (n : ℕ) (pairs : List Pair) → AllHave n (map (empty_ring n) pairs) (λ peer domain. []) }
+    ensures step { (n : ℕ) (rings : List RingValue) (notes : ℕ → ℕ → List Message) (call : Call) → AllHave n rings notes
+        → AllHave n (after_call rings call) (λ peer domain. noted_by peer domain (notes peer domain) call) }
+    ensures all { (room : ℕ) (pairs : List Pair) (calls : List Call) (peer domain : ℕ) → list_any (is_pair peer domain) pairs ≡ true
         → messages_of peer domain (after_calls (map (empty_ring room) pairs) calls) ≡ lasts room (all_noted peer domain [] calls) }
 {}
 

@@ -132,21 +132,21 @@ count_again : (peer domain : ℕ) (observer : Observer) (seen : List (ℕ × ℕ
 count_again peer domain observer seen [] there = absurd (false≢true there)
 count_again peer domain observer seen (o ∷ os) there =
     elim (cases_Bool (is_token observer.peer observer.token o)) [
-      inl is ↦
-        let own = ap (option_any (λ (x : ObservedValue). x.observer.domain == observer.domain))
-            (cond-true (is_token observer.peer observer.token o) (Some o) (own_of observer os) is) in
-        let same_domain : o.observer.domain ≡ observer.domain = eqb-true o.observer.domain observer.domain (sym own ∙ there) in
-        let same_peer : o.observer.peer ≡ observer.peer = eqb-true o.observer.peer observer.peer (and_parts (o.observer.peer == observer.peer) _ is).0 in
-        ap (tally (is_of peer domain))
-        (cond-true (is_token observer.peer observer.token o) (registered_again observer seen o ∷ os) (o ∷ entered observer seen os) is)
-        ∙ ap (λ n. cond {A = ℕ} ((n == peer) && (observer.domain == domain)) 1 0 + tally (is_of peer domain) os) (sym same_peer)
-        ∙ ap (λ n. cond {A = ℕ} ((o.observer.peer == peer) && (n == domain)) 1 0 + tally (is_of peer domain) os) (sym same_domain)
-    | inr out ↦
-        let own = ap (option_any (λ (x : ObservedValue). x.observer.domain == observer.domain))
-            (cond-false (is_token observer.peer observer.token o) (Some o) (own_of observer os) out) in
-        ap (tally (is_of peer domain))
-        (cond-false (is_token observer.peer observer.token o) (registered_again observer seen o ∷ os) (o ∷ entered observer seen os) out)
-        ∙ ap (λ n. cond {A = ℕ} (is_of peer domain o) 1 0 + n) (count_again peer domain observer seen os (sym own ∙ there))
+      | inl is ↦
+          let own = ap (option_any (λ (x : ObservedValue). x.observer.domain == observer.domain))
+          (cond-true (is_token observer.peer observer.token o) (Some o) (own_of observer os) is) in
+          let same_domain : o.observer.domain ≡ observer.domain = eqb-true o.observer.domain observer.domain (sym own ∙ there) in
+          let same_peer : o.observer.peer ≡ observer.peer = eqb-true o.observer.peer observer.peer (and_parts (o.observer.peer == observer.peer) _ is).0 in
+          ap (tally (is_of peer domain))
+          (cond-true (is_token observer.peer observer.token o) (registered_again observer seen o ∷ os) (o ∷ entered observer seen os) is)
+          ∙ ap (λ n. cond {A = ℕ} ((n == peer) && (observer.domain == domain)) 1 0 + tally (is_of peer domain) os) (sym same_peer)
+          ∙ ap (λ n. cond {A = ℕ} ((o.observer.peer == peer) && (n == domain)) 1 0 + tally (is_of peer domain) os) (sym same_domain)
+      | inr out ↦
+          let own = ap (option_any (λ (x : ObservedValue). x.observer.domain == observer.domain))
+          (cond-false (is_token observer.peer observer.token o) (Some o) (own_of observer os) out) in
+          ap (tally (is_of peer domain))
+          (cond-false (is_token observer.peer observer.token o) (registered_again observer seen o ∷ os) (o ∷ entered observer seen os) out)
+          ∙ ap (λ n. cond {A = ℕ} (is_of peer domain o) 1 0 + n) (count_again peer domain observer seen os (sym own ∙ there))
     ]
 
 known_entered : (pairs : List Pair) (observer : Observer) (seen : List (ℕ × ℕ)) (xs : List ObservedValue)
@@ -161,8 +161,8 @@ known_entered pairs observer seen (o ∷ os) own known = by_test (is_token obser
 eq_turned : (a b : ℕ) → (a == b) ≡ (b == a)
 eq_turned a b =
     elim (cases_eq a b) [
-      inl same ↦ eq-eqb a b same ∙ sym (eq-eqb b a (sym same))
-    | inr apart ↦ ne_eqb a b apart ∙ sym (ne_eqb b a (λ same. apart (sym same)))
+      | inl same ↦ eq-eqb a b same ∙ sym (eq-eqb b a (sym same))
+      | inr apart ↦ ne_eqb a b apart ∙ sym (ne_eqb b a (λ same. apart (sym same)))
     ]
 
 -- the pair is there, from either side
@@ -173,6 +173,7 @@ all_turned observer seen (pair ∷ pairs) =
     ap (λ b. (b && (pair.domain == observer.domain)) || list_any (is_pair observer.peer observer.domain) pairs) (eq_turned pair.peer observer.peer)
     ∙ ap (λ b. ((observer.peer == pair.peer) && b) || list_any (is_pair observer.peer observer.domain) pairs) (eq_turned pair.domain observer.domain)
     ∙ ap (λ b. ((observer.peer == pair.peer) && (observer.domain == pair.domain)) || b) (all_turned observer seen pairs)
+
 pub pair_turned : (observer : Observer) (seen : List (ℕ × ℕ)) (pairs : List Pair) → list_any (is_pair observer.peer observer.domain) pairs ≡ true
     → list_any (λ (pair : Pair). is_of pair.peer pair.domain (registered_first observer seen)) pairs ≡ true
 pair_turned observer seen pairs is = sym (all_turned observer seen pairs) ∙ is
@@ -182,12 +183,13 @@ few_entered : (room : ℕ) (observer : Observer) (seen : List (ℕ × ℕ)) (xs 
     → ((peer domain : ℕ) → tally (is_of peer domain) xs ≤ room) → (peer domain : ℕ) → tally (is_of peer domain) (entered observer seen xs) ≤ room
 few_entered room observer seen xs has few peer domain =
     elim (or_cases (option_any (λ (o : ObservedValue). o.observer.domain == observer.domain) (own_of observer xs)) (nat_lt (tally (is_of observer.peer observer.domain) xs) room) has) [
-      inl there ↦ let same = count_again peer domain observer seen xs there in let all = few peer domain in omega (arith, same, all)
-    | inr less ↦ by_pair (cases_Bool (is_of peer domain (registered_first observer seen))) (ltb-true (tally (is_of observer.peer observer.domain) xs) room less)
+      | inl there ↦ let same = count_again peer domain observer seen xs there in let all = few peer domain in omega (arith, same, all)
+      | inr less ↦ by_pair (cases_Bool (is_of peer domain (registered_first observer seen))) (ltb-true (tally (is_of observer.peer observer.domain) xs) room less)
     ]
   where
     more : tally (is_of peer domain) (entered observer seen xs) ≤ cond (is_of peer domain (registered_first observer seen)) 1 0 + tally (is_of peer domain) xs
     more = count_entered peer domain observer seen xs
+
     by_pair : (is_of peer domain (registered_first observer seen) ≡ true) ⊎ (is_of peer domain (registered_first observer seen) ≡ false)
         → tally (is_of observer.peer observer.domain) xs < room → tally (is_of peer domain) (entered observer seen xs) ≤ room
     by_pair (inl is) less =

@@ -66,19 +66,19 @@ reply_number observer seen [] =
     (own_token observer.peer observer.token (registered_first observer seen) refl refl))
 reply_number observer seen (o ∷ os) =
     elim (cases_Bool (is_token observer.peer observer.token o)) [
-      inl is ↦
-        ap (λ xs. option_map (λ (y : ObservedValue). y.number) (own_of observer xs))
-        (cond-true (is_token observer.peer observer.token o) (registered_again observer seen o ∷ os) (o ∷ entered observer seen os) is)
-        ∙ ap (option_map (λ (y : ObservedValue). y.number))
-        (cond-true (is_token observer.peer observer.token (registered_again observer seen o)) (Some (registered_again observer seen o)) (own_of observer os)
-        (own_token observer.peer observer.token (registered_again observer seen o) refl refl))
-        ∙ ap (λ x. Some (next_number (unwrap_or (option_map (λ (y : ObservedValue). y.number) x) 1)))
-        (sym (cond-true (is_token observer.peer observer.token o) (Some o) (own_of observer os) is))
-    | inr out ↦
-        ap (λ xs. option_map (λ (y : ObservedValue). y.number) (own_of observer xs))
-        (cond-false (is_token observer.peer observer.token o) (registered_again observer seen o ∷ os) (o ∷ entered observer seen os) out)
-        ∙ ap (option_map (λ (y : ObservedValue). y.number)) (cond-false (is_token observer.peer observer.token o) (Some o) (own_of observer (entered observer seen os)) out)
-        ∙ reply_number observer seen os
-        ∙ ap (λ x. Some (next_number (unwrap_or (option_map (λ (y : ObservedValue). y.number) x) 1)))
-        (sym (cond-false (is_token observer.peer observer.token o) (Some o) (own_of observer os) out))
+      | inl is ↦
+          ap (λ xs. option_map (λ (y : ObservedValue). y.number) (own_of observer xs))
+          (cond-true (is_token observer.peer observer.token o) (registered_again observer seen o ∷ os) (o ∷ entered observer seen os) is)
+          ∙ ap (option_map (λ (y : ObservedValue). y.number))
+          (cond-true (is_token observer.peer observer.token (registered_again observer seen o)) (Some (registered_again observer seen o)) (own_of observer os)
+          (own_token observer.peer observer.token (registered_again observer seen o) refl refl))
+          ∙ ap (λ x. Some (next_number (unwrap_or (option_map (λ (y : ObservedValue). y.number) x) 1)))
+          (sym (cond-true (is_token observer.peer observer.token o) (Some o) (own_of observer os) is))
+      | inr out ↦
+          ap (λ xs. option_map (λ (y : ObservedValue). y.number) (own_of observer xs))
+          (cond-false (is_token observer.peer observer.token o) (registered_again observer seen o ∷ os) (o ∷ entered observer seen os) out)
+          ∙ ap (option_map (λ (y : ObservedValue). y.number)) (cond-false (is_token observer.peer observer.token o) (Some o) (own_of observer (entered observer seen os)) out)
+          ∙ reply_number observer seen os
+          ∙ ap (λ x. Some (next_number (unwrap_or (option_map (λ (y : ObservedValue). y.number) x) 1)))
+          (sym (cond-false (is_token observer.peer observer.token o) (Some o) (own_of observer os) out))
     ]

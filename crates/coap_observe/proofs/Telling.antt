@@ -27,12 +27,12 @@ pub none_more : (lists : Lists) (from i : ℕ) (xs : List ObservedValue) (x : Ob
     → NoneIsDue lists from i xs → NoneIsDue lists from (i + 1) xs
 none_more lists from i xs x there out before place o later less at =
     elim (cases_lt place i) [
-      inl below ↦ before place o later below at
-    | inr over ↦
-      let same : place ≡ i = omega (arith, over, less) in
-      let own : x ≡ o = one_there x o (sym there ∙ ap (slice_get xs) (sym same) ∙ at) in
-      elim (and_cases (nat_le from i) (is_due lists x) out) [
-        inl not_behind ↦ let low = leb-false from i not_behind in absurd (omega (arith, low, later, same))
-      | inr not_due ↦ ap (is_due lists) (sym own) ∙ not_due
-      ]
+      | inl below ↦ before place o later below at
+      | inr over ↦
+          let same : place ≡ i = omega (arith, over, less) in
+          let own : x ≡ o = one_there x o (sym there ∙ ap (slice_get xs) (sym same) ∙ at) in
+          elim (and_cases (nat_le from i) (is_due lists x) out) [
+            | inl not_behind ↦ let low = leb-false from i not_behind in absurd (omega (arith, low, later, same))
+            | inr not_due ↦ ap (is_due lists) (sym own) ∙ not_due
+          ]
     ]

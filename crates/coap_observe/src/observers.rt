@@ -140,9 +140,7 @@ fn has_room(observed: &[Observed], room: usize, observer: &Observer) -> bool
 fn own_of<'a>(observed: &'a [Observed], observer: &Observer) -> Option<&'a Observed>
     ensures { option_copied result ≡ own_of observer.now observed.now }
 {
-    observed
-        .iter()
-        .find(|other| other.is_token(observer.peer, observer.token.bytes()))
+    observed.iter().find(|other| other.is_token(observer.peer, observer.token.bytes()))
 }
 
 /// How many observers are of this peer and domain.
@@ -178,9 +176,7 @@ fn enter(observed: &mut Vec<Observed>, observer: Observer, seen: SeenList) -> u3
 fn place_of(observed: &[Observed], observer: &Observer) -> Option<usize>
     ensures { result ≡ position (is_token observer.now.peer observer.now.token) observed.now }
 {
-    observed
-        .iter()
-        .position(|other| other.is_token(observer.peer, observer.token.bytes()))
+    observed.iter().position(|other| other.is_token(observer.peer, observer.token.bytes()))
 }
 
 fn leave_others(observed: &mut Vec<Observed>, peer: u32, token: &[u8])

@@ -94,10 +94,5 @@ fn view_at<V: Views>(views: &V, observer: &Observer, place: usize) -> Option<(u3
     ensures value { result ≡ slice_get (list_for (V.lists views.now) observer.now) place }
     ensures few { length (list_for (V.lists views.now) observer.now) ≤ 64 }
 {
-    views.view(
-        observer.domain,
-        observer.cuid.bytes(),
-        observer.mid,
-        place,
-    )
+    views.view(observer.domain, observer.cuid.bytes(), observer.mid, place)
 }

@@ -16,31 +16,33 @@ pub enum Call {
     Move(u32, u32),
 }
 
-fn note(alloc: Global, remembered: &mut Remembered, call: &Call) -> Result<(), Fail> {
-    match *call {
+/// Makes a call. One that may not be made, or finds no memory, leaves all as it is.
+fn make(alloc: Global, remembered: &mut Remembered, call: Call) {
+    match call {
         Call::Note(peer, domain, key, time, slot, byte) => {
-            if !remembered.holds(peer, domain) {
-                return Err(Fail::from("a peer and a domain that it may act for"));
+            if let Ok(reply) = Bytes::from_slice(alloc, &[byte])
+                && remembered.holds(peer, domain)
+            {
+                remembered.note(peer, domain, key, time, slot, reply);
             }
-            let reply = Bytes::from_slice(alloc, &[byte])?;
-            remembered.note(peer, domain, key, time, slot, reply);
-            Ok(())
         }
         Call::Move(first, second) => {
-            if first >= second {
-                return Err(Fail::from("slots that rise"));
+            if first < second {
+                remembered.moved(&[first, second]);
             }
-            remembered.moved(&[first, second]);
-            Ok(())
         }
     }
 }
 
-fn remembered(alloc: Global, calls: &[Call]) -> Result<Remembered, Fail> {
+fn nothing_remembered(alloc: Global) -> Result<Remembered, Fail> {
     let settings = settings(alloc)?;
-    let mut remembered = Remembered::new(alloc, &settings)?;
+    Ok(Remembered::new(alloc, &settings)?)
+}
+
+fn remembered(alloc: Global, calls: &[Call]) -> Result<Remembered, Fail> {
+    let mut remembered = nothing_remembered(alloc)?;
     for call in calls {
-        note(alloc, &mut remembered, call)?;
+        make(alloc, &mut remembered, *call);
     }
     Ok(remembered)
 }
@@ -57,7 +59,7 @@ pub fn reply_to(
     let remembered = remembered(alloc, calls)?;
     match remembered.look(peer, domain, id, now) {
         Some([byte]) => Ok(Some(*byte)),
-        Some(_) => Err(Fail::from("a reply of one byte")),
+        Some(_) => Ok(Some(0)),
         None => Ok(None),
     }
 }

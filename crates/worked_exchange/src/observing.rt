@@ -18,7 +18,7 @@ enum Step {
     Reset(u32, u16),
     /// There is this to see from now on.
     See(&'static [(u32, u8)]),
-    /// Whoever is due is notified, the first message with this Message ID and each other with the next.
+    /// The first observer that is due is notified, with this Message ID.
     Notify(u16),
 }
 
@@ -31,36 +31,27 @@ enum Shown {
     Nothing,
 }
 
-fn observer(alloc: Global, peer: u32, domain: u16, token: u8) -> Result<Observer, Fail> {
-    let Some(token) = Token::new(&[token]) else {
-        return Err(Fail::from("a token"));
+fn observer(alloc: Global, peer: u32, domain: u16, token: u8) -> Option<Observer> {
+    let token = Token::new(&[token])?;
+    let Ok(Some(cuid)) = Name::new(alloc, b"client") else {
+        return None;
     };
-    match Name::new(alloc, b"client")? {
-        Some(cuid) => Ok(Observer {
-            peer,
-            domain,
-            token,
-            cuid,
-            mid: None,
-            content: Content::All,
-        }),
-        None => Err(Fail::from("a name")),
-    }
+    Some(Observer {
+        peer,
+        domain,
+        token,
+        cuid,
+        mid: None,
+        content: Content::All,
+    })
 }
 
-fn register(
-    alloc: Global,
-    observers: &mut Observers,
-    views: &PlainViews<'_>,
-    peer: u32,
-    domain: u16,
-    token: u8,
-) -> Result<u32, Fail> {
-    if !observers.holds(peer, domain) {
-        return Err(Fail::from("a peer and a domain that it may act for"));
+/// The number of the reply, 0 for none.
+fn register(observers: &mut Observers, views: &PlainViews<'_>, observer: Observer) -> u32 {
+    if observers.holds(observer.peer, observer.domain) {
+        return observers.register(observer, views).unwrap_or(0);
     }
-    let observer = observer(alloc, peer, domain, token)?;
-    Ok(observers.register(observer, views).unwrap_or(0))
+    999
 }
 
 /// Notifies the first observer that is due, and says what it is told.
@@ -78,29 +69,48 @@ fn notify(observers: &mut Observers, views: &PlainViews<'_>, id: u16) -> Shown {
     Shown::Notice(token, number)
 }
 
+fn observers(alloc: Global) -> Result<Observers, Fail> {
+    let settings = settings(alloc)?;
+    Ok(Observers::new(alloc, &settings)?)
+}
+
+/// Takes one step. One that finds no memory shows a reply that isn't expected.
+fn take(
+    alloc: Global,
+    observers: &mut Observers,
+    views: &mut PlainViews<'static>,
+    step: Step,
+) -> Shown {
+    match step {
+        Step::Register(peer, domain, token) => match observer(alloc, peer, domain, token) {
+            Some(observer) => Shown::Reply(register(observers, views, observer)),
+            None => Shown::Reply(998),
+        },
+        Step::Deregister(peer, token) => {
+            observers.deregister(peer, &[token]);
+            Shown::Nothing
+        }
+        Step::Reset(peer, id) => {
+            observers.reset(peer, id);
+            Shown::Nothing
+        }
+        Step::See(list) => {
+            if list.len() <= 64 {
+                *views = PlainViews { list };
+            }
+            Shown::Nothing
+        }
+        Step::Notify(id) => notify(observers, views, id),
+    }
+}
+
 /// What the last step shows, after the others.
 fn last_shown(alloc: Global, steps: &[Step]) -> Result<Shown, Fail> {
-    let settings = settings(alloc)?;
-    let mut observers = Observers::new(alloc, &settings)?;
+    let mut observers = observers(alloc)?;
     let mut views = PlainViews { list: &[] };
     let mut shown = Shown::Nothing;
     for step in steps {
-        shown = Shown::Nothing;
-        match *step {
-            Step::Register(peer, domain, token) => {
-                let number = register(alloc, &mut observers, &views, peer, domain, token)?;
-                shown = Shown::Reply(number);
-            }
-            Step::Deregister(peer, token) => observers.deregister(peer, &[token]),
-            Step::Reset(peer, id) => observers.reset(peer, id),
-            Step::See(list) => {
-                if list.len() > 64 {
-                    return Err(Fail::from("a short list"));
-                }
-                views = PlainViews { list };
-            }
-            Step::Notify(id) => shown = notify(&mut observers, &views, id),
-        }
+        shown = take(alloc, &mut observers, &mut views, *step);
     }
     Ok(shown)
 }
