@@ -97,8 +97,7 @@ seen_given false base acts later out done bytes more same = same ∙ sym (ap (λ
 keeps_by_wire : (old new : Stored) (call : Act) → Records old new call → IsOfWire call → KeepsMedia (Some (media_of old)) (Some (media_of new))
 keeps_by_wire old new call made is =
     let same : after (media_of old).now call ≡ (media_of old).now = after_wire (media_of old).now call is in
-    let next = media_after old new call made in
-    (
+    let next = media_after old new call made in (
       after (media_of old).now call ∷ [],
       ap all_media next,
       (same, tt),

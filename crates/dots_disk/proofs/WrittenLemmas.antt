@@ -39,8 +39,8 @@ pub is_bytes_at : (bytes : ℕ → ℕ) (at count : ℕ) (list : List ℕ) → l
 is_bytes_at bytes at count list size each =
     let both : length list ≡ length (bytes_at bytes at count) = size ∙ sym (length_of_bytes_at bytes at count) in
     ext_get_or 0 list (bytes_at bytes at count) both (λ offset under.
-      let within : offset < count = omega arith in
-      each offset within ∙ sym (byte_of_bytes_at bytes at count offset within))
+    let within : offset < count = omega arith in
+    each offset within ∙ sym (byte_of_bytes_at bytes at count offset within))
 
 -- what was written is read again
 pub bytes_written : (bytes : ℕ → ℕ) (at : ℕ) (written : List ℕ) → bytes_at (overwritten bytes at written) at (length written) ≡ written

@@ -119,5 +119,9 @@ keeps_acts old new goes = kept old.whole new.whole old.acts new.acts goes.more g
     kept false true acts later more grown are whole = absurd (false≢true (whole refl))
 
 pub disk_leads : (old new : Hosted) → KeepsWire old new → HandsOut old new
-disk_leads old new keeps = λ whole. (keeps.disk.whole whole, keeps.disk.more, keeps.disk.grown,
-  subst (λ coming. Hands old.coming keeps.disk.more coming) (sym keeps.coming) (hands_none old.coming keeps.disk.more keeps.disk.disk))
+disk_leads old new keeps = λ whole. (
+  keeps.disk.whole whole,
+  keeps.disk.more,
+  keeps.disk.grown,
+  subst (λ coming. Hands old.coming keeps.disk.more coming) (sym keeps.coming) (hands_none old.coming keeps.disk.more keeps.disk.disk),
+)

@@ -1,0 +1,17 @@
+pub mod Places
+pub mod Keeping
+pub mod Steps
+pub mod OpeningLemmas
+pub mod Stages
+pub mod Appending
+pub mod Storing
+pub mod Reading
+pub mod CopyingLemmas
+pub mod CopyStages
+pub mod Compacting
+pub mod SelectLemmas
+pub mod FormatLemmas
+pub mod Moving
+pub mod HeaderLemmas
+pub mod OpenLemmas
+pub mod Counting
