@@ -1,13 +1,11 @@
 -- What a memory host says of its calls holds where none was made, and goes on.
-use Rattle.std.proofs.Common.{◌≡◌, ℕ, ◌+◌, List, [], ◌∷◌, ◌++◌, length, Option, Some, None, refl, sym, ap, subst, ◌∙◌, append_assoc, append-nil, arith}
+use Rattle.std.proofs.Common.{◌≡◌, ℕ, ◌+◌, List, [], ◌∷◌, ◌++◌, length, Some, refl, sym, ap, subst, ◌∙◌, append_assoc, append-nil, arith}
 use Rattle.std.proofs.lemmas.Bool.{false≢true}
 use Rattle.std.proofs.lemmas.List.{length_push}
 use Rattle.std.specs.Prelude.{true, Bool, false}
-use Rattle.dots_host.specs.declared.event.Event.{Event}
-use Rattle.dots_host.specs.declared.out.OwnedOut.{OwnedOut}
 use Rattle.dots_host.specs.declared.act.Act.{Act}
 use Rattle.dots_host.specs.declared.act.Act.TheVariants as act
-use Rattle.dots_host.specs.Acts.{Timed, took, gave, wire_acts}
+use Rattle.dots_host.specs.Acts.{took, gave, wire_acts}
 use Rattle.dots_host.specs.Memory.{Coming, Hands, told}
 use Rattle.dots_host.specs.Handing.{hands_then}
 use Rattle.dots_disk.specs.Media.{Medium, Media, after, all_media, next_media, blank, grown}

@@ -1,9 +1,9 @@
 -- A record more in the half in use.
-use Rattle.std.proofs.Common.{◌≡◌, ◌≢◌, ℕ, ◌+◌, ◌-◌, ◌*◌, ◌/◌, ◌%◌, ◌<◌, ◌≤◌, ◌⊎◌, inl, inr, List, [], ◌∷◌, ◌++◌, length, get_or, drop, refl, sym, ap, subst, ◌∙◌, arith}
-use Rattle.std.proofs.lemmas.Bool.{cases_eq, cases_lt}
+use Rattle.std.proofs.Common.{◌≡◌, ◌≢◌, ℕ, ◌+◌, ◌*◌, ◌/◌, ◌%◌, ◌<◌, ◌≤◌, ◌⊎◌, inl, inr, List, [], ◌∷◌, ◌++◌, length, get_or, drop, sym, ap, subst, ◌∙◌, arith}
+use Rattle.std.proofs.lemmas.Bool.{cases_eq}
 use Rattle.dots_disk.specs.Media.{bytes_at}
-use Rattle.slot_store.specs.Layout.{place_of, IsHeader, IsSlot, IsHalf, IsJournal, IsBlank, HoldsRecords}
-use Rattle.slot_store.specs.Standing.{HoldsEither, sized, JournalValue, Stands}
+use Rattle.slot_store.specs.Layout.{place_of, IsSlot, IsHalf, IsJournal}
+use Rattle.slot_store.specs.Standing.{HoldsEither, sized}
 use Rattle.slot_store.specs.Opening.{IsOpening, IsOpened}
 use Rattle.slot_store.proofs.Places.{Agree, same_header, same_slot}
 use Rattle.slot_store.proofs.Keeping.{journal_kept, half_more}

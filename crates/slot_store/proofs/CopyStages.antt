@@ -8,8 +8,8 @@ use Rattle.slot_store.specs.Gates.{Sees}
 use Rattle.slot_store.specs.Copying.{Elsewhere, IsCopy, AreSlots, HalfIsCopied}
 use Rattle.slot_store.specs.Opening.{Is}
 use Rattle.slot_store.proofs.Steps.{Now, Images, Rests, leaves_more, leaves_lost, now_then, rests_with}
-use Rattle.slot_store.proofs.Stages.{Stage, more, lost, unsynced, no_call}
-use Rattle.slot_store.proofs.OpeningLemmas.{images_stay, images_at_rest}
+use Rattle.slot_store.proofs.Stages.{Stage, more, unsynced, no_call}
+use Rattle.slot_store.proofs.OpeningLemmas.{images_at_rest}
 use Rattle.slot_store.proofs.CopyingLemmas.{Copying, copy_moved, copying_images, copying_begins, copying_torn, copying_more, copying_settled}
 
 each_then : (front back : List Medium) (P : Medium → Type 0) → EachMedium front P → EachMedium back P → EachMedium (front ++ back) P

@@ -1,15 +1,12 @@
 -- Slots that are copied, piece by piece.
-use Rattle.std.proofs.Common.{◌≡◌, ◌≢◌, ◌⊎◌, inl, inr, ℕ, ◌+◌, ◌-◌, ◌*◌, ◌%◌, ◌<◌, ◌≤◌, List, [], ◌∷◌, ◌++◌, length, map, take, get_or, Option, Some, None, refl, sym, ap, subst, ◌∙◌, arith}
+use Rattle.std.proofs.Common.{◌≡◌, ◌⊎◌, inl, inr, ℕ, ◌+◌, ◌-◌, ◌*◌, ◌<◌, ◌≤◌, List, [], length, get_or, Option, sym, ap, subst, ◌∙◌, arith}
 use Rattle.std.proofs.lemmas.Bool.{cases_lt}
-use Rattle.std.proofs.lemmas.List.{get_or-take, length-take-le}
-use Rattle.dots_disk.specs.Media.{Medium, Media, Outside, IsImage, byte_of, bytes_at, overwritten, written, settled, IsTorn}
-use Rattle.dots_disk.specs.Becoming.{Becomes, MayBecome, Stays, EachMedium, KeepsMedia, Leaves, RestsWith}
+use Rattle.dots_disk.specs.Media.{Medium, Media, Outside, byte_of, bytes_at, overwritten, written, settled, IsTorn}
 use Rattle.dots_disk.proofs.WrittenLemmas.{overwritten_below, overwritten_outside, overwritten_byte, byte_of_bytes_at}
 use Rattle.slot_store.specs.Layout.{place_of}
 use Rattle.slot_store.specs.Gates.{Sees}
-use Rattle.slot_store.specs.Copying.{Elsewhere, IsCopy, AreSlots, HalfIsCopied}
-use Rattle.slot_store.specs.Opening.{Is}
-use Rattle.slot_store.proofs.Steps.{Now, Images, Rests}
+use Rattle.slot_store.specs.Copying.{Elsewhere, IsCopy, HalfIsCopied}
+use Rattle.slot_store.proofs.Steps.{Images, Rests}
 use Rattle.std.specs.Prelude.{IfSome}
 use Rattle.slot_store.proofs.Reading.{bytes_seen}
 

@@ -1,13 +1,13 @@
 -- How many slots of the half in use hold a record.
-use Rattle.std.proofs.Common.{◌≡◌, ◌≢◌, ◌⊎◌, inl, inr, ℕ, ◌+◌, ◌*◌, ◌%◌, ◌<◌, ◌≤◌, List, [], length, Option, Some, None, refl, sym, ap, subst, ◌∙◌, arith}
+use Rattle.std.proofs.Common.{◌≡◌, ◌≢◌, ◌⊎◌, inl, inr, ℕ, ◌+◌, ◌*◌, ◌%◌, ◌<◌, ◌≤◌, List, [], length, Option, sym, ap, subst, ◌∙◌, arith}
 use Rattle.std.specs.Prelude.{true, false}
-use Rattle.std.proofs.lemmas.Bool.{cases_order, eqb-true, eqb-false, eq-eqb, not-true, not-false}
+use Rattle.std.proofs.lemmas.Bool.{cases_order, eqb-true, eqb-false, not-true, not-false}
 use Rattle.dots_disk.specs.Media.{Media}
 use Rattle.dots_disk.specs.Becoming.{KeepsMedia, Leaves, RestsWith}
 use Rattle.slot_store.specs.declared.gates.Wanted.TheVariants as wanted
 use Rattle.slot_store.specs.Layout.{place_of, IsHeader, IsHalf, IsBlank, IsJournal, HoldsRecords}
 use Rattle.slot_store.specs.Gates.{is_wanted, NoneIs, IsFirst, Sees}
-use Rattle.slot_store.specs.Standing.{JournalValue, Stands}
+use Rattle.slot_store.specs.Standing.{Stands}
 use Rattle.slot_store.specs.Refusing.{IsOpen, IsCount}
 use Rattle.slot_store.specs.Opening.{Is}
 use Rattle.slot_store.proofs.Steps.{seen_at_rest, rests_as, leaves_then}

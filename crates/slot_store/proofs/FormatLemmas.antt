@@ -1,14 +1,14 @@
 -- A disk without a header, and the writing of one.
-use Rattle.std.proofs.Common.{zero, suc, ◌≡◌, ◌≢◌, ◌⊎◌, inl, inr, ℕ, ◌+◌, ◌-◌, ◌*◌, ◌%◌, ◌<◌, ◌≤◌, List, [], ◌∷◌, ◌++◌, length, get_or, Option, refl, sym, ap, subst, ◌∙◌, arith}
-use Rattle.std.specs.Prelude.{true, false, not}
+use Rattle.std.proofs.Common.{zero, suc, ◌≡◌, ◌≢◌, ◌⊎◌, inl, inr, ℕ, ◌+◌, ◌-◌, ◌*◌, ◌%◌, ◌<◌, ◌≤◌, List, [], length, get_or, Option, refl, sym, ap, subst, ◌∙◌, arith}
+use Rattle.std.specs.Prelude.{true, false}
 use Rattle.std.proofs.lemmas.Bool.{cases_eq, cases_lt, eqb-true, eqb-false, not-true, not-false}
 use Rattle.dots_disk.specs.Media.{Media, byte_of, bytes_at}
 use Rattle.dots_disk.specs.Becoming.{KeepsMedia, Leaves, RestsWith}
 use Rattle.dots_disk.proofs.WrittenLemmas.{byte_of_bytes_at}
 use Rattle.slot_store.specs.declared.gates.Wanted.TheVariants as wanted
-use Rattle.slot_store.specs.Layout.{place_of, header_of, IsHeader, IsHalf, IsBlank, IsJournal, HoldsRecords}
+use Rattle.slot_store.specs.Layout.{place_of, header_of, IsHalf, IsBlank, IsJournal, HoldsRecords}
 use Rattle.slot_store.specs.Opening.{IsOpening, IsOpened, Is}
-use Rattle.slot_store.specs.Gates.{is_wanted, NoneIs, IsFirst, Sees}
+use Rattle.slot_store.specs.Gates.{is_wanted, NoneIs, IsFirst}
 use Rattle.slot_store.specs.Refusing.{IsStrayGate}
 use Rattle.slot_store.proofs.Steps.{leaves_as, leaves_then, rests_as}
 use Rattle.slot_store.proofs.Reading.{leaves_kept, rests_kept}

@@ -1,10 +1,10 @@
 -- Images that hold the records that another image holds, or one more.
-use Rattle.std.proofs.Common.{◌≡◌, ◌≢◌, ℕ, ◌+◌, ◌-◌, ◌*◌, ◌%◌, ◌<◌, ◌≤◌, ◌⊎◌, inl, inr, List, [], ◌∷◌, ◌++◌, length, get_or, refl, sym, ap, subst, ◌∙◌, arith, length-append}
+use Rattle.std.proofs.Common.{◌≡◌, ◌≢◌, ℕ, ◌+◌, ◌%◌, ◌<◌, ◌≤◌, inl, inr, List, [], ◌∷◌, ◌++◌, length, get_or, sym, ap, subst, ◌∙◌, arith, length-append}
 use Rattle.std.proofs.lemmas.List.{get_or_append_left, get_or_push, ext_get_or}
 use Rattle.std.proofs.lemmas.Bool.{cases_lt}
 use Rattle.dots_disk.specs.Media.{bytes_at}
-use Rattle.slot_store.specs.Layout.{place_of, IsHeader, IsSlot, IsHalf, IsJournal, IsBlank, HoldsRecords}
-use Rattle.slot_store.proofs.Places.{Agree, same_bytes, same_header, same_slot}
+use Rattle.slot_store.specs.Layout.{place_of, IsHeader, IsSlot, IsHalf, IsJournal, HoldsRecords}
+use Rattle.slot_store.proofs.Places.{Agree, same_header, same_slot}
 
 -- the half in use of another image, with the slots of its records as they were and no other gate open
 pub same_half : (slots half : ℕ) (old new : ℕ → ℕ) (records : List (List ℕ)) → ((slot : ℕ) → slot < length records → Agree old new (place_of slots half slot) 8192)

@@ -1,5 +1,5 @@
 -- A half that is copied, and then named by the selector.
-use Rattle.std.proofs.Common.{◌≡◌, ◌⊎◌, inl, inr, ℕ, ◌+◌, ◌-◌, ◌*◌, List, Option}
+use Rattle.std.proofs.Common.{inl, inr, ℕ, ◌-◌, ◌*◌, List, Option}
 use Rattle.dots_disk.specs.Media.{Media}
 use Rattle.dots_disk.specs.Becoming.{Leaves, RestsWith}
 use Rattle.slot_store.specs.Layout.{place_of}

@@ -1,5 +1,5 @@
 -- How a disk is opened, call by call.
-use Rattle.std.proofs.Common.{◌≡◌, ◌≢◌, ◌⊎◌, inl, inr, ℕ, ◌+◌, ◌<◌, ◌≤◌, List, [], ◌∷◌, length, get_or, Option, Some, None, refl, sym, ap, subst, ◌∙◌, arith}
+use Rattle.std.proofs.Common.{◌≡◌, ◌≢◌, inl, inr, ℕ, ◌+◌, ◌<◌, ◌≤◌, List, [], Option, Some, None, refl, sym, ap, subst, ◌∙◌, arith}
 use Rattle.std.specs.Prelude.{Result, Ok, Err, IfOk, IfErr}
 use Rattle.std.proofs.Math.Path.{fun_ext}
 use Rattle.dots_disk.specs.Media.{Medium, Media, byte_of, bytes_at, settled}
@@ -7,15 +7,15 @@ use Rattle.dots_disk.specs.Becoming.{Becomes, MayBecome, Stays, KeepsMedia, Leav
 use Rattle.dots_disk.proofs.WrittenLemmas.{byte_of_bytes_at}
 use Rattle.slot_store.specs.declared.fault.OpenFault.{OpenFault}
 use Rattle.slot_store.specs.declared.fault.OpenFault.TheVariants as fault
-use Rattle.slot_store.specs.Layout.{header_of, IsHeader, IsBlank, IsJournal, HoldsRecords}
+use Rattle.slot_store.specs.Layout.{IsHeader, IsBlank, IsJournal, HoldsRecords}
 use Rattle.slot_store.specs.Opening.{Is}
 use Rattle.slot_store.specs.Gates.{Sees}
-use Rattle.slot_store.specs.Refusing.{Fits, FirstWrong, IsForm, IsOtherHeader, IsOfOthers, RefusesHeader, RefusesGates, RefusesDisk, Refuses, IsOpen, front, rest, size}
+use Rattle.slot_store.specs.Refusing.{Fits, FirstWrong, IsForm, IsOtherHeader, RefusesHeader, RefusesGates, RefusesDisk, Refuses, IsOpen, front, rest, size}
 use Rattle.slot_store.proofs.Keeping.{gate_of_header}
 use Rattle.slot_store.proofs.Steps.{Images, Rests, leaves_as, leaves_then, rests_as}
 use Rattle.slot_store.proofs.OpeningLemmas.{rests_settled, images_at_rest}
 use Rattle.slot_store.proofs.Reading.{leaves_kept}
-use Rattle.slot_store.proofs.Stages.{Stage, more, unsynced, no_call}
+use Rattle.slot_store.proofs.Stages.{more, unsynced, no_call}
 
 -- ---- the first sync
 

@@ -1,5 +1,5 @@
 -- The calls by which a slot is written and its gate opened.
-use Rattle.std.proofs.Common.{◌≡◌, ◌⊎◌, inl, inr, ℕ, ◌+◌, ◌-◌, ◌<◌, ◌≤◌, List, [], ◌∷◌, ◌++◌, length, get_or, Option, Some, None, refl, sym, ap, subst, ◌∙◌, arith}
+use Rattle.std.proofs.Common.{◌≡◌, ◌⊎◌, inl, inr, ℕ, ◌+◌, ◌<◌, ◌≤◌, List, [], ◌∷◌, length, sym, ap, subst, ◌∙◌, arith}
 use Rattle.dots_disk.specs.Media.{Medium, Outside, IsImage, bytes_at, overwritten, written, settled, IsTorn}
 use Rattle.slot_store.specs.Opening.{IsOpening, IsOpened}
 use Rattle.dots_disk.proofs.WrittenLemmas.{overwritten_outside, overwritten_byte, bytes_written}

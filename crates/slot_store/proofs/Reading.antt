@@ -1,9 +1,9 @@
 -- Reads change nothing, and answer what is there.
-use Rattle.std.proofs.Common.{◌≡◌, ◌⊎◌, inl, inr, ℕ, ◌+◌, ◌*◌, ◌<◌, ◌≤◌, List, [], ◌∷◌, ◌++◌, Option, Some, None, refl, sym, ap, subst, ◌∙◌, append_assoc, append-nil, arith}
+use Rattle.std.proofs.Common.{◌≡◌, inl, inr, ℕ, ◌+◌, ◌*◌, List, [], ◌∷◌, ◌++◌, Option, Some, None, refl, sym, ap, subst, ◌∙◌, append_assoc, append-nil, arith}
 use Rattle.std.specs.Prelude.{IfSome, false}
 use Rattle.std.proofs.lemmas.Bool.{cases_lt}
 use Rattle.std.proofs.Math.Path.{fun_ext}
-use Rattle.dots_disk.specs.Media.{Medium, Media, IsImage, bytes_at, all_media}
+use Rattle.dots_disk.specs.Media.{Medium, Media, bytes_at, all_media}
 use Rattle.dots_disk.specs.Becoming.{Becomes, MayBecome, Stays, EachMedium, KeepsMedia, Leaves, RestsWith}
 use Rattle.slot_store.specs.declared.gates.Wanted.{Wanted}
 use Rattle.slot_store.specs.Gates.{Sees, is_wanted, NoneIs}

@@ -1,6 +1,6 @@
 -- The two calls by which the half in use is changed.
-use Rattle.std.proofs.Common.{◌≡◌, ◌⊎◌, inl, inr, ℕ, ◌+◌, ◌<◌, ◌≤◌, List, [], ◌∷◌, length, Option, refl, sym, ap, ◌∙◌, arith}
-use Rattle.dots_disk.specs.Media.{Medium, Media, IsImage, overwritten, written, settled, IsTorn}
+use Rattle.std.proofs.Common.{◌≡◌, ℕ, [], ◌∷◌, Option, refl, ap, ◌∙◌, arith}
+use Rattle.dots_disk.specs.Media.{Medium, Media, written, settled, IsTorn}
 use Rattle.dots_disk.specs.Becoming.{Becomes, MayBecome, Stays, Leaves, RestsWith}
 use Rattle.dots_disk.proofs.WrittenLemmas.{overwritten_outside, overwritten_byte}
 use Rattle.slot_store.specs.Opening.{Is}

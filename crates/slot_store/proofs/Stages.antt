@@ -1,5 +1,5 @@
 -- The four calls of the opening of a gate, one after the other.
-use Rattle.std.proofs.Common.{◌≡◌, ◌⊎◌, inl, inr, ℕ, ◌+◌, List, [], ◌∷◌, length, Option, refl, sym, ap, ◌∙◌, arith}
+use Rattle.std.proofs.Common.{◌≡◌, inr, ℕ, ◌+◌, List, [], ◌∷◌, length, Option, refl, ◌∙◌}
 use Rattle.dots_disk.specs.Media.{Medium, Media, overwritten, written, settled, IsTorn}
 use Rattle.dots_disk.specs.Becoming.{Becomes, MayBecome, Stays, Leaves, RestsWith}
 use Rattle.slot_store.specs.Opening.{IsOpening, IsOpened, Is}

@@ -1,9 +1,9 @@
 -- What the calls of a store leave at each moment.
-use Rattle.std.proofs.Common.{◌≡◌, ◌⊎◌, inl, inr, ℕ, ◌+◌, ◌%◌, ◌<◌, ◌≤◌, List, [], ◌∷◌, ◌++◌, length, Option, refl, sym, ap, subst, ◌∙◌, arith}
+use Rattle.std.proofs.Common.{◌≡◌, inl, ℕ, ◌+◌, ◌%◌, ◌<◌, ◌≤◌, List, [], ◌∷◌, ◌++◌, length, Option, sym, ap, subst, ◌∙◌, arith}
 use Rattle.std.proofs.lemmas.List.{length_push}
 use Rattle.dots_disk.specs.Media.{Media}
 use Rattle.dots_disk.specs.Becoming.{Leaves, RestsWith}
-use Rattle.slot_store.specs.Layout.{place_of, IsJournal}
+use Rattle.slot_store.specs.Layout.{place_of}
 use Rattle.slot_store.specs.Standing.{JournalValue, Stands, HoldsEither, sized}
 use Rattle.slot_store.specs.Opening.{IsOpening, IsOpened, Is}
 use Rattle.slot_store.proofs.Steps.{leaves_as, seen_at_rest, rests_as}

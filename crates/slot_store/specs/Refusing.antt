@@ -1,5 +1,5 @@
 -- Why a disk is refused: the first byte of its header that isn't this format's, or other settings.
-use Rattle.std.specs.Prelude.{◌≡◌, ◌≢◌, ℕ, ◌+◌, ◌<◌, ◌≤◌, ◌⊎◌, List, [], slice_index, Result, Ok, Err, ⊤}
+use Rattle.std.specs.Prelude.{◌≡◌, ◌≢◌, ℕ, ◌+◌, ◌<◌, ◌≤◌, ◌⊎◌, List, [], slice_index, Result, Err, ⊤}
 use Rattle.dots_host.specs.Causes.{Rose}
 use Rattle.dots_disk.specs.Media.{byte_of}
 use Rattle.slot_store.specs.declared.fault.OpenFault.{OpenFault}

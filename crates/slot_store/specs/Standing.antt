@@ -1,5 +1,5 @@
 -- What a journal in memory knows of its disk.
-use Rattle.std.specs.Prelude.{◌≡◌, ℕ, ◌/◌, ◌%◌, ◌⊎◌, List, [], ◌∷◌, ◌++◌, length}
+use Rattle.std.specs.Prelude.{◌≡◌, ℕ, ◌/◌, ◌%◌, ◌⊎◌, List, ◌∷◌, length}
 use Rattle.slot_store.specs.Layout.{IsJournal, HoldsRecords}
 
 -- The number of slots of a half, the selector, and how many slots of the half in use hold a record.

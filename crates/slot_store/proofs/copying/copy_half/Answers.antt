@@ -1,4 +1,4 @@
-use Rattle.std.proofs.Common.{arith, ◌∙◌, refl, ◌+◌, ◌*◌, ◌≡◌, ◌≤◌, length, take}
+use Rattle.std.proofs.Common.{arith, ◌∙◌, ◌+◌, ◌*◌, ◌≡◌, ◌≤◌, length, take}
 use Rattle.std.proofs.lemmas.List.{length-take}
 use Rattle.slot_store.proofs.CopyStages.{copy_reads, write_torn, write_more, copy_unsynced, half_left, half_done}
 use Rattle.slot_store.proofs.copying.copy_half.Goals as goal

@@ -1,4 +1,4 @@
-use Rattle.std.proofs.Common.{◌≡◌, ℕ, ◌+◌, ◌-◌, ◌*◌, ◌≤◌}
+use Rattle.std.proofs.Common.{◌≡◌, ℕ, ◌-◌, ◌*◌, ◌≤◌}
 use Rattle.dots_disk.specs.Becoming.{RestsWith}
 use Rattle.slot_store.specs.Layout.{place_of}
 use Rattle.slot_store.specs.Opening.{Is}

@@ -1,4 +1,4 @@
-use Rattle.std.proofs.Common.{arith, ◌∙◌, sym, subst, refl, ◌+◌, ◌-◌, ◌*◌, ◌≡◌, ◌≤◌, length, ℕ}
+use Rattle.std.proofs.Common.{arith, ◌∙◌, sym, subst, refl, ◌+◌, ◌-◌, ◌*◌, ◌≡◌, ◌≤◌, length}
 use Rattle.dots_disk.proofs.ContentLemmas.{put_same}
 use Rattle.slot_store.specs.Copying.{IsCopy}
 use Rattle.slot_store.proofs.Reading.{reads_then, sees_kept}

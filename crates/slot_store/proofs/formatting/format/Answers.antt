@@ -1,5 +1,5 @@
-use Rattle.std.proofs.Common.{arith, ◌≡◌, length, drop}
-use Rattle.slot_store.proofs.Reading.{sees_at_rest, rests_kept}
+use Rattle.std.proofs.Common.{arith, ◌≡◌, length}
+use Rattle.slot_store.proofs.Reading.{sees_at_rest}
 use Rattle.slot_store.proofs.HeaderLemmas.{is_rest}
 use Rattle.slot_store.proofs.FormatLemmas.{format_reads, format_leaves, format_rests}
 use Rattle.slot_store.proofs.formatting.format.Goals as goal

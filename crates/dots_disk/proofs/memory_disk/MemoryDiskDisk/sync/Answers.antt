@@ -1,9 +1,7 @@
-use Rattle.std.proofs.Common.{◌≡◌, ◌∙◌, ap, refl, ◌∷◌, length}
-use Rattle.std.specs.Prelude.{true, false}
+use Rattle.std.proofs.Common.{◌≡◌, ◌∙◌, ap, refl}
+use Rattle.std.specs.Prelude.{true}
 use Rattle.dots_host.specs.declared.act.Act.TheVariants as act
 use Rattle.dots_disk.specs.Media.{settled}
-use Rattle.dots_disk.specs.Becoming.{Stays}
-use Rattle.dots_disk.specs.Stored.{Records}
 use Rattle.dots_disk.proofs.DiskLemmas.{becomes, goes_on, records_from}
 use Rattle.dots_disk.proofs.memory_disk.MemoryDiskDisk.sync.Goals as goal
 

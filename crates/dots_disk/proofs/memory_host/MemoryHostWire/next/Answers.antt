@@ -1,7 +1,6 @@
-use Rattle.std.proofs.Common.{◌∙◌, ap, refl, sym, drop}
+use Rattle.std.proofs.Common.{◌∙◌, ap, refl, drop}
 use Rattle.dots_host.specs.declared.event.Event.TheVariants as event
 use Rattle.dots_host.specs.declared.act.Act.TheVariants as act
-use Rattle.dots_host.specs.Acts.{owned_of, is_done}
 use Rattle.dots_host.specs.Memory.{first_coming}
 use Rattle.dots_host.proofs.HandingLemmas.{hands_event}
 use Rattle.dots_disk.proofs.DiskLemmas.{records_in_room, wire_beside, handed, carried, adds_by}
