@@ -15,3 +15,4 @@ pub mod Moving
 pub mod HeaderLemmas
 pub mod OpenLemmas
 pub mod Counting
+pub mod FoundLemmas

@@ -8,6 +8,7 @@
 mod copying;
 mod fault;
 mod formatting;
+mod found;
 mod gates;
 mod header;
 mod laws;
@@ -18,6 +19,8 @@ mod sizing;
 mod store;
 
 pub use fault::{DiskFault, OpenFault};
+pub use found::read_slot;
+pub use gates::{Wanted, find_gate};
 pub use laws::one_list;
-pub use layout::MAX_RECORD;
+pub use layout::{MAX_RECORD, SLOT};
 pub use store::SlotStore;
