@@ -1,8 +1,8 @@
 -- A list of bytes that was written in part, with zeros after it.
-use Rattle.std.proofs.Common.{◌≡◌, ◌⊎◌, inl, inr, ℕ, ◌+◌, ◌-◌, ◌<◌, ◌≤◌, min, List, [], ◌∷◌, ◌++◌, length, take, drop, replicate, get_or, refl, sym, ap, subst, ◌∙◌, arith, length-append, length-drop}
+use Rattle.std.proofs.Common.{◌≡◌, inl, inr, ℕ, ◌+◌, ◌-◌, ◌<◌, ◌≤◌, min, List, ◌++◌, length, take, drop, replicate, get_or, refl, sym, ap, ◌∙◌, arith, length-append, length-drop}
 use Rattle.std.proofs.Math.Path.{fun_ext}
 use Rattle.std.proofs.lemmas.Bool.{cases_lt}
-use Rattle.std.proofs.lemmas.List.{get_or_append_left, get_or-append_right, get_or-take, get_or-drop, get_or-replicate, get_or_past, get_or_default, length-take, length-replicate, take_at, take_all, append-nil}
+use Rattle.std.proofs.lemmas.List.{get_or_append_left, get_or-append_right, get_or-take, get_or-drop, get_or-replicate, get_or_past, get_or_default, length-take, length-replicate, take_all}
 use borrow.Rule.Slice.PartMut.{put_mid}
 use Rattle.dots_disk.specs.Media.{byte_of, bytes_at, overwritten}
 use Rattle.dots_disk.proofs.WrittenLemmas.{overwritten_below, overwritten_from, is_bytes_at}
@@ -10,13 +10,13 @@ use Rattle.dots_disk.proofs.WrittenLemmas.{overwritten_below, overwritten_from, 
 -- zeros after a list change none of its bytes
 pub zeros_after : (bytes : List ℕ) (count place : ℕ) → byte_of (bytes ++ replicate count 0) place ≡ byte_of bytes place
 zeros_after bytes count place = elim (cases_lt place (length bytes)) [
-  inl within ↦ get_or_append_left bytes (replicate count 0) 0 place within
+  | inl within ↦ get_or_append_left bytes (replicate count 0) 0 place within
   | inr past ↦ get_or-append_right bytes (replicate count 0) (length bytes) place 0 refl past ∙ zero_of (place - length bytes) ∙ sym (get_or_past bytes place 0 past)
 ]
   where
     zero_of : (offset : ℕ) → byte_of (replicate count 0) offset ≡ 0
     zero_of offset = elim (cases_lt offset count) [
-      inl within ↦ get_or-replicate count offset 0 0 within
+      | inl within ↦ get_or-replicate count offset 0 0 within
       | inr past ↦ get_or_past (replicate count 0) offset 0 (let size : length {A = ℕ} (replicate count 0) ≡ count = length-replicate count 0 in let beyond : length {A = ℕ} (replicate count 0) ≤ offset = omega arith in beyond)
     ]
 
@@ -27,26 +27,27 @@ put_part old grown bytes at room same = fun_ext place_of
   where
     front : length (take at grown) ≡ at
     front = let size = length-take at grown in omega arith
+
     place_of : (place : ℕ) → get_or (put_mid at (length bytes) grown bytes) place 0 ≡ overwritten (byte_of old) at bytes place
     place_of place = elim (cases_lt place at) [
-      inl below ↦
-        let within : place < length (take at grown) = omega (arith, front) in
-        get_or_append_left (take at grown) (bytes ++ drop (length bytes) (drop at grown)) 0 place within ∙ get_or-take at grown place 0 below ∙ same place ∙ sym (overwritten_below (byte_of old) at bytes place below)
+      | inl below ↦
+          let within : place < length (take at grown) = omega (arith, front) in
+          get_or_append_left (take at grown) (bytes ++ drop (length bytes) (drop at grown)) 0 place within ∙ get_or-take at grown place 0 below ∙ same place ∙ sym (overwritten_below (byte_of old) at bytes place below)
       | inr from ↦
-        get_or-append_right (take at grown) (bytes ++ drop (length bytes) (drop at grown)) at place 0 front from ∙ behind (place - at) from ∙ sym (overwritten_from (byte_of old) at bytes place from)
+          get_or-append_right (take at grown) (bytes ++ drop (length bytes) (drop at grown)) at place 0 front from ∙ behind (place - at) from ∙ sym (overwritten_from (byte_of old) at bytes place from)
     ]
       where
         behind : (offset : ℕ) → at ≤ place → get_or (bytes ++ drop (length bytes) (drop at grown)) (place - at) 0 ≡ get_or bytes (place - at) (get_or old place 0)
         behind offset from = elim (cases_lt (place - at) (length bytes)) [
-          inl within ↦ get_or_append_left bytes (drop (length bytes) (drop at grown)) 0 (place - at) within ∙ get_or_default bytes (place - at) 0 (get_or old place 0) within
+          | inl within ↦ get_or_append_left bytes (drop (length bytes) (drop at grown)) 0 (place - at) within ∙ get_or_default bytes (place - at) 0 (get_or old place 0) within
           | inr past ↦
-            let sum : at + (length bytes + (place - at - length bytes)) ≡ place = omega arith in
-            get_or-append_right bytes (drop (length bytes) (drop at grown)) (length bytes) (place - at) 0 refl past
-            ∙ get_or-drop (length bytes) (drop at grown) (place - at - length bytes) 0
-            ∙ get_or-drop at grown (length bytes + (place - at - length bytes)) 0
-            ∙ ap (λ n. get_or grown n 0) sum
-            ∙ same place
-            ∙ sym (get_or_past bytes (place - at) (get_or old place 0) past)
+              let sum : at + (length bytes + (place - at - length bytes)) ≡ place = omega arith in
+              get_or-append_right bytes (drop (length bytes) (drop at grown)) (length bytes) (place - at) 0 refl past
+              ∙ get_or-drop (length bytes) (drop at grown) (place - at - length bytes) 0
+              ∙ get_or-drop at grown (length bytes + (place - at - length bytes)) 0
+              ∙ ap (λ n. get_or grown n 0) sum
+              ∙ same place
+              ∙ sym (get_or_past bytes (place - at) (get_or old place 0) past)
         ]
 
 -- a part of the list, and zeros where it ends
@@ -65,15 +66,15 @@ read_parts bytes into filled part at start count first second third fourth =
   where
     byte : length part ≡ count → (offset : ℕ) → offset < length into → byte_of (part ++ drop count filled) offset ≡ byte_of bytes (at + offset)
     byte part_size offset within = elim (cases_lt offset count) [
-      inl below ↦
-        let inside : offset < length part = omega arith in
-        let same : start + offset ≡ at + offset = omega arith in
-        get_or_append_left part (drop count filled) 0 offset inside ∙ ap (λ part. byte_of part offset) fourth ∙ get_or-take count (drop start bytes) offset 0 below ∙ get_or-drop start bytes offset 0 ∙ ap (byte_of bytes) same
+      | inl below ↦
+          let inside : offset < length part = omega arith in
+          let same : start + offset ≡ at + offset = omega arith in
+          get_or_append_left part (drop count filled) 0 offset inside ∙ ap (λ part. byte_of part offset) fourth ∙ get_or-take count (drop start bytes) offset 0 below ∙ get_or-drop start bytes offset 0 ∙ ap (byte_of bytes) same
       | inr above ↦
-        let past : length bytes ≤ at + offset = omega arith in
-        let place : count + (offset - count) ≡ offset = omega arith in
-        get_or-append_right part (drop count filled) count offset 0 part_size above ∙ get_or-drop count filled (offset - count) 0 ∙ ap (byte_of filled) place ∙ ap (λ filled. byte_of filled offset) third
-        ∙ get_or-replicate (length into) offset 0 0 within ∙ sym (get_or_past bytes (at + offset) 0 past)
+          let past : length bytes ≤ at + offset = omega arith in
+          let place : count + (offset - count) ≡ offset = omega arith in
+          get_or-append_right part (drop count filled) count offset 0 part_size above ∙ get_or-drop count filled (offset - count) 0 ∙ ap (byte_of filled) place ∙ ap (λ filled. byte_of filled offset) third
+          ∙ get_or-replicate (length into) offset 0 0 within ∙ sym (get_or_past bytes (at + offset) 0 past)
     ]
 
 -- a list that was made longer by zeros

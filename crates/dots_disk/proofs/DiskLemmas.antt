@@ -1,5 +1,5 @@
 -- A memory disk over one call more.
-use Rattle.std.proofs.Common.{◌≡◌, ◌⊎◌, inl, inr, ℕ, List, [], ◌∷◌, ◌++◌, length, Option, Some, refl, sym, ap, subst, ◌∙◌, append-nil}
+use Rattle.std.proofs.Common.{◌≡◌, ◌⊎◌, inl, inr, ℕ, List, [], ◌∷◌, ◌++◌, length, Some, refl, sym, ap, subst, ◌∙◌, append-nil}
 use Rattle.std.specs.Prelude.{true, false, Bool, MatchBool}
 use Rattle.std.proofs.lemmas.Bool.{false≢true}
 use Rattle.dots_host.specs.declared.act.Act.{Act}
@@ -9,10 +9,10 @@ use Rattle.dots_host.specs.declared.out.OwnedOut.{OwnedOut}
 use Rattle.dots_host.specs.Acts.{Adds, took}
 use Rattle.dots_host.specs.Memory.{Coming, HandsOne, Hands, told}
 use Rattle.dots_host.proofs.TapeLemmas.{adds_took}
-use Rattle.dots_disk.specs.Media.{Medium, Media, after, all_media, next_media, blank, grown}
+use Rattle.dots_disk.specs.Media.{Medium, after, all_media, next_media, blank, grown}
 use Rattle.dots_disk.specs.Becoming.{Becomes, MayBecome, KeepsMedia}
 use Rattle.dots_disk.specs.Stored.{Stored, media_of, IsOfDisk, IsOfWire, GoesOn, Records, Forgets, MakesRoom}
-use Rattle.dots_disk.specs.Hosted.{Hosted, HandsOut, KeepsWire, KeepsDisk}
+use Rattle.dots_disk.specs.Hosted.{Hosted, KeepsDisk}
 use Rattle.dots_disk.specs.HostedLaws.{grown-push}
 
 pub media_after : (old new : Stored) (call : Act) → Records old new call → media_of new ≡ next_media (media_of old) (after (media_of old).now call)
@@ -97,8 +97,7 @@ seen_given false base acts later out done bytes more same = same ∙ sym (ap (λ
 keeps_by_wire : (old new : Stored) (call : Act) → Records old new call → IsOfWire call → KeepsMedia (Some (media_of old)) (Some (media_of new))
 keeps_by_wire old new call made is =
     let same : after (media_of old).now call ≡ (media_of old).now = after_wire (media_of old).now call is in
-    let next = media_after old new call made in
-    (
+    let next = media_after old new call made in (
       after (media_of old).now call ∷ [],
       ap all_media next,
       (same, tt),

@@ -1,6 +1,5 @@
 -- Bytes that were written, and those that stayed.
-use Rattle.std.proofs.Common.{◌≡◌, ◌⊎◌, inl, inr, ℕ, ◌+◌, ◌-◌, ◌<◌, ◌≤◌, List, [], ◌∷◌, length, map, get_or, refl, sym, ap, subst, ◌∙◌, arith}
-use Rattle.std.specs.List.{range_with_len}
+use Rattle.std.proofs.Common.{◌≡◌, ◌⊎◌, inl, inr, ℕ, ◌+◌, ◌-◌, ◌<◌, ◌≤◌, List, length, get_or, refl, sym, ap, ◌∙◌, arith}
 use Rattle.std.proofs.lemmas.Bool.{cond_below, cond_above}
 use Rattle.std.proofs.lemmas.List.{get_or_past, get_or_default, ext_get_or}
 use Rattle.std.proofs.lemmas.List.FromFn.{length-map-range_with_len, get_or-map-range_with_len}
@@ -39,8 +38,8 @@ pub is_bytes_at : (bytes : ℕ → ℕ) (at count : ℕ) (list : List ℕ) → l
 is_bytes_at bytes at count list size each =
     let both : length list ≡ length (bytes_at bytes at count) = size ∙ sym (length_of_bytes_at bytes at count) in
     ext_get_or 0 list (bytes_at bytes at count) both (λ offset under.
-      let within : offset < count = omega arith in
-      each offset within ∙ sym (byte_of_bytes_at bytes at count offset within))
+    let within : offset < count = omega arith in
+    each offset within ∙ sym (byte_of_bytes_at bytes at count offset within))
 
 -- what was written is read again
 pub bytes_written : (bytes : ℕ → ℕ) (at : ℕ) (written : List ℕ) → bytes_at (overwritten bytes at written) at (length written) ≡ written

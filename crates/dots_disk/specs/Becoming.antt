@@ -1,5 +1,5 @@
 -- What a call leaves of a disk, where the disk tells it. A disk tells it always or never.
-use Rattle.std.specs.Prelude.{◌≡◌, ◌⊎◌, ℕ, ◌+◌, List, [], ◌∷◌, ◌++◌, length, Option, Some, None, ⊤}
+use Rattle.std.specs.Prelude.{◌≡◌, ◌⊎◌, ℕ, List, [], ◌∷◌, ◌++◌, length, Option, Some, None, ⊤}
 use Rattle.dots_disk.specs.Media.{Medium, Media, IsImage, all_media, next_media}
 
 -- one moment came, which has this relation to the last one

@@ -1,13 +1,11 @@
 -- What a memory host says of its calls holds where none was made, and goes on.
-use Rattle.std.proofs.Common.{◌≡◌, ℕ, ◌+◌, List, [], ◌∷◌, ◌++◌, length, Option, Some, None, refl, sym, ap, subst, ◌∙◌, append_assoc, append-nil, arith}
+use Rattle.std.proofs.Common.{◌≡◌, ℕ, ◌+◌, List, [], ◌∷◌, ◌++◌, length, Some, refl, sym, ap, subst, ◌∙◌, append_assoc, append-nil, arith}
 use Rattle.std.proofs.lemmas.Bool.{false≢true}
 use Rattle.std.proofs.lemmas.List.{length_push}
 use Rattle.std.specs.Prelude.{true, Bool, false}
-use Rattle.dots_host.specs.declared.event.Event.{Event}
-use Rattle.dots_host.specs.declared.out.OwnedOut.{OwnedOut}
 use Rattle.dots_host.specs.declared.act.Act.{Act}
 use Rattle.dots_host.specs.declared.act.Act.TheVariants as act
-use Rattle.dots_host.specs.Acts.{Timed, took, gave, wire_acts}
+use Rattle.dots_host.specs.Acts.{took, gave, wire_acts}
 use Rattle.dots_host.specs.Memory.{Coming, Hands, told}
 use Rattle.dots_host.specs.Handing.{hands_then}
 use Rattle.dots_disk.specs.Media.{Medium, Media, after, all_media, next_media, blank, grown}
@@ -119,5 +117,9 @@ keeps_acts old new goes = kept old.whole new.whole old.acts new.acts goes.more g
     kept false true acts later more grown are whole = absurd (false≢true (whole refl))
 
 pub disk_leads : (old new : Hosted) → KeepsWire old new → HandsOut old new
-disk_leads old new keeps = λ whole. (keeps.disk.whole whole, keeps.disk.more, keeps.disk.grown,
-  subst (λ coming. Hands old.coming keeps.disk.more coming) (sym keeps.coming) (hands_none old.coming keeps.disk.more keeps.disk.disk))
+disk_leads old new keeps = λ whole. (
+  keeps.disk.whole whole,
+  keeps.disk.more,
+  keeps.disk.grown,
+  subst (λ coming. Hands old.coming keeps.disk.more coming) (sym keeps.coming) (hands_none old.coming keeps.disk.more keeps.disk.disk),
+)

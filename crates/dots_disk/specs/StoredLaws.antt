@@ -1,5 +1,5 @@
 -- Calls of a memory disk go on from none, and one after the other.
-use Rattle.std.proofs.Common.{◌≡◌, List, [], ◌∷◌, ◌++◌, refl, sym, ap, ◌∙◌, append_assoc, append-nil}
+use Rattle.std.proofs.Common.{List, [], ◌∷◌, ◌++◌, sym, ap, ◌∙◌, append_assoc, append-nil}
 use Rattle.dots_host.specs.declared.act.Act.{Act}
 use Rattle.dots_disk.specs.Stored.{Stored, AreOfDisk, GoesOn}
 

@@ -1,5 +1,5 @@
-use Rattle.std.proofs.Common.{◌∙◌, ap, refl, ◌∷◌, length}
-use Rattle.std.specs.Prelude.{true, false}
+use Rattle.std.proofs.Common.{refl}
+use Rattle.std.specs.Prelude.{false}
 use Rattle.dots_host.specs.declared.act.Act.TheVariants as act
 use Rattle.dots_disk.specs.Becoming.{Stays}
 use Rattle.dots_disk.proofs.DiskLemmas.{may_become, may_go_on}

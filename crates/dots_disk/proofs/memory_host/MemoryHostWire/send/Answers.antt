@@ -1,10 +1,7 @@
-use Rattle.std.proofs.Common.{◌∙◌, ap, refl, sym, drop}
-use Rattle.dots_host.specs.declared.event.Event.TheVariants as event
+use Rattle.std.proofs.Common.{◌∙◌, ap, refl}
 use Rattle.dots_host.specs.declared.act.Act.TheVariants as act
 use Rattle.dots_host.specs.Acts.{owned_of, is_done}
-use Rattle.dots_host.specs.Memory.{first_coming}
-use Rattle.dots_host.proofs.HandingLemmas.{hands_event}
-use Rattle.dots_disk.proofs.DiskLemmas.{records_in_room, wire_beside, handed, carried, adds_by}
+use Rattle.dots_disk.proofs.DiskLemmas.{wire_beside, handed, carried}
 use Rattle.dots_disk.proofs.memory_host.MemoryHostWire.send.Goals as goal
 
 pub returns-then-record_given-clause-beside : goal.returns-then-record_given-clause-beside

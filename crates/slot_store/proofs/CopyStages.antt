@@ -1,0 +1,137 @@
+-- The calls by which a half is copied, one after the other.
+use Rattle.std.proofs.Common.{zero, suc, ◌≡◌, ◌⊎◌, inl, inr, ℕ, ◌+◌, ◌-◌, ◌*◌, ◌<◌, ◌≤◌, List, [], ◌∷◌, ◌++◌, length, take, get_or, Option, Some, None, refl, sym, ap, subst, ◌∙◌, append_assoc, arith}
+use Rattle.std.proofs.lemmas.List.{get_or-take, length-take}
+use Rattle.dots_disk.specs.Media.{Medium, Media, byte_of, all_media, written, settled, IsTorn}
+use Rattle.dots_disk.specs.Becoming.{Becomes, MayBecome, Stays, EachMedium, KeepsMedia, Leaves, RestsWith}
+use Rattle.slot_store.specs.Layout.{place_of}
+use Rattle.slot_store.specs.Gates.{Sees}
+use Rattle.slot_store.specs.Copying.{Elsewhere, IsCopy, AreSlots, HalfIsCopied}
+use Rattle.slot_store.specs.Opening.{Is}
+use Rattle.slot_store.proofs.Steps.{Now, Images, Rests, leaves_more, leaves_lost, now_then, rests_with}
+use Rattle.slot_store.proofs.Stages.{Stage, more, unsynced, no_call}
+use Rattle.slot_store.proofs.OpeningLemmas.{images_at_rest}
+use Rattle.slot_store.proofs.CopyingLemmas.{Copying, copy_moved, copying_images, copying_begins, copying_torn, copying_more, copying_settled}
+
+each_then : (front back : List Medium) (P : Medium → Type 0) → EachMedium front P → EachMedium back P → EachMedium (front ++ back) P
+each_then [] back P a b = b
+each_then (medium ∷ front) back P a b = (a.0, each_then front back P a.1 b)
+
+each_like : (media : List Medium) (now : Medium) (P : Medium → Type 0) → P now → EachMedium media (λ medium. medium ≡ now) → EachMedium media P
+each_like [] now P holds are = tt
+each_like (medium ∷ media) now P holds are = (subst P (sym are.0) holds, each_like media now P holds are.1)
+
+-- reads came
+pub stage_read : (start mid new : Option Media) (P : (ℕ → ℕ) → Type 0) (Q : Medium → Type 0) → Stage start mid P Q → KeepsMedia mid new → ((medium : Medium) → Q medium → Images P medium) → Stage start new P Q
+stage_read None None None P Q stage keeps images = stage
+stage_read None None (Some new) P Q stage keeps images = absurd keeps
+stage_read None (Some mid) new P Q stage keeps images = absurd stage.leaves
+stage_read (Some start) None new P Q stage keeps images = absurd stage.leaves
+stage_read (Some start) (Some mid) None P Q stage keeps images = absurd keeps
+stage_read (Some start) (Some mid) (Some new) P Q stage keeps images = record {
+  leaves = (
+    stage.leaves.0 ++ keeps.0,
+    keeps.1 ∙ ap (λ media. media ++ keeps.0) stage.leaves.1 ∙ append_assoc (all_media start) stage.leaves.0 keeps.0,
+    each_then stage.leaves.0 keeps.0 (Images P) stage.leaves.2 (each_like keeps.0 mid.now (Images P) (images mid.now stage.now) keeps.2),
+  );
+  now = subst Q (sym keeps.3) stage.now;
+}
+
+-- the disk now, which is told
+pub current : (start mid : Option Media) (P Any : (ℕ → ℕ) → Type 0) (Q : Medium → Type 0) → RestsWith start Any → Stage start mid P Q → (medium : Medium) × Sees mid medium.seen × Q medium
+current None mid P Any Q rests stage = absurd rests
+current (Some start) None P Any Q rests stage = absurd stage.leaves
+current (Some start) (Some mid) P Any Q rests stage = (mid.now, refl, stage.now)
+
+-- the one half lies elsewhere than the other
+pub halves_apart : (slots half slot offset : ℕ) → half < 2 → slot < slots → offset < 8192 → (place_of slots half slot + offset < place_of slots (1 - half) 0 ⊎ place_of slots (1 - half) 0 + 8192 * slots ≤ place_of slots half slot + offset)
+halves_apart slots zero slot offset half within under = inl (omega arith)
+halves_apart slots (suc zero) slot offset half within under = inr (omega arith)
+halves_apart slots (suc (suc n)) slot offset half within under = absurd (omega arith)
+
+copy_seen : (slots half : ℕ) (keep : List ℕ) (seen later : ℕ → ℕ) (slot : ℕ) (bytes : ℕ → ℕ) (at : ℕ) → half < 2 → AreSlots slots keep → Elsewhere seen (place_of slots (1 - half) 0) (8192 * slots) later
+    → IsCopy slots half keep later slot bytes at → IsCopy slots half keep seen slot bytes at
+copy_seen slots half keep seen later slot bytes at within are elsewhere is = record {
+  kept = λ inside offset under. is.kept inside offset under ∙ elsewhere (place_of slots half (get_or keep slot 0) + offset) (halves_apart slots half (get_or keep slot 0) offset within (are slot inside) under);
+  closed = is.closed;
+}
+
+pub copy_begins : (start : Option Media) (slots half : ℕ) (keep : List ℕ) (seen : ℕ → ℕ) → RestsWith start (Is seen) → Stage start start (Elsewhere seen (place_of slots (1 - half) 0) (8192 * slots)) (Copying slots half keep seen 0)
+copy_begins start slots half keep seen rests =
+    let none = no_call start seen (Elsewhere seen (place_of slots (1 - half) 0) (8192 * slots)) rests in
+    record { leaves = none.leaves; now = as_now start none.now }
+  where
+    as_now : (start : Option Media) → Now start (Rests seen) → Now start (Copying slots half keep seen 0)
+    as_now None now = tt
+    as_now (Some start) now = copying_begins slots half keep seen start.now now
+
+pub copy_reads : (start mid new : Option Media) (slots half : ℕ) (keep : List ℕ) (seen : ℕ → ℕ) (first : ℕ) → Stage start mid (Elsewhere seen (place_of slots (1 - half) 0) (8192 * slots)) (Copying slots half keep seen first) → KeepsMedia mid new
+    → Stage start new (Elsewhere seen (place_of slots (1 - half) 0) (8192 * slots)) (Copying slots half keep seen first)
+copy_reads start mid new slots half keep seen first stage keeps = stage_read start mid new (Elsewhere seen (place_of slots (1 - half) 0) (8192 * slots)) (Copying slots half keep seen first) stage keeps (copying_images slots half keep seen first)
+
+pub copy_torn : (start mid new : Option Media) (slots half : ℕ) (keep : List ℕ) (seen : ℕ → ℕ) (first count : ℕ) → first + count ≤ slots → Stage start mid (Elsewhere seen (place_of slots (1 - half) 0) (8192 * slots)) (Copying slots half keep seen first)
+    → MayBecome mid new (IsTorn (place_of slots (1 - half) first) (8192 * count)) → Leaves start new (Elsewhere seen (place_of slots (1 - half) 0) (8192 * slots))
+copy_torn start mid new slots half keep seen first count within stage becomes = leaves_lost start mid new (Elsewhere seen (place_of slots (1 - half) 0) (8192 * slots)) (Copying slots half keep seen first)
+    (IsTorn (place_of slots (1 - half) first) (8192 * count)) stage.leaves stage.now becomes (λ old now is torn. copying_torn slots half keep seen first count old now within is torn)
+
+pub copy_more : (start mid fill new : Option Media) (slots half : ℕ) (keep : List ℕ) (seen : ℕ → ℕ) (first count : ℕ) (bytes : List ℕ) → half < 2 → AreSlots slots keep → first + count ≤ slots → length bytes ≡ 8192 * count → RestsWith start (Is seen)
+    → Stage start mid (Elsewhere seen (place_of slots (1 - half) 0) (8192 * slots)) (Copying slots half keep seen first) → KeepsMedia mid fill
+    → ((later : ℕ → ℕ) → Sees mid later → (index : ℕ) → index < count → IsCopy slots half keep later (first + index) (byte_of bytes) (8192 * index))
+    → Becomes fill new (λ old now. now ≡ written old (place_of slots (1 - half) first) bytes) → Stage start new (Elsewhere seen (place_of slots (1 - half) 0) (8192 * slots)) (Copying slots half keep seen (first + count))
+copy_more start mid fill new slots half keep seen first count bytes half_is are within size rests stage keeps piece becomes =
+    let P = Elsewhere seen (place_of slots (1 - half) 0) (8192 * slots) in
+    let read = copy_reads start mid fill slots half keep seen first stage keeps in
+    let now = current start mid P (Is seen) (Copying slots half keep seen first) rests stage in
+    more start fill new P (Copying slots half keep seen first) (Copying slots half keep seen (first + count)) (λ old now. now ≡ written old (place_of slots (1 - half) first) bytes) read becomes
+    (λ old new is same. copying_more slots half keep seen first count bytes old new within size
+    (λ index under. copy_seen slots half keep seen now.0.seen (first + index) (byte_of bytes) (8192 * index) half_is are now.2.elsewhere (piece now.0.seen now.1 index under)) is same)
+    (copying_images slots half keep seen (first + count))
+
+pub copy_unsynced : (start mid new : Option Media) (slots half : ℕ) (keep : List ℕ) (seen : ℕ → ℕ) (first : ℕ) → Stage start mid (Elsewhere seen (place_of slots (1 - half) 0) (8192 * slots)) (Copying slots half keep seen first) → MayBecome mid new Stays
+    → Leaves start new (Elsewhere seen (place_of slots (1 - half) 0) (8192 * slots))
+copy_unsynced start mid new slots half keep seen first stage becomes = unsynced start mid new (Elsewhere seen (place_of slots (1 - half) 0) (8192 * slots)) (Copying slots half keep seen first) stage becomes (copying_images slots half keep seen first)
+
+settled_images : (slots half : ℕ) (keep : List ℕ) (seen : ℕ → ℕ) (old now : Medium) → Copying slots half keep seen slots old → now ≡ settled old → Images (Elsewhere seen (place_of slots (1 - half) 0) (8192 * slots)) now
+settled_images slots half keep seen old now is same =
+    let done = copying_settled slots half keep seen old now is same in
+    images_at_rest now.seen now (Elsewhere seen (place_of slots (1 - half) 0) (8192 * slots)) (record { none = done.0; same = refl }) (λ image agree place outside. agree place ∙ done.1.elsewhere place outside)
+
+pub copy_left : (start mid new : Option Media) (slots half : ℕ) (keep : List ℕ) (seen : ℕ → ℕ) → Stage start mid (Elsewhere seen (place_of slots (1 - half) 0) (8192 * slots)) (Copying slots half keep seen slots) → Becomes mid new (λ old now. now ≡ settled old)
+    → Leaves start new (Elsewhere seen (place_of slots (1 - half) 0) (8192 * slots))
+copy_left start mid new slots half keep seen stage becomes = leaves_more start mid new (Elsewhere seen (place_of slots (1 - half) 0) (8192 * slots)) (Copying slots half keep seen slots) (λ old now. now ≡ settled old) stage.leaves stage.now becomes
+    (settled_images slots half keep seen)
+
+pub copy_done : (start mid new : Option Media) (slots half : ℕ) (keep : List ℕ) (seen : ℕ → ℕ) → RestsWith start (Is seen) → Stage start mid (Elsewhere seen (place_of slots (1 - half) 0) (8192 * slots)) (Copying slots half keep seen slots)
+    → Becomes mid new (λ old now. now ≡ settled old) → RestsWith new (HalfIsCopied slots half keep seen)
+copy_done start mid new slots half keep seen rests stage becomes = rests_with start new (Elsewhere seen (place_of slots (1 - half) 0) (8192 * slots)) (HalfIsCopied slots half keep seen) (Is seen) (λ now. (now.pending ≡ []) × HalfIsCopied slots half keep seen now.seen)
+    rests (copy_left start mid new slots half keep seen stage becomes)
+    (now_then mid new (Copying slots half keep seen slots) (λ now. (now.pending ≡ []) × HalfIsCopied slots half keep seen now.seen) (λ old now. now ≡ settled old) stage.now becomes (copying_settled slots half keep seen)) (λ now is. is)
+
+-- ---- the same by other names
+
+pub write_torn : (start mid new : Option Media) (slots half : ℕ) (keep : List ℕ) (seen : ℕ → ℕ) (first count at size : ℕ) → first + count ≤ slots → at ≡ place_of slots (1 - half) first → size ≡ 8192 * count
+    → Stage start mid (Elsewhere seen (place_of slots (1 - half) 0) (8192 * slots)) (Copying slots half keep seen first) → MayBecome mid new (IsTorn at size) → Leaves start new (Elsewhere seen (place_of slots (1 - half) 0) (8192 * slots))
+write_torn start mid new slots half keep seen first count at size within place length_is stage becomes =
+    copy_torn start mid new slots half keep seen first count within stage (subst (λ at. MayBecome mid new (IsTorn at (8192 * count))) place (subst (λ size. MayBecome mid new (IsTorn at size)) length_is becomes))
+
+pub write_more : (start mid fill new : Option Media) (slots half : ℕ) (keep : List ℕ) (seen : ℕ → ℕ) (first count at : ℕ) (piece : List ℕ) → half < 2 → AreSlots slots keep → first + count ≤ slots → 8192 * count ≤ length piece → at ≡ place_of slots (1 - half) first
+    → RestsWith start (Is seen) → Stage start mid (Elsewhere seen (place_of slots (1 - half) 0) (8192 * slots)) (Copying slots half keep seen first) → KeepsMedia mid fill
+    → ((later : ℕ → ℕ) → Sees mid later → (index : ℕ) → index < count → IsCopy slots half keep later (first + index) (byte_of piece) (8192 * index))
+    → Becomes fill new (λ old now. now ≡ written old at (take (8192 * count) piece)) → Stage start new (Elsewhere seen (place_of slots (1 - half) 0) (8192 * slots)) (Copying slots half keep seen (first + count))
+write_more start mid fill new slots half keep seen first count at piece two are within room place rests stage keeps copies becomes =
+    copy_more start mid fill new slots half keep seen first count (take (8192 * count) piece) two are within size rests stage keeps
+    (λ later sees index under. copy_moved slots half keep later (byte_of piece) (byte_of (take (8192 * count) piece)) (first + index) (8192 * index) (8192 * index)
+    (λ offset low. let inside : 8192 * index + offset < 8192 * count = omega arith in get_or-take (8192 * count) piece (8192 * index + offset) 0 inside) (copies later sees index under))
+    (subst (λ at. Becomes fill new (λ old now. now ≡ written old at (take (8192 * count) piece))) place becomes)
+  where
+    size : length (take (8192 * count) piece) ≡ 8192 * count
+    size = let taken = length-take (8192 * count) piece in omega arith
+
+pub half_left : (start mid new : Option Media) (slots half : ℕ) (keep : List ℕ) (seen : ℕ → ℕ) (first : ℕ) → first ≡ slots → Stage start mid (Elsewhere seen (place_of slots (1 - half) 0) (8192 * slots)) (Copying slots half keep seen first)
+    → Becomes mid new (λ old now. now ≡ settled old) → Leaves start new (Elsewhere seen (place_of slots (1 - half) 0) (8192 * slots))
+half_left start mid new slots half keep seen first all stage becomes =
+    copy_left start mid new slots half keep seen (subst (λ first. Stage start mid (Elsewhere seen (place_of slots (1 - half) 0) (8192 * slots)) (Copying slots half keep seen first)) all stage) becomes
+
+pub half_done : (start mid new : Option Media) (slots half : ℕ) (keep : List ℕ) (seen : ℕ → ℕ) (first : ℕ) → first ≡ slots → RestsWith start (Is seen) → Stage start mid (Elsewhere seen (place_of slots (1 - half) 0) (8192 * slots)) (Copying slots half keep seen first)
+    → Becomes mid new (λ old now. now ≡ settled old) → RestsWith new (HalfIsCopied slots half keep seen)
+half_done start mid new slots half keep seen first all rests stage becomes =
+    copy_done start mid new slots half keep seen rests (subst (λ first. Stage start mid (Elsewhere seen (place_of slots (1 - half) 0) (8192 * slots)) (Copying slots half keep seen first)) all stage) becomes

@@ -1,0 +1,85 @@
+-- How many slots of the half in use hold a record.
+use Rattle.std.proofs.Common.{◌≡◌, ◌≢◌, ◌⊎◌, inl, inr, ℕ, ◌+◌, ◌*◌, ◌%◌, ◌<◌, ◌≤◌, List, [], length, Option, sym, ap, subst, ◌∙◌, arith}
+use Rattle.std.specs.Prelude.{true, false}
+use Rattle.std.proofs.lemmas.Bool.{cases_order, eqb-true, eqb-false, not-true, not-false}
+use Rattle.dots_disk.specs.Media.{Media}
+use Rattle.dots_disk.specs.Becoming.{KeepsMedia, Leaves, RestsWith}
+use Rattle.slot_store.specs.declared.gates.Wanted.TheVariants as wanted
+use Rattle.slot_store.specs.Layout.{place_of, IsHeader, IsHalf, IsBlank, IsJournal, HoldsRecords}
+use Rattle.slot_store.specs.Gates.{is_wanted, NoneIs, IsFirst, Sees}
+use Rattle.slot_store.specs.Standing.{Stands}
+use Rattle.slot_store.specs.Refusing.{IsOpen, IsCount}
+use Rattle.slot_store.specs.Opening.{Is}
+use Rattle.slot_store.proofs.Steps.{seen_at_rest, rests_as, leaves_then}
+use Rattle.slot_store.proofs.Reading.{sees_at_rest, leaves_kept}
+use Rattle.slot_store.proofs.Keeping.{gate_of_header, one_list}
+
+gate_at : (slots half slot : ℕ) → place_of slots half 0 + 8192 * slot ≡ place_of slots half slot
+gate_at slots half slot = omega arith
+
+open_gate_of : (byte : ℕ) → is_wanted wanted.NotOpen byte ≡ false → byte ≡ 165
+open_gate_of byte is = eqb-true byte 165 (not-false _ is)
+
+closed_gate_of : (byte : ℕ) → is_wanted wanted.NotOpen byte ≡ true → byte ≢ 165
+closed_gate_of byte is = eqb-false byte 165 (not-true _ is)
+
+pub count_all : (slots half : ℕ) (seen : ℕ → ℕ) → NoneIs wanted.NotOpen seen (place_of slots half 0) 0 slots → IsCount slots half seen slots
+count_all slots half seen none = record {
+  fits = omega arith;
+  gates = λ slot under. ap seen (sym (gate_at slots half slot)) ∙ open_gate_of _ (none slot (omega arith) under);
+  next = λ under. absurd (omega arith);
+}
+
+pub count_some : (slots half : ℕ) (seen : ℕ → ℕ) (count : ℕ) → IsFirst wanted.NotOpen seen (place_of slots half 0) 0 slots count → IsCount slots half seen count
+count_some slots half seen count is =
+    let high = is.high in
+    let fits : count ≤ slots = omega arith in
+    record {
+      fits = fits;
+      gates = λ slot under. ap seen (sym (gate_at slots half slot)) ∙ open_gate_of _ (is.before slot (omega arith) under);
+      next = λ under opened. closed_gate_of _ is.is (ap seen (gate_at slots half count) ∙ opened);
+    }
+
+-- the number of open gates is the number of records
+pub used_is : (slots half : ℕ) (image : ℕ → ℕ) (records : List (List ℕ)) (used : ℕ) → IsHalf slots half image records → IsCount slots half image used → used ≡ length records
+used_is slots half image records used is count = elim (cases_order used (length records)) [
+  | inl same ↦ same
+  | inr (inl fewer) ↦
+      let fits = is.fits in
+      let within : used < slots = omega arith in
+      absurd (count.next within (is.held used fewer).gate)
+  | inr (inr more) ↦
+      let fits = count.fits in
+      let within : length records < slots = omega arith in
+      absurd (is.closed (length records) (omega arith) within (count.gates (length records) more))
+]
+
+-- the list that a disk held is that of the disk that was opened
+pub opened_journal : (slots : ℕ) (digest : List ℕ) (seen image : ℕ → ℕ) (selector : ℕ) (records : List (List ℕ)) → IsOpen slots digest seen selector image → HoldsRecords slots digest seen records → IsJournal slots digest image records
+opened_journal slots digest seen image selector records opened holds = by_cases opened.cases holds
+  where
+    by_cases : (IsHeader slots digest seen × (image ≡ seen)) ⊎ (IsBlank slots seen [] × IsJournal slots digest image []) → HoldsRecords slots digest seen records → IsJournal slots digest image records
+    by_cases (inl as_it_was) (inl blank) = absurd (blank.gate (gate_of_header slots digest seen as_it_was.0))
+    by_cases (inl as_it_was) (inr journal) = subst (λ image. IsJournal slots digest image records) (sym as_it_was.1) journal
+    by_cases (inr formatted) holds = subst (IsJournal slots digest image) (one_list slots digest seen [] records (inl formatted.0) holds) formatted.1
+
+pub opened_stands : (new : Option Media) (slots : ℕ) (digest : List ℕ) (seen : ℕ → ℕ) (selector used : ℕ) (records : List (List ℕ)) → RestsWith new (IsOpen slots digest seen selector) → HoldsRecords slots digest seen records
+    → ((image : ℕ → ℕ) → Sees new image → IsCount slots (selector % 2) image used) → RestsWith new (Stands (record { slots = slots; selector = selector; used = used }) digest records)
+opened_stands new slots digest seen selector used records rests holds count =
+    let found = seen_at_rest new (IsOpen slots digest seen selector) rests in
+    let counted = count found.0 (sees_at_rest new found.0 found.1) in
+    rests_as new (Is found.0) (Stands (record { slots = slots; selector = selector; used = used }) digest records) (λ image same. stands image (subst (IsOpen slots digest seen selector) (sym same) found.2) (subst (λ image. IsCount slots (selector % 2) image used) (sym same) counted)) found.1
+  where
+    stands : (image : ℕ → ℕ) → IsOpen slots digest seen selector image → IsCount slots (selector % 2) image used → Stands (record { slots = slots; selector = selector; used = used }) digest records image
+    stands image opened counted =
+        let journal = opened_journal slots digest seen image selector records opened holds in
+        let half : IsHalf slots (selector % 2) image records = subst (λ n. IsHalf slots (n % 2) image records) opened.selector_there journal.half in
+        record { journal = journal; used = used_is slots (selector % 2) image records used half counted; selector = opened.selector_there }
+
+-- while the gates are read, the disk holds what it held
+pub opened_reads : (start mid new : Option Media) (slots : ℕ) (digest : List ℕ) (seen : ℕ → ℕ) (selector : ℕ) (records : List (List ℕ)) → Leaves start mid (λ image. HoldsRecords slots digest image records) → RestsWith mid (IsOpen slots digest seen selector)
+    → HoldsRecords slots digest seen records → KeepsMedia mid new → Leaves start new (λ image. HoldsRecords slots digest image records)
+opened_reads start mid new slots digest seen selector records leaves rests holds keeps =
+    let found = seen_at_rest mid (IsOpen slots digest seen selector) rests in
+    leaves_then start mid new (λ image. HoldsRecords slots digest image records) leaves
+    (leaves_kept mid new found.0 (λ image. HoldsRecords slots digest image records) keeps found.1 (inr (opened_journal slots digest seen found.0 selector records found.2 holds)))

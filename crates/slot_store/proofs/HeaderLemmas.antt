@@ -1,0 +1,46 @@
+-- The bytes of a header, part by part.
+use Rattle.std.proofs.Common.{zero, suc, ◌≡◌, inl, inr, ℕ, ◌+◌, ◌-◌, ◌<◌, ◌≤◌, List, [], ◌++◌, length, take, drop, replicate, length-drop, get_or, refl, sym, ap, ◌∙◌, arith, length-append}
+use Rattle.std.proofs.lemmas.Bool.{cases_lt}
+use Rattle.std.proofs.lemmas.List.{get_or_append_left, get_or-append_right, get_or_past, get_or-take, get_or-drop, length-take}
+use Rattle.slot_store.specs.Layout.{header_of}
+use Rattle.slot_store.proofs.FormatLemmas.{IsRest}
+use Rattle.dots_disk.specs.Media.{byte_of, overwritten}
+use Rattle.dots_disk.proofs.WrittenLemmas.{overwritten_below, overwritten_from}
+
+-- a part that is written behind the parts before it, with zeros after it
+pub part_more : (bytes : ℕ → ℕ) (front part : List ℕ) (at : ℕ) → length front ≡ at → ((place : ℕ) → bytes place ≡ byte_of front place) → (place : ℕ) → overwritten bytes at part place ≡ byte_of (front ++ part) place
+part_more bytes front part at size same place = elim (cases_lt place at) [
+  | inl below ↦
+      let inside : place < length front = omega arith in
+      overwritten_below bytes at part place below ∙ same place ∙ sym (get_or_append_left front part 0 place inside)
+  | inr from ↦
+      let past : length front ≤ place = omega arith in
+      overwritten_from bytes at part place from ∙ ap (λ default. get_or part (place - at) default) (same place ∙ get_or_past front place 0 past) ∙ sym (get_or-append_right front part at place 0 size from)
+]
+
+pub parts : (zeros first second third : List ℕ) (one two three : ℕ → ℕ) → ((place : ℕ) → byte_of zeros place ≡ 0) → one ≡ overwritten (byte_of zeros) 0 first → two ≡ overwritten one 12 second → three ≡ overwritten two 16 third
+    → length first ≡ 12 → length second ≡ 4 → (place : ℕ) → three place ≡ byte_of ((first ++ second) ++ third) place
+parts zeros first second third one two three none a b c size sizes place =
+    ap (λ bytes. bytes place) c ∙ part_more two (first ++ second) third 16 both at_two place
+  where
+    both : length (first ++ second) ≡ 16
+    both = let sum = length-append first second in omega arith
+
+    at_one : (place : ℕ) → one place ≡ byte_of first place
+    at_one place = ap (λ bytes. bytes place) a ∙ part_more (byte_of zeros) [] first 0 refl none place
+
+    at_two : (place : ℕ) → two place ≡ byte_of (first ++ second) place
+    at_two place = ap (λ bytes. bytes place) b ∙ part_more one first second 12 size at_one place
+
+pub zeros : (count place : ℕ) → byte_of (replicate count 0) place ≡ 0
+zeros zero place = refl
+zeros (suc count) zero = refl
+zeros (suc count) (suc place) = zeros count place
+
+-- the bytes behind the gate of a header
+pub is_rest : (slots : ℕ) (digest header : List ℕ) → length header ≡ 64 → ((place : ℕ) → byte_of header place ≡ byte_of (header_of slots digest) place) → byte_of (header_of slots digest) 48 ≡ 0 → IsRest slots digest (take 63 (drop 1 header))
+is_rest slots digest header size same selector = record {
+  size = let taken = length-take 63 (drop 1 header) in let dropped = length-drop 1 header in omega arith;
+  each = λ offset under. get_or-take 63 (drop 1 header) offset 0 under ∙ get_or-drop 1 header offset 0 ∙ same (1 + offset);
+  selector = selector;
+}

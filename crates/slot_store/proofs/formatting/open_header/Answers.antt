@@ -1,0 +1,31 @@
+use Rattle.std.proofs.Common.{ℕ, ◌≡◌}
+use Rattle.dots_disk.specs.Media.{bytes_at}
+use Rattle.dots_disk.specs.Becoming.{RestsWith}
+use Rattle.slot_store.specs.Gates.{Sees}
+use Rattle.slot_store.specs.Opening.{Is}
+use Rattle.slot_store.specs.Refusing.{RefusesDisk, IsOpen}
+use Rattle.slot_store.specs.Layout.{HoldsRecords}
+use Rattle.slot_store.proofs.Reading.{sees_at_rest}
+use Rattle.slot_store.proofs.Steps.{leaves_then}
+use Rattle.slot_store.proofs.OpenLemmas.{holds_still, if_ok_as, if_err_as}
+use Rattle.slot_store.proofs.formatting.open_header.Goals as goal
+
+pub returns-in-Ok-clause-moments : goal.returns-in-Ok-clause-moments
+returns-in-Ok-clause-moments g c = λ seen records rests holds.
+    leaves_then _ _ _ (λ image. HoldsRecords c.args.slots c.args.digest.now image records) (holds_still _ _ c.args.slots c.args.digest.now seen records (c.in-Ok.ensures.moments seen rests) holds)
+    (c.open_found.ensures.moments seen records (c.in-Ok.ensures.rests seen (sees_at_rest _ seen rests)) (c.in-Ok.ensures.bytes seen (sees_at_rest _ seen rests)) holds)
+
+pub returns-in-Ok-clause-opened : goal.returns-in-Ok-clause-opened
+returns-in-Ok-clause-opened g c = if_ok_as c.open_found.result
+    (λ selector. (seen : ℕ → ℕ) → RestsWith (g.D.Disk.media c.read_header.new.disk) (Is seen) → c.read_header.new.found ≡ bytes_at seen 0 64 → RestsWith (g.D.Disk.media c.open_found.new.disk) (IsOpen c.args.slots c.args.digest.now seen selector))
+    (λ selector. (seen : ℕ → ℕ) → Sees (g.D.Disk.media c.args.disk.now) seen → RestsWith (g.D.Disk.media c.open_found.new.disk) (IsOpen c.args.slots c.args.digest.now seen selector))
+    (λ selector opened seen sees. opened seen (c.in-Ok.ensures.rests seen sees) (c.in-Ok.ensures.bytes seen sees)) c.open_found.ensures.opened
+
+pub returns-in-Ok-clause-refused : goal.returns-in-Ok-clause-refused
+returns-in-Ok-clause-refused g c = if_err_as c.open_found.result
+    (λ fault. (seen : ℕ → ℕ) → RestsWith (g.D.Disk.media c.read_header.new.disk) (Is seen) → c.read_header.new.found ≡ bytes_at seen 0 64 → RefusesDisk c.args.slots c.args.digest.now seen fault)
+    (λ fault. (seen : ℕ → ℕ) → Sees (g.D.Disk.media c.args.disk.now) seen → RefusesDisk c.args.slots c.args.digest.now seen fault)
+    (λ fault refuses seen sees. refuses seen (c.in-Ok.ensures.rests seen sees) (c.in-Ok.ensures.bytes seen sees)) c.open_found.ensures.refused
+
+pub returns-in-Err-clause-moments : goal.returns-in-Err-clause-moments
+returns-in-Err-clause-moments g c = λ seen records rests holds. holds_still _ _ c.args.slots c.args.digest.now seen records (c.in-Err.ensures.moments seen rests) holds

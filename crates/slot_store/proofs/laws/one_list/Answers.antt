@@ -1,0 +1,5 @@
+use Rattle.slot_store.proofs.Keeping.{one_list}
+use Rattle.slot_store.proofs.laws.one_list.Goals as goal
+
+pub returns : goal.returns
+returns c = one_list

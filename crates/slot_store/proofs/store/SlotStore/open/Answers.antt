@@ -1,0 +1,38 @@
+use Rattle.std.proofs.lemmas.Result.{err_from_is_err_and}
+use Rattle.slot_store.specs.Layout.{HoldsRecords}
+use Rattle.slot_store.proofs.Steps.{begins}
+use Rattle.slot_store.proofs.Reading.{sees_at_rest, rests_kept}
+use Rattle.slot_store.proofs.OpenLemmas.{disk_refuses}
+use Rattle.slot_store.proofs.Counting.{opened_reads, opened_stands}
+use Rattle.slot_store.proofs.store.SlotStore.open.Goals as goal
+
+pub returns-then-found-needed-clause-moments : goal.returns-then-found-needed-clause-moments
+returns-then-found-needed-clause-moments g c = λ seen records rests holds. begins _ (λ image. HoldsRecords c.args.slots c.args.digest.now image records)
+
+pub returns-in_err-selector-clause-refused : goal.returns-in_err-selector-clause-refused
+returns-in_err-selector-clause-refused g c =
+    let p = err_from_is_err_and c.from_residual.result c.from_residual.ensures.1 in
+    rw (p.1, p.2) (λ seen sees. disk_refuses c.args.slots c.args.digest.now (g.D.Disk.extent c.args.disk.now) seen _ (c.in_err-selector.ensures.refused seen sees))
+
+pub returns-in_err-used-clause-moments : goal.returns-in_err-used-clause-moments
+returns-in_err-used-clause-moments g c = λ seen records rests holds.
+    opened_reads _ _ _ c.args.slots c.args.digest.now seen c.in_ok-selector.selector records (c.in_ok-selector.ensures.moments seen records rests holds) (c.in_ok-selector.ensures.opened seen (sees_at_rest _ seen rests)) holds c.in_err-used.ensures.keeps
+
+pub returns-in_err-used-clause-refused : goal.returns-in_err-used-clause-refused
+returns-in_err-used-clause-refused g c =
+    let p = err_from_is_err_and c.from_residual-in_err-used.result c.from_residual-in_err-used.ensures.1 in
+    rw (p.1, p.2, c.in_err-used.ensures.fault) (λ seen sees. tt)
+
+pub returns-in_err-used-clause-beside : goal.returns-in_err-used-clause-beside
+returns-in_err-used-clause-beside g c = g.met.D.Disk.beside_then _ _ _ c.in_ok-selector.ensures.beside c.in_err-used.ensures.beside
+
+pub returns-clause-beside : goal.returns-clause-beside
+returns-clause-beside g c = g.met.D.Disk.beside_then _ _ _ c.in_ok-selector.ensures.beside c.in_ok-used.ensures.beside
+
+pub returns-clause-moments : goal.returns-clause-moments
+returns-clause-moments g c = λ seen records rests holds.
+    opened_reads _ _ _ c.args.slots c.args.digest.now seen c.in_ok-selector.selector records (c.in_ok-selector.ensures.moments seen records rests holds) (c.in_ok-selector.ensures.opened seen (sees_at_rest _ seen rests)) holds c.in_ok-used.ensures.keeps
+
+pub returns-clause-opened : goal.returns-clause-opened
+returns-clause-opened g c = λ seen records sees holds.
+    rests_kept _ _ _ c.in_ok-used.ensures.keeps (opened_stands _ c.args.slots c.args.digest.now seen c.in_ok-selector.selector c.in_ok-used.used records (c.in_ok-selector.ensures.opened seen sees) holds c.in_ok-used.ensures.count)

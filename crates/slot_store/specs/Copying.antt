@@ -1,0 +1,42 @@
+-- A half that is copied to the other.
+use Rattle.std.specs.Prelude.{◌≡◌, ℕ, ◌+◌, ◌*◌, ◌<◌, ◌≤◌, ◌⊎◌, ◌==◌, ◌%◌, ◌-◌, if◌then◌else◌, List, [], length, map, slice_index, slice_index_or}
+use Rattle.slot_store.specs.Layout.{place_of}
+
+-- elsewhere than in a range all is as before
+abbrev pub Elsewhere : (ℕ → ℕ) → ℕ → ℕ → (ℕ → ℕ) → Type 0
+Elsewhere seen at count image = (place : ℕ) → (place < at ⊎ at + count ≤ place) → image place ≡ seen place
+
+-- The bytes of a slot, from a place on: those of the slot that the list names there, and a closed gate behind the list.
+pub record IsCopy (slots half : ℕ) (keep : List ℕ) (seen : ℕ → ℕ) (slot : ℕ) (bytes : ℕ → ℕ) (at : ℕ) : Type 0 where
+  pub kept : slot < length keep → (offset : ℕ) → offset < 8192 → bytes (at + offset) ≡ seen (place_of slots half (slice_index keep slot) + offset)
+  pub closed : length keep ≤ slot → bytes at ≡ 0
+
+-- slots that there are
+abbrev pub AreSlots : ℕ → List ℕ → Type 0
+AreSlots slots keep = (index : ℕ) → index < length keep → slice_index keep index < slots
+
+-- the records of the slots of a list
+abbrev pub kept_of : List (List ℕ) → List ℕ → List (List ℕ)
+kept_of records keep = map (λ slot. slice_index_or records slot []) keep
+
+-- the selector with its lowest bit changed
+abbrev pub other_selector : ℕ → ℕ
+other_selector selector = if selector % 2 == 0 then selector + 1 else selector - 1
+
+-- the other half holds the kept slots, and elsewhere all is as before
+pub record HalfIsCopied (slots half : ℕ) (keep : List ℕ) (seen image : ℕ → ℕ) : Type 0 where
+  pub elsewhere : Elsewhere seen (place_of slots (1 - half) 0) (8192 * slots) image
+  pub copies : (slot : ℕ) → slot < slots → IsCopy slots half keep seen slot image (place_of slots (1 - half) slot)
+
+-- the selector is this byte, and elsewhere all is as before
+pub record IsSelected (seen : ℕ → ℕ) (selector : ℕ) (image : ℕ → ℕ) : Type 0 where
+  pub elsewhere : Elsewhere seen 48 1 image
+  pub here : image 48 ≡ selector
+
+-- While the half is moved: it is being copied, or it was copied and the selector may be any byte.
+abbrev pub IsMoving : ℕ → ℕ → List ℕ → (ℕ → ℕ) → (ℕ → ℕ) → Type 0
+IsMoving slots half keep seen image = Elsewhere seen (place_of slots (1 - half) 0) (8192 * slots) image ⊎ ((copied : ℕ → ℕ) × HalfIsCopied slots half keep seen copied × Elsewhere copied 48 1 image)
+
+-- it was copied, and then the selector was changed
+abbrev pub IsMoved : ℕ → ℕ → List ℕ → (ℕ → ℕ) → ℕ → (ℕ → ℕ) → Type 0
+IsMoved slots half keep seen selector image = (copied : ℕ → ℕ) × HalfIsCopied slots half keep seen copied × IsSelected copied selector image

@@ -1,0 +1,48 @@
+-- Where a journal lies on a disk: a header, and behind it two halves of as many slots, one record to a slot. The layout is this server's own.
+use Rattle.std.specs.Prelude.{◌≡◌, ◌≢◌, ℕ, ◌+◌, ◌*◌, ◌%◌, ◌<◌, ◌≤◌, ◌⊎◌, List, [], ◌∷◌, ◌++◌, length, slice_index_or, codes}
+use Rattle.std.specs.Int.{w32, to_be_bytes}
+use Rattle.dots_disk.specs.Media.{byte_of, bytes_at}
+
+-- the place of a slot: its gate, two bytes of length, and the record
+abbrev pub place_of : ℕ → ℕ → ℕ → ℕ
+place_of slots half slot = 8192 * (1 + half * slots + slot)
+
+-- how many bytes the journal needs
+abbrev pub needed_of : ℕ → ℕ
+needed_of slots = 8192 * (1 + 2 * slots)
+
+-- the first bytes of the header: the open gate, the name of the format, its version, the number of slots of a half, and the digest of the settings
+abbrev pub header_of : ℕ → List ℕ → List ℕ
+header_of slots digest = 165 ∷ codes "DOTSJNL" ++ 1 ∷ 0 ∷ 0 ∷ 0 ∷ [] ++ to_be_bytes w32 slots ++ digest
+
+-- The bytes begin with the header. Behind its first bytes stand the selector, whose lowest bit names the half in use, and zeros.
+abbrev pub IsHeader : ℕ → List ℕ → (ℕ → ℕ) → Type 0
+IsHeader slots digest image = (place : ℕ) → place < 64 → place ≢ 48 → image place ≡ byte_of (header_of slots digest) place
+
+-- a slot with an open gate, and this record in it
+pub record IsSlot (image : ℕ → ℕ) (at : ℕ) (held : List ℕ) : Type 0 where
+  pub gate : image at ≡ 165
+  pub fits : length held ≤ 8189
+  pub size : 256 * image (at + 1) + image (at + 2) ≡ length held
+  pub bytes : bytes_at image (at + 3) (length held) ≡ held
+
+-- a half holds these records, in its first slots, and the gate of no other slot is open
+pub record IsHalf (slots half : ℕ) (image : ℕ → ℕ) (records : List (List ℕ)) : Type 0 where
+  pub fits : length records ≤ slots
+  pub held : (slot : ℕ) → slot < length records → IsSlot image (place_of slots half slot) (slice_index_or records slot [])
+  pub closed : (slot : ℕ) → length records ≤ slot → slot < slots → image (place_of slots half slot) ≢ 165
+
+-- a formatted disk, whose half in use holds these records
+pub record IsJournal (slots : ℕ) (digest : List ℕ) (image : ℕ → ℕ) (records : List (List ℕ)) : Type 0 where
+  pub header : IsHeader slots digest image
+  pub half : IsHalf slots (image 48 % 2) image records
+
+-- a disk that isn't formatted, and holds no record
+pub record IsBlank (slots : ℕ) (image : ℕ → ℕ) (records : List (List ℕ)) : Type 0 where
+  pub gate : image 0 ≢ 165
+  pub gates : (half slot : ℕ) → half < 2 → slot < slots → image (place_of slots half slot) ≡ 0
+  pub none : records ≡ []
+
+-- the records that an image of a disk holds, under settings with this number of slots and this digest
+abbrev pub HoldsRecords : ℕ → List ℕ → (ℕ → ℕ) → List (List ℕ) → Type 0
+HoldsRecords slots digest image records = IsBlank slots image records ⊎ IsJournal slots digest image records
