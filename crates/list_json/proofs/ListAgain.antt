@@ -243,24 +243,24 @@ fields_again : (family : Family) (source destination : Option PrefixValue) (prot
     → ReadsAgain family source destination protocol test other
 fields_again family source destination protocol test other one two three good good' fits fits' tested =
     elim (tested_either test other protocol tested) [
-      inl none ↦
-        subst (λ (t : PortTest). ReadsAgain family source destination protocol t other) (sym none.0) (
-        subst (λ (t : PortTest). ReadsAgain family source destination protocol port.Any t) (sym none.1) (
-        untested_again family (header_members family (option_data prefix_data source) (option_data prefix_data destination) (option_data number_data protocol)) (record { source = source; destination = destination; protocol = protocol }) (header_again family source destination protocol one two three good good')))
+      | inl none ↦
+          subst (λ (t : PortTest). ReadsAgain family source destination protocol t other) (sym none.0) (
+          subst (λ (t : PortTest). ReadsAgain family source destination protocol port.Any t) (sym none.1) (
+          untested_again family (header_members family (option_data prefix_data source) (option_data prefix_data destination) (option_data number_data protocol)) (record { source = source; destination = destination; protocol = protocol }) (header_again family source destination protocol one two three good good')))
       | inr some ↦
-        let inner = header_members family (option_data prefix_data source) (option_data prefix_data destination) None in
-        let header : Network = record { source = source; destination = destination; protocol = None } in
-        let again = header_again family source destination None one two tt good good' in
-        elim some.transport [
-          inl six ↦
-            subst (λ (p : Option ℕ). ReadsAgain family source destination p test other) (sym six) (
-            let unnamed = subst (λ (p : Option ℕ). untested (test_data test) (test_data other) p ≡ None) six some.unnamed in
-            rw (unnamed, some.members) (tcp_again family inner header some.first some.value some.others test other refl again (subst (λ (ms : Members). transport_of the.Tcp 6 (object ms) ≡ Ok (record { protocol = 6; source = test; destination = other })) some.members (transport_again the.Tcp 6 test other fits fits'))))
-          | inr seventeen ↦
-            subst (λ (p : Option ℕ). ReadsAgain family source destination p test other) (sym seventeen) (
-            let unnamed = subst (λ (p : Option ℕ). untested (test_data test) (test_data other) p ≡ None) seventeen some.unnamed in
-            rw (unnamed, some.members) (udp_again family inner header some.first some.value some.others test other refl again (subst (λ (ms : Members). transport_of the.Udp 17 (object ms) ≡ Ok (record { protocol = 17; source = test; destination = other })) some.members (transport_again the.Udp 17 test other fits fits'))))
-        ]
+          let inner = header_members family (option_data prefix_data source) (option_data prefix_data destination) None in
+          let header : Network = record { source = source; destination = destination; protocol = None } in
+          let again = header_again family source destination None one two tt good good' in
+          elim some.transport [
+            | inl six ↦
+                subst (λ (p : Option ℕ). ReadsAgain family source destination p test other) (sym six) (
+                let unnamed = subst (λ (p : Option ℕ). untested (test_data test) (test_data other) p ≡ None) six some.unnamed in
+                rw (unnamed, some.members) (tcp_again family inner header some.first some.value some.others test other refl again (subst (λ (ms : Members). transport_of the.Tcp 6 (object ms) ≡ Ok (record { protocol = 6; source = test; destination = other })) some.members (transport_again the.Tcp 6 test other fits fits'))))
+            | inr seventeen ↦
+                subst (λ (p : Option ℕ). ReadsAgain family source destination p test other) (sym seventeen) (
+                let unnamed = subst (λ (p : Option ℕ). untested (test_data test) (test_data other) p ≡ None) seventeen some.unnamed in
+                rw (unnamed, some.members) (udp_again family inner header some.first some.value some.others test other refl again (subst (λ (ms : Members). transport_of the.Udp 17 (object ms) ≡ Ok (record { protocol = 17; source = test; destination = other })) some.members (transport_again the.Udp 17 test other fits fits'))))
+          ]
     ]
 
 -- ---- printed entries are read again
