@@ -43,7 +43,7 @@ name_in_path segment = if is_name (percent_decode segment) then Ok (percent_deco
 
 abbrev pub resource_of : Place → Result Resource RestReject
 resource_of place = elim place.kind [
-  kind.Root ↦ Ok resource.Root
+  | kind.Root ↦ Ok resource.Root
   | kind.Client ↦ name_in_path place.client >>= λ cuid. Ok (resource.Client cuid)
   | kind.Aliases ↦ name_in_path place.client >>= λ cuid. Ok (resource.Aliases cuid)
   | kind.Alias ↦ name_in_path place.client >>= λ cuid. name_in_path place.name >>= λ name. Ok (resource.Alias cuid name)

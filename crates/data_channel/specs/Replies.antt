@@ -34,10 +34,10 @@ abbrev pub client_data : List ℕ → List Alias → List Acl → Data
 client_data cuid aliases acls =
     object
     (
-      member
-      (codes "acls")
-      (acls_data acls)
-      (member (codes "aliases") (aliases_data aliases) (member (codes "cuid") (string cuid) no_members))
+    member
+    (codes "acls")
+    (acls_data acls)
+    (member (codes "aliases") (aliases_data aliases) (member (codes "cuid") (string cuid) no_members))
     )
 
 -- **the value that a body is**

@@ -44,7 +44,11 @@ fn client_of(alloc: Global, body: &Value) -> Result<Name, ListFault>
     ensures { Gives result (client_in (view body.now)) }
 {
     check_members(body, Shape::ClientBody, Member::DotsClient)?;
-    let client = own_item(body, "ietf-dots-data-channel:dots-client", Member::DotsClient)?;
+    let client = own_item(
+        body,
+        "ietf-dots-data-channel:dots-client",
+        Member::DotsClient,
+    )?;
     check_members(client, Shape::Client, Member::DotsClient)?;
     match client.get("cuid") {
         Some(cuid) => name_of(alloc, Member::Cuid, cuid),
@@ -125,7 +129,8 @@ fn check_name(member: Member, wanted: &Name, given: &Name) -> Result<(), ListFau
 fn names_acl(body: &Value) -> bool
     ensures { result ≡ names_acl (view body.now) }
 {
-    body.get("ietf-dots-data-channel:acl").is_some() || body.get("ietf-dots-data-channel:acls").is_some()
+    body.get("ietf-dots-data-channel:acl").is_some()
+        || body.get("ietf-dots-data-channel:acls").is_some()
 }
 
 fn posted(alloc: Global, cuid: Name, body: &Value) -> Result<RestRequest, ListFault>

@@ -84,7 +84,9 @@ fn client_head(cuid: Name, verb: Option<Verb>) -> Result<Head, RestReject>
         Some(Verb::Put) => Ok(Head::Wants(Wanted::PutClient { cuid })),
         Some(Verb::Post) => Ok(Head::Wants(Wanted::PostBelow { cuid })),
         Some(Verb::Delete) => Ok(Head::Plain(RestRequest::DeleteClient { cuid })),
-        None => Err(RestReject::Method { allow: Allow::Client }),
+        None => Err(RestReject::Method {
+            allow: Allow::Client,
+        }),
     }
 }
 
@@ -95,7 +97,9 @@ fn alias_head(cuid: Name, name: Name, verb: Option<Verb>) -> Result<Head, RestRe
         Some(Verb::Get) => Ok(Head::Plain(RestRequest::GetAlias { cuid, name })),
         Some(Verb::Put) => Ok(Head::Wants(Wanted::PutAlias { cuid, name })),
         Some(Verb::Delete) => Ok(Head::Plain(RestRequest::DeleteAlias { cuid, name })),
-        _ => Err(RestReject::Method { allow: Allow::Inner }),
+        _ => Err(RestReject::Method {
+            allow: Allow::Inner,
+        }),
     }
 }
 
@@ -106,7 +110,9 @@ fn acl_head(cuid: Name, name: Name, verb: Option<Verb>) -> Result<Head, RestReje
         Some(Verb::Get) => Ok(Head::Plain(RestRequest::GetAcl { cuid, name })),
         Some(Verb::Put) => Ok(Head::Wants(Wanted::PutAcl { cuid, name })),
         Some(Verb::Delete) => Ok(Head::Plain(RestRequest::DeleteAcl { cuid, name })),
-        _ => Err(RestReject::Method { allow: Allow::Inner }),
+        _ => Err(RestReject::Method {
+            allow: Allow::Inner,
+        }),
     }
 }
 

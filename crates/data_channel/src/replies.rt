@@ -85,12 +85,22 @@ fn acls_value(alloc: Global, acls: &[Acl]) -> Result<Value, NoMemory>
     wrapped(alloc, "acl", Value::Array(values))
 }
 
-fn client_value(alloc: Global, cuid: &Name, aliases: &[Alias], acls: &[Acl]) -> Result<Value, NoMemory>
+fn client_value(
+    alloc: Global,
+    cuid: &Name,
+    aliases: &[Alias],
+    acls: &[Acl],
+) -> Result<Value, NoMemory>
     ensures { IfOk result (λ value. view value ≡ client_data cuid.now aliases.now acls.now) }
 {
     let mut members = Map::new(alloc);
     put(&mut members, alloc, "cuid", name_value(alloc, cuid)?)?;
-    put(&mut members, alloc, "aliases", aliases_value(alloc, aliases)?)?;
+    put(
+        &mut members,
+        alloc,
+        "aliases",
+        aliases_value(alloc, aliases)?,
+    )?;
     put(&mut members, alloc, "acls", acls_value(alloc, acls)?)?;
     Ok(Value::Object(members))
 }
@@ -119,7 +129,11 @@ fn body_value(alloc: Global, body: &RestBody) -> Result<Value, NoMemory>
             wrapped(alloc, "ietf-dots-data-channel:aliases", all)
         }
         RestBody::OneAlias(alias) => {
-            only(alloc, "ietf-dots-data-channel:alias", alias_value(alloc, alias)?)
+            only(
+                alloc,
+                "ietf-dots-data-channel:alias",
+                alias_value(alloc, alias)?,
+            )
         }
         RestBody::Acls(acls) => {
             let all = acls_value(alloc, acls.items())?;

@@ -1,3 +1,6 @@
+pub mod Again
+pub mod AliasAgain
+pub mod ListAgain
 pub mod Arrays
 pub mod Ordered
 pub mod OrderedLists

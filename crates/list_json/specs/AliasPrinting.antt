@@ -29,26 +29,26 @@ abbrev pub alias_data : Alias → Data
 alias_data alias =
     object
     (
-      member
-      (codes "name")
-      (string alias.name)
-      (
-        with_items
-        (codes "target-fqdn")
-        string
-        alias.asked.names
-        (
-          with_items
-          (codes "target-port-range")
-          range_data
-          alias.asked.ports
-          (
-            with_items
-            (codes "target-prefix")
-            prefix_data
-            alias.asked.prefixes
-            (with_items (codes "target-protocol") number_data alias.asked.protocols no_members)
-          )
-        )
-      )
+    member
+    (codes "name")
+    (string alias.name)
+    (
+    with_items
+    (codes "target-fqdn")
+    string
+    alias.asked.names
+    (
+    with_items
+    (codes "target-port-range")
+    range_data
+    alias.asked.ports
+    (
+    with_items
+    (codes "target-prefix")
+    prefix_data
+    alias.asked.prefixes
+    (with_items (codes "target-protocol") number_data alias.asked.protocols no_members)
+    )
+    )
+    )
     )

@@ -6,3 +6,4 @@ pub mod AliasPrinting
 pub mod Putting
 pub mod Lists
 pub mod ListPrinting
+pub mod Prefixed

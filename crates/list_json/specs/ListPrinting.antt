@@ -99,10 +99,10 @@ abbrev pub entry_data : Family → Ace → Data
 entry_data family entry =
     object
     (
-      member
-      (codes "actions")
-      (actions_data entry.accept)
-      (with_object (codes "matches") (matches_members family entry) (member (codes "name") (string entry.name) no_members))
+    member
+    (codes "actions")
+    (actions_data entry.accept)
+    (with_object (codes "matches") (matches_members family entry) (member (codes "name") (string entry.name) no_members))
     )
 
 abbrev pub family_text : Family → List ℕ
@@ -121,18 +121,18 @@ abbrev pub acl_data : Acl → Data
 acl_data acl =
     object
     (
-      member
-      (codes "aces")
-      (aces_data acl.family acl.aces)
-      (
-        member
-        (codes "activation-type")
-        (string (activation_text acl.activation))
-        (
-          member
-          (codes "name")
-          (string acl.name)
-          (member (codes "type") (string (family_text acl.family)) no_members)
-        )
-      )
+    member
+    (codes "aces")
+    (aces_data acl.family acl.aces)
+    (
+    member
+    (codes "activation-type")
+    (string (activation_text acl.activation))
+    (
+    member
+    (codes "name")
+    (string acl.name)
+    (member (codes "type") (string (family_text acl.family)) no_members)
+    )
+    )
     )

@@ -27,8 +27,18 @@ pub fn range_value(alloc: Global, range: &PortRange) -> Result<Value, NoMemory>
     ensures { IfOk result (λ value. view value ≡ range_data range.now) }
 {
     let mut members = Map::new(alloc);
-    put(&mut members, alloc, "upper-port", number_value(range.upper()))?;
-    put(&mut members, alloc, "lower-port", number_value(range.lower()))?;
+    put(
+        &mut members,
+        alloc,
+        "upper-port",
+        number_value(range.upper()),
+    )?;
+    put(
+        &mut members,
+        alloc,
+        "lower-port",
+        number_value(range.lower()),
+    )?;
     Ok(Value::Object(members))
 }
 

@@ -4,6 +4,7 @@
 mod alias_reading;
 mod alias_writing;
 mod fault;
+pub mod laws;
 mod list_reading;
 mod list_writing;
 mod matches;

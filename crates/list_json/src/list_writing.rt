@@ -20,7 +20,12 @@ fn operator_value(alloc: Global, operator: &str, port: u16) -> Result<Value, NoM
 {
     let mut members = Map::new(alloc);
     put(&mut members, alloc, "port", number_value(port))?;
-    put(&mut members, alloc, "operator", Value::try_from_str(alloc, operator)?)?;
+    put(
+        &mut members,
+        alloc,
+        "operator",
+        Value::try_from_str(alloc, operator)?,
+    )?;
     Ok(Value::Object(members))
 }
 
@@ -46,7 +51,12 @@ fn transport_map(alloc: Global, entry: &Ace) -> Result<Map<String, Value>, NoMem
     let source = test_value(alloc, &entry.source_port)?;
     put_value(&mut members, alloc, "source-port-range-or-operator", source)?;
     let destination = test_value(alloc, &entry.destination_port)?;
-    put_value(&mut members, alloc, "destination-port-range-or-operator", destination)?;
+    put_value(
+        &mut members,
+        alloc,
+        "destination-port-range-or-operator",
+        destination,
+    )?;
     Ok(members)
 }
 
@@ -95,7 +105,12 @@ fn header_map(alloc: Global, family: Family, entry: &Ace) -> Result<Map<String, 
     let mut members = Map::new(alloc);
     let source = network_value(alloc, &entry.source)?;
     put_value(&mut members, alloc, source_name(family), source)?;
-    put_value(&mut members, alloc, "protocol", protocol_value(untested(entry)))?;
+    put_value(
+        &mut members,
+        alloc,
+        "protocol",
+        protocol_value(untested(entry)),
+    )?;
     let destination = network_value(alloc, &entry.destination)?;
     put_value(&mut members, alloc, destination_name(family), destination)?;
     Ok(members)
@@ -107,7 +122,12 @@ fn matches_map(alloc: Global, family: Family, entry: &Ace) -> Result<Map<String,
 {
     let mut members = Map::new(alloc);
     let transport = transport_map(alloc, entry)?;
-    put_object(&mut members, alloc, transport_name(entry.protocol), transport)?;
+    put_object(
+        &mut members,
+        alloc,
+        transport_name(entry.protocol),
+        transport,
+    )?;
     let header = header_map(alloc, family, entry)?;
     put_object(&mut members, alloc, header_name(family), header)?;
     Ok(members)
@@ -135,7 +155,12 @@ fn entry_value(alloc: Global, family: Family, entry: &Ace) -> Result<Value, NoMe
     put(&mut members, alloc, "name", name_value(alloc, &entry.name)?)?;
     let matches = matches_map(alloc, family, entry)?;
     put_object(&mut members, alloc, "matches", matches)?;
-    put(&mut members, alloc, "actions", actions_value(alloc, entry.accept)?)?;
+    put(
+        &mut members,
+        alloc,
+        "actions",
+        actions_value(alloc, entry.accept)?,
+    )?;
     Ok(Value::Object(members))
 }
 

@@ -63,7 +63,12 @@ impl Matches {
 }
 
 /// What is asked of the port of a member that has two names, under one of which it stands at most.
-fn one_spelling(transport: &Value, short: &str, long: &str, member: Member) -> Result<PortTest, ListFault>
+fn one_spelling(
+    transport: &Value,
+    short: &str,
+    long: &str,
+    member: Member,
+) -> Result<PortTest, ListFault>
     ensures { result ≡ one_spelling member (get short.now (view transport.now)) (get long.now (view transport.now)) }
 {
     match (transport.get(short), transport.get(long)) {

@@ -80,7 +80,11 @@ fn own_port(test: &Value, name: &str, member: Member) -> Result<Option<u16>, Lis
     }
 }
 
-fn operated(operator: Option<Operator>, port: Option<u16>, member: Member) -> Result<PortTest, ListFault>
+fn operated(
+    operator: Option<Operator>,
+    port: Option<u16>,
+    member: Member,
+) -> Result<PortTest, ListFault>
     ensures { result ≡ operated member operator port }
 {
     match (operator, port) {

@@ -83,10 +83,7 @@ impl Shape {
                     || name == "destination-port-range-or-operator"
             }
             Shape::PortTest => {
-                name == "operator"
-                    || name == "port"
-                    || name == "lower-port"
-                    || name == "upper-port"
+                name == "operator" || name == "port" || name == "lower-port" || name == "upper-port"
             }
         }
     }

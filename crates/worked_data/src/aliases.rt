@@ -6,7 +6,9 @@ use std::test::Fail;
 
 /// What a PUT of the alias `x` with these members asks, from its first brace on where it is one.
 fn put_of(alloc: Global, members: &str) -> Result<String, Fail> {
-    let body = format!(in alloc; "{{\"ietf-dots-data-channel:alias\":[{{\"name\":\"x\"{members}}}]}}")?;
+    let body = format!(in alloc;
+        "{{\"ietf-dots-data-channel:alias\":[{{\"name\":\"x\"{members}}}]}}"
+    )?;
     let text = asked(alloc, "PUT", "/dots-client=a/aliases/alias=x", &body)?;
     match text.split_once("{\"name\":\"x\"") {
         Some((_, rest)) => Ok(String::from_str(alloc, rest)?),
@@ -58,16 +60,56 @@ fn bodies(rt: HostRuntime) -> Result<(), Fail> {
         ("POST", "", "[]", "Body(Invalid(DotsClient))"),
         ("POST", "", "{}", "Body(Missing(DotsClient))"),
         ("POST", "", "{\"a\":1}", "Body(Unknown)"),
-        ("POST", "", "{\"ietf-dots-data-channel:dots-client\":[]}", "Body(Missing(DotsClient))"),
-        ("POST", "", "{\"ietf-dots-data-channel:dots-client\":[{},{}]}", "Body(Invalid(DotsClient))"),
-        ("POST", "", "{\"ietf-dots-data-channel:dots-client\":[{}]}", "Body(Missing(Cuid))"),
-        ("POST", "", "{\"ietf-dots-data-channel:dots-client\":[{\"cuid\":\"\"}]}", "Body(Invalid(Cuid))"),
+        (
+            "POST",
+            "",
+            "{\"ietf-dots-data-channel:dots-client\":[]}",
+            "Body(Missing(DotsClient))",
+        ),
+        (
+            "POST",
+            "",
+            "{\"ietf-dots-data-channel:dots-client\":[{},{}]}",
+            "Body(Invalid(DotsClient))",
+        ),
+        (
+            "POST",
+            "",
+            "{\"ietf-dots-data-channel:dots-client\":[{}]}",
+            "Body(Missing(Cuid))",
+        ),
+        (
+            "POST",
+            "",
+            "{\"ietf-dots-data-channel:dots-client\":[{\"cuid\":\"\"}]}",
+            "Body(Invalid(Cuid))",
+        ),
         // another name than the path's
-        ("PUT", CLIENT, "{\"ietf-dots-data-channel:dots-client\":[{\"cuid\":\"a\"}]}", "Body(Invalid(Cuid))"),
-        ("PUT", "/dots-client=a/aliases/alias=y", "{\"ietf-dots-data-channel:alias\":[{\"name\":\"x\",\"target-fqdn\":[\"b\"]}]}", "Body(Invalid(Name))"),
+        (
+            "PUT",
+            CLIENT,
+            "{\"ietf-dots-data-channel:dots-client\":[{\"cuid\":\"a\"}]}",
+            "Body(Invalid(Cuid))",
+        ),
+        (
+            "PUT",
+            "/dots-client=a/aliases/alias=y",
+            "{\"ietf-dots-data-channel:alias\":[{\"name\":\"x\",\"target-fqdn\":[\"b\"]}]}",
+            "Body(Invalid(Name))",
+        ),
         ("POST", CLIENT, "{}", "Body(Missing(Alias))"),
-        ("POST", CLIENT, "{\"ietf-dots-data-channel:alias\":[],\"ietf-dots-data-channel:acl\":[]}", "Body(Unknown)"),
-        ("POST", CLIENT, "{\"ietf-dots-data-channel:alias\":[],\"ietf-dots-data-channel:aliases\":{}}", "Body(Invalid(Aliases))"),
+        (
+            "POST",
+            CLIENT,
+            "{\"ietf-dots-data-channel:alias\":[],\"ietf-dots-data-channel:acl\":[]}",
+            "Body(Unknown)",
+        ),
+        (
+            "POST",
+            CLIENT,
+            "{\"ietf-dots-data-channel:alias\":[],\"ietf-dots-data-channel:aliases\":{}}",
+            "Body(Invalid(Aliases))",
+        ),
     ] {
         let text = asked(rt.alloc(), method, below, body)?;
         assert_eq!(rt; text.as_str(), want, "at {body}");
@@ -81,22 +123,67 @@ fn members(rt: HostRuntime) -> Result<(), Fail> {
     for (members, want) in [
         ("", "Body(Missing(TargetPrefix))"),
         (",\"target-prefix\":[]", "Body(Missing(TargetPrefix))"),
-        (",\"target-fqdn\":[\"a.example\"]", ",\"target-fqdn\":[\"a.example\"]}"),
+        (
+            ",\"target-fqdn\":[\"a.example\"]",
+            ",\"target-fqdn\":[\"a.example\"]}",
+        ),
         // the last of equal members counts
-        (",\"target-prefix\":7,\"target-prefix\":[\"192.0.2.7/24\"]", ",\"target-prefix\":[\"192.0.2.0/24\"]}"),
-        (",\"target-prefix\":[\"192.0.2.0/33\"]", "Body(Invalid(TargetPrefix))"),
-        (",\"target-prefix\":\"192.0.2.0/24\"", "Body(Invalid(TargetPrefix))"),
-        (",\"target-fqdn\":[\"a\"],\"target-protocol\":[80.0]", "Body(Invalid(TargetProtocol))"),
-        (",\"target-fqdn\":[\"a\"],\"target-protocol\":[8e1]", "Body(Invalid(TargetProtocol))"),
-        (",\"target-fqdn\":[\"a\"],\"target-protocol\":[-0]", "Body(Invalid(TargetProtocol))"),
-        (",\"target-fqdn\":[\"a\"],\"target-protocol\":[256]", "Body(Invalid(TargetProtocol))"),
-        (",\"target-fqdn\":[\"a\"],\"target-protocol\":[255,0]", ",\"target-fqdn\":[\"a\"],\"target-protocol\":[255,0]}"),
-        (",\"target-fqdn\":[\"a\"],\"target-port-range\":[{\"upper-port\":1}]", "Body(Missing(LowerPort))"),
-        (",\"target-fqdn\":[\"a\"],\"target-port-range\":[{\"lower-port\":2,\"upper-port\":1}]", "Body(Invalid(UpperPort))"),
-        (",\"target-fqdn\":[\"a\"],\"target-port-range\":[{\"lower-port\":65536}]", "Body(Invalid(LowerPort))"),
-        (",\"target-fqdn\":[\"a\",\"a\",\"a\",\"a\",\"a\",\"a\",\"a\",\"a\",\"a\"]", "Body(Invalid(TargetFqdn))"),
-        (",\"target-fqdn\":[\"a\"],\"target-uri\":[\"b\"]", "Body(Unknown)"),
-        (",\"target-fqdn\":[\"a\"],\"pending-lifetime\":1", "Body(Unknown)"),
+        (
+            ",\"target-prefix\":7,\"target-prefix\":[\"192.0.2.7/24\"]",
+            ",\"target-prefix\":[\"192.0.2.0/24\"]}",
+        ),
+        (
+            ",\"target-prefix\":[\"192.0.2.0/33\"]",
+            "Body(Invalid(TargetPrefix))",
+        ),
+        (
+            ",\"target-prefix\":\"192.0.2.0/24\"",
+            "Body(Invalid(TargetPrefix))",
+        ),
+        (
+            ",\"target-fqdn\":[\"a\"],\"target-protocol\":[80.0]",
+            "Body(Invalid(TargetProtocol))",
+        ),
+        (
+            ",\"target-fqdn\":[\"a\"],\"target-protocol\":[8e1]",
+            "Body(Invalid(TargetProtocol))",
+        ),
+        (
+            ",\"target-fqdn\":[\"a\"],\"target-protocol\":[-0]",
+            "Body(Invalid(TargetProtocol))",
+        ),
+        (
+            ",\"target-fqdn\":[\"a\"],\"target-protocol\":[256]",
+            "Body(Invalid(TargetProtocol))",
+        ),
+        (
+            ",\"target-fqdn\":[\"a\"],\"target-protocol\":[255,0]",
+            ",\"target-fqdn\":[\"a\"],\"target-protocol\":[255,0]}",
+        ),
+        (
+            ",\"target-fqdn\":[\"a\"],\"target-port-range\":[{\"upper-port\":1}]",
+            "Body(Missing(LowerPort))",
+        ),
+        (
+            ",\"target-fqdn\":[\"a\"],\"target-port-range\":[{\"lower-port\":2,\"upper-port\":1}]",
+            "Body(Invalid(UpperPort))",
+        ),
+        (
+            ",\"target-fqdn\":[\"a\"],\"target-port-range\":[{\"lower-port\":65536}]",
+            "Body(Invalid(LowerPort))",
+        ),
+        (
+            ",\"target-fqdn\":[\"a\",\"a\",\"a\",\"a\",\"a\",\"a\",\"a\",\"a\",\"a\"]",
+            "Body(Invalid(TargetFqdn))",
+        ),
+        (
+            ",\"target-fqdn\":[\"a\"],\"target-uri\":[\"b\"]",
+            "Body(Unknown)",
+        ),
+        (
+            ",\"target-fqdn\":[\"a\"],\"pending-lifetime\":1",
+            "Body(Unknown)",
+        ),
     ] {
         let text = put_of(rt.alloc(), members)?;
         assert_eq!(rt; text.as_str(), want, "at {members}");

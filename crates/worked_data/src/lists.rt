@@ -6,10 +6,14 @@ use std::test::Fail;
 
 /// What a PUT of the list `x` of this type with these entries asks: its entries from the first on, or its refusal.
 fn entries_of(alloc: Global, kind: &str, entries: &str) -> Result<String, Fail> {
-    let body = format!(in alloc; "{{\"ietf-dots-data-channel:acl\":[{{\"name\":\"x\",\"type\":\"{kind}-acl-type\",\"aces\":{{\"ace\":[{entries}]}}}}]}}")?;
+    let body = format!(in alloc;
+        "{{\"ietf-dots-data-channel:acl\":[{{\"name\":\"x\",\"type\":\"{kind}-acl-type\",\"aces\":{{\"ace\":[{entries}]}}}}]}}"
+    )?;
     let text = asked(alloc, "PUT", "/dots-client=a/acls/acl=x", &body)?;
     match text.split_once("{\"aces\":{\"ace\":[") {
-        Some((_, rest)) => match rest.split_once("]},\"activation-type\":\"activate-when-mitigating\"") {
+        Some((_, rest)) => match rest.split_once(
+            "]},\"activation-type\":\"activate-when-mitigating\"",
+        ) {
             Some((entries, _)) => Ok(String::from_str(alloc, entries)?),
             None => Ok(text),
         },
@@ -19,7 +23,9 @@ fn entries_of(alloc: Global, kind: &str, entries: &str) -> Result<String, Fail> 
 
 /// The entry `e` that drops what matches so, as it is printed, or its refusal.
 fn matches_of(alloc: Global, kind: &str, matches: &str) -> Result<String, Fail> {
-    let entry = format!(in alloc; "{{\"name\":\"e\",\"matches\":{{{matches}}},\"actions\":{{\"forwarding\":\"drop\"}}}}")?;
+    let entry = format!(in alloc;
+        "{{\"name\":\"e\",\"matches\":{{{matches}}},\"actions\":{{\"forwarding\":\"drop\"}}}}"
+    )?;
     let text = entries_of(alloc, kind, &entry)?;
     match text.strip_prefix("{\"actions\":{\"forwarding\":\"drop\"},") {
         Some(rest) => Ok(String::from_str(alloc, rest)?),
@@ -59,8 +65,16 @@ fn examples_of_the_standard(rt: HostRuntime) -> Result<(), Fail> {
 fn matches(rt: HostRuntime) -> Result<(), Fail> {
     for (kind, matches, want) in [
         ("ipv4", "", "\"name\":\"e\"}"),
-        ("ipv4", "\"ipv4\":{},\"udp\":{}", "\"matches\":{\"ipv4\":{\"protocol\":17}},\"name\":\"e\"}"),
-        ("ipv6", "\"ipv6\":{\"protocol\":58}", "\"matches\":{\"ipv6\":{\"protocol\":58}},\"name\":\"e\"}"),
+        (
+            "ipv4",
+            "\"ipv4\":{},\"udp\":{}",
+            "\"matches\":{\"ipv4\":{\"protocol\":17}},\"name\":\"e\"}",
+        ),
+        (
+            "ipv6",
+            "\"ipv6\":{\"protocol\":58}",
+            "\"matches\":{\"ipv6\":{\"protocol\":58}},\"name\":\"e\"}",
+        ),
         (
             "ipv6",
             "\"ipv6\":{\"destination-ipv6-network\":\"2001:DB8::1/32\",\"protocol\":6},\"tcp\":{\"destination-port\":{\"operator\":\"gte\",\"port\":1024}}",
@@ -71,23 +85,75 @@ fn matches(rt: HostRuntime) -> Result<(), Fail> {
             "\"udp\":{\"source-port-range-or-operator\":{\"lower-port\":1,\"upper-port\":2},\"destination-port\":{\"operator\":\"neq\",\"port\":53}}",
             "\"matches\":{\"udp\":{\"destination-port-range-or-operator\":{\"operator\":\"neq\",\"port\":53},\"source-port-range-or-operator\":{\"lower-port\":1,\"upper-port\":2}}},\"name\":\"e\"}",
         ),
-        ("ipv4", "\"tcp\":{\"source-port\":{\"operator\":\"lte\",\"port\":7}}", "\"matches\":{\"tcp\":{\"source-port-range-or-operator\":{\"operator\":\"lte\",\"port\":7}}},\"name\":\"e\"}"),
-        ("ipv4", "\"tcp\":{\"source-port\":{\"operator\":\"eq\",\"port\":7}}", "\"matches\":{\"tcp\":{\"source-port-range-or-operator\":{\"operator\":\"eq\",\"port\":7}}},\"name\":\"e\"}"),
+        (
+            "ipv4",
+            "\"tcp\":{\"source-port\":{\"operator\":\"lte\",\"port\":7}}",
+            "\"matches\":{\"tcp\":{\"source-port-range-or-operator\":{\"operator\":\"lte\",\"port\":7}}},\"name\":\"e\"}",
+        ),
+        (
+            "ipv4",
+            "\"tcp\":{\"source-port\":{\"operator\":\"eq\",\"port\":7}}",
+            "\"matches\":{\"tcp\":{\"source-port-range-or-operator\":{\"operator\":\"eq\",\"port\":7}}},\"name\":\"e\"}",
+        ),
         // both spellings of a port, both transports, and a protocol that contradicts
-        ("ipv4", "\"tcp\":{\"source-port\":{},\"source-port-range-or-operator\":{}}", "Body(Invalid(SourcePort))"),
+        (
+            "ipv4",
+            "\"tcp\":{\"source-port\":{},\"source-port-range-or-operator\":{}}",
+            "Body(Invalid(SourcePort))",
+        ),
         ("ipv4", "\"tcp\":{},\"udp\":{}", "Body(Invalid(Udp))"),
-        ("ipv4", "\"ipv4\":{\"protocol\":17},\"tcp\":{}", "Body(Invalid(Protocol))"),
+        (
+            "ipv4",
+            "\"ipv4\":{\"protocol\":17},\"tcp\":{}",
+            "Body(Invalid(Protocol))",
+        ),
         ("ipv4", "\"ipv6\":{}", "Body(Invalid(Ipv6))"),
-        ("ipv4", "\"ipv4\":{\"source-ipv4-network\":\"::/0\"}", "Body(Invalid(SourceNetwork))"),
-        ("ipv4", "\"ipv4\":{\"source-ipv6-network\":\"::/0\"}", "Body(Unknown)"),
+        (
+            "ipv4",
+            "\"ipv4\":{\"source-ipv4-network\":\"::/0\"}",
+            "Body(Invalid(SourceNetwork))",
+        ),
+        (
+            "ipv4",
+            "\"ipv4\":{\"source-ipv6-network\":\"::/0\"}",
+            "Body(Unknown)",
+        ),
         // tests of a port that lack a member, or mix two forms
-        ("ipv4", "\"tcp\":{\"source-port\":{}}", "Body(Missing(Operator))"),
-        ("ipv4", "\"tcp\":{\"source-port\":{\"port\":1}}", "Body(Missing(Operator))"),
-        ("ipv4", "\"tcp\":{\"source-port\":{\"operator\":\"eq\"}}", "Body(Missing(Port))"),
-        ("ipv4", "\"tcp\":{\"source-port\":{\"lower-port\":1}}", "Body(Missing(UpperPort))"),
-        ("ipv4", "\"tcp\":{\"source-port\":{\"lower-port\":2,\"upper-port\":1}}", "Body(Invalid(UpperPort))"),
-        ("ipv4", "\"tcp\":{\"source-port\":{\"lower-port\":2,\"upper-port\":3,\"port\":3}}", "Body(Invalid(SourcePort))"),
-        ("ipv4", "\"tcp\":{\"source-port\":{\"operator\":\"lt\",\"port\":3}}", "Body(Invalid(Operator))"),
+        (
+            "ipv4",
+            "\"tcp\":{\"source-port\":{}}",
+            "Body(Missing(Operator))",
+        ),
+        (
+            "ipv4",
+            "\"tcp\":{\"source-port\":{\"port\":1}}",
+            "Body(Missing(Operator))",
+        ),
+        (
+            "ipv4",
+            "\"tcp\":{\"source-port\":{\"operator\":\"eq\"}}",
+            "Body(Missing(Port))",
+        ),
+        (
+            "ipv4",
+            "\"tcp\":{\"source-port\":{\"lower-port\":1}}",
+            "Body(Missing(UpperPort))",
+        ),
+        (
+            "ipv4",
+            "\"tcp\":{\"source-port\":{\"lower-port\":2,\"upper-port\":1}}",
+            "Body(Invalid(UpperPort))",
+        ),
+        (
+            "ipv4",
+            "\"tcp\":{\"source-port\":{\"lower-port\":2,\"upper-port\":3,\"port\":3}}",
+            "Body(Invalid(SourcePort))",
+        ),
+        (
+            "ipv4",
+            "\"tcp\":{\"source-port\":{\"operator\":\"lt\",\"port\":3}}",
+            "Body(Invalid(Operator))",
+        ),
         ("ipv4", "\"icmp\":{}", "Body(Unknown)"),
     ] {
         let text = matches_of(rt.alloc(), kind, matches)?;
@@ -104,9 +170,21 @@ fn lists(rt: HostRuntime) -> Result<(), Fail> {
         ("ipv5", "", "Body(Invalid(AclKind))"),
         ("ipv4", "{}", "Body(Missing(Actions))"),
         ("ipv4", "{\"actions\":{}}", "Body(Missing(Forwarding))"),
-        ("ipv4", "{\"actions\":{\"forwarding\":\"reject\"}}", "Body(Invalid(Forwarding))"),
-        ("ipv4", "{\"actions\":{\"forwarding\":\"drop\",\"rate-limit\":\"1\"}}", "Body(Unknown)"),
-        ("ipv4", "{\"actions\":{\"forwarding\":\"drop\"}}", "Body(Missing(Name))"),
+        (
+            "ipv4",
+            "{\"actions\":{\"forwarding\":\"reject\"}}",
+            "Body(Invalid(Forwarding))",
+        ),
+        (
+            "ipv4",
+            "{\"actions\":{\"forwarding\":\"drop\",\"rate-limit\":\"1\"}}",
+            "Body(Unknown)",
+        ),
+        (
+            "ipv4",
+            "{\"actions\":{\"forwarding\":\"drop\"}}",
+            "Body(Missing(Name))",
+        ),
         (
             "ipv4",
             "{\"name\":\"e\",\"actions\":{\"forwarding\":\"drop\"}},{\"name\":\"e\",\"actions\":{\"forwarding\":\"drop\"}}",
@@ -119,11 +197,22 @@ fn lists(rt: HostRuntime) -> Result<(), Fail> {
     for (members, want) in [
         ("", "Body(Missing(AclKind))"),
         (",\"type\":\"ipv4-acl-type\"", "Body(Missing(Aces))"),
-        (",\"type\":\"ipv4-acl-type\",\"aces\":{}", "Body(Missing(Ace))"),
-        (",\"type\":\"ipv4-acl-type\",\"activation-type\":\"never\"", "Body(Invalid(ActivationType))"),
-        (",\"type\":\"ipv4-acl-type\",\"pending-lifetime\":1", "Body(Unknown)"),
+        (
+            ",\"type\":\"ipv4-acl-type\",\"aces\":{}",
+            "Body(Missing(Ace))",
+        ),
+        (
+            ",\"type\":\"ipv4-acl-type\",\"activation-type\":\"never\"",
+            "Body(Invalid(ActivationType))",
+        ),
+        (
+            ",\"type\":\"ipv4-acl-type\",\"pending-lifetime\":1",
+            "Body(Unknown)",
+        ),
     ] {
-        let body = format!(in rt.alloc(); "{{\"ietf-dots-data-channel:acl\":[{{\"name\":\"x\"{members}}}]}}")?;
+        let body = format!(in rt.alloc();
+            "{{\"ietf-dots-data-channel:acl\":[{{\"name\":\"x\"{members}}}]}}"
+        )?;
         let text = asked(rt.alloc(), "PUT", "/dots-client=a/acls/acl=x", &body)?;
         assert_eq!(rt; text.as_str(), want, "at {members}");
     }
@@ -133,9 +222,14 @@ fn lists(rt: HostRuntime) -> Result<(), Fail> {
 /// A list of 32 entries is taken, and one of 33 isn't.
 #[test]
 fn at_most_32_entries(rt: HostRuntime) -> Result<(), Fail> {
-    let mut entries = String::from_str(rt.alloc(), "{\"name\":\"0\",\"actions\":{\"forwarding\":\"drop\"}}")?;
+    let mut entries = String::from_str(
+        rt.alloc(),
+        "{\"name\":\"0\",\"actions\":{\"forwarding\":\"drop\"}}",
+    )?;
     for number in 1..32 {
-        let entry = format!(in rt.alloc(); ",{{\"name\":\"{number}\",\"actions\":{{\"forwarding\":\"drop\"}}}}")?;
+        let entry = format!(in rt.alloc();
+            ",{{\"name\":\"{number}\",\"actions\":{{\"forwarding\":\"drop\"}}}}"
+        )?;
         entries.push_str(&entry)?;
     }
     let many = entries_of(rt.alloc(), "ipv4", &entries)?;

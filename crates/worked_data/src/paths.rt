@@ -8,14 +8,38 @@ use std::test::Fail;
 fn paths(rt: HostRuntime) -> Result<(), Fail> {
     for (method, below, want) in [
         ("GET", "/dots-client=a", "GetClient /dots-client=a "),
-        ("DELETE", "/dots-client=a%2Fb", "DeleteClient /dots-client=a%2Fb "),
+        (
+            "DELETE",
+            "/dots-client=a%2Fb",
+            "DeleteClient /dots-client=a%2Fb ",
+        ),
         ("GET", "/dots-client=%7e%7E~", "GetClient /dots-client=~~~ "),
-        ("GET", "/dots-client=%4a%zz%", "GetClient /dots-client=J%25zz%25 "),
-        ("GET", "/dots-client=a+b,c", "GetClient /dots-client=a%2Bb%2Cc "),
-        ("GET", "/dots-client=a/aliases?content=all", "GetAliases /dots-client=a/aliases "),
+        (
+            "GET",
+            "/dots-client=%4a%zz%",
+            "GetClient /dots-client=J%25zz%25 ",
+        ),
+        (
+            "GET",
+            "/dots-client=a+b,c",
+            "GetClient /dots-client=a%2Bb%2Cc ",
+        ),
+        (
+            "GET",
+            "/dots-client=a/aliases?content=all",
+            "GetAliases /dots-client=a/aliases ",
+        ),
         ("GET", "/dots-client=a/acls", "GetAcls /dots-client=a/acls "),
-        ("GET", "/dots-client=a/aliases/alias=x", "GetAlias /dots-client=a/aliases/alias=x "),
-        ("DELETE", "/dots-client=a/acls/acl=x", "DeleteAcl /dots-client=a/acls/acl=x "),
+        (
+            "GET",
+            "/dots-client=a/aliases/alias=x",
+            "GetAlias /dots-client=a/aliases/alias=x ",
+        ),
+        (
+            "DELETE",
+            "/dots-client=a/acls/acl=x",
+            "DeleteAcl /dots-client=a/acls/acl=x ",
+        ),
         // another path
         ("GET", "/", "NotFound"),
         ("GET", "s", "NotFound"),
@@ -43,10 +67,25 @@ fn heads(rt: HostRuntime) -> Result<(), Fail> {
         ("HEAD", "/dots-client=?", "text/plain", "BadName"),
         ("HEAD", "/dots-client=a?", "text/plain", "Query"),
         ("PUT", "/dots-client=a?", "text/plain", "Query"),
-        ("PATCH", "/dots-client=a", "text/plain", "Method { allow: Client }"),
+        (
+            "PATCH",
+            "/dots-client=a",
+            "text/plain",
+            "Method { allow: Client }",
+        ),
         ("get", "", "text/plain", "Method { allow: Root }"),
-        ("POST", "/dots-client=a/aliases", "text/plain", "Method { allow: List }"),
-        ("POST", "/dots-client=a/acls/acl=x", "text/plain", "Method { allow: Inner }"),
+        (
+            "POST",
+            "/dots-client=a/aliases",
+            "text/plain",
+            "Method { allow: List }",
+        ),
+        (
+            "POST",
+            "/dots-client=a/acls/acl=x",
+            "text/plain",
+            "Method { allow: Inner }",
+        ),
         ("PUT", "/dots-client=a", "text/plain", "Media"),
         ("POST", "", "", "Media"),
         ("POST", "", "Application/YANG-data+json", "NotJson"),

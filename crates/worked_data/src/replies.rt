@@ -74,10 +74,16 @@ fn bodies(rt: HostRuntime) -> Result<(), Fail> {
     let alloc = rt.alloc();
     let one = RestBody::OneAlias(alias_named(alloc, name(alloc, b"web")?)?);
     let text = body_text(alloc, &one)?;
-    assert_eq!(rt; text.items(), b"{\"ietf-dots-data-channel:alias\":[{\"name\":\"web\",\"target-prefix\":[\"192.0.2.80/32\"]}]}".as_slice());
+    assert_eq!(rt;
+        text.items(),
+        b"{\"ietf-dots-data-channel:alias\":[{\"name\":\"web\",\"target-prefix\":[\"192.0.2.80/32\"]}]}".as_slice()
+    );
     let all = RestBody::Aliases(List::new(alloc));
     let text = body_text(alloc, &all)?;
-    assert_eq!(rt; text.items(), b"{\"ietf-dots-data-channel:aliases\":{\"alias\":[]}}".as_slice());
+    assert_eq!(rt;
+        text.items(),
+        b"{\"ietf-dots-data-channel:aliases\":{\"alias\":[]}}".as_slice()
+    );
     Ok(())
 }
 
@@ -90,6 +96,9 @@ fn client(rt: HostRuntime) -> Result<(), Fail> {
         acls: acls(alloc, name(alloc, b"l")?, name(alloc, b"e")?)?,
     };
     let text = body_text(alloc, &body)?;
-    assert_eq!(rt; text.items(), b"{\"ietf-dots-data-channel:dots-client\":[{\"acls\":{\"acl\":[{\"aces\":{\"ace\":[{\"actions\":{\"forwarding\":\"accept\"},\"name\":\"e\"}]},\"activation-type\":\"deactivate\",\"name\":\"l\",\"type\":\"ipv6-acl-type\"}]},\"aliases\":{\"alias\":[{\"name\":\"web\",\"target-prefix\":[\"192.0.2.80/32\"]}]},\"cuid\":\"a\\\"b\"}]}".as_slice());
+    assert_eq!(rt;
+        text.items(),
+        b"{\"ietf-dots-data-channel:dots-client\":[{\"acls\":{\"acl\":[{\"aces\":{\"ace\":[{\"actions\":{\"forwarding\":\"accept\"},\"name\":\"e\"}]},\"activation-type\":\"deactivate\",\"name\":\"l\",\"type\":\"ipv6-acl-type\"}]},\"aliases\":{\"alias\":[{\"name\":\"web\",\"target-prefix\":[\"192.0.2.80/32\"]}]},\"cuid\":\"a\\\"b\"}]}".as_slice()
+    );
     Ok(())
 }

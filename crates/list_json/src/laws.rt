@@ -1,0 +1,26 @@
+//! What the definitions come to: each function's contract is a law, and its body does nothing.
+
+ghost use Rattle.std.specs.Prelude.{◌≡◌, Ok};
+ghost use Rattle.std.specs.List.{AllByRecursion};
+ghost use Rattle.acl_lists.specs.declared.acl.Acl as acls;
+ghost use Rattle.acl_lists.specs.declared.alias.Alias as aliases;
+ghost use Rattle.ip_scope.specs.Prefix.{IsPrefix};
+ghost use Rattle.serde_json.specs.Data.{Data};
+ghost use Rattle.list_json.specs.AliasPrinting.{alias_data};
+ghost use Rattle.list_json.specs.Aliases.{alias_in};
+ghost use Rattle.list_json.specs.ListPrinting.{acl_data};
+ghost use Rattle.list_json.specs.Lists.{acl_in};
+ghost use Rattle.list_json.specs.Prefixed.{HasPrefixes};
+
+/// An alias that a value is, is what its printed value is read as. That its prefixes are prefixes holds of every [`acl_lists::Alias`].
+pub fn alias_is_read_again()
+    ensures { (d : Data) (alias : aliases.Alias) → AllByRecursion IsPrefix alias.asked.prefixes → alias_in d ≡ Ok alias
+        → alias_in (alias_data alias) ≡ Ok alias }
+{}
+
+/// An access list that a value is, is what its printed value is read as. That its prefixes are prefixes holds of every
+/// [`acl_lists::Acl`].
+pub fn acl_is_read_again()
+    ensures { (d : Data) (acl : acls.Acl) → AllByRecursion HasPrefixes acl.aces → acl_in d ≡ Ok acl
+        → acl_in (acl_data acl) ≡ Ok acl }
+{}
