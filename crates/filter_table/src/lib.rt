@@ -11,12 +11,14 @@
 #![tactic(auto)]
 
 mod acls;
+
 mod fates;
+mod greater;
 mod held;
 pub mod laws;
 mod rows;
 mod scrubs;
-mod slots;
+mod slot_rows;
 mod table;
 mod turn;
 

@@ -18,9 +18,7 @@ pub fn empty_slots(alloc: Global, room: usize) -> Result<Vec<Option<ScrubRow>>, 
     ensures { IfOk result (λ rows. length rows.items ≡ room) }
 {
     let mut rows = Vec::with_capacity(alloc, room)?;
-    for _ in 0..room {
-        rows.push_reserved(None);
-    }
+    rows.resize_with(room, || None)?;
     Ok(rows)
 }
 
