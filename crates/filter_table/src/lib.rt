@@ -11,7 +11,6 @@
 #![tactic(auto)]
 
 mod acls;
-
 mod fates;
 mod greater;
 mod held;

@@ -11,7 +11,9 @@ ghost use Rattle.filter_table.specs.Rows.{gathered, place_of_turn, turn_at_place
 use crate::greater::greatest_covered;
 use crate::held::number_after;
 use crate::rows::ScrubRows;
-use crate::slot_rows::{all_slots, empty_slot, empty_slots, fill_slot, position_of, row_in, wake_rows};
+use crate::slot_rows::{
+    all_slots, empty_slot, empty_slots, fill_slot, position_of, row_in, wake_rows,
+};
 use crate::turn::Turn;
 use acl_lists::Packet;
 use dots_lists::NoMemory;
@@ -115,7 +117,13 @@ impl Scrubs {
         ensures fewer { result ≡ true → length self.new.held < length self.old.held }
         ensures done { result ≡ false → self.new.held ≡ without_mitigation domain cuid.now mid self.old.held }
     {
-        match position_of(self.turns.as_slice(), self.rows.as_slice(), domain, cuid, mid) {
+        match position_of(
+            self.turns.as_slice(),
+            self.rows.as_slice(),
+            domain,
+            cuid,
+            mid,
+        ) {
             Some(at) => {
                 self.take_out(at);
                 true
@@ -143,7 +151,11 @@ impl Scrubs {
         ensures { self.new ≡ record { room = self.old.room; held = renumbered place_of_scrub scrub_at_place self.old.held } }
     {
         renumber_turns(&mut self.turns);
-        rank_all(&mut self.ranking, self.turns.as_slice(), self.rows.as_slice());
+        rank_all(
+            &mut self.ranking,
+            self.turns.as_slice(),
+            self.rows.as_slice(),
+        );
     }
 
     /// How many rows there are.

@@ -43,8 +43,7 @@ returns c =
     let now = c.put.ensures ∙ ap (λ (r : Rank). ranking_value c.self.inside.ranking.room (with_rank r c.self.inside.ranking.ranks)) c.of.ensures.value in
     let kept = installs_row c.self.inside.room c.self.inside.rows.items c.fill_slot.new.rows.items c.self.inside.turns.items c.put_turn.new.turns.items
     c.self.inside.free.items c.pop.new.self.items c.self.inside.ranking c.put.new.self c.args.place c.in-Some.slot c.place_after-at.result c.args.row
-    c.self.invariant.0 c.in-Some.ensures.items c.of.ensures.valid here now c.fill_slot.ensures c.put_turn.ensures.items in
-    (
+    c.self.invariant.0 c.in-Some.ensures.items c.of.ensures.valid here now c.fill_slot.ensures c.put_turn.ensures.items in (
       c.in-Some.slot,
       subst (λ (v : ScrubsValue). c.in-Some.slot < v.room) c.self.view_is kept.slot_below,
       subst (λ (v : ScrubsValue). scrub_in c.in-Some.slot v.held ≡ None) c.self.view_is kept.slot_free,
