@@ -1,6 +1,7 @@
-pub mod Ranked
-pub mod Order
-pub mod Places
-pub mod Slots
-pub mod There
 pub mod Orders
+pub mod Slots
+pub mod Places
+pub mod There
+pub mod Gathered
+pub mod Bests
+pub mod Standing

@@ -1,21 +1,11 @@
 -- Lists of rows that stay in order, and ranks that are put in order.
 use Rattle.std.proofs.Common.{◌≡◌, ◌≢◌, ℕ, ◌+◌, ◌≤◌, Bool, true, false, cond, if◌then◌else◌, ◌==◌, nat_le, List, [], ◌∷◌, map, zero, suc, refl, sym, ◌∙◌, arith, one-add, Some, None}
-use Rattle.std.specs.List.{insert, prefix_len, filter, AllByRecursion}
-use Rattle.std.specs.List.Sorted.{IsPermutation}
-use Rattle.std.proofs.lemmas.List.Sorted.{IsPermutation-refl, IsPermutation-cons, IsPermutation-trans, IsPermutation-insert}
-use Rattle.filter_table.specs.declared.held.HeldScrub.{HeldScrub}
+use Rattle.std.specs.List.{insert, remove, prefix_len, filter, AllByRecursion}
 use Rattle.filter_table.specs.declared.held.HeldAcl.{HeldAcl}
-use Rattle.filter_table.specs.declared.rank.Rank.{Rank}
-use Rattle.filter_table.specs.Held.{scrub_in, is_of, scrub_set, acl_set, woken, activated, number_after, renumbered_from, renumbered, place_of_scrub, scrub_at_place}
-use Rattle.filter_table.specs.Laws.{AreInOrder, HaveTheirSlots, AreRanked}
-use Rattle.filter_table.specs.Ranks.{is_before, place_of, with_rank, ranked}
-use Rattle.filter_table.proofs.Order.{one_way, before_after}
-
-each_insert : {A : Type 0} → (P : A → Type 0) (xs : List A) (i : ℕ) (x : A) → P x → AllByRecursion P xs → AllByRecursion P (insert xs i x)
-each_insert P [] zero x one all = (one, all)
-each_insert P [] (suc i) x one all = (one, all)
-each_insert P (y ∷ xs) zero x one all = (one, all)
-each_insert P (y ∷ xs) (suc i) x one all = (all.0, each_insert P xs i x one all.1)
+use Rattle.filter_table.specs.Held.{HeldScrub, scrub_in, is_of, scrub_set, acl_set, woken, activated, number_after, renumbered_from, renumbered, place_of_scrub, scrub_at_place}
+use Rattle.filter_table.specs.Laws.{AreInOrder, HaveTheirSlots}
+use Rattle.prefix_ranks.specs.Numbers.{Falls}
+use Rattle.prefix_ranks.proofs.Each.{each_insert, each_remove, each_weaker}
 
 each_filter : {A : Type 0} → (P : A → Type 0) (p : A → Bool) (xs : List A) → AllByRecursion P xs → AllByRecursion P (filter p xs)
 each_filter P p [] all = all
@@ -25,10 +15,6 @@ each_filter P p (x ∷ xs) all =
 each_map : {A : Type 0} → (P Q : A → Type 0) (f : A → A) → ((x : A) → P x → Q (f x)) → (xs : List A) → AllByRecursion P xs → AllByRecursion Q (map f xs)
 each_map P Q f step [] all = all
 each_map P Q f step (x ∷ xs) all = (step x all.0, each_map P Q f step xs all.1)
-
-each_weaker : {A : Type 0} → (P Q : A → Type 0) → ((x : A) → P x → Q x) → (xs : List A) → AllByRecursion P xs → AllByRecursion Q xs
-each_weaker P Q step [] all = all
-each_weaker P Q step (x ∷ xs) all = (step x all.0, each_weaker P Q step xs all.1)
 
 -- ---- places
 
@@ -50,6 +36,22 @@ order_insert place x (y ∷ xs) order =
           let less : place x ≤ place y = gt_of _ _ is in
           ((less, each_weaker (λ later. place y ≤ place later) (λ later. place x ≤ place later) (λ later more. omega (arith, less, more)) xs order.0), order)
     ] refl
+
+beyond : (bound low high : ℕ) → nat_le low bound ≡ false → low ≤ high → nat_le high bound ≡ false
+beyond bound low high fails more = grind arith
+
+pub order_falls : {A : Type 0} → (place : A → ℕ) (bound : ℕ) (xs : List A) → AreInOrder place xs → Falls (λ x. nat_le (place x) bound) xs
+order_falls place bound [] order = tt
+order_falls place bound (x ∷ xs) order = (
+  λ fails. each_weaker (λ later. place x ≤ place later) (λ later. nat_le (place later) bound ≡ false) (λ later more. beyond bound (place x) (place later) fails more) xs order.0,
+  order_falls place bound xs order.1,
+)
+
+pub order_remove : {A : Type 0} → (place : A → ℕ) (xs : List A) (i : ℕ) → AreInOrder place xs → AreInOrder place (remove xs i)
+order_remove place [] zero order = order
+order_remove place [] (suc i) order = order
+order_remove place (x ∷ xs) zero order = order.1
+order_remove place (x ∷ xs) (suc i) order = (each_remove (λ later. place x ≤ place later) xs i order.0, order_remove place xs i order.1)
 
 pub order_filter : {A : Type 0} → (place : A → ℕ) (p : A → Bool) (xs : List A) → AreInOrder place xs → AreInOrder place (filter p xs)
 order_filter place p [] order = order
@@ -152,30 +154,3 @@ apart_from last number (x ∷ xs) apart =
 pub apart_renumbered : (xs : List HeldScrub) → HaveTheirSlots xs → HaveTheirSlots (renumbered place_of_scrub scrub_at_place xs)
 apart_renumbered [] apart = apart
 apart_renumbered (x ∷ xs) apart = apart_from x.place 0 (x ∷ xs) apart
-
--- ---- ranks
-
-not_between : (low middle high : Rank) → is_before high middle ≡ false → is_before middle low ≡ false → is_before high low ≡ false
-not_between low middle high first second =
-    elim (is_before high low) as (λ v. is_before high low ≡ v → v ≡ false) [
-      | true ↦ λ is. sym (before_after low middle high is first) ∙ second
-      | false ↦ λ is. refl
-    ] refl
-
-ranked_with : (r : Rank) (rs : List Rank) → AreRanked rs → AreRanked (with_rank r rs)
-ranked_with r [] order = (tt, tt)
-ranked_with r (y ∷ rs) order =
-    elim (is_before y r) as (λ v. is_before y r ≡ v → AreRanked (insert (y ∷ rs) (cond v (1 + place_of r rs) 0) r)) [
-      | true ↦ λ is. rw one-add (each_insert (λ later. is_before later y ≡ false) rs (place_of r rs) r (one_way y r is) order.0, ranked_with r rs order.1)
-      | false ↦ λ is.
-          ((is, each_weaker (λ later. is_before later y ≡ false) (λ later. is_before later r ≡ false) (λ later no. not_between r y later no is) rs order.0), order)
-    ] refl
-
-pub are_ranked : (rs : List Rank) → AreRanked (ranked rs)
-are_ranked [] = tt
-are_ranked (r ∷ rs) = ranked_with r (ranked rs) (are_ranked rs)
-
-pub all_ranked : (rs : List Rank) → IsPermutation rs (ranked rs)
-all_ranked [] = IsPermutation-refl []
-all_ranked (r ∷ rs) =
-    IsPermutation-trans (r ∷ rs) (r ∷ ranked rs) (ranked (r ∷ rs)) (IsPermutation-cons r rs (ranked rs) (all_ranked rs)) (IsPermutation-insert (ranked rs) (place_of r (ranked rs)) r)

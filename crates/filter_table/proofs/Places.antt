@@ -2,13 +2,8 @@
 use Rattle.std.proofs.Common.{◌≡◌, ℕ, ◌+◌, ◌<◌, ◌≤◌, cond, ◌==◌, List, [], ◌∷◌, map, length, get_or, take, length-take-le, zero, suc, refl, ap, ◌∙◌, arith}
 use Rattle.std.specs.List.{count_by, AllByRecursion}
 use Rattle.std.proofs.lemmas.List.Sums.{sum_by-cons}
-use Rattle.filter_table.specs.declared.held.HeldScrub.{HeldScrub}
-use Rattle.filter_table.specs.Held.{number_after, renumbered_from, renumbered, place_of_scrub, scrub_at_place}
-use Rattle.filter_table.specs.Ranks.{rank_of, with_rank, ranked}
+use Rattle.filter_table.specs.Held.{HeldScrub, number_after, renumbered_from, renumbered, place_of_scrub, scrub_at_place}
 use Rattle.filter_table.specs.Slots.{HasEachSlot}
-use Rattle.filter_table.proofs.Order.{commutes}
-use Rattle.filter_table.proofs.Slots.{length-ranked}
-use Rattle.std.proofs.lemmas.List.{length-map}
 
 after_at_most : (last number place : ℕ) → number_after last number place ≤ number + 1
 after_at_most last number place = grind arith
@@ -63,15 +58,3 @@ slots_stay room free held later rows has = record {
   once = λ s. omega (arith, has.once s, counted s held, ap (count_by (λ (x : HeldScrub). x.slot == s)) rows);
   number = omega (arith, has.number, ap length rows, length-renumbered place_of_scrub scrub_at_place held);
 }
-
--- ---- all rows ranked, one after the other
-
-pub ranked_more : (held : List HeldScrub) (i : ℕ) (x : HeldScrub) → i < length held → x ≡ get_or held i x
-    → with_rank (rank_of x) (ranked (map rank_of (take i held))) ≡ ranked (map rank_of (take (suc i) held))
-ranked_more [] i x within is = absurd (omega arith)
-ranked_more (y ∷ held) zero x within is = ap (λ z. with_rank (rank_of z) []) is
-ranked_more (y ∷ held) (suc i) x within is =
-    commutes (rank_of x) (rank_of y) (ranked (map rank_of (take i held))) ∙ ap (with_rank (rank_of y)) (ranked_more held i x (omega arith) is)
-
-pub length_taken : (held : List HeldScrub) (i : ℕ) → i ≤ length held → length (ranked (map rank_of (take i held))) ≡ i
-length_taken held i within = length-ranked (map rank_of (take i held)) ∙ length-map (take i held) rank_of ∙ length-take-le i held within

@@ -6,12 +6,11 @@ use Rattle.std.proofs.lemmas.Bool.{eq-eqb}
 use Rattle.std.proofs.lemmas.List.{length-map}
 use Rattle.std.proofs.lemmas.List.Sums.{sum_by-cons, prefix_len-le-length, sum_by-append, sum_by-insert, sum_by-remove}
 use Rattle.std.proofs.lemmas.List.Edits.{length-insert, length-remove}
-use Rattle.filter_table.specs.declared.held.HeldScrub.{HeldScrub}
-use Rattle.filter_table.specs.declared.rank.Rank.{Rank}
-use Rattle.filter_table.specs.Ranks.{RankingValue, is_before, rank_of, with_rank, ranked, place_of}
-use Rattle.filter_table.specs.Held.{ScrubsValue, scrub_in, with_scrub, woken, is_of, scrub_set}
+use Rattle.prefix_ranks.specs.declared.rank.Rank.{Rank}
+use Rattle.prefix_ranks.specs.Ranks.{RankingValue, is_before, with_rank, ranked, place_of}
+use Rattle.filter_table.specs.Held.{HeldScrub, rank_of, ScrubsValue, scrub_in, with_scrub, woken, is_of, scrub_set}
 use Rattle.filter_table.specs.Slots.{HasEachSlot, RanksAre}
-use Rattle.filter_table.proofs.Order.{ranked_insert, ranked_remove, taken_back, place_within}
+use Rattle.prefix_ranks.proofs.Order.{ranked_insert, ranked_remove, taken_back, place_within}
 
 abbrev once_at : ℕ → ℕ → ℕ
 once_at s slot = cond (slot == s) 1 0
@@ -147,9 +146,12 @@ installed room ranking after rank before free slot held later i scrub are has ta
 
 pub rank_there : (room : ℕ) (ranking : RankingValue) (rank : Rank) (held : List HeldScrub) (i : ℕ) (scrub : HeldScrub)
     → RanksAre ranking room held → i < length held → get_or held i scrub ≡ scrub → rank ≡ rank_of scrub
-    → place_of rank ranking.ranks < length ranking.ranks
-rank_there room ranking rank held i scrub are within is ranks =
-    subst (λ (r : Rank). place_of r ranking.ranks < length ranking.ranks) (sym ranks) (ranks_after_removal ranking.ranks held i scrub are.in_order within is).0
+    → (others : List Rank) × (ranking.ranks ≡ with_rank rank others)
+rank_there room ranking rank held i scrub are within is ranks = (
+  ranked (map rank_of (remove held i)),
+  are.in_order ∙ ranked_remove (map rank_of held) i (rank_of scrub) (omega (arith, within, length-map held rank_of)) (get-map held i scrub within is)
+      ∙ ap (λ rs. with_rank (rank_of scrub) (ranked rs)) (sym (map-remove held i)) ∙ ap (λ (r : Rank). with_rank r (ranked (map rank_of (remove held i)))) (sym ranks),
+)
 
 pub removed : (room : ℕ) (ranking after : RankingValue) (rank : Rank) (free given : List ℕ) (held later : List HeldScrub) (i : ℕ) (scrub : HeldScrub)
     → RanksAre ranking room held → HasEachSlot room free held → i < length held → get_or held i scrub ≡ scrub → rank ≡ rank_of scrub
@@ -224,7 +226,7 @@ all_stay p (x ∷ xs) far =
       | false ↦ λ past. ap (λ ys. x ∷ ys) (all_stay p xs (omega (arith, past)))
     ] far
 
-found_by : (i j n : ℕ) → cond (nat_lt i n) (Some i) None ≡ Some j → (j ≡ i) × (i < n)
+pub found_by : (i j n : ℕ) → cond (nat_lt i n) (Some i) None ≡ Some j → (j ≡ i) × (i < n)
 found_by i j n is = (grind arith, grind arith)
 
 lost_by : (i n : ℕ) → cond (nat_lt i n) (Some i) None ≡ None → n ≤ i

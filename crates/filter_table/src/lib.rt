@@ -12,11 +12,12 @@
 
 mod acls;
 mod fates;
+mod greater;
 mod held;
 pub mod laws;
 mod rows;
 mod scrubs;
-mod slots;
+mod slot_rows;
 mod table;
 mod turn;
 

@@ -6,7 +6,7 @@ ghost use Rattle.filter_table.specs.Held.{row_of_acl, active_rows};
 ghost use Rattle.filter_table.specs.Rows.{gathered, active_in};
 
 use crate::held::HeldAcl;
-use crate::slots::row_in;
+use crate::slot_rows::row_in;
 use crate::turn::Turn;
 use filter_rows::{AclRow, ScrubRow};
 use std::marker::Model;

@@ -1,21 +1,23 @@
 //! The rows of mitigations, each in a slot of its own.
 
 ghost use Rattle.std.specs.Prelude.{◌≡◌, ℕ, ◌<◌, ◌≤◌, ◌^◌, [], None, Some, true, false, map, filter, length, nat_le, nat_lt, option_map, IsSome, IfOk, vec_capacity};
-ghost use Rattle.std.specs.List.{prefix_len, remove, AllByRecursion};
-ghost use Rattle.filter_rows.specs.Fates.{scrubbing_mid, scrubs};
+ghost use Rattle.std.specs.List.{prefix_len, insert, remove, AllByRecursion};
+ghost use Rattle.filter_rows.specs.Fates.{scrubbing_mid};
 ghost use Rattle.prefix_ranks.specs.Ranks.{kind_of, ranked, is_of_kind, slot_of};
 ghost use Rattle.filter_table.specs.Held.{ScrubsValue, scrub_in, with_scrub, without_mitigation, woken, renumbered, scrub_at_place, place_of_scrub, rank_of, row_of_scrub, active_rows};
 ghost use Rattle.filter_table.specs.Laws.{AreInOrder};
 ghost use Rattle.filter_table.specs.Rows.{gathered, place_of_turn, turn_at_place, IsTied};
-ghost use Rattle.filter_table.specs.Best.{best, greater_of, mid_in};
 
+use crate::greater::greatest_covered;
 use crate::held::number_after;
 use crate::rows::ScrubRows;
-use crate::slots::{all_slots, empty_slot, empty_slots, fill_slot, position_of, row_in, wake_rows};
+use crate::slot_rows::{
+    all_slots, empty_slot, empty_slots, fill_slot, position_of, row_in, wake_rows,
+};
 use crate::turn::Turn;
 use acl_lists::Packet;
 use dots_lists::NoMemory;
-use filter_rows::{ScrubRow, greatest_from, is_scrubbed};
+use filter_rows::ScrubRow;
 use ip_scope::Family;
 use prefix_ranks::{Rank, Ranking, kind_of};
 use std::alloc::Global;
@@ -89,7 +91,7 @@ impl Scrubs {
             mid: row.mid,
         };
         self.ranking.put(Rank::of(&row.prefix, place, slot));
-        let _room_was_reserved = self.turns.insert(at, turn);
+        put_turn(&mut self.turns, at, turn);
         fill_slot(&mut self.rows, slot, row);
     }
 
@@ -115,7 +117,13 @@ impl Scrubs {
         ensures fewer { result ≡ true → length self.new.held < length self.old.held }
         ensures done { result ≡ false → self.new.held ≡ without_mitigation domain cuid.now mid self.old.held }
     {
-        match position_of(self.turns.as_slice(), self.rows.as_slice(), domain, cuid, mid) {
+        match position_of(
+            self.turns.as_slice(),
+            self.rows.as_slice(),
+            domain,
+            cuid,
+            mid,
+        ) {
             Some(at) => {
                 self.take_out(at);
                 true
@@ -143,7 +151,11 @@ impl Scrubs {
         ensures { self.new ≡ record { room = self.old.room; held = renumbered place_of_scrub scrub_at_place self.old.held } }
     {
         renumber_turns(&mut self.turns);
-        rank_all(&mut self.ranking, self.turns.as_slice(), self.rows.as_slice());
+        rank_all(
+            &mut self.ranking,
+            self.turns.as_slice(),
+            self.rows.as_slice(),
+        );
     }
 
     /// How many rows there are.
@@ -182,12 +194,8 @@ impl Scrubs {
     pub fn greatest_mid(&self, packet: &Packet) -> Option<u32>
         ensures { result ≡ scrubbing_mid packet.now (map row_of_scrub self.now.held) }
     {
-        let mut found = None;
-        let mut covering = self.ranking.covering(packet.destination);
-        while let Some(slots) = covering.next() {
-            found = greater_in(self.rows.as_slice(), slots, packet, found);
-        }
-        found
+        let covering = self.ranking.covering(packet.destination);
+        greatest_covered(covering, self.rows.as_slice(), packet)
     }
 }
 
@@ -198,6 +206,16 @@ fn place_after(place: u64, turns: &[Turn]) -> usize
     ensures within { result ≤ length turns.now }
 {
     turns.partition_point(|other| other.place <= place)
+}
+
+/// Puts a turn in at this position, for which there is room.
+fn put_turn(turns: &mut Vec<Turn>, at: usize, turn: Turn)
+    requires within { at ≤ length turns.old.items }
+    requires room { length turns.old.items < vec_capacity turns.old }
+    ensures items { turns.new.items ≡ insert turns.old.items at turn }
+    ensures capacity { vec_capacity turns.new ≡ vec_capacity turns.old }
+{
+    let _room_was_reserved = turns.insert(at, turn);
 }
 
 fn renumber_turns(turns: &mut Vec<Turn>)
@@ -231,53 +249,10 @@ fn rank_all(ranking: &mut Ranking, turns: &[Turn], rows: &[Option<ScrubRow>])
 {
     ranking.clear();
     for turn in turns {
-        match row_in(turn.slot, rows) {
-            Some(row) => ranking.put(Rank::of(&row.prefix, turn.place, turn.slot)),
+        let row = match row_in(turn.slot, rows) {
+            Some(row) => row,
             None => unreachable!(),
-        }
+        };
+        ranking.put(Rank::of(&row.prefix, turn.place, turn.slot));
     }
-}
-
-/// The greatest of the mid found and of those of the rows in these slots that scrub the packet.
-#[tactic(auto, using(crate::proofs::Bests::greater_more))]
-#[inline(always)]
-fn greater_in(
-    rows: &[Option<ScrubRow>],
-    slots: &[u32],
-    packet: &Packet,
-    before: Option<u32>,
-) -> Option<u32>
-    ensures { result ≡ greater_of before (best (mid_in packet.now rows.now) slots.now) }
-{
-    let mut found = before;
-    for slot in slots {
-        if let Some(mid) = mid_in(rows, *slot, packet) {
-            found = Some(greatest_from(mid, found));
-        }
-    }
-    found
-}
-
-/// The mid of the row in this slot, where it is active and matches.
-fn mid_in(rows: &[Option<ScrubRow>], slot: u32, packet: &Packet) -> Option<u32>
-    ensures { result ≡ mid_in packet.now rows.now slot }
-{
-    let row = row_in(slot, rows)?;
-    if !scrubs(packet, row) {
-        return None;
-    }
-    Some(row.mid)
-}
-
-/// Whether the row is active and matches.
-fn scrubs(packet: &Packet, row: &ScrubRow) -> bool
-    ensures { result ≡ scrubs packet.now row.now }
-{
-    row.active
-        && is_scrubbed(
-            &row.prefix,
-            row.protocols.items(),
-            row.ports.items(),
-            packet,
-        )
 }

@@ -87,13 +87,7 @@ impl<'a> Covering<'a> {
         self.ranks = later_ranks;
         self.numbers = later_numbers;
         self.slots = later_slots;
-        Some(slots_covering(
-            self.address,
-            level.kind,
-            ranks,
-            numbers,
-            slots,
-        ))
+        Some(slots_covering(self.address, level.kind, ranks, numbers, slots))
     }
 }
 

@@ -16,10 +16,7 @@ fn levels_below(kind: u16, levels: &[Level]) -> usize
     ensures value { result ≡ prefix_len (λ level. nat_lt level.kind kind) levels.now }
     ensures within { result ≤ length levels.now }
 {
-    levels
-        .iter()
-        .take_while(|level| level.kind < kind)
-        .count()
+    levels.iter().take_while(|level| level.kind < kind).count()
 }
 
 /// One more rank is of this kind.

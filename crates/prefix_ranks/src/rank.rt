@@ -1,6 +1,7 @@
 //! Where a prefix stands among the others.
 
 ghost use Rattle.std.specs.Prelude.{◌≡◌, ◌%◌, ◌^◌};
+ghost use Rattle.ip_scope.specs.Prefix.{IsPrefix};
 ghost use Rattle.prefix_ranks.specs.Ranks.{kind_of, rank_of, is_before, before_by};
 ghost use Rattle.prefix_ranks.specs.Numbers.{low_of};
 
@@ -32,7 +33,8 @@ pub fn kind_of(family: Family, length: u8) -> u16
 impl Rank {
     /// The rank of a prefix.
     pub fn of(prefix: &Prefix, place: u64, slot: u32) -> Rank
-        ensures { result ≡ rank_of prefix.now place slot }
+        ensures value { result ≡ rank_of prefix.now place slot }
+        ensures valid { IsPrefix prefix.now }
     {
         Rank {
             kind: kind_of(prefix.family(), prefix.length()),

@@ -54,7 +54,7 @@ pub fn lists(alloc: Global, acts: &[Act<'_>]) -> Result<[usize; 3], Fail> {
     Ok(lengths)
 }
 
-fn settings(alloc: Global) -> Result<Settings, Fail> {
+pub fn settings(alloc: Global) -> Result<Settings, Fail> {
     let text = b"domain net\nprefix net 192.0.2.0/24\nclient 0 net\n";
     let mut source = MemorySource::new(alloc, text)?;
     match read_settings(alloc, &mut source) {
@@ -64,12 +64,22 @@ fn settings(alloc: Global) -> Result<Settings, Fail> {
 }
 
 /// What is said of a fate, with the mid where it is scrubbed.
-fn told(fate: &Fate<'_>) -> (&'static str, u32) {
+pub fn told(fate: &Fate<'_>) -> (&'static str, u32) {
     match fate {
         Fate::Pass => ("pass", 0),
         Fate::Accepted { .. } => ("accepted", 0),
         Fate::Dropped { .. } => ("dropped", 0),
         Fate::Scrubbed { mid } => ("scrubbed", *mid),
+    }
+}
+
+/// A packet of UDP without ports to this address.
+pub fn packet_to(address: Addr) -> Packet {
+    Packet {
+        source: address,
+        destination: address,
+        protocol: 17,
+        ports: None,
     }
 }
 
@@ -79,12 +89,7 @@ pub fn fate(alloc: Global, acts: &[Act<'_>], number: u32) -> Result<(&'static st
         family: Family::V4,
         number: u128::from(number),
     };
-    let packet = Packet {
-        source: address,
-        destination: address,
-        protocol: 17,
-        ports: None,
-    };
+    let packet = packet_to(address);
     let settings = settings(alloc)?;
     let table = table(alloc, acts)?;
     Ok(told(&table.fate(&packet, &settings)))

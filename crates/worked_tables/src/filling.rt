@@ -28,6 +28,9 @@ pub enum Act<'a> {
 
 const CUID: &str = "client";
 
+/// How many rows of mitigations a table has room for.
+pub const ROOM: usize = 8;
+
 fn text(alloc: Global) -> Result<Text, Fail> {
     match Text::new(alloc, CUID.as_bytes())? {
         Some(text) => Ok(text),
@@ -49,7 +52,7 @@ fn prefix(text: &str) -> Result<Prefix, Fail> {
     }
 }
 
-fn scrub(alloc: Global, mid: u32, of: &str) -> Result<ScrubRow, Fail> {
+pub fn scrub(alloc: Global, mid: u32, of: &str) -> Result<ScrubRow, Fail> {
     let prefix = prefix(of)?;
     let cuid = text(alloc)?;
     Ok(ScrubRow {
@@ -134,7 +137,7 @@ fn change(alloc: Global, table: &mut FilterTable, act: Act<'_>) -> Result<(), Fa
 
 /// The table after these changes, with room for 8 rows of mitigations and 4 of access lists.
 pub fn table(alloc: Global, acts: &[Act<'_>]) -> Result<FilterTable, Fail> {
-    let mut table = FilterTable::new(alloc, 8, 4)?;
+    let mut table = FilterTable::new(alloc, ROOM, 4)?;
     for act in acts {
         change(alloc, &mut table, *act)?;
     }

@@ -6,6 +6,8 @@
 #[cfg(test)]
 mod asking;
 #[cfg(test)]
+mod comparing;
+#[cfg(test)]
 mod filling;
 #[cfg(test)]
 mod tables;

@@ -1,6 +1,7 @@
 //! Rows in slots, rows in order, lists, and fates.
 
 use crate::asking::{fate, in_slots, listed, lists};
+use crate::comparing::{address, differences};
 use crate::filling::Act;
 use acl_lists::Activation;
 use ip_scope::Family;
@@ -114,6 +115,24 @@ fn fates_follow_the_rows(rt: HostRuntime) -> Result<(), Fail> {
         let [third, fourth] = last;
         let acts = [first, second, third, fourth];
         assert_eq!(rt; fate(rt.alloc(), &acts, number)?, want);
+    }
+    Ok(())
+}
+
+/// The table says of each packet what the plain rows say that the same calls leave.
+#[test]
+fn fates_are_those_of_plain_rows(rt: HostRuntime) -> Result<(), Fail> {
+    let addresses = [
+        address(Family::V4, 0xc000_0209),
+        address(Family::V4, 0xc000_0208),
+        address(Family::V4, 0xc000_02f0),
+        address(Family::V4, 7),
+        address(Family::V6, 9),
+        address(Family::V6, 0x8000_0000_0000_0009),
+        address(Family::V6, 0xffff_ffff_ffff_ffff),
+    ];
+    for seed in 0..60 {
+        assert_eq!(rt; differences(rt.alloc(), seed, &addresses)?, 0);
     }
     Ok(())
 }

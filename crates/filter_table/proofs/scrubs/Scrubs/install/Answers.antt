@@ -1,29 +1,52 @@
-use Rattle.std.proofs.Common.{arith, ◌≡◌, ◌<◌, ◌≤◌, nat_le, length, refl, ap, subst, ◌∙◌, None}
+use Rattle.std.proofs.Common.{arith, ◌≡◌, ◌<◌, nat_le, length, ap, sym, subst, ◌∙◌, None}
 use Rattle.std.specs.List.{insert, prefix_len}
-use Rattle.filter_table.specs.declared.held.HeldScrub.{HeldScrub}
-use Rattle.filter_table.specs.Held.{ScrubsValue, scrub_in}
-use Rattle.std.proofs.lemmas.Grind.{common_steps}
-use Rattle.filter_table.proofs.Slots.{length-ranks, installed, installed_value, none_in, slot_within}
+use Rattle.prefix_ranks.specs.declared.rank.Rank.{Rank}
+use Rattle.prefix_ranks.specs.Ranks.{with_rank}
+use Rattle.filter_table.specs.declared.turn.Turn.{Turn}
+use Rattle.filter_table.specs.Held.{ScrubsValue, scrub_in, with_scrub}
+use Rattle.filter_table.specs.Rows.{gathered}
+use Rattle.filter_table.proofs.Gathered.{length-gathered}
+use Rattle.filter_table.proofs.Slots.{length-ranks, slot_within, scrubs_value}
+use Rattle.filter_table.proofs.Standing.{ranking_value, turn_of, installs_row}
 use Rattle.filter_table.proofs.scrubs.Scrubs.install.Goals as goal
 
 pub put-requires : goal.put-requires
 put-requires c =
-    let fits : length c.self.inside.held.items < c.self.inside.room = grind (arith, c.self.view_is, c.requires) in
-    omega (arith, fits, length-ranks _ _ _ c.self.invariant.0, c.self.invariant.0.room_is)
+    let fits : length (gathered c.self.inside.rows.items c.self.inside.turns.items) < c.self.inside.room = subst (λ (v : ScrubsValue). length v.held < v.room) (sym c.self.view_is) c.requires in
+    omega (arith, fits, length-ranks c.self.inside.ranking c.self.inside.room (gathered c.self.inside.rows.items c.self.inside.turns.items) c.self.invariant.0.ranks_are, c.self.invariant.0.ranks_are.room_is)
+
+pub put_turn-requires-clause-room : goal.put_turn-requires-clause-room
+put_turn-requires-clause-room c =
+    let fits : length (gathered c.self.inside.rows.items c.self.inside.turns.items) < c.self.inside.room = subst (λ (v : ScrubsValue). length v.held < v.room) (sym c.self.view_is) c.requires in
+    omega (arith, fits, length-gathered c.self.inside.rows.items c.self.inside.turns.items c.self.invariant.0.tied, c.self.invariant.1)
+
+pub put_turn-requires-clause-within : goal.put_turn-requires-clause-within
+put_turn-requires-clause-within c = omega (arith, c.place_after-at.ensures.within, ap length c.as_slice.ensures.value)
+
+pub fill_slot-requires : goal.fill_slot-requires
+fill_slot-requires c =
+    let low : c.in-Some.slot < c.self.inside.room = slot_within _ _ _ _ _ c.in-Some.ensures.items c.self.invariant.0.slots_are in
+    omega (arith, low, c.self.invariant.0.rows_number)
 
 pub invariant_of-self : goal.invariant_of-self
 invariant_of-self c =
-    let rows : c.insert-room_was_reserved.new.self.items ≡ insert c.self.inside.held.items c.place_after-at.result (record { slot = c.in-Some.slot; place = c.args.place; row = c.args.row }) = grind (arith, common_steps) in
-    let same : length c.as_slice.result.now ≡ length c.self.inside.held.items = ap length c.as_slice.ensures.value in
-    let within : c.place_after-at.result ≤ length c.self.inside.held.items = omega (arith, same, c.place_after-at.ensures.within) in
-    let kept = installed _ _ _ _ _ _ c.in-Some.slot _ _ _ _ c.self.invariant.0 c.self.invariant.1 c.in-Some.ensures.items refl c.of.ensures within rows c.put.ensures in
-    (kept.0, kept.1, omega arith, omega arith)
+    let here = c.place_after-at.ensures.value ∙ ap (prefix_len (λ (t : Turn). nat_le t.place c.args.place)) c.as_slice.ensures.value in
+    let now = c.put.ensures ∙ ap (λ (r : Rank). ranking_value c.self.inside.ranking.room (with_rank r c.self.inside.ranking.ranks)) c.of.ensures.value in
+    let kept = installs_row c.self.inside.room c.self.inside.rows.items c.fill_slot.new.rows.items c.self.inside.turns.items c.put_turn.new.turns.items
+    c.self.inside.free.items c.pop.new.self.items c.self.inside.ranking c.put.new.self c.args.place c.in-Some.slot c.place_after-at.result c.args.row
+    c.self.invariant.0 c.in-Some.ensures.items c.of.ensures.valid here now c.fill_slot.ensures c.put_turn.ensures.items in
+    (kept.stand, omega arith, omega arith)
 
 pub returns : goal.returns
 returns c =
-    let rows : c.insert-room_was_reserved.new.self.items ≡ insert c.self.inside.held.items c.place_after-at.result (record { slot = c.in-Some.slot; place = c.args.place; row = c.args.row }) = grind (arith, common_steps) in (
+    let here = c.place_after-at.ensures.value ∙ ap (prefix_len (λ (t : Turn). nat_le t.place c.args.place)) c.as_slice.ensures.value in
+    let now = c.put.ensures ∙ ap (λ (r : Rank). ranking_value c.self.inside.ranking.room (with_rank r c.self.inside.ranking.ranks)) c.of.ensures.value in
+    let kept = installs_row c.self.inside.room c.self.inside.rows.items c.fill_slot.new.rows.items c.self.inside.turns.items c.put_turn.new.turns.items
+    c.self.inside.free.items c.pop.new.self.items c.self.inside.ranking c.put.new.self c.args.place c.in-Some.slot c.place_after-at.result c.args.row
+    c.self.invariant.0 c.in-Some.ensures.items c.of.ensures.valid here now c.fill_slot.ensures c.put_turn.ensures.items in (
       c.in-Some.slot,
-      subst (λ (o : ScrubsValue). c.in-Some.slot < o.room) c.self.view_is (slot_within _ _ _ _ _ c.in-Some.ensures.items c.self.invariant.1),
-      subst (λ (o : ScrubsValue). scrub_in c.in-Some.slot o.held ≡ None) c.self.view_is (none_in _ _ _ _ _ c.in-Some.ensures.items c.self.invariant.1),
-      installed_value _ _ _ _ _ _ c.self.view_is (c.place_after-at.ensures.value ∙ ap (prefix_len (λ (other : HeldScrub). nat_le other.place c.args.place)) c.as_slice.ensures.value) rows,
+      subst (λ (v : ScrubsValue). c.in-Some.slot < v.room) c.self.view_is kept.slot_below,
+      subst (λ (v : ScrubsValue). scrub_in c.in-Some.slot v.held ≡ None) c.self.view_is kept.slot_free,
+      ap (scrubs_value c.self.inside.room) kept.held_is
+          ∙ ap (λ (v : ScrubsValue). scrubs_value v.room (with_scrub (record { slot = c.in-Some.slot; place = c.args.place; row = c.args.row }) v.held)) c.self.view_is,
     )

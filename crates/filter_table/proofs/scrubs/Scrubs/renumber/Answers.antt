@@ -1,22 +1,42 @@
-use Rattle.std.proofs.Common.{arith, ◌≡◌, length, map, ap, ◌∙◌}
-use Rattle.filter_table.specs.Held.{place_of_scrub, scrub_at_place}
-use Rattle.filter_table.specs.Ranks.{RankingValue, rank_of, ranked}
-use Rattle.filter_table.proofs.Places.{slots_stay, length-renumbered}
+use Rattle.std.proofs.Common.{arith, ◌≡◌, List, Option, length, map, ap, sym, subst, ◌∙◌}
+use Rattle.filter_rows.specs.declared.rows.ScrubRow.{ScrubRow}
+use Rattle.prefix_ranks.specs.Ranks.{RankingValue, ranked}
+use Rattle.filter_table.specs.declared.turn.Turn.{Turn}
+use Rattle.filter_table.specs.Held.{ScrubsValue, rank_of, renumbered, place_of_scrub, scrub_at_place}
+use Rattle.filter_table.specs.Rows.{gathered, place_of_turn, turn_at_place}
+use Rattle.filter_table.proofs.Gathered.{AreTied, length-gathered, tied-renumbered}
+use Rattle.filter_table.proofs.Places.{length-renumbered}
+use Rattle.filter_table.proofs.Slots.{scrubs_value}
+use Rattle.filter_table.proofs.Standing.{ranking_value, renumbers_rows}
 use Rattle.filter_table.proofs.scrubs.Scrubs.renumber.Goals as goal
 
-pub rank_all-requires : goal.rank_all-requires
-rank_all-requires c =
-    let same : length c.as_slice.result.now ≡ length c.self.inside.held.items =
-    ap length (c.as_slice.ensures.value ∙ c.renumber_rows.ensures.items) ∙ length-renumbered place_of_scrub scrub_at_place c.self.inside.held.items in
-    omega (arith, same, c.self.invariant.0.room_is, c.self.invariant.1.number)
+pub rank_all-requires-clause-tied : goal.rank_all-requires-clause-tied
+rank_all-requires-clause-tied c =
+    subst (λ (rs : List (Option ScrubRow)). AreTied rs c.as_slice.result.now) (sym c.as_slice-2.ensures.value)
+    (subst (AreTied c.self.inside.rows.items) (sym (c.as_slice.ensures.value ∙ c.renumber_turns.ensures.items))
+    (tied-renumbered c.self.inside.rows.items c.self.inside.turns.items c.self.invariant.0.tied))
+
+pub rank_all-requires-clause-room : goal.rank_all-requires-clause-room
+rank_all-requires-clause-room c =
+    let same : length c.as_slice.result.now ≡ length c.self.inside.turns.items =
+    ap length (c.as_slice.ensures.value ∙ c.renumber_turns.ensures.items) ∙ length-renumbered place_of_turn turn_at_place c.self.inside.turns.items in
+    omega (arith, same, c.self.invariant.0.ranks_are.room_is, c.self.invariant.0.slots_are.number, length-gathered c.self.inside.rows.items c.self.inside.turns.items c.self.invariant.0.tied)
 
 pub invariant_of-self : goal.invariant_of-self
-invariant_of-self c = (
-  record {
-    in_order = ap (λ (r : RankingValue). r.ranks) c.rank_all.ensures ∙ ap (λ hs. ranked (map rank_of hs)) c.as_slice.ensures.value;
-    room_is = ap (λ (r : RankingValue). r.room) c.rank_all.ensures ∙ c.self.invariant.0.room_is;
-  },
-  slots_stay _ _ _ _ c.renumber_rows.ensures.items c.self.invariant.1,
-  omega arith,
-  omega arith,
-)
+invariant_of-self c =
+    let now = c.rank_all.ensures
+    ∙ ap (λ (rs : List (Option ScrubRow)). ranking_value c.self.inside.ranking.room (ranked (map rank_of (gathered rs c.as_slice.result.now)))) c.as_slice-2.ensures.value
+    ∙ ap (λ (ts : List Turn). ranking_value c.self.inside.ranking.room (ranked (map rank_of (gathered c.self.inside.rows.items ts)))) c.as_slice.ensures.value in
+    let kept = renumbers_rows c.self.inside.room c.self.inside.rows.items c.self.inside.turns.items c.renumber_turns.new.turns.items c.self.inside.free.items c.self.inside.ranking c.rank_all.new.ranking
+    c.self.invariant.0 c.renumber_turns.ensures.items now in
+    (kept.stand, omega arith, omega arith)
+
+pub returns : goal.returns
+returns c =
+    let now = c.rank_all.ensures
+    ∙ ap (λ (rs : List (Option ScrubRow)). ranking_value c.self.inside.ranking.room (ranked (map rank_of (gathered rs c.as_slice.result.now)))) c.as_slice-2.ensures.value
+    ∙ ap (λ (ts : List Turn). ranking_value c.self.inside.ranking.room (ranked (map rank_of (gathered c.self.inside.rows.items ts)))) c.as_slice.ensures.value in
+    let kept = renumbers_rows c.self.inside.room c.self.inside.rows.items c.self.inside.turns.items c.renumber_turns.new.turns.items c.self.inside.free.items c.self.inside.ranking c.rank_all.new.ranking
+    c.self.invariant.0 c.renumber_turns.ensures.items now in
+    ap (scrubs_value c.self.inside.room) kept.held_is
+    ∙ ap (λ (v : ScrubsValue). scrubs_value v.room (renumbered place_of_scrub scrub_at_place v.held)) c.self.view_is

@@ -1,9 +1,18 @@
-use Rattle.std.proofs.Common.{arith}
-use Rattle.filter_table.specs.Held.{woken}
-use Rattle.filter_table.proofs.Slots.{changed, woken_rank}
+use Rattle.std.proofs.Common.{map, ap, ◌∙◌}
+use Rattle.filter_table.specs.Held.{ScrubsValue, woken}
+use Rattle.filter_table.proofs.Slots.{scrubs_value}
+use Rattle.filter_table.proofs.Standing.{wakes_rows}
 use Rattle.filter_table.proofs.scrubs.Scrubs.wake.Goals as goal
 
 pub invariant_of-self : goal.invariant_of-self
 invariant_of-self c =
-    let kept = changed (woken c.args.domain c.args.cuid.now c.args.mid c.args.active) (woken_rank _ _ _ _) _ _ _ _ _ c.self.invariant.0 c.self.invariant.1 c.wake_rows.ensures.items in
-    (kept.0, kept.1, omega arith, omega arith)
+    let kept = wakes_rows c.args.domain c.args.cuid.now c.args.mid c.args.active c.self.inside.room c.self.inside.rows.items c.wake_rows.new.rows.items c.self.inside.turns.items
+    c.self.inside.free.items c.self.inside.ranking c.self.invariant.0 c.wake_rows.ensures in
+    (kept.stand, c.self.invariant.1, c.self.invariant.2)
+
+pub returns : goal.returns
+returns c =
+    let kept = wakes_rows c.args.domain c.args.cuid.now c.args.mid c.args.active c.self.inside.room c.self.inside.rows.items c.wake_rows.new.rows.items c.self.inside.turns.items
+    c.self.inside.free.items c.self.inside.ranking c.self.invariant.0 c.wake_rows.ensures in
+    ap (scrubs_value c.self.inside.room) kept.held_is
+    ∙ ap (λ (v : ScrubsValue). scrubs_value v.room (map (woken c.args.domain c.args.cuid.now c.args.mid c.args.active) v.held)) c.self.view_is

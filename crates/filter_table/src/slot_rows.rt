@@ -18,9 +18,7 @@ pub fn empty_slots(alloc: Global, room: usize) -> Result<Vec<Option<ScrubRow>>, 
     ensures { IfOk result (λ rows. length rows.items ≡ room) }
 {
     let mut rows = Vec::with_capacity(alloc, room)?;
-    for _ in 0..room {
-        rows.push_reserved(None);
-    }
+    rows.resize_with(room, || None)?;
     Ok(rows)
 }
 
@@ -73,13 +71,7 @@ fn is_of(row: &ScrubRow, domain: u16, cuid: &[u8], mid: u32) -> bool
 }
 
 /// Whether the turn is that of a row of this mitigation.
-fn is_turn_of(
-    turn: &Turn,
-    rows: &[Option<ScrubRow>],
-    domain: u16,
-    cuid: &[u8],
-    mid: u32,
-) -> bool
+fn is_turn_of(turn: &Turn, rows: &[Option<ScrubRow>], domain: u16, cuid: &[u8], mid: u32) -> bool
     ensures { result ≡ turn_is_of domain cuid.now mid rows.now turn.now }
 {
     if turn.mid != mid {
@@ -107,13 +99,7 @@ pub fn position_of(
 }
 
 /// Says of each row of this mitigation whether it is active.
-pub fn wake_rows(
-    rows: &mut Vec<Option<ScrubRow>>,
-    domain: u16,
-    cuid: &[u8],
-    mid: u32,
-    active: bool,
-)
+pub fn wake_rows(rows: &mut Vec<Option<ScrubRow>>, domain: u16, cuid: &[u8], mid: u32, active: bool)
     ensures { rows.new.items ≡ map (option_map (row_woken domain cuid.now mid active)) rows.old.items }
 {
     wake_all(rows.as_mut_slice(), domain, cuid, mid, active);

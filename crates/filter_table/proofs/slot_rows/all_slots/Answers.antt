@@ -2,7 +2,7 @@ use Rattle.std.proofs.Common.{arith, ap, ◌∙◌, ◌==◌}
 use Rattle.std.specs.List.{count_by}
 use Rattle.std.proofs.lemmas.Grind.{common_steps}
 use Rattle.filter_table.proofs.Slots.{below_more}
-use Rattle.filter_table.proofs.scrubs.all_slots.Goals as goal
+use Rattle.filter_table.proofs.slot_rows.all_slots.Goals as goal
 
 pub loop-slot-preserved : goal.loop-slot-preserved
 loop-slot-preserved c = (
