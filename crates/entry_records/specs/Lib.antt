@@ -2,3 +2,4 @@ pub mod Values
 pub mod Layout
 pub mod Records
 pub mod FaultText
+pub mod Reading

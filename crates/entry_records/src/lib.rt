@@ -5,6 +5,11 @@
 //! bounds has one record, and no other entry has any.
 #![tactic(auto)]
 
+mod addresses;
+mod changes;
 mod fault;
+mod lists;
+mod reader;
+mod reading;
 
 pub use fault::EntryFault;

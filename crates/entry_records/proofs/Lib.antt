@@ -1,0 +1,5 @@
+pub mod Digits
+pub mod Characters
+pub mod Fields
+pub mod Loops
+pub mod Readers

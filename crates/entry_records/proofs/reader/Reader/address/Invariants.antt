@@ -1,0 +1,14 @@
+use Rattle.std.proofs.Common.{◌≡◌, ◌+◌, ◌-◌, ◌*◌, ◌%◌, ◌^◌, ◌<◌, ◌≤◌, length}
+use Rattle.entry_records.specs.Reading.{address_at}
+use Rattle.entry_records.proofs.Loops.{with_number}
+use Rattle.entry_records.proofs.reader.Reader.address.Given as goal
+
+-- the bytes so far and those to come are all of them
+abbrev pub invariant-loop : goal.invariant-loop
+invariant-loop l = record {
+  read : with_number (l.number * 256 ^ (l.count - l.counter)) (address_at (l.count - l.counter) l.bits l.self.end l.self.rest.now) ≡ address_at l.count l.fn.bits l.fn.self.end l.fn.self.rest.now;
+  fits : l.number < 256 ^ l.counter;
+  end : l.self.end ≡ l.fn.self.end;
+  bits : l.bits ≡ l.fn.bits - 8 * l.counter;
+  zeros : l.number % 2 ^ (8 * l.counter - l.fn.bits) ≡ 0;
+}

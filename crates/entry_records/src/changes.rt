@@ -1,0 +1,337 @@
+//! Reading access lists, mitigations, session configurations and whole entries.
+
+ghost use Rattle.std.specs.Prelude.{◌≡◌, ◌≢◌, ◌≤◌, ℕ, length, Ok, Err, IfOk, IfErr, OnOk, sum_by};
+ghost use Rattle.entry_records.specs.Reading.{Gives, ace_at, acl_at, activation_at, all_targets_at, change_at, conditions_at, outcome_at, config_at, entry_at, family_at, fields_at, granted_at, id_at, items_at, key_at, list_at, optional_at, prefix_at, put_at, record_at, reply_at, target_at, targets_at, values_at, within_at};
+
+use crate::fault::EntryFault;
+use crate::lists::MAX_ITEMS;
+use crate::reader::Reader;
+use acl_lists::{Ace, AceList, Acl, Activation, PortTest};
+use dots_history::{Change, Config, Entry, MessageKey, Put, Target, TargetList, Values};
+use dots_lists::Bytes;
+use ip_scope::{Family, Prefix};
+
+/// How many entries an access list has at most.
+const MAX_ACES: u8 = 32;
+
+/// How many targets a mitigation has at most, and how many prefixes they have together.
+const MAX_TARGETS: u8 = 9;
+
+const MAX_RESOLVED: u8 = 64;
+
+/// The greatest length of a reply, in bytes.
+const MAX_REPLY: u8 = 64;
+
+/// How many names of aliases a request has at most.
+const MAX_ALIASES: u8 = 8;
+
+impl Reader<'_> {
+    /// A prefix that may be there.
+    #[tactic(auto, unfolding(crate::specs::Reading::optional_at))]
+    fn optional_prefix(&mut self) -> Result<Option<Prefix>, EntryFault>
+        ensures value { Gives (λ x. (x, self.new.rest.now)) result (optional_at prefix_at self.old.end self.old.rest.now) }
+        ensures end { OnOk result (self.new.end ≡ self.old.end) }
+    {
+        if self.within(0, 1)? == 0 {
+            return Ok(None);
+        }
+        Ok(Some(self.prefix()?))
+    }
+
+    /// A protocol number that may be there.
+    #[tactic(auto, unfolding(crate::specs::Reading::optional_at))]
+    fn optional_protocol(&mut self) -> Result<Option<u8>, EntryFault>
+        ensures value { Gives (λ x. (x, self.new.rest.now)) result (optional_at (within_at 0 255) self.old.end self.old.rest.now) }
+        ensures end { OnOk result (self.new.end ≡ self.old.end) }
+    {
+        if self.within(0, 1)? == 0 {
+            return Ok(None);
+        }
+        Ok(Some(self.within(0, u8::MAX)?))
+    }
+
+    /// What an entry asks of a packet beside its addresses, and whether such a packet is accepted.
+    fn conditions(&mut self) -> Result<(Option<u8>, PortTest, PortTest, bool), EntryFault>
+        ensures value { Gives (λ x. ((x.0, (x.1, (x.2, x.3))), self.new.rest.now)) result (conditions_at self.old.end self.old.rest.now) }
+        ensures end { OnOk result (self.new.end ≡ self.old.end) }
+    {
+        Ok((
+            self.optional_protocol()?,
+            self.port_test()?,
+            self.port_test()?,
+            self.flag()?,
+        ))
+    }
+
+    #[tactic(auto, unfolding(crate::specs::Reading::ace_at))]
+    fn ace(&mut self) -> Result<Ace, EntryFault>
+        ensures value { Gives (λ x. (x, self.new.rest.now)) result (ace_at self.old.end self.old.rest.now) }
+        ensures end { OnOk result (self.new.end ≡ self.old.end) }
+    {
+        let name = self.name()?;
+        let source = self.optional_prefix()?;
+        let destination = self.optional_prefix()?;
+        let (protocol, source_port, destination_port, accept) = self.conditions()?;
+        Ok(Ace {
+            name,
+            source,
+            destination,
+            protocol,
+            source_port,
+            destination_port,
+            accept,
+        })
+    }
+
+    /// So many entries of an access list.
+    fn aces_of(&mut self, count: u8) -> Result<AceList, EntryFault>
+        ensures value { Gives (λ x. (x, self.new.rest.now)) result (items_at ace_at count self.old.end self.old.rest.now) }
+        ensures end { OnOk result (self.new.end ≡ self.old.end) }
+    {
+        let mut aces = AceList::new(self.alloc);
+        for _ in 0..count {
+            let ace = self.ace()?;
+            aces.push(ace)?;
+        }
+        Ok(aces)
+    }
+
+    #[tactic(auto, unfolding(crate::specs::Reading::list_at))]
+    fn aces(&mut self) -> Result<AceList, EntryFault>
+        ensures value { Gives (λ x. (x, self.new.rest.now)) result (list_at 32 ace_at self.old.end self.old.rest.now) }
+        ensures end { OnOk result (self.new.end ≡ self.old.end) }
+    {
+        let count = self.within(0, MAX_ACES)?;
+        self.aces_of(count)
+    }
+
+    fn family(&mut self) -> Result<Family, EntryFault>
+        ensures value { Gives (λ x. (x, self.new.rest.now)) result (family_at self.old.end self.old.rest.now) }
+        ensures end { OnOk result (self.new.end ≡ self.old.end) }
+    {
+        match self.within(0, 1)? {
+            0 => Ok(Family::V4),
+            _ => Ok(Family::V6),
+        }
+    }
+
+    fn activation(&mut self) -> Result<Activation, EntryFault>
+        ensures value { Gives (λ x. (x, self.new.rest.now)) result (activation_at self.old.end self.old.rest.now) }
+        ensures end { OnOk result (self.new.end ≡ self.old.end) }
+    {
+        match self.within(0, 2)? {
+            0 => Ok(Activation::WhenMitigating),
+            1 => Ok(Activation::Immediate),
+            _ => Ok(Activation::Deactivate),
+        }
+    }
+
+    #[tactic(auto, unfolding(crate::specs::Reading::acl_at))]
+    fn acl(&mut self) -> Result<Acl, EntryFault>
+        ensures value { Gives (λ x. (x, self.new.rest.now)) result (acl_at self.old.end self.old.rest.now) }
+        ensures end { OnOk result (self.new.end ≡ self.old.end) }
+    {
+        Ok(Acl {
+            name: self.name()?,
+            family: self.family()?,
+            activation: self.activation()?,
+            aces: self.aces()?,
+        })
+    }
+
+    /// A target with at most so many prefixes.
+    #[tactic(auto, unfolding(crate::specs::Reading::target_at))]
+    fn target(&mut self, room: u8) -> Result<Target, EntryFault>
+        ensures value { Gives (λ x. (x, self.new.rest.now)) result (target_at room self.old.end self.old.rest.now) }
+        ensures end { OnOk result (self.new.end ≡ self.old.end) }
+        ensures few { IfOk result (λ x. length x.prefixes ≤ room) }
+    {
+        Ok(Target {
+            prefixes: self.prefixes(room)?,
+            ports: self.ranges()?,
+            protocols: self.counted(MAX_ITEMS)?,
+        })
+    }
+
+    #[tactic(auto, unfolding(crate::specs::Reading::values_at))]
+    fn values(&mut self) -> Result<Values, EntryFault>
+        ensures value { Gives (λ x. (x, self.new.rest.now)) result (values_at self.old.end self.old.rest.now) }
+        ensures end { OnOk result (self.new.end ≡ self.old.end) }
+    {
+        Ok(Values {
+            interval: u64::from(self.u32()?),
+            missing: u64::from(self.u32()?),
+            retransmit: u64::from(self.u32()?),
+            timeout: u64::from(self.u32()?),
+            factor: u64::from(self.u32()?),
+            rate: u64::from(self.u32()?),
+        })
+    }
+
+    #[tactic(auto, unfolding(crate::specs::Reading::config_at))]
+    fn config(&mut self) -> Result<Config, EntryFault>
+        ensures value { Gives (λ x. (x, self.new.rest.now)) result (config_at self.old.end self.old.rest.now) }
+        ensures end { OnOk result (self.new.end ≡ self.old.end) }
+    {
+        Ok(Config {
+            mitigating: self.values()?,
+            idle: self.values()?,
+        })
+    }
+
+    /// The key of a message without a Message ID, in whose place zeros stand.
+    fn http_key(&mut self) -> Result<MessageKey, EntryFault>
+        ensures value { Gives (λ x. (x, self.new.rest.now)) result (id_at 0 self.old.end self.old.rest.now) }
+        ensures end { OnOk result (self.new.end ≡ self.old.end) }
+    {
+        self.within(0, 0)?;
+        self.within(0, 0)?;
+        Ok(MessageKey::Http)
+    }
+
+    /// What a key of this number says of the message.
+    fn id(&mut self, number: u8) -> Result<MessageKey, EntryFault>
+        requires { number ≤ 2 }
+        ensures value { Gives (λ x. (x, self.new.rest.now)) result (id_at number self.old.end self.old.rest.now) }
+        ensures end { OnOk result (self.new.end ≡ self.old.end) }
+    {
+        match number {
+            0 => self.http_key(),
+            1 => Ok(MessageKey::Non(self.u16()?)),
+            _ => Ok(MessageKey::Con(self.u16()?)),
+        }
+    }
+
+    #[tactic(auto, unfolding(crate::specs::Reading::key_at))]
+    fn key(&mut self) -> Result<MessageKey, EntryFault>
+        ensures value { Gives (λ x. (x, self.new.rest.now)) result (key_at self.old.end self.old.rest.now) }
+        ensures end { OnOk result (self.new.end ≡ self.old.end) }
+    {
+        let number = self.within(0, 2)?;
+        self.id(number)
+    }
+
+    #[tactic(auto, unfolding(crate::specs::Reading::reply_at))]
+    fn reply(&mut self) -> Result<Bytes, EntryFault>
+        ensures value { Gives (λ x. (x, self.new.rest.now)) result (reply_at self.old.end self.old.rest.now) }
+        ensures end { OnOk result (self.new.end ≡ self.old.end) }
+    {
+        self.within(0, 0)?;
+        self.counted(MAX_REPLY)
+    }
+
+    /// So many targets, with at most so many prefixes together.
+    fn targets_of(&mut self, count: u8) -> Result<TargetList, EntryFault>
+        ensures value { Gives (λ x. (x, self.new.rest.now)) result (targets_at count 64 self.old.end self.old.rest.now) }
+        ensures end { OnOk result (self.new.end ≡ self.old.end) }
+    {
+        let mut targets = TargetList::new(self.alloc);
+        let mut room = MAX_RESOLVED;
+        for _ in 0..count {
+            let target = self.target(room)?;
+            room -= target.prefixes.items().len() as u8;
+            targets.push(target)?;
+        }
+        Ok(targets)
+    }
+
+    #[tactic(auto, unfolding(crate::specs::Reading::all_targets_at))]
+    fn targets(&mut self) -> Result<TargetList, EntryFault>
+        ensures value { Gives (λ x. (x, self.new.rest.now)) result (all_targets_at self.old.end self.old.rest.now) }
+        ensures end { OnOk result (self.new.end ≡ self.old.end) }
+    {
+        let count = self.within(0, MAX_TARGETS)?;
+        self.targets_of(count)
+    }
+
+    fn granted(&mut self) -> Result<i32, EntryFault>
+        ensures value { Gives (λ x. (x, self.new.rest.now)) result (granted_at self.old.end self.old.rest.now) }
+        ensures end { OnOk result (self.new.end ≡ self.old.end) }
+    {
+        Ok(self.u32()?.cast_signed())
+    }
+
+    #[tactic(auto, unfolding(crate::specs::Reading::put_at))]
+    fn put(&mut self) -> Result<Put, EntryFault>
+        ensures value { Gives (λ x. (x, self.new.rest.now)) result (put_at self.old.end self.old.rest.now) }
+        ensures end { OnOk result (self.new.end ≡ self.old.end) }
+    {
+        Ok(Put {
+            mid: self.u32()?,
+            asked: self.asked(MAX_ALIASES)?,
+            targets: self.targets()?,
+            granted: self.granted()?,
+            start: self.u64()?,
+        })
+    }
+
+    #[tactic(auto, unfolding(crate::specs::Reading::fields_at))]
+    fn set_config(&mut self) -> Result<Change, EntryFault>
+        ensures value { Gives (λ x. (x, self.new.rest.now)) result (fields_at 9 self.old.end self.old.rest.now) }
+        ensures end { OnOk result (self.new.end ≡ self.old.end) }
+    {
+        let sid = self.u32()?;
+        let config = self.config()?;
+        Ok(Change::SetConfig { sid, config })
+    }
+
+    /// The fields of a change of this number.
+    #[tactic(auto, unfolding(crate::specs::Reading::fields_at))]
+    fn fields(&mut self, number: u8) -> Result<Change, EntryFault>
+        requires least { 1 ≤ number }
+        requires most { number ≤ 10 }
+        ensures value { Gives (λ x. (x, self.new.rest.now)) result (fields_at number self.old.end self.old.rest.now) }
+        ensures end { OnOk result (self.new.end ≡ self.old.end) }
+    {
+        match number {
+            1 => Ok(Change::Put(self.put()?)),
+            2 => Ok(Change::Withdraw { mid: self.u32()? }),
+            3 => Ok(Change::SetAlias(self.alias()?)),
+            4 => Ok(Change::DropAlias { name: self.name()? }),
+            5 => Ok(Change::SetAcl(self.acl()?)),
+            6 => Ok(Change::DropAcl { name: self.name()? }),
+            7 => Ok(Change::Register),
+            8 => Ok(Change::Deregister),
+            9 => self.set_config(),
+            _ => Ok(Change::ClearConfig),
+        }
+    }
+
+    #[tactic(auto, unfolding(crate::specs::Reading::change_at))]
+    fn change(&mut self) -> Result<Change, EntryFault>
+        ensures value { Gives (λ x. (x, self.new.rest.now)) result (change_at self.old.end self.old.rest.now) }
+        ensures end { OnOk result (self.new.end ≡ self.old.end) }
+    {
+        let number = self.within(1, 10)?;
+        self.fields(number)
+    }
+
+    /// The message of an entry, the reply that it got, and the change.
+    fn outcome(&mut self) -> Result<(MessageKey, Bytes, Change), EntryFault>
+        ensures value { Gives (λ x. ((x.0, (x.1, x.2)), self.new.rest.now)) result (outcome_at self.old.end self.old.rest.now) }
+        ensures end { OnOk result (self.new.end ≡ self.old.end) }
+    {
+        Ok((self.key()?, self.reply()?, self.change()?))
+    }
+
+    #[tactic(auto, unfolding(crate::specs::Reading::entry_at))]
+    pub(crate) fn entry(&mut self) -> Result<Entry, EntryFault>
+        ensures value { Gives (λ x. (x, self.new.rest.now)) result (entry_at self.old.end self.old.rest.now) }
+        ensures end { OnOk result (self.new.end ≡ self.old.end) }
+    {
+        let time = self.time()?;
+        let peer = self.u32()?;
+        let domain = self.u16()?;
+        let cuid = self.cuid()?;
+        let (key, reply, change) = self.outcome()?;
+        Ok(Entry {
+            time,
+            peer,
+            domain,
+            cuid,
+            key,
+            reply,
+            change,
+        })
+    }
+}
