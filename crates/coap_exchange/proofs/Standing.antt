@@ -279,20 +279,20 @@ pub step_has : (n : ℕ) (rings : List RingValue) (notes : ℕ → ℕ → List 
     → AllHave n (after_call rings call) (λ peer domain. noted_by peer domain (notes peer domain) call)
 step_has n rings notes (Note other number message) all peer domain r there =
     elim (cases_Bool (is_same peer domain other number)) [
-      inl same ↦
-        let parts = and_parts (other == peer) (number == domain) same in
-        let one : other ≡ peer = eqb-true other peer parts.0 in
-        let two : number ≡ domain = eqb-true number domain parts.1 in
-        let after = sym (ring_same peer domain message rings)
-            ∙ sym (ap (λ d. ring_of peer domain (noted peer d message rings)) two)
-            ∙ sym (ap (λ p. ring_of peer domain (noted p number message rings)) one)
-            ∙ there
-        in
-        let old = image_of (grown message) (ring_of peer domain rings) r after in
-        subst (HasLasts n (noted_by peer domain (notes peer domain) (Note other number message))) old.image
-        (more old.x (all peer domain old.x old.there) same)
-    | inr apart ↦
-        fewer r (all peer domain r (sym (ring_other peer domain other number message rings apart) ∙ there)) apart
+      | inl same ↦
+          let parts = and_parts (other == peer) (number == domain) same in
+          let one : other ≡ peer = eqb-true other peer parts.0 in
+          let two : number ≡ domain = eqb-true number domain parts.1 in
+          let after = sym (ring_same peer domain message rings)
+          ∙ sym (ap (λ d. ring_of peer domain (noted peer d message rings)) two)
+          ∙ sym (ap (λ p. ring_of peer domain (noted p number message rings)) one)
+          ∙ there
+          in
+          let old = image_of (grown message) (ring_of peer domain rings) r after in
+          subst (HasLasts n (noted_by peer domain (notes peer domain) (Note other number message))) old.image
+          (more old.x (all peer domain old.x old.there) same)
+      | inr apart ↦
+          fewer r (all peer domain r (sym (ring_other peer domain other number message rings apart) ∙ there)) apart
     ]
   where
     more : (x : RingValue) → HasLasts n (notes peer domain) x → is_same peer domain other number ≡ true
@@ -305,6 +305,7 @@ step_has n rings notes (Note other number message) all peer domain r there =
           ∙ pushed_lasts n message (notes peer domain)
           ∙ ap (lasts n) (sym (cond-true (is_same peer domain other number) (notes peer domain ++ message ∷ []) (notes peer domain) is));
     }
+
     fewer : (x : RingValue) → HasLasts n (notes peer domain) x → is_same peer domain other number ≡ false
         → HasLasts n (noted_by peer domain (notes peer domain) (Note other number message)) x
     fewer x has out = record {

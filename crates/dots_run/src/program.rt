@@ -33,7 +33,13 @@ pub struct Finished<F, I, O, R> {
 /// Does all that the program does with the words of its command line, without its name: `opening` opens the file of the settings, the script is
 /// read from `input`, its sends are written to `sends`, and what is reported to `report`. A file that can't be opened, where `opening` gives
 /// None, fails when it is read. Status 4 where no memory was found for the words, or is found for the host.
-pub fn run_program<F: Read + Drop, I: Read + Drop, O: Write + Drop, R: Write + Drop, Open: FnOnce(&str) -> Option<F> + Drop>(
+pub fn run_program<
+    F: Read + Drop,
+    I: Read + Drop,
+    O: Write + Drop,
+    R: Write + Drop,
+    Open: FnOnce(&str) -> Option<F> + Drop,
+>(
     alloc: Global,
     words: &Result<Vec<String>, NoMemory>,
     opening: Open,
@@ -46,15 +52,18 @@ pub fn run_program<F: Read + Drop, I: Read + Drop, O: Write + Drop, R: Write + D
     ensures lacks { OnErr words.now (result.status ≡ 4) }
     ensures ran { IfOk words.now (λ list. (file : Option F) × IsOpened (FnOnceReturnsAt Open.FnOnce opening) (map string_bytes list.items) file
         × MatchOption result.host ((result.status ≡ 4) × (⟦<StdSource<F> as Source>⟧.left result.settings ≡ option_and_then F.remaining file) × (⟦<StdSink<R> as Sink>⟧.holds result.report ≡ R.contents report))
-            (λ host. Runs (map string_bytes list.items) result.status
-                (record { left = option_and_then F.remaining file; source_faults = 0; acts = Some []; wire_faults = 0; held = R.contents report; report_faults = 0 })
-                (record {
-                  left = ⟦<StdSource<F> as Source>⟧.left result.settings; source_faults = ⟦<StdSource<F> as Source>⟧.faults result.settings;
-                  acts = told host.whole host.acts; wire_faults = host.faults;
-                  held = ⟦<StdSink<R> as Sink>⟧.holds result.report; report_faults = ⟦<StdSink<R> as Sink>⟧.faults result.report;
-                })
-                (record { script = I.remaining input; held = O.contents sends; failures = 0 })
-                (standing ⟦<StdSource<I> as Source>⟧.left ⟦<StdSource<I> as Source>⟧.faults ⟦<StdSink<O> as Sink>⟧.holds host) host.whole)) }
+        (λ host. Runs (map string_bytes list.items) result.status
+        (record { left = option_and_then F.remaining file; source_faults = 0; acts = Some []; wire_faults = 0; held = R.contents report; report_faults = 0 })
+        (record {
+          left = ⟦<StdSource<F> as Source>⟧.left result.settings;
+          source_faults = ⟦<StdSource<F> as Source>⟧.faults result.settings;
+          acts = told host.whole host.acts;
+          wire_faults = host.faults;
+          held = ⟦<StdSink<R> as Sink>⟧.holds result.report;
+          report_faults = ⟦<StdSink<R> as Sink>⟧.faults result.report;
+        })
+        (record { script = I.remaining input; held = O.contents sends; failures = 0 })
+        (standing ⟦<StdSource<I> as Source>⟧.left ⟦<StdSource<I> as Source>⟧.faults ⟦<StdSink<O> as Sink>⟧.holds host) host.whole)) }
 {
     let mut report = StdSink::new(report);
     let words = match words {

@@ -33,9 +33,10 @@ byte_of (suc j) n = ap (λ (p : ℕ). n / p % 256) (pow_256 (suc j))
 
 -- the digits of a number in two parts
 split_digits : (p x y a b : ℕ) → x < p → y < p → a * p + x ≡ b * p + y → (a ≡ b) × (x ≡ y)
-split_digits p x y a b lx ly same =
-    (sym (div-mul-add a p x lx) ∙ ap (λ (n : ℕ). n / p) same ∙ div-mul-add b p y ly,
-     sym (mod-mul-add a p x lx) ∙ ap (λ (n : ℕ). n % p) same ∙ mod-mul-add b p y ly)
+split_digits p x y a b lx ly same = (
+  sym (div-mul-add a p x lx) ∙ ap (λ (n : ℕ). n / p) same ∙ div-mul-add b p y ly,
+  sym (mod-mul-add a p x lx) ∙ ap (λ (n : ℕ). n % p) same ∙ mod-mul-add b p y ly,
+)
 
 pub same_low : (j n m : ℕ) → n % 2 ^ (8 * j) ≡ m % 2 ^ (8 * j) → bytes_high_first j n ≡ bytes_high_first j m
 same_low zero n m same = refl
@@ -44,7 +45,7 @@ same_low (suc j) n m same =
     let more : 8 * suc j ≡ 8 + 8 * j = omega arith in
     let both : n % 2 ^ (8 + 8 * j) ≡ m % 2 ^ (8 + 8 * j) = subst (λ (e : ℕ). n % 2 ^ e ≡ m % 2 ^ e) more same in
     let parts = split_digits (2 ^ (8 * j)) (n % 2 ^ (8 * j)) (m % 2 ^ (8 * j)) (n / 2 ^ (8 * j) % 2 ^ 8) (m / 2 ^ (8 * j) % 2 ^ 8) (mod-lt n p) (mod-lt m p)
-        (sym (mod-pow-add n 8 (8 * j)) ∙ both ∙ mod-pow-add m 8 (8 * j)) in
+    (sym (mod-pow-add n 8 (8 * j)) ∙ both ∙ mod-pow-add m 8 (8 * j)) in
     let head : int.byte_at j n ≡ int.byte_at j m = byte_of j n ∙ parts.0 ∙ sym (byte_of j m) in
     let tail = same_low j n m parts.1 in
     λ i. head i ∷ tail i
@@ -162,10 +163,11 @@ halves_of k leading n is =
     let more : 8 * suc k ≡ 8 * k + 8 = omega arith in
     let all : 2 ^ (8 * suc k) ≡ 256 * w = rw more (pow-add 2 (8 * k) 8 ∙ omega arith) in
     let split = split_from k leading n is.zeros in
-    let small : n / w < 256 = div_below n w 256 some (omega (arith, all, is.fits)) in
-    ((n / w, n % w),
-     ((zero_leads leading (n / w) split.0, omega (arith, small)), record { fits = mod-lt n some; zeros = split.1 }),
-     shift_is k (n / w, n % w) ∙ omega arith)
+    let small : n / w < 256 = div_below n w 256 some (omega (arith, all, is.fits)) in (
+      (n / w, n % w),
+      ((zero_leads leading (n / w) split.0, omega (arith, small)), record { fits = mod-lt n some; zeros = split.1 }),
+      shift_is k (n / w, n % w) ∙ omega arith,
+    )
 
 pub address_reader : (k leading : ℕ) → IsReader (IsAddress k leading) (bytes_high_first k) (address_at k leading)
 unfolding address_at
@@ -178,8 +180,8 @@ address_reader (suc k) leading =
     (IsAddress (suc k) leading) (bytes_high_first (suc k)) (shifted k)
     (joins k leading) (halves_of k leading)
     (pair_reader (λ b. (leads leading b ≡ true) × IsByte b) byte (byte_at (leads leading)) (λ _. IsAddress k (leading - 8)) (λ _. bytes_high_first k) (λ _. address_at k (leading - 8))
-        (byte_reader (leads leading) 0 (zero_leads leading 0 (zero_mod 0 _ refl (pow_pos (8 - min leading 8)))) (omega arith))
-        (λ b holds. address_reader k (leading - 8)))
+    (byte_reader (leads leading) 0 (zero_leads leading 0 (zero_mod 0 _ refl (pow_pos (8 - min leading 8)))) (omega arith))
+    (λ b holds. address_reader k (leading - 8)))
 
 -- ---- one byte more
 
@@ -205,15 +207,15 @@ zeros_here number b h few none =
 pub zeros_more : (c leading number b : ℕ) → number % 2 ^ (8 * c - leading) ≡ 0 → b % 2 ^ (8 - min (leading - 8 * c) 8) ≡ 0 → b < 256 → (number * 256 + b) % 2 ^ (8 * (c + 1) - leading) ≡ 0
 zeros_more c leading number b none first small =
     elim (cases_lt leading (8 * c + 1)) as (λ _. (number * 256 + b) % 2 ^ (8 * (c + 1) - leading) ≡ 0) [
-      inl past ↦
-        let e : 8 - min (leading - 8 * c) 8 ≡ 8 = omega arith in
-        let last : b % 2 ^ 8 ≡ 0 = subst (λ (h : ℕ). b % 2 ^ h ≡ 0) e first in
-        zeros_past c leading number b (omega arith) none (omega (arith, last))
-    | inr behind ↦ elim (cases_lt leading (8 * c + 8)) as (λ _. (number * 256 + b) % 2 ^ (8 * (c + 1) - leading) ≡ 0) [
-        inl here ↦
-          let e : 8 - min (leading - 8 * c) 8 ≡ 8 * (c + 1) - leading = omega arith in
-          zeros_here number b (8 * (c + 1) - leading) (omega arith) (subst (λ (h : ℕ). b % 2 ^ h ≡ 0) e first)
-      | inr far ↦ zeros_far c leading number b far
+      | inl past ↦
+          let e : 8 - min (leading - 8 * c) 8 ≡ 8 = omega arith in
+          let last : b % 2 ^ 8 ≡ 0 = subst (λ (h : ℕ). b % 2 ^ h ≡ 0) e first in
+          zeros_past c leading number b (omega arith) none (omega (arith, last))
+      | inr behind ↦ elim (cases_lt leading (8 * c + 8)) as (λ _. (number * 256 + b) % 2 ^ (8 * (c + 1) - leading) ≡ 0) [
+        | inl here ↦
+            let e : 8 - min (leading - 8 * c) 8 ≡ 8 * (c + 1) - leading = omega arith in
+            zeros_here number b (8 * (c + 1) - leading) (omega arith) (subst (λ (h : ℕ). b % 2 ^ h ≡ 0) e first)
+        | inr far ↦ zeros_far c leading number b far
       ]
     ]
 

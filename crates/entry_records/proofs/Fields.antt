@@ -202,7 +202,7 @@ list_reader most valid layout read small reader =
     (λ p holds. ((subst (λ (n : ℕ). n ≤ most) (sym holds.1.0) (between_most 0 most p.0 holds.0.0), holds.1.1), ap (λ (n : ℕ). n ∷ flat_map layout p.1) holds.1.0))
     (λ xs holds. ((length xs, xs), ((is_between 0 most (length xs) (omega arith) holds.0, omega (arith, holds.0)), (refl, holds.1)), refl))
     (pair_reader (IsWithin 0 most) byte (within_at 0 most) (AreItems valid) (λ _. flat_map layout) (items_at read)
-        (within_reader 0 most (omega arith) small) (λ n holds. items_reader valid layout read reader n))
+    (within_reader 0 most (omega arith) small) (λ n holds. items_reader valid layout read reader n))
 
 pub counted_reader : (most : ℕ) → most < 256 → IsReader (AtMost most IsByte) counted (counted_at most)
 unfolding counted_at
@@ -212,4 +212,4 @@ counted_reader most small =
     (λ p holds. ((subst (λ (n : ℕ). n ≤ most) (sym holds.1.0) (between_most 0 most p.0 holds.0.0), holds.1.1), ap (λ (n : ℕ). n ∷ p.1) holds.1.0))
     (λ xs holds. ((length xs, xs), ((is_between 0 most (length xs) (omega arith) holds.0, omega (arith, holds.0)), (refl, holds.1)), refl))
     (pair_reader (IsWithin 0 most) byte (within_at 0 most) AreSoMany (λ _ xs. xs) bytes_at
-        (within_reader 0 most (omega arith) small) (λ n holds. bytes_reader n))
+    (within_reader 0 most (omega arith) small) (λ n holds. bytes_reader n))

@@ -70,17 +70,17 @@ unfolding byte_at
 byte_reader test w passes small = record {
   whole = λ end b rest holds. rw holds.0 refl;
   sound = λ end bytes fits. elim bytes as (λ bs. AreBytes bs → Sound (λ a. (test a ≡ true) × IsByte a) byte (byte_at test) end bs (byte_at test end bs)) [
-      [] ↦ λ fits. record {
-        passed = [];
-        left = [];
-        more = w ∷ [];
-        value = w;
-        is = refl;
-        place = omega arith;
-        holds = (passes, small);
-        goes_on = refl;
-        blocked = λ b l other e same. no_head b l same;
-      }
+    | [] ↦ λ fits. record {
+      passed = [];
+      left = [];
+      more = w ∷ [];
+      value = w;
+      is = refl;
+      place = omega arith;
+      holds = (passes, small);
+      goes_on = refl;
+      blocked = λ b l other e same. no_head b l same;
+    }
     | b ∷ bytes ↦ λ fits. byte_sound test end b bytes (test b) refl fits.0 w passes small
   ] fits;
 }
@@ -115,8 +115,8 @@ pub made_reader : {A B : Type 0} (vA : A → Type 0) (lA : A → List ℕ) (rA :
     → IsReader vA lA rA → IsReader vB lB (made_at make rA)
 made_reader vA lA rA vB lB make to from reader = record {
   whole = λ end b rest holds.
-    let f = from b holds in
-    made_whole vA lA rA lB make reader end b rest f.0 f.1 (ap lB (sym f.2) ∙ (to f.0 f.1).1) f.2;
+      let f = from b holds in
+      made_whole vA lA rA lB make reader end b rest f.0 f.1 (ap lB (sym f.2) ∙ (to f.0 f.1).1) f.2;
   sound = λ end bytes fits. made_sound vA lA rA vB lB make to end bytes (rA end bytes) (reader.sound end bytes fits);
 }
 
@@ -140,9 +140,9 @@ pair_next vA lA rA vB lB rB first a va end bytes rest is (Err at) s = record {
   holds = (va, s.holds);
   goes_on = ap (λ (l : List ℕ). lA a ++ l) s.goes_on ∙ joined (lA a) s.passed s.more;
   blocked = λ b l other e same.
-    ap (pair_at rA rB e) (append_assoc (lA a) s.passed (b ∷ other))
-    ∙ ap (λ r. r >>= λ x. rB x.0 e x.1 >>= λ y. Ok ((x.0, y.0), y.1)) (first.whole e a (s.passed ++ (b ∷ other)) va)
-    ∙ ap (λ r. r >>= λ y. Ok ((a, y.0), y.1)) (s.blocked b l other e same);
+      ap (pair_at rA rB e) (append_assoc (lA a) s.passed (b ∷ other))
+      ∙ ap (λ r. r >>= λ x. rB x.0 e x.1 >>= λ y. Ok ((x.0, y.0), y.1)) (first.whole e a (s.passed ++ (b ∷ other)) va)
+      ∙ ap (λ r. r >>= λ y. Ok ((a, y.0), y.1)) (s.blocked b l other e same);
 }
 
 pair_sound : {A B : Type 0} (vA : A → Type 0) (lA : A → List ℕ) (rA : ℕ → List ℕ → Read A) (vB : A → B → Type 0) (lB : A → B → List ℕ) (rB : A → ℕ → List ℕ → Read B)
@@ -150,7 +150,7 @@ pair_sound : {A B : Type 0} (vA : A → Type 0) (lA : A → List ℕ) (rA : ℕ 
     → Sound (λ p. vA p.0 × vB p.0 p.1) (λ p. lA p.0 ++ lB p.0 p.1) (pair_at rA rB) end bytes (r >>= λ x. rB x.0 end x.1 >>= λ y. Ok ((x.0, y.0), y.1))
 pair_sound vA lA rA vB lB rB first next end bytes fits (Ok x) s =
     pair_next vA lA rA vB lB rB first x.0 s.0 end bytes x.1 s.1 (rB x.0 end x.1)
-        ((next x.0 s.0).sound end x.1 (behind_bytes (lA x.0) x.1 (subst AreBytes s.1 fits)))
+    ((next x.0 s.0).sound end x.1 (behind_bytes (lA x.0) x.1 (subst AreBytes s.1 fits)))
 pair_sound vA lA rA vB lB rB first next end bytes fits (Err at) s =
     let other = some_value (vB s.value) (lB s.value) (rB s.value) (next s.value s.holds) in
     record {
@@ -170,8 +170,8 @@ pub pair_reader : {A B : Type 0} (vA : A → Type 0) (lA : A → List ℕ) (rA :
     → IsReader (λ p. vA p.0 × vB p.0 p.1) (λ p. lA p.0 ++ lB p.0 p.1) (pair_at rA rB)
 pair_reader vA lA rA vB lB rB first next = record {
   whole = λ end p rest holds.
-    ap (pair_at rA rB end) (append_assoc (lA p.0) (lB p.0 p.1) rest)
-    ∙ ap (λ r. r >>= λ x. rB x.0 end x.1 >>= λ y. Ok ((x.0, y.0), y.1)) (first.whole end p.0 (lB p.0 p.1 ++ rest) holds.0)
-    ∙ ap (λ r. r >>= λ y. Ok ((p.0, y.0), y.1)) ((next p.0 holds.0).whole end p.1 rest holds.1);
+      ap (pair_at rA rB end) (append_assoc (lA p.0) (lB p.0 p.1) rest)
+      ∙ ap (λ r. r >>= λ x. rB x.0 end x.1 >>= λ y. Ok ((x.0, y.0), y.1)) (first.whole end p.0 (lB p.0 p.1 ++ rest) holds.0)
+      ∙ ap (λ r. r >>= λ y. Ok ((p.0, y.0), y.1)) ((next p.0 holds.0).whole end p.1 rest holds.1);
   sound = λ end bytes fits. pair_sound vA lA rA vB lB rB first next end bytes fits (rA end bytes) (first.sound end bytes fits);
 }

@@ -120,9 +120,7 @@ impl<'a> Reader<'a> {
         self.within(0, 0)?;
         self.within(0, 0)?;
         let low = self.split(6)?;
-        Ok(u64::from_be_bytes([
-            0, 0, low[0], low[1], low[2], low[3], low[4], low[5],
-        ]))
+        Ok(u64::from_be_bytes([0, 0, low[0], low[1], low[2], low[3], low[4], low[5]]))
     }
 
     pub(crate) fn flag(&mut self) -> Result<bool, EntryFault>

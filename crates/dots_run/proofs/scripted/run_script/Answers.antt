@@ -51,11 +51,11 @@ returns-in-Ok-clause-runs g c =
     record {
       machine = (ending, status_is, did);
       texts = λ whole.
-        let accounts = known start (standing left faults holds host) host.whole host.acts whole (c.run-status.ensures.leads start c.in-Ok.ensures.accounts) in (
-          ending,
-          status_is,
-          joins words _ after (wire_acts 0 host.acts) refl (told_whole host.whole host.acts whole) start (standing left faults holds host) accounts ending did
-              (λ none. ap (standing left faults holds) (uncalled none ∙ first) ∙ stands_at_first (left c.args.script) (holds c.args.sends) (faults c.args.script)),
-        );
+          let accounts = known start (standing left faults holds host) host.whole host.acts whole (c.run-status.ensures.leads start c.in-Ok.ensures.accounts) in (
+            ending,
+            status_is,
+            joins words _ after (wire_acts 0 host.acts) refl (told_whole host.whole host.acts whole) start (standing left faults holds host) accounts ending did
+                (λ none. ap (standing left faults holds) (uncalled none ∙ first) ∙ stands_at_first (left c.args.script) (holds c.args.sends) (faults c.args.script)),
+          );
       outcome = subst (λ h. Outcome words status (before h) after) first outcome;
     }

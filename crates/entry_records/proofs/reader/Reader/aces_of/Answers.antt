@@ -12,7 +12,7 @@ returns-in_err-ace-clause-value c =
 pub loop-preserved : goal.loop-preserved
 loop-preserved c =
     let go = items_go ace_at (c.args.count - c.loop.counter) (c.args.count - (c.loop.counter + 1)) c.loop.self.end c.loop.aces c.in_ok-ace.ace c.loop.self.rest.now c.ace.new.self.rest.now _
-        (omega (arith, c.loop-test.true)) c.in_ok-ace.ensures.value c.loop.invariant.read in
+    (omega (arith, c.loop-test.true)) c.in_ok-ace.ensures.value c.loop.invariant.read in
     record {
       read = rw (c.in_ok-ace.ensures.end, c.in_ok-push.ensures.ok) go;
       end = c.in_ok-ace.ensures.end ∙ c.loop.invariant.end;

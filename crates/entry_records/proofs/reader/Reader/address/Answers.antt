@@ -19,7 +19,7 @@ overflow_add-number c = omega (arith, fits_wide c.loop.number c.loop.counter c.f
 pub loop-preserved : goal.loop-preserved
 loop-preserved c =
     let go = address_go (c.args.count - c.loop.counter) (c.args.count - (c.loop.counter + 1)) c.loop.bits c.loop.self.end c.loop.number c.in_ok-byte.byte c.loop.self.rest.now c.leading.new.self.rest.now _
-        (omega (arith, c.loop-test.true)) c.in_ok-byte.ensures.value c.loop.invariant.read in
+    (omega (arith, c.loop-test.true)) c.in_ok-byte.ensures.value c.loop.invariant.read in
     record {
       read = rw (c.in_ok-byte.ensures.end, c.saturating_sub-bits.ensures, c.from.ensures) go;
       fits = fits_more c.loop.number c.loop.counter c.from.result c.loop.invariant.fits (omega (arith, c.from.ensures));

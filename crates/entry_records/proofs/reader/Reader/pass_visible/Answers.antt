@@ -14,7 +14,7 @@ pub loop-preserved : goal.loop-preserved
 loop-preserved c =
     let next = next_front c.loop.counter c.args.self.now.rest.now c.in_ok-visible.field-0 c.visible.new.self.rest.now (sym c.loop.invariant.rest ∙ c.in_ok-visible.ensures.front) in
     let go = items_go (byte_at is_ascii_graphic) (c.args.count - c.loop.counter) (c.args.count - (c.loop.counter + 1)) c.loop.self.end (take c.loop.counter c.args.self.now.rest.now) c.in_ok-visible.field-0 c.loop.self.rest.now c.visible.new.self.rest.now _
-        (omega (arith, c.loop-test.true)) c.in_ok-visible.ensures.value c.loop.invariant.read in
+    (omega (arith, c.loop-test.true)) c.in_ok-visible.ensures.value c.loop.invariant.read in
     let front : take (c.loop.counter + 1) c.args.self.now.rest.now ≡ take c.loop.counter c.args.self.now.rest.now ++ (c.in_ok-visible.field-0 ∷ []) = rw (add-one c.loop.counter) next.0 in
     record {
       read = rw (c.in_ok-visible.ensures.end, front) go;

@@ -12,7 +12,7 @@ returns-in_err-range-clause-value c =
 pub loop-preserved : goal.loop-preserved
 loop-preserved c =
     let go = items_go ports_at (c.args.count - c.loop.counter) (c.args.count - (c.loop.counter + 1)) c.loop.self.end c.loop.ranges c.in_ok-range.range c.loop.self.rest.now c.ports.new.self.rest.now _
-        (omega (arith, c.loop-test.true)) c.in_ok-range.ensures.value c.loop.invariant.read in
+    (omega (arith, c.loop-test.true)) c.in_ok-range.ensures.value c.loop.invariant.read in
     record {
       read = rw (c.in_ok-range.ensures.end, c.in_ok-push.ensures.ok) go;
       end = c.in_ok-range.ensures.end ∙ c.loop.invariant.end;

@@ -12,7 +12,7 @@ returns-in_err-target-clause-value c =
 pub loop-preserved : goal.loop-preserved
 loop-preserved c =
     let go = targets_go (c.args.count - c.loop.counter) (c.args.count - (c.loop.counter + 1)) c.loop.room c.loop.self.end c.loop.targets c.in_ok-target.target c.loop.self.rest.now c.target.new.self.rest.now _
-        (omega (arith, c.loop-test.true)) c.in_ok-target.ensures.value c.loop.invariant.read in
+    (omega (arith, c.loop-test.true)) c.in_ok-target.ensures.value c.loop.invariant.read in
     record {
       read = rw (c.in_ok-target.ensures.end, c.in_ok-push.ensures.ok, c.items.ensures) go;
       end = c.in_ok-target.ensures.end ∙ c.loop.invariant.end;
