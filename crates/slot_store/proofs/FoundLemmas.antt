@@ -12,8 +12,10 @@ found_record seen at room count len read fits = is_bytes_at seen (at + 3) len (t
   where
     whole : length room ≡ count
     whole = ap length read ∙ length_of_bytes_at seen at count
+
     size : length (take len (drop 3 room)) ≡ len
     size = let taken = length-take len (drop 3 room) in let dropped = length-drop 3 room in omega (arith, whole)
+
     byte : (offset : ℕ) → offset < len → get_or (take len (drop 3 room)) offset 0 ≡ seen (at + 3 + offset)
     byte offset under =
         let low : 3 + offset < count = omega arith in

@@ -12,7 +12,11 @@ use dots_host::Failed;
 
 /// Reads the slot at the place, and answers the length of its record, which stands in the room behind the gate and the
 /// two bytes of length, or None where it would be longer than a slot.
-pub fn read_slot<D: Disk>(disk: &mut D, at: u64, room: &mut [u8; SLOT]) -> Result<Option<usize>, Failed>
+pub fn read_slot<D: Disk>(
+    disk: &mut D,
+    at: u64,
+    room: &mut [u8; SLOT],
+) -> Result<Option<usize>, Failed>
     requires { at + 8192 ≤ D.extent disk.old }
     ensures record { IfOk result (λ found. (seen : ℕ → ℕ) → Sees (D.media disk.old) seen → IsFound seen at room.new found) }
     ensures keeps { KeepsMedia (D.media disk.old) (D.media disk.new) }
