@@ -1,3 +1,4 @@
 pub mod Plain
 pub mod Items
 pub mod Answering
+pub mod Encoding

@@ -3,6 +3,7 @@
 
 mod bodies;
 mod heads;
+pub mod laws;
 mod location;
 mod place;
 mod reading;
