@@ -1,2 +1,6 @@
-pub mod Rows
+pub mod Accepting
 pub mod Refusing
+pub mod Rows
+pub mod Spaced
+pub mod Ticking
+pub mod Turns

@@ -1,5 +1,5 @@
 -- The configuration that a client asks for (RFC 9132, section 4.5.2).
-use Rattle.std.specs.Prelude.{ℕ, Bool, nat_lt, if◌then◌else◌, List, [], ◌∷◌, ◌++◌, Option, Some, None, option_map, Result, Ok, Err, find}
+use Rattle.std.specs.Prelude.{◌≡◌, ℕ, Bool, true, nat_lt, if◌then◌else◌, List, [], ◌∷◌, ◌++◌, Option, Some, None, option_map, Result, Ok, Err, find}
 use Rattle.dots_history.specs.declared.config.Config.{Config}
 use Rattle.dots_history.specs.declared.config.Values.{Values}
 use Rattle.dots_keys.specs.declared.request.ConfigBody.{ConfigBody}
@@ -8,7 +8,7 @@ use Rattle.session_core.specs.declared.setting.Setting.{Setting}
 use Rattle.session_core.specs.declared.setting.Setting.TheVariants.{Interval, Missing, Retransmit, Timeout, Factor, Rate}
 use Rattle.session_core.specs.declared.negotiating.ConfigFault.{ConfigFault}
 use Rattle.session_core.specs.declared.negotiating.ConfigFault.TheVariants.{Range, OlderSid}
-use Rattle.session_core.specs.Ranges.{key_of, is_refused, chosen}
+use Rattle.session_core.specs.Ranges.{key_of, is_accepted, is_refused, chosen}
 
 -- the values of an offer, keys ascending
 abbrev pub given_by : Offer → List (Setting × Option ℕ)
@@ -69,3 +69,12 @@ answered (Some kept) body = Err (OlderSid kept)
 
 abbrev pub negotiated : Option ℕ → ℕ → ConfigBody → Result Config ConfigFault
 negotiated held sid body = answered (higher sid held) body
+
+-- each value is accepted
+pub record AreAccepted (values : Values) : Type 0 where
+  pub interval : is_accepted Interval values.interval ≡ true
+  pub missing : is_accepted Missing values.missing ≡ true
+  pub retransmit : is_accepted Retransmit values.retransmit ≡ true
+  pub timeout : is_accepted Timeout values.timeout ≡ true
+  pub factor : is_accepted Factor values.factor ≡ true
+  pub rate : is_accepted Rate values.rate ≡ true

@@ -1,5 +1,5 @@
 -- What a list of calls makes of the sessions.
-use Rattle.std.specs.Prelude.{◌≡◌, ℕ, ◌≤◌, ⊤, List, [], ◌∷◌}
+use Rattle.std.specs.Prelude.{◌≡◌, ℕ, ◌≤◌, List, [], ◌∷◌}
 use Rattle.dots_history.specs.Histories.{tally}
 use Rattle.session_core.specs.declared.contact.PeerContact.{PeerContact}
 use Rattle.session_core.specs.declared.contact.Beat.{Beat}
@@ -28,14 +28,19 @@ Run old (call ∷ calls) new = (mid : List PeerContact) × Leaves old call mid �
 -- no call is of an earlier time
 abbrev pub IsSince : ℕ → Call → Type 0
 IsSince time (Hears peer now) = time ≤ now
-IsSince time (Numbers peer) = ⊤
+IsSince time (Numbers peer) = Unit {0}
 IsSince time (Rests beats now) = time ≤ now
 IsSince time (Beats beats now beat) = time ≤ now
 
 abbrev pub AreSince : ℕ → List Call → Type 0
-AreSince time [] = ⊤
+AreSince time [] = Unit {0}
 AreSince time (call ∷ calls) = IsSince time call × AreSince time calls
 
 -- the peer has one row at most
 abbrev pub HasOne : ℕ → List PeerContact → Type 0
 HasOne peer rows = tally (is_of peer) rows ≤ 1
+
+-- heartbeats are asked for at one time until none is due, and these are the answers
+abbrev pub Tick : Beating → ℕ → List PeerContact → List Beat → List PeerContact → Type 0
+Tick beats now old [] new = NoneBeats beats now old new
+Tick beats now old (beat ∷ given) new = (mid : List PeerContact) × IsNextBeat beats now old mid beat × Tick beats now mid given new
