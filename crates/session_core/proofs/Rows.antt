@@ -1,5 +1,5 @@
 -- The row of a peer, and the rows that a heartbeat is looked for in.
-use Rattle.std.proofs.Common.{◌≡◌, ℕ, zero, suc, ◌+◌, ◌<◌, true, false, List, [], ◌∷◌, ◌++◌, length, map, take, drop, get_or, set, Some, None, refl, sym, ap, subst, ◌∙◌, add-one, arith}
+use Rattle.std.proofs.Common.{◌≡◌, ℕ, zero, suc, ◌+◌, ◌<◌, true, false, List, [], ◌∷◌, ◌++◌, length, map, take, drop, get_or, set, Option, Some, None, refl, sym, ap, subst, ◌∙◌, add-one, arith}
 use Rattle.std.specs.Prelude.{is_some, ◌||◌}
 use Rattle.std.specs.List.{list_any}
 use Rattle.std.proofs.lemmas.Bool.{cond-true}
@@ -10,7 +10,16 @@ use Rattle.std.proofs.lemmas.List.Folds.{list_any_more}
 use Rattle.session_core.specs.declared.contact.PeerContact.{PeerContact}
 use Rattle.session_core.specs.declared.contact.Beat.{Beat}
 use Rattle.session_core.specs.Contacts.{is_of, with_row}
-use Rattle.session_core.specs.Beating.{Beating, turned, due_beat, has_due, IsNextBeat}
+use Rattle.session_core.specs.Beating.{Beating, beat_of, row_after, turned, due_beat, has_due, IsNextBeat}
+
+-- the heartbeat and the turn of a row, by the interval and the number that were asked for
+pub due_by : (beats : Beating) (now : ℕ) (row : PeerContact) (by : ℕ × ℕ) (o due : Option Beat) → by ≡ beats row.peer → o ≡ beat_of by now row → o ≡ due
+    → due_beat beats now row ≡ due
+due_by beats now row by o due same is was = ap (λ x. beat_of x now row) (sym same) ∙ sym is ∙ was
+
+pub turned_by : (beats : Beating) (now : ℕ) (row : PeerContact) (by : ℕ × ℕ) (new : PeerContact) → by ≡ beats row.peer → new ≡ row_after by now row
+    → new ≡ turned beats now row
+turned_by beats now row by new same is = is ∙ ap (λ x. row_after x now row) same
 
 pub with_here : (peer : ℕ) (becomes : PeerContact → PeerContact) (rows : List PeerContact) (i : ℕ) (d new : PeerContact) → i < length rows
     → is_of peer (get_or rows i d) ≡ true → new ≡ becomes (get_or rows i d) → set rows i new ≡ take i rows ++ with_row peer becomes (drop i rows)

@@ -1,9 +1,8 @@
 -- What a list of calls makes of the sessions.
 use Rattle.std.specs.Prelude.{◌≡◌, ℕ, ◌≤◌, List, [], ◌∷◌}
-use Rattle.dots_history.specs.Histories.{tally}
 use Rattle.session_core.specs.declared.contact.PeerContact.{PeerContact}
 use Rattle.session_core.specs.declared.contact.Beat.{Beat}
-use Rattle.session_core.specs.Contacts.{is_of, heard_from, numbered}
+use Rattle.session_core.specs.Contacts.{heard_from, numbered}
 use Rattle.session_core.specs.Beating.{Beating, NoneBeats, IsNextBeat}
 
 -- a message of a peer is heard at a time, a Message ID is taken, or a heartbeat is asked for at a time: none is due, or this one is
@@ -35,10 +34,6 @@ IsSince time (Beats beats now beat) = time ≤ now
 abbrev pub AreSince : ℕ → List Call → Type 0
 AreSince time [] = Unit {0}
 AreSince time (call ∷ calls) = IsSince time call × AreSince time calls
-
--- the peer has one row at most
-abbrev pub HasOne : ℕ → List PeerContact → Type 0
-HasOne peer rows = tally (is_of peer) rows ≤ 1
 
 -- heartbeats are asked for at one time until none is due, and these are the answers
 abbrev pub Tick : Beating → ℕ → List PeerContact → List Beat → List PeerContact → Type 0

@@ -2,12 +2,14 @@
 
 ghost use Rattle.std.specs.Prelude.{◌≡◌, ℕ, ◌+◌, ◌≤◌, List, Option, Ok, map, filter_map};
 ghost use Rattle.dots_history.specs.declared.config.Config.{Config};
+ghost use Rattle.dots_settings.specs.Settings.{SettingsValue, IsSettings};
 ghost use Rattle.dots_keys.specs.declared.request.ConfigBody.{ConfigBody};
 ghost use Rattle.session_core.specs.declared.contact.Beat.{Beat};
 ghost use Rattle.session_core.specs.declared.contact.PeerContact.{PeerContact};
 ghost use Rattle.session_core.specs.Negotiating.{AreAccepted, negotiated};
+ghost use Rattle.session_core.specs.Contacts.{unheard};
 ghost use Rattle.session_core.specs.Beating.{Beating, IsNextBeat, due_beat, turned};
-ghost use Rattle.session_core.specs.Spacing.{Call, Run, AreSince, HasOne, Tick};
+ghost use Rattle.session_core.specs.Spacing.{Call, Run, AreSince, Tick};
 
 /// Each value of a configuration that is taken is in its range, the defaults too (RFC 9132, section 4.5.2).
 pub fn what_is_taken_is_in_range()
@@ -15,11 +17,12 @@ pub fn what_is_taken_is_in_range()
         → AreAccepted config.mitigating × AreAccepted config.idle }
 {}
 
-/// Between two heartbeats to a peer at least the interval passes, as it is at the second one, whatever calls stand between them,
-/// none of them of a time before the first (RFC 9132, section 4.7).
+/// Between two heartbeats to a peer at least the interval passes, as it is at the second one, whatever calls came before and whatever
+/// calls stand between them, these of no earlier time than the first (RFC 9132, section 4.7).
 pub fn beats_keep_the_interval()
-    ensures { (early late : Beating) (at later : ℕ) (beat next : Beat) (calls : List Call) (a b c d : List PeerContact) → HasOne beat.peer a
-        → IsNextBeat early at a b beat → Run b calls c → AreSince at calls → IsNextBeat late later c d next → next.peer ≡ beat.peer
+    ensures { (settings : SettingsValue) (early late : Beating) (at later : ℕ) (beat next : Beat) (before between : List Call)
+        (a b c d : List PeerContact) → IsSettings settings → Run (map unheard settings.peers) before a → IsNextBeat early at a b beat
+        → Run b between c → AreSince at between → IsNextBeat late later c d next → next.peer ≡ beat.peer
         → at + (late next.peer).0 ≤ later }
 {}
 
