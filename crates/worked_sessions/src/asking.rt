@@ -6,7 +6,7 @@ use session_core::{ConfigFault, negotiate};
 
 /// What becomes of a configuration.
 #[derive(Clone, Copy, Debug, PartialEq, Eq)]
-pub enum Answer {
+pub enum Outcome {
     Taken,
     /// The value of this key is out of its range.
     Range(u8),
@@ -52,11 +52,11 @@ fn judged(held: Option<u32>, sid: u32, body: &ConfigBody) -> Result<Config, Conf
 }
 
 /// What becomes of these offers.
-pub fn answer(held: Option<u32>, sid: u32, mitigating: Offer, idle: Offer) -> Answer {
+pub fn answer(held: Option<u32>, sid: u32, mitigating: Offer, idle: Offer) -> Outcome {
     match judged(held, sid, &ConfigBody { mitigating, idle }) {
-        Ok(_) => Answer::Taken,
-        Err(ConfigFault::Range { key }) => Answer::Range(key),
-        Err(ConfigFault::OlderSid { kept }) => Answer::Older(kept),
+        Ok(_) => Outcome::Taken,
+        Err(ConfigFault::Range { key }) => Outcome::Range(key),
+        Err(ConfigFault::OlderSid { kept }) => Outcome::Older(kept),
     }
 }
 

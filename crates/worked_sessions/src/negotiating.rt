@@ -1,6 +1,6 @@
 //! Which configurations are taken.
 
-use crate::asking::{Answer, answer, offer, values};
+use crate::asking::{Outcome, answer, offer, values};
 use dots_history::Values;
 use std::test::Fail;
 
@@ -16,10 +16,10 @@ fn ranges(rt: HostRuntime) -> Result<(), Fail> {
         (50, 1, 100),
     ] {
         for (value, want) in [
-            (least - 1, Answer::Range(key)),
-            (least, Answer::Taken),
-            (most, Answer::Taken),
-            (most + 1, Answer::Range(key)),
+            (least - 1, Outcome::Range(key)),
+            (least, Outcome::Taken),
+            (most, Outcome::Taken),
+            (most + 1, Outcome::Range(key)),
         ] {
             let mitigating = answer(None, 1, offer(key, value), offer(0, 0));
             let idle = answer(None, 1, offer(0, 0), offer(key, value));
@@ -33,12 +33,12 @@ fn ranges(rt: HostRuntime) -> Result<(), Fail> {
 #[test]
 fn zero(rt: HostRuntime) -> Result<(), Fail> {
     for (key, want) in [
-        (33, Answer::Taken),
-        (37, Answer::Range(37)),
-        (38, Answer::Range(38)),
-        (39, Answer::Range(39)),
-        (40, Answer::Range(40)),
-        (50, Answer::Range(50)),
+        (33, Outcome::Taken),
+        (37, Outcome::Range(37)),
+        (38, Outcome::Range(38)),
+        (39, Outcome::Range(39)),
+        (40, Outcome::Range(40)),
+        (50, Outcome::Range(50)),
     ] {
         assert!(rt; answer(None, 1, offer(key, 0), offer(0, 0)) == want);
     }
@@ -50,19 +50,19 @@ fn zero(rt: HostRuntime) -> Result<(), Fail> {
 fn what_comes_first(rt: HostRuntime) -> Result<(), Fail> {
     for (held, sid, mitigating, idle, want) in [
         // the order of a day: an interval of 10, then 60, then 90 under the same sid, 60 under a higher one, and a lower one
-        (None, 5, (33, 10), (0, 0), Answer::Range(33)),
-        (None, 5, (33, 60), (0, 0), Answer::Taken),
-        (Some(5), 5, (33, 90), (0, 0), Answer::Taken),
-        (Some(5), 6, (33, 60), (0, 0), Answer::Taken),
-        (Some(6), 4, (33, 60), (0, 0), Answer::Older(6)),
+        (None, 5, (33, 10), (0, 0), Outcome::Range(33)),
+        (None, 5, (33, 60), (0, 0), Outcome::Taken),
+        (Some(5), 5, (33, 90), (0, 0), Outcome::Taken),
+        (Some(5), 6, (33, 60), (0, 0), Outcome::Taken),
+        (Some(6), 4, (33, 60), (0, 0), Outcome::Older(6)),
         // a value out of its range besides
-        (Some(6), 5, (33, 10), (0, 0), Answer::Older(6)),
-        (Some(6), 6, (33, 10), (0, 0), Answer::Range(33)),
-        (Some(6), 7, (33, 10), (0, 0), Answer::Range(33)),
+        (Some(6), 5, (33, 10), (0, 0), Outcome::Older(6)),
+        (Some(6), 6, (33, 10), (0, 0), Outcome::Range(33)),
+        (Some(6), 7, (33, 10), (0, 0), Outcome::Range(33)),
         // a value of either half
-        (None, 1, (50, 0), (33, 10), Answer::Range(50)),
-        (None, 1, (33, 10), (50, 0), Answer::Range(33)),
-        (None, 1, (50, 1), (33, 10), Answer::Range(33)),
+        (None, 1, (50, 0), (33, 10), Outcome::Range(50)),
+        (None, 1, (33, 10), (50, 0), Outcome::Range(33)),
+        (None, 1, (50, 1), (33, 10), Outcome::Range(33)),
     ] {
         let first = offer(mitigating.0, mitigating.1);
         let second = offer(idle.0, idle.1);
@@ -82,7 +82,7 @@ fn the_lower_key(rt: HostRuntime) -> Result<(), Fail> {
         both.timeout = both.timeout.or(other.timeout);
         both.factor = both.factor.or(other.factor);
         both.rate = both.rate.or(other.rate);
-        assert!(rt; answer(None, 1, offer(0, 0), both) == Answer::Range(lower));
+        assert!(rt; answer(None, 1, offer(0, 0), both) == Outcome::Range(lower));
     }
     Ok(())
 }
