@@ -1,5 +1,5 @@
 -- Since a heartbeat was sent to a peer, its session had its last one, or began, no earlier.
-use Rattle.std.proofs.Common.{◌≡◌, ℕ, ◌+◌, ◌≤◌, Bool, true, false, List, [], ◌∷◌, ◌++◌, map, Option, Some, None, refl, sym, ap, subst, ◌∙◌, inl, inr, arith}
+use Rattle.std.proofs.Common.{◌≡◌, ℕ, ◌+◌, ◌≤◌, List, [], ◌∷◌, ◌++◌, map, Option, Some, None, refl, sym, ap, subst, ◌∙◌, inl, inr, arith}
 use Rattle.std.specs.Prelude.{if◌then◌else◌, ◌==◌, count_by, option_map, option_and_then}
 use Rattle.std.proofs.lemmas.List.Recursion.{is_sum_by}
 use Rattle.std.proofs.lemmas.Bool.{cases_Bool, cond-true, cond-false, eq-eqb, false≢true}
@@ -11,9 +11,9 @@ use Rattle.session_core.specs.declared.contact.Contact.{Contact}
 use Rattle.session_core.specs.declared.contact.PeerContact.{PeerContact}
 use Rattle.session_core.specs.declared.contact.Beat.{Beat}
 use Rattle.session_core.specs.Contacts.{is_of, unheard, session_in, session_of, session_heard, row_heard, contact_numbered, row_numbered, with_row}
-use Rattle.session_core.specs.Beating.{Beating, turned, due_beat, NoneBeats, IsNextBeat}
+use Rattle.session_core.specs.Beating.{Beating, turned, IsNextBeat}
 use Rattle.session_core.specs.Spacing.{Call, Hears, Numbers, Rests, Beats, Leaves, Run, IsSince, AreSince}
-use Rattle.session_core.proofs.Turns.{NotBefore, same_session, Sends, sends, turn_keeps, sent_now}
+use Rattle.session_core.proofs.Turns.{NotBefore, same_session, sends, turn_keeps, sent_now}
 
 -- each row of the peer
 Since : ℕ → ℕ → List PeerContact → Type 0
@@ -50,10 +50,10 @@ change_one peer time other becomes (row ∷ rows) names keeps all =
     elim (cases_Bool (is_of other row)) [
       | inl is ↦
           subst P (sym (cond-true (is_of other row) (becomes row ∷ rows) (row ∷ with_row other becomes rows) is))
-              (λ same. keeps row (all.0 (sym (names row) ∙ same)), all.1)
+          (λ same. keeps row (all.0 (sym (names row) ∙ same)), all.1)
       | inr out ↦
           subst P (sym (cond-false (is_of other row) (becomes row ∷ rows) (row ∷ with_row other becomes rows) out))
-              (all.0, change_one peer time other becomes rows names keeps all.1)
+          (all.0, change_one peer time other becomes rows names keeps all.1)
     ]
 
 -- ---- hearing and numbers
@@ -89,8 +89,8 @@ call_keeps peer time (Beats by now beat) old new since all is =
     let P : List PeerContact → Type 0 = Since peer time in
     let parts = split peer time is.front is.row is.rest (subst P is.there all) in
     subst P (sym is.after)
-        (join peer time (map (turned by now) is.front) (turned by now is.row) is.rest (turn_each peer time now by is.front since parts.0)
-        (λ same. turn_keeps time now (by is.row.peer) is.row since (parts.1 same)) parts.2)
+    (join peer time (map (turned by now) is.front) (turned by now is.row) is.rest (turn_each peer time now by is.front since parts.0)
+    (λ same. turn_keeps time now (by is.row.peer) is.row since (parts.1 same)) parts.2)
 
 run_keeps : (peer time : ℕ) (calls : List Call) (old new : List PeerContact) → AreSince time calls → Since peer time old → Run old calls new → Since peer time new
 run_keeps peer time [] old new since all is = let P : List PeerContact → Type 0 = Since peer time in subst P (sym is) all
@@ -177,8 +177,8 @@ after_first by at beat a b one is =
     let front = none_of beat.peer at is.front (omega (arith, one, own, long, all)) in
     let rest = none_of beat.peer at is.rest (omega (arith, one, own, long, all)) in
     subst P (sym is.after)
-        (join beat.peer at (map (turned by at) is.front) (turned by at is.row) is.rest (turn_each beat.peer at at by is.front (omega arith) front)
-        (λ same. sent_now (by is.row.peer) at is.row beat w) rest)
+    (join beat.peer at (map (turned by at) is.front) (turned by at is.row) is.rest (turn_each beat.peer at at by is.front (omega arith) front)
+    (λ same. sent_now (by is.row.peer) at is.row beat w) rest)
 
 pub spaced : (settings : SettingsValue) (early late : Beating) (at later : ℕ) (beat next : Beat) (before between : List Call) (a b c d : List PeerContact)
     → IsSettings settings → Run (map unheard settings.peers) before a → IsNextBeat early at a b beat → Run b between c → AreSince at between

@@ -1,5 +1,5 @@
 -- Heartbeats that are asked for at one time until none is due.
-use Rattle.std.proofs.Common.{◌≡◌, ℕ, ◌+◌, ◌≤◌, ◌<◌, Bool, true, false, List, [], ◌∷◌, ◌++◌, map, Option, Some, None, refl, sym, ap, subst, ◌∙◌, inl, inr, arith}
+use Rattle.std.proofs.Common.{◌≡◌, ℕ, ◌+◌, false, List, [], ◌∷◌, ◌++◌, map, Option, Some, None, refl, sym, ap, ◌∙◌, arith}
 use Rattle.std.specs.Prelude.{if◌then◌else◌, ◌==◌, nat_le, is_some, filter_map, option_map, option_and_then}
 use Rattle.std.specs.List.{list_any, cons_option}
 use Rattle.std.proofs.lemmas.Bool.{cond-false, or_parts}
@@ -11,7 +11,7 @@ use Rattle.session_core.specs.declared.contact.PeerContact.{PeerContact}
 use Rattle.session_core.specs.declared.contact.Beat.{Beat}
 use Rattle.session_core.specs.declared.contact.Turn.{Turn}
 use Rattle.session_core.specs.declared.contact.Turn.TheVariants.{Rests, Ends, Beats}
-use Rattle.session_core.specs.Beating.{Beating, is_lost, is_due, was_heard, turn_of, session_after, id_after, contact_after, row_after, beat_by, beat_in, beat_of, turned, due_beat, has_due, NoneBeats, IsNextBeat}
+use Rattle.session_core.specs.Beating.{Beating, is_lost, is_due, was_heard, turn_of, session_after, id_after, contact_after, beat_by, beat_in, turned, due_beat, has_due}
 use Rattle.session_core.specs.Contacts.{next_id}
 use Rattle.session_core.specs.Spacing.{Tick}
 use Rattle.session_core.proofs.Turns.{due_only}
@@ -131,10 +131,10 @@ ticked by now (beat ∷ given) old new is =
     let rest = ticked by now given is.0 new is.2 in (
       ap (λ beats. beat ∷ beats)
           (rest.0 ∙ ap (filter_map (due_beat by now)) next.after ∙ given_by_rest by now next.front next.row next.rest)
-      ∙ sym (given_by_all by now next.front next.row next.rest beat next.first next.due)
-      ∙ sym (ap (filter_map (due_beat by now)) next.there),
+          ∙ sym (given_by_all by now next.front next.row next.rest beat next.first next.due)
+          ∙ sym (ap (filter_map (due_beat by now)) next.there),
       rest.1
-      ∙ ap (map (turned by now)) next.after
-      ∙ turned_all by now next.front next.row next.rest
-      ∙ sym (ap (map (turned by now)) next.there),
+          ∙ ap (map (turned by now)) next.after
+          ∙ turned_all by now next.front next.row next.rest
+          ∙ sym (ap (map (turned by now)) next.there),
     )

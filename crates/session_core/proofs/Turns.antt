@@ -1,7 +1,7 @@
 -- One peer's turn.
-use Rattle.std.proofs.Common.{◌≡◌, ℕ, ◌+◌, ◌*◌, ◌≤◌, Bool, true, false, Option, Some, None, refl, sym, ap, subst, ◌∙◌, arith}
-use Rattle.std.specs.Prelude.{if◌then◌else◌, ◌==◌, nat_le, option_map, option_and_then}
-use Rattle.std.proofs.lemmas.Bool.{leb-true, leb-false, cond-true, cond-false, eqb-true, cases_Bool}
+use Rattle.std.proofs.Common.{◌≡◌, ℕ, ◌+◌, ◌≤◌, Bool, true, false, Option, Some, None, refl, sym, ap, subst, ◌∙◌, arith}
+use Rattle.std.specs.Prelude.{if◌then◌else◌, ◌==◌, option_map, option_and_then}
+use Rattle.std.proofs.lemmas.Bool.{leb-true}
 use Rattle.session_core.specs.declared.contact.Session.{Session}
 use Rattle.session_core.specs.declared.contact.Contact.{Contact}
 use Rattle.session_core.specs.declared.contact.PeerContact.{PeerContact}
@@ -9,7 +9,7 @@ use Rattle.session_core.specs.declared.contact.Beat.{Beat}
 use Rattle.session_core.specs.declared.contact.Turn.{Turn}
 use Rattle.session_core.specs.declared.contact.Turn.TheVariants.{Rests, Ends, Beats}
 use Rattle.session_core.specs.Contacts.{session_in, session_of}
-use Rattle.session_core.specs.Beating.{is_lost, is_due, was_heard, turn_of, session_after, id_after, contact_after, row_after, beat_by, beat_in, beat_of}
+use Rattle.session_core.specs.Beating.{is_lost, is_due, was_heard, turn_of, session_after, contact_after, row_after, beat_by, beat_in, beat_of}
 
 pub same_session : (x y : Session) → Some x ≡ Some y → x ≡ y
 same_session x y same = cc

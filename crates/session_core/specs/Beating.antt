@@ -1,5 +1,5 @@
 -- Heartbeats (RFC 9132, section 4.7): which are due, and which sessions are forgotten.
-use Rattle.std.specs.Prelude.{◌≡◌, ℕ, ◌+◌, ◌*◌, Bool, nat_lt, nat_le, ◌==◌, is_some, true, false, if◌then◌else◌, List, ◌∷◌, ◌++◌, map, Option, Some, None, option_map, option_and_then}
+use Rattle.std.specs.Prelude.{◌≡◌, ℕ, ◌+◌, ◌*◌, Bool, nat_lt, nat_le, ◌==◌, is_some, false, if◌then◌else◌, List, ◌∷◌, ◌++◌, map, Option, Some, None, option_map, option_and_then}
 use Rattle.std.specs.List.{list_any}
 use Rattle.session_core.specs.declared.contact.Session.{Session}
 use Rattle.session_core.specs.declared.contact.Contact.{Contact}
@@ -7,7 +7,7 @@ use Rattle.session_core.specs.declared.contact.PeerContact.{PeerContact}
 use Rattle.session_core.specs.declared.contact.Beat.{Beat}
 use Rattle.session_core.specs.declared.contact.Turn.{Turn}
 use Rattle.session_core.specs.declared.contact.Turn.TheVariants.{Rests, Ends, Beats}
-use Rattle.session_core.specs.Contacts.{next_id, session_of}
+use Rattle.session_core.specs.Contacts.{next_id}
 
 -- ---- one session, by the interval in seconds and the number of heartbeats that may be missed
 

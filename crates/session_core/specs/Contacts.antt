@@ -1,5 +1,5 @@
 -- Peers that are heard, and the Message IDs of the messages to them that begin here.
-use Rattle.std.specs.Prelude.{ℕ, ◌+◌, ◌%◌, Bool, ◌==◌, if◌then◌else◌, List, [], ◌∷◌, find, Option, Some, None, option_map, option_and_then, unwrap_or}
+use Rattle.std.specs.Prelude.{ℕ, ◌+◌, ◌%◌, Bool, ◌==◌, if◌then◌else◌, List, [], ◌∷◌, find, Option, Some, None, option_map, option_and_then}
 use Rattle.dots_settings.specs.declared.peer.PeerRow.{PeerRow}
 use Rattle.session_core.specs.declared.contact.Session.{Session}
 use Rattle.session_core.specs.declared.contact.Contact.{Contact}

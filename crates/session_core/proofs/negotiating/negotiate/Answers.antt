@@ -1,4 +1,4 @@
-use Rattle.std.proofs.Common.{◌≡◌, Ok, Err, ap, sym, ◌∙◌}
+use Rattle.std.proofs.Common.{Ok, Err, ap, sym, ◌∙◌}
 use Rattle.session_core.specs.declared.negotiating.ConfigFault.TheVariants.{Range}
 use Rattle.session_core.specs.Negotiating.{values_by, judged_by}
 use Rattle.session_core.proofs.Refusing.{answer}

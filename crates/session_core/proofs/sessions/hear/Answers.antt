@@ -1,4 +1,4 @@
-use Rattle.std.proofs.Common.{◌≡◌, length, ap, sym, ◌∙◌, arith}
+use Rattle.std.proofs.Common.{length, ap, sym, ◌∙◌, arith}
 use Rattle.session_core.specs.Contacts.{heard_from, row_heard}
 use Rattle.session_core.proofs.Rows.{with_here}
 use Rattle.session_core.proofs.sessions.hear.Goals as goal

@@ -1,4 +1,4 @@
-use Rattle.std.proofs.Common.{◌≡◌, length, ap, sym, ◌∙◌, arith}
+use Rattle.std.proofs.Common.{length, ap, sym, ◌∙◌, arith}
 use Rattle.session_core.specs.Contacts.{numbered, row_numbered}
 use Rattle.session_core.proofs.Rows.{with_here}
 use Rattle.session_core.proofs.sessions.take_number.Goals as goal
