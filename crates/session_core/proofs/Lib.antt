@@ -1,0 +1,6 @@
+pub mod Accepting
+pub mod Refusing
+pub mod Rows
+pub mod Spaced
+pub mod Ticking
+pub mod Turns

@@ -1,0 +1,5 @@
+pub mod Beating
+pub mod Contacts
+pub mod Negotiating
+pub mod Ranges
+pub mod Spacing
