@@ -13,3 +13,4 @@ mod reader;
 mod reading;
 
 pub use fault::EntryFault;
+pub use reading::entry_of;
