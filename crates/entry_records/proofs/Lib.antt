@@ -8,3 +8,4 @@ pub mod Prefixes
 pub mod Wholes
 pub mod Within
 pub mod Places
+pub mod Answered

@@ -66,7 +66,7 @@ begins_itself bytes some = ([], subst IsSomeRecord (sym (append-nil bytes)) some
 
 -- ---- the place
 
-no_error : {A : Type 0} {P : Type 0} (r : Result A ℕ) (a : A) (at : ℕ) → r ≡ Ok a → r ≡ Err at → P
+pub no_error : {A : Type 0} {P : Type 0} (r : Result A ℕ) (a : A) (at : ℕ) → r ≡ Ok a → r ≡ Err at → P
 no_error r a at ok err = cc
 
 -- at the byte behind this front nothing goes on, whatever stands behind that byte
@@ -178,7 +178,7 @@ read_broken bytes at fits is = first_of bytes at is (record_at bytes) (told byte
 
 -- ---- one record
 
-one_answer : (r : Result Entry ℕ) (a b : Entry) → r ≡ Ok a → r ≡ Ok b → a ≡ b
+pub one_answer : (r : Result Entry ℕ) (a b : Entry) → r ≡ Ok a → r ≡ Ok b → a ≡ b
 one_answer r a b first next = cc
 
 pub one_entry : (bytes : List ℕ) (a b : Entry) → IsRecord bytes a → IsRecord bytes b → a ≡ b
