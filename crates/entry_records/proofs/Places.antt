@@ -97,9 +97,9 @@ stuck_broken bytes at s is =
     (broken_behind bytes s.passed s.left s.is
     (s.more, (s.value, record_of (s.passed ++ s.more) s.value s.holds (sym s.goes_on)))
     (λ b rest same other some.
-        let bytes_there = s.passed ++ (b ∷ other) in
-        let whole = read_alone bytes_there some in
-        no_error (entry_at 0 bytes_there) (some.0, []) _ whole (s.blocked b rest other 0 same))
+    let bytes_there = s.passed ++ (b ∷ other) in
+    let whole = read_alone bytes_there some in
+    no_error (entry_at 0 bytes_there) (some.0, []) _ whole (s.blocked b rest other 0 same))
     (λ none some. no_error (record_at bytes) some.0 at (read_record bytes some.0 some.1) is))
 
 abbrev rest_of : Read Entry → List ℕ
@@ -114,8 +114,8 @@ more_broken bytes e b rest may is =
     let rec = record_of (record_bytes e) e may refl in
     broken_behind bytes (record_bytes e) (b ∷ rest) is (begins_itself (record_bytes e) (e, rec))
     (λ c more same other some.
-        let l = record_bytes e ++ (c ∷ other) in
-        no_rest (entry_at 0 l) some.0 e c other (read_alone l some) (read_whole 0 (record_bytes e) (c ∷ other) e rec))
+    let l = record_bytes e ++ (c ∷ other) in
+    no_rest (entry_at 0 l) some.0 e c other (read_alone l some) (read_whole 0 (record_bytes e) (c ∷ other) e rec))
     (λ none. absurd (omega (arith, ap (length {A = ℕ}) none)))
 
 -- ---- what reading says
@@ -148,7 +148,7 @@ broken_is bytes at fits is = subst (Told bytes) is (told bytes fits)
 abbrev Before : List ℕ → ℕ → Type 0
 Before bytes at = (n : ℕ) → at < n → ¬ (BeginsRecord (take n bytes))
 
-whole_before : {P : Type 0} (bytes : List ℕ) (at : ℕ) → IsBroken bytes at → IsSomeRecord bytes → P
+pub whole_before : {P : Type 0} (bytes : List ℕ) (at : ℕ) → IsBroken bytes at → IsSomeRecord bytes → P
 whole_before bytes at (IsBroken.byte few begins none) some =
     absurd (none (begins_at (at + 1) (length bytes) bytes (omega (arith, few)) (subst BeginsRecord (sym (all_of (length bytes) bytes (omega arith))) (begins_itself bytes some))))
 whole_before bytes at (IsBroken.end is begins none) some = absurd (none some)
@@ -183,3 +183,16 @@ one_answer r a b first next = cc
 
 pub one_entry : (bytes : List ℕ) (a b : Entry) → IsRecord bytes a → IsRecord bytes b → a ≡ b
 one_entry bytes a b first next = one_answer (record_at bytes) a b (read_record bytes a first) (read_record bytes b next)
+
+same_rest : (r : Read Entry) (e f : Entry) (more : List ℕ) → r ≡ Ok (e, more) → r ≡ Ok (f, []) → more ≡ []
+same_rest r e f more first next = ap rest_of (sym first ∙ next)
+
+pub no_more : (bytes more : List ℕ) → IsSomeRecord bytes → IsSomeRecord (bytes ++ more) → more ≡ []
+no_more bytes more some longer = same_rest (entry_at 0 (bytes ++ more)) some.0 longer.0 more (read_whole 0 bytes more some.0 some.1) (read_alone (bytes ++ more) longer)
+
+either_told : (bytes : List ℕ) (r : Result Entry ℕ) → Told bytes r → IsSomeRecord bytes ⊎ ((at : ℕ) × IsBroken bytes at)
+either_told bytes (Ok e) rec = inl (e, rec)
+either_told bytes (Err at) broken = inr (at, broken)
+
+pub either_of : (bytes : List ℕ) → AreBytes bytes → IsSomeRecord bytes ⊎ ((at : ℕ) × IsBroken bytes at)
+either_of bytes fits = either_told bytes (record_at bytes) (told bytes fits)

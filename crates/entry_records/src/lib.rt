@@ -8,6 +8,7 @@
 mod addresses;
 mod changes;
 mod fault;
+pub mod laws;
 mod lists;
 mod reader;
 mod reading;
