@@ -9,3 +9,4 @@ pub mod Wholes
 pub mod Within
 pub mod Places
 pub mod Answered
+pub mod Writings

@@ -24,7 +24,7 @@ use Rattle.entry_records.proofs.Fields.{AtMost, IsWithin, is_between}
 use Rattle.entry_records.proofs.Parts.{AreVisible, name_visible, visible_name}
 use Rattle.entry_records.proofs.Wholes.{MayAsk, MayStand, MayEnter, MayList, MayAim, MayAimAll, AreAimed, IsSigned, MayPut, AreValues, MaySet, MayChange, MayBe}
 
-at_most : (a b : ℕ) → nat_le a b ≡ true → a ≤ b
+pub at_most : (a b : ℕ) → nat_le a b ≡ true → a ≤ b
 at_most a b is = grind (arith, nat_tests)
 
 is_most : (a b : ℕ) → a ≤ b → nat_le a b ≡ true
@@ -42,7 +42,7 @@ none_is a is = grind (arith, nat_tests)
 is_none : (a : ℕ) → a ≤ 0 → (a == 0) ≡ true
 is_none a few = grind (arith, nat_tests)
 
-five_of : (a b c d e : Bool) → (a && b && c && d && e) ≡ true → (a ≡ true) × ((b ≡ true) × ((c ≡ true) × ((d ≡ true) × (e ≡ true))))
+pub five_of : (a b c d e : Bool) → (a && b && c && d && e) ≡ true → (a ≡ true) × ((b ≡ true) × ((c ≡ true) × ((d ≡ true) × (e ≡ true))))
 five_of a b c d e is =
     let p = and_parts (a && b && c && d) e is in
     let q = and_parts (a && b && c) d p.0 in
@@ -196,7 +196,7 @@ cuid_to : (cuid : List ℕ) → AreVisible 0 64 cuid → ((length cuid == 0) || 
 cuid_to [] are = refl
 cuid_to (b ∷ cuid) are = some_left (length cuid) (is_name (b ∷ cuid)) ∙ visible_name (b ∷ cuid) (record { low = omega arith; high = are.high; visible = are.visible })
 
-cuid_from : (cuid : List ℕ) → ((length cuid == 0) || is_name cuid) ≡ true → AreVisible 0 64 cuid
+pub cuid_from : (cuid : List ℕ) → ((length cuid == 0) || is_name cuid) ≡ true → AreVisible 0 64 cuid
 cuid_from [] is = record { low = omega arith; high = omega arith; visible = tt }
 cuid_from (b ∷ cuid) is = let name = name_visible (b ∷ cuid) (sym (some_left (length cuid) (is_name (b ∷ cuid))) ∙ is) in record { low = omega arith; high = name.high; visible = name.visible }
 
