@@ -110,7 +110,7 @@ bytes_reader n = record {
 
 -- ---- numbers
 
-byte_at_place : (xs : List ℕ) (i : ℕ) → AreBytes xs → get_or xs i 0 < 256
+pub byte_at_place : (xs : List ℕ) (i : ℕ) → AreBytes xs → get_or xs i 0 < 256
 byte_at_place [] i fits = omega arith
 byte_at_place (x ∷ xs) zero fits = omega (arith, fits.0)
 byte_at_place (x ∷ xs) (suc i) fits = byte_at_place xs i fits.1

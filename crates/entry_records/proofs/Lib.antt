@@ -4,3 +4,9 @@ pub mod Fields
 pub mod Loops
 pub mod Parts
 pub mod Readers
+pub mod Prefixes
+pub mod Wholes
+pub mod Within
+pub mod Places
+pub mod Answered
+pub mod Writings

@@ -3,3 +3,4 @@ pub mod Layout
 pub mod Records
 pub mod FaultText
 pub mod Reading
+pub mod Writing

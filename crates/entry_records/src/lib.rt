@@ -8,8 +8,15 @@
 mod addresses;
 mod changes;
 mod fault;
+pub mod laws;
 mod lists;
 mod reader;
 mod reading;
+mod writer;
+mod writing;
+mod written_changes;
+mod written_lists;
 
 pub use fault::EntryFault;
+pub use reading::entry_of;
+pub use writing::{record_into, record_len};

@@ -1,13 +1,30 @@
-ghost use Rattle.std.specs.Prelude.{length};
+ghost use Rattle.std.specs.Prelude.{◌≡◌, ◌≢◌, ℕ, Ok, Err, IfOk, IfErr};
+ghost use Rattle.dots_history.specs.declared.entry.Entry.{Entry};
+ghost use Rattle.entry_records.specs.declared.fault.EntryFault.TheVariants.{NotEntry, NoMemory};
 ghost use Rattle.entry_records.specs.Reading.{Gives, record_at};
+ghost use Rattle.entry_records.specs.Records.{IsRecord, IsBroken};
 
 use crate::fault::EntryFault;
 use crate::reader::Reader;
 use dots_history::Entry;
 use std::alloc::Global;
 
-/// The entry whose record the bytes are.
-pub(crate) fn read_record(alloc: Global, bytes: &[u8]) -> Result<Entry, EntryFault>
+/// The entry whose record the bytes are. One that is answered is within bounds.
+///
+/// # Errors
+///
+/// `NotEntry` with the place at which no record can go on where the bytes are no record, and `NoMemory` where there is no
+/// memory for the entry's lists and texts.
+pub fn entry_of(alloc: Global, bytes: &[u8]) -> Result<Entry, EntryFault>
+    ensures found { IfOk result (λ entry. IsRecord bytes.now entry) }
+    ensures only { (entry : Entry) → IsRecord bytes.now entry → result ≢ Err NoMemory → result ≡ Ok entry }
+    ensures broken { IfErr result (λ fault. (at : ℕ) → fault ≡ NotEntry at → IsBroken bytes.now at) }
+    ensures first { (at : ℕ) → IsBroken bytes.now at → result ≢ Err NoMemory → result ≡ Err (NotEntry at) }
+{
+    read_record(alloc, bytes)
+}
+
+fn read_record(alloc: Global, bytes: &[u8]) -> Result<Entry, EntryFault>
     ensures { Gives (λ x. x) result (record_at bytes.now) }
 {
     let mut reader = Reader {

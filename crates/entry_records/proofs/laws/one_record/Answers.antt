@@ -1,0 +1,9 @@
+use Rattle.std.proofs.Common.{sym, ◌∙◌}
+use Rattle.entry_records.proofs.Places.{one_entry}
+use Rattle.entry_records.proofs.laws.one_record.Goals as goal
+
+pub returns-clause-bytes : goal.returns-clause-bytes
+returns-clause-bytes c = λ first second entry a b. a.is ∙ sym b.is
+
+pub returns-clause-entry : goal.returns-clause-entry
+returns-clause-entry c = one_entry

@@ -1,0 +1,6 @@
+use Rattle.entry_records.specs.Layout.{config_bytes}
+use Rattle.entry_records.proofs.Writings.{both}
+use Rattle.entry_records.proofs.writer.Writer.config.Goals as goal
+
+pub returns : goal.returns
+returns c = both c.values.ensures c.values-2.ensures

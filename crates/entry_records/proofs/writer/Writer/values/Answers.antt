@@ -1,0 +1,8 @@
+use Rattle.std.proofs.Common.{refl, arith}
+use Rattle.entry_records.specs.Layout.{values_bytes}
+use Rattle.entry_records.proofs.Writings.{both, same}
+use Rattle.entry_records.proofs.writer.Writer.values.Goals as goal
+
+pub returns : goal.returns
+unfolding values_bytes
+returns c = both c.u32.ensures (both c.u32-2.ensures (both c.u32-3.ensures (both c.u32-4.ensures (both c.u32-5.ensures c.u32-6.ensures))))

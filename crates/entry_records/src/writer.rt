@@ -1,0 +1,100 @@
+//! Writing bytes, numbers and names behind others.
+
+ghost use Rattle.std.specs.Prelude.{◌≡◌, ◌+◌, ◌*◌, ◌≤◌, [], ◌∷◌, length};
+ghost use Rattle.std.specs.Int.{w16, w32, w64, w128, to_be_bytes};
+ghost use Rattle.entry_records.specs.Layout.{counted};
+ghost use Rattle.entry_records.specs.Writing.{Writes};
+
+use arrayvec::ArrayVec;
+use dots_lists::Name;
+use std::marker::Model;
+
+/// The greatest length of a record, in bytes.
+pub(crate) const MAX_RECORD: usize = 8_189;
+
+/// The bytes of a record as far as they are written.
+#[derive(Drop)]
+pub(crate) struct Writer {
+    bytes: ArrayVec<u8, MAX_RECORD>,
+}
+
+impl Model for Writer {
+    ghost use Rattle.std.specs.Prelude.{ℕ, List};
+
+    ghost Value = { List ℕ };
+
+    ghost view = { λ writer. writer.bytes.items };
+}
+
+impl Writer {
+    pub(crate) fn new() -> Self
+        ensures { result ≡ [] }
+    {
+        Writer {
+            bytes: ArrayVec::new(),
+        }
+    }
+
+    /// What is written.
+    pub(crate) fn written(&self) -> &[u8]
+        ensures { result.now ≡ self.now }
+    {
+        self.bytes.as_slice()
+    }
+
+    /// A byte. One for which there is no room is left out.
+    pub(crate) fn byte(&mut self, byte: u8)
+        ensures { Writes 1 (byte ∷ []) self.old self.new }
+    {
+        if !self.bytes.is_full() {
+            self.bytes.push(byte);
+        }
+    }
+
+    pub(crate) fn bytes(&mut self, bytes: &[u8])
+        ensures { Writes (length bytes.now) bytes.now self.old self.new }
+    {
+        for byte in bytes {
+            self.byte(*byte);
+        }
+    }
+
+    pub(crate) fn u16(&mut self, number: u16)
+        ensures { Writes 2 (to_be_bytes w16 number) self.old self.new }
+    {
+        self.bytes(&number.to_be_bytes());
+    }
+
+    pub(crate) fn u32(&mut self, number: u32)
+        ensures { Writes 4 (to_be_bytes w32 number) self.old self.new }
+    {
+        self.bytes(&number.to_be_bytes());
+    }
+
+    pub(crate) fn u64(&mut self, number: u64)
+        ensures { Writes 8 (to_be_bytes w64 number) self.old self.new }
+    {
+        self.bytes(&number.to_be_bytes());
+    }
+
+    pub(crate) fn u128(&mut self, number: u128)
+        ensures { Writes 16 (to_be_bytes w128 number) self.old self.new }
+    {
+        self.bytes(&number.to_be_bytes());
+    }
+
+    /// Bytes behind how many there are.
+    pub(crate) fn counted(&mut self, bytes: &[u8])
+        requires { length bytes.now ≤ 255 }
+        ensures { Writes (1 + length bytes.now) (counted bytes.now) self.old self.new }
+    {
+        self.byte(bytes.len() as u8);
+        self.bytes(bytes);
+    }
+
+    pub(crate) fn name(&mut self, name: &Name)
+        ensures { Writes 65 (counted name.now) self.old self.new }
+    {
+        self.counted(name.bytes());
+    }
+}

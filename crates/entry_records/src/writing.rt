@@ -1,0 +1,32 @@
+ghost use Rattle.std.specs.Prelude.{◌≡◌, ◌≤◌, ◌++◌, drop, length, IsTrue};
+ghost use Rattle.dots_history.specs.Bounds.{within_bounds};
+ghost use Rattle.entry_records.specs.Layout.{record_bytes};
+
+use crate::writer::Writer;
+use dots_history::Entry;
+
+/// The length of the record of an entry, in bytes: at most 3,929.
+pub fn record_len(entry: &Entry) -> usize
+    requires { IsTrue (within_bounds entry.now) }
+    ensures len { result ≡ length (record_bytes entry.now) }
+    ensures short { result ≤ 3929 }
+{
+    let mut writer = Writer::new();
+    writer.entry(entry);
+    writer.written().len()
+}
+
+/// Writes the record of an entry to the front of `into`, and answers its length in bytes, that of `record_len`. What
+/// stood behind it stays.
+pub fn record_into(entry: &Entry, into: &mut [u8]) -> usize
+    requires within { IsTrue (within_bounds entry.now) }
+    requires room { length (record_bytes entry.now) ≤ length into.old }
+    ensures len { result ≡ length (record_bytes entry.now) }
+    ensures written { into.new ≡ record_bytes entry.now ++ drop result into.old }
+{
+    let mut writer = Writer::new();
+    writer.entry(entry);
+    let bytes = writer.written();
+    into[..bytes.len()].copy_from_slice(bytes);
+    bytes.len()
+}
