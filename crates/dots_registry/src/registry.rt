@@ -65,16 +65,19 @@ impl Registry {
         requires bounded { now < never }
         ensures stands { (entries : List Entry) → StandsFor self.old entries → StandsFor self.new entries }
         ensures time { time_of self.new ≡ now }
+        ensures rings { self.new.rings ≡ self.old.rings }
         ensures settings { (settings : SettingsValue) → IsOf settings self.old → IsOf settings self.new }
     {
         self.live.tick(now);
     }
 
-    /// Takes an entry that fits, which stands in this slot of the journal. The time is then the entry's.
+    /// Takes an entry that fits, which stands in this slot of the journal. The time is then the entry's. The reply to a signal
+    /// entry is remembered with the slot.
     pub fn apply(&mut self, entry: Entry, slot: u32)
         requires { FitsIn self.old entry }
         ensures stands { (entries : List Entry) → StandsFor self.old entries → StandsFor self.new (entries ++ entry ∷ []) }
         ensures time { time_of self.new ≡ entry.time }
+        ensures slot { self.new.rings ≡ rings_with slot entry self.old.rings }
         ensures settings { (settings : SettingsValue) → IsOf settings self.old → IsOf settings self.new }
     {
         self.tick(entry.time);
@@ -92,6 +95,7 @@ impl Registry {
         requires puts { puts entry ≡ true }
         ensures stands { (entries : List Entry) → StandsFor self.old entries → StandsFor self.new (entries ++ entry ∷ []) }
         ensures time { time_of self.new ≡ time_of self.old }
+        ensures slot { self.new.rings ≡ rings_with slot entry self.old.rings }
         ensures settings { (settings : SettingsValue) → IsOf settings self.old → IsOf settings self.new }
     {
         let entry = remember(&mut self.remembered, self.alloc, entry, slot);
@@ -105,6 +109,7 @@ impl Registry {
         requires puts { puts entry ≡ false }
         ensures stands { (entries : List Entry) → StandsFor self.old entries → StandsFor self.new (entries ++ entry ∷ []) }
         ensures time { time_of self.new ≡ time_of self.old }
+        ensures slot { self.new.rings ≡ rings_with slot entry self.old.rings }
         ensures settings { (settings : SettingsValue) → IsOf settings self.old → IsOf settings self.new }
     {
         self.live.note(&entry);
