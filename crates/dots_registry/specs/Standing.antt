@@ -53,6 +53,13 @@ pub record IsOf (settings : SettingsValue) (registry : RegistryValue) : Type 0 w
   pub sizes : registry.held.sizes ≡ sizes_of settings
   pub pairs : map pair_of registry.rings ≡ pairs_of settings
 
+-- both have the same domains, capacities and peers, at the same time
+pub record SameSize (a b : RegistryValue) : Type 0 where
+  pub domains : a.live.domains ≡ b.live.domains
+  pub limits : a.live.limits ≡ b.live.limits
+  pub time : time_of a ≡ time_of b
+  pub sizes : a.held.sizes ≡ b.held.sizes
+
 -- ---- what an entry gives to the messages
 
 -- an entry with this reply

@@ -5,11 +5,14 @@
 //! history with one more entry, [`Registry::tick`] for the same history at a later time, and each reader answers what the
 //! definitions of `dots_history` say of that history at that time. Only [`Registry::new`] takes memory.
 //!
-//! It joins the tables of `live_mitigations`, `held_things` and `coap_exchange`. What it doesn't have yet: the rows that
-//! filter, the slots that compaction keeps, and the judgement of a whole request.
+//! It joins the tables of `live_mitigations`, `held_things` and `coap_exchange`. The settings of which it is (`IsOf`) stay with
+//! the caller. [`laws`] says that it also stands for what a compaction keeps, and that nothing of it is left open. What it
+//! doesn't have yet: the rows that filter, the slots that a compaction keeps, the judgement of a whole request, and the peer of
+//! a registration.
 #![tactic(auto)]
 
 mod fitting;
+pub mod laws;
 mod reading;
 mod registry;
 
