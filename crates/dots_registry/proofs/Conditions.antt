@@ -1,5 +1,5 @@
 -- What a registry says to an entry is whether it fits.
-use Rattle.std.proofs.Common.{◌≡◌, ℕ, ◌+◌, ◌<◌, ◌≤◌, Bool, true, false, cond, not, ◌&&◌, ◌||◌, List, [], ◌∷◌, ◌++◌, length, Option, Some, None, inl, inr, refl, sym, ap, ◌∙◌, subst, arith}
+use Rattle.std.proofs.Common.{◌≡◌, ℕ, ◌+◌, ◌<◌, ◌≤◌, Bool, true, false, cond, not, ◌&&◌, ◌||◌, List, [], ◌∷◌, ◌++◌, Option, Some, None, inl, inr, refl, sym, ap, ◌∙◌, arith}
 use Rattle.std.specs.Prelude.{◌==◌, nat_lt, nat_le, option_to_list, bytes_eq}
 use Rattle.std.specs.List.{list_all}
 use Rattle.std.proofs.lemmas.Bool.{false≢true, cases_Bool, and_parts, and_from, ne_eqb, ltb-true, leb-true, le-leb, false_from_ne_true}
@@ -11,7 +11,7 @@ use Rattle.dots_history.specs.declared.put.Put.{Put}
 use Rattle.dots_history.specs.declared.status.Status.{Status}
 use Rattle.dots_history.specs.declared.status.Status.TheVariants.{Ended, Open, Withdrawn}
 use Rattle.dots_history.specs.Entries.{same_client, runs, lasts, granted_at, put_of, option_any}
-use Rattle.dots_history.specs.Histories.{Mitigation, Within, live, if_live, status, tally, mitigations, held}
+use Rattle.dots_history.specs.Histories.{Mitigation, Within, live, status, tally, mitigations, held}
 use Rattle.dots_laws.specs.Calm.{is_of_settings}
 use Rattle.dots_laws.specs.Fits as laws
 use Rattle.live_mitigations.specs.Standing.{LiveValue, puts, is_inside, keeps_live_room, has_live_room}

@@ -1,10 +1,9 @@
 -- A registry stands for each part of a history that has its view, and nothing of it is left open.
-use Rattle.std.proofs.Common.{◌≡◌, ℕ, ◌<◌, ◌≤◌, Bool, true, List, [], ◌∷◌, map, filter, Option, Some, inl, inr, refl, sym, ap, ◌∙◌, subst, arith}
-use Rattle.std.specs.List.{list_all}
+use Rattle.std.proofs.Common.{◌≡◌, ℕ, ◌<◌, ◌≤◌, List, [], ◌∷◌, map, filter, inl, inr, sym, ap, ◌∙◌, subst, arith}
 use Rattle.dots_settings.specs.declared.limits.Limits.{Limits}
 use Rattle.dots_history.specs.declared.entry.Entry.{Entry}
 use Rattle.dots_history.specs.Entries.{signals}
-use Rattle.dots_history.specs.Histories.{Mitigation, View, Within, IsPart, Kept, Calm, mitigations, held, recent, alone}
+use Rattle.dots_history.specs.Histories.{View, Within, IsPart, Kept, Calm, mitigations, recent, alone}
 use Rattle.dots_history.specs.Keeping.{kept}
 use Rattle.dots_history.proofs.Remembering.{recent_are_lasts}
 use Rattle.dots_laws.specs.Tables.{bare, bare_mitigation, ring}
@@ -17,7 +16,7 @@ use Rattle.live_mitigations.specs.Standing.{LiveValue, kept_of, is_inside}
 use Rattle.live_mitigations.specs.Standing as lives
 use Rattle.held_things.specs.Tables.{Have}
 use Rattle.held_things.proofs.Standing.{one_value}
-use Rattle.coap_exchange.specs.Rings.{RingValue, ring_of, messages_of, reply_to}
+use Rattle.coap_exchange.specs.Rings.{RingValue, messages_of, reply_to}
 use Rattle.coap_exchange.specs.Noting.{Remembers, AllRemember, said_by_entry}
 use Rattle.dots_registry.specs.Standing.{RegistryValue, StandsFor, SameSize, time_of, number_remembered, has_ring}
 use Rattle.dots_registry.proofs.Rings.{replies}

@@ -1,5 +1,5 @@
 -- Whose messages a registry remembers, by the settings and by a history.
-use Rattle.std.proofs.Common.{◌≡◌, ℕ, zero, suc, ◌<◌, Bool, true, false, cond, not, ◌&&◌, ◌||◌, List, [], ◌∷◌, ◌++◌, map, length, Option, Some, None, inl, inr, refl, sym, ap, ◌∙◌, subst, arith}
+use Rattle.std.proofs.Common.{◌≡◌, ℕ, zero, suc, ◌<◌, Bool, true, false, cond, not, ◌&&◌, ◌||◌, List, [], ◌∷◌, ◌++◌, map, length, Some, None, inl, inr, refl, sym, ap, ◌∙◌, subst, arith}
 use Rattle.std.specs.Prelude.{◌==◌, nat_lt, unwrap_or}
 use Rattle.std.specs.List.{list_any, list_all, find, flat_map}
 use Rattle.std.specs.Option.{option_map}
@@ -17,8 +17,8 @@ use Rattle.dots_history.specs.Histories.{is_nil, is_recent, or_else, remembered}
 use Rattle.dots_history.specs.Entries.{may_repeat}
 use Rattle.dots_laws.specs.Calm.{is_of_settings, may_act, may_configure, change_inside}
 use Rattle.coap_exchange.specs.declared.pair.Pair.{Pair}
-use Rattle.coap_exchange.specs.Pairs.{is_pair, pair_with, below, pairs_of, pairs_of_role, pairs_of_row}
-use Rattle.coap_exchange.specs.Rings.{RingValue, is_ring_of, ring_of, messages_of, reply_to, noted}
+use Rattle.coap_exchange.specs.Pairs.{is_pair, pair_with, below, pairs_of_role, pairs_of_row}
+use Rattle.coap_exchange.specs.Rings.{RingValue, is_ring_of, messages_of, reply_to, noted}
 use Rattle.coap_exchange.specs.Noting.{AllRemember, message_of}
 use Rattle.coap_exchange.proofs.Standing.{noted_remembers, other_remembers, replies_remembered, pairs_noted}
 use Rattle.dots_registry.specs.Standing.{RegistryValue, IsOf, StandsFor, time_of, number_remembered, has_ring, pair_of, rings_with}

@@ -1,5 +1,5 @@
 -- What a registry keeps goes on to stand for a history.
-use Rattle.std.proofs.Common.{◌≡◌, ℕ, ◌+◌, ◌<◌, ◌≤◌, Bool, true, false, cond, not, ◌&&◌, ◌||◌, List, [], ◌∷◌, ◌++◌, map, length, Option, Some, None, inl, inr, refl, sym, ap, ◌∙◌, subst, arith}
+use Rattle.std.proofs.Common.{◌≡◌, ℕ, ◌+◌, ◌<◌, ◌≤◌, Bool, true, false, cond, ◌&&◌, List, [], ◌∷◌, ◌++◌, map, length, refl, sym, ap, ◌∙◌, subst, arith}
 use Rattle.std.specs.Prelude.{◌==◌, nat_lt, nat_le}
 use Rattle.std.specs.List.{list_any, list_all}
 use Rattle.std.proofs.lemmas.Bool.{false≢true, cond-false, and_parts, and_from, ltb-true, leb-true, le-leb}
@@ -35,7 +35,7 @@ use Rattle.coap_exchange.specs.Rings.{RingValue, empty_ring}
 use Rattle.coap_exchange.specs.Noting.{AllRemember}
 use Rattle.coap_exchange.proofs.Standing.{start_remembers}
 use Rattle.dots_registry.specs.Standing.{RegistryValue, IsOf, StandsFor, time_of, number_remembered, has_ring, pair_of, silent, rings_with}
-use Rattle.dots_registry.specs.Fitting.{FitsIn, fits_now}
+use Rattle.dots_registry.specs.Fitting.{FitsIn}
 use Rattle.dots_registry.proofs.Rings.{own_has_ring, made_pairs, remember_more, still_signalled}
 
 abbrev pub joined : LiveValue → Tables → List RingValue → RegistryValue
