@@ -1,20 +1,21 @@
 -- What the laws come to: clients and peers are apart, mitigations hold nothing, and what fits is accepted.
 use Rattle.std.proofs.Common.{◌≡◌, ℕ, Bool, true, false, cond, not, ◌&&◌, ◌||◌, List, [], ◌∷◌, ◌++◌, map, filter, length, Option, Some, None, inl, inr, refl, sym, ap, ◌∙◌, subst, append-nil}
-use Rattle.std.specs.Prelude.{option_to_list, ◌==◌, nat_lt, nat_le}
+use Rattle.std.specs.Prelude.{option_to_list, ◌==◌, nat_lt, nat_le, unwrap_or}
 use Rattle.std.specs.List.{list_any, list_all, find}
-use Rattle.std.specs.Option.{option_map_or}
+use Rattle.std.specs.Option.{option_map}
 use Rattle.std.proofs.lemmas.Bool.{false≢true, both_ways, cond_both, cond-true, cond-false, cases_Bool, and_parts, and_left, and_right, and_from, or_from, or_left, or_right, not_from_true, false_from_ne_true}
 use Rattle.std.proofs.lemmas.Option.{none-some}
 use Rattle.dots_settings.specs.declared.peer.PeerRow.{PeerRow}
 use Rattle.dots_settings.specs.declared.peer.Role.{Role}
 use Rattle.dots_settings.specs.declared.peer.Role.TheVariants as role
 use Rattle.dots_settings.specs.Settings.{SettingsValue}
+use Rattle.dots_settings.specs.Lookups.{role_of, prefixes_of}
 use Rattle.dots_history.specs.declared.entry.Entry.{Entry}
 use Rattle.dots_history.specs.declared.change.Change.{Change}
 use Rattle.dots_history.specs.declared.change.Change.TheVariants as change
 use Rattle.dots_history.specs.Entries.{same_client, is_held, undoes, undoes_of_client, undoes_of_peer, undoes_alias, undoes_acl, reconfigures, is_leave, is_configuration}
 use Rattle.dots_history.specs.Histories.{Mitigation, is_nil, held, tally, mitigations}
-use Rattle.dots_laws.specs.Calm.{is_of_settings, role_of, may_act, may_configure, change_inside, prefixes_of, no_domain}
+use Rattle.dots_laws.specs.Calm.{is_of_settings, may_act, may_configure, change_inside}
 use Rattle.dots_laws.specs.Capacities.{is_registration, is_alias, is_list}
 use Rattle.dots_laws.specs.Fits as laws
 use Rattle.dots_laws.specs.Tables.{Client, is_of}
@@ -142,7 +143,7 @@ peer_there : (settings : SettingsValue) (peer domain : ℕ) → may_configure (r
 peer_there settings peer domain is = by_rows settings.peers is
   where
     by_rows : (rows : List PeerRow)
-        → may_configure (option_map_or (λ (row : PeerRow). row.role) (find (λ (row : PeerRow). row.peer == peer) rows) role.Stranger) domain ≡ true
+        → may_configure (unwrap_or (option_map (λ (row : PeerRow). row.role) (find (λ (row : PeerRow). row.peer == peer) rows)) role.Stranger) domain ≡ true
         → list_any (λ other. peer == other) (map (λ (row : PeerRow). row.peer) rows) ≡ true
     by_rows [] is = absurd (false≢true is)
     by_rows (row ∷ rows) is =
@@ -159,7 +160,7 @@ peer_there settings peer domain is = by_rows settings.peers is
               (by_rows
               rows
               (sym (ap
-              (λ o. may_configure (option_map_or (λ (row : PeerRow). row.role) o role.Stranger) domain)
+              (λ o. may_configure (unwrap_or (option_map (λ (row : PeerRow). row.role) o) role.Stranger) domain)
               (cond-false (row.peer == peer) (Some row) (find (λ (row : PeerRow). row.peer == peer) rows) out))
               ∙ is))
         ]

@@ -1,0 +1,207 @@
+-- What a registry says to an entry is whether it fits.
+use Rattle.std.proofs.Common.{◌≡◌, ℕ, ◌+◌, ◌<◌, ◌≤◌, Bool, true, false, cond, not, ◌&&◌, ◌||◌, List, [], ◌∷◌, ◌++◌, Option, Some, None, inl, inr, refl, sym, ap, ◌∙◌, arith}
+use Rattle.std.specs.Prelude.{◌==◌, nat_lt, nat_le, option_to_list, bytes_eq}
+use Rattle.std.specs.List.{list_all}
+use Rattle.std.proofs.lemmas.Bool.{false≢true, cases_Bool, and_parts, and_from, ne_eqb, ltb-true, leb-true, le-leb, false_from_ne_true}
+use Rattle.std.proofs.lemmas.List.Folds.{list_all-append}
+use Rattle.dots_settings.specs.Settings.{SettingsValue}
+use Rattle.dots_settings.specs.declared.limits.Limits.{Limits}
+use Rattle.dots_history.specs.declared.entry.Entry.{Entry}
+use Rattle.dots_history.specs.declared.put.Put.{Put}
+use Rattle.dots_history.specs.declared.status.Status.{Status}
+use Rattle.dots_history.specs.declared.status.Status.TheVariants.{Ended, Open, Withdrawn}
+use Rattle.dots_history.specs.Entries.{same_client, runs, lasts, granted_at, put_of, option_any}
+use Rattle.dots_history.specs.Histories.{Mitigation, Within, live, status, tally, mitigations, held}
+use Rattle.dots_laws.specs.Calm.{is_of_settings}
+use Rattle.dots_laws.specs.Fits as laws
+use Rattle.live_mitigations.specs.Standing.{LiveValue, puts, is_inside, keeps_live_room, has_live_room}
+use Rattle.live_mitigations.specs.Standing as lives
+use Rattle.live_mitigations.proofs.Standing.{quiet_inside}
+use Rattle.held_things.specs.Tables.{sizes_of}
+use Rattle.held_things.specs.Accepting.{accepts, keeps_rooms}
+use Rattle.held_things.proofs.Lawful.{accepts_own}
+use Rattle.dots_registry.specs.Standing.{RegistryValue, IsOf, StandsFor, time_of}
+use Rattle.dots_registry.specs.Fitting.{fits_now, fits_tables}
+use Rattle.dots_registry.proofs.Standing.{own_inside}
+
+-- ---- what isn't of a domain
+
+none_there : (o : Option Put) → option_any (λ (put : Put). true) o ≡ false → o ≡ None
+none_there None is = refl
+none_there (Some put) is = absurd (false≢true (sym is))
+
+never_live : (t : ℕ) (e : Entry) (s : Status) → puts e ≡ false → live t e s ≡ false
+unfolding runs lasts
+never_live t e Ended quiet = refl
+never_live t e Open quiet = ap (λ b. b || false) (ap (option_any (λ (put : Put). granted_at t e.time put.granted)) (none_there (put_of e.change) quiet))
+never_live t e (Withdrawn at) quiet =
+    ap (λ b. b && nat_lt t (at + 120)) (ap (option_any (λ (put : Put). granted_at at e.time put.granted)) (none_there (put_of e.change) quiet))
+
+inside_or_quiet : (domains : ℕ) (e : Entry) → is_inside domains e ≡ true → puts e ≡ true → e.domain < domains
+inside_or_quiet domains e inside put = ltb-true e.domain domains (sym (ap (λ b. not b || nat_lt e.domain domains) put) ∙ inside)
+
+none_counts : (test : Entry → Bool) (t domains : ℕ) (entries : List Entry) → ((x : Entry) → x.domain < domains → test x ≡ false)
+    → list_all (is_inside domains) entries ≡ true → tally (λ (m : Mitigation). test m.put) (mitigations t entries) ≡ 0
+none_counts test t domains [] out all = refl
+none_counts test t domains (e ∷ later) out all =
+    let parts = and_parts (is_inside domains e) (list_all (is_inside domains) later) all in
+    by_life (live t e (status e Open later)) refl (none_counts test t domains later out parts.1) parts.0
+  where
+    by_life : (b : Bool) → live t e (status e Open later) ≡ b → tally (λ (m : Mitigation). test m.put) (mitigations t later) ≡ 0 → is_inside domains e ≡ true
+        → tally (λ (m : Mitigation). test m.put) (option_to_list (cond b (Some (record { put = e; status = status e Open later })) None) ++ mitigations t later) ≡ 0
+    by_life false dead rest inside = rest
+    by_life true alive rest inside =
+        elim (cases_Bool (puts e)) [
+          | inl put ↦
+              let nought : ℕ = 0 in
+              let none : cond (test e) 1 0 ≡ nought = ap (λ b. cond b 1 0) (out e (inside_or_quiet domains e inside put)) in
+              omega (arith, none, rest)
+          | inr quiet ↦ absurd (false≢true (sym (never_live t e (status e Open later) quiet) ∙ alive))
+        ]
+
+out_of_client : (e x : Entry) → (e.domain == x.domain) ≡ false → same_client e x ≡ false
+unfolding same_client
+out_of_client e x out = ap (λ b. b && bytes_eq e.cuid x.cuid) out
+
+-- an entry of no domain finds room
+outside_room : (live : LiveValue) (entries : List Entry) (e : Entry) → live.domains ≤ e.domain → puts e ≡ false → lives.StandsFor live entries
+    → has_live_room live.limits entries e ≡ true
+outside_room live entries e past quiet stands =
+    let all : list_all (is_inside live.domains) (entries ++ e ∷ []) ≡ true =
+    list_all-append (is_inside live.domains) entries (e ∷ [])
+    ∙ and_from
+    (list_all (is_inside live.domains) entries)
+    (list_all (is_inside live.domains) (e ∷ []))
+    stands.inside
+    (and_from (is_inside live.domains e) true (quiet_inside live.domains e quiet) refl) in
+    let domain = none_counts (λ (x : Entry). x.domain == e.domain) e.time live.domains (entries ++ e ∷ []) (λ x less. ne_eqb x.domain e.domain (apart x less)) all in
+    let client = none_counts (same_client e) e.time live.domains (entries ++ e ∷ []) (λ x less. out_of_client e x (ne_eqb e.domain x.domain (turned x less))) all in
+    and_from
+    (nat_le (tally (λ (m : Mitigation). m.put.domain == e.domain) (mitigations e.time (entries ++ e ∷ []))) live.limits.domain_mitigations)
+    (nat_le (tally (λ (m : Mitigation). same_client e m.put) (mitigations e.time (entries ++ e ∷ []))) live.limits.client_mitigations)
+    (ap (λ n. nat_le n live.limits.domain_mitigations) domain ∙ le-leb 0 live.limits.domain_mitigations (omega arith))
+    (ap (λ n. nat_le n live.limits.client_mitigations) client ∙ le-leb 0 live.limits.client_mitigations (omega arith))
+  where
+    apart : (x : Entry) → x.domain < live.domains → x.domain ≡ e.domain → ⊥
+    apart x less same = omega (arith, less, past, same)
+
+    turned : (x : Entry) → x.domain < live.domains → e.domain ≡ x.domain → ⊥
+    turned x less same = omega (arith, less, past, same)
+
+-- ---- the whole
+
+last_within : (low high : ℕ) (entries : List Entry) → Within low entries high → laws.last_or low entries ≤ high
+last_within low high [] is = is
+last_within low high (e ∷ later) is = last_within e.time high later is.1
+
+swapped : (a l r : Bool) → (a && (l && r)) ≡ ((a && r) && l)
+swapped false l r = refl
+swapped true true true = refl
+swapped true true false = refl
+swapped true false true = refl
+swapped true false false = refl
+
+none_of_all : (b x y : Bool) → ((b && false) && x) ≡ (b && (false && y))
+none_of_all true x y = refl
+none_of_all false x y = refl
+
+both_of_all : (b x y : Bool) → x ≡ y → ((b && true) && x) ≡ (b && (true && y))
+both_of_all true x y same = same
+both_of_all false x y same = refl
+
+abbrev by_tables : SettingsValue → RegistryValue → List Entry → Entry → Bool
+by_tables settings registry entries e =
+    nat_le (time_of registry) e.time
+    && (nat_lt e.time 281474976710656
+    && (is_of_settings settings e && (accepts registry.held.sizes entries e && has_live_room registry.live.limits entries e)))
+
+fits_is : (settings : SettingsValue) (registry : RegistryValue) (entries : List Entry) (e : Entry) → IsOf settings registry → StandsFor registry entries
+    → fits_now settings registry entries e ≡ by_tables settings registry entries e
+fits_is settings registry entries e is_of stands =
+    elim (cases_Bool (nat_le (time_of registry) e.time)) [
+      | inl later ↦
+          let last : laws.last_time entries ≤ time_of registry = last_within 0 (time_of registry) entries stands.live.in_order in
+          let less : time_of registry ≤ e.time = leb-true (time_of registry) e.time later in
+          let after : nat_le (laws.last_time entries) e.time ≡ true = le-leb (laws.last_time entries) e.time (omega (arith, last, less)) in
+          let standing = held (entries ++ e ∷ []) in
+          let ms = mitigations e.time (entries ++ e ∷ []) in
+          let back = laws.registers_rightly (held entries) e && laws.keeps_room settings.limits e ms standing in
+          let rest = accepts registry.held.sizes entries e && has_live_room registry.live.limits entries e in
+          ap
+          (λ b. nat_le (time_of registry) e.time && (((b && nat_lt e.time 281474976710656) && is_of_settings settings e) && back))
+          after
+          ∙ ap (λ b. nat_le (time_of registry) e.time && b) (by_own (is_of_settings settings e) refl)
+      | inr early ↦
+          ap (λ b. b && laws.fits settings entries e) early
+          ∙ sym (ap (λ b. b && (nat_lt e.time 281474976710656 && (is_of_settings settings e && (accepts registry.held.sizes entries e && has_live_room registry.live.limits entries e)))) early)
+    ]
+  where
+    rooms : is_of_settings settings e ≡ true
+        → (laws.registers_rightly (held entries) e && laws.keeps_room settings.limits e (mitigations e.time (entries ++ e ∷ [])) (held (entries ++ e ∷ [])))
+        ≡ (accepts registry.held.sizes entries e && has_live_room registry.live.limits entries e)
+    rooms own =
+        swapped
+        (laws.registers_rightly (held entries) e)
+        (keeps_live_room settings.limits e (mitigations e.time (entries ++ e ∷ [])))
+        (keeps_rooms (sizes_of settings).rooms e (held (entries ++ e ∷ [])))
+        ∙ ap (λ b. b && has_live_room settings.limits entries e) (sym (accepts_own settings entries e own))
+        ∙ ap (λ s. accepts s entries e && has_live_room settings.limits entries e) (sym is_of.sizes)
+        ∙ ap (λ (l : Limits). accepts registry.held.sizes entries e && has_live_room l entries e) (sym is_of.limits)
+
+    by_own : (b : Bool) → is_of_settings settings e ≡ b
+        → ((nat_lt e.time 281474976710656 && b)
+        && (laws.registers_rightly (held entries) e && laws.keeps_room settings.limits e (mitigations e.time (entries ++ e ∷ [])) (held (entries ++ e ∷ []))))
+        ≡ (nat_lt e.time 281474976710656 && (b && (accepts registry.held.sizes entries e && has_live_room registry.live.limits entries e)))
+    by_own true own =
+        both_of_all
+        (nat_lt e.time 281474976710656)
+        (laws.registers_rightly (held entries) e && laws.keeps_room settings.limits e (mitigations e.time (entries ++ e ∷ [])) (held (entries ++ e ∷ [])))
+        (accepts registry.held.sizes entries e && has_live_room registry.live.limits entries e)
+        (rooms own)
+    by_own false own =
+        none_of_all
+        (nat_lt e.time 281474976710656)
+        (laws.registers_rightly (held entries) e && laws.keeps_room settings.limits e (mitigations e.time (entries ++ e ∷ [])) (held (entries ++ e ∷ [])))
+        (accepts registry.held.sizes entries e && has_live_room registry.live.limits entries e)
+
+-- in the order in which it is asked
+asked_first : (a b c d : Bool) → (a && (b && (c && d))) ≡ ((b && c) && (a && d))
+asked_first true true c d = refl
+asked_first true false c d = refl
+asked_first false true true d = refl
+asked_first false true false d = refl
+asked_first false false c d = refl
+
+abbrev is_possible : SettingsValue → Entry → Bool
+is_possible settings e = nat_lt e.time 281474976710656 && is_of_settings settings e
+
+fits_asked : (settings : SettingsValue) (registry : RegistryValue) (entries : List Entry) (e : Entry) → IsOf settings registry → StandsFor registry entries
+    → fits_now settings registry entries e ≡ (is_possible settings e && fits_tables registry entries e)
+fits_asked settings registry entries e is_of stands =
+    fits_is settings registry entries e is_of stands
+    ∙ asked_first
+    (nat_le (time_of registry) e.time)
+    (nat_lt e.time 281474976710656)
+    (is_of_settings settings e)
+    (accepts registry.held.sizes entries e && has_live_room registry.live.limits entries e)
+
+pub fits_possible : (settings : SettingsValue) (registry : RegistryValue) (entries : List Entry) (e : Entry) → IsOf settings registry → StandsFor registry entries
+    → is_possible settings e ≡ true → fits_now settings registry entries e ≡ fits_tables registry entries e
+fits_possible settings registry entries e is_of stands is =
+    fits_asked settings registry entries e is_of stands ∙ ap (λ b. b && fits_tables registry entries e) is
+
+pub fits_impossible : (settings : SettingsValue) (registry : RegistryValue) (entries : List Entry) (e : Entry) → IsOf settings registry → StandsFor registry entries
+    → is_possible settings e ≡ false → fits_now settings registry entries e ≡ false
+fits_impossible settings registry entries e is_of stands is =
+    fits_asked settings registry entries e is_of stands ∙ ap (λ b. b && fits_tables registry entries e) is
+
+pub possible_inside : (settings : SettingsValue) (registry : RegistryValue) (e : Entry) → IsOf settings registry → is_possible settings e ≡ true → puts e ≡ true
+    → e.domain < registry.live.domains
+possible_inside settings registry e is_of is put =
+    own_inside settings registry e is_of (and_parts (nat_lt e.time 281474976710656) (is_of_settings settings e) is).1 put
+
+pub room_outside : (inside now : RegistryValue) (domains : ℕ) (entries : List Entry) (e : Entry) → inside ≡ now → domains ≡ inside.live.domains → domains ≤ e.domain
+    → (puts e ≡ true → e.domain < now.live.domains) → StandsFor now entries → true ≡ has_live_room now.live.limits entries e
+room_outside inside now domains entries e same are past within stands =
+    let all : domains ≡ now.live.domains = are ∙ ap (λ (r : RegistryValue). r.live.domains) same in
+    sym (outside_room now.live entries e (omega (arith, past, all)) (false_from_ne_true (puts e) (λ put. let less = within put in omega (arith, less, past, all))) stands.live)

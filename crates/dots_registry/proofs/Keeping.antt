@@ -1,0 +1,113 @@
+-- A registry stands for each part of a history that has its view, and nothing of it is left open.
+use Rattle.std.proofs.Common.{◌≡◌, ℕ, ◌<◌, ◌≤◌, List, [], ◌∷◌, map, filter, inl, inr, sym, ap, ◌∙◌, subst, arith}
+use Rattle.dots_settings.specs.declared.limits.Limits.{Limits}
+use Rattle.dots_history.specs.declared.entry.Entry.{Entry}
+use Rattle.dots_history.specs.Entries.{signals}
+use Rattle.dots_history.specs.Histories.{View, Within, IsPart, Kept, Calm, mitigations, recent, alone}
+use Rattle.dots_history.specs.Keeping.{kept}
+use Rattle.dots_history.proofs.Remembering.{recent_are_lasts}
+use Rattle.dots_laws.specs.Tables.{bare, bare_mitigation, ring}
+use Rattle.dots_laws.specs.Views.{mitigations_of}
+use Rattle.dots_laws.proofs.Apart.{apart}
+use Rattle.dots_laws.proofs.Bare.{bare_mitigations}
+use Rattle.dots_laws.proofs.Parts.{part_list_all}
+use Rattle.dots_laws.proofs.Views.{dropping}
+use Rattle.live_mitigations.specs.Standing.{LiveValue, kept_of, is_inside}
+use Rattle.live_mitigations.specs.Standing as lives
+use Rattle.held_things.specs.Tables.{Have}
+use Rattle.held_things.proofs.Standing.{one_value}
+use Rattle.coap_exchange.specs.Rings.{RingValue, messages_of, reply_to}
+use Rattle.coap_exchange.specs.Noting.{Remembers, AllRemember, said_by_entry}
+use Rattle.dots_registry.specs.Standing.{RegistryValue, StandsFor, SameSize, time_of, number_remembered, has_ring}
+use Rattle.dots_registry.proofs.Rings.{replies}
+
+-- ---- the times of a part
+
+low_high : (low high : ℕ) (xs : List Entry) → Within low xs high → low ≤ high
+low_high low high [] is = is
+low_high low high (x ∷ xs) is = let here = is.0 in let rest = low_high x.time high xs is.1 in omega (arith, here, rest)
+
+lower : (less low high : ℕ) (xs : List Entry) → less ≤ low → Within low xs high → Within less xs high
+lower less low high [] below is = omega (arith, below, is)
+lower less low high (x ∷ xs) below is = let here = is.0 in (omega (arith, below, here), is.1)
+
+within_part : (low high : ℕ) (few all : List Entry) → IsPart few all → Within low all high → Within low few high
+within_part low high [] all part is = low_high low high all is
+within_part low high (x ∷ few) [] part is = absurd part
+within_part low high (x ∷ few) (y ∷ all) (inl same) is =
+    subst (λ (z : Entry). Within low (z ∷ few) high) (sym same.0) (is.0, within_part y.time high few all same.1 is.1)
+within_part low high (x ∷ few) (y ∷ all) (inr part) is = within_part low high (x ∷ few) all part (lower low y.time high all is.0 is.1)
+
+-- ---- by the view
+
+alone_by_all : (t domain : ℕ) (entries : List Entry)
+    → mitigations t (alone domain (map bare entries)) ≡ mitigations_of domain (map bare_mitigation (mitigations t entries))
+alone_by_all t domain entries = apart domain t (map bare entries) ∙ ap (mitigations_of domain) (bare_mitigations t entries)
+
+ring_by_recent : (n peer domain : ℕ) (few all : List Entry) → recent n few ≡ recent n all → ring n peer domain few ≡ ring n peer domain all
+ring_by_recent n peer domain few all same =
+    sym (recent_are_lasts n peer domain few) ∙ ap (filter (signals peer domain)) same ∙ recent_are_lasts n peer domain all
+
+live_part : (live : LiveValue) (few all : List Entry) → IsPart few all → mitigations live.time few ≡ mitigations live.time all → lives.StandsFor live all
+    → lives.StandsFor live few
+live_part live few all part same stands = record {
+  in_order = within_part 0 live.time few all part stands.in_order;
+  inside = part_list_all (is_inside live.domains) few all part stands.inside;
+  are_tables = stands.are_tables;
+  rows = λ domain within.
+      stands.rows domain within
+      ∙ alone_by_all live.time domain all
+      ∙ ap (λ ms. mitigations_of domain (map bare_mitigation ms)) (sym same)
+      ∙ sym (alone_by_all live.time domain few);
+}
+
+remember_part : (n : ℕ) (rings : List RingValue) (few all : List Entry) → recent n few ≡ recent n all → AllRemember n rings all → AllRemember n rings few
+remember_part n rings few all same remembers = λ peer domain r there.
+    let is : Remembers n all peer domain r = remembers peer domain r there in
+    record { room = is.room; messages = is.messages ∙ ap (map said_by_entry) (sym (ring_by_recent n peer domain few all same)) }
+
+pub part_stands : (registry : RegistryValue) (few all : List Entry) → Kept (number_remembered registry) (time_of registry) few all → StandsFor registry all
+    → StandsFor registry few
+part_stands registry few all same stands = record {
+  live = live_part registry.live few all same.is_part (ap (λ (v : View). v.mitigations) same.same_view) stands.live;
+  held = subst (Have registry.held) (sym (ap (λ (v : View). v.held) same.same_view)) stands.held;
+  remembered = remember_part (number_remembered registry) registry.rings few all (ap (λ (v : View). v.recent) same.same_view) stands.remembered;
+  signalled = part_list_all (has_ring registry.rings) few all same.is_part stands.signalled;
+}
+
+pub named_stands : (registry : RegistryValue) (entries : List Entry) → Calm entries → StandsFor registry entries
+    → StandsFor registry (kept (number_remembered registry) (time_of registry) entries)
+named_stands registry entries calm stands =
+    part_stands
+    registry
+    (kept (number_remembered registry) (time_of registry) entries)
+    entries
+    (dropping (number_remembered registry) (time_of registry) entries stands.live.in_order calm)
+    stands
+
+-- ---- one for a history
+
+pub same_kept : (a b : RegistryValue) (entries : List Entry) → SameSize a b → StandsFor a entries → StandsFor b entries → (domain : ℕ) → domain < a.live.domains
+    → kept_of a.live domain ≡ kept_of b.live domain
+same_kept a b entries same of_a of_b domain within =
+    of_a.live.rows domain within
+    ∙ ap (λ t. mitigations t (alone domain (map bare entries))) same.time
+    ∙ sym (of_b.live.rows domain (subst (λ n. domain < n) same.domains within))
+
+pub same_things : (a b : RegistryValue) (entries : List Entry) → SameSize a b → StandsFor a entries → StandsFor b entries → a.held ≡ b.held
+same_things a b entries same of_a of_b = one_value a.held b.held entries same.sizes of_a.held of_b.held
+
+pub same_replies : (a b : RegistryValue) (entries : List Entry) → SameSize a b → StandsFor a entries → StandsFor b entries → (now peer domain id : ℕ)
+    → reply_to id now (messages_of peer domain a.rings) ≡ reply_to id now (messages_of peer domain b.rings)
+same_replies a b entries same of_a of_b now peer domain id =
+    replies a entries (number_remembered a) now peer domain id of_a.remembered of_a.signalled
+    ∙ sym (replies
+    b
+    entries
+    (number_remembered a)
+    now
+    peer
+    domain
+    id
+    (subst (λ n. AllRemember n b.rings entries) (sym (ap (λ (l : Limits). l.remembered) same.limits)) of_b.remembered)
+    of_b.signalled)

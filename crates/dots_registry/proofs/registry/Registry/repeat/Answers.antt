@@ -1,0 +1,19 @@
+use Rattle.std.proofs.Common.{◌∙◌}
+use Rattle.dots_registry.proofs.Standing.{joined}
+use Rattle.dots_registry.proofs.Rings.{repeat_is}
+use Rattle.dots_registry.proofs.registry.Registry.repeat.Goals as goal
+
+pub returns : goal.returns
+returns c = λ entries stands.
+    c.look.ensures
+    ∙ repeat_is
+    (joined c.self.inside.live c.self.inside.held c.self.inside.remembered)
+    c.args.self.now
+    c.time.result
+    c.args.peer
+    c.args.domain
+    c.args.id
+    entries
+    c.self.view_is
+    c.time.ensures
+    stands

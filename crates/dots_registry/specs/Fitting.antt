@@ -1,0 +1,26 @@
+-- Which entries a registry can take.
+use Rattle.std.specs.Prelude.{◌≡◌, Bool, true, ◌&&◌, nat_le, List}
+use Rattle.dots_settings.specs.Settings.{SettingsValue}
+use Rattle.dots_history.specs.declared.entry.Entry.{Entry}
+use Rattle.dots_laws.specs.Fits as laws
+use Rattle.live_mitigations.specs.Standing.{has_live_room}
+use Rattle.held_things.specs.Accepting.{accepts}
+use Rattle.dots_registry.specs.Standing.{RegistryValue, StandsFor, IsOf, time_of}
+
+-- the entry isn't before the registry's time, and fits a history by the settings
+abbrev pub fits_now : SettingsValue → RegistryValue → List Entry → Entry → Bool
+fits_now settings registry entries e = nat_le (time_of registry) e.time && laws.fits settings entries e
+
+-- the same but for what the settings say of the entry alone: by the registry's time, what is held and the live mitigations
+abbrev pub fits_tables : RegistryValue → List Entry → Entry → Bool
+fits_tables registry entries e =
+    nat_le (time_of registry) e.time && (accepts registry.held.sizes entries e && has_live_room registry.live.limits entries e)
+
+-- There are settings of which the registry is, and a history for which it stands, so that the entry fits this history by
+-- these settings and isn't before the registry's time.
+pub record FitsIn (registry : RegistryValue) (e : Entry) : Type 0 where
+  pub settings : SettingsValue
+  pub entries : List Entry
+  pub is_of : IsOf settings registry
+  pub stands : StandsFor registry entries
+  pub fits : fits_now settings registry entries e ≡ true

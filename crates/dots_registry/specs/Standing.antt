@@ -1,0 +1,83 @@
+-- When what a registry keeps is what a history comes to at a time.
+use Rattle.std.specs.Prelude.{◌≡◌, ℕ, Bool, true, not, ◌||◌, if◌then◌else◌, List, [], map, length}
+use Rattle.std.specs.List.{list_any, list_all}
+use Rattle.dots_settings.specs.Settings.{SettingsValue}
+use Rattle.dots_history.specs.declared.entry.Entry.{Entry}
+use Rattle.dots_history.specs.Entries.{is_signal}
+use Rattle.live_mitigations.specs.Standing.{LiveValue}
+use Rattle.live_mitigations.specs.Standing as live
+use Rattle.held_things.specs.Tables.{Tables, sizes_of}
+use Rattle.held_things.specs.Tables as held
+use Rattle.coap_exchange.specs.declared.pair.Pair.{Pair}
+use Rattle.coap_exchange.specs.Pairs.{pairs_of}
+use Rattle.coap_exchange.specs.Rings.{RingValue, is_ring_of, noted}
+use Rattle.coap_exchange.specs.Noting.{AllRemember, message_of}
+
+-- What is kept: the live mitigations with the time at which they are, the registrations, aliases, access lists and
+-- session configurations, and the last messages of each peer and domain.
+pub record RegistryValue : Type 0 where
+  pub live : LiveValue
+  pub held : Tables
+  pub rings : List RingValue
+
+abbrev pub time_of : RegistryValue → ℕ
+time_of registry = registry.live.time
+
+-- how many messages of a peer and domain are remembered
+abbrev pub number_remembered : RegistryValue → ℕ
+number_remembered registry = registry.live.limits.remembered
+
+-- a signal entry is of a peer and domain whose messages are remembered
+abbrev pub has_ring : List RingValue → Entry → Bool
+has_ring rings e = not (is_signal e.change) || list_any (is_ring_of e.peer e.domain) rings
+
+-- It stands for a history at its time: the live mitigations of each domain are those of the history at this time; held is what
+-- the history leaves held; and the messages that are remembered of each peer and domain are the last so many of the
+-- history, of which none is of others.
+pub record StandsFor (registry : RegistryValue) (entries : List Entry) : Type 0 where
+  pub live : live.StandsFor registry.live entries
+  pub held : held.StandsFor registry.held entries
+  pub remembered : AllRemember (number_remembered registry) registry.rings entries
+  pub signalled : list_all (has_ring registry.rings) entries ≡ true
+
+-- ---- settings
+
+abbrev pub pair_of : RingValue → Pair
+pair_of ring = ring.pair
+
+-- The registry is of these settings: it has their domains, their capacities, their peers, and each pair of a peer and a
+-- domain that it may act for.
+pub record IsOf (settings : SettingsValue) (registry : RegistryValue) : Type 0 where
+  pub domains : registry.live.domains ≡ length settings.domains
+  pub limits : registry.live.limits ≡ settings.limits
+  pub sizes : registry.held.sizes ≡ sizes_of settings
+  pub pairs : map pair_of registry.rings ≡ pairs_of settings
+
+-- both have the same domains, capacities and peers, at the same time
+pub record SameSize (a b : RegistryValue) : Type 0 where
+  pub domains : a.live.domains ≡ b.live.domains
+  pub limits : a.live.limits ≡ b.live.limits
+  pub time : time_of a ≡ time_of b
+  pub sizes : a.held.sizes ≡ b.held.sizes
+
+-- ---- what an entry gives to the messages
+
+-- an entry with this reply
+abbrev pub answered : List ℕ → Entry → Entry
+answered reply e = record {
+  time = e.time;
+  peer = e.peer;
+  domain = e.domain;
+  cuid = e.cuid;
+  key = e.key;
+  reply = reply;
+  change = e.change;
+}
+
+-- an entry without its reply
+abbrev pub silent : Entry → Entry
+silent e = answered [] e
+
+-- the message of a signal entry is remembered with the slot in which its entry stands
+abbrev pub rings_with : ℕ → Entry → List RingValue → List RingValue
+rings_with slot e rings = if is_signal e.change then noted e.peer e.domain (message_of slot e) rings else rings

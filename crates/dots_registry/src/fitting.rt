@@ -1,0 +1,56 @@
+//! Which entries a registry can take.
+
+ghost use Rattle.std.specs.Prelude.{◌≡◌, ◌≤◌, ◌<◌, ◌&&◌, nat_lt, true, List};
+ghost use Rattle.dots_laws.specs.Calm.{is_of_settings};
+ghost use Rattle.dots_history.specs.declared.entry.Entry.{Entry};
+ghost use Rattle.live_mitigations.specs.Standing.{puts, has_live_room};
+ghost use Rattle.dots_registry.specs.Standing.{StandsFor, IsOf, time_of};
+ghost use Rattle.dots_registry.specs.Fitting.{fits_now, fits_tables};
+
+use crate::registry::Registry;
+use dots_history::Entry;
+use dots_laws::is_of_settings;
+use dots_settings::Settings;
+
+/// No entry has this time, in seconds, or a later one.
+const TIMES: u64 = 281_474_976_710_656;
+
+impl Registry {
+    /// Whether an entry fits, by the settings of which the registry is: its time isn't before that of the registry and is below
+    /// 2^48; its peer may act for its domain, inside which lies what it names; only a client that isn't registered registers,
+    /// and only one that is writes aliases and access lists; and after it the capacities are kept.
+    pub fn fits(&self, settings: &Settings, entry: &Entry) -> bool
+        requires { IsOf settings.now self.now }
+        ensures { (entries : List Entry) → StandsFor self.now entries → result ≡ fits_now settings.now self.now entries entry.now }
+    {
+        is_possible(settings, entry) && self.takes(entry)
+    }
+
+    /// Whether it is not before the registry's time, and what the history comes to with it is allowed.
+    fn takes(&self, entry: &Entry) -> bool
+        requires { puts entry.now ≡ true → entry.now.domain < self.now.live.domains }
+        ensures { (entries : List Entry) → StandsFor self.now entries → result ≡ fits_tables self.now entries entry.now }
+    {
+        self.time() <= entry.time && self.held.fits(entry) && self.has_live_room(entry)
+    }
+
+    /// Whether with the entry, at its time, its domain and its client have at most as many live mitigations as the settings
+    /// say.
+    fn has_live_room(&self, entry: &Entry) -> bool
+        requires later { time_of self.now ≤ entry.now.time }
+        requires inside { puts entry.now ≡ true → entry.now.domain < self.now.live.domains }
+        ensures { (entries : List Entry) → StandsFor self.now entries → result ≡ has_live_room self.now.live.limits entries entry.now }
+    {
+        if entry.domain < self.live.domains() {
+            return self.live.has_room(entry);
+        }
+        true
+    }
+}
+
+/// Whether its time is below 2^48 and it is of the settings.
+fn is_possible(settings: &Settings, entry: &Entry) -> bool
+    ensures { result ≡ (nat_lt entry.now.time 281474976710656 && is_of_settings settings.now entry.now) }
+{
+    entry.time < TIMES && is_of_settings(settings, entry)
+}

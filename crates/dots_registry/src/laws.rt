@@ -1,0 +1,28 @@
+//! What the definitions come to: each function's contract is a law, and its body does nothing.
+
+ghost use Rattle.std.specs.Prelude.{◌≡◌, ℕ, ◌<◌, List};
+ghost use Rattle.dots_history.specs.declared.entry.Entry.{Entry};
+ghost use Rattle.dots_history.specs.Histories.{Kept, Calm};
+ghost use Rattle.dots_history.specs.Keeping.{kept};
+ghost use Rattle.live_mitigations.specs.Standing.{kept_of};
+ghost use Rattle.coap_exchange.specs.Rings.{messages_of, reply_to};
+ghost use Rattle.dots_registry.specs.Standing.{RegistryValue, StandsFor, SameSize, time_of, number_remembered};
+
+/// A registry that stands for a history stands for each part of it that has its view, so for what the view names of a calm
+/// history: entries that a compaction leaves out change nothing of it.
+pub fn parts_with_the_view_are_stood_for()
+    ensures part { (registry : RegistryValue) (few all : List Entry) → Kept (number_remembered registry) (time_of registry) few all
+        → StandsFor registry all → StandsFor registry few }
+    ensures named { (registry : RegistryValue) (entries : List Entry) → Calm entries → StandsFor registry entries
+        → StandsFor registry (kept (number_remembered registry) (time_of registry) entries) }
+{}
+
+/// Registries of one size and time that stand for one history keep the same mitigations and things, and answer the same
+/// replies.
+pub fn registries_are_one()
+    ensures mitigations { (a b : RegistryValue) (entries : List Entry) → SameSize a b → StandsFor a entries → StandsFor b entries
+        → (domain : ℕ) → domain < a.live.domains → kept_of a.live domain ≡ kept_of b.live domain }
+    ensures things { (a b : RegistryValue) (entries : List Entry) → SameSize a b → StandsFor a entries → StandsFor b entries → a.held ≡ b.held }
+    ensures replies { (a b : RegistryValue) (entries : List Entry) → SameSize a b → StandsFor a entries → StandsFor b entries
+        → (now peer domain id : ℕ) → reply_to id now (messages_of peer domain a.rings) ≡ reply_to id now (messages_of peer domain b.rings) }
+{}

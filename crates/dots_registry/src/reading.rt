@@ -1,0 +1,144 @@
+//! What is read of a registry.
+
+ghost use Rattle.std.specs.Prelude.{◌≡◌, ◌<◌, ◌≤◌, ◌==◌, List, option_copied, option_map};
+ghost use Rattle.std.specs.List.{list_any};
+ghost use Rattle.dots_history.specs.declared.entry.Entry.{Entry};
+ghost use Rattle.dots_history.specs.Bounds.{prefix_count};
+ghost use Rattle.dots_history.specs.Histories.{mitigations, held, remembered};
+ghost use Rattle.conflict_rules.specs.Wanted.{wanted};
+ghost use Rattle.conflict_rules.specs.ByMid.{collides, judge_mid};
+ghost use Rattle.conflict_rules.specs.ByOverlap.{judge_overlap};
+ghost use Rattle.live_mitigations.specs.Judging.{lives_of};
+ghost use Rattle.live_mitigations.specs.Reading.{shown_in};
+ghost use Rattle.held_things.specs.Held.{aliases_of, acls_of, alias_named, acl_named, is_registered, config_of, number_of, reached};
+ghost use Rattle.held_things.specs.Tables.{most_of, told};
+ghost use Rattle.dots_registry.specs.Standing.{StandsFor, time_of, number_remembered};
+
+use crate::registry::Registry;
+use acl_lists::{Acl, Alias, Asked};
+use conflict_rules::{Judgement, MidJudgement};
+use dots_history::{Config, TargetList};
+use dots_lists::Name;
+use held_things::RoomKind;
+use live_mitigations::Mitigations;
+
+impl Registry {
+    /// The reply to a repeat of a message of this peer for this domain with this Message ID (RFC 7252, section 4.5).
+    pub fn repeat(&self, peer: u32, domain: u16, id: u16) -> Option<&[u8]>
+        ensures { (entries : List Entry) → StandsFor self.now entries
+            → option_copied result ≡ option_map (λ e. e.reply) (remembered (number_remembered self.now) (time_of self.now) peer domain id entries) }
+    {
+        self.remembered.look(peer, domain, id, self.live.time())
+    }
+
+    /// Whether the client's name is in use by another peer: a live mitigation of the client, standing or terminating, has
+    /// another one (RFC 9132, section 4.4.1.3).
+    pub fn collides(&self, domain: u16, cuid: &[u8], peer: u32) -> bool
+        requires { domain < self.now.live.domains }
+        ensures { (entries : List Entry) → StandsFor self.now entries → result ≡ collides (lives_of domain (time_of self.now) entries) peer cuid.now }
+    {
+        self.live.collides(domain, cuid, peer)
+    }
+
+    /// The live mitigations of a client, in order of their entries (RFC 9132, section 4.4.2).
+    pub fn mitigations<'a>(&'a self, domain: u16, cuid: &'a [u8]) -> Mitigations<'a>
+        requires { domain < self.now.live.domains }
+        ensures { (entries : List Entry) → StandsFor self.now entries → result ≡ shown_in domain cuid.now (time_of self.now) entries }
+    {
+        self.live.mitigations(domain, cuid)
+    }
+
+    /// Whether a live mitigation has this peer.
+    pub fn mitigating(&self, peer: u32) -> bool
+        ensures { (entries : List Entry) → StandsFor self.now entries → result ≡ list_any (λ m. m.put.peer == peer) (mitigations (time_of self.now) entries) }
+    {
+        self.live.mitigating(peer)
+    }
+
+    /// Judges a request by the mid that it has. The place of what it refreshes is that in the live mitigations of the
+    /// domain.
+    pub fn judge_mid(
+        &self,
+        domain: u16,
+        peer: u32,
+        cuid: &[u8],
+        mid: u32,
+        asked: &Asked,
+    ) -> MidJudgement
+        requires { domain < self.now.live.domains }
+        ensures { (entries : List Entry) → StandsFor self.now entries → result ≡ judge_mid (lives_of domain (time_of self.now) entries) peer cuid.now mid asked.now }
+    {
+        self.live.judge_mid(domain, peer, cuid, mid, asked)
+    }
+
+    /// Judges a new mitigation by what overlaps with it and by the room that there is. The targets have at most 64 prefixes
+    /// together.
+    pub fn judge_overlap(
+        &self,
+        domain: u16,
+        cuid: &[u8],
+        mid: u32,
+        asked: &Asked,
+        targets: &TargetList,
+    ) -> Judgement
+        requires within { domain < self.now.live.domains }
+        requires few { prefix_count targets.now ≤ 64 }
+        ensures { (entries : List Entry) → StandsFor self.now entries
+            → result ≡ judge_overlap (lives_of domain (time_of self.now) entries) cuid.now (wanted mid asked.now targets.now) self.now.live.limits }
+    {
+        self.live.judge_overlap(domain, cuid, mid, asked, targets)
+    }
+
+    /// Whether the client is registered (RFC 8783, section 5.1).
+    pub fn registered(&self, domain: u16, cuid: &[u8]) -> bool
+        ensures { (entries : List Entry) → StandsFor self.now entries → result ≡ is_registered (record { domain = domain; cuid = cuid.now }) (held entries) }
+    {
+        self.held.registered(domain, cuid)
+    }
+
+    /// The aliases of a client, in order of writing; none where it isn't registered (RFC 8783, section 6).
+    pub fn aliases(&self, domain: u16, cuid: &[u8]) -> &[Alias]
+        ensures { (entries : List Entry) → StandsFor self.now entries → result.now ≡ aliases_of (record { domain = domain; cuid = cuid.now }) (held entries) }
+    {
+        self.held.aliases(domain, cuid)
+    }
+
+    /// The access lists of a client, in order of writing; none where it isn't registered (RFC 8783, section 7).
+    pub fn acls(&self, domain: u16, cuid: &[u8]) -> &[Acl]
+        ensures { (entries : List Entry) → StandsFor self.now entries → result.now ≡ acls_of (record { domain = domain; cuid = cuid.now }) (held entries) }
+    {
+        self.held.acls(domain, cuid)
+    }
+
+    /// The alias of this name of a client.
+    pub fn alias(&self, domain: u16, cuid: &[u8], name: &Name) -> Option<&Alias>
+        ensures { (entries : List Entry) → StandsFor self.now entries
+            → option_copied result ≡ alias_named name.now (aliases_of (record { domain = domain; cuid = cuid.now }) (held entries)) }
+    {
+        self.held.alias(domain, cuid, name)
+    }
+
+    /// The access list of this name of a client.
+    pub fn acl(&self, domain: u16, cuid: &[u8], name: &Name) -> Option<&Acl>
+        ensures { (entries : List Entry) → StandsFor self.now entries
+            → option_copied result ≡ acl_named name.now (acls_of (record { domain = domain; cuid = cuid.now }) (held entries)) }
+    {
+        self.held.acl(domain, cuid, name)
+    }
+
+    /// The session configuration of a peer, with its sid (RFC 9132, section 4.5.2).
+    pub fn config(&self, peer: u32) -> Option<(u32, &Config)>
+        ensures { (entries : List Entry) → StandsFor self.now entries → option_map told result ≡ config_of peer (held entries) }
+    {
+        self.held.config(peer)
+    }
+
+    /// None where the client's domain has room for one more client, or the client for one more alias or access list; else
+    /// the number that there may be, which is reached.
+    pub fn room_for(&self, domain: u16, cuid: &[u8], kind: RoomKind) -> Option<u64>
+        ensures { (entries : List Entry) → StandsFor self.now entries
+            → result ≡ reached (most_of self.now.held.sizes.rooms kind) (number_of kind (record { domain = domain; cuid = cuid.now }) (held entries)) }
+    {
+        self.held.room_for(domain, cuid, kind)
+    }
+}
