@@ -1,6 +1,6 @@
 -- Visible characters are text, and so many of them are a name.
 use Rattle.std.proofs.Common.{◌≡◌, ℕ, zero, suc, ◌<◌, ◌≤◌, true, List, [], ◌∷◌, length, IsTrue, arith}
-use Rattle.std.specs.Prelude.{IsUtf8, nat_le, slice_index, ◌&&◌}
+use Rattle.std.specs.Prelude.{IsUtf8, nat_le, slice_index}
 use Rattle.std.specs.Str.{IsAscii}
 use Rattle.std.specs.Char.{is_ascii_graphic}
 use Rattle.std.specs.List.{list_all}

@@ -1,5 +1,5 @@
 -- The bytes of a number whose last bits are zero.
-use Rattle.std.proofs.Common.{mul_assoc, ◌≡◌, ℕ, zero, suc, ◌+◌, ◌-◌, ◌*◌, ◌/◌, ◌%◌, ◌^◌, ◌<◌, ◌≤◌, ◌⊎◌, inl, inr, min, Bool, true, false, ◌==◌, List, [], ◌∷◌, ◌++◌, Ok, Err, refl, sym, ap, subst, ◌∙◌, arith}
+use Rattle.std.proofs.Common.{mul_assoc, ◌≡◌, ℕ, zero, suc, ◌+◌, ◌-◌, ◌*◌, ◌/◌, ◌%◌, ◌^◌, ◌<◌, ◌≤◌, inl, inr, min, true, List, ◌∷◌, ◌++◌, Ok, Err, refl, sym, ap, subst, ◌∙◌, arith}
 use Rattle.std.proofs.lemmas.Bool.{cases_lt, eq-eqb}
 use Rattle.std.proofs.lemmas.Bool.Decides.{nat_tests}
 use Rattle.std.proofs.lemmas.Nat.{pow-add, pow_pos, mod-pow-add, div-mul-add, mod-mul-add, div_below}
@@ -16,8 +16,8 @@ use Rattle.ip_scope.specs.Prefix.{IsPrefix}
 use Rattle.entry_records.specs.declared.fault.EntryFault.{EntryFault}
 use Rattle.entry_records.specs.Values.{IsByte}
 use Rattle.entry_records.specs.Layout.{byte}
-use Rattle.entry_records.specs.Reading.{Read, address_at, byte_at, leads, both_at, zeros}
-use Rattle.entry_records.proofs.Readers.{AreBytes, IsReader, Sound, byte_reader, made_reader, pair_reader}
+use Rattle.entry_records.specs.Reading.{address_at, byte_at, leads, both_at, zeros}
+use Rattle.entry_records.proofs.Readers.{IsReader, Sound, byte_reader, made_reader, pair_reader}
 
 pub pow_256 : (k : ℕ) → 256 ^ k ≡ 2 ^ (8 * k)
 pow_256 zero = refl

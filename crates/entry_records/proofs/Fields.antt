@@ -1,16 +1,16 @@
 -- Readers of numbers, names and lists.
-use Rattle.std.proofs.Common.{◌≡◌, ℕ, zero, suc, ◌+◌, ◌-◌, ◌*◌, ◌/◌, ◌%◌, ◌^◌, ◌<◌, ◌≤◌, Bool, true, false, nat_lt, nat_le, ◌&&◌, List, [], ◌∷◌, ◌++◌, length, get_or, take, drop, Ok, Err, refl, sym, ap, subst, ◌∙◌, arith, append_assoc}
+use Rattle.std.proofs.Common.{◌≡◌, ℕ, zero, suc, ◌-◌, ◌%◌, ◌^◌, ◌<◌, ◌≤◌, Bool, true, false, nat_lt, nat_le, List, [], ◌∷◌, ◌++◌, length, get_or, take, drop, Ok, Err, refl, sym, ap, subst, arith}
 use Rattle.std.specs.Prelude.{if◌then◌else◌, replicate}
 use Rattle.std.specs.List.{AllByRecursion, flat_map}
-use Rattle.std.specs.Int.{w16, w32, w64, byte_len, to_be_bytes, from_be_bytes}
+use Rattle.std.specs.Int.{w16, w32, w64, to_be_bytes, from_be_bytes}
 use Rattle.std.proofs.lemmas.Bool.{and_from, and_parts}
 use Rattle.std.proofs.lemmas.Bool.Decides.{nat_tests}
-use Rattle.std.proofs.lemmas.List.{append-nil, take-append-le, length-append}
+use Rattle.std.proofs.lemmas.List.{append-nil, length-append}
 use Rattle.std.proofs.lemmas.Nat.{be_bytes_2, be_bytes_4, be_bytes_8, from_be_bytes-to_be_bytes_2, from_be_bytes-to_be_bytes_4, from_be_bytes-to_be_bytes_8}
 use Rattle.entry_records.specs.Values.{IsByte}
 use Rattle.entry_records.specs.Layout.{byte, counted, listed}
-use Rattle.entry_records.specs.Reading.{Read, ◌>>=◌, pair_at, both_at, made_at, second, prepended, items_at, byte_at, bytes_at, number_at, between, within_at, counted_at, list_at}
-use Rattle.entry_records.proofs.Readers.{AreBytes, IsReader, Sound, IsStuck, byte_reader, made_reader, pair_reader, no_head}
+use Rattle.entry_records.specs.Reading.{Read, pair_at, both_at, second, prepended, items_at, bytes_at, number_at, between, within_at, counted_at, list_at}
+use Rattle.entry_records.proofs.Readers.{AreBytes, IsReader, Sound, byte_reader, made_reader, pair_reader, no_head}
 
 -- ---- a byte from the least to the most
 

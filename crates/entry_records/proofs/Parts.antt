@@ -1,23 +1,16 @@
 -- Readers of the parts of an entry.
-use Rattle.std.proofs.Common.{◌≡◌, ℕ, ℤ, zero, suc, ◌+◌, ◌-◌, ◌*◌, ◌/◌, ◌%◌, ◌^◌, ◌<◌, ◌≤◌, ◌⊎◌, inl, inr, Bool, true, false, ◌==◌, ◌&&◌, ◌||◌, nat_le, Option, Some, None, List, [], ◌∷◌, ◌++◌, length, Ok, Err, IsTrue, refl, sym, ap, subst, ◌∙◌, arith, append_assoc}
-use Rattle.std.specs.Prelude.{FitsSigned, if◌then◌else◌}
+use Rattle.std.proofs.Common.{◌≡◌, ℕ, zero, suc, ◌<◌, ◌≤◌, ◌⊎◌, inl, inr, Bool, true, false, ◌==◌, ◌&&◌, nat_le, Option, Some, None, List, [], ◌∷◌, ◌++◌, length, Ok, Err, refl, sym, ap, subst, ◌∙◌, arith}
 use Rattle.std.specs.Char.{is_ascii_graphic}
 use Rattle.std.specs.List.{AllByRecursion, flat_map, list_all}
-use Rattle.std.specs.Int.{w16, w32, w64, w128, to_be_bytes, from_be_bytes, bytes_high_first, cast_signed, cast_unsigned}
 use Rattle.std.proofs.lemmas.Bool.{and_from, and_parts, cases_lt}
 use Rattle.std.proofs.lemmas.Bool.Decides.{nat_tests}
-use Rattle.dots_lists.specs.Name.{is_name}
 use Rattle.ip_scope.specs.declared.family.Family.{Family}
 use Rattle.ip_scope.specs.declared.family.Family.TheVariants.{V4, V6}
-use Rattle.ip_scope.specs.Family.{width}
-use Rattle.ip_scope.specs.Prefix.{PrefixValue, IsPrefix}
-use Rattle.ip_scope.specs.Ports.{Ports}
-use Rattle.entry_records.specs.Values.{IsByte, IsName, IsRange, IfThere}
-use Rattle.entry_records.specs.Layout.{byte, counted, listed, optional, flag_number, version, prefix_bytes, ports_bytes}
-use Rattle.entry_records.specs.Reading.{Read, pair_at, both_at, made_at, second, nothing_at, items_at, byte_at, number_at, within_at, visible_at, name_at, optional_at, there_at, flag_at, is_version, family_of, version_at, zeros, address_at, lowest_at, prefix_from, prefix_at, least_low, upper_at, ports_from, ports_at}
-use Rattle.entry_records.proofs.Digits.{IsAddress, address_reader}
-use Rattle.entry_records.proofs.Readers.{AreBytes, IsReader, Sound, byte_reader, made_reader, pair_reader}
-use Rattle.entry_records.proofs.Fields.{IsWithin, within_reader, is_between, between_most, between_least, AreItems, items_reader, both_reader, two_reader}
+use Rattle.entry_records.specs.Values.{IsByte, IsName, IfThere}
+use Rattle.entry_records.specs.Layout.{byte, counted, optional, flag_number, version}
+use Rattle.entry_records.specs.Reading.{Read, pair_at, second, nothing_at, items_at, byte_at, within_at, visible_at, name_at, optional_at, there_at, flag_at, is_version, family_of, version_at}
+use Rattle.entry_records.proofs.Readers.{IsReader, Sound, byte_reader, made_reader, pair_reader}
+use Rattle.entry_records.proofs.Fields.{IsWithin, within_reader, is_between, between_most, between_least, AreItems, items_reader}
 
 -- ---- nothing
 

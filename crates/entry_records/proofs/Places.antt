@@ -1,17 +1,14 @@
 -- Reading a record answers the entry whose record the bytes are, or the place at which no record can go on.
-use Rattle.std.proofs.Common.{◌≡◌, ℕ, zero, suc, ◌+◌, ◌-◌, ◌<◌, ◌≤◌, ◌⊎◌, inl, inr, Bool, true, false, List, [], ◌∷◌, ◌++◌, length, take, drop, Result, Ok, Err, refl, sym, ap, subst, ◌∙◌, arith, append_assoc}
-use Rattle.std.specs.Prelude.{◌==◌, if◌then◌else◌, get_or, IsTrue}
-use Rattle.std.specs.List.{AllByRecursion}
+use Rattle.std.proofs.Common.{◌≡◌, ℕ, zero, suc, ◌+◌, ◌-◌, ◌<◌, ◌≤◌, ◌⊎◌, inl, inr, Bool, false, List, [], ◌∷◌, ◌++◌, length, take, Result, Ok, Err, refl, sym, ap, subst, ◌∙◌, arith, append_assoc}
+use Rattle.std.specs.Prelude.{◌==◌, if◌then◌else◌}
 use Rattle.std.proofs.lemmas.Bool.{cases_lt}
 use Rattle.std.proofs.lemmas.Bool.Decides.{nat_tests}
 use Rattle.std.proofs.lemmas.List.{append-nil, length-append}
 use Rattle.dots_history.specs.declared.entry.Entry.{Entry}
-use Rattle.dots_history.specs.Bounds.{within_bounds}
-use Rattle.entry_records.specs.Values.{IsEntry}
 use Rattle.entry_records.specs.Layout.{record_bytes}
 use Rattle.entry_records.specs.Reading.{Read, ◌>>=◌, entry_at, alone, record_at}
 use Rattle.entry_records.specs.Records.{IsRecord, IsSomeRecord, BeginsRecord, IsBroken}
-use Rattle.entry_records.proofs.Readers.{AreBytes, IsReader, Sound, IsStuck, no_head}
+use Rattle.entry_records.proofs.Readers.{AreBytes, Sound, IsStuck, no_head}
 use Rattle.entry_records.proofs.Wholes.{MayBe, entry_reader}
 use Rattle.entry_records.proofs.Within.{entry_to, entry_from}
 

@@ -1,7 +1,7 @@
 -- Readers of prefixes, ports and port tests.
-use Rattle.std.proofs.Common.{◌≡◌, ℕ, zero, suc, ◌+◌, ◌-◌, ◌*◌, ◌/◌, ◌%◌, ◌^◌, ◌<◌, ◌≤◌, ◌⊎◌, inl, inr, Bool, true, false, ◌==◌, List, [], ◌∷◌, ◌++◌, length, Ok, refl, sym, ap, subst, ◌∙◌, arith}
+use Rattle.std.proofs.Common.{◌≡◌, ℕ, zero, suc, ◌+◌, ◌-◌, ◌*◌, ◌/◌, ◌%◌, ◌^◌, ◌<◌, ◌≤◌, inl, inr, Bool, true, false, ◌==◌, List, [], ◌∷◌, ◌++◌, length, Ok, refl, sym, ap, subst, ◌∙◌, arith}
 use Rattle.std.specs.Prelude.{if◌then◌else◌}
-use Rattle.std.specs.Int.{w16, w128, to_be_bytes, from_be_bytes, bytes_high_first}
+use Rattle.std.specs.Int.{w16, w128, to_be_bytes, bytes_high_first}
 use Rattle.std.proofs.lemmas.Bool.{cases_lt, eq-eqb}
 use Rattle.std.proofs.lemmas.Bool.Decides.{nat_tests}
 use Rattle.std.proofs.lemmas.Nat.{pow-add, pow_pos, be_bytes_2}
@@ -9,11 +9,11 @@ use Rattle.std.proofs.Math.Nat.{mul-le-mul_right}
 use Rattle.ip_scope.specs.declared.family.Family.{Family}
 use Rattle.ip_scope.specs.declared.family.Family.TheVariants.{V4, V6}
 use Rattle.ip_scope.specs.Family.{width}
-use Rattle.ip_scope.specs.Prefix.{PrefixValue, IsPrefix}
+use Rattle.ip_scope.specs.Prefix.{IsPrefix}
 use Rattle.ip_scope.specs.Ports.{Ports}
 use Rattle.acl_lists.specs.declared.port_test.PortTest.{PortTest}
 use Rattle.acl_lists.specs.declared.port_test.PortTest.TheVariants as port
-use Rattle.entry_records.specs.Values.{IsByte, IsRange, IsTest}
+use Rattle.entry_records.specs.Values.{IsRange, IsTest}
 use Rattle.entry_records.specs.Layout.{byte, version, prefix_bytes, ports_bytes, test_number, test_value, test_bytes}
 use Rattle.entry_records.specs.Reading.{Read, pair_at, both_at, made_at, second, nothing_at, number_at, within_at, version_at, zeros, address_at, lowest_at, prefix_from, prefix_at, least_low, upper_at, ports_from, ports_at, value_at, test_at}
 use Rattle.entry_records.proofs.Digits.{IsAddress, address_reader, high_byte, small_mod}

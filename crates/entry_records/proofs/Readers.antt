@@ -1,9 +1,9 @@
 -- What reading gives is what a layout says: how that is handed on from parts to wholes.
-use Rattle.std.proofs.Common.{◌≡◌, ℕ, zero, suc, ◌+◌, ◌-◌, ◌<◌, ◌≤◌, ◌^◌, Bool, true, false, nat_lt, nat_le, if◌then◌else◌, List, [], ◌∷◌, ◌++◌, length, take, drop, Result, Ok, Err, refl, sym, ◌∙◌, ap, subst, arith, append_assoc}
-use Rattle.std.specs.List.{AllByRecursion, flat_map}
+use Rattle.std.proofs.Common.{◌≡◌, ℕ, ◌-◌, Bool, true, false, if◌then◌else◌, List, [], ◌∷◌, ◌++◌, length, Ok, Err, refl, sym, ◌∙◌, ap, subst, arith, append_assoc}
+use Rattle.std.specs.List.{AllByRecursion}
 use Rattle.entry_records.specs.Values.{IsByte}
 use Rattle.entry_records.specs.Layout.{byte}
-use Rattle.entry_records.specs.Reading.{Read, ◌>>=◌, pair_at, made_at, items_at, byte_at, bytes_at, prepended}
+use Rattle.entry_records.specs.Reading.{Read, ◌>>=◌, pair_at, made_at, byte_at}
 
 abbrev pub AreBytes : List ℕ → Type 0
 AreBytes = AllByRecursion IsByte

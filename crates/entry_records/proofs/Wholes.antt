@@ -1,10 +1,10 @@
 -- Readers of aliases, access lists, mitigations, changes and whole entries.
-use Rattle.std.proofs.Common.{◌≡◌, ℕ, ℤ, zero, suc, ◌+◌, ◌-◌, ◌*◌, ◌/◌, ◌%◌, ◌^◌, ◌<◌, ◌≤◌, Bool, true, false, Option, Some, None, List, [], ◌∷◌, ◌++◌, length, drop, refl, sym, ap, subst, ◌∙◌, arith}
+use Rattle.std.proofs.Common.{◌≡◌, ℕ, ℤ, zero, suc, ◌-◌, ◌/◌, ◌%◌, ◌^◌, ◌<◌, ◌≤◌, Bool, Option, List, [], ◌∷◌, ◌++◌, length, drop, refl, sym, ap, subst, ◌∙◌, arith}
 use Rattle.std.specs.Prelude.{◌==◌, if◌then◌else◌}
-use Rattle.std.specs.List.{AllByRecursion, flat_map}
+use Rattle.std.specs.List.{flat_map}
 use Rattle.std.specs.Int.{w16, w32, w64, to_be_bytes, from_be_bytes, cast_signed, cast_unsigned}
 use Rattle.std.proofs.lemmas.Nat.{be_bytes_8, from_be_bytes-to_be_bytes_8}
-use Rattle.std.proofs.lemmas.Int.{of_z-to_z, to_z-of_z}
+use Rattle.std.proofs.lemmas.Int.{of_z-to_z}
 use Rattle.ip_scope.specs.declared.family.Family.{Family}
 use Rattle.ip_scope.specs.declared.family.Family.TheVariants.{V4, V6}
 use Rattle.ip_scope.specs.Prefix.{PrefixValue, IsPrefix}
@@ -16,7 +16,6 @@ use Rattle.acl_lists.specs.declared.acl.Activation.TheVariants as activation
 use Rattle.acl_lists.specs.declared.alias.Alias.{Alias}
 use Rattle.acl_lists.specs.declared.asked.Asked.{Asked}
 use Rattle.acl_lists.specs.declared.port_test.PortTest.{PortTest}
-use Rattle.dots_history.specs.Bounds.{prefix_count}
 use Rattle.dots_history.specs.declared.change.Change.{Change}
 use Rattle.dots_history.specs.declared.change.Change.TheVariants as change
 use Rattle.dots_history.specs.declared.config.Config.{Config}
@@ -27,9 +26,8 @@ use Rattle.dots_history.specs.declared.entry.MessageKey.TheVariants as key
 use Rattle.dots_history.specs.declared.put.Put.{Put}
 use Rattle.dots_history.specs.declared.put.Target.{Target}
 use Rattle.entry_records.specs.Values.{IsByte, IsName, IsRange, IfThere, IsTest, IsKey}
-use Rattle.entry_records.specs.Layout
 use Rattle.entry_records.specs.Layout.{byte, counted, listed, optional, flag_number, prefix_bytes, ports_bytes, asked_bytes, alias_bytes, test_bytes, ace_bytes, family_number, activation_number, acl_bytes, target_bytes, put_bytes, values_bytes, config_bytes, change_number, change_fields, change_bytes, key_number, key_id, key_bytes, reply_bytes, record_bytes}
-use Rattle.entry_records.specs.Reading.{Read, pair_at, both_at, made_at, second, prepended, nothing_at, number_at, within_at, bytes_at, time_of, time_at, visible_at, name_at, counted_at, list_at, optional_at, flag_at, prefix_at, ports_at, test_at, asked_from, asked_at, alias_from, alias_at, ace_from, ace_at, family_at, activation_of, activation_at, acl_from, acl_at, target_from, target_at, targets_at, all_targets_at, granted_at, put_from, put_at, values_from, values_at, config_from, config_at, fields_at, change_at, id_at, key_at, reply_at, entry_from, entry_at}
+use Rattle.entry_records.specs.Reading.{pair_at, both_at, second, prepended, number_at, within_at, bytes_at, time_of, time_at, visible_at, name_at, counted_at, list_at, optional_at, flag_at, prefix_at, ports_at, test_at, asked_from, asked_at, alias_from, alias_at, ace_from, ace_at, family_at, activation_of, activation_at, acl_from, acl_at, target_from, target_at, targets_at, all_targets_at, granted_at, put_from, put_at, values_from, values_at, config_from, config_at, fields_at, change_at, id_at, key_at, reply_at, entry_from, entry_at}
 use Rattle.entry_records.proofs.Readers.{AreBytes, IsReader, made_reader, pair_reader}
 use Rattle.entry_records.proofs.Fields.{IsWithin, within_reader, is_between, between_most, between_least, AtMost, AreSoMany, bytes_reader, byte_at_place, both_reader, two_reader, four_reader, eight_reader, bytes_of_8, list_reader, counted_reader}
 use Rattle.entry_records.proofs.Parts.{AreVisible, visible_reader, name_reader, optional_reader, flag_reader}

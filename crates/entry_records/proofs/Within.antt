@@ -1,13 +1,12 @@
 -- What the parts of a record say of an entry is what its types and bounds say.
-use Rattle.std.proofs.Common.{◌≡◌, ℕ, ℤ, zero, suc, ◌+◌, ◌-◌, ◌^◌, ◌<◌, ◌≤◌, ◌⊎◌, inl, inr, Bool, true, false, ◌&&◌, ◌||◌, nat_le, nat_lt, Option, Some, None, List, [], ◌∷◌, length, IsTrue, refl, sym, ap, subst, ◌∙◌, arith}
+use Rattle.std.proofs.Common.{◌≡◌, ℕ, ℤ, zero, suc, ◌-◌, ◌^◌, ◌<◌, ◌≤◌, Bool, true, false, ◌&&◌, ◌||◌, nat_le, nat_lt, Option, Some, None, List, [], ◌∷◌, length, IsTrue, refl, sym, ap, subst, ◌∙◌, arith}
 use Rattle.std.specs.Prelude.{◌==◌, FitsSigned}
 use Rattle.std.specs.List.{AllByRecursion, list_all}
-use Rattle.std.specs.Int.{w32, cast_signed, cast_unsigned}
-use Rattle.std.proofs.lemmas.Bool.{and_from, and_parts, eq-eqb}
+use Rattle.std.specs.Int.{w32, cast_unsigned}
+use Rattle.std.proofs.lemmas.Bool.{and_from, and_parts}
 use Rattle.std.proofs.lemmas.Bool.Decides.{nat_tests}
 use mir.ValLaws.{to_z-Fits, of_z_fits, to_z-of_z}
 use Rattle.dots_lists.specs.Name.{is_name}
-use Rattle.ip_scope.specs.Prefix.{PrefixValue, IsPrefix}
 use Rattle.acl_lists.specs.declared.ace.Ace.{Ace}
 use Rattle.acl_lists.specs.declared.acl.Acl.{Acl}
 use Rattle.acl_lists.specs.declared.alias.Alias.{Alias}
@@ -19,10 +18,10 @@ use Rattle.dots_history.specs.declared.config.Values.{Values}
 use Rattle.dots_history.specs.declared.entry.Entry.{Entry}
 use Rattle.dots_history.specs.declared.put.Put.{Put}
 use Rattle.dots_history.specs.declared.put.Target.{Target}
-use Rattle.entry_records.specs.Values.{IsByte, IsName, IsRange, IfThere, IsAsked, IsAlias, IsAce, IsAcl, IsTarget, IsPut, IsChange, IsEntry}
-use Rattle.entry_records.proofs.Fields.{AtMost, IsWithin, is_between}
+use Rattle.entry_records.specs.Values.{IsByte, IfThere, IsAsked, IsAlias, IsAce, IsAcl, IsTarget, IsPut, IsChange, IsEntry}
+use Rattle.entry_records.proofs.Fields.{IsWithin, is_between}
 use Rattle.entry_records.proofs.Parts.{AreVisible, name_visible, visible_name}
-use Rattle.entry_records.proofs.Wholes.{MayAsk, MayStand, MayEnter, MayList, MayAim, MayAimAll, AreAimed, IsSigned, MayPut, AreValues, MaySet, MayChange, MayBe}
+use Rattle.entry_records.proofs.Wholes.{MayAsk, MayStand, MayEnter, MayList, MayAimAll, IsSigned, MayPut, AreValues, MayChange, MayBe}
 
 pub at_most : (a b : ℕ) → nat_le a b ≡ true → a ≤ b
 at_most a b is = grind (arith, nat_tests)

@@ -1,5 +1,5 @@
 -- How what functions write is joined.
-use Rattle.std.proofs.Common.{true, nat_le, nat_lt, IsTrue, ◌&&◌, ◌||◌, ◌^◌, add-one, get_or, ◌≡◌, ℕ, zero, suc, ◌+◌, ◌-◌, ◌*◌, ◌<◌, ◌≤◌, List, [], ◌∷◌, ◌++◌, length, take, drop, refl, sym, ap, subst, ◌∙◌, arith, append_assoc}
+use Rattle.std.proofs.Common.{true, nat_le, nat_lt, IsTrue, ◌&&◌, ◌||◌, ◌^◌, add-one, get_or, ◌≡◌, ℕ, zero, suc, ◌+◌, ◌*◌, ◌<◌, ◌≤◌, List, [], ◌∷◌, ◌++◌, length, take, sym, ap, subst, ◌∙◌, arith, append_assoc}
 use Rattle.std.specs.Prelude.{◌==◌}
 use Rattle.std.specs.List.{flat_map}
 use Rattle.std.proofs.lemmas.Bool.{and_parts}

@@ -1,6 +1,6 @@
 -- The bytes of an entry, field by field: the layout of a record. It is this server's own. Numbers of several bytes have
 -- the highest first.
-use Rattle.std.specs.Prelude.{ℕ, ℤ, Option, Some, None, Bool, true, false, List, [], ◌∷◌, ◌++◌, length}
+use Rattle.std.specs.Prelude.{ℕ, Option, Some, None, Bool, true, false, List, [], ◌∷◌, ◌++◌, length}
 use Rattle.std.specs.List.{flat_map}
 use Rattle.std.specs.Int.{w16, w32, w64, w128, to_be_bytes, cast_unsigned}
 use Rattle.ip_scope.specs.declared.family.Family.{Family}

@@ -1,10 +1,10 @@
 -- What the types of an entry's fields say of their values: numbers fit their types, names are names, prefixes are
 -- prefixes, and the lower port of a range is at most its upper one.
-use Rattle.std.specs.Prelude.{◌≡◌, ℕ, ℤ, ◌^◌, ◌<◌, ◌≤◌, Option, Some, None, List, IsTrue, FitsSigned}
+use Rattle.std.specs.Prelude.{ℕ, ◌^◌, ◌<◌, ◌≤◌, Option, Some, None, List, IsTrue, FitsSigned}
 use Rattle.std.specs.List.{AllByRecursion}
 use Rattle.std.specs.Int.{w32}
 use Rattle.dots_lists.specs.Name.{is_name}
-use Rattle.ip_scope.specs.Prefix.{PrefixValue, IsPrefix}
+use Rattle.ip_scope.specs.Prefix.{IsPrefix}
 use Rattle.ip_scope.specs.Ports.{Ports}
 use Rattle.acl_lists.specs.declared.ace.Ace.{Ace}
 use Rattle.acl_lists.specs.declared.acl.Acl.{Acl}
@@ -14,7 +14,6 @@ use Rattle.acl_lists.specs.declared.port_test.PortTest.{PortTest}
 use Rattle.acl_lists.specs.declared.port_test.PortTest.TheVariants as port
 use Rattle.dots_history.specs.declared.change.Change.{Change}
 use Rattle.dots_history.specs.declared.change.Change.TheVariants as change
-use Rattle.dots_history.specs.declared.config.Values.{Values}
 use Rattle.dots_history.specs.declared.entry.Entry.{Entry}
 use Rattle.dots_history.specs.declared.entry.MessageKey.{MessageKey}
 use Rattle.dots_history.specs.declared.entry.MessageKey.TheVariants as key

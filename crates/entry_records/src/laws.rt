@@ -1,13 +1,16 @@
 //! What holds of every record. Each law is the contract of a function with an empty body.
 
-ghost use Rattle.std.specs.Prelude.{◌≡◌, ◌⊎◌, ℕ, List, [], ◌++◌};
+ghost use Rattle.std.specs.Prelude.{◌≡◌, ◌⊎◌, ℕ, List, [], ◌++◌, IsTrue};
 ghost use Rattle.std.specs.List.{AllByRecursion};
+ghost use Rattle.dots_history.specs.Bounds.{within_bounds};
 ghost use Rattle.dots_history.specs.declared.entry.Entry.{Entry};
-ghost use Rattle.entry_records.specs.Values.{IsByte};
+ghost use Rattle.entry_records.specs.Values.{IsByte, IsEntry};
+ghost use Rattle.entry_records.specs.Layout.{record_bytes};
 ghost use Rattle.entry_records.specs.Records.{IsRecord, IsSomeRecord, IsBroken};
 
-/// An entry has one record, and no other entry has it.
+/// An entry within bounds has one record, whose bytes are its layout, and no other entry has it.
 pub fn one_record()
+    ensures some { (entry : Entry) → IsEntry entry → IsTrue (within_bounds entry) → IsRecord (record_bytes entry) entry }
     ensures bytes { (first second : List ℕ) (entry : Entry) → IsRecord first entry → IsRecord second entry → first ≡ second }
     ensures entry { (bytes : List ℕ) (first second : Entry) → IsRecord bytes first → IsRecord bytes second → first ≡ second }
 {}

@@ -54,7 +54,7 @@ fn is_record(alloc: Global, change: &str) -> Result<bool, Fail> {
 fn is_fault(alloc: Global, change: &str, place: usize) -> Result<bool, Fail> {
     let bytes = record(alloc, change)?;
     match written_again(alloc, bytes.as_slice()) {
-        Err(EntryFault::NotEntry { at }) => Ok(at == HEAD.len() / 2 + place),
+        Err(EntryFault::NotEntry { at }) => Ok(at.checked_sub(HEAD.len() / 2) == Some(place)),
         _ => Ok(false),
     }
 }

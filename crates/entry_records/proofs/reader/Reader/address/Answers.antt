@@ -1,6 +1,5 @@
 use Rattle.std.proofs.Common.{◌≡◌, ℕ, ◌+◌, ◌-◌, ◌*◌, ◌%◌, ◌^◌, ◌<◌, ◌∙◌, subst, arith}
 use Rattle.std.proofs.lemmas.Result.{err_from_is_err_and}
-use Rattle.entry_records.specs.Reading.{address_at}
 use Rattle.entry_records.proofs.Loops.{address_stop, address_go, address_done, fits_more, fits_wide}
 use Rattle.entry_records.proofs.Digits.{zeros_more}
 use Rattle.entry_records.proofs.reader.Reader.address.Goals as goal

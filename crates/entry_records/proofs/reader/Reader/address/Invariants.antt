@@ -1,4 +1,4 @@
-use Rattle.std.proofs.Common.{◌≡◌, ◌+◌, ◌-◌, ◌*◌, ◌%◌, ◌^◌, ◌<◌, ◌≤◌, length}
+use Rattle.std.proofs.Common.{◌≡◌, ◌-◌, ◌*◌, ◌%◌, ◌^◌, ◌<◌}
 use Rattle.entry_records.specs.Reading.{address_at}
 use Rattle.entry_records.proofs.Loops.{with_number}
 use Rattle.entry_records.proofs.reader.Reader.address.Given as goal

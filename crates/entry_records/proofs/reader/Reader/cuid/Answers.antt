@@ -1,5 +1,3 @@
-use Rattle.std.proofs.Common.{subst, ap}
-use Rattle.std.specs.Option.{IfNone}
 use Rattle.entry_records.proofs.Characters.{visible_is_utf8}
 use Rattle.entry_records.proofs.reader.Reader.cuid.Goals as goal
 

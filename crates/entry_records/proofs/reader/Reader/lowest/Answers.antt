@@ -1,4 +1,3 @@
-use Rattle.std.proofs.Common.{◌≡◌, arith}
 use Rattle.entry_records.proofs.Digits.{lowest_is}
 use Rattle.entry_records.proofs.reader.Reader.lowest.Goals as goal
 

@@ -1,4 +1,4 @@
-use Rattle.std.proofs.Common.{◌≡◌, ◌+◌, ◌-◌, ◌≤◌, length, take, drop}
+use Rattle.std.proofs.Common.{◌≡◌, ◌+◌, ◌-◌, length, take, drop}
 use Rattle.std.specs.Char.{is_ascii_graphic}
 use Rattle.entry_records.specs.Reading.{byte_at, items_at}
 use Rattle.entry_records.proofs.Loops.{with_front}

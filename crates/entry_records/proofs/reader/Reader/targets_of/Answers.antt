@@ -1,6 +1,5 @@
-use Rattle.std.proofs.Common.{◌≡◌, ◌+◌, ◌-◌, ◌∙◌, arith}
+use Rattle.std.proofs.Common.{◌+◌, ◌-◌, ◌∙◌, arith}
 use Rattle.std.proofs.lemmas.Result.{err_from_is_err_and}
-use Rattle.entry_records.specs.Reading.{targets_at}
 use Rattle.entry_records.proofs.Loops.{targets_stop, targets_go, targets_done}
 use Rattle.entry_records.proofs.reader.Reader.targets_of.Goals as goal
 

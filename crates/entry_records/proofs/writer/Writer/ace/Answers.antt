@@ -1,5 +1,5 @@
-use Rattle.std.proofs.Common.{refl, ap, Bool, true, false, ◌≡◌, ◌∷◌, []}
-use Rattle.entry_records.specs.Layout.{ace_bytes, flag_number}
+use Rattle.std.proofs.Common.{refl}
+use Rattle.entry_records.specs.Layout.{ace_bytes}
 use Rattle.entry_records.proofs.Writings.{both, same}
 use Rattle.entry_records.proofs.writer.Writer.ace.Goals as goal
 

@@ -1,4 +1,3 @@
-use Rattle.std.proofs.Common.{refl}
 use Rattle.std.proofs.lemmas.Bool.{and_parts}
 use Rattle.entry_records.specs.Layout.{alias_bytes}
 use Rattle.entry_records.proofs.Writings.{both}

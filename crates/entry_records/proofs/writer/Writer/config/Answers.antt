@@ -1,4 +1,3 @@
-use Rattle.entry_records.specs.Layout.{config_bytes}
 use Rattle.entry_records.proofs.Writings.{both}
 use Rattle.entry_records.proofs.writer.Writer.config.Goals as goal
 

@@ -1,6 +1,5 @@
-use Rattle.std.proofs.Common.{refl, arith}
 use Rattle.entry_records.specs.Layout.{values_bytes}
-use Rattle.entry_records.proofs.Writings.{both, same}
+use Rattle.entry_records.proofs.Writings.{both}
 use Rattle.entry_records.proofs.writer.Writer.values.Goals as goal
 
 pub returns : goal.returns
