@@ -2,7 +2,7 @@
 use Rattle.std.proofs.Common.{◌≡◌, ℕ, ◌+◌, ◌<◌, ◌≤◌, Bool, true, false, cond, not, ◌&&◌, ◌||◌, List, [], ◌∷◌, ◌++◌, Option, Some, None, inl, inr, refl, sym, ap, ◌∙◌, arith}
 use Rattle.std.specs.Prelude.{◌==◌, nat_lt, nat_le, option_to_list, bytes_eq}
 use Rattle.std.specs.List.{list_all}
-use Rattle.std.proofs.lemmas.Bool.{false≢true, cases_Bool, and_parts, and_from, ne_eqb, ltb-true, leb-true, le-leb, false_from_ne_true}
+use Rattle.std.proofs.lemmas.Bool.{false≢true, cases_Bool, and_parts, and_from, ne_eqb, ltb-true, ltb-false, leb-true, le-leb, false_from_ne_true}
 use Rattle.std.proofs.lemmas.List.Folds.{list_all-append}
 use Rattle.dots_settings.specs.Settings.{SettingsValue}
 use Rattle.dots_settings.specs.declared.limits.Limits.{Limits}
@@ -17,11 +17,13 @@ use Rattle.dots_laws.specs.Fits as laws
 use Rattle.live_mitigations.specs.Standing.{LiveValue, puts, is_inside, keeps_live_room, has_live_room}
 use Rattle.live_mitigations.specs.Standing as lives
 use Rattle.live_mitigations.proofs.Standing.{quiet_inside}
+use Rattle.live_mitigations.proofs.Room.{has_room_is}
 use Rattle.held_things.specs.Tables.{sizes_of}
 use Rattle.held_things.specs.Accepting.{accepts, keeps_rooms}
+use Rattle.held_things.proofs.Standing.{accepted_by}
 use Rattle.held_things.proofs.Lawful.{accepts_own}
 use Rattle.dots_registry.specs.Standing.{RegistryValue, IsOf, StandsFor, time_of}
-use Rattle.dots_registry.specs.Fitting.{fits_now, fits_tables}
+use Rattle.dots_registry.specs.Fitting.{FitsIn, fits_now, fits_tables}
 use Rattle.dots_registry.proofs.Standing.{own_inside}
 
 -- ---- what isn't of a domain
@@ -205,3 +207,59 @@ pub room_outside : (inside now : RegistryValue) (domains : ℕ) (entries : List 
 room_outside inside now domains entries e same are past within stands =
     let all : domains ≡ now.live.domains = are ∙ ap (λ (r : RegistryValue). r.live.domains) same in
     sym (outside_room now.live entries e (omega (arith, past, all)) (false_from_ne_true (puts e) (λ put. let less = within put in omega (arith, less, past, all))) stands.live)
+
+-- ---- whichever history
+
+same_room : (settings : SettingsValue) (registry : RegistryValue) (xs ys : List Entry) (e : Entry) → IsOf settings registry → StandsFor registry xs → StandsFor registry ys
+    → is_possible settings e ≡ true → time_of registry ≤ e.time
+    → has_live_room registry.live.limits xs e ≡ has_live_room registry.live.limits ys e
+same_room settings registry xs ys e is_of of_xs of_ys possible later =
+    elim (cases_Bool (nat_lt e.domain registry.live.domains)) [
+      | inl is ↦
+          let within : e.domain < registry.live.domains = ltb-true e.domain registry.live.domains is in
+          has_room_is registry.live xs e later within of_xs.live ∙ sym (has_room_is registry.live ys e later within of_ys.live)
+      | inr out ↦
+          let past : registry.live.domains ≤ e.domain = ltb-false e.domain registry.live.domains out in
+          let quiet : puts e ≡ false =
+          false_from_ne_true (puts e) (λ put. let less = possible_inside settings registry e is_of possible put in omega (arith, less, past)) in
+          outside_room registry.live xs e past quiet of_xs.live ∙ sym (outside_room registry.live ys e past quiet of_ys.live)
+    ]
+
+same_accepted : (registry : RegistryValue) (xs ys : List Entry) (e : Entry) → StandsFor registry xs → StandsFor registry ys
+    → accepts registry.held.sizes xs e ≡ accepts registry.held.sizes ys e
+same_accepted registry xs ys e of_xs of_ys = accepted_by registry.held xs e of_xs.held ∙ sym (accepted_by registry.held ys e of_ys.held)
+
+same_tables : (settings : SettingsValue) (registry : RegistryValue) (xs ys : List Entry) (e : Entry) → IsOf settings registry → StandsFor registry xs → StandsFor registry ys
+    → is_possible settings e ≡ true → fits_tables registry xs e ≡ fits_tables registry ys e
+same_tables settings registry xs ys e is_of of_xs of_ys possible = by_time (nat_le (time_of registry) e.time) refl
+  where
+    by_time : (b : Bool) → nat_le (time_of registry) e.time ≡ b
+        → (b && (accepts registry.held.sizes xs e && has_live_room registry.live.limits xs e))
+        ≡ (b && (accepts registry.held.sizes ys e && has_live_room registry.live.limits ys e))
+    by_time false early = refl
+    by_time true later =
+        ap (λ b. b && has_live_room registry.live.limits xs e) (same_accepted registry xs ys e of_xs of_ys)
+        ∙ ap
+        (λ b. accepts registry.held.sizes ys e && b)
+        (same_room settings registry xs ys e is_of of_xs of_ys possible (leb-true (time_of registry) e.time later))
+
+pub same_fits : (settings : SettingsValue) (registry : RegistryValue) (xs ys : List Entry) (e : Entry) → IsOf settings registry → StandsFor registry xs → StandsFor registry ys
+    → fits_now settings registry xs e ≡ fits_now settings registry ys e
+same_fits settings registry xs ys e is_of of_xs of_ys =
+    elim (cases_Bool (is_possible settings e)) [
+      | inl is ↦
+          fits_possible settings registry xs e is_of of_xs is
+          ∙ same_tables settings registry xs ys e is_of of_xs of_ys is
+          ∙ sym (fits_possible settings registry ys e is_of of_ys is)
+      | inr out ↦ fits_impossible settings registry xs e is_of of_xs out ∙ sym (fits_impossible settings registry ys e is_of of_ys out)
+    ]
+
+pub fits_some : (settings : SettingsValue) (registry : RegistryValue) (entries : List Entry) (e : Entry) → IsOf settings registry → StandsFor registry entries
+    → fits_now settings registry entries e ≡ true → FitsIn registry e
+fits_some settings registry entries e is_of stands is = record {
+  settings = settings;
+  entries = entries;
+  is_of = is_of;
+  stands = stands;
+  fits = is;
+}

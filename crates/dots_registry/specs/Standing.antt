@@ -1,6 +1,7 @@
 -- When what a registry keeps is what a history comes to at a time.
 use Rattle.std.specs.Prelude.{◌≡◌, ℕ, Bool, true, not, ◌||◌, if◌then◌else◌, List, [], map, length}
 use Rattle.std.specs.List.{list_any, list_all}
+use Rattle.dots_settings.specs.declared.limits.Limits.{Limits}
 use Rattle.dots_settings.specs.Settings.{SettingsValue}
 use Rattle.dots_history.specs.declared.entry.Entry.{Entry}
 use Rattle.dots_history.specs.Entries.{is_signal}
@@ -23,17 +24,24 @@ pub record RegistryValue : Type 0 where
 abbrev pub time_of : RegistryValue → ℕ
 time_of registry = registry.live.time
 
+-- how many domains there are, and how much there may be
+abbrev pub domains_of : RegistryValue → ℕ
+domains_of registry = registry.live.domains
+
+abbrev pub limits_of : RegistryValue → Limits
+limits_of registry = registry.live.limits
+
 -- how many messages of a peer and domain are remembered
 abbrev pub number_remembered : RegistryValue → ℕ
-number_remembered registry = registry.live.limits.remembered
+number_remembered registry = (limits_of registry).remembered
 
 -- a signal entry is of a peer and domain whose messages are remembered
 abbrev pub has_ring : List RingValue → Entry → Bool
 has_ring rings e = not (is_signal e.change) || list_any (is_ring_of e.peer e.domain) rings
 
 -- It stands for a history at its time: the live mitigations of each domain are those of the history at this time; held is what
--- the history leaves held; and the messages that are remembered of each peer and domain are the last so many of the
--- history, of which none is of others.
+-- the history leaves held; of each peer and domain that it has a ring for, the last so many messages of the history are
+-- remembered; and each signal entry of the history is of one of these.
 pub record StandsFor (registry : RegistryValue) (entries : List Entry) : Type 0 where
   pub live : live.StandsFor registry.live entries
   pub held : held.StandsFor registry.held entries
@@ -48,15 +56,15 @@ pair_of ring = ring.pair
 -- The registry is of these settings: it has their domains, their capacities, their peers, and each pair of a peer and a
 -- domain that it may act for.
 pub record IsOf (settings : SettingsValue) (registry : RegistryValue) : Type 0 where
-  pub domains : registry.live.domains ≡ length settings.domains
-  pub limits : registry.live.limits ≡ settings.limits
+  pub domains : domains_of registry ≡ length settings.domains
+  pub limits : limits_of registry ≡ settings.limits
   pub sizes : registry.held.sizes ≡ sizes_of settings
   pub pairs : map pair_of registry.rings ≡ pairs_of settings
 
 -- both have the same domains, capacities and peers, at the same time
 pub record SameSize (a b : RegistryValue) : Type 0 where
-  pub domains : a.live.domains ≡ b.live.domains
-  pub limits : a.live.limits ≡ b.live.limits
+  pub domains : domains_of a ≡ domains_of b
+  pub limits : limits_of a ≡ limits_of b
   pub time : time_of a ≡ time_of b
   pub sizes : a.held.sizes ≡ b.held.sizes
 

@@ -4,7 +4,7 @@ ghost use Rattle.std.specs.Prelude.{◌≡◌, ◌≤◌, ◌<◌, ◌&&◌, nat
 ghost use Rattle.dots_laws.specs.Calm.{is_of_settings};
 ghost use Rattle.dots_history.specs.declared.entry.Entry.{Entry};
 ghost use Rattle.live_mitigations.specs.Standing.{puts, has_live_room};
-ghost use Rattle.dots_registry.specs.Standing.{StandsFor, IsOf, time_of};
+ghost use Rattle.dots_registry.specs.Standing.{StandsFor, IsOf, time_of, domains_of, limits_of};
 ghost use Rattle.dots_registry.specs.Fitting.{fits_now, fits_tables};
 
 use crate::registry::Registry;
@@ -28,7 +28,7 @@ impl Registry {
 
     /// Whether it is not before the registry's time, and what the history comes to with it is allowed.
     fn takes(&self, entry: &Entry) -> bool
-        requires { puts entry.now ≡ true → entry.now.domain < self.now.live.domains }
+        requires { puts entry.now ≡ true → entry.now.domain < domains_of self.now }
         ensures { (entries : List Entry) → StandsFor self.now entries → result ≡ fits_tables self.now entries entry.now }
     {
         self.time() <= entry.time && self.held.fits(entry) && self.has_live_room(entry)
@@ -38,8 +38,8 @@ impl Registry {
     /// say.
     fn has_live_room(&self, entry: &Entry) -> bool
         requires later { time_of self.now ≤ entry.now.time }
-        requires inside { puts entry.now ≡ true → entry.now.domain < self.now.live.domains }
-        ensures { (entries : List Entry) → StandsFor self.now entries → result ≡ has_live_room self.now.live.limits entries entry.now }
+        requires inside { puts entry.now ≡ true → entry.now.domain < domains_of self.now }
+        ensures { (entries : List Entry) → StandsFor self.now entries → result ≡ has_live_room (limits_of self.now) entries entry.now }
     {
         if entry.domain < self.live.domains() {
             return self.live.has_room(entry);

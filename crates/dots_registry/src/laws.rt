@@ -1,12 +1,14 @@
 //! What the definitions come to: each function's contract is a law, and its body does nothing.
 
-ghost use Rattle.std.specs.Prelude.{◌≡◌, ℕ, ◌<◌, List};
+ghost use Rattle.std.specs.Prelude.{◌≡◌, ℕ, ◌<◌, true, List};
+ghost use Rattle.dots_settings.specs.Settings.{SettingsValue};
 ghost use Rattle.dots_history.specs.declared.entry.Entry.{Entry};
 ghost use Rattle.dots_history.specs.Histories.{Kept, Calm};
 ghost use Rattle.dots_history.specs.Keeping.{kept};
 ghost use Rattle.live_mitigations.specs.Standing.{kept_of};
 ghost use Rattle.coap_exchange.specs.Rings.{messages_of, reply_to};
-ghost use Rattle.dots_registry.specs.Standing.{RegistryValue, StandsFor, SameSize, time_of, number_remembered};
+ghost use Rattle.dots_registry.specs.Standing.{RegistryValue, StandsFor, IsOf, SameSize, time_of, domains_of, number_remembered};
+ghost use Rattle.dots_registry.specs.Fitting.{FitsIn, fits_now};
 
 /// A registry that stands for a history stands for each part of it that has its view, so for what the view names of a calm
 /// history: entries that a compaction leaves out change nothing of it.
@@ -21,8 +23,16 @@ pub fn parts_with_the_view_are_stood_for()
 /// replies.
 pub fn registries_are_one()
     ensures mitigations { (a b : RegistryValue) (entries : List Entry) → SameSize a b → StandsFor a entries → StandsFor b entries
-        → (domain : ℕ) → domain < a.live.domains → kept_of a.live domain ≡ kept_of b.live domain }
+        → (domain : ℕ) → domain < domains_of a → kept_of a.live domain ≡ kept_of b.live domain }
     ensures things { (a b : RegistryValue) (entries : List Entry) → SameSize a b → StandsFor a entries → StandsFor b entries → a.held ≡ b.held }
     ensures replies { (a b : RegistryValue) (entries : List Entry) → SameSize a b → StandsFor a entries → StandsFor b entries
         → (now peer domain id : ℕ) → reply_to id now (messages_of peer domain a.rings) ≡ reply_to id now (messages_of peer domain b.rings) }
+{}
+
+/// Whether an entry fits is the same for all histories that a registry stands for; and what fits one of them can be applied.
+pub fn what_fits_is_one()
+    ensures same { (settings : SettingsValue) (registry : RegistryValue) (xs ys : List Entry) (e : Entry) → IsOf settings registry
+        → StandsFor registry xs → StandsFor registry ys → fits_now settings registry xs e ≡ fits_now settings registry ys e }
+    ensures some { (settings : SettingsValue) (registry : RegistryValue) (entries : List Entry) (e : Entry) → IsOf settings registry
+        → StandsFor registry entries → fits_now settings registry entries e ≡ true → FitsIn registry e }
 {}

@@ -12,7 +12,7 @@ ghost use Rattle.live_mitigations.specs.Judging.{lives_of};
 ghost use Rattle.live_mitigations.specs.Reading.{shown_in};
 ghost use Rattle.held_things.specs.Held.{aliases_of, acls_of, alias_named, acl_named, is_registered, config_of, number_of, reached};
 ghost use Rattle.held_things.specs.Tables.{most_of, told};
-ghost use Rattle.dots_registry.specs.Standing.{StandsFor, time_of, number_remembered};
+ghost use Rattle.dots_registry.specs.Standing.{StandsFor, time_of, domains_of, limits_of, number_remembered};
 
 use crate::registry::Registry;
 use acl_lists::{Acl, Alias, Asked};
@@ -34,7 +34,7 @@ impl Registry {
     /// Whether the client's name is in use by another peer: a live mitigation of the client, standing or terminating, has
     /// another one (RFC 9132, section 4.4.1.3).
     pub fn collides(&self, domain: u16, cuid: &[u8], peer: u32) -> bool
-        requires { domain < self.now.live.domains }
+        requires { domain < domains_of self.now }
         ensures { (entries : List Entry) → StandsFor self.now entries → result ≡ collides (lives_of domain (time_of self.now) entries) peer cuid.now }
     {
         self.live.collides(domain, cuid, peer)
@@ -42,7 +42,7 @@ impl Registry {
 
     /// The live mitigations of a client, in order of their entries (RFC 9132, section 4.4.2).
     pub fn mitigations<'a>(&'a self, domain: u16, cuid: &'a [u8]) -> Mitigations<'a>
-        requires { domain < self.now.live.domains }
+        requires { domain < domains_of self.now }
         ensures { (entries : List Entry) → StandsFor self.now entries → result ≡ shown_in domain cuid.now (time_of self.now) entries }
     {
         self.live.mitigations(domain, cuid)
@@ -65,7 +65,7 @@ impl Registry {
         mid: u32,
         asked: &Asked,
     ) -> MidJudgement
-        requires { domain < self.now.live.domains }
+        requires { domain < domains_of self.now }
         ensures { (entries : List Entry) → StandsFor self.now entries → result ≡ judge_mid (lives_of domain (time_of self.now) entries) peer cuid.now mid asked.now }
     {
         self.live.judge_mid(domain, peer, cuid, mid, asked)
@@ -81,10 +81,10 @@ impl Registry {
         asked: &Asked,
         targets: &TargetList,
     ) -> Judgement
-        requires within { domain < self.now.live.domains }
+        requires within { domain < domains_of self.now }
         requires few { prefix_count targets.now ≤ 64 }
         ensures { (entries : List Entry) → StandsFor self.now entries
-            → result ≡ judge_overlap (lives_of domain (time_of self.now) entries) cuid.now (wanted mid asked.now targets.now) self.now.live.limits }
+            → result ≡ judge_overlap (lives_of domain (time_of self.now) entries) cuid.now (wanted mid asked.now targets.now) (limits_of self.now) }
     {
         self.live.judge_overlap(domain, cuid, mid, asked, targets)
     }
