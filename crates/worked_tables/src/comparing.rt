@@ -20,6 +20,7 @@ const PREFIXES: [&str; 8] = [
 ];
 
 /// The numbers of a sequence, each drawn from the one before.
+#[derive(Drop)]
 struct Draws(u32);
 
 impl Draws {
