@@ -81,12 +81,12 @@ pub fn differences(alloc: Global, seed: u32, addresses: &[Addr]) -> Result<usize
     let settings = settings(alloc)?;
     let rows = plain_rows(alloc, &acts)?;
     let table = table(alloc, &acts)?;
-    let mut count = 0;
+    let mut count: usize = 0;
     for address in addresses {
         let packet = packet_to(*address);
         let plain = told(&fate_by_rows(&[], rows.as_slice(), &[], &packet));
         if told(&table.fate(&packet, &settings)) != plain {
-            count += 1;
+            count = count.saturating_add(1);
         }
     }
     Ok(count)
