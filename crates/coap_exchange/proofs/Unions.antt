@@ -94,11 +94,11 @@ union_placed : (slot : ℕ) (xs ys : List ℕ) → union xs (placed slot ys) ≡
 union_placed slot [] ys = refl
 union_placed slot (x ∷ xs) ys = ap (placed x) (union_placed slot xs ys) ∙ placed_swap x slot (union xs ys)
 
-union_swap : (xs more ys : List ℕ) → union xs (union more ys) ≡ union more (union xs ys)
+pub union_swap : (xs more ys : List ℕ) → union xs (union more ys) ≡ union more (union xs ys)
 union_swap [] more ys = refl
 union_swap (x ∷ xs) more ys = ap (placed x) (union_swap xs more ys) ∙ sym (union_placed x more (union xs ys))
 
-union_append : (xs more ys : List ℕ) → union (xs ++ more) ys ≡ union xs (union more ys)
+pub union_append : (xs more ys : List ℕ) → union (xs ++ more) ys ≡ union xs (union more ys)
 union_append [] more ys = refl
 union_append (x ∷ xs) more ys = ap (placed x) (union_append xs more ys)
 

@@ -22,6 +22,6 @@ mod sent;
 pub use message::Message;
 pub use pair::{Pair, pairs_of};
 pub use remembered::Remembered;
-pub use ring::Ring;
+pub use ring::{Ring, number_in};
 pub use sender::{Resend, SendFault, Sender};
 pub use sent::Sent;

@@ -151,7 +151,7 @@ fn renumber_one(message: &mut Message, keep: &[u32])
 }
 
 /// The place of a slot in the list, which is its new number; the slot itself where it isn't there.
-fn number_in(keep: &[u32], slot: u32) -> u32
+pub fn number_in(keep: &[u32], slot: u32) -> u32
     requires { Rises keep.now }
     ensures { result ≡ number_in keep.now slot }
 {

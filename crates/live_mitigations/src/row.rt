@@ -200,7 +200,8 @@ impl Row {
     }
 
     #[tactic(auto, unfolding(dots_history::specs::Entries::withdraws))]
-    fn is_withdrawn_by(&self, entry: &Entry) -> bool
+    /// Whether the entry withdraws it: it is a withdrawal of its client with its mid.
+    pub fn is_withdrawn_by(&self, entry: &Entry) -> bool
         ensures { result ≡ withdraws self.now.put entry.now }
     {
         self.is_of_client_of(entry) && self.is_taken_back_by(&entry.change)
@@ -257,7 +258,7 @@ impl Row {
     }
 
     /// Whether it is live after the entry, at the entry's time.
-    pub(crate) fn is_left(&self, entry: &Entry) -> bool
+    pub fn is_left(&self, entry: &Entry) -> bool
         ensures { result ≡ is_left entry.now self.now }
     {
         self.is_live_as(entry.time, self.step(entry))

@@ -1,0 +1,10 @@
+//! The slots of a mitigation.
+
+/// The slots of a journal in which the entries stand by which a mitigation is live.
+#[derive(Debug, Drop)]
+pub struct MitigationSlots {
+    /// That of the entry that put it.
+    pub put: u32,
+    /// That of the entry that withdrew it, where it is terminating.
+    pub withdrawal: Option<u32>,
+}
