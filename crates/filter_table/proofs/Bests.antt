@@ -110,7 +110,7 @@ short_by : (family : Family) (length number : ℕ) → number < 2 ^ width family
 short_by V4 length number fits low = fits
 short_by V6 length number fits low = absurd (omega (arith, low))
 
-each_ranked : (P : Rank → Type 0) (rs : List Rank) → AllByRecursion P rs → AllByRecursion P (ranked rs)
+pub each_ranked : (P : Rank → Type 0) (rs : List Rank) → AllByRecursion P rs → AllByRecursion P (ranked rs)
 each_ranked P [] all = tt
 each_ranked P (r ∷ rs) all = each_insert P (ranked rs) (place_of r (ranked rs)) r all.0 (each_ranked P rs all.1)
 

@@ -1,12 +1,11 @@
 -- The rows of turns, whose slots have them.
-use Rattle.std.proofs.Common.{◌≡◌, ℕ, ◌+◌, ◌<◌, ◌≤◌, Bool, true, false, not, cond, ◌&&◌, ◌==◌, nat_le, nat_lt, List, [], ◌∷◌, map, length, get_or, set, zero, suc, refl, sym, ap, subst, ◌∙◌, arith, one-add, Option, Some, None, option_map, IsSome, slice_get, eqb-true, eq-eqb, rules}
-use Rattle.std.specs.List.{insert, remove, prefix_len, position, position_or_len, AllByRecursion}
-use Rattle.std.proofs.lemmas.Option.{slice_get-map}
+use Rattle.std.proofs.Common.{◌≡◌, ℕ, ◌+◌, ◌<◌, ◌≤◌, Bool, true, false, not, cond, ◌&&◌, ◌==◌, nat_le, nat_lt, List, [], ◌∷◌, map, length, length-set, get_or, set, zero, suc, refl, sym, ap, subst, ◌∙◌, arith, one-add, Option, Some, None, option_map, IsSome, slice_get, eqb-true, eq-eqb, rules}
+use Rattle.std.specs.List.{insert, remove, prefix_len, AllByRecursion}
 use Rattle.ip_scope.specs.Prefix.{IsPrefix}
 use Rattle.filter_rows.specs.declared.rows.ScrubRow.{ScrubRow}
 use Rattle.filter_table.specs.declared.turn.Turn.{Turn}
 use Rattle.filter_table.specs.Held.{HeldScrub, scrub_in, is_of, is_of_client, row_is_of, row_woken, row_set, woken, scrub_set, row_of_scrub, number_after, renumbered, renumbered_from, place_of_scrub, scrub_at_place, rank_of}
-use Rattle.filter_table.specs.Rows.{or_empty, in_slot, added, gathered, passes, turn_is_of, place_of_turn, turn_at_place, IsTied}
+use Rattle.filter_table.specs.Rows.{or_empty, in_slot, added, gathered, place_of_turn, turn_at_place, woken_at, woken_in, IsTied}
 use Rattle.prefix_ranks.specs.declared.rank.Rank.{Rank}
 use Rattle.prefix_ranks.proofs.Each.{each_insert, each_remove, each_both}
 
@@ -73,7 +72,7 @@ gathered-set rows (t ∷ ts) slot v other =
 pub tied-set : (rows : List (Option ScrubRow)) (ts : List Turn) (slot : ℕ) (v : Option ScrubRow) → Elsewhere slot ts → AreTied rows ts → AreTied (set rows slot v) ts
 tied-set rows ts slot v other tied =
     each_both (λ (t : Turn). t.slot ≡ slot → ⊥) (IsTied rows) (IsTied (set rows slot v))
-    (λ t differs tie. record { row = tie.row; is = in_slot-other rows slot t.slot v differs ∙ tie.is; mid = tie.mid; prefix = tie.prefix }) ts other tied
+    (λ t differs tie. record { row = tie.row; is = in_slot-other rows slot t.slot v differs ∙ tie.is; prefix = tie.prefix }) ts other tied
 
 not_both : (a b : ℕ) → a ≡ b → a == b ≡ false → ⊥
 not_both a b same is = grind arith
@@ -95,34 +94,6 @@ places_same rows [] place tied = refl
 places_same rows (t ∷ ts) place tied =
     ap (λ (n : ℕ). cond (nat_le t.place place) (1 + n) 0) (places_same rows ts place tied.1)
     ∙ sym (ap (prefix_len (λ (other : HeldScrub). nat_le other.place place)) (one_tied rows t ts tied.0))
-
-drops_first : (m c : Bool) → (m && (c && m)) ≡ (c && m)
-drops_first true true = refl
-drops_first true false = refl
-drops_first false true = refl
-drops_first false false = refl
-
-turn_is : (domain : ℕ) (cuid : List ℕ) (mid : ℕ) (rows : List (Option ScrubRow)) (t : Turn) (tie : IsTied rows t)
-    → turn_is_of domain cuid mid rows t ≡ is_of domain cuid mid (scrub_of t tie.row)
-turn_is domain cuid mid rows t tie =
-    ap (λ r. (t.mid == mid) && passes (row_is_of domain cuid mid) r) tie.is
-    ∙ ap (λ (m : ℕ). (m == mid) && row_is_of domain cuid mid tie.row) (sym tie.mid)
-    ∙ drops_first (tie.row.mid == mid) (is_of_client domain cuid tie.row.domain tie.row.cuid)
-
-pub positions_same : (domain : ℕ) (cuid : List ℕ) (mid : ℕ) (rows : List (Option ScrubRow)) (ts : List Turn) → AreTied rows ts
-    → position_or_len (turn_is_of domain cuid mid rows) ts ≡ position_or_len (is_of domain cuid mid) (gathered rows ts)
-positions_same domain cuid mid rows [] tied = refl
-positions_same domain cuid mid rows (t ∷ ts) tied =
-    ap (λ (v : Bool). cond (not v) (1 + position_or_len (turn_is_of domain cuid mid rows) ts) 0) (turn_is domain cuid mid rows t tied.0)
-    ∙ ap (λ (n : ℕ). cond (not (is_of domain cuid mid (scrub_of t tied.0.row))) (1 + n) 0) (positions_same domain cuid mid rows ts tied.1)
-    ∙ sym (ap (position_or_len (is_of domain cuid mid)) (one_tied rows t ts tied.0))
-
-pub position_same : (domain : ℕ) (cuid : List ℕ) (mid : ℕ) (rows : List (Option ScrubRow)) (ts : List Turn) → AreTied rows ts
-    → position (turn_is_of domain cuid mid rows) ts ≡ position (is_of domain cuid mid) (gathered rows ts)
-position_same domain cuid mid rows ts tied =
-    ap (λ (n : ℕ). cond (nat_lt n (length ts)) (Some n) None) (positions_same domain cuid mid rows ts tied)
-    ∙ ap (λ (len : ℕ). cond (nat_lt (position_or_len (is_of domain cuid mid) (gathered rows ts)) len) (Some (position_or_len (is_of domain cuid mid) (gathered rows ts))) None)
-    (sym (length-gathered rows ts tied))
 
 pub scrub_here : (rows : List (Option ScrubRow)) (ts : List Turn) (slot : ℕ) → AreTied rows ts → IsSome (scrub_in slot (gathered rows ts))
     → option_map row_of_scrub (scrub_in slot (gathered rows ts)) ≡ in_slot rows slot
@@ -149,6 +120,11 @@ are_stored rows (t ∷ ts) tied =
 same_row : (a b : ScrubRow) → Some a ≡ Some b → a ≡ b
 same_row a b same = cc
 
+pub default_same : (turns : List Turn) (i : ℕ) (d : Turn) → i < length turns → get_or turns i d ≡ get_or turns i (get_or turns i d)
+default_same [] i d within = absurd (omega (arith, within))
+default_same (t ∷ turns) zero d within = refl
+default_same (t ∷ turns) (suc i) d within = default_same turns i d (omega (arith, within))
+
 pub turn_read : (rows : List (Option ScrubRow)) (ts : List Turn) (i : ℕ) (t : Turn) (row : ScrubRow) → AreTied rows ts → i < length ts → t ≡ get_or ts i t → in_slot rows t.slot ≡ Some row
     → get_or (gathered rows ts) i (scrub_of t row) ≡ scrub_of t row
 turn_read rows [] i t row tied within is has = absurd (omega (arith, within))
@@ -159,48 +135,114 @@ turn_read rows (y ∷ ts) zero t row tied within is has =
 turn_read rows (y ∷ ts) (suc i) t row tied within is has =
     ap (λ hs. get_or hs (suc i) (scrub_of t row)) (one_tied rows y ts tied.0) ∙ turn_read rows ts i t row tied.1 (omega (arith, within)) is has
 
--- ---- every row written
+-- ---- what a slot with a row comes to
 
-mapped_empty : (f : ScrubRow → ScrubRow) (r : Option (Option ScrubRow)) → or_empty (option_map (option_map f) r) ≡ option_map f (or_empty r)
-mapped_empty f None = refl
-mapped_empty f (Some r) = refl
+pub slot_there : (rows : List (Option ScrubRow)) (slot : ℕ) (row : ScrubRow) → in_slot rows slot ≡ Some row → slot < length rows
+slot_there [] slot row is = absurd (cc)
+slot_there (x ∷ rows) zero row is = omega arith
+slot_there (x ∷ rows) (suc slot) row is = omega (arith, slot_there rows slot row is)
 
-in_slot-map : (f : ScrubRow → ScrubRow) (rows : List (Option ScrubRow)) (slot : ℕ) → in_slot (map (option_map f) rows) slot ≡ option_map f (in_slot rows slot)
-in_slot-map f rows slot = ap or_empty (slice_get-map (option_map f) rows slot) ∙ mapped_empty f (slice_get rows slot)
+-- ---- rows written in the slots of some ranks
+
+pub length-woken : (domain : ℕ) (cuid : List ℕ) (mid : ℕ) (active : Bool) (ranks : List Rank) (rows : List (Option ScrubRow)) → length (woken_in domain cuid mid active ranks rows) ≡ length rows
+length-woken domain cuid mid active [] rows = refl
+length-woken domain cuid mid active (r ∷ ranks) rows =
+    length-woken domain cuid mid active ranks (woken_at domain cuid mid active r.slot rows) ∙ length-set rows r.slot (option_map (row_woken domain cuid mid active) (in_slot rows r.slot))
+
+woken_here : (domain : ℕ) (cuid : List ℕ) (mid : ℕ) (active : Bool) (slot : ℕ) (rows : List (Option ScrubRow)) (row : ScrubRow) → in_slot rows slot ≡ Some row
+    → in_slot (woken_at domain cuid mid active slot rows) slot ≡ Some (row_woken domain cuid mid active row)
+woken_here domain cuid mid active slot rows row is =
+    in_slot-set rows slot (option_map (row_woken domain cuid mid active) (in_slot rows slot)) (slot_there rows slot row is) ∙ ap (option_map (row_woken domain cuid mid active)) is
+
+woken_elsewhere : (domain : ℕ) (cuid : List ℕ) (mid : ℕ) (active : Bool) (slot k : ℕ) (rows : List (Option ScrubRow)) → k == slot ≡ false
+    → in_slot (woken_at domain cuid mid active slot rows) k ≡ in_slot rows k
+woken_elsewhere domain cuid mid active slot k rows differs = in_slot-other rows slot k (option_map (row_woken domain cuid mid active) (in_slot rows slot)) (λ same. not_both k slot same differs)
+
+-- a row that is as it is to be stays as it is
+settled : (domain : ℕ) (cuid : List ℕ) (mid : ℕ) (active : Bool) (ranks : List Rank) (rows : List (Option ScrubRow)) (k : ℕ) (row : ScrubRow) → in_slot rows k ≡ Some row
+    → row_woken domain cuid mid active row ≡ row → in_slot (woken_in domain cuid mid active ranks rows) k ≡ Some row
+settled domain cuid mid active [] rows k row is same = is
+settled domain cuid mid active (r ∷ ranks) rows k row is same =
+    let next : in_slot (woken_at domain cuid mid active r.slot rows) k ≡ Some row =
+    elim (k == r.slot) as (λ v. k == r.slot ≡ v → in_slot (woken_at domain cuid mid active r.slot rows) k ≡ Some row) [
+      | true ↦ λ here. let at : k ≡ r.slot = eqb-true _ _ here in
+          subst (λ (n : ℕ). in_slot (woken_at domain cuid mid active n rows) k ≡ Some row) at (woken_here domain cuid mid active k rows row is ∙ ap Some same)
+      | false ↦ λ differs. woken_elsewhere domain cuid mid active r.slot k rows differs ∙ is
+    ] refl in
+    settled domain cuid mid active ranks (woken_at domain cuid mid active r.slot rows) k row next same
+
+twice_by : (v active : Bool) (row : ScrubRow) → cond v (row_set active (cond v (row_set active row) row)) (cond v (row_set active row) row) ≡ cond v (row_set active row) row
+twice_by true active row = refl
+twice_by false active row = refl
+
+same_client : (domain : ℕ) (cuid : List ℕ) (mid : ℕ) (v active : Bool) (row : ScrubRow) → row_is_of domain cuid mid (cond v (row_set active row) row) ≡ row_is_of domain cuid mid row
+same_client domain cuid mid true active row = refl
+same_client domain cuid mid false active row = refl
+
+woken_twice : (domain : ℕ) (cuid : List ℕ) (mid : ℕ) (active : Bool) (row : ScrubRow) → row_woken domain cuid mid active (row_woken domain cuid mid active row) ≡ row_woken domain cuid mid active row
+woken_twice domain cuid mid active row =
+    ap (λ (v : Bool). cond v (row_set active (row_woken domain cuid mid active row)) (row_woken domain cuid mid active row)) (same_client domain cuid mid (row_is_of domain cuid mid row) active row)
+    ∙ twice_by (row_is_of domain cuid mid row) active row
+
+-- a row in the slot of one of the ranks is as it is to be
+woken_there : (domain : ℕ) (cuid : List ℕ) (mid : ℕ) (active : Bool) (ranks : List Rank) (rows : List (Option ScrubRow)) (k : ℕ) (row : ScrubRow) → in_slot rows k ≡ Some row
+    → (AllByRecursion (λ (r : Rank). k == r.slot ≡ false) ranks → ⊥) → in_slot (woken_in domain cuid mid active ranks rows) k ≡ Some (row_woken domain cuid mid active row)
+woken_there domain cuid mid active [] rows k row is some = absurd (some tt)
+woken_there domain cuid mid active (r ∷ ranks) rows k row is some =
+    elim (k == r.slot) as (λ v. k == r.slot ≡ v → in_slot (woken_in domain cuid mid active ranks (woken_at domain cuid mid active r.slot rows)) k ≡ Some (row_woken domain cuid mid active row)) [
+      | true ↦ λ here. let at : k ≡ r.slot = eqb-true _ _ here in
+          settled domain cuid mid active ranks (woken_at domain cuid mid active r.slot rows) k (row_woken domain cuid mid active row)
+          (subst (λ (n : ℕ). in_slot (woken_at domain cuid mid active n rows) k ≡ Some (row_woken domain cuid mid active row)) at (woken_here domain cuid mid active k rows row is))
+          (woken_twice domain cuid mid active row)
+      | false ↦ λ differs.
+          woken_there domain cuid mid active ranks (woken_at domain cuid mid active r.slot rows) k row (woken_elsewhere domain cuid mid active r.slot k rows differs ∙ is) (λ all. some (differs, all))
+    ] refl
+
+-- each row of the mitigation is in the slot of one of the ranks
+abbrev pub Reaches : ℕ → List ℕ → ℕ → List Rank → HeldScrub → Type 0
+Reaches domain cuid mid ranks scrub = is_of domain cuid mid scrub ≡ true → AllByRecursion (λ (r : Rank). scrub.slot == r.slot ≡ false) ranks → ⊥
+
+woken_or_same : (domain : ℕ) (cuid : List ℕ) (mid : ℕ) (active : Bool) (ranks : List Rank) (rows : List (Option ScrubRow)) (t : Turn) (tie : IsTied rows t)
+    → Reaches domain cuid mid ranks (scrub_of t tie.row) → in_slot (woken_in domain cuid mid active ranks rows) t.slot ≡ Some (row_woken domain cuid mid active tie.row)
+woken_or_same domain cuid mid active ranks rows t tie reaches =
+    elim (row_is_of domain cuid mid tie.row) as (λ v. row_is_of domain cuid mid tie.row ≡ v → in_slot (woken_in domain cuid mid active ranks rows) t.slot ≡ Some (row_woken domain cuid mid active tie.row)) [
+      | true ↦ λ is. woken_there domain cuid mid active ranks rows t.slot tie.row tie.is (reaches is)
+      | false ↦ λ not_one.
+          let same : row_woken domain cuid mid active tie.row ≡ tie.row = rw not_one refl in
+          settled domain cuid mid active ranks rows t.slot tie.row tie.is same ∙ ap Some (sym same)
+    ] refl
 
 woken_is : (domain : ℕ) (cuid : List ℕ) (mid : ℕ) (active : Bool) (t : Turn) (row : ScrubRow)
     → scrub_of t (row_woken domain cuid mid active row) ≡ woken domain cuid mid active (scrub_of t row)
 woken_is domain cuid mid active t row =
     elim (row_is_of domain cuid mid row) as (λ v. scrub_of t (cond v (row_set active row) row) ≡ cond v (scrub_set active (scrub_of t row)) (scrub_of t row)) [ true ↦ refl | false ↦ refl ]
 
-pub gathered-woken : (domain : ℕ) (cuid : List ℕ) (mid : ℕ) (active : Bool) (rows : List (Option ScrubRow)) (ts : List Turn) → AreTied rows ts
-    → gathered (map (option_map (row_woken domain cuid mid active)) rows) ts ≡ map (woken domain cuid mid active) (gathered rows ts)
-gathered-woken domain cuid mid active rows [] tied = refl
-gathered-woken domain cuid mid active rows (t ∷ ts) tied =
-    let f = row_woken domain cuid mid active in
-    ap (λ r. added t r (gathered (map (option_map (row_woken domain cuid mid active)) rows) ts)) (in_slot-map (row_woken domain cuid mid active) rows t.slot ∙ ap (option_map (row_woken domain cuid mid active)) tied.0.is)
-    ∙ ap (λ (h : HeldScrub). h ∷ gathered (map (option_map (row_woken domain cuid mid active)) rows) ts) (woken_is domain cuid mid active t tied.0.row)
-    ∙ ap (λ hs. woken domain cuid mid active (scrub_of t tied.0.row) ∷ hs) (gathered-woken domain cuid mid active rows ts tied.1)
+pub gathered-woken : (domain : ℕ) (cuid : List ℕ) (mid : ℕ) (active : Bool) (ranks : List Rank) (rows : List (Option ScrubRow)) (ts : List Turn) → AreTied rows ts
+    → AllByRecursion (Reaches domain cuid mid ranks) (gathered rows ts)
+    → gathered (woken_in domain cuid mid active ranks rows) ts ≡ map (woken domain cuid mid active) (gathered rows ts)
+gathered-woken domain cuid mid active ranks rows [] tied reach = refl
+gathered-woken domain cuid mid active ranks rows (t ∷ ts) tied reach =
+    let all : AllByRecursion (Reaches domain cuid mid ranks) (scrub_of t tied.0.row ∷ gathered rows ts) = subst (AllByRecursion (Reaches domain cuid mid ranks)) (one_tied rows t ts tied.0) reach in
+    ap (λ r. added t r (gathered (woken_in domain cuid mid active ranks rows) ts)) (woken_or_same domain cuid mid active ranks rows t tied.0 all.0)
+    ∙ ap (λ (h : HeldScrub). h ∷ gathered (woken_in domain cuid mid active ranks rows) ts) (woken_is domain cuid mid active t tied.0.row)
+    ∙ ap (λ hs. woken domain cuid mid active (scrub_of t tied.0.row) ∷ hs) (gathered-woken domain cuid mid active ranks rows ts tied.1 all.1)
     ∙ sym (ap (map (woken domain cuid mid active)) (one_tied rows t ts tied.0))
-
-woken_mid : (domain : ℕ) (cuid : List ℕ) (mid : ℕ) (active : Bool) (row : ScrubRow) → (row_woken domain cuid mid active row).mid ≡ row.mid
-woken_mid domain cuid mid active row = elim (row_is_of domain cuid mid row) as (λ v. (cond v (row_set active row) row).mid ≡ row.mid) [ true ↦ refl | false ↦ refl ]
 
 woken_prefix : (domain : ℕ) (cuid : List ℕ) (mid : ℕ) (active : Bool) (row : ScrubRow) → IsPrefix row.prefix → IsPrefix (row_woken domain cuid mid active row).prefix
 woken_prefix domain cuid mid active row whole = elim (row_is_of domain cuid mid row) as (λ v. IsPrefix (cond v (row_set active row) row).prefix) [ true ↦ whole | false ↦ whole ]
 
-pub tied-woken : (domain : ℕ) (cuid : List ℕ) (mid : ℕ) (active : Bool) (rows : List (Option ScrubRow)) (ts : List Turn) → AreTied rows ts
-    → AreTied (map (option_map (row_woken domain cuid mid active)) rows) ts
-tied-woken domain cuid mid active rows [] tied = tt
-tied-woken domain cuid mid active rows (t ∷ ts) tied = (
-  record {
-    row = row_woken domain cuid mid active tied.0.row;
-    is = in_slot-map (row_woken domain cuid mid active) rows t.slot ∙ ap (option_map (row_woken domain cuid mid active)) tied.0.is;
-    mid = woken_mid domain cuid mid active tied.0.row ∙ tied.0.mid;
-    prefix = woken_prefix domain cuid mid active tied.0.row tied.0.prefix;
-  },
-  tied-woken domain cuid mid active rows ts tied.1,
-)
+pub tied-woken : (domain : ℕ) (cuid : List ℕ) (mid : ℕ) (active : Bool) (ranks : List Rank) (rows : List (Option ScrubRow)) (ts : List Turn) → AreTied rows ts
+    → AllByRecursion (Reaches domain cuid mid ranks) (gathered rows ts) → AreTied (woken_in domain cuid mid active ranks rows) ts
+tied-woken domain cuid mid active ranks rows [] tied reach = tt
+tied-woken domain cuid mid active ranks rows (t ∷ ts) tied reach =
+    let all : AllByRecursion (Reaches domain cuid mid ranks) (scrub_of t tied.0.row ∷ gathered rows ts) = subst (AllByRecursion (Reaches domain cuid mid ranks)) (one_tied rows t ts tied.0) reach in (
+      record {
+        row = row_woken domain cuid mid active tied.0.row;
+        is = woken_or_same domain cuid mid active ranks rows t tied.0 all.0;
+        prefix = woken_prefix domain cuid mid active tied.0.row tied.0.prefix;
+      },
+      tied-woken domain cuid mid active ranks rows ts tied.1 all.1,
+    )
 
 -- ---- places anew
 
@@ -224,18 +266,11 @@ gathered-renumbered rows (t ∷ ts) tied =
 tied_from : (rows : List (Option ScrubRow)) (last number : ℕ) (ts : List Turn) → AreTied rows ts → AreTied rows (renumbered_from place_of_turn turn_at_place last number ts)
 tied_from rows last number [] tied = tt
 tied_from rows last number (t ∷ ts) tied =
-    (record { row = tied.0.row; is = tied.0.is; mid = tied.0.mid; prefix = tied.0.prefix }, tied_from rows t.place (number_after last number t.place) ts tied.1)
+    (record { row = tied.0.row; is = tied.0.is; prefix = tied.0.prefix }, tied_from rows t.place (number_after last number t.place) ts tied.1)
 
 pub tied-renumbered : (rows : List (Option ScrubRow)) (ts : List Turn) → AreTied rows ts → AreTied rows (renumbered place_of_turn turn_at_place ts)
 tied-renumbered rows [] tied = tt
 tied-renumbered rows (t ∷ ts) tied = tied_from rows t.place 0 (t ∷ ts) tied
-
--- ---- what a slot with a row comes to
-
-pub slot_there : (rows : List (Option ScrubRow)) (slot : ℕ) (row : ScrubRow) → in_slot rows slot ≡ Some row → slot < length rows
-slot_there [] slot row is = absurd (cc)
-slot_there (x ∷ rows) zero row is = omega arith
-slot_there (x ∷ rows) (suc slot) row is = omega (arith, slot_there rows slot row is)
 
 pub some_mapped : (o : Option HeldScrub) → IsSome o → option_map row_of_scrub o ≡ None → ⊥
 some_mapped None there is = absurd (search rules)

@@ -4,4 +4,5 @@ pub mod Places
 pub mod There
 pub mod Gathered
 pub mod Bests
+pub mod Found
 pub mod Standing

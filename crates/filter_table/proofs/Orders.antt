@@ -1,5 +1,5 @@
 -- Lists of rows that stay in order, and ranks that are put in order.
-use Rattle.std.proofs.Common.{◌≡◌, ◌≢◌, ℕ, ◌+◌, ◌≤◌, Bool, true, false, cond, if◌then◌else◌, ◌==◌, nat_le, List, [], ◌∷◌, map, zero, suc, refl, sym, ◌∙◌, arith, one-add, Some, None}
+use Rattle.std.proofs.Common.{◌≡◌, ◌≢◌, ℕ, ◌+◌, ◌≤◌, Bool, true, false, cond, if◌then◌else◌, ◌==◌, nat_le, nat_lt, List, [], ◌∷◌, map, zero, suc, refl, sym, ◌∙◌, arith, one-add, Some, None}
 use Rattle.std.specs.List.{insert, remove, prefix_len, filter, AllByRecursion}
 use Rattle.filter_table.specs.declared.held.HeldAcl.{HeldAcl}
 use Rattle.filter_table.specs.Held.{HeldScrub, scrub_in, is_of, scrub_set, acl_set, woken, activated, number_after, renumbered_from, renumbered, place_of_scrub, scrub_at_place}
@@ -7,7 +7,7 @@ use Rattle.filter_table.specs.Laws.{AreInOrder, HaveTheirSlots}
 use Rattle.prefix_ranks.specs.Numbers.{Falls}
 use Rattle.prefix_ranks.proofs.Each.{each_insert, each_remove, each_weaker}
 
-each_filter : {A : Type 0} → (P : A → Type 0) (p : A → Bool) (xs : List A) → AllByRecursion P xs → AllByRecursion P (filter p xs)
+pub each_filter : {A : Type 0} → (P : A → Type 0) (p : A → Bool) (xs : List A) → AllByRecursion P xs → AllByRecursion P (filter p xs)
 each_filter P p [] all = all
 each_filter P p (x ∷ xs) all =
     elim (p x) as (λ v. AllByRecursion P (cond v (x ∷ filter p xs) (filter p xs))) [ true ↦ (all.0, each_filter P p xs all.1) | false ↦ each_filter P p xs all.1 ]
@@ -45,6 +45,16 @@ order_falls place bound [] order = tt
 order_falls place bound (x ∷ xs) order = (
   λ fails. each_weaker (λ later. place x ≤ place later) (λ later. nat_le (place later) bound ≡ false) (λ later more. beyond bound (place x) (place later) fails more) xs order.0,
   order_falls place bound xs order.1,
+)
+
+not_below : (bound low high : ℕ) → nat_lt low bound ≡ false → low ≤ high → nat_lt high bound ≡ false
+not_below bound low high fails more = grind arith
+
+pub order_falls_below : {A : Type 0} → (place : A → ℕ) (bound : ℕ) (xs : List A) → AreInOrder place xs → Falls (λ x. nat_lt (place x) bound) xs
+order_falls_below place bound [] order = tt
+order_falls_below place bound (x ∷ xs) order = (
+  λ fails. each_weaker (λ later. place x ≤ place later) (λ later. nat_lt (place later) bound ≡ false) (λ later more. not_below bound (place x) (place later) fails more) xs order.0,
+  order_falls_below place bound xs order.1,
 )
 
 pub order_remove : {A : Type 0} → (place : A → ℕ) (xs : List A) (i : ℕ) → AreInOrder place xs → AreInOrder place (remove xs i)

@@ -52,9 +52,9 @@ counted : (s : ℕ) (held : List HeldScrub) → count_by (λ (x : HeldScrub). x.
 counted s [] = refl
 counted s (x ∷ held) = counted_from s x.place 0 (x ∷ held)
 
-pub slots_stay : (room : ℕ) (free : List ℕ) (held later : List HeldScrub) → later ≡ renumbered place_of_scrub scrub_at_place held
+pub slots_renumbered : (room : ℕ) (free : List ℕ) (held later : List HeldScrub) → later ≡ renumbered place_of_scrub scrub_at_place held
     → HasEachSlot room free held → HasEachSlot room free later
-slots_stay room free held later rows has = record {
+slots_renumbered room free held later rows has = record {
   once = λ s. omega (arith, has.once s, counted s held, ap (count_by (λ (x : HeldScrub). x.slot == s)) rows);
   number = omega (arith, has.number, ap length rows, length-renumbered place_of_scrub scrub_at_place held);
 }

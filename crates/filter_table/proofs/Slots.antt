@@ -1,6 +1,6 @@
 -- Slots that are taken and given back.
 use Rattle.std.proofs.Common.{◌≡◌, ℕ, ◌+◌, ◌<◌, ◌≤◌, Bool, true, false, not, cond, if◌then◌else◌, ◌==◌, nat_lt, nat_le, List, [], ◌∷◌, ◌++◌, map, length, get_or, length-append, subst, zero, suc, refl, sym, ap, ◌∙◌, arith, one-add, Some, None}
-use Rattle.std.specs.List.{insert, remove, count_by, prefix_len, filter, position, position_or_len}
+use Rattle.std.specs.List.{insert, remove, count_by, prefix_len, filter, AllByRecursion}
 use Rattle.std.proofs.lemmas.Grind.{common_steps}
 use Rattle.std.proofs.lemmas.Bool.{eq-eqb}
 use Rattle.std.proofs.lemmas.List.{length-map}
@@ -9,8 +9,10 @@ use Rattle.std.proofs.lemmas.List.Edits.{length-insert, length-remove}
 use Rattle.prefix_ranks.specs.declared.rank.Rank.{Rank}
 use Rattle.prefix_ranks.specs.Ranks.{RankingValue, is_before, with_rank, ranked, place_of}
 use Rattle.filter_table.specs.Held.{HeldScrub, rank_of, ScrubsValue, scrub_in, with_scrub, woken, is_of, scrub_set}
+use Rattle.filter_table.specs.Rows.{mark_of}
 use Rattle.filter_table.specs.Slots.{HasEachSlot, RanksAre}
-use Rattle.prefix_ranks.proofs.Order.{ranked_insert, ranked_remove, taken_back, place_within}
+use Rattle.prefix_ranks.proofs.Each.{map_insert, map_remove}
+use Rattle.prefix_ranks.proofs.Order.{ranked_insert, ranked_remove, taken_back}
 
 abbrev once_at : ℕ → ℕ → ℕ
 once_at s slot = cond (slot == s) 1 0
@@ -80,46 +82,24 @@ below_more n slots has = λ s.
 
 -- ---- ranks of rows
 
-map-insert : (held : List HeldScrub) (i : ℕ) (scrub : HeldScrub) → map rank_of (insert held i scrub) ≡ insert (map rank_of held) i (rank_of scrub)
-map-insert [] zero scrub = refl
-map-insert [] (suc i) scrub = refl
-map-insert (x ∷ held) zero scrub = refl
-map-insert (x ∷ held) (suc i) scrub = ap (λ rs. rank_of x ∷ rs) (map-insert held i scrub)
+get-map : (of : HeldScrub → Rank) (held : List HeldScrub) (i : ℕ) (scrub : HeldScrub) → i < length held → get_or held i scrub ≡ scrub → get_or (map of held) i (of scrub) ≡ of scrub
+get-map of [] i scrub within is = absurd (omega arith)
+get-map of (x ∷ held) zero scrub within is = ap of is
+get-map of (x ∷ held) (suc i) scrub within is = get-map of held i scrub (omega arith) is
 
-map-remove : (held : List HeldScrub) (i : ℕ) → map rank_of (remove held i) ≡ remove (map rank_of held) i
-map-remove [] zero = refl
-map-remove [] (suc i) = refl
-map-remove (x ∷ held) zero = refl
-map-remove (x ∷ held) (suc i) = ap (λ rs. rank_of x ∷ rs) (map-remove held i)
-
-get-map : (held : List HeldScrub) (i : ℕ) (scrub : HeldScrub) → i < length held → get_or held i scrub ≡ scrub → get_or (map rank_of held) i (rank_of scrub) ≡ rank_of scrub
-get-map [] i scrub within is = absurd (omega arith)
-get-map (x ∷ held) zero scrub within is = ap rank_of is
-get-map (x ∷ held) (suc i) scrub within is = get-map held i scrub (omega arith) is
-
-pub ranks_after_install : (ranks : List Rank) (held : List HeldScrub) (i : ℕ) (scrub : HeldScrub) → ranks ≡ ranked (map rank_of held)
-    → with_rank (rank_of scrub) ranks ≡ ranked (map rank_of (insert held i scrub))
-ranks_after_install ranks held i scrub are =
-    ap (with_rank (rank_of scrub)) are ∙ sym (ranked_insert (map rank_of held) i (rank_of scrub)) ∙ ap ranked (sym (map-insert held i scrub))
-
-pub ranks_after_removal : (ranks : List Rank) (held : List HeldScrub) (i : ℕ) (scrub : HeldScrub) → ranks ≡ ranked (map rank_of held)
-    → i < length held → get_or held i scrub ≡ scrub
-    → (place_of (rank_of scrub) ranks < length ranks) × (remove ranks (place_of (rank_of scrub) ranks) ≡ ranked (map rank_of (remove held i)))
-ranks_after_removal ranks held i scrub are within is =
-    let rest = ranked (map rank_of (remove held i)) in
-    let split : ranks ≡ with_rank (rank_of scrub) rest =
-    are ∙ ranked_remove (map rank_of held) i (rank_of scrub) (omega (arith, within, length-map held rank_of)) (get-map held i scrub within is)
-    ∙ ap (λ rs. with_rank (rank_of scrub) (ranked rs)) (sym (map-remove held i)) in (
-      subst (λ rs. place_of (rank_of scrub) rs < length rs) (sym split) (place_within (rank_of scrub) rest),
-      ap (λ rs. remove rs (place_of (rank_of scrub) rs)) split ∙ taken_back (rank_of scrub) rest,
-    )
+-- the ranks of some rows are those of the others, and of one that is among them
+ranks_split : (of : HeldScrub → Rank) (held : List HeldScrub) (i : ℕ) (scrub : HeldScrub) → i < length held → get_or held i scrub ≡ scrub
+    → ranked (map of held) ≡ with_rank (of scrub) (ranked (map of (remove held i)))
+ranks_split of held i scrub within is =
+    ranked_remove (map of held) i (of scrub) (omega (arith, within, length-map held of)) (get-map of held i scrub within is)
+    ∙ ap (λ rs. with_rank (of scrub) (ranked rs)) (sym (map_remove of held i))
 
 pub length-ranked : (rs : List Rank) → length (ranked rs) ≡ length rs
 length-ranked [] = refl
 length-ranked (r ∷ rs) = omega (arith, length-insert (ranked rs) (place_of r (ranked rs)) r (prefix_len-le-length (λ other. is_before other r) (ranked rs)), length-ranked rs)
 
-pub length-ranks : (ranking : RankingValue) (room : ℕ) (held : List HeldScrub) → RanksAre ranking room held → length ranking.ranks ≡ length held
-length-ranks ranking room held are = ap length are.in_order ∙ length-ranked (map rank_of held) ∙ length-map held rank_of
+pub length-ranks : (of : HeldScrub → Rank) (ranking : RankingValue) (room : ℕ) (held : List HeldScrub) → RanksAre of ranking room held → length ranking.ranks ≡ length held
+length-ranks of ranking room held are = ap length are.in_order ∙ length-ranked (map of held) ∙ length-map held of
 
 -- ---- what the table keeps, over the values that a call handles
 
@@ -131,58 +111,51 @@ slot_within room before free slot held taken has =
     let self : once_at slot slot ≡ 1 = one_where slot slot (eq-eqb _ _ refl) in
     within_by slot room (omega (arith, self, has.once slot, ap (count_by (λ other. other == slot)) taken, sum_by-append (once_at slot) free (slot ∷ [])))
 
-pub installed : (room : ℕ) (ranking after : RankingValue) (rank : Rank) (before free : List ℕ) (slot : ℕ) (held later : List HeldScrub) (i : ℕ) (scrub : HeldScrub)
-    → RanksAre ranking room held → HasEachSlot room before held
-    → before ≡ free ++ slot ∷ [] → scrub.slot ≡ slot → rank ≡ rank_of scrub → i ≤ length held
-    → later ≡ insert held i scrub → after ≡ record { room = ranking.room; ranks = with_rank rank ranking.ranks }
-    → RanksAre after room later × HasEachSlot room free later
-installed room ranking after rank before free slot held later i scrub are has taken is ranks within rows now = (
-  record {
-    in_order = ap (λ (r : RankingValue). r.ranks) now ∙ ap (λ r. with_rank r ranking.ranks) ranks ∙ ranks_after_install ranking.ranks held i scrub are.in_order ∙ ap (λ hs. ranked (map rank_of hs)) (sym rows);
-    room_is = ap (λ (r : RankingValue). r.room) now ∙ are.room_is;
-  },
-  subst (λ (hs : List HeldScrub). HasEachSlot room free hs) (sym rows) (after_install room before free slot held i scrub taken is within has),
-)
+pub ranks_installed : (of : HeldScrub → Rank) (room : ℕ) (ranking after : RankingValue) (rank : Rank) (held later : List HeldScrub) (i : ℕ) (scrub : HeldScrub)
+    → RanksAre of ranking room held → rank ≡ of scrub → later ≡ insert held i scrub → after ≡ record { room = ranking.room; ranks = with_rank rank ranking.ranks }
+    → RanksAre of after room later
+ranks_installed of room ranking after rank held later i scrub are is rows now = record {
+  in_order = ap (λ (r : RankingValue). r.ranks) now ∙ ap (λ r. with_rank r ranking.ranks) is ∙ ap (with_rank (of scrub)) are.in_order
+      ∙ sym (ranked_insert (map of held) i (of scrub)) ∙ ap ranked (sym (map_insert of held i scrub)) ∙ ap (λ hs. ranked (map of hs)) (sym rows);
+  room_is = ap (λ (r : RankingValue). r.room) now ∙ are.room_is;
+}
 
-pub rank_there : (room : ℕ) (ranking : RankingValue) (rank : Rank) (held : List HeldScrub) (i : ℕ) (scrub : HeldScrub)
-    → RanksAre ranking room held → i < length held → get_or held i scrub ≡ scrub → rank ≡ rank_of scrub
+pub rank_there : (of : HeldScrub → Rank) (room : ℕ) (ranking : RankingValue) (rank : Rank) (held : List HeldScrub) (i : ℕ) (scrub : HeldScrub)
+    → RanksAre of ranking room held → i < length held → get_or held i scrub ≡ scrub → rank ≡ of scrub
     → (others : List Rank) × (ranking.ranks ≡ with_rank rank others)
-rank_there room ranking rank held i scrub are within is ranks = (
-  ranked (map rank_of (remove held i)),
-  are.in_order ∙ ranked_remove (map rank_of held) i (rank_of scrub) (omega (arith, within, length-map held rank_of)) (get-map held i scrub within is)
-      ∙ ap (λ rs. with_rank (rank_of scrub) (ranked rs)) (sym (map-remove held i)) ∙ ap (λ (r : Rank). with_rank r (ranked (map rank_of (remove held i)))) (sym ranks),
+rank_there of room ranking rank held i scrub are within is ranks = (
+  ranked (map of (remove held i)),
+  are.in_order ∙ ranks_split of held i scrub within is ∙ ap (λ (r : Rank). with_rank r (ranked (map of (remove held i)))) (sym ranks),
 )
 
-pub removed : (room : ℕ) (ranking after : RankingValue) (rank : Rank) (free given : List ℕ) (held later : List HeldScrub) (i : ℕ) (scrub : HeldScrub)
-    → RanksAre ranking room held → HasEachSlot room free held → i < length held → get_or held i scrub ≡ scrub → rank ≡ rank_of scrub
-    → given ≡ free ++ scrub.slot ∷ [] → later ≡ remove held i
+pub ranks_removed : (of : HeldScrub → Rank) (room : ℕ) (ranking after : RankingValue) (rank : Rank) (held later : List HeldScrub) (i : ℕ) (scrub : HeldScrub)
+    → RanksAre of ranking room held → i < length held → get_or held i scrub ≡ scrub → rank ≡ of scrub → later ≡ remove held i
     → after ≡ record { room = ranking.room; ranks = remove ranking.ranks (place_of rank ranking.ranks) }
-    → RanksAre after room later × HasEachSlot room given later
-removed room ranking after rank free given held later i scrub are has within is ranks back rows now = (
-  record {
-    in_order = ap (λ (r : RankingValue). r.ranks) now ∙ ap (λ r. remove ranking.ranks (place_of r ranking.ranks)) ranks
-        ∙ (ranks_after_removal ranking.ranks held i scrub are.in_order within is).1 ∙ ap (λ hs. ranked (map rank_of hs)) (sym rows);
-    room_is = ap (λ (r : RankingValue). r.room) now ∙ are.room_is;
-  },
-  subst (λ (hs : List HeldScrub). HasEachSlot room given hs) (sym rows)
-      (subst (λ (slots : List ℕ). HasEachSlot room slots (remove held i)) (sym back) (after_removal room free held i scrub within is has)),
-)
+    → RanksAre of after room later
+ranks_removed of room ranking after rank held later i scrub are within is ranks rows now =
+    let rest = ranked (map of (remove held i)) in
+    let split : ranking.ranks ≡ with_rank (of scrub) (ranked (map of (remove held i))) = are.in_order ∙ ranks_split of held i scrub within is in
+    record {
+      in_order = ap (λ (r : RankingValue). r.ranks) now ∙ ap (λ r. remove ranking.ranks (place_of r ranking.ranks)) ranks
+          ∙ ap (λ rs. remove rs (place_of (of scrub) rs)) split ∙ taken_back (of scrub) rest ∙ ap (λ hs. ranked (map of hs)) (sym rows);
+      room_is = ap (λ (r : RankingValue). r.room) now ∙ are.room_is;
+    }
 
 abbrev pub scrubs_value : ℕ → List HeldScrub → ScrubsValue
 scrubs_value room held = record { room = room; held = held }
 
-pub installed_value : (room : ℕ) (held later : List HeldScrub) (old : ScrubsValue) (i : ℕ) (scrub : HeldScrub)
-    → scrubs_value room held ≡ old → i ≡ prefix_len (λ (other : HeldScrub). nat_le other.place scrub.place) held → later ≡ insert held i scrub
-    → scrubs_value room later ≡ scrubs_value old.room (with_scrub scrub old.held)
-installed_value room held later old i scrub view at rows =
-    ap (scrubs_value room) (rows ∙ ap (λ (n : ℕ). insert held n scrub) at)
-    ∙ ap (λ (o : ScrubsValue). scrubs_value o.room (with_scrub scrub o.held)) view
-
 -- ---- a change of rows that keeps slots, places and prefixes
 
-pub same_ranks : (f : HeldScrub → HeldScrub) → ((x : HeldScrub) → rank_of (f x) ≡ rank_of x) → (held : List HeldScrub) → map rank_of (map f held) ≡ map rank_of held
-same_ranks f same [] = refl
-same_ranks f same (x ∷ held) = ap (λ r. r ∷ map rank_of (map f held)) (same x) ∙ ap (λ rs. rank_of x ∷ rs) (same_ranks f same held)
+same_ranks : (of : HeldScrub → Rank) (f : HeldScrub → HeldScrub) → ((x : HeldScrub) → of (f x) ≡ of x) → (held : List HeldScrub) → map of (map f held) ≡ map of held
+same_ranks of f same [] = refl
+same_ranks of f same (x ∷ held) = ap (λ r. r ∷ map of (map f held)) (same x) ∙ ap (λ rs. of x ∷ rs) (same_ranks of f same held)
+
+pub ranks_stay : (of : HeldScrub → Rank) (f : HeldScrub → HeldScrub) → ((x : HeldScrub) → of (f x) ≡ of x) → (room : ℕ) (ranking : RankingValue) (held later : List HeldScrub)
+    → RanksAre of ranking room held → later ≡ map f held → RanksAre of ranking room later
+ranks_stay of f same room ranking held later are rows = record {
+  in_order = are.in_order ∙ ap ranked (sym (ap (map of) rows ∙ same_ranks of f same held));
+  room_is = are.room_is;
+}
 
 same_counts : (f : HeldScrub → HeldScrub) → ((x : HeldScrub) → (f x).slot ≡ x.slot) → (s : ℕ) (held : List HeldScrub)
     → count_by (λ (x : HeldScrub). x.slot == s) (map f held) ≡ count_by (λ (x : HeldScrub). x.slot == s) held
@@ -191,52 +164,35 @@ same_counts f same s (x ∷ held) =
     let one : once_at s (f x).slot ≡ once_at s x.slot = ap (once_at s) (same x) in
     omega (arith, one, same_counts f same s held, sum_by-cons (λ (y : HeldScrub). once_at s y.slot) (f x) (map f held), sum_by-cons (λ (y : HeldScrub). once_at s y.slot) x held)
 
-pub changed : (f : HeldScrub → HeldScrub) → ((x : HeldScrub) → rank_of (f x) ≡ rank_of x) → (room : ℕ) (ranking : RankingValue) (free : List ℕ) (held later : List HeldScrub)
-    → RanksAre ranking room held → HasEachSlot room free held → later ≡ map f held → RanksAre ranking room later × HasEachSlot room free later
-changed f same room ranking free held later are has rows =
-    let slots : (x : HeldScrub) → (f x).slot ≡ x.slot = λ x. ap (λ (r : Rank). r.slot) (same x) in (
-      record { in_order = are.in_order ∙ ap ranked (sym (ap (map rank_of) rows ∙ same_ranks f same held)); room_is = are.room_is },
-      record {
-        once = λ s. omega (arith, has.once s, same_counts f slots s held, ap (count_by (λ (x : HeldScrub). x.slot == s)) rows);
-        number = omega (arith, has.number, ap length rows, length-map held f);
-      },
-    )
+pub slots_stay : (f : HeldScrub → HeldScrub) → ((x : HeldScrub) → (f x).slot ≡ x.slot) → (room : ℕ) (free : List ℕ) (held later : List HeldScrub)
+    → HasEachSlot room free held → later ≡ map f held → HasEachSlot room free later
+slots_stay f same room free held later has rows = record {
+  once = λ s. omega (arith, has.once s, same_counts f same s held, ap (count_by (λ (x : HeldScrub). x.slot == s)) rows);
+  number = omega (arith, has.number, ap length rows, length-map held f);
+}
 
 pub woken_rank : (domain : ℕ) (cuid : List ℕ) (mid : ℕ) (active : Bool) (x : HeldScrub) → rank_of (woken domain cuid mid active x) ≡ rank_of x
 woken_rank domain cuid mid active x =
     elim (is_of domain cuid mid x) as (λ v. rank_of (if v then scrub_set active x else x) ≡ rank_of x) [ true ↦ refl | false ↦ refl ]
 
+pub woken_mark : (domain : ℕ) (cuid : List ℕ) (mid : ℕ) (active : Bool) (x : HeldScrub) → mark_of (woken domain cuid mid active x) ≡ mark_of x
+woken_mark domain cuid mid active x =
+    elim (is_of domain cuid mid x) as (λ v. mark_of (if v then scrub_set active x else x) ≡ mark_of x) [ true ↦ refl | false ↦ refl ]
+
 -- ---- rows taken out one by one
 
-first_out : (p : HeldScrub → Bool) (xs : List HeldScrub) → position_or_len p xs < length xs
-    → filter (λ x. not (p x)) (remove xs (position_or_len p xs)) ≡ filter (λ x. not (p x)) xs
-first_out p [] within = absurd (omega arith)
-first_out p (x ∷ xs) below =
-    elim (p x) as (λ v. p x ≡ v → cond (not v) (1 + position_or_len p xs) 0 < length (x ∷ xs)
-    → filter (λ y. not (p y)) (remove (x ∷ xs) (cond (not v) (1 + position_or_len p xs) 0)) ≡ cond (not v) (x ∷ filter (λ y. not (p y)) xs) (filter (λ y. not (p y)) xs)) [
-      | true ↦ λ is within. refl
-      | false ↦ λ is within. rw (one-add (position_or_len p xs)) rw is (ap (λ ys. x ∷ ys) (first_out p xs (omega (arith, within))))
-    ] refl below
-
-all_stay : (p : HeldScrub → Bool) (xs : List HeldScrub) → length xs ≤ position_or_len p xs → xs ≡ filter (λ x. not (p x)) xs
-all_stay p [] past = refl
-all_stay p (x ∷ xs) far =
-    elim (p x) as (λ v. length (x ∷ xs) ≤ cond (not v) (1 + position_or_len p xs) 0 → x ∷ xs ≡ cond (not v) (x ∷ filter (λ y. not (p y)) xs) (filter (λ y. not (p y)) xs)) [
-      | true ↦ λ past. absurd (omega (arith, past))
-      | false ↦ λ past. ap (λ ys. x ∷ ys) (all_stay p xs (omega (arith, past)))
-    ] far
-
-pub found_by : (i j n : ℕ) → cond (nat_lt i n) (Some i) None ≡ Some j → (j ≡ i) × (i < n)
-found_by i j n is = (grind arith, grind arith)
-
-lost_by : (i n : ℕ) → cond (nat_lt i n) (Some i) None ≡ None → n ≤ i
-lost_by i n is = grind arith
-
-pub others_same : (p : HeldScrub → Bool) (xs : List HeldScrub) (i : ℕ) → position p xs ≡ Some i
+-- one of those that go, taken out before
+pub others_same : (p : HeldScrub → Bool) (xs : List HeldScrub) (i : ℕ) (d : HeldScrub) → i < length xs → p (get_or xs i d) ≡ true
     → filter (λ x. not (p x)) (remove xs i) ≡ filter (λ x. not (p x)) xs
-others_same p xs i is =
-    let found = found_by (position_or_len p xs) i (length xs) is in
-    ap (λ (n : ℕ). filter (λ x. not (p x)) (remove xs n)) found.0 ∙ first_out p xs found.1
+others_same p [] i d within is = absurd (omega (arith, within))
+others_same p (x ∷ xs) zero d within is = let here : p x ≡ true = is in rw here refl
+others_same p (x ∷ xs) (suc i) d within is =
+    let same : filter (λ y. not (p y)) (remove xs i) ≡ filter (λ y. not (p y)) xs = others_same p xs i d (omega (arith, within)) is in
+    elim (p x) as (λ v. cond (not v) (x ∷ filter (λ y. not (p y)) (remove xs i)) (filter (λ y. not (p y)) (remove xs i)) ≡ cond (not v) (x ∷ filter (λ y. not (p y)) xs) (filter (λ y. not (p y)) xs)) [
+      | true ↦ same
+      | false ↦ ap (λ ys. x ∷ ys) same
+    ]
 
-pub none_left : (p : HeldScrub → Bool) (xs : List HeldScrub) → position p xs ≡ None → xs ≡ filter (λ x. not (p x)) xs
-none_left p xs none = all_stay p xs (lost_by (position_or_len p xs) (length xs) none)
+pub all_stay : (p : HeldScrub → Bool) (xs : List HeldScrub) → AllByRecursion (λ x. p x ≡ false) xs → xs ≡ filter (λ x. not (p x)) xs
+all_stay p [] none = refl
+all_stay p (x ∷ xs) none = let here : p x ≡ false = none.0 in rw here (ap (λ ys. x ∷ ys) (all_stay p xs none.1))

@@ -2,11 +2,12 @@
 use Rattle.std.specs.Prelude.{◌≡◌, ℕ, ◌+◌, ◌==◌, nat_lt, if◌then◌else◌, List, length, map, Option}
 use Rattle.std.specs.List.{count_by, AllByRecursion}
 use Rattle.filter_rows.specs.declared.rows.ScrubRow.{ScrubRow}
+use Rattle.prefix_ranks.specs.declared.rank.Rank.{Rank}
 use Rattle.prefix_ranks.specs.Ranks.{RankingValue, ranked}
 use Rattle.filter_table.specs.declared.turn.Turn.{Turn}
 use Rattle.filter_table.specs.Held.{HeldScrub, rank_of}
 use Rattle.filter_table.specs.Laws.{AreInOrder}
-use Rattle.filter_table.specs.Rows.{gathered, place_of_turn, IsTied}
+use Rattle.filter_table.specs.Rows.{gathered, place_of_turn, mark_of, IsTied}
 
 -- each slot below the room is free or has one row, and there are no others
 pub record HasEachSlot (room : ℕ) (free : List ℕ) (held : List HeldScrub) : Type 0 where
@@ -14,15 +15,16 @@ pub record HasEachSlot (room : ℕ) (free : List ℕ) (held : List HeldScrub) : 
       ≡ (if nat_lt slot room then 1 else 0)
   pub number : length free + length held ≡ room
 
--- the ranks are those of the rows
-pub record RanksAre (ranking : RankingValue) (room : ℕ) (held : List HeldScrub) : Type 0 where
-  pub in_order : ranking.ranks ≡ ranked (map rank_of held)
+-- the ranks are those that the rows have by this order
+pub record RanksAre (of : HeldScrub → Rank) (ranking : RankingValue) (room : ℕ) (held : List HeldScrub) : Type 0 where
+  pub in_order : ranking.ranks ≡ ranked (map of held)
   pub room_is : ranking.room ≡ room
 
 -- the turns are in order of place, each has a row, and the ranks and the free slots are those of these rows
-pub record StandInSlots (room : ℕ) (rows : List (Option ScrubRow)) (turns : List Turn) (free : List ℕ) (ranking : RankingValue) : Type 0 where
+pub record StandInSlots (room : ℕ) (rows : List (Option ScrubRow)) (turns : List Turn) (free : List ℕ) (ranking marks : RankingValue) : Type 0 where
   pub rows_number : length rows ≡ room
   pub tied : AllByRecursion (IsTied rows) turns
   pub in_order : AreInOrder place_of_turn turns
-  pub ranks_are : RanksAre ranking room (gathered rows turns)
+  pub ranks_are : RanksAre rank_of ranking room (gathered rows turns)
+  pub marks_are : RanksAre mark_of marks room (gathered rows turns)
   pub slots_are : HasEachSlot room free (gathered rows turns)

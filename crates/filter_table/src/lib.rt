@@ -4,8 +4,9 @@
 //! with their places, and how many of each there may be. Each call says what the two lists are after it, and [`FilterTable::fate`]
 //! is the definition of `filter_rows` on them. Only [`FilterTable::new`] takes memory.
 //!
-//! Rows of mitigations are stored by slot. Beside them stand their turns in order of place, and their ranks (`prefix_ranks`), so
-//! what is moved where a row comes or goes is small numbers.
+//! Rows of mitigations are stored by slot. Beside them stand their turns in order of place, and their ranks (`prefix_ranks`)
+//! by prefix and by mitigation. So what is moved where a row comes or goes is small numbers, and the rows of a mitigation are
+//! searched for by its domain and mid. Rows of access lists are few, and each call on them passes over all.
 //!
 //! Start reading at `specs/Table.antt` and `specs/Held.antt`; `specs/Rows.antt` has how the rows are stored.
 #![tactic(auto)]
@@ -15,6 +16,7 @@ mod fates;
 mod greater;
 mod held;
 pub mod laws;
+mod marks;
 mod rows;
 mod scrubs;
 mod slot_rows;

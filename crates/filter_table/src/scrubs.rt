@@ -1,19 +1,18 @@
 //! The rows of mitigations, each in a slot of its own.
 
-ghost use Rattle.std.specs.Prelude.{◌≡◌, ℕ, ◌<◌, ◌≤◌, ◌^◌, [], None, Some, true, false, map, filter, length, nat_le, nat_lt, option_map, IsSome, IfOk, vec_capacity};
-ghost use Rattle.std.specs.List.{prefix_len, insert, remove, AllByRecursion};
+ghost use Rattle.std.specs.Prelude.{◌≡◌, ℕ, ◌<◌, ◌≤◌, ◌^◌, [], None, Some, true, false, map, filter, length, nat_le, nat_lt, option_map, IsSome, IfSome, IfNone, IfOk, vec_capacity};
+ghost use Rattle.std.specs.List.{prefix_len, position, insert, remove, AllByRecursion};
 ghost use Rattle.filter_rows.specs.Fates.{scrubbing_mid};
 ghost use Rattle.prefix_ranks.specs.Ranks.{kind_of, ranked, is_of_kind, slot_of};
 ghost use Rattle.filter_table.specs.Held.{ScrubsValue, scrub_in, with_scrub, without_mitigation, woken, renumbered, scrub_at_place, place_of_scrub, rank_of, row_of_scrub, active_rows};
 ghost use Rattle.filter_table.specs.Laws.{AreInOrder};
-ghost use Rattle.filter_table.specs.Rows.{gathered, place_of_turn, turn_at_place, IsTied};
+ghost use Rattle.filter_table.specs.Rows.{gathered, place_of_turn, turn_at_place, mark_of, is_turn, IsTied};
 
 use crate::greater::greatest_covered;
 use crate::held::number_after;
+use crate::marks::{first_of, mark_of, marks_of, wake_marked};
 use crate::rows::ScrubRows;
-use crate::slot_rows::{
-    all_slots, empty_slot, empty_slots, fill_slot, position_of, row_in, wake_rows,
-};
+use crate::slot_rows::{all_slots, empty_slot, empty_slots, fill_slot, row_in};
 use crate::turn::Turn;
 use acl_lists::Packet;
 use dots_lists::NoMemory;
@@ -23,14 +22,17 @@ use prefix_ranks::{Rank, Ranking, kind_of};
 use std::alloc::Global;
 use std::marker::Model;
 
-/// The rows by slot, the turns of those that are held, and the slots in the order of what their rows cover.
+/// The rows by slot, the turns of those that are held, and their ranks.
 #[derive(Debug, Drop)]
 pub struct Scrubs {
     rows: Vec<Option<ScrubRow>>,
     turns: Vec<Turn>,
     /// The slots that no row stands in.
     free: Vec<u32>,
+    /// The slots in order of what their rows cover.
     ranking: Ranking,
+    /// The slots in order of the domains and mids of their rows.
+    marks: Ranking,
     room: usize,
 }
 
@@ -45,7 +47,7 @@ impl Model for Scrubs {
     ghost view = { λ scrubs. record { room = scrubs.room; held = gathered scrubs.rows.items scrubs.turns.items } };
 
     ghost invariant = { λ scrubs.
-        StandInSlots scrubs.room scrubs.rows.items scrubs.turns.items scrubs.free.items scrubs.ranking
+        StandInSlots scrubs.room scrubs.rows.items scrubs.turns.items scrubs.free.items scrubs.ranking scrubs.marks
         × (scrubs.room ≤ vec_capacity scrubs.turns)
         × (scrubs.room ≤ vec_capacity scrubs.free) };
 }
@@ -61,6 +63,7 @@ impl Scrubs {
             turns: Vec::with_capacity(alloc, room)?,
             free: all_slots(alloc, room as u32)?,
             ranking: Ranking::new(alloc, room)?,
+            marks: Ranking::new(alloc, room)?,
             room,
         })
     }
@@ -85,13 +88,9 @@ impl Scrubs {
             None => unreachable!(),
         };
         let at = place_after(place, self.turns.as_slice());
-        let turn = Turn {
-            place,
-            slot,
-            mid: row.mid,
-        };
         self.ranking.put(Rank::of(&row.prefix, place, slot));
-        put_turn(&mut self.turns, at, turn);
+        self.marks.put(mark_of(&row, place, slot));
+        put_turn(&mut self.turns, at, Turn { place, slot });
         fill_slot(&mut self.rows, slot, row);
     }
 
@@ -107,7 +106,19 @@ impl Scrubs {
         };
         self.ranking
             .take(&Rank::of(&row.prefix, turn.place, turn.slot));
+        self.marks.take(&mark_of(&row, turn.place, turn.slot));
         self.free.push_reserved(turn.slot);
+    }
+
+    /// The position of a row of this mitigation.
+    fn position_of(&self, domain: u16, cuid: &[u8], mid: u32) -> Option<usize>
+        ensures some { IfSome result (λ at. (at < length self.now.held)
+            × (without_mitigation domain cuid.now mid (remove self.now.held at) ≡ without_mitigation domain cuid.now mid self.now.held)) }
+        ensures none { IfNone result (self.now.held ≡ without_mitigation domain cuid.now mid self.now.held) }
+    {
+        let marks = marks_of(&self.marks, domain, mid);
+        let mark = first_of(marks, self.rows.as_slice(), domain, cuid, mid)?;
+        turn_at(mark.place, mark.slot, self.turns.as_slice())
     }
 
     /// Takes a row of this mitigation out, and says whether there was one.
@@ -117,13 +128,7 @@ impl Scrubs {
         ensures fewer { result ≡ true → length self.new.held < length self.old.held }
         ensures done { result ≡ false → self.new.held ≡ without_mitigation domain cuid.now mid self.old.held }
     {
-        match position_of(
-            self.turns.as_slice(),
-            self.rows.as_slice(),
-            domain,
-            cuid,
-            mid,
-        ) {
+        match self.position_of(domain, cuid, mid) {
             Some(at) => {
                 self.take_out(at);
                 true
@@ -143,7 +148,8 @@ impl Scrubs {
     pub fn wake(&mut self, domain: u16, cuid: &[u8], mid: u32, active: bool)
         ensures { self.new ≡ record { room = self.old.room; held = map (woken domain cuid.now mid active) self.old.held } }
     {
-        wake_rows(&mut self.rows, domain, cuid, mid, active);
+        let marks = marks_of(&self.marks, domain, mid);
+        wake_marked(marks, &mut self.rows, domain, cuid, mid, active);
     }
 
     /// Gives the rows places from 0 on in their order, equal places staying equal.
@@ -153,6 +159,7 @@ impl Scrubs {
         renumber_turns(&mut self.turns);
         rank_all(
             &mut self.ranking,
+            &mut self.marks,
             self.turns.as_slice(),
             self.rows.as_slice(),
         );
@@ -208,6 +215,36 @@ fn place_after(place: u64, turns: &[Turn]) -> usize
     turns.partition_point(|other| other.place <= place)
 }
 
+/// The position of the turn of this place and slot.
+fn turn_at(place: u64, slot: u32, turns: &[Turn]) -> Option<usize>
+    requires { AreInOrder place_of_turn turns.now }
+    ensures { result ≡ position (is_turn place slot) turns.now }
+{
+    let before = turns_before(place, turns);
+    let (_, rest) = turns.split_at(before);
+    let at = first_at(place, slot, rest)?;
+    Some(before + at)
+}
+
+/// The position of the first turn of this place and slot.
+fn first_at(place: u64, slot: u32, turns: &[Turn]) -> Option<usize>
+    ensures value { result ≡ position (is_turn place slot) turns.now }
+    ensures within { IfSome result (λ at. at < length turns.now) }
+{
+    turns
+        .iter()
+        .position(|turn| turn.place == place && turn.slot == slot)
+}
+
+/// How many turns have a lower place.
+fn turns_before(place: u64, turns: &[Turn]) -> usize
+    requires { AreInOrder place_of_turn turns.now }
+    ensures value { result ≡ prefix_len (λ other. nat_lt other.place place) turns.now }
+    ensures within { result ≤ length turns.now }
+{
+    turns.partition_point(|other| other.place < place)
+}
+
 /// Puts a turn in at this position, for which there is room.
 fn put_turn(turns: &mut Vec<Turn>, at: usize, turn: Turn)
     requires within { at ≤ length turns.old.items }
@@ -241,18 +278,22 @@ fn renumber_all(turns: &mut [Turn])
     }
 }
 
-/// Ranks the rows of these turns and no others.
-fn rank_all(ranking: &mut Ranking, turns: &[Turn], rows: &[Option<ScrubRow>])
+/// Ranks the rows of these turns and no others, by prefix and by mitigation.
+fn rank_all(ranking: &mut Ranking, marks: &mut Ranking, turns: &[Turn], rows: &[Option<ScrubRow>])
     requires tied { AllByRecursion (IsTied rows.now) turns.now }
     requires room { length turns.now ≤ ranking.old.room }
-    ensures { ranking.new ≡ record { room = ranking.old.room; ranks = ranked (map rank_of (gathered rows.now turns.now)) } }
+    requires marks_room { length turns.now ≤ marks.old.room }
+    ensures ranking { ranking.new ≡ record { room = ranking.old.room; ranks = ranked (map rank_of (gathered rows.now turns.now)) } }
+    ensures marks { marks.new ≡ record { room = marks.old.room; ranks = ranked (map mark_of (gathered rows.now turns.now)) } }
 {
     ranking.clear();
+    marks.clear();
     for turn in turns {
         let row = match row_in(turn.slot, rows) {
             Some(row) => row,
             None => unreachable!(),
         };
         ranking.put(Rank::of(&row.prefix, turn.place, turn.slot));
+        marks.put(mark_of(row, turn.place, turn.slot));
     }
 }

@@ -1,14 +1,11 @@
 //! Rows by the slot that they stand in.
 
 ghost use Rattle.std.specs.Prelude.{◌≡◌, ◌==◌, ◌&&◌, ◌<◌, ◌≤◌, None, Some, map, length, option_map, option_copied, [], IfOk, slice_set, vec_capacity};
-ghost use Rattle.std.specs.List.{position};
-ghost use Rattle.filter_rows.specs.declared.rows.ScrubRow.{ScrubRow};
 ghost use Rattle.filter_table.specs.Held.{is_of_client, row_is_of, row_woken};
-ghost use Rattle.filter_table.specs.Rows.{in_slot, turn_is_of};
+ghost use Rattle.filter_table.specs.Rows.{in_slot, slot_is_of, woken_at};
 ghost use Rattle.filter_table.specs.Slots.{HasEachSlot};
 
 use crate::held::is_of_client;
-use crate::turn::Turn;
 use dots_lists::NoMemory;
 use filter_rows::ScrubRow;
 use std::alloc::Global;
@@ -70,47 +67,32 @@ fn is_of(row: &ScrubRow, domain: u16, cuid: &[u8], mid: u32) -> bool
     is_of_client(domain, cuid, row.domain, &row.cuid) && row.mid == mid
 }
 
-/// Whether the turn is that of a row of this mitigation.
-fn is_turn_of(turn: &Turn, rows: &[Option<ScrubRow>], domain: u16, cuid: &[u8], mid: u32) -> bool
-    ensures { result ≡ turn_is_of domain cuid.now mid rows.now turn.now }
+/// Whether the row in this slot is one of this mitigation.
+pub fn is_in_slot(slot: u32, rows: &[Option<ScrubRow>], domain: u16, cuid: &[u8], mid: u32) -> bool
+    ensures { result ≡ slot_is_of domain cuid.now mid rows.now slot }
 {
-    if turn.mid != mid {
-        return false;
-    }
-    match row_in(turn.slot, rows) {
+    match row_in(slot, rows) {
         Some(row) => is_of(row, domain, cuid, mid),
         None => false,
     }
 }
 
-/// The position of the first turn of a row of this mitigation.
-pub fn position_of(
-    turns: &[Turn],
-    rows: &[Option<ScrubRow>],
+/// Says of the row in this slot, where it is one of this mitigation, whether it is active.
+pub fn wake_in_slot(
+    slot: u32,
+    rows: &mut Vec<Option<ScrubRow>>,
     domain: u16,
     cuid: &[u8],
     mid: u32,
-) -> Option<usize>
-    ensures { result ≡ position (turn_is_of domain cuid.now mid rows.now) turns.now }
+    active: bool,
+)
+    ensures { rows.new.items ≡ woken_at domain cuid.now mid active slot rows.old.items }
 {
-    turns
-        .iter()
-        .position(|turn| is_turn_of(turn, rows, domain, cuid, mid))
-}
-
-/// Says of each row of this mitigation whether it is active.
-pub fn wake_rows(rows: &mut Vec<Option<ScrubRow>>, domain: u16, cuid: &[u8], mid: u32, active: bool)
-    ensures { rows.new.items ≡ map (option_map (row_woken domain cuid.now mid active)) rows.old.items }
-{
-    wake_all(rows.as_mut_slice(), domain, cuid, mid, active);
-}
-
-fn wake_all(rows: &mut [Option<ScrubRow>], domain: u16, cuid: &[u8], mid: u32, active: bool)
-    ensures { rows.new ≡ map (option_map (row_woken domain cuid.now mid active)) rows.old }
-{
-    for row in rows.iter_mut() {
-        wake_slot(row, domain, cuid, mid, active);
+    let at = slot as usize;
+    if rows.len() <= at {
+        return;
     }
+    wake_slot(&mut rows[at], domain, cuid, mid, active);
 }
 
 fn wake_slot(slot: &mut Option<ScrubRow>, domain: u16, cuid: &[u8], mid: u32, active: bool)

@@ -4,6 +4,4 @@ pub struct Turn {
     pub place: u64,
     /// The slot that the row stands in as long as it is held.
     pub slot: u32,
-    /// The mid of the row's mitigation.
-    pub mid: u32,
 }

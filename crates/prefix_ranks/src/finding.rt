@@ -98,3 +98,14 @@ pub fn slots_of_long_number<'a>(number: u128, ranks: &[Rank], slots: &'a [u32]) 
     let (found, _) = slots.split_at(number_of_ranks(number, ranks));
     found
 }
+
+/// The ranks of this number, where the numbers are in order.
+pub fn ranks_of_number(number: u128, ranks: &[Rank]) -> &[Rank]
+    requires { Falls (λ rank. nat_lt rank.number number) ranks.now }
+    ensures { let at = prefix_len (λ rank. nat_lt rank.number number) ranks.now in
+        result.now ≡ take (prefix_len (λ rank. rank.number == number) (drop at ranks.now)) (drop at ranks.now) }
+{
+    let (_, ranks) = ranks.split_at(ranks_below(number, ranks));
+    let (found, _) = ranks.split_at(number_of_ranks(number, ranks));
+    found
+}

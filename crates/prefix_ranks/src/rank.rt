@@ -1,4 +1,4 @@
-//! Where a prefix stands among the others.
+//! Where something stands among the others.
 
 ghost use Rattle.std.specs.Prelude.{◌≡◌, ◌%◌, ◌^◌};
 ghost use Rattle.ip_scope.specs.Prefix.{IsPrefix};
@@ -7,12 +7,13 @@ ghost use Rattle.prefix_ranks.specs.Numbers.{low_of};
 
 use ip_scope::{Family, Prefix};
 
-/// What the order of prefixes looks at, the first that differs deciding.
+/// What an order of prefixes looks at, the first that differs deciding. Other things with a kind and a number may stand in an
+/// order of their own.
 #[derive(Clone, Copy, Debug, Drop)]
 pub struct Rank {
-    /// The family and the length of the prefix, as one number.
+    /// Of a prefix its family and length, as one number.
     pub kind: u16,
-    /// The number of the prefix.
+    /// Of a prefix its number.
     pub number: u128,
     /// Where it stands among those of its number.
     pub place: u64,

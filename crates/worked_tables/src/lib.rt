@@ -10,4 +10,6 @@ mod comparing;
 #[cfg(test)]
 mod filling;
 #[cfg(test)]
+mod plain;
+#[cfg(test)]
 mod tables;

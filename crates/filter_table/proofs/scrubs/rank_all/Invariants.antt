@@ -2,9 +2,12 @@
 use Rattle.std.proofs.Common.{◌≡◌, map, take}
 use Rattle.prefix_ranks.specs.Ranks.{ranked}
 use Rattle.filter_table.specs.Held.{rank_of}
-use Rattle.filter_table.specs.Rows.{gathered}
+use Rattle.filter_table.specs.Rows.{gathered, mark_of}
 use Rattle.filter_table.proofs.Standing.{ranking_value}
 use Rattle.filter_table.proofs.scrubs.rank_all.Given as goal
 
 abbrev pub invariant-loop-turn : goal.invariant-loop-turn
-invariant-loop-turn l = l.ranking ≡ ranking_value l.fn.ranking.room (ranked (map rank_of (gathered l.rows (take l.turn-index l.turns))))
+invariant-loop-turn l = record {
+  by_prefix : l.ranking ≡ ranking_value l.fn.ranking.room (ranked (map rank_of (gathered l.rows (take l.turn-index l.turns))));
+  by_mitigation : l.marks ≡ ranking_value l.fn.marks.room (ranked (map mark_of (gathered l.rows (take l.turn-index l.turns))));
+}
