@@ -1,3 +1,4 @@
+pub mod Finding
 pub mod Firsts
 pub mod Lasts
 pub mod Noting

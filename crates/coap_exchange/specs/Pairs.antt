@@ -1,6 +1,7 @@
 -- Peers and the domains that they may act for.
-use Rattle.std.specs.Prelude.{ℕ, zero, suc, Bool, ◌&&◌, ◌==◌, List, [], ◌∷◌, ◌++◌, map, length}
-use Rattle.std.specs.List.{flat_map}
+use Rattle.std.specs.Prelude.{◌≡◌, ℕ, zero, suc, Bool, ◌&&◌, ◌==◌, List, [], ◌∷◌, ◌++◌, map, length, drop}
+use Rattle.std.specs.List.{flat_map, position_from}
+use Rattle.std.specs.Map.{lookup}
 use Rattle.dots_settings.specs.declared.peer.PeerRow.{PeerRow}
 use Rattle.dots_settings.specs.declared.peer.Role.{Role}
 use Rattle.dots_settings.specs.declared.peer.Role.TheVariants as role
@@ -36,3 +37,11 @@ pairs_of_row domains row = pairs_of_role domains row.peer row.role
 -- each peer with each domain that it may act for, in the order of the settings
 abbrev pub pairs_of : SettingsValue → List Pair
 pairs_of settings = flat_map (pairs_of_row (length settings.domains)) settings.peers
+
+-- both are the same peer and domain
+abbrev pub same_pair : Pair → Pair → Bool
+same_pair one other = (one.peer == other.peer) && (one.domain == other.domain)
+
+-- a map has the first place of each pair in the list from a place on
+abbrev pub AreFoundFrom : ℕ → List (Pair × ℕ) → List Pair → Type 0
+AreFoundFrom place entries pairs = (pair : Pair) → lookup (same_pair pair) entries ≡ position_from (same_pair pair) place (drop place pairs)

@@ -34,6 +34,9 @@ reply_to id now messages = option_map reply_of (last_of (filter (answers id now)
 
 -- ---- all rings
 
+abbrev pub pair_of : RingValue → Pair
+pair_of ring = ring.pair
+
 abbrev pub is_ring_of : ℕ → ℕ → RingValue → Bool
 is_ring_of peer domain ring = is_pair peer domain ring.pair
 

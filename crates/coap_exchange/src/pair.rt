@@ -1,30 +1,18 @@
 //! Peers and the domains that they may act for.
 
 ghost use Rattle.std.specs.Prelude.{◌≡◌, ◌++◌, IfOk};
-ghost use Rattle.coap_exchange.specs.Pairs.{is_pair, pairs_of, pairs_of_role, pairs_with_each};
+ghost use Rattle.coap_exchange.specs.Pairs.{pairs_of, pairs_of_role, pairs_with_each};
 
 use dots_lists::NoMemory;
-use dots_settings::{Role, Settings};
+use dots_settings::{NO_DOMAIN, Role, Settings};
 use std::alloc::Global;
 
-/// The number that stands for no domain: a gateway's own session has it.
-const NO_DOMAIN: u16 = 65_535;
-
 /// A peer and a domain that it may act for.
-#[derive(Clone, Copy, Debug, PartialEq, Eq)]
+#[derive(Clone, Copy, Debug, PartialEq, Eq, Hash)]
 pub struct Pair {
     pub peer: u32,
     /// The domain by its number in the settings; 65,535 for a gateway's own session.
     pub domain: u16,
-}
-
-impl Pair {
-    /// Whether it is this peer with this domain.
-    pub fn is(self, peer: u32, domain: u16) -> bool
-        ensures { result ≡ is_pair peer domain self }
-    {
-        self.peer == peer && self.domain == domain
-    }
 }
 
 /// Each peer of the settings with each domain that it may act for, in the order of the settings: a client with its own,

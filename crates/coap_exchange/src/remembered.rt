@@ -1,12 +1,14 @@
-ghost use Rattle.std.specs.Prelude.{◌≡◌, ◌≤◌, map, length, option_copied, true, IfOk};
+ghost use Rattle.std.specs.Prelude.{◌≡◌, ◌<◌, ◌≤◌, ◌∷◌, [], map, length, option_copied, true, IfOk};
 ghost use Rattle.std.specs.List.{list_any};
 ghost use Rattle.dots_history.specs.Slots.{Rises};
 ghost use Rattle.dots_laws.specs.KeptPlaces.{union};
+ghost use Rattle.coap_exchange.specs.Firsts.{replace_at};
 ghost use Rattle.coap_exchange.specs.Pairs.{pairs_of};
-ghost use Rattle.coap_exchange.specs.Rings.{empty_ring, is_ring_of, ring_of, messages_of, reply_to, noted, all_slots, ring_renumbered};
+ghost use Rattle.coap_exchange.specs.Rings.{empty_ring, grown, is_ring_of, messages_of, reply_to, noted, all_slots, ring_renumbered};
 
 use crate::message::Message;
-use crate::pair::{Pair, pairs_of};
+use crate::pair::Pair;
+use crate::pairs::Pairs;
 use crate::ring::Ring;
 use dots_history::{MessageKey, SlotList};
 use dots_lists::{Bytes, NoMemory};
@@ -18,16 +20,20 @@ use std::marker::Model;
 /// section 4.5).
 #[derive(Debug, Drop)]
 pub struct Remembered {
+    pairs: Pairs,
+    /// One for each pair, in their order.
     rings: Vec<Ring>,
 }
 
 impl Model for Remembered {
-    ghost use Rattle.std.specs.Prelude.{List};
-    ghost use Rattle.coap_exchange.specs.Rings.{RingValue};
+    ghost use Rattle.std.specs.Prelude.{◌≡◌, List, map};
+    ghost use Rattle.coap_exchange.specs.Rings.{RingValue, pair_of};
 
     ghost Value = { List RingValue };
 
     ghost view = { λ remembered. remembered.rings.items };
+
+    ghost invariant = { λ remembered. map pair_of remembered.rings.items ≡ remembered.pairs };
 }
 
 impl Remembered {
@@ -37,16 +43,16 @@ impl Remembered {
         ensures { IfOk result (λ made. made ≡ map (empty_ring settings.now.limits.remembered) (pairs_of settings.now)) }
     {
         let room = settings.limits().remembered as usize;
-        let pairs = pairs_of(alloc, settings)?;
-        let rings = rings_for(alloc, pairs.as_slice(), room)?;
-        Ok(Remembered { rings })
+        let pairs = Pairs::new(alloc, settings)?;
+        let rings = rings_for(alloc, pairs.pairs(), room)?;
+        Ok(Remembered { pairs, rings })
     }
 
     /// Whether messages of this peer for this domain are remembered: the settings let it act for the domain.
     pub fn holds(&self, peer: u32, domain: u16) -> bool
         ensures { result ≡ list_any (is_ring_of peer domain) self.now }
     {
-        self.rings.iter().any(|ring| ring.is_of(peer, domain))
+        self.pairs.holds(peer, domain)
     }
 
     /// Remembers an accepted message of this peer for this domain, which is a pair that the settings gave: its key, when
@@ -70,7 +76,10 @@ impl Remembered {
             slot,
             reply,
         };
-        note_in(self.rings.as_mut_slice(), peer, domain, message);
+        match self.pairs.place(peer, domain) {
+            Some(place) => note_at(&mut self.rings, place, message),
+            None => {}
+        }
     }
 
     /// The reply to a repeat of a message at the time `now`, in seconds: that of the last one that is remembered of this
@@ -79,8 +88,10 @@ impl Remembered {
     pub fn look(&self, peer: u32, domain: u16, id: u16, now: u64) -> Option<&[u8]>
         ensures { option_copied result ≡ reply_to id now (messages_of peer domain self.now) }
     {
-        let ring = ring_of(self.rings.as_slice(), peer, domain)?;
-        ring.reply_to(id, now)
+        match self.pairs.place(peer, domain) {
+            Some(place) => self.rings[place].reply_to(id, now),
+            None => None,
+        }
     }
 
     /// Puts the slot of each message that is remembered into the list, which has room for them.
@@ -96,7 +107,7 @@ impl Remembered {
         requires { Rises keep.now }
         ensures { self.new ≡ map (ring_renumbered keep.now) self.old }
     {
-        renumber_all(self.rings.as_mut_slice(), keep);
+        renumber_rings(&mut self.rings, keep);
     }
 }
 
@@ -113,22 +124,12 @@ fn rings_for(alloc: Global, pairs: &[Pair], room: usize) -> Result<Vec<Ring>, No
     Ok(rings)
 }
 
-/// The ring of this peer and domain.
-fn ring_of(rings: &[Ring], peer: u32, domain: u16) -> Option<&Ring>
-    ensures { option_copied result ≡ ring_of peer domain rings.now }
+/// One more message in the ring at this place.
+fn note_at(rings: &mut Vec<Ring>, place: usize, message: Message)
+    requires { place < length rings.old.items }
+    ensures { rings.new.items ≡ replace_at place (λ ring. grown message ring ∷ []) rings.old.items }
 {
-    rings.iter().find(|ring| ring.is_of(peer, domain))
-}
-
-fn note_in(rings: &mut [Ring], peer: u32, domain: u16, message: Message)
-    ensures { rings.new ≡ noted peer domain message rings.old }
-{
-    for ring in rings.iter_mut() {
-        if ring.is_of(peer, domain) {
-            ring.push(message);
-            return;
-        }
-    }
+    rings[place].push(message);
 }
 
 fn put_slots(rings: &[Ring], into: &mut SlotList)
@@ -138,6 +139,13 @@ fn put_slots(rings: &[Ring], into: &mut SlotList)
     for ring in rings {
         ring.slots(into);
     }
+}
+
+fn renumber_rings(rings: &mut Vec<Ring>, keep: &[u32])
+    requires { Rises keep.now }
+    ensures { rings.new.items ≡ map (ring_renumbered keep.now) rings.old.items }
+{
+    renumber_all(rings.as_mut_slice(), keep);
 }
 
 fn renumber_all(rings: &mut [Ring], keep: &[u32])

@@ -5,7 +5,6 @@ ghost use Rattle.dots_history.specs.Places.{last_of};
 ghost use Rattle.dots_history.specs.Slots.{Rises};
 ghost use Rattle.dots_laws.specs.KeptPlaces.{union};
 ghost use Rattle.dots_laws.specs.Tables.{pushed};
-ghost use Rattle.coap_exchange.specs.Pairs.{is_pair};
 ghost use Rattle.coap_exchange.specs.Rings.{RingValue, empty_ring, grown, answers, reply_to, slot_of, slots_of, number_in, renumbered, ring_renumbered};
 
 use crate::message::Message;
@@ -45,13 +44,6 @@ impl Ring {
             messages: Vec::with_capacity(alloc, room)?,
             room,
         })
-    }
-
-    /// Whether it is that of this peer and domain.
-    pub fn is_of(&self, peer: u32, domain: u16) -> bool
-        ensures { result ≡ is_pair peer domain self.now.pair }
-    {
-        self.pair.is(peer, domain)
     }
 
     /// One more message, which is the last. The first goes where there is no room.

@@ -1,11 +1,12 @@
 -- The numbers of notifications, and lists that are the same.
-use Rattle.std.proofs.Common.{◌≡◌, ◌≢◌, ℕ, ◌+◌, ◌%◌, ◌<◌, Bool, true, false, List, [], ◌∷◌, Option, Some, refl, sym, ap, ◌∙◌, inl, inr, arith}
-use Rattle.std.specs.Prelude.{◌&&◌, ◌==◌, option_map, unwrap_or, bytes_eq, not}
+use Rattle.std.proofs.Common.{◌≡◌, ◌≢◌, ℕ, zero, suc, ◌+◌, ◌%◌, ◌<◌, Bool, true, false, List, [], ◌∷◌, Option, Some, refl, sym, ap, subst, ◌∙◌, inl, inr, arith}
+use Rattle.std.specs.Prelude.{◌&&◌, ◌==◌, option_map, unwrap_or, slice_get, bytes_eq, not}
 use Rattle.std.proofs.lemmas.Slice.Eq.{bytes_eq-Decides}
 use Rattle.std.proofs.lemmas.Bool.{and_parts, and_from, eqb-true, eq-eqb, cases_Bool, cond-true, cond-false, false≢true, both_ways, not_from_true}
 use Rattle.coap_observe.specs.declared.observer.Observer.{Observer}
 use Rattle.coap_observe.specs.Seen.{Lists, list_for, same_one, same_seen}
-use Rattle.coap_observe.specs.Observed.{ObservedValue, next_number, number_after, is_token, is_due, told, registered_again}
+use Rattle.coap_observe.specs.Observed.{ObservedValue, Sending, Replies, Notifies, next_number, number_after, is_token, is_due, told, registered_again, after_sending, numbers_of}
+use Rattle.coap_exchange.proofs.Firsts.{one_there}
 use Rattle.coap_observe.specs.Observing.{own_of, number_for, registered_first, entered}
 
 pub rise : (n k : ℕ) → next_number (number_after k n) ≡ number_after (k + 1) n
@@ -13,6 +14,39 @@ rise n k = omega arith
 
 pub apart : (n j k : ℕ) → j < k → k < j + 16777216 → number_after j n ≢ number_after k n
 apart n j k less near same = omega arith
+
+-- ---- all that is sent to an observer
+
+number_now : (n : ℕ) → n < 16777216 → n ≡ number_after 0 n
+number_now n less = omega (arith, less)
+
+number_later : (n k : ℕ) → number_after k (next_number n) ≡ number_after (suc k) n
+number_later n k = omega arith
+
+number_next : (o : ObservedValue) (sending : Sending) → (after_sending o sending).number ≡ next_number o.number
+number_next o (Replies observer seen) = refl
+number_next o (Notifies id seen) = refl
+
+below_next : (n : ℕ) → next_number n < 16777216
+below_next n = omega arith
+
+number_sent : (sendings : List Sending) (o : ObservedValue) (k n : ℕ) → o.number < 16777216 → slice_get (numbers_of o sendings) k ≡ Some n
+    → n ≡ number_after k o.number
+number_sent [] o k n less there = cc there
+number_sent (sending ∷ sendings) o zero n less there = sym (one_there o.number n there) ∙ number_now o.number less
+number_sent (sending ∷ sendings) o (suc k) n less there =
+    let next = number_next o sending in
+    let below : (after_sending o sending).number < 16777216 = subst (λ m. m < 16777216) (sym next) (below_next o.number) in
+    number_sent sendings (after_sending o sending) k n below there
+    ∙ ap (number_after k) next
+    ∙ number_later o.number k
+
+pub sent_apart : (o : ObservedValue) (sendings : List Sending) (j k first second : ℕ) → o.number < 16777216
+    → slice_get (numbers_of o sendings) j ≡ Some first → slice_get (numbers_of o sendings) k ≡ Some second
+    → j < k → k < j + 16777216 → first ≢ second
+sent_apart o sendings j k first second less one other before near same =
+    apart o.number j k before near
+    (sym (number_sent sendings o j first less one) ∙ same ∙ number_sent sendings o k second less other)
 
 -- ---- the same lists
 

@@ -1,5 +1,5 @@
 -- An observer with what it was told.
-use Rattle.std.specs.Prelude.{ℕ, ◌+◌, ◌%◌, Bool, ◌&&◌, ◌==◌, not, bytes_eq, List, Option, Some}
+use Rattle.std.specs.Prelude.{ℕ, ◌+◌, ◌%◌, Bool, ◌&&◌, ◌==◌, not, bytes_eq, List, [], ◌∷◌, Option, Some}
 use Rattle.coap_observe.specs.declared.observer.Observer.{Observer}
 use Rattle.dots_history.specs.Entries.{option_any}
 use Rattle.coap_observe.specs.Seen.{Lists, list_for, same_seen}
@@ -46,3 +46,19 @@ told id seen o = record { observer = o.observer; number = next_number o.number; 
 -- it is registered again, perhaps for something else, and its numbers go on
 abbrev pub registered_again : Observer → List (ℕ × ℕ) → ObservedValue → ObservedValue
 registered_again observer seen o = record { observer = observer; number = next_number o.number; last = o.last; seen = seen }
+
+-- ---- all that is sent to an observer
+
+-- the reply to a registration, or a notification
+pub data Sending : Type 0 where
+  Replies : Observer → List (ℕ × ℕ) → Sending
+  Notifies : ℕ → List (ℕ × ℕ) → Sending
+
+abbrev pub after_sending : ObservedValue → Sending → ObservedValue
+after_sending o (Replies observer seen) = registered_again observer seen o
+after_sending o (Notifies id seen) = told id seen o
+
+-- the numbers that these have, in their order
+abbrev pub numbers_of : ObservedValue → List Sending → List ℕ
+numbers_of o [] = []
+numbers_of o (sending ∷ sendings) = o.number ∷ numbers_of (after_sending o sending) sendings

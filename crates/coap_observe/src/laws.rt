@@ -1,8 +1,8 @@
 //! What the definitions come to: each function's contract is a law, and its body does nothing.
 
-ghost use Rattle.std.specs.Prelude.{◌≡◌, ◌≢◌, ℕ, ◌+◌, ◌<◌, true, false, List, Some, option_map};
+ghost use Rattle.std.specs.Prelude.{◌≡◌, ◌≢◌, ℕ, ◌+◌, ◌<◌, true, false, List, Some, option_map, slice_get};
 ghost use Rattle.coap_observe.specs.declared.observer.Observer.{Observer};
-ghost use Rattle.coap_observe.specs.Observed.{ObservedValue, next_number, number_after, is_due, told};
+ghost use Rattle.coap_observe.specs.Observed.{ObservedValue, Sending, next_number, number_after, is_due, told, numbers_of};
 ghost use Rattle.coap_observe.specs.Observing.{own_of, number_for, entered};
 ghost use Rattle.coap_observe.specs.Seen.{Lists, list_for};
 
@@ -13,12 +13,15 @@ pub fn observers_are_due_where_lists_differ()
     ensures after { (lists : Lists) (id : ℕ) (o : ObservedValue) → is_due lists (told id (list_for lists o.observer) o) ≡ false }
 {}
 
-/// The numbers of an observer rise by one with each reply and notification, in 24 bits, so no two of them within 2^24 are the
-/// same (RFC 7641, section 3.4).
+/// The numbers of an observer rise by one with each reply and notification, in 24 bits. So of all that is sent to it, no two within
+/// 2^24 have the same number (RFC 7641, section 3.4).
 pub fn numbers_tell_the_order()
     ensures rise { (n k : ℕ) → next_number (number_after k n) ≡ number_after (k + 1) n }
     ensures apart { (n j k : ℕ) → j < k → k < j + 16777216 → number_after j n ≢ number_after k n }
     ensures reply { (observer : Observer) (seen : List (ℕ × ℕ)) (observed : List ObservedValue)
         → option_map (λ o. o.number) (own_of observer (entered observer seen observed)) ≡ Some (next_number (number_for observer observed)) }
+    ensures sendings { (o : ObservedValue) (sendings : List Sending) (j k first second : ℕ) → o.number < 16777216
+        → slice_get (numbers_of o sendings) j ≡ Some first → slice_get (numbers_of o sendings) k ≡ Some second
+        → j < k → k < j + 16777216 → first ≢ second }
     ensures notice { (id : ℕ) (seen : List (ℕ × ℕ)) (o : ObservedValue) → (told id seen o).number ≡ next_number o.number }
 {}

@@ -10,7 +10,7 @@ use crate::observed::Observed;
 use crate::observer::Observer;
 use crate::seen::{SeenList, ends_at};
 use crate::views::Views;
-use coap_exchange::{Pair, pairs_of};
+use coap_exchange::Pairs;
 use dots_lists::NoMemory;
 use dots_settings::Settings;
 use std::alloc::Global;
@@ -32,7 +32,7 @@ pub struct Notice<'a> {
 #[derive(Debug, Drop)]
 pub struct Observers {
     observed: Vec<Observed>,
-    pairs: Vec<Pair>,
+    pairs: Pairs,
     /// How many there may be of one peer and domain.
     room: usize,
 }
@@ -43,9 +43,9 @@ impl Model for Observers {
 
     ghost Value = { ObserversValue };
 
-    ghost view = { λ o. record { room = o.room; pairs = o.pairs.items; observed = o.observed.items } };
+    ghost view = { λ o. record { room = o.room; pairs = o.pairs; observed = o.observed.items } };
 
-    ghost invariant = { λ o. AreBounded o.pairs.items o.room o.observed.items × (length o.pairs.items * o.room ≤ vec_capacity o.observed) };
+    ghost invariant = { λ o. AreBounded o.pairs o.room o.observed.items × (length o.pairs * o.room ≤ vec_capacity o.observed) };
 }
 
 impl Observers {
@@ -54,9 +54,9 @@ impl Observers {
     pub fn new(alloc: Global, settings: &Settings) -> Result<Self, NoMemory>
         ensures { IfOk result (λ made. made ≡ record { room = settings.now.limits.observers; pairs = pairs_of settings.now; observed = [] }) }
     {
-        let pairs = pairs_of(alloc, settings)?;
+        let pairs = Pairs::new(alloc, settings)?;
         let room = settings.limits().observers as usize;
-        let Some(count) = pairs.len().checked_mul(room) else {
+        let Some(count) = pairs.pairs().len().checked_mul(room) else {
             return Err(NoMemory);
         };
         let observed = Vec::with_capacity(alloc, count)?;
@@ -71,7 +71,7 @@ impl Observers {
     pub fn holds(&self, peer: u32, domain: u16) -> bool
         ensures { result ≡ list_any (is_pair peer domain) self.now.pairs }
     {
-        self.pairs.iter().any(|pair| pair.is(peer, domain))
+        self.pairs.holds(peer, domain)
     }
 
     /// Registers an observer, whose peer and domain are a pair that the settings gave, and answers the number for the Observe

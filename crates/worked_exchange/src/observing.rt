@@ -146,6 +146,25 @@ fn a_day(rt: HostRuntime) -> Result<(), Fail> {
     Ok(())
 }
 
+/// On such a day a reset of the notification of 40000, which had Message ID 1, ends the observation, so that nothing is told when the
+/// mitigation is over. One of another message ends nothing.
+#[test]
+fn a_day_with_a_reset(rt: HostRuntime) -> Result<(), Fail> {
+    for (id, want) in [(1, Shown::Nothing), (2, Shown::Notice(1, 0))] {
+        let steps = [
+            Step::See(&[(1, 2)]),
+            Step::Register(0, 0, 1),
+            Step::See(&[(1, 5)]),
+            Step::Notify(1),
+            Step::Reset(0, id),
+            Step::See(&[]),
+            Step::Notify(2),
+        ];
+        assert_eq!(rt; last_shown(rt.alloc(), &steps)?, want);
+    }
+    Ok(())
+}
+
 /// Two observers of peer 0 are there, the second was told of a change before, with Message ID 7.
 #[test]
 fn two_of_a_peer(rt: HostRuntime) -> Result<(), Fail> {

@@ -7,7 +7,7 @@ use Rattle.coap_observe.proofs.observers.Observers.deregister.Goals as goal
 
 pub invariant_of-self : goal.invariant_of-self
 invariant_of-self c = (
-  subst (AreBounded c.self.inside.pairs.items c.self.inside.room) (sym c.leave_others.ensures.items)
-      (bounded_kept c.self.inside.pairs.items c.self.inside.room (λ o. not (is_token c.args.peer c.args.token.now o)) c.self.inside.observed.items c.self.invariant.0),
+  subst (AreBounded c.self.inside.pairs c.self.inside.room) (sym c.leave_others.ensures.items)
+      (bounded_kept c.self.inside.pairs c.self.inside.room (λ o. not (is_token c.args.peer c.args.token.now o)) c.self.inside.observed.items c.self.invariant.0),
   omega (arith, c.self.invariant.1, c.leave_others.ensures.capacity),
 )

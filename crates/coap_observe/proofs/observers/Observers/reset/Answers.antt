@@ -7,7 +7,7 @@ use Rattle.coap_observe.proofs.observers.Observers.reset.Goals as goal
 
 pub invariant_of-self : goal.invariant_of-self
 invariant_of-self c = (
-  subst (AreBounded c.self.inside.pairs.items c.self.inside.room) (sym c.leave_other_ids.ensures.items)
-      (bounded_kept c.self.inside.pairs.items c.self.inside.room (λ o. not (had_id c.args.peer c.args.id o)) c.self.inside.observed.items c.self.invariant.0),
+  subst (AreBounded c.self.inside.pairs c.self.inside.room) (sym c.leave_other_ids.ensures.items)
+      (bounded_kept c.self.inside.pairs c.self.inside.room (λ o. not (had_id c.args.peer c.args.id o)) c.self.inside.observed.items c.self.invariant.0),
   omega (arith, c.self.invariant.1, c.leave_other_ids.ensures.capacity),
 )

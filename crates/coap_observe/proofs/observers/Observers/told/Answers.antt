@@ -6,7 +6,7 @@ use Rattle.coap_observe.proofs.observers.Observers.told.Goals as goal
 
 pub invariant_of-self : goal.invariant_of-self
 invariant_of-self g c = (
-  subst (AreBounded c.self.inside.pairs.items c.self.inside.room) (sym c.tell.ensures.items)
-      (bounded_told c.self.inside.pairs.items c.self.inside.room c.args.place c.args.id (λ o. list_for (g.V.Views.lists c.args.views.now) o.observer) c.self.inside.observed.items c.self.invariant.0),
+  subst (AreBounded c.self.inside.pairs c.self.inside.room) (sym c.tell.ensures.items)
+      (bounded_told c.self.inside.pairs c.self.inside.room c.args.place c.args.id (λ o. list_for (g.V.Views.lists c.args.views.now) o.observer) c.self.inside.observed.items c.self.invariant.0),
   omega (arith, c.self.invariant.1, c.tell.ensures.capacity),
 )
