@@ -3,7 +3,6 @@
 
 mod bodies;
 mod heads;
-pub mod laws;
 mod location;
 mod place;
 mod reading;
