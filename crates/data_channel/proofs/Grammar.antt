@@ -8,6 +8,7 @@ use Rattle.data_channel.specs.declared.place.Kind.{Kind}
 use Rattle.data_channel.specs.declared.place.Kind.TheVariants as kind
 use Rattle.data_channel.specs.declared.reject.RestReject.{RestReject}
 use Rattle.data_channel.specs.declared.request.Head.{Head}
+use Rattle.data_channel.specs.declared.request.Verb.{Verb}
 use Rattle.data_channel.specs.Heads.{Gives, UnlessNoMemory, verb_in, head_at, IsHead}
 use Rattle.data_channel.specs.Paths.{Place, is_segment, IsTarget, root, client_path, spelled, HasNames, IsPathOf, IsAt}
 use Rattle.data_channel.specs.Places.{path_of, has_query, behind_front, segment, behind_segment, unnamed, named, by_acl, by_alias, below_client, client_place, below_root, place_in}
@@ -35,7 +36,7 @@ query_by bytes false = refl
 
 found_at : (path : List ℕ) (of : Kind) (client name : List ℕ) (place : Place) → Some (record { kind = of; client = client; name = name }) ≡ Some place
     → HasNames of client name → path ≡ spelled of client name → IsPathOf path place
-found_at path of client name place is names same = 
+found_at path of client name place is names same =
     let one : record { kind = of; client = client; name = name } ≡ place = cc in
     subst (λ (p : Place). IsPathOf path p) one (names, same)
 
@@ -82,7 +83,7 @@ path_by path place (Some below) e is =
     subst (λ (p : List ℕ). IsPathOf p place) (sym (front_is root path below e)) (root_by below place (bytes_eq below []) (behind_front (codes "/dots-client=") below) refl refl is)
 path_by path place None e is = absurd (cc)
 
-read_is_path : (path : List ℕ) (place : Place) → place_in path ≡ Some place → IsPathOf path place
+pub read_is_path : (path : List ℕ) (place : Place) → place_in path ≡ Some place → IsPathOf path place
 read_is_path path place is = path_by path place (behind_front root path) refl is
 
 -- ---- the path of a place is read as it
@@ -111,11 +112,23 @@ found_by path None e = λ place is. absurd (let one = path_reads path place is i
 -- ---- heads
 
 head_is : (method target : List ℕ) (head : Result Head RestReject) → head_at (place_in (path_of target)) (verb_in method) (has_query target) ≡ head → IsHead method target head
-head_is method target head is =
-    (path_of target, query_of target, place_in (path_of target), target_is target, found_by (path_of target) (place_in (path_of target)) refl,
-     sym is ∙ ap (λ query. head_at (place_in (path_of target)) (verb_in method) query) (sym (query_by (after_first (λ byte. byte == 63) target) (has_query target))))
+head_is method target head is = (
+  path_of target,
+  query_of target,
+  place_in (path_of target),
+  target_is target,
+  found_by (path_of target) (place_in (path_of target)) refl,
+  sym is ∙ ap (λ query. head_at (place_in (path_of target)) (verb_in method) query) (sym (query_by (after_first (λ byte. byte == 63) target) (has_query target))),
+)
 
-pub head_given : (method target : List ℕ) (head : Result Head RestReject) → Gives head (head_at (place_in (path_of target)) (verb_in method) (has_query target)) → UnlessNoMemory head (IsHead method target head)
-head_given method target (Ok head) is = head_is method target (Ok head) is
-head_given method target (Err e) is =
+head_of_target : (method target : List ℕ) (head : Result Head RestReject) → Gives head (head_at (place_in (path_of target)) (verb_in method) (has_query target)) → UnlessNoMemory head (IsHead method target head)
+head_of_target method target (Ok head) is = head_is method target (Ok head) is
+head_of_target method target (Err e) is =
     fulfils_more e (λ (r : head_at (place_in (path_of target)) (verb_in method) (has_query target) ≡ Err e). head_is method target (Err e) r) (failed e (head_at (place_in (path_of target)) (verb_in method) (has_query target)) is)
+
+pub head_given : (method target : List ℕ) (head : Result Head RestReject) (found : Option Place) (asked : Option Verb) (query : Bool)
+    → found ≡ place_in (path_of target) → asked ≡ verb_in method → query ≡ has_query target → Gives head (head_at found asked query) → UnlessNoMemory head (IsHead method target head)
+head_given method target head found asked query e1 e2 e3 is =
+    let placed = subst (λ (o : Option Place). Gives head (head_at o asked query)) e1 is in
+    let spoken = subst (λ (v : Option Verb). Gives head (head_at (place_in (path_of target)) v query)) e2 placed in
+    head_of_target method target head (subst (λ (q : Bool). Gives head (head_at (place_in (path_of target)) (verb_in method) q)) e3 spoken)

@@ -6,17 +6,20 @@ ghost use Rattle.http_cut.specs.Reply.{is_reply_status, is_in_line};
 use crate::asking::answer;
 use acl_lists::Alias;
 use data_channel::{Allow, RestBody, RestReject, RestRequest, body_text, location_of, read_rest};
-use http_cut::{HeadRoom, HttpRequest, OwnedRequest, ReplyHead, Stream, write_head};
-use http_cut::{StreamEnd, take_requests};
+use http_cut::{
+    HeadRoom, HttpRequest, OwnedRequest, ReplyHead, Stream, StreamEnd, take_requests, write_head,
+};
 use std::alloc::Global;
 use std::str;
 use std::test::Fail;
 
 /// A PUT of a client, and one of an alias of it.
-const PUTS: &str = "PUT /restconf/data/ietf-dots-data-channel:dots-data/dots-client=dz6pHjaADkaFTbjr0JGBpw HTTP/1.1\r\nHost: dots.example:4646\r\nContent-Type: application/yang-data+json\r\nContent-Length: 74\r\n\r\n{\"ietf-dots-data-channel:dots-client\":[{\"cuid\":\"dz6pHjaADkaFTbjr0JGBpw\"}]}PUT /restconf/data/ietf-dots-data-channel:dots-data/dots-client=dz6pHjaADkaFTbjr0JGBpw/aliases/alias=web HTTP/1.1\r\nHost: dots.example:4646\r\nContent-Type: application/yang-data+json; charset=utf-8\r\nContent-Length: 83\r\n\r\n{\"ietf-dots-data-channel:alias\":[{\"name\":\"web\",\"target-prefix\":[\"192.0.2.80/32\"]}]}";
+const PUTS: &str =
+    "PUT /restconf/data/ietf-dots-data-channel:dots-data/dots-client=dz6pHjaADkaFTbjr0JGBpw HTTP/1.1\r\nHost: dots.example:4646\r\nContent-Type: application/yang-data+json\r\nContent-Length: 74\r\n\r\n{\"ietf-dots-data-channel:dots-client\":[{\"cuid\":\"dz6pHjaADkaFTbjr0JGBpw\"}]}PUT /restconf/data/ietf-dots-data-channel:dots-data/dots-client=dz6pHjaADkaFTbjr0JGBpw/aliases/alias=web HTTP/1.1\r\nHost: dots.example:4646\r\nContent-Type: application/yang-data+json; charset=utf-8\r\nContent-Length: 83\r\n\r\n{\"ietf-dots-data-channel:alias\":[{\"name\":\"web\",\"target-prefix\":[\"192.0.2.80/32\"]}]}";
 
 /// The head of a POST of a client, whose body has this many bytes.
-const POST: &str = "POST /restconf/data/ietf-dots-data-channel:dots-data HTTP/1.1\r\nHost: dots.example:4646\r\nContent-Type: application/yang-data+json\r\nContent-Length: ";
+const POST: &str =
+    "POST /restconf/data/ietf-dots-data-channel:dots-data HTTP/1.1\r\nHost: dots.example:4646\r\nContent-Type: application/yang-data+json\r\nContent-Length: ";
 
 /// A request, borrowed.
 fn borrowed(request: &OwnedRequest) -> HttpRequest<'_> {
@@ -52,7 +55,8 @@ fn asked_in(alloc: Global, pieces: &[&[u8]]) -> Result<String, Fail> {
 /// A registration and an alias, in one piece and byte by byte (RFC 8783, sections 5.1 and 6.1; RFC 9112, section 6.3).
 #[test]
 fn requests_of_a_stream(rt: HostRuntime) -> Result<(), Fail> {
-    let want = "PutClient /restconf/data/ietf-dots-data-channel:dots-data/dots-client=dz6pHjaADkaFTbjr0JGBpw \nPutAlias /restconf/data/ietf-dots-data-channel:dots-data/dots-client=dz6pHjaADkaFTbjr0JGBpw/aliases/alias=web {\"name\":\"web\",\"target-prefix\":[\"192.0.2.80/32\"]}\nWaits";
+    let want =
+        "PutClient /restconf/data/ietf-dots-data-channel:dots-data/dots-client=dz6pHjaADkaFTbjr0JGBpw \nPutAlias /restconf/data/ietf-dots-data-channel:dots-data/dots-client=dz6pHjaADkaFTbjr0JGBpw/aliases/alias=web {\"name\":\"web\",\"target-prefix\":[\"192.0.2.80/32\"]}\nWaits";
     let whole = asked_in(rt.alloc(), &[PUTS.as_bytes()])?;
     assert_eq!(rt; whole.as_str(), want);
     let single = PUTS.as_bytes().chunks(1).collect::<Vec<&[u8]>>(rt.alloc())?;
@@ -159,9 +163,8 @@ fn reply_to_request(alloc: Global, request: RestRequest) -> Result<String, Fail>
         RestRequest::PostClient { .. }
         | RestRequest::PostAlias { .. }
         | RestRequest::PostAcl { .. } => created(alloc, &request),
-        RestRequest::PutClient { .. }
-        | RestRequest::PutAlias { .. }
-        | RestRequest::PutAcl { .. } => bare(alloc, 201, false),
+        RestRequest::PutClient { .. } | RestRequest::PutAlias { .. } | RestRequest::PutAcl { .. } =>
+            bare(alloc, 201, false),
         RestRequest::DeleteClient { .. }
         | RestRequest::DeleteAlias { .. }
         | RestRequest::DeleteAcl { .. } => bare(alloc, 204, false),
@@ -271,11 +274,20 @@ fn bare_replies(rt: HostRuntime) -> Result<(), Fail> {
     let replaced = bare(rt.alloc(), 204, false)?;
     assert_eq!(rt; replaced.as_str(), "HTTP/1.1 204 No Content\r\n\r\n");
     let no_json = bare(rt.alloc(), 400, false)?;
-    assert_eq!(rt; no_json.as_str(), "HTTP/1.1 400 Bad Request\r\nContent-Length: 0\r\n\r\n");
+    assert_eq!(rt;
+        no_json.as_str(),
+        "HTTP/1.1 400 Bad Request\r\nContent-Length: 0\r\n\r\n"
+    );
     let in_use = bare(rt.alloc(), 409, false)?;
-    assert_eq!(rt; in_use.as_str(), "HTTP/1.1 409 Conflict\r\nContent-Length: 0\r\n\r\n");
+    assert_eq!(rt;
+        in_use.as_str(),
+        "HTTP/1.1 409 Conflict\r\nContent-Length: 0\r\n\r\n"
+    );
     let full = bare(rt.alloc(), 503, false)?;
-    assert_eq!(rt; full.as_str(), "HTTP/1.1 503 Service Unavailable\r\nContent-Length: 0\r\n\r\n");
+    assert_eq!(rt;
+        full.as_str(),
+        "HTTP/1.1 503 Service Unavailable\r\nContent-Length: 0\r\n\r\n"
+    );
     let long = bare(rt.alloc(), 413, true)?;
     assert_eq!(rt;
         long.as_str(),
