@@ -57,10 +57,10 @@ found_is path None is = none_by path (place_in path) refl is
 head_one : (method target : List ℕ) (head : Result Head RestReject) → IsHead method target head → head ≡ head_at (place_in (path_of target)) (verb_in method) (has_query target)
 head_one method target head is =
     let path = is.0 in
-    let query = is.1.0 in
-    let found = is.1.1.0 in
-    let placed = ap place_in (target_path target path query is.1.1.1.0) ∙ found_is path found is.1.1.1.1.0 in
-    rw (placed, target_query target path query is.1.1.1.0) is.1.1.1.1.1
+    let query = is.1 in
+    let found = is.2 in
+    let placed = ap place_in (target_path target path query is.3) ∙ found_is path found is.4 in
+    rw (placed, target_query target path query is.3) is.5
 
 -- ---- a body is one value
 
@@ -73,7 +73,7 @@ json_one body (Some c) (Some d) x y = sym x.1 ∙ y.1
 answer_one : (wanted : Wanted) (body : List ℕ) (known : Bool) (a b : Result RestRequest RestReject)
     → MatchBool known ((json : Option Data) × IsJson body json × (a ≡ with_json wanted json)) (a ≡ Err reject.Media)
     → MatchBool known ((json : Option Data) × IsJson body json × (b ≡ with_json wanted json)) (b ≡ Err reject.Media) → a ≡ b
-answer_one wanted body true a b x y = x.1.1 ∙ ap (with_json wanted) (json_one body x.0 y.0 x.1.0 y.1.0) ∙ sym y.1.1
+answer_one wanted body true a b x y = x.2 ∙ ap (with_json wanted) (json_one body x.0 y.0 x.1 y.1) ∙ sym y.2
 answer_one wanted body false a b x y = x ∙ sym y
 
 head_answers : (head : Result Head RestReject) (media : Option (List ℕ)) (body : List ℕ) (a b : Result RestRequest RestReject)
@@ -84,5 +84,5 @@ head_answers (Ok (Wants wanted)) media body a b x y = answer_one wanted body (is
 
 pub one_meaning : (request : Request) (a b : Result RestRequest RestReject) → Rest request a → Rest request b → a ≡ b
 one_meaning request a b x y =
-    let same = head_one request.method request.target x.0 x.1.0 ∙ sym (head_one request.method request.target y.0 y.1.0) in
-    head_answers y.0 request.media request.body a b (subst (λ (h : Result Head RestReject). ByHead h request.media request.body a) same x.1.1) y.1.1
+    let same = head_one request.method request.target x.0 x.1 ∙ sym (head_one request.method request.target y.0 y.1) in
+    head_answers y.0 request.media request.body a b (subst (λ (h : Result Head RestReject). ByHead h request.media request.body a) same x.2) y.2
