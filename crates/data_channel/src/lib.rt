@@ -17,7 +17,6 @@
 
 mod bodies;
 mod heads;
-pub mod laws;
 mod location;
 mod place;
 mod reading;
