@@ -184,7 +184,12 @@ fn reply_to(alloc: Global, request: &HttpRequest) -> Result<String, Fail> {
 }
 
 /// The reply to a message of this method below the root.
-fn reply_below(alloc: Global, method: &str, below: &str, body: &str) -> Result<String, Fail> {
+fn reply_below<'a>(
+    alloc: Global,
+    method: &'a str,
+    below: &str,
+    body: &'a str,
+) -> Result<String, Fail> {
     let target = format!(in alloc; "/restconf/data/ietf-dots-data-channel:dots-data{below}")?;
     let request = HttpRequest {
         method: method.as_bytes(),
