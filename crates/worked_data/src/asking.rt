@@ -54,7 +54,7 @@ fn told(alloc: Global, request: &RestRequest) -> Result<String, Fail> {
 }
 
 /// What a message asks, or what it is refused with.
-pub fn answer(alloc: Global, request: &HttpRequest) -> Result<String, Fail> {
+fn answer(alloc: Global, request: &HttpRequest) -> Result<String, Fail> {
     match read_rest(alloc, request) {
         Ok(asked) => told(alloc, &asked),
         Err(reject) => Ok(format!(in alloc; "{reject:?}")?),

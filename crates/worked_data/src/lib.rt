@@ -1,15 +1,13 @@
 //! Worked requests and replies of the data channel.
 //!
-//! Each is put to the public calls of `data_channel` and `list_json`, and those of `exchanges` come out of a stream of
-//! `http_cut`. The expected values come from RFC 8783, RFC 8040, RFC 8519, RFC 9112 and RFC 3986.
+//! Each is put to the public calls of `data_channel` and `list_json`. The expected values come from RFC 8783, RFC 8040,
+//! RFC 8519 and RFC 3986.
 #![tactic(auto)]
 
 #[cfg(test)]
 mod aliases;
 #[cfg(test)]
 mod asking;
-#[cfg(test)]
-mod exchanges;
 #[cfg(test)]
 mod lists;
 #[cfg(test)]

@@ -33,9 +33,9 @@ fn matches_of(alloc: Global, kind: &str, matches: &str) -> Result<String, Fail> 
     }
 }
 
-/// Creating access lists, in the forms of RFC 8783, section 7.2.
+/// Creating access lists (RFC 8783, section 7.2).
 #[test]
-fn requests_of_the_standard(rt: HostRuntime) -> Result<(), Fail> {
+fn examples_of_the_standard(rt: HostRuntime) -> Result<(), Fail> {
     for (below, body, want) in [
         (
             "/dots-client=paL8p4Zqo4SLv64TLPXrxA",
@@ -47,17 +47,7 @@ fn requests_of_the_standard(rt: HostRuntime) -> Result<(), Fail> {
             "{\"ietf-dots-data-channel:acl\":[{\"name\":\"sample-ipv4-acl\",\"type\":\"ipv4-acl-type\",\"activation-type\":\"immediate\",\"aces\":{\"ace\":[{\"name\":\"rule1\",\"matches\":{\"ipv4\":{\"source-ipv4-network\":\"192.0.2.0/24\"}},\"actions\":{\"forwarding\":\"drop\"}}]}}]}",
             "PostAcl /dots-client=paL8p4Zqo4SLv64TLPXrxA/acls/acl=sample-ipv4-acl {\"aces\":{\"ace\":[{\"actions\":{\"forwarding\":\"drop\"},\"matches\":{\"ipv4\":{\"source-ipv4-network\":\"192.0.2.0/24\"}},\"name\":\"rule1\"}]},\"activation-type\":\"immediate\",\"name\":\"sample-ipv4-acl\",\"type\":\"ipv4-acl-type\"}",
         ),
-        (
-            "/dots-client=paL8p4Zqo4SLv64TLPXrxA",
-            "{\"ietf-dots-data-channel:acls\":{\"acl\":[{\"name\":\"test-acl-ipv6-udp\",\"type\":\"ipv6-acl-type\",\"activation-type\":\"activate-when-mitigating\",\"aces\":{\"ace\":[{\"name\":\"my-test-ace\",\"matches\":{\"ipv6\":{\"destination-ipv6-network\":\"2001:db8:6401::2/127\",\"source-ipv6-network\":\"2001:db8:1234::/96\",\"protocol\":17},\"udp\":{\"source-port\":{\"operator\":\"lte\",\"port\":80},\"destination-port\":{\"operator\":\"neq\",\"port\":1010}}},\"actions\":{\"forwarding\":\"accept\"}}]}}]}}",
-            "PostAcl /dots-client=paL8p4Zqo4SLv64TLPXrxA/acls/acl=test-acl-ipv6-udp {\"aces\":{\"ace\":[{\"actions\":{\"forwarding\":\"accept\"},\"matches\":{\"ipv6\":{\"destination-ipv6-network\":\"2001:db8:6401::2/127\",\"source-ipv6-network\":\"2001:db8:1234::/96\"},\"udp\":{\"destination-port-range-or-operator\":{\"operator\":\"neq\",\"port\":1010},\"source-port-range-or-operator\":{\"operator\":\"lte\",\"port\":80}}},\"name\":\"my-test-ace\"}]},\"activation-type\":\"activate-when-mitigating\",\"name\":\"test-acl-ipv6-udp\",\"type\":\"ipv6-acl-type\"}",
-        ),
-        // flow labels and fragments aren't served
-        (
-            "/dots-client=paL8p4Zqo4SLv64TLPXrxA",
-            "{\"ietf-dots-data-channel:acls\":{\"acl\":[{\"name\":\"test-acl-ipv6-udp\",\"type\":\"ipv6-acl-type\",\"aces\":{\"ace\":[{\"name\":\"my-test-ace\",\"matches\":{\"ipv6\":{\"protocol\":17,\"flow-label\":10000}},\"actions\":{\"forwarding\":\"accept\"}}]}}]}}",
-            "Body(Unknown)",
-        ),
+        // a match of fragments isn't served
         (
             "/dots-client=paL8p4Zqo4SLv64TLPXrxA",
             "{\"ietf-dots-data-channel:acls\":{\"acl\":[{\"name\":\"dns-fragments\",\"type\":\"ipv4-acl-type\",\"aces\":{\"ace\":[{\"name\":\"drop-all-fragments\",\"matches\":{\"ipv4\":{\"fragment\":{\"operator\":\"match\",\"type\":\"isf\"}}},\"actions\":{\"forwarding\":\"drop\"}}]}}]}}",
