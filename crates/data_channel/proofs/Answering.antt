@@ -11,8 +11,9 @@ use Rattle.data_channel.specs.declared.request.Head.TheVariants.{Plain, Wants}
 use Rattle.data_channel.specs.declared.request.RestRequest.{RestRequest}
 use Rattle.data_channel.specs.declared.request.Wanted.{Wanted}
 use Rattle.data_channel.specs.Bodies.{whole_request}
-use Rattle.data_channel.specs.Heads.{Fails, Gives, is_yang_json}
-use Rattle.data_channel.specs.Rest.{IsJson, rest_result, with_json, IsAnswer, ByHead, Fulfils, UnlessNoMemory}
+use Rattle.http_cut.specs.Requests.{Request}
+use Rattle.data_channel.specs.Heads.{Fails, Gives, Fulfils, UnlessNoMemory, IsHead, is_yang_json}
+use Rattle.data_channel.specs.Rest.{IsJson, rest_result, with_json, IsAnswer, Rest}
 
 pub fulfils : (e : RestReject) {P : Type 0} → P → Fulfils e P
 fulfils reject.NotFound p = p
@@ -65,12 +66,13 @@ no_json_answers wanted media body e known is =
     fulfils_more e (λ (r : (e ≡ reject.NotJson) × IsJson body None). body_answers wanted media body None (Err e) known r.1 (rw r.0 refl)) is
 
 -- what a head decides alone, and what it leaves to the body
-pub refused_head : (head : Result Head RestReject) (media : Option (List ℕ)) (body : List ℕ) (e : RestReject) → Fails e head → Fulfils e (ByHead head media body (Err e))
-refused_head head media body e is = fulfils_more e (λ (r : head ≡ Err e). rw r refl) (failed e head is)
+pub refused_head : (request : Request) (e : RestReject) → Fulfils e (IsHead request.method request.target (Err e)) → Fulfils e (Rest request (Err e))
+refused_head request e is = fulfils_more e (λ (h : IsHead request.method request.target (Err e)). (Err e, h, refl)) is
 
-pub plain_head : (head : Result Head RestReject) (media : Option (List ℕ)) (body : List ℕ) (request : RestRequest) → head ≡ Ok (Plain request) → ByHead head media body (Ok request)
-plain_head head media body request is = rw is refl
+pub plain_head : (request : Request) (asked : RestRequest) → IsHead request.method request.target (Ok (Plain asked)) → Rest request (Ok asked)
+plain_head request asked is = (Ok (Plain asked), is, refl)
 
-pub wanted_head : (head : Result Head RestReject) (media : Option (List ℕ)) (body : List ℕ) (wanted : Wanted) (answer : Result RestRequest RestReject)
-    → head ≡ Ok (Wants wanted) → UnlessNoMemory answer (IsAnswer wanted media body answer) → UnlessNoMemory answer (ByHead head media body answer)
-wanted_head head media body wanted answer is fact = rw is fact
+pub wanted_head : (request : Request) (wanted : Wanted) (answer : Result RestRequest RestReject)
+    → IsHead request.method request.target (Ok (Wants wanted)) → UnlessNoMemory answer (IsAnswer wanted request.media request.body answer) → UnlessNoMemory answer (Rest request answer)
+wanted_head request wanted (Ok asked) is fact = (Ok (Wants wanted), is, fact)
+wanted_head request wanted (Err e) is fact = fulfils_more e (λ (f : IsAnswer wanted request.media request.body (Err e)). (Ok (Wants wanted), is, f)) fact

@@ -1,6 +1,8 @@
 -- The path of a resource stays in its line, and is short.
 use Rattle.std.proofs.Common.{◌≡◌, ℕ, ◌+◌, ◌*◌, ◌≤◌, true, false, Bool, List, [], ◌∷◌, ◌++◌, length, length-append, All, refl, sym, ◌⊎◌, inl, inr, ⊎_elim, arith, IsTrue}
-use Rattle.std.specs.Prelude.{codes, if◌then◌else◌}
+use Rattle.std.specs.Prelude.{codes, ◌&&◌, nat_le, if◌then◌else◌}
+use Rattle.std.specs.Char.{is_ascii_graphic}
+use Rattle.dots_lists.specs.Name.{is_name}
 use Rattle.std.specs.List.{list_all}
 use Rattle.std.proofs.lemmas.Bool.{and_parts, and_from}
 use Rattle.std.proofs.lemmas.Bool.Decides.{nat_tests}
@@ -10,10 +12,7 @@ use Rattle.http_cut.specs.Reply.{is_in_line}
 use Rattle.percent_encoding.specs.Percent.{percent_encode_byte}
 use Rattle.percent_encoding.proofs.PercentLemmas.{IsEscapeByte, All-percent_encode_byte}
 use Rattle.data_channel.specs.Paths.{root}
-use Rattle.data_channel.specs.Replies.{is_unreserved, encode_byte, encoded, path_to, location_in}
-use Rattle.data_channel.specs.declared.request.RestRequest.{RestRequest}
-use Rattle.data_channel.specs.declared.request.RestRequest.TheVariants as request
-use Rattle.data_channel.specs.Locations.{Short}
+use Rattle.data_channel.specs.Replies.{is_unreserved, encode_byte, encoded, path_to}
 
 -- ---- no byte ends the line
 
@@ -43,29 +42,18 @@ encoded_in_line : (name : List ℕ) → is_in_line (encoded name) ≡ true
 encoded_in_line [] = refl
 encoded_in_line (byte ∷ name) = joined_line (encode_byte byte) (encoded name) (byte_in_line byte (is_unreserved byte) refl) (encoded_in_line name)
 
-path_in_line : (cuid fixed name : List ℕ) → is_in_line fixed ≡ true → is_in_line (path_to cuid fixed name) ≡ true
+pub path_in_line : (cuid fixed name : List ℕ) → is_in_line fixed ≡ true → is_in_line (path_to cuid fixed name) ≡ true
 path_in_line cuid fixed name line =
     joined_line (root ++ codes "/dots-client=" ++ encoded cuid ++ fixed) (encoded name) (
     joined_line (root ++ codes "/dots-client=" ++ encoded cuid) fixed (
     joined_line (root ++ codes "/dots-client=") (encoded cuid) refl (encoded_in_line cuid)) line) (encoded_in_line name)
 
-pub location_in_line : (asked : RestRequest) → is_in_line (location_in asked) ≡ true
-location_in_line (request.PutClient cuid) = path_in_line cuid [] [] refl
-location_in_line (request.PostClient cuid) = path_in_line cuid [] [] refl
-location_in_line (request.GetClient cuid) = path_in_line cuid [] [] refl
-location_in_line (request.DeleteClient cuid) = path_in_line cuid [] [] refl
-location_in_line (request.PutAlias cuid alias) = path_in_line cuid (codes "/aliases/alias=") alias.name refl
-location_in_line (request.PostAlias cuid alias) = path_in_line cuid (codes "/aliases/alias=") alias.name refl
-location_in_line (request.GetAlias cuid name) = path_in_line cuid (codes "/aliases/alias=") name refl
-location_in_line (request.DeleteAlias cuid name) = path_in_line cuid (codes "/aliases/alias=") name refl
-location_in_line (request.GetAliases cuid) = path_in_line cuid (codes "/aliases") [] refl
-location_in_line (request.PutAcl cuid acl) = path_in_line cuid (codes "/acls/acl=") acl.name refl
-location_in_line (request.PostAcl cuid acl) = path_in_line cuid (codes "/acls/acl=") acl.name refl
-location_in_line (request.GetAcl cuid name) = path_in_line cuid (codes "/acls/acl=") name refl
-location_in_line (request.DeleteAcl cuid name) = path_in_line cuid (codes "/acls/acl=") name refl
-location_in_line (request.GetAcls cuid) = path_in_line cuid (codes "/acls") [] refl
-
 -- ---- its length
+
+pub name_length : (name : List ℕ) → is_name name ≡ true → length name ≤ 64
+name_length name is =
+    let parts = and_parts (nat_le 1 (length name) && nat_le (length name) 64) (list_all is_ascii_graphic name) is in
+    grind (arith, nat_tests, and_parts (nat_le 1 (length name)) (nat_le (length name) 64) parts.0)
 
 escape_length : (byte : ℕ) → length (percent_encode_byte byte) ≤ 3
 unfolding percent_encode_byte
@@ -82,22 +70,6 @@ encoded_length (byte ∷ name) = omega (arith, length-append (encode_byte byte) 
 front_length : length (root ++ codes "/dots-client=") ≡ 60
 front_length = refl
 
-path_length : (cuid fixed name : List ℕ) → length cuid ≤ 64 → length fixed ≤ 15 → length name ≤ 64 → length (path_to cuid fixed name) ≤ 700
+pub path_length : (cuid fixed name : List ℕ) → length cuid ≤ 64 → length fixed ≤ 15 → length name ≤ 64 → length (path_to cuid fixed name) ≤ 700
 path_length cuid fixed name one two three =
     omega (arith, front_length, length-append (root ++ codes "/dots-client=") (encoded cuid), length-append (root ++ codes "/dots-client=" ++ encoded cuid) fixed, length-append (root ++ codes "/dots-client=" ++ encoded cuid ++ fixed) (encoded name), encoded_length cuid, encoded_length name, one, two, three)
-
-pub location_length : (asked : RestRequest) → Short asked → length (location_in asked) ≤ 700
-location_length (request.PutClient cuid) short = path_length cuid [] [] short (omega arith) (omega arith)
-location_length (request.PostClient cuid) short = path_length cuid [] [] short (omega arith) (omega arith)
-location_length (request.GetClient cuid) short = path_length cuid [] [] short (omega arith) (omega arith)
-location_length (request.DeleteClient cuid) short = path_length cuid [] [] short (omega arith) (omega arith)
-location_length (request.PutAlias cuid alias) short = path_length cuid (codes "/aliases/alias=") alias.name short.0 (omega arith) short.1
-location_length (request.PostAlias cuid alias) short = path_length cuid (codes "/aliases/alias=") alias.name short.0 (omega arith) short.1
-location_length (request.GetAlias cuid name) short = path_length cuid (codes "/aliases/alias=") name short.0 (omega arith) short.1
-location_length (request.DeleteAlias cuid name) short = path_length cuid (codes "/aliases/alias=") name short.0 (omega arith) short.1
-location_length (request.GetAliases cuid) short = path_length cuid (codes "/aliases") [] short (omega arith) (omega arith)
-location_length (request.PutAcl cuid acl) short = path_length cuid (codes "/acls/acl=") acl.name short.0 (omega arith) short.1
-location_length (request.PostAcl cuid acl) short = path_length cuid (codes "/acls/acl=") acl.name short.0 (omega arith) short.1
-location_length (request.GetAcl cuid name) short = path_length cuid (codes "/acls/acl=") name short.0 (omega arith) short.1
-location_length (request.DeleteAcl cuid name) short = path_length cuid (codes "/acls/acl=") name short.0 (omega arith) short.1
-location_length (request.GetAcls cuid) short = path_length cuid (codes "/acls") [] short (omega arith) (omega arith)

@@ -2,3 +2,5 @@ pub mod Plain
 pub mod Items
 pub mod Answering
 pub mod Encoding
+pub mod Fronts
+pub mod Grammar

@@ -1,6 +1,6 @@
 -- What a request asks before its body is read (RFC 8040, sections 3.5.3, 4 and 5.3; RFC 8783, sections 4.3, 6 and 7), or
 -- the first refusal that applies.
-use Rattle.std.specs.Prelude.{◌≡◌, ℕ, Bool, true, false, ◌&&◌, not, List, map, codes, bytes_eq, if◌then◌else◌, Option, Some, None, ok_or, Result, Ok, Err, ⊤}
+use Rattle.std.specs.Prelude.{◌≡◌, ℕ, Bool, true, false, ◌&&◌, not, List, map, codes, bytes_eq, if◌then◌else◌, Option, Some, None, ok_or, is_some, Result, Ok, Err, ⊤}
 use Rattle.std.specs.Char.{to_ascii_lowercase}
 use Rattle.dots_lists.specs.Name.{is_name}
 use Rattle.percent_encoding.specs.Percent.{percent_decode}
@@ -19,7 +19,7 @@ use Rattle.data_channel.specs.declared.request.RestRequest.TheVariants as reques
 use Rattle.data_channel.specs.declared.request.Verb.{Verb}
 use Rattle.data_channel.specs.declared.request.Verb.TheVariants as verb
 use Rattle.data_channel.specs.declared.request.Wanted.TheVariants as wanted
-use Rattle.data_channel.specs.Paths.{Place, path_of, has_query, place_in}
+use Rattle.data_channel.specs.Paths.{Place, IsTarget, IsAt}
 
 infixl 10 ◌>>=◌
 abbrev pub ◌>>=◌ : {A B : Type 0} → Result A RestReject → (A → Result B RestReject) → Result B RestReject
@@ -34,6 +34,15 @@ Fails e read = read ≡ Err e
 abbrev pub Gives : {A : Type 0} → Result A RestReject → Result A RestReject → Type 0
 Gives (Ok x) read = read ≡ Ok x
 Gives (Err e) read = Fails e read
+
+-- a fact of an answer, unless it is want of memory
+abbrev pub Fulfils : RestReject → Type 0 → Type 0
+Fulfils reject.NoMemory fact = ⊤
+Fulfils e fact = fact
+
+abbrev pub UnlessNoMemory : {A : Type 0} → Result A RestReject → Type 0 → Type 0
+UnlessNoMemory (Ok x) fact = fact
+UnlessNoMemory (Err e) fact = Fulfils e fact
 
 -- ---- the names of a path
 
@@ -72,8 +81,8 @@ is_get (Some verb.Get) = true
 is_get _ = false
 
 -- a query is ignored in a GET, and refused in every other request
-abbrev pub ignored_query : Option Verb → List ℕ → Result (Unit {0}) RestReject
-ignored_query asked target = if has_query target && not (is_get asked) then Err reject.Query else Ok tt
+abbrev pub ignored_query : Option Verb → Bool → Result (Unit {0}) RestReject
+ignored_query asked query = if query && not (is_get asked) then Err reject.Query else Ok tt
 
 abbrev pub root_head : Option Verb → Result Head RestReject
 root_head (Some verb.Post) = Ok (Wants wanted.PostClient)
@@ -116,13 +125,19 @@ head_with (resource.Acl cuid name) asked = acl_head cuid name asked
 
 -- ---- the head
 
--- **what is asked before the body**: the path, its names, the query and the method are judged in this order
-abbrev pub head_of : List ℕ → List ℕ → Result Head RestReject
-head_of method target = do
-  place ← ok_or (place_in (path_of target)) reject.NotFound
-  found ← resource_of place
-  _ ← ignored_query (verb_in method) target
-  head_with found (verb_in method)
+-- what is asked of the place that the path is of: the place, its names, the query and the method are judged in this order
+abbrev pub head_at : Option Place → Option Verb → Bool → Result Head RestReject
+head_at found asked query = do
+  place ← ok_or found reject.NotFound
+  sought ← resource_of place
+  _ ← ignored_query asked query
+  head_with sought asked
+
+-- **what is asked before the body**, of the place of the target's path
+abbrev pub IsHead : List ℕ → List ℕ → Result Head RestReject → Type 0
+IsHead method target head =
+    (path : List ℕ) × (query : Option (List ℕ)) × (found : Option Place) × IsTarget target path query × IsAt path found
+    × (head ≡ head_at found (verb_in method) (is_some query))
 
 -- a media type, compared without regard to the case of ASCII letters; an absent one is accepted
 abbrev pub is_yang_json : Option (List ℕ) → Bool

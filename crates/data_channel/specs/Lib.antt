@@ -1,7 +1,7 @@
 pub mod Paths
+pub mod Places
 pub mod Heads
 pub mod Bodies
 pub mod Rest
 pub mod Views
 pub mod Replies
-pub mod Locations

@@ -1,6 +1,19 @@
--- The resources of the data channel by their paths (RFC 8040, sections 3.1 and 3.5.3; RFC 8783, sections 4.3, 6 and 7).
-use Rattle.std.specs.Prelude.{ℕ, ◌==◌, Bool, not, List, [], ◌∷◌, drop, codes, bytes_eq, if◌then◌else◌, Option, Some, None, option_and_then}
-use Rattle.std.specs.List.{list_any, list_all, before_first, position_or_len}
+-- The grammar of the targets of the data channel (RFC 3986, sections 3.3 and 3.4; RFC 8040, sections 3.1 and 3.5.3;
+-- RFC 8783, sections 4.3, 6 and 7).
+--
+--     target  = path [ "?" query ]
+--     path    = root / client / aliases / alias / acls / acl
+--     root    = "/restconf/data/ietf-dots-data-channel:dots-data"
+--     client  = root "/dots-client=" segment
+--     aliases = client "/aliases"
+--     alias   = client "/aliases/alias=" segment
+--     acls    = client "/acls"
+--     acl     = client "/acls/acl=" segment
+--
+-- The fixed parts stand as they are, and are never encoded. A segment is a name as it is encoded, and holds no `/`; so no path
+-- ends with a slash. An empty segment is one, though no name is empty.
+use Rattle.std.specs.Prelude.{◌≡◌, ℕ, ◌==◌, Bool, not, IsTrue, List, [], ◌∷◌, ◌++◌, codes, Option, Some, None}
+use Rattle.std.specs.List.{list_all}
 use Rattle.data_channel.specs.declared.place.Kind.{Kind}
 use Rattle.data_channel.specs.declared.place.Kind.TheVariants as kind
 use Rattle.data_channel.specs.declared.place.Place as code
@@ -11,70 +24,56 @@ pub record Place : Type 0 where
   pub client : List ℕ
   pub name : List ℕ
 
--- ---- the parts of a target (RFC 3986, sections 3.3 and 3.4)
+-- ---- targets
 
--- the path, which the first `?` ends
-abbrev pub path_of : List ℕ → List ℕ
-path_of target = before_first (λ byte. byte == 63) target
+abbrev pub lacks : ℕ → List ℕ → Bool
+lacks sign bytes = list_all (λ byte. not (byte == sign)) bytes
 
--- a query, be it empty
-abbrev pub has_query : List ℕ → Bool
-has_query target = list_any (λ byte. byte == 63) target
-
--- ---- the grammar of paths
-
--- what stands behind a front
-abbrev pub behind_front : List ℕ → List ℕ → Option (List ℕ)
-behind_front [] bytes = Some bytes
-behind_front (first ∷ front) [] = None
-behind_front (first ∷ front) (byte ∷ bytes) = if byte == first then behind_front front bytes else None
-
--- a segment, and what stands from the next slash on
-abbrev pub segment : List ℕ → List ℕ
-segment bytes = before_first (λ byte. byte == 47) bytes
-
-abbrev pub behind_segment : List ℕ → List ℕ
-behind_segment bytes = drop (position_or_len (λ byte. byte == 47) bytes) bytes
+-- a path holds no `?`, and a segment no `/`
+abbrev pub is_path : List ℕ → Bool
+is_path bytes = lacks 63 bytes
 
 abbrev pub is_segment : List ℕ → Bool
-is_segment bytes = list_all (λ byte. not (byte == 47)) bytes
+is_segment bytes = lacks 47 bytes
+
+-- the first `?` ends the path; what stands behind it is the query, which may be empty
+abbrev pub IsTarget : List ℕ → List ℕ → Option (List ℕ) → Type 0
+IsTarget target path None = IsTrue (is_path path) × (target ≡ path)
+IsTarget target path (Some query) = IsTrue (is_path path) × (target ≡ path ++ 63 ∷ query)
+
+-- ---- paths
 
 abbrev pub root : List ℕ
 root = codes "/restconf/data/ietf-dots-data-channel:dots-data"
 
-abbrev pub unnamed : Kind → List ℕ → Place
-unnamed of client = record { kind = of; client = client; name = [] }
+abbrev pub client_path : List ℕ → List ℕ
+client_path client = root ++ codes "/dots-client=" ++ client
 
--- a name in one segment at the end of the path
-abbrev pub named : Kind → List ℕ → List ℕ → Option Place
-named of client name = if is_segment name then Some (record { kind = of; client = client; name = name }) else None
+-- the path of this kind with these names in it, and which names it has
+abbrev pub spelled : Kind → List ℕ → List ℕ → List ℕ
+spelled kind.Root client name = root
+spelled kind.Client client name = client_path client
+spelled kind.Aliases client name = client_path client ++ codes "/aliases"
+spelled kind.Alias client name = client_path client ++ (codes "/aliases/alias=" ++ name)
+spelled kind.Acls client name = client_path client ++ codes "/acls"
+spelled kind.Acl client name = client_path client ++ (codes "/acls/acl=" ++ name)
 
-abbrev pub by_acl : List ℕ → Option (List ℕ) → Option Place
-by_acl client None = None
-by_acl client (Some name) = named kind.Acl client name
+abbrev pub HasNames : Kind → List ℕ → List ℕ → Type 0
+HasNames kind.Root client name = (client ≡ []) × (name ≡ [])
+HasNames kind.Client client name = IsTrue (is_segment client) × (name ≡ [])
+HasNames kind.Aliases client name = IsTrue (is_segment client) × (name ≡ [])
+HasNames kind.Alias client name = IsTrue (is_segment client) × IsTrue (is_segment name)
+HasNames kind.Acls client name = IsTrue (is_segment client) × (name ≡ [])
+HasNames kind.Acl client name = IsTrue (is_segment client) × IsTrue (is_segment name)
 
-abbrev pub by_alias : List ℕ → List ℕ → Option (List ℕ) → Option Place
-by_alias client below None = by_acl client (behind_front (codes "/acls/acl=") below)
-by_alias client below (Some name) = named kind.Alias client name
+-- **the path of a resource**
+abbrev pub IsPathOf : List ℕ → Place → Type 0
+IsPathOf path place = HasNames place.kind place.client place.name × (path ≡ spelled place.kind place.client place.name)
 
-abbrev pub below_client : List ℕ → List ℕ → Option Place
-below_client client below =
-    if bytes_eq below [] then Some (unnamed kind.Client client)
-    else if bytes_eq below (codes "/aliases") then Some (unnamed kind.Aliases client)
-    else if bytes_eq below (codes "/acls") then Some (unnamed kind.Acls client)
-    else by_alias client below (behind_front (codes "/aliases/alias=") below)
-
-abbrev pub client_place : List ℕ → Option Place
-client_place rest = below_client (segment rest) (behind_segment rest)
-
-abbrev pub below_root : List ℕ → Option Place
-below_root below =
-    if bytes_eq below [] then Some (unnamed kind.Root [])
-    else option_and_then client_place (behind_front (codes "/dots-client=") below)
-
--- **the resource of a path**; fixed parts stand as they are, and no slash ends a path
-abbrev pub place_in : List ℕ → Option Place
-place_in path = option_and_then below_root (behind_front root path)
+-- the resource that has this path, or that none has
+abbrev pub IsAt : List ℕ → Option Place → Type 0
+IsAt path (Some place) = IsPathOf path place
+IsAt path None = (place : Place) → IsPathOf path place → ⊥
 
 -- what the code's places stand for
 abbrev pub place_view : code.Place → Place

@@ -1,5 +1,5 @@
 -- What a message of the data channel means.
-use Rattle.std.specs.Prelude.{◌≡◌, ℕ, List, IsUtf8, Option, Some, None, Result, Ok, Err, ⊤}
+use Rattle.std.specs.Prelude.{◌≡◌, ℕ, List, IsUtf8, Option, Some, None, Result, Ok, Err}
 use Rattle.std.specs.Bool.{MatchBool}
 use Rattle.http_cut.specs.Requests.{Request}
 use Rattle.serde_json.specs.Data.{Data}
@@ -11,7 +11,7 @@ use Rattle.data_channel.specs.declared.request.Head.{Head}
 use Rattle.data_channel.specs.declared.request.Head.TheVariants.{Plain, Wants}
 use Rattle.data_channel.specs.declared.request.RestRequest.{RestRequest}
 use Rattle.data_channel.specs.declared.request.Wanted.{Wanted}
-use Rattle.data_channel.specs.Heads.{head_of, is_yang_json, reject_of}
+use Rattle.data_channel.specs.Heads.{IsHead, is_yang_json, reject_of}
 use Rattle.data_channel.specs.Bodies.{whole_request}
 
 -- the value that a body is as JSON (RFC 8259), which is UTF-8, or none
@@ -39,13 +39,4 @@ ByHead (Ok (Wants wanted)) media body result = IsAnswer wanted media body result
 
 -- **what a message means**: one request, or the first refusal that applies
 abbrev pub Rest : Request → Result RestRequest RestReject → Type 0
-Rest request result = ByHead (head_of request.method request.target) request.media request.body result
-
--- a fact of an answer, unless it is want of memory
-abbrev pub Fulfils : RestReject → Type 0 → Type 0
-Fulfils reject.NoMemory fact = ⊤
-Fulfils e fact = fact
-
-abbrev pub UnlessNoMemory : {A : Type 0} → Result A RestReject → Type 0 → Type 0
-UnlessNoMemory (Ok x) fact = fact
-UnlessNoMemory (Err e) fact = Fulfils e fact
+Rest request result = (head : Result Head RestReject) × IsHead request.method request.target head × ByHead head request.media request.body result

@@ -1,7 +1,7 @@
 //! What a request asks before its body is read.
 
 ghost use Rattle.std.specs.Prelude.{◌≡◌, option_map};
-ghost use Rattle.data_channel.specs.Heads.{Gives, name_in_path, resource_of, verb_in, ignored_query, root_head, client_head, aliases_head, acls_head, alias_head, acl_head, head_with, head_of, is_yang_json};
+ghost use Rattle.data_channel.specs.Heads.{Gives, UnlessNoMemory, name_in_path, resource_of, verb_in, ignored_query, root_head, client_head, aliases_head, acls_head, alias_head, acl_head, head_with, head_at, IsHead, is_yang_json};
 ghost use Rattle.data_channel.specs.Paths.{place_view};
 
 use crate::place::{Kind, Place, has_query, path_of, place_in};
@@ -67,10 +67,10 @@ fn verb_in(method: &[u8]) -> Option<Verb>
 }
 
 /// Refuses a query in another request than a GET.
-fn check_query(verb: Option<Verb>, target: &[u8]) -> Result<(), RestReject>
-    ensures { result ≡ ignored_query verb target.now }
+fn check_query(verb: Option<Verb>, query: bool) -> Result<(), RestReject>
+    ensures { result ≡ ignored_query verb query }
 {
-    if has_query(target) && !matches!(verb, Some(Verb::Get)) {
+    if query && !matches!(verb, Some(Verb::Get)) {
         return Err(RestReject::Query);
     }
     Ok(())
@@ -139,17 +139,29 @@ fn head_with(resource: Resource, verb: Option<Verb>) -> Result<Head, RestReject>
     }
 }
 
-/// What is asked before the body, or the first refusal that applies.
-pub fn head_of(alloc: Global, method: &[u8], target: &[u8]) -> Result<Head, RestReject>
-    ensures { Gives result (head_of method.now target.now) }
+/// What is asked of the place that a path is of, or the first refusal that applies.
+fn head_at(
+    alloc: Global,
+    found: &Option<Place>,
+    verb: Option<Verb>,
+    query: bool,
+) -> Result<Head, RestReject>
+    ensures { Gives result (head_at (option_map place_view found.now) verb query) }
 {
-    let Some(place) = place_in(path_of(target)) else {
+    let Some(place) = found else {
         return Err(RestReject::NotFound);
     };
-    let resource = resource_of(alloc, &place)?;
-    let verb = verb_in(method);
-    check_query(verb, target)?;
+    let resource = resource_of(alloc, place)?;
+    check_query(verb, query)?;
     head_with(resource, verb)
+}
+
+/// What is asked before the body, or the first refusal that applies.
+pub fn head_of(alloc: Global, method: &[u8], target: &[u8]) -> Result<Head, RestReject>
+    ensures { UnlessNoMemory result (IsHead method.now target.now result) }
+{
+    let found = place_in(path_of(target));
+    head_at(alloc, &found, verb_in(method), has_query(target))
 }
 
 /// Whether a body of this media type, or of none that is named, is YANG data in JSON.

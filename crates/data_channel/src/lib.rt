@@ -1,9 +1,22 @@
-//! Requests and replies of the data channel.
+//! Requests of the data channel, and the bodies of its replies (RFC 8783).
+//!
+//! [`read_rest`] answers what a message of HTTP asks: one request, or the first refusal that applies, in the order path, names,
+//! query, method, media type, JSON, body. [`RestReject`] says which status each of them has. [`body_text`] gives the body of a
+//! reply to a GET, [`location_of`] the path of what a request is about, and [`Allow::text`] the methods of a resource. The last two
+//! hold no byte that ends a line, and are as short as the head of a reply wants them (`http_cut`). Nothing here keeps anything, so
+//! whether a resource is there, and what it costs to make it, is for the caller.
+//!
+//! The resources, their methods and the bodies are those of RFC 8783, sections 4.3, 5, 6 and 7; paths, queries, media types and
+//! Location are those of RESTCONF (RFC 8040, sections 3 and 4). JSON is what the reader of `serde_json` reads; aliases and access
+//! lists in it are those of `list_json`.
+//!
+//! Start reading at `specs/Rest.antt`, which says what a message means. `specs/Paths.antt` is the grammar of targets,
+//! `specs/Heads.antt` what is judged before the body, `specs/Bodies.antt` what a body makes of a request, and `specs/Replies.antt`
+//! what replies hold.
 #![tactic(auto)]
 
 mod bodies;
 mod heads;
-pub mod laws;
 mod location;
 mod place;
 mod reading;

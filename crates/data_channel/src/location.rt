@@ -52,7 +52,12 @@ fn push_name(path: &mut Vec<u8>, name: &[u8]) -> Result<(), NoMemory>
 
 /// The path of a client, of something fixed below it, and of a name at the end.
 fn path_to(alloc: Global, cuid: &Name, fixed: &[u8], name: &[u8]) -> Result<Bytes, NoMemory>
-    ensures { IfOk result (λ path. path ≡ path_to cuid.now fixed.now name.now) }
+    requires line { IsTrue (is_in_line fixed.now) }
+    requires fixed { length fixed.now ≤ 15 }
+    requires name { length name.now ≤ 64 }
+    ensures path { IfOk result (λ path. path ≡ path_to cuid.now fixed.now name.now) }
+    ensures line { IfOk result (λ path. IsTrue (is_in_line path)) }
+    ensures size { IfOk result (λ path. length path ≤ 700) }
 {
     let mut path = Vec::new(alloc);
     path.extend_from_slice(ROOT)?;
@@ -63,9 +68,13 @@ fn path_to(alloc: Global, cuid: &Name, fixed: &[u8], name: &[u8]) -> Result<Byte
     Ok(Bytes::from_vec(path))
 }
 
-/// The path of the resource that a request is about.
+/// The path of the resource that a request is about, for a Location field (RFC 9110, section 10.2.2).
+#[tactic(auto, using(crate::proofs::Encoding::name_length))]
 pub fn location_of(alloc: Global, request: &RestRequest) -> Result<Bytes, NoMemory>
-    ensures { IfOk result (λ path. path ≡ location_in request.now) }
+    ensures path { IfOk result (λ path. path ≡ location_in request.now) }
+    // No byte of it ends the line of the field, and it has 700 bytes at most.
+    ensures line { IfOk result (λ path. IsTrue (is_in_line path)) }
+    ensures size { IfOk result (λ path. length path ≤ 700) }
 {
     match request {
         RestRequest::PutClient { cuid }

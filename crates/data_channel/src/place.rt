@@ -2,7 +2,8 @@
 
 ghost use Rattle.std.specs.Prelude.{◌≡◌, ◌≤◌, ◌==◌, option_map, length};
 ghost use Rattle.std.specs.List.{position_or_len};
-ghost use Rattle.data_channel.specs.Paths.{path_of, has_query, behind_front, is_segment, unnamed, named, below_client, client_place, below_root, place_in, place_view};
+ghost use Rattle.data_channel.specs.Paths.{is_segment, place_view};
+ghost use Rattle.data_channel.specs.Places.{path_of, has_query, behind_front, unnamed, named, below_client, client_place, below_root, place_in};
 
 /// The root of the data channel.
 pub const ROOT: &[u8] = b"/restconf/data/ietf-dots-data-channel:dots-data";

@@ -5,8 +5,8 @@ ghost use Rattle.http_cut.specs.Requests.{request_view};
 ghost use Rattle.serde_json.specs.View.{view};
 ghost use Rattle.list_json.specs.Steps.{Gives as GivesBody};
 ghost use Rattle.data_channel.specs.Bodies.{whole_request};
-ghost use Rattle.data_channel.specs.Heads.{Gives};
-ghost use Rattle.data_channel.specs.Rest.{IsJson, rest_result, IsAnswer, Rest, Fulfils, UnlessNoMemory};
+ghost use Rattle.data_channel.specs.Heads.{Gives, Fulfils, UnlessNoMemory};
+ghost use Rattle.data_channel.specs.Rest.{IsJson, rest_result, IsAnswer, Rest};
 
 use crate::bodies::whole_request;
 use crate::heads::{head_of, is_yang_json};

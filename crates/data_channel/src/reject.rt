@@ -1,4 +1,5 @@
-ghost use Rattle.std.specs.Prelude.{◌≡◌};
+ghost use Rattle.std.specs.Prelude.{◌≡◌, ◌≤◌, length, IsTrue};
+ghost use Rattle.http_cut.specs.Reply.{is_in_line};
 ghost use Rattle.data_channel.specs.Heads.{allow_text, reject_of};
 
 use dots_lists::NoMemory;
@@ -42,9 +43,12 @@ pub enum Allow {
 }
 
 impl Allow {
-    /// The value of an Allow field (RFC 9110, section 10.2.1), which holds no byte that ends a line.
+    /// The value of an Allow field (RFC 9110, section 10.2.1).
     pub fn text(self) -> &'static str
-        ensures { result.now ≡ allow_text self }
+        ensures text { result.now ≡ allow_text self }
+        // No byte of it ends the line of the field, and it has 64 bytes at most.
+        ensures line { IsTrue (is_in_line result.now) }
+        ensures size { length result.now ≤ 64 }
     {
         match self {
             Allow::Root => "POST",

@@ -1,5 +1,5 @@
 use Rattle.std.proofs.Common.{◌≡◌, length}
-use Rattle.data_channel.specs.Paths.{behind_front}
+use Rattle.data_channel.specs.Places.{behind_front}
 use Rattle.data_channel.proofs.place.behind_front.Given as goal
 
 abbrev pub invariant-loop-first : goal.invariant-loop-first
