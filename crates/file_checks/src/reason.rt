@@ -1,0 +1,221 @@
+ghost use Rattle.std.specs.Prelude.{◌≡◌, ◌++◌, OnOk};
+ghost use Rattle.file_checks.specs.Reason.{reason_words, reason_number, reason_text, number_text};
+
+use dots_lists::NoMemory;
+use itoa::Buffer;
+
+/// Why a line of the settings or of a script is at fault.
+#[derive(Clone, Copy, Debug)]
+pub enum Reason {
+    /// It begins with none of the nine words.
+    Word,
+    /// `domain NAME` has other fields.
+    DomainFields,
+    /// So has `prefix NAME PREFIX`.
+    PrefixFields,
+    /// So has `client PEER NAME`.
+    ClientFields,
+    /// So has `gateway PEER`.
+    GatewayFields,
+    /// So has `name FQDN PREFIX`.
+    NameFields,
+    /// So has `ceiling SECONDS`.
+    CeilingFields,
+    /// So has `indefinite yes` or `indefinite no`.
+    IndefiniteFields,
+    /// So has `capacity WHAT LIMIT`.
+    CapacityFields,
+    /// So has `packet SOURCE DESTINATION PROTOCOL SPORT DPORT`.
+    PacketFields,
+    /// The name of a domain is none.
+    DomainName,
+    /// A host name is none.
+    HostName,
+    /// A peer is none.
+    Peer,
+    /// A prefix has no slash.
+    NoSlash,
+    /// No address stands before its slash.
+    NoAddress,
+    /// No number stands behind its slash.
+    NoLength,
+    /// Its length is too large for IPv4.
+    LengthV4,
+    /// Its length is too large for IPv6.
+    LengthV6,
+    /// The ceiling is none.
+    Ceiling,
+    /// `indefinite` has another word.
+    YesOrNo,
+    /// A capacity is none.
+    CapacityName,
+    /// The limit of a capacity is no number.
+    Limit,
+    /// An address of a packet is none.
+    Address,
+    /// A protocol is none.
+    Protocol,
+    /// A port is none, or one of the two alone is missing.
+    Port,
+    /// It has none of the forms.
+    Form,
+    /// The domain stands above.
+    DomainTwice,
+    /// The peer stands above.
+    PeerTwice,
+    /// The ceiling stands above.
+    CeilingTwice,
+    /// Whether -1 is granted stands above.
+    IndefiniteTwice,
+    /// The capacity stands above.
+    CapacityTwice,
+    /// What it gives stands above.
+    Twice,
+    /// The domain doesn't stand above.
+    UnknownDomain,
+    /// The file is too long.
+    TooLarge,
+    /// There are too many domains.
+    ManyDomains,
+    /// A domain has too many prefixes.
+    ManyPrefixes,
+    /// There are too many peers.
+    ManyPeers,
+    /// There are too many peers or gateways.
+    ManyGateways,
+    /// There are too many host names or addresses.
+    ManyNames,
+    /// There are too many packets.
+    ManyPackets,
+    /// There is too much of it.
+    Many,
+    /// A line of a script is too long.
+    LineTooLong,
+    /// The last line of a script has no line feed.
+    Unended,
+    /// A line of a script has other fields.
+    EventFields,
+    /// It doesn't begin with `at`.
+    At,
+    /// The time is none.
+    Seconds,
+    /// The third word isn't `from`.
+    From,
+    /// The bytes are none.
+    Datagram,
+    /// The limit of a capacity is out of its range: this is the greatest.
+    OutOfRange { most: u32 },
+    /// The prefix meets one of another domain: this is the first line with such a one.
+    Overlap { first: u32 },
+}
+
+impl Reason {
+    fn words(self) -> &'static [u8]
+        ensures { result.now ≡ reason_words self }
+    {
+        match self {
+            Reason::Word =>
+                b"the first word of a line is domain, prefix, client, gateway, name, ceiling, indefinite, capacity or packet",
+            Reason::DomainFields =>
+                b"a domain line is: domain NAME, with one space between two fields",
+            Reason::PrefixFields =>
+                b"a prefix line is: prefix NAME PREFIX, with one space between two fields",
+            Reason::ClientFields =>
+                b"a client line is: client PEER NAME, with one space between two fields",
+            Reason::GatewayFields =>
+                b"a gateway line is: gateway PEER, with one space between two fields",
+            Reason::NameFields =>
+                b"a name line is: name FQDN PREFIX, with one space between two fields",
+            Reason::CeilingFields =>
+                b"a ceiling line is: ceiling SECONDS, with one space between two fields",
+            Reason::IndefiniteFields => b"an indefinite line is: indefinite yes, or: indefinite no",
+            Reason::CapacityFields =>
+                b"a capacity line is: capacity WHAT LIMIT, with one space between two fields",
+            Reason::PacketFields =>
+                b"a packet line is: packet SOURCE DESTINATION PROTOCOL SPORT DPORT, with one space between two fields",
+            Reason::DomainName =>
+                b"the name of a domain is 1 to 64 of a to z, 0 to 9, dot and hyphen",
+            Reason::HostName => b"a host name is 1 to 64 visible ASCII characters",
+            Reason::Peer => b"a peer is a number from 0 to 4294967295, without leading zeros",
+            Reason::NoSlash =>
+                b"a prefix is an address, a slash and a length, as 192.0.2.0/24 or 2001:db8::/32",
+            Reason::NoAddress =>
+                b"no IPv4 or IPv6 address stands before the slash, as in 192.0.2.0/24 or 2001:db8::/32",
+            Reason::NoLength => b"the length of a prefix is a number, without leading zeros",
+            Reason::LengthV4 => b"the length of an IPv4 prefix is at most 32",
+            Reason::LengthV6 => b"the length of an IPv6 prefix is at most 128",
+            Reason::Ceiling =>
+                b"the ceiling is a number of seconds from 1 to 604800, without leading zeros",
+            Reason::YesOrNo => b"this word is yes or no",
+            Reason::CapacityName =>
+                b"a capacity is client-mitigations, domain-mitigations, clients, aliases, acls, remembered or observers",
+            Reason::Limit => b"the limit of a capacity is a number, without leading zeros",
+            Reason::Address =>
+                b"an address is an IPv4 or IPv6 address, as 192.0.2.1 or 2001:db8::1, without a length",
+            Reason::Protocol => b"a protocol is a number from 0 to 255, without leading zeros",
+            Reason::Port =>
+                b"a port is a number from 0 to 65535, without leading zeros, or both ports are -",
+            Reason::Form => b"a line has one of the nine forms",
+            Reason::DomainTwice => b"a line above declares this domain already",
+            Reason::PeerTwice => b"a line above names this peer already, as a client or a gateway",
+            Reason::CeilingTwice => b"a line above gives the ceiling already",
+            Reason::IndefiniteTwice =>
+                b"a line above says already whether lifetimes without end are granted",
+            Reason::CapacityTwice => b"a line above gives this capacity already",
+            Reason::Twice => b"a line above says this already",
+            Reason::UnknownDomain => b"no line above declares this domain",
+            Reason::TooLarge => b"a file has at most 65536 bytes, and this line passes them",
+            Reason::ManyDomains => b"a file has at most 16 domains",
+            Reason::ManyPrefixes => b"a domain has at most 16 prefixes",
+            Reason::ManyPeers => b"a file has at most 64 clients and gateways",
+            Reason::ManyGateways =>
+                b"a file has at most 64 clients and gateways, and at most 4 of them are gateways",
+            Reason::ManyNames =>
+                b"a file has at most 64 host names, and a host name at most 4 prefixes",
+            Reason::ManyPackets => b"a file has at most 256 sample packets",
+            Reason::Many => b"this passes a limit",
+            Reason::LineTooLong => b"a line has at most 8400 bytes",
+            Reason::Unended => b"the last line does not end with a line feed",
+            Reason::EventFields =>
+                b"a line is: at SECONDS from PEER HEX, with one space between two fields",
+            Reason::At => b"the first word of a line is at",
+            Reason::Seconds =>
+                b"the time is a number of seconds below 281474976710656, without leading zeros",
+            Reason::From => b"the third word of a line is from",
+            Reason::Datagram => b"a datagram is 1 to 4096 bytes in hexadecimal, two digits each",
+            Reason::OutOfRange { .. } => b"the limit of this capacity is a number from 1 to ",
+            Reason::Overlap { .. } =>
+                b"this prefix overlaps one of another domain, which stands in line ",
+        }
+    }
+
+    /// The number behind the words.
+    fn number(self) -> Option<u32>
+        ensures { result ≡ reason_number self }
+    {
+        match self {
+            Reason::OutOfRange { most } => Some(most),
+            Reason::Overlap { first } => Some(first),
+            _ => None,
+        }
+    }
+}
+
+/// Adds the reason in words.
+pub fn add_reason(text: &mut Vec<u8>, reason: Reason) -> Result<(), NoMemory>
+    ensures { OnOk result (text.new.items ≡ text.old.items ++ reason_text reason) }
+{
+    text.extend_from_slice(reason.words())?;
+    add_number(text, reason.number())
+}
+
+fn add_number(text: &mut Vec<u8>, number: Option<u32>) -> Result<(), NoMemory>
+    ensures { OnOk result (text.new.items ≡ text.old.items ++ number_text number) }
+{
+    let Some(number) = number else {
+        return Ok(());
+    };
+    let mut buffer = Buffer::new();
+    text.extend_from_slice(buffer.format(number).as_bytes())?;
+    Ok(())
+}

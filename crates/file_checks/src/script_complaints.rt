@@ -1,0 +1,57 @@
+//! What is to be mended in a line of a script.
+
+ghost use Rattle.std.specs.Prelude.{◌≡◌, map};
+ghost use Rattle.dots_settings.specs.Lines.{fields_of};
+ghost use Rattle.file_checks.specs.ScriptComplaints.{event_complaint, script_complaint};
+
+use crate::complaint::Complaint;
+use crate::kinds::{is_datagram, is_decimal_up_to};
+use crate::reason::Reason;
+
+/// The greatest time of an event, in seconds.
+const MAX_SECONDS: u64 = 281_474_976_710_655;
+
+/// The greatest number of a peer.
+const MAX_PEER: u64 = 4_294_967_295;
+
+/// The complaint of a line with these fields, which ends with a line feed or doesn't.
+pub fn script_complaint(ended: bool, line: &[u8], fields: &[&[u8]]) -> Complaint
+    requires { map (λ field. field.now) fields.now ≡ fields_of line.now }
+    ensures { result ≡ script_complaint ended line.now }
+{
+    if line.len() > 8400 {
+        return Complaint::of_line(Reason::LineTooLong);
+    }
+    if !ended {
+        return Complaint::of_line(Reason::Unended);
+    }
+    match event_complaint(fields) {
+        Some(complaint) => return complaint,
+        None => return Complaint::of_line(Reason::Form),
+    }
+}
+
+/// The complaint of a line that is to be `at SECONDS from PEER HEX`.
+fn event_complaint(fields: &[&[u8]]) -> Option<Complaint>
+    ensures { result ≡ event_complaint (map (λ field. field.now) fields.now) }
+{
+    let [word, seconds, from, peer, digits] = fields else {
+        return Some(Complaint::of_line(Reason::EventFields));
+    };
+    if *word != b"at".as_slice() {
+        return Some(Complaint::of_field(Reason::At, 0));
+    }
+    if !is_decimal_up_to(MAX_SECONDS, seconds) {
+        return Some(Complaint::of_field(Reason::Seconds, 1));
+    }
+    if *from != b"from".as_slice() {
+        return Some(Complaint::of_field(Reason::From, 2));
+    }
+    if !is_decimal_up_to(MAX_PEER, peer) {
+        return Some(Complaint::of_field(Reason::Peer, 3));
+    }
+    if !is_datagram(digits) {
+        return Some(Complaint::of_field(Reason::Datagram, 4));
+    }
+    None
+}

@@ -1,0 +1,87 @@
+//! What is told of settings and scripts that are checked.
+
+use dots_host::MemorySource;
+use dots_lists::Bytes;
+use file_checks::{Checked, check_script, check_settings};
+use std::alloc::Global;
+use std::test::Fail;
+
+/// Settings that are at fault and, behind a bar, what is told of them, where `;` stands for a line feed.
+const FAULTS: &str = r#"
+domain net1;prefx net1 192.0.2.0/24;|settings line 2;line 2: the first word of a line is domain, prefix, client, gateway, name, ceiling, indefinite, capacity or packet: "prefx";
+domain net1 ;|settings line 1;line 1: a domain line is: domain NAME, with one space between two fields: "domain net1 ";
+domain Net1;|settings line 1;line 1: the name of a domain is 1 to 64 of a to z, 0 to 9, dot and hyphen: "Net1";
+domain net1;prefix net1 192.0.2.0/33;|settings line 2;line 2: the length of an IPv4 prefix is at most 32: "192.0.2.0/33";
+domain net1;prefix net1 2001:db8::/129;|settings line 2;line 2: the length of an IPv6 prefix is at most 128: "2001:db8::/129";
+domain net1;prefix net1 192.0.2.0;|settings line 2;line 2: a prefix is an address, a slash and a length, as 192.0.2.0/24 or 2001:db8::/32: "192.0.2.0";
+domain net1;prefix net1 192.0.2/24;|settings line 2;line 2: no IPv4 or IPv6 address stands before the slash, as in 192.0.2.0/24 or 2001:db8::/32: "192.0.2/24";
+domain net1;prefix net1 192.0.2.0/024;|settings line 2;line 2: the length of a prefix is a number, without leading zeros: "192.0.2.0/024";
+client 4294967296 net1;|settings line 1;line 1: a peer is a number from 0 to 4294967295, without leading zeros: "4294967296";
+ceiling 0;|settings line 1;line 1: the ceiling is a number of seconds from 1 to 604800, without leading zeros: "0";
+indefinite maybe;|settings line 1;line 1: this word is yes or no: "maybe";
+capacity cells 1;|settings line 1;line 1: a capacity is client-mitigations, domain-mitigations, clients, aliases, acls, remembered or observers: "cells";
+capacity clients 9;|settings capacity 1;line 1: the limit of this capacity is a number from 1 to 8: "9";
+packet 192.0.2.1 192.0.2.2 17 - 53;|settings line 1;line 1: a port is a number from 0 to 65535, without leading zeros, or both ports are -: "-";
+domain net1;# again;domain net1;|settings twice 3;line 3: a line above declares this domain already: "net1";
+domain net1;client 0 net2;|settings unknown 2;line 2: no line above declares this domain: "net2";
+domain a;domain b;prefix a 192.0.2.0/24;prefix b 192.0.2.0/25;|settings overlap 3 4;line 4: this prefix overlaps one of another domain, which stands in line 3: "192.0.2.0/25";"#;
+
+/// Scripts and what is told of them.
+const SCRIPTS: &str = r#"
+|events: 0;
+# none;;|events: 0;
+at 1000 from 0 50030002;at 1001 from 0 50030002;|events: 2;
+at 1000 from 0 50030002;at 1000 frm 0 5003;|script line 2: "at 1000 frm 0 5003";line 2: the third word of a line is from: "frm";
+at 1000 from 0 500;|script line 1: "at 1000 from 0 500";line 1: a datagram is 1 to 4096 bytes in hexadecimal, two digits each: "500";
+at 01 from 0 50;|script line 1: "at 01 from 0 50";line 1: the time is a number of seconds below 281474976710656, without leading zeros: "01";
+at 1 from x 50;|script line 1: "at 1 from x 50";line 1: a peer is a number from 0 to 4294967295, without leading zeros: "x";
+at 1 from  0 50;|script line 1: "at 1 from  0 50";line 1: a line is: at SECONDS from PEER HEX, with one space between two fields: "at 1 from  0 50";
+#;at 1 from 0 50|script line 2: "at 1 from 0 50";line 2: the last line does not end with a line feed: "at 1 from 0 50";"#;
+
+/// The text with a line feed in place of each semicolon.
+fn lines(alloc: Global, text: &str) -> Result<Vec<u8>, Fail> {
+    let mut lines = Vec::from_slice(alloc, text.as_bytes())?;
+    for byte in lines.iter_mut() {
+        if *byte == b';' {
+            *byte = b'\n';
+        }
+    }
+    Ok(lines)
+}
+
+/// The text that is told.
+fn told(checked: Checked) -> Bytes {
+    match checked {
+        Checked::Good(text) => text,
+        Checked::AtFault(text) => text,
+    }
+}
+
+/// Whether this is told of the text before the bar, as settings or as a script.
+fn holds(alloc: Global, row: &str, is_script: bool) -> Result<bool, Fail> {
+    let (front, back) = row.split_once('|').ok_or("a row")?;
+    let file = lines(alloc, front)?;
+    let want = lines(alloc, back)?;
+    let mut source = MemorySource::new(alloc, file.as_slice())?;
+    let checked = match is_script {
+        true => check_script(alloc, &mut source),
+        false => check_settings(alloc, &mut source),
+    };
+    Ok(checked.is_ok_and(|checked| told(checked).items() == want.as_slice()))
+}
+
+#[test]
+fn settings_are_told_why(rt: HostRuntime) -> Result<(), Fail> {
+    for row in FAULTS.lines().skip(1) {
+        assert!(rt; holds(rt.alloc(), row, false)?, "at {row}");
+    }
+    Ok(())
+}
+
+#[test]
+fn scripts_are_told_why(rt: HostRuntime) -> Result<(), Fail> {
+    for row in SCRIPTS.lines().skip(1) {
+        assert!(rt; holds(rt.alloc(), row, true)?, "at {row}");
+    }
+    Ok(())
+}
