@@ -2,5 +2,4 @@ pub mod Answering
 pub mod Arrays
 pub mod Ascending
 pub mod Askable
-pub mod Grants
 pub mod OneMeaning

@@ -7,4 +7,3 @@ pub mod Lifetimes
 pub mod Askable
 pub mod Meaning
 pub mod Mitigations
-pub mod Replies

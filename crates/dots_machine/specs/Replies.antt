@@ -8,9 +8,9 @@ use Rattle.coap_message.specs.declared.kind.Kind.TheVariants.{Rst}
 use Rattle.coap_message.specs.Message.{CoapOption, spelling}
 use Rattle.dots_heads.specs.declared.reject.Reject.{Reject}
 use Rattle.dots_heads.specs.declared.reject.Reject.TheVariants as reject
-use Rattle.dots_keys.specs.declared.reply.Reply.TheVariants as reply
 use Rattle.dots_heads.specs.RejectText.{reject_text, reject_code}
-use Rattle.dots_keys.specs.Replies.{reply_tree}
+use Rattle.reply_bodies.specs.declared.reply.Reply.TheVariants as reply
+use Rattle.reply_bodies.specs.Replies.{reply_tree}
 use Rattle.dots_machine.specs.declared.target.TargetFault.{TargetFault}
 use Rattle.dots_machine.specs.declared.exchange.Exchange.{Exchange}
 use Rattle.dots_machine.specs.Targets.{target_text}

@@ -4,8 +4,9 @@ use Rattle.std.proofs.lemmas.Bool.{false≢true}
 use Rattle.std.specs.Int.{w16, w32, w64, to_be_bytes}
 use Rattle.cbor_profile.specs.Head.{following, head}
 use Rattle.cbor_profile.specs.Canon.{canon}
-use Rattle.dots_keys.specs.declared.reply.Reply.TheVariants as reply
-use Rattle.dots_keys.specs.Replies.{integer, reply_tree}
+use Rattle.reply_bodies.specs.declared.reply.Reply.TheVariants as reply
+use Rattle.reply_bodies.specs.Maps.{integer}
+use Rattle.reply_bodies.specs.Replies.{reply_tree}
 
 following_short : (n : ℕ) → length (following n) ≤ 8
 unfolding following

@@ -9,9 +9,9 @@ use coap_message::codes::{
 use coap_message::option_numbers::CONTENT_FORMAT;
 use coap_message::{DOTS_CBOR, Kind, OptionPart, Parts};
 use dots_heads::{MAX_TEXT, Reject};
-use dots_keys::{Reply, body_of};
 use dots_lists::NoMemory;
 use dots_machine::{Exchange, ShortMessage, TargetFault};
+use reply_bodies::{Reply, body_of};
 use std::alloc::Global;
 
 /// The most bytes of the body of a short reply.

@@ -1,6 +1,6 @@
-//! Worked requests of the signal channel: what messages ask, and what they are refused with.
+//! Worked requests and replies of the signal channel: what messages ask, what they are refused with, and the bodies of replies.
 //!
-//! Each is put to the public calls of `dots_keys`. The expected values come from RFC 9132.
+//! Each is put to the public calls of `dots_keys` and `reply_bodies`. The expected values come from RFC 9132.
 #![tactic(auto)]
 
 #[cfg(test)]
@@ -9,5 +9,7 @@ mod bodies;
 mod heads;
 #[cfg(test)]
 mod messages;
+#[cfg(test)]
+mod replies;
 #[cfg(test)]
 mod requests;

@@ -1,9 +1,9 @@
-//! What requests hold, the bodies of replies, and the texts and codes of refusals.
+//! What requests hold, and the texts and codes of refusals.
 
 use crate::messages::{CONFIG, MITIGATION, MITIGATIONS, asked, datagram};
 use cbor_profile::CborFault;
 use coap_message::codes::{BAD_OPTION, BAD_REQUEST, GET, NOT_FOUND, PUT};
-use dots_keys::{Cause, Content, MAX_TEXT, Observe, Reject, Reply, Request, body_of};
+use dots_keys::{Cause, Content, MAX_TEXT, Observe, Reject, Request};
 use std::test::Fail;
 
 /// Whether it is the PUT of the first test.
@@ -67,22 +67,6 @@ fn requests_hold_what_was_sent(rt: HostRuntime) -> Result<(), Fail> {
         &request,
     ));
     assert!(rt; is_observed);
-    Ok(())
-}
-
-/// RFC 9132, section 4.4.1.3.
-#[test]
-fn granted(rt: HostRuntime) -> Result<(), Fail> {
-    for (lifetime, want) in [
-        (
-            3600,
-            b"\xa1\x01\xa1\x02\x81\xa2\x05\x18\x7b\x0e\x19\x0e\x10".as_slice(),
-        ),
-        (-1, b"\xa1\x01\xa1\x02\x81\xa2\x05\x18\x7b\x0e\x20"),
-    ] {
-        let body = body_of(rt.alloc(), &Reply::Granted { mid: 123, lifetime })?;
-        assert_eq!(rt; body.items(), want);
-    }
     Ok(())
 }
 
