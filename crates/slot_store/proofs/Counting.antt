@@ -7,7 +7,7 @@ use Rattle.dots_disk.specs.Becoming.{KeepsMedia, Leaves, RestsWith}
 use Rattle.slot_store.specs.declared.gates.Wanted.TheVariants as wanted
 use Rattle.slot_store.specs.Layout.{place_of, IsHeader, IsHalf, IsBlank, IsJournal, HoldsRecords}
 use Rattle.slot_store.specs.Gates.{is_wanted, NoneIs, IsFirst, Sees}
-use Rattle.slot_store.specs.Standing.{Stands}
+use Rattle.slot_store.specs.Standing.{Stands, IsKnown}
 use Rattle.slot_store.specs.Refusing.{IsOpen, IsCount}
 use Rattle.slot_store.specs.Opening.{Is}
 use Rattle.slot_store.proofs.Steps.{seen_at_rest, rests_as, leaves_then}
@@ -75,6 +75,14 @@ opened_stands new slots digest seen selector used records rests holds count =
         let journal = opened_journal slots digest seen image selector records opened holds in
         let half : IsHalf slots (selector % 2) image records = subst (λ n. IsHalf slots (n % 2) image records) opened.selector_there journal.half in
         record { journal = journal; used = used_is slots (selector % 2) image records used half counted; selector = opened.selector_there }
+
+pub opened_known : (new : Option Media) (slots : ℕ) (digest : List ℕ) (seen : ℕ → ℕ) (selector used : ℕ) → RestsWith new (IsOpen slots digest seen selector)
+    → ((image : ℕ → ℕ) → Sees new image → IsCount slots (selector % 2) image used) → RestsWith new (IsKnown (record { slots = slots; selector = selector; used = used }) digest seen)
+opened_known new slots digest seen selector used rests count =
+    let found = seen_at_rest new (IsOpen slots digest seen selector) rests in
+    let counted = count found.0 (sees_at_rest new found.0 found.1) in
+    rests_as new (Is found.0) (IsKnown (record { slots = slots; selector = selector; used = used }) digest seen)
+    (λ image same. record { opened = subst (IsOpen slots digest seen selector) (sym same) found.2; count = subst (λ image. IsCount slots (selector % 2) image used) (sym same) counted }) found.1
 
 -- while the gates are read, the disk holds what it held
 pub opened_reads : (start mid new : Option Media) (slots : ℕ) (digest : List ℕ) (seen : ℕ → ℕ) (selector : ℕ) (records : List (List ℕ)) → Leaves start mid (λ image. HoldsRecords slots digest image records) → RestsWith mid (IsOpen slots digest seen selector)

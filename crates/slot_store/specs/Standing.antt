@@ -2,6 +2,7 @@
 use Rattle.std.specs.Prelude.{◌≡◌, ℕ, ◌+◌, ◌*◌, ◌/◌, ◌%◌, ◌<◌, ◌≤◌, ◌⊎◌, List, [], ◌∷◌, ◌++◌, length, take, drop, Option, Some, None}
 use Rattle.dots_disk.specs.Media.{bytes_at}
 use Rattle.slot_store.specs.Layout.{IsJournal, HoldsRecords}
+use Rattle.slot_store.specs.Refusing.{IsOpen, IsCount}
 
 -- The number of slots of a half, the selector, and how many slots of the half in use hold a record.
 pub record JournalValue : Type 0 where
@@ -14,6 +15,11 @@ pub record Stands (store : JournalValue) (digest : List ℕ) (records : List (Li
   pub journal : IsJournal store.slots digest image records
   pub used : store.used ≡ length records
   pub selector : image 48 ≡ store.selector
+
+-- What the store knows of a disk that was opened, whatever the disk held: how many slots of the half in use have an open gate before the first that has none.
+pub record IsKnown (store : JournalValue) (digest : List ℕ) (seen image : ℕ → ℕ) : Type 0 where
+  pub opened : IsOpen store.slots digest seen store.selector image
+  pub count : IsCount store.slots (store.selector % 2) image store.used
 
 -- one list of records, or another
 abbrev pub HoldsEither : ℕ → List ℕ → List (List ℕ) → List (List ℕ) → (ℕ → ℕ) → Type 0

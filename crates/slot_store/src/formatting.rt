@@ -48,6 +48,7 @@ pub fn format<D: Disk>(disk: &mut D, slots: u32, digest: &[u8; 32]) -> Result<()
     ensures formatted { OnOk result ((seen : ℕ → ℕ) → RestsWith (D.media disk.old) (Is seen) → seen 0 ≢ 165 →
         RestsWith (D.media disk.new) (λ image. IsJournal slots digest.now image [] × (image 48 ≡ 0))) }
     ensures refused { IfErr result (λ fault. (seen : ℕ → ℕ) → RestsWith (D.media disk.old) (Is seen) → RefusesGates slots seen fault) }
+    ensures unwritten { IfErr result (λ fault. fault ≢ OpenFault.DiskFault → KeepsMedia (D.media disk.old) (D.media disk.new)) }
     ensures extent { D.extent disk.new ≡ D.extent disk.old }
     ensures cause { Caused (D.faults disk.old) (D.faults disk.new) result }
     ensures beside { D.beside disk.old disk.new }
@@ -91,6 +92,7 @@ fn open_found<D: Disk>(
         found.now ≡ bytes_at seen 0 64 → RestsWith (D.media disk.new) (IsOpen slots digest.now seen selector)) }
     ensures refused { IfErr result (λ fault. (seen : ℕ → ℕ) → RestsWith (D.media disk.old) (Is seen) →
         found.now ≡ bytes_at seen 0 64 → RefusesDisk slots digest.now seen fault) }
+    ensures unwritten { IfErr result (λ fault. fault ≢ OpenFault.DiskFault → KeepsMedia (D.media disk.old) (D.media disk.new)) }
     ensures extent { D.extent disk.new ≡ D.extent disk.old }
     ensures cause { Caused (D.faults disk.old) (D.faults disk.new) result }
     ensures beside { D.beside disk.old disk.new }
@@ -116,6 +118,8 @@ pub fn open_header<D: Disk>(disk: &mut D, slots: u32, digest: &[u8; 32]) -> Resu
         RestsWith (D.media disk.new) (IsOpen slots digest.now seen selector)) }
     ensures refused { IfErr result (λ fault. (seen : ℕ → ℕ) → Sees (D.media disk.old) seen →
         RefusesDisk slots digest.now seen fault) }
+    ensures unwritten { IfErr result (λ fault. (seen : ℕ → ℕ) → fault ≢ OpenFault.DiskFault →
+        RestsWith (D.media disk.old) (Is seen) → RestsWith (D.media disk.new) (Is seen)) }
     ensures extent { D.extent disk.new ≡ D.extent disk.old }
     ensures cause { Caused (D.faults disk.old) (D.faults disk.new) result }
     ensures beside { D.beside disk.old disk.new }

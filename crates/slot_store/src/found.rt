@@ -1,6 +1,6 @@
 //! The record of a slot, as it stands on a disk.
 
-ghost use Rattle.std.specs.Prelude.{◌≡◌, ℕ, ◌+◌, ◌≤◌, IfOk};
+ghost use Rattle.std.specs.Prelude.{◌≡◌, ℕ, ◌+◌, ◌≤◌, IfOk, MatchOption};
 ghost use Rattle.dots_host.specs.Causes.{HasCause};
 ghost use Rattle.dots_disk.specs.Becoming.{KeepsMedia};
 ghost use Rattle.slot_store.specs.Gates.{Sees};
@@ -19,6 +19,7 @@ pub fn read_slot<D: Disk>(
 ) -> Result<Option<usize>, Failed>
     requires { at + 8192 ≤ D.extent disk.old }
     ensures record { IfOk result (λ found. (seen : ℕ → ℕ) → Sees (D.media disk.old) seen → IsFound seen at room.new found) }
+    ensures fits { IfOk result (λ found. MatchOption found (Unit {0}) (λ len. len ≤ 8189)) }
     ensures keeps { KeepsMedia (D.media disk.old) (D.media disk.new) }
     ensures extent { D.extent disk.new ≡ D.extent disk.old }
     ensures cause { HasCause (D.faults disk.old) (D.faults disk.new) result }

@@ -1,11 +1,11 @@
-ghost use Rattle.std.specs.Prelude.{◌≡◌, ℕ, ◌+◌, ◌*◌, ◌%◌, ◌<◌, ◌≤◌, List, [], ◌∷◌, ◌++◌, length, IfOk, IfErr, OnOk, OnErr};
+ghost use Rattle.std.specs.Prelude.{◌≡◌, ◌≢◌, ℕ, ◌+◌, ◌*◌, ◌%◌, ◌<◌, ◌≤◌, List, [], ◌∷◌, ◌++◌, length, IfOk, IfErr, OnOk, OnErr};
 ghost use Rattle.dots_host.specs.Causes.{HasCause};
 ghost use Rattle.dots_disk.specs.Becoming.{Leaves, RestsWith};
 ghost use Rattle.slot_store.specs.Layout.{place_of, needed_of, HoldsRecords};
 ghost use Rattle.slot_store.specs.Opening.{Is};
 ghost use Rattle.slot_store.specs.Gates.{Sees};
 ghost use Rattle.slot_store.specs.Refusing.{Refuses, Caused};
-ghost use Rattle.slot_store.specs.Standing.{Stands, HoldsEither};
+ghost use Rattle.slot_store.specs.Standing.{Stands, IsKnown, HoldsEither};
 ghost use Rattle.slot_store.specs.Copying.{AreSlots, kept_of, other_selector};
 
 use crate::copying::move_half;
@@ -60,8 +60,14 @@ impl SlotStore {
         ensures opened { IfOk result (λ store. (seen : ℕ → ℕ) (records : List (List ℕ)) → Sees (D.media disk.old) seen →
             HoldsRecords slots digest.now seen records → RestsWith (D.media disk.new) (Stands store digest.now records)) }
         ensures size { IfOk result (λ store. (store.slots ≡ slots) × (needed_of slots ≤ D.extent disk.new)) }
+        ensures known { IfOk result (λ store. (seen : ℕ → ℕ) → Sees (D.media disk.old) seen →
+            RestsWith (D.media disk.new) (IsKnown store digest.now seen)) }
         ensures refused { IfErr result (λ fault. (seen : ℕ → ℕ) → Sees (D.media disk.old) seen →
             Refuses slots digest.now (D.extent disk.old) seen fault) }
+
+        // Where it is refused, and no call of the disk failed, nothing was written.
+        ensures unwritten { IfErr result (λ fault. (seen : ℕ → ℕ) → fault ≢ OpenFault.DiskFault →
+            RestsWith (D.media disk.old) (Is seen) → RestsWith (D.media disk.new) (Is seen)) }
 
         ensures extent { D.extent disk.new ≡ D.extent disk.old }
         ensures cause { Caused (D.faults disk.old) (D.faults disk.new) result }
@@ -87,7 +93,8 @@ impl SlotStore {
 
     /// How many slots of the half in use hold a record.
     pub fn used(&self) -> u32
-        ensures { result ≡ self.now.used }
+        ensures used { result ≡ self.now.used }
+        ensures fits { result ≤ self.now.slots }
     {
         self.used
     }

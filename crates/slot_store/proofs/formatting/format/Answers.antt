@@ -1,4 +1,4 @@
-use Rattle.std.proofs.Common.{arith, ◌≡◌, length}
+use Rattle.std.proofs.Common.{arith, refl, ◌≡◌, length}
 use Rattle.slot_store.proofs.Reading.{sees_at_rest}
 use Rattle.slot_store.proofs.HeaderLemmas.{is_rest}
 use Rattle.slot_store.proofs.FormatLemmas.{format_reads, format_leaves, format_rests}
@@ -25,3 +25,6 @@ pub returns-in-Err-clause-moments : goal.returns-in-Err-clause-moments
 returns-in-Err-clause-moments g c = λ seen rests blank.
     let size : length c.header-header.result ≡ 64 = omega arith in
     format_leaves _ _ _ c.args.slots c.args.digest.now _ seen (is_rest c.args.slots c.args.digest.now c.header-header.result size c.header-header.ensures.bytes c.header-header.ensures.selector) c.in_ok-check_gates.ensures.keeps c.in-Err.ensures.moments rests blank
+
+pub returns-in-Err-clause-unwritten : goal.returns-in-Err-clause-unwritten
+returns-in-Err-clause-unwritten g c = λ other. absurd (other refl)

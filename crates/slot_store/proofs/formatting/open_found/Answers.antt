@@ -3,6 +3,7 @@ use Rattle.std.proofs.lemmas.Result.{err_from_is_err_and}
 use Rattle.slot_store.specs.Layout.{HoldsRecords}
 use Rattle.slot_store.specs.Opening.{Is}
 use Rattle.slot_store.proofs.Steps.{begins}
+use Rattle.slot_store.proofs.Reading.{reads_none}
 use Rattle.slot_store.proofs.OpenLemmas.{found_byte, gate_closed, holds_formatted, header_seen, header_refuses, gates_refuse, open_formatted, open_as_it_was}
 use Rattle.slot_store.proofs.formatting.open_found.Goals as goal
 
@@ -38,3 +39,13 @@ pub returns-in_err-check_header-clause-refused : goal.returns-in_err-check_heade
 returns-in_err-check_header-clause-refused g c =
     let p = err_from_is_err_and c.from_residual-in_err-check_header.result c.from_residual-in_err-check_header.ensures.1 in
     rw (p.1, p.2) (λ seen rests read. header_refuses c.args.slots c.args.digest.now seen c.args.found.now _ read c.if-gate.false c.in_err-check_header.ensures.err)
+
+pub returns-in_err-format-clause-unwritten : goal.returns-in_err-format-clause-unwritten
+returns-in_err-format-clause-unwritten g c =
+    let p = err_from_is_err_and c.from_residual.result c.from_residual.ensures.1 in
+    rw (p.1, p.2) c.in_err-format.ensures.unwritten
+
+pub returns-in_err-check_header-clause-unwritten : goal.returns-in_err-check_header-clause-unwritten
+returns-in_err-check_header-clause-unwritten g c =
+    let p = err_from_is_err_and c.from_residual-in_err-check_header.result c.from_residual-in_err-check_header.ensures.1 in
+    rw (p.1, p.2) (λ other. reads_none _)

@@ -1,11 +1,12 @@
-use Rattle.std.proofs.Common.{ℕ, ◌≡◌}
+use Rattle.std.proofs.Common.{ℕ, ◌≡◌, ◌≢◌, refl}
 use Rattle.dots_disk.specs.Media.{bytes_at}
-use Rattle.dots_disk.specs.Becoming.{RestsWith}
+use Rattle.dots_disk.specs.Becoming.{KeepsMedia, RestsWith}
 use Rattle.slot_store.specs.Gates.{Sees}
 use Rattle.slot_store.specs.Opening.{Is}
 use Rattle.slot_store.specs.Refusing.{RefusesDisk, IsOpen}
 use Rattle.slot_store.specs.Layout.{HoldsRecords}
-use Rattle.slot_store.proofs.Reading.{sees_at_rest}
+use Rattle.slot_store.specs.declared.fault.OpenFault.TheVariants as OpenFault
+use Rattle.slot_store.proofs.Reading.{sees_at_rest, rests_kept}
 use Rattle.slot_store.proofs.Steps.{leaves_then}
 use Rattle.slot_store.proofs.OpenLemmas.{holds_still, if_ok_as, if_err_as}
 use Rattle.slot_store.proofs.formatting.open_header.Goals as goal
@@ -29,3 +30,12 @@ returns-in-Ok-clause-refused g c = if_err_as c.open_found.result
 
 pub returns-in-Err-clause-moments : goal.returns-in-Err-clause-moments
 returns-in-Err-clause-moments g c = λ seen records rests holds. holds_still _ _ c.args.slots c.args.digest.now seen records (c.in-Err.ensures.moments seen rests) holds
+
+pub returns-in-Ok-clause-unwritten : goal.returns-in-Ok-clause-unwritten
+returns-in-Ok-clause-unwritten g c = if_err_as c.open_found.result
+    (λ fault. fault ≢ OpenFault.DiskFault → KeepsMedia (g.D.Disk.media c.read_header.new.disk) (g.D.Disk.media c.open_found.new.disk))
+    (λ fault. (seen : ℕ → ℕ) → fault ≢ OpenFault.DiskFault → RestsWith (g.D.Disk.media c.args.disk.now) (Is seen) → RestsWith (g.D.Disk.media c.open_found.new.disk) (Is seen))
+    (λ fault keeps seen other rests. rests_kept _ _ (Is seen) (keeps other) (c.in-Ok.ensures.rests seen (sees_at_rest _ seen rests))) c.open_found.ensures.unwritten
+
+pub returns-in-Err-clause-unwritten : goal.returns-in-Err-clause-unwritten
+returns-in-Err-clause-unwritten g c = λ seen other rests. absurd (other refl)

@@ -1,9 +1,10 @@
+use Rattle.std.proofs.Common.{refl}
 use Rattle.std.proofs.lemmas.Result.{err_from_is_err_and}
 use Rattle.slot_store.specs.Layout.{HoldsRecords}
 use Rattle.slot_store.proofs.Steps.{begins}
 use Rattle.slot_store.proofs.Reading.{sees_at_rest, rests_kept}
 use Rattle.slot_store.proofs.OpenLemmas.{disk_refuses}
-use Rattle.slot_store.proofs.Counting.{opened_reads, opened_stands}
+use Rattle.slot_store.proofs.Counting.{opened_reads, opened_stands, opened_known}
 use Rattle.slot_store.proofs.store.SlotStore.open.Goals as goal
 
 pub returns-then-found-needed-clause-moments : goal.returns-then-found-needed-clause-moments
@@ -36,3 +37,17 @@ returns-clause-moments g c = λ seen records rests holds.
 pub returns-clause-opened : goal.returns-clause-opened
 returns-clause-opened g c = λ seen records sees holds.
     rests_kept _ _ _ c.in_ok-used.ensures.keeps (opened_stands _ c.args.slots c.args.digest.now seen c.in_ok-selector.selector c.in_ok-used.used records (c.in_ok-selector.ensures.opened seen sees) holds c.in_ok-used.ensures.count)
+
+pub returns-clause-known : goal.returns-clause-known
+returns-clause-known g c = λ seen sees.
+    rests_kept _ _ _ c.in_ok-used.ensures.keeps (opened_known _ c.args.slots c.args.digest.now seen c.in_ok-selector.selector c.in_ok-used.used (c.in_ok-selector.ensures.opened seen sees) c.in_ok-used.ensures.count)
+
+pub returns-in_err-selector-clause-unwritten : goal.returns-in_err-selector-clause-unwritten
+returns-in_err-selector-clause-unwritten g c =
+    let p = err_from_is_err_and c.from_residual.result c.from_residual.ensures.1 in
+    rw (p.1, p.2) (c.in_err-selector.ensures.unwritten)
+
+pub returns-in_err-used-clause-unwritten : goal.returns-in_err-used-clause-unwritten
+returns-in_err-used-clause-unwritten g c =
+    let p = err_from_is_err_and c.from_residual-in_err-used.result c.from_residual-in_err-used.ensures.1 in
+    rw (p.1, p.2, c.in_err-used.ensures.fault) (λ seen other rests. absurd (other refl))

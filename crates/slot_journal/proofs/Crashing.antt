@@ -1,0 +1,160 @@
+-- What is left of a disk at a moment of calls, and what is recovered of it.
+use Rattle.std.proofs.Common.{◌≡◌, ◌≢◌, ◌⊎◌, inl, inr, ℕ, zero, suc, ◌+◌, ◌*◌, ◌%◌, ◌<◌, ◌≤◌, List, [], ◌∷◌, ◌++◌, length, map, get_or, Option, Some, None, refl, sym, ap, subst, ◌∙◌, arith}
+use Rattle.std.specs.List.{AllByRecursion}
+use Rattle.std.proofs.lemmas.List.{append_cancel_left, length-map}
+use Rattle.std.proofs.lemmas.Bool.{cases_lt}
+use Rattle.std.proofs.Math.Path.{fun_ext}
+use Rattle.dots_disk.specs.Media.{Medium, Media, IsImage, all_media}
+use Rattle.dots_disk.specs.Becoming.{EachMedium, Leaves, RestsWith}
+use Rattle.dots_settings.specs.Settings.{SettingsValue}
+use Rattle.dots_history.specs.declared.entry.Entry.{Entry}
+use Rattle.entry_records.specs.Layout.{record_bytes}
+use Rattle.entry_records.specs.Records.{IsRecord}
+use Rattle.entry_records.proofs.Places.{one_entry}
+use Rattle.slot_store.specs.declared.fault.OpenFault.TheVariants as opening
+use Rattle.slot_store.specs.Layout.{place_of, IsHeader, IsSlot, IsHalf, IsBlank, IsJournal, HoldsRecords, header_of}
+use Rattle.slot_store.specs.Standing.{JournalValue}
+use Rattle.slot_store.specs.Refusing.{RefusesDisk, IsOtherHeader, IsStrayGate, IsOfOthers, FirstWrong, front, rest, size}
+use Rattle.slot_store.proofs.Steps.{Images, image_at_rest, rests_as}
+use Rattle.slot_store.proofs.Keeping.{gate_of_header, one_list}
+use Rattle.slot_journal.specs.declared.fault.JournalFault.{JournalFault}
+use Rattle.slot_journal.specs.declared.fault.JournalFault.TheVariants as fault
+use Rattle.slot_journal.specs.Sizes.{slots_of}
+use Rattle.slot_journal.specs.Held.{HasRecord, AreWithin, Holds, HoldsEither, StandsFor, records_of}
+use Rattle.slot_journal.specs.Left.{IsLeftOf, IsLeft}
+use Rattle.slot_journal.proofs.Writing.{holds}
+use Rattle.slot_journal.specs.Refused.{Refuses, IsRefusal, IsBadSlot, IsGap, HoldsFirst, IsStray}
+
+-- ---- an image at a moment
+
+among : (earlier : List Medium) (medium : Medium) (later : List Medium) (P : Medium → Type 0) → EachMedium (earlier ++ medium ∷ later) P → P medium
+among [] medium later P each = each.0
+among (first ∷ earlier) medium later P each = among earlier medium later P each.1
+
+pub left_has : (old new : Option Media) (P : (ℕ → ℕ) → Type 0) (image : ℕ → ℕ) → RestsWith old P → Leaves old new P → IsLeft old new image → P image
+left_has None new P image rests leaves left = absurd rests
+left_has (Some old) None P image rests leaves left = absurd leaves
+left_has (Some old) (Some new) P image rests leaves left =
+    let same : leaves.0 ≡ left.added = append_cancel_left (all_media old) leaves.0 left.added (sym leaves.1 ∙ left.grown) in
+    let each : EachMedium (old.now ∷ left.added) (Images P) = (first, subst (λ media. EachMedium media (Images P)) same leaves.2) in
+    among left.earlier left.medium left.later (Images P) (subst (λ media. EachMedium media (Images P)) left.moment each) image left.is
+  where
+    first : Images P old.now
+    first image of = subst P (sym (fun_ext (image_at_rest old.now image rests.0 of))) rests.1
+
+-- ---- one list of entries
+
+pub same_entries : (first second : List Entry) → AllByRecursion HasRecord first → AllByRecursion HasRecord second → records_of first ≡ records_of second
+    → ((bytes : List ℕ) (one other : Entry) → IsRecord bytes one → IsRecord bytes other → one ≡ other) → first ≡ second
+same_entries [] [] all each same unique = refl
+same_entries [] (other ∷ second) all each same unique = absurd (no_nil (sym same))
+  where
+    no_nil : records_of (other ∷ second) ≡ [] → ⊥
+    no_nil is = let size : length (records_of (other ∷ second)) ≡ 0 = ap (length {A = List ℕ}) is in omega (arith, size)
+same_entries (one ∷ first) [] all each same unique = absurd (no_nil same)
+  where
+    no_nil : records_of (one ∷ first) ≡ [] → ⊥
+    no_nil is = let size : length (records_of (one ∷ first)) ≡ 0 = ap (length {A = List ℕ}) is in omega (arith, size)
+same_entries (one ∷ first) (other ∷ second) all each same unique =
+    let here : record_bytes one ≡ record_bytes other = ap head same in
+    let later : records_of first ≡ records_of second = ap tail same in
+    let entry : one ≡ other = unique (record_bytes one) one other (record { typed = all.0.typed; within = all.0.within; is = refl }) (record { typed = each.0.typed; within = each.0.within; is = here }) in
+    ap (λ entry. entry ∷ first) entry ∙ ap (λ rest. other ∷ rest) (same_entries first second all.1 each.1 later unique)
+  where
+    head : List (List ℕ) → List ℕ
+    head [] = []
+    head (x ∷ xs) = x
+
+    tail : List (List ℕ) → List (List ℕ)
+    tail [] = []
+    tail (x ∷ xs) = xs
+
+-- ---- a disk that holds a list isn't refused
+
+blank_refused : (slots : ℕ) (image : ℕ → ℕ) (at : ℕ) → IsBlank slots image [] → IsStrayGate slots image at → ⊥
+blank_refused slots image at blank stray = stray.wrong (ap image stray.slot.4 ∙ blank.gates stray.slot.0 stray.slot.1 stray.slot.2 stray.slot.3)
+
+fits_not : (slots : ℕ) (digest : List ℕ) (image : ℕ → ℕ) (from to at : ℕ) → to ≤ 48 → IsHeader slots digest image → FirstWrong slots digest image from to at → ⊥
+fits_not slots digest image from to at low header wrong =
+    let high = wrong.high in
+    wrong.wrong (header at (omega (arith, high, low)) (λ is. absurd (omega (arith, high, low, is))))
+
+rest_not : (slots : ℕ) (digest : List ℕ) (image : ℕ → ℕ) (at : ℕ) → IsHeader slots digest image → FirstWrong slots digest image 49 64 at → ⊥
+rest_not slots digest image at header wrong =
+    let high = wrong.high in
+    let low = wrong.low in
+    wrong.wrong (header at (omega (arith, high)) (λ is. absurd (omega (arith, low, is))))
+
+header_refused : (slots : ℕ) (digest : List ℕ) (image : ℕ → ℕ) (at : ℕ) → IsHeader slots digest image → IsOtherHeader slots digest image at → ⊥
+header_refused slots digest image at header (front wrong) = fits_not slots digest image 1 12 at (omega arith) header wrong
+header_refused slots digest image at header (rest fits wrong) = rest_not slots digest image at header wrong
+header_refused slots digest image at header (size form fits wrong) = fits_not slots digest image 12 16 at (omega arith) header wrong
+
+bad_refused : (slots half : ℕ) (image : ℕ → ℕ) (entries : List Entry) (at : ℕ) → IsHalf slots half image (records_of entries) → AllByRecursion HasRecord entries → IsBadSlot slots half image at → ⊥
+bad_refused slots half image entries at is each bad = elim (cases_lt (length bad.before) (length (records_of entries))) [
+  | inl under ↦
+      let few = under in
+      let low : length bad.before < length entries = omega (arith, few, length-map entries record_bytes) in
+      let found = entry_of_slot entries (length bad.before) low each in
+      bad.stray (record_bytes found.0) found.0 (subst (λ place. IsSlot image place (record_bytes found.0)) (sym bad.there) (subst (IsSlot image (place_of slots half (length bad.before))) found.1 (is.held (length bad.before) under))) (record { typed = found.2.typed; within = found.2.within; is = refl })
+  | inr over ↦ is.closed (length bad.before) (omega (arith, over)) bad.within (ap image (sym bad.there) ∙ bad.gate)
+]
+  where
+    entry_of_slot : (entries : List Entry) (slot : ℕ) → slot < length entries → AllByRecursion HasRecord entries → (entry : Entry) × (get_or (records_of entries) slot [] ≡ record_bytes entry) × HasRecord entry
+    entry_of_slot [] slot under all = absurd (omega (arith, under))
+    entry_of_slot (entry ∷ entries) zero under all = (entry, refl, all.0)
+    entry_of_slot (entry ∷ entries) (suc slot) under all = entry_of_slot entries slot (omega (arith, under)) all.1
+
+gap_refused : (slots half : ℕ) (image : ℕ → ℕ) (records : List (List ℕ)) (at : ℕ) → IsHalf slots half image records → IsGap slots half image at → ⊥
+gap_refused slots half image records at is gap = elim (cases_lt gap.slot (length records)) [
+  | inl under ↦
+      let behind = gap.behind in
+      let low : length gap.before < length records = omega (arith, behind, under) in
+      gap.closed (length gap.before) (omega arith) behind (is.held (length gap.before) low).gate
+  | inr over ↦ is.closed gap.slot (omega (arith, over)) gap.within (ap image (sym gap.there) ∙ gap.gate)
+]
+
+pub held_not_refused : (settings : SettingsValue) (extent : ℕ) (image : ℕ → ℕ) (entries : List Entry) (why : JournalFault) → Holds settings image entries → Refuses settings extent image why → IsRefusal why → ⊥
+held_not_refused settings extent image entries (fault.NotOurs at) holds refuses refusal = by_cases holds.records refuses
+  where
+    by_cases : HoldsRecords (slots_of settings) settings.digest image (records_of entries) → Refuses settings extent image (fault.NotOurs at) → ⊥
+    by_cases (inl blank) (inl (inl gates)) = blank_refused (slots_of settings) image at (record { gate = blank.gate; gates = blank.gates; none = refl }) gates.1
+    by_cases (inl blank) (inl (inr header)) = blank.gate header.0
+    by_cases (inl blank) (inr half) = blank.gate (gate_of_header (slots_of settings) settings.digest image half.0)
+    by_cases (inr journal) (inl (inl gates)) = gates.0 (gate_of_header (slots_of settings) settings.digest image journal.header)
+    by_cases (inr journal) (inl (inr header)) = header_refused (slots_of settings) settings.digest image at journal.header header.1
+    by_cases (inr journal) (inr (header, inl bad)) = bad_refused (slots_of settings) (image 48 % 2) image entries at journal.half holds.each bad
+    by_cases (inr journal) (inr (header, inr gap)) = gap_refused (slots_of settings) (image 48 % 2) image (records_of entries) at journal.half gap
+held_not_refused settings extent image entries (fault.SettingsChanged stored given) holds refuses refusal = by_cases holds.records
+  where
+    by_cases : HoldsRecords (slots_of settings) settings.digest image (records_of entries) → ⊥
+    by_cases (inl blank) = blank.gate refuses.0.0
+    by_cases (inr journal) = fits_not (slots_of settings) settings.digest image 16 48 refuses.0.1.wrong.0 (omega arith) journal.header refuses.0.1.wrong.1
+held_not_refused settings extent image entries (fault.TooSmall needed bytes) holds refuses refusal = absurd refusal
+held_not_refused settings extent image entries fault.DiskFault holds refuses refusal = absurd refusal
+held_not_refused settings extent image entries fault.NoMemory holds refuses refusal = absurd refusal
+
+-- ---- what is recovered after a crash
+
+stands_holds : (journal : JournalValue) (settings : SettingsValue) (entries : List Entry) (image : ℕ → ℕ) → StandsFor journal settings entries image → Holds settings image entries
+stands_holds journal settings entries image is = holds settings journal.slots image (records_of entries) entries is.slots (record { same = refl; each = is.each }) (inr is.stands.journal)
+
+pub left_holds : (old new : Option Media) (journal : JournalValue) (settings : SettingsValue) (before after : List Entry) (image : ℕ → ℕ) → RestsWith old (StandsFor journal settings before) → Leaves old new (HoldsEither settings before after) → IsLeft old new image → HoldsEither settings before after image
+left_holds old new journal settings before after image rests leaves left =
+    left_has old new (HoldsEither settings before after) image (rests_as old (StandsFor journal settings before) (HoldsEither settings before after) (λ image is. inl (stands_holds journal settings before image is)) rests) leaves left
+
+pub one_history : (settings : SettingsValue) (image : ℕ → ℕ) (first second : List Entry) → Holds settings image first → Holds settings image second → first ≡ second
+one_history settings image first second one other = same_entries first second one.each other.each (one_list (slots_of settings) settings.digest image (records_of first) (records_of second) one.records other.records) one_entry
+
+pub survived : (settings : SettingsValue) (before after found : List Entry) (image : ℕ → ℕ) → HoldsEither settings before after image → Holds settings image found → (found ≡ before) ⊎ (found ≡ after)
+survived settings before after found image (inl is) held = inl (one_history settings image found before held is)
+survived settings before after found image (inr is) held = inr (one_history settings image found after held is)
+
+pub left_not_refused : (settings : SettingsValue) (extent : ℕ) (before after : List Entry) (image : ℕ → ℕ) (why : JournalFault) → HoldsEither settings before after image → Refuses settings extent image why → IsRefusal why → ⊥
+left_not_refused settings extent before after image why (inl is) refuses refusal = held_not_refused settings extent image before why is refuses refusal
+left_not_refused settings extent before after image why (inr is) refuses refusal = held_not_refused settings extent image after why is refuses refusal
+
+-- what has a record is within bounds
+pub are_within : (entries : List Entry) → AllByRecursion HasRecord entries → AreWithin entries
+are_within [] all = tt
+are_within (entry ∷ entries) all = (all.0.within, are_within entries all.1)

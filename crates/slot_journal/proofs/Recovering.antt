@@ -1,0 +1,169 @@
+-- How a disk is recovered: what was opened and read is what the disk held.
+use Rattle.std.proofs.Common.{◌≡◌, ◌≢◌, ◌⊎◌, inl, inr, ℕ, ◌+◌, ◌*◌, ◌%◌, ◌<◌, ◌≤◌, List, [], ◌∷◌, length, map, Option, refl, sym, ap, subst, ◌∙◌, arith}
+use Rattle.std.specs.Prelude.{⊤, Err}
+use Rattle.std.specs.List.{AllByRecursion}
+use Rattle.std.proofs.lemmas.List.{length-map}
+use Rattle.dots_disk.specs.Media.{Media}
+use Rattle.dots_disk.specs.Becoming.{KeepsMedia, Leaves, RestsWith}
+use Rattle.dots_settings.specs.Settings.{SettingsValue}
+use Rattle.dots_history.specs.declared.entry.Entry.{Entry}
+use Rattle.entry_records.specs.Layout.{record_bytes}
+use Rattle.slot_store.specs.declared.fault.OpenFault.{OpenFault}
+use Rattle.slot_store.specs.declared.fault.OpenFault.TheVariants as opening
+use Rattle.slot_store.specs.Layout.{place_of, IsHeader, IsHalf, IsBlank, IsJournal, HoldsRecords}
+use Rattle.slot_store.specs.Opening.{Is}
+use Rattle.slot_store.specs.Gates.{Sees}
+use Rattle.slot_store.specs.Refusing.{Refuses as RefusesStore, IsOpen, IsCount, Caused as CausedOpening}
+use Rattle.slot_store.specs.Standing.{JournalValue, Stands, IsKnown}
+use Rattle.slot_store.proofs.Steps.{leaves_as, leaves_then, seen_at_rest, rests_as}
+use Rattle.slot_store.proofs.Reading.{sees_at_rest, rests_kept, leaves_kept}
+use Rattle.slot_store.proofs.Counting.{opened_journal}
+use Rattle.slot_store.proofs.Keeping.{one_list}
+use Rattle.slot_journal.specs.declared.fault.JournalFault.{JournalFault}
+use Rattle.slot_journal.specs.declared.fault.JournalFault.TheVariants as fault
+use Rattle.slot_journal.specs.Sizes.{slots_of}
+use Rattle.slot_journal.specs.Held.{HasRecord, Holds, StandsFor, records_of}
+use Rattle.slot_journal.specs.Refused.{Refuses, RefusesHalf, IsBadSlot, IsGap, IsToldAs, Caused}
+use Rattle.slot_journal.proofs.Writing.{AreOf, holds}
+
+-- ---- the faults of the slots
+
+pub told_refuses : (settings : SettingsValue) (extent : ℕ) (seen : ℕ → ℕ) (why : OpenFault) (told : JournalFault) → IsToldAs why settings.digest told → RefusesStore (slots_of settings) settings.digest extent seen why → Refuses settings extent seen told
+told_refuses settings extent seen (opening.TooSmall needed found) told is refuses = subst (Refuses settings extent seen) (sym is) refuses
+told_refuses settings extent seen (opening.NotOurs at) told is refuses = subst (Refuses settings extent seen) (sym is) (inl refuses)
+told_refuses settings extent seen (opening.SettingsChanged stored) told is refuses = subst (Refuses settings extent seen) (sym is) (refuses, refl)
+told_refuses settings extent seen opening.DiskFault told is refuses = subst (Refuses settings extent seen) (sym is) tt
+told_refuses settings extent seen opening.NoMemory told is refuses = subst (Refuses settings extent seen) (sym is) tt
+
+pub told_other : (why : OpenFault) (given : List ℕ) (told : JournalFault) → IsToldAs why given told → told ≢ fault.DiskFault → why ≢ opening.DiskFault
+told_other why given told is other same = other (subst (λ why. IsToldAs why given told) same is)
+
+pub told_caused : (why : OpenFault) (given : List ℕ) (told : JournalFault) (before now : ℕ) → IsToldAs why given told → CausedOpening {A = ⊤} before now (Err why) → Caused {A = ⊤} before now (Err told)
+told_caused (opening.TooSmall needed found) given told before now is cause = subst (λ told. Caused {A = ⊤} before now (Err told)) (sym is) cause
+told_caused (opening.NotOurs at) given told before now is cause = subst (λ told. Caused {A = ⊤} before now (Err told)) (sym is) cause
+told_caused (opening.SettingsChanged stored) given told before now is cause = subst (λ told. Caused {A = ⊤} before now (Err told)) (sym is) cause
+told_caused opening.DiskFault given told before now is cause = subst (λ told. Caused {A = ⊤} before now (Err told)) (sym is) cause
+told_caused opening.NoMemory given told before now is cause = subst (λ told. Caused {A = ⊤} before now (Err told)) (sym is) cause
+
+-- ---- a half that was read of a disk that was opened
+
+half_of : (slots half other : ℕ) (image : ℕ → ℕ) (records : List (List ℕ)) → half ≡ other → IsHalf slots half image records → IsHalf slots other image records
+half_of slots half other image records same is = subst (λ half. IsHalf slots half image records) same is
+
+pub record IsRead (settings : SettingsValue) (store : JournalValue) (entries : List Entry) (seen image : ℕ → ℕ) : Type 0 where
+  pub journal : IsJournal store.slots settings.digest image (records_of entries)
+  pub held : HoldsRecords store.slots settings.digest seen (records_of entries)
+
+pub is_read : (settings : SettingsValue) (store : JournalValue) (entries : List Entry) (seen image : ℕ → ℕ) → IsKnown store settings.digest seen image → IsHalf store.slots (store.selector % 2) image (records_of entries) → IsRead settings store entries seen image
+is_read settings store entries seen image known half = by_cases known.opened.cases
+  where
+    here : IsHalf store.slots (image 48 % 2) image (records_of entries)
+    here = half_of store.slots (store.selector % 2) (image 48 % 2) image (records_of entries) (ap (λ n. n % 2) (sym known.opened.selector_there)) half
+
+    by_cases : (IsHeader store.slots settings.digest seen × (image ≡ seen)) ⊎ (IsBlank store.slots seen [] × IsJournal store.slots settings.digest image []) → IsRead settings store entries seen image
+    by_cases (inl as_it_was) =
+        let journal : IsJournal store.slots settings.digest image (records_of entries) = record { header = subst (IsHeader store.slots settings.digest) (sym as_it_was.1) as_it_was.0; half = here } in
+        record { journal = journal; held = inr (subst (λ image. IsJournal store.slots settings.digest image (records_of entries)) as_it_was.1 journal) }
+    by_cases (inr formatted) =
+        let journal : IsJournal store.slots settings.digest image (records_of entries) = record { header = formatted.1.header; half = here } in
+        record { journal = journal; held = inl (record { gate = formatted.0.gate; gates = formatted.0.gates; none = one_list store.slots settings.digest image (records_of entries) [] (inr journal) (inr formatted.1) }) }
+
+pub record IsRecovered (settings : SettingsValue) (store : JournalValue) (entries : List Entry) (seen : ℕ → ℕ) (new : Option Media) : Type 0 where
+  pub held : Holds settings seen entries
+  pub rests : RestsWith new (StandsFor store settings entries)
+
+pub recovered : (mid new : Option Media) (settings : SettingsValue) (store : JournalValue) (entries : List Entry) (seen : ℕ → ℕ) → store.slots ≡ slots_of settings → RestsWith mid (IsKnown store settings.digest seen) → KeepsMedia mid new
+    → length entries ≡ store.used → AllByRecursion HasRecord entries
+    → ((image : ℕ → ℕ) → Sees mid image → IsCount store.slots (store.selector % 2) image store.used → IsHalf store.slots (store.selector % 2) image (records_of entries))
+    → IsRecovered settings store entries seen new
+recovered mid new settings store entries seen size known keeps count each half =
+    let found = seen_at_rest mid (IsKnown store settings.digest seen) known in
+    let read = is_read settings store entries seen found.0 found.2 (half found.0 (sees_at_rest mid found.0 found.1) found.2.count) in
+    let used : store.used ≡ length (records_of entries) = sym count ∙ sym (length-map entries record_bytes) in
+    let stands : StandsFor store settings entries found.0 = record {
+      slots = size;
+      stands = record { journal = read.journal; used = used; selector = found.2.opened.selector_there };
+      each = each;
+    } in
+    record {
+      held = holds settings store.slots seen (records_of entries) entries size (record { same = refl; each = each }) read.held;
+      rests = rests_kept mid new (StandsFor store settings entries) keeps (rests_as mid (Is found.0) (StandsFor store settings entries) (λ image same. subst (StandsFor store settings entries) (sym same) stands) found.1);
+    }
+
+-- ---- what is held stays held
+
+pub holds_opening : (start mid : Option Media) (settings : SettingsValue) (entries : List Entry) → AllByRecursion HasRecord entries → Leaves start mid (λ image. HoldsRecords (slots_of settings) settings.digest image (records_of entries)) → Leaves start mid (λ image. Holds settings image entries)
+holds_opening start mid settings entries each leaves =
+    leaves_as start mid (λ image. HoldsRecords (slots_of settings) settings.digest image (records_of entries)) (λ image. Holds settings image entries) (λ image is. record { records = is; each = each }) leaves
+
+pub holds_reading : (start mid new : Option Media) (settings : SettingsValue) (store : JournalValue) (entries : List Entry) (seen : ℕ → ℕ) → store.slots ≡ slots_of settings → Holds settings seen entries → RestsWith mid (IsKnown store settings.digest seen) → KeepsMedia mid new
+    → Leaves start mid (λ image. HoldsRecords (slots_of settings) settings.digest image (records_of entries)) → Leaves start new (λ image. Holds settings image entries)
+holds_reading start mid new settings store entries seen size is known keeps leaves =
+    let found = seen_at_rest mid (IsKnown store settings.digest seen) known in
+    let opened : IsOpen (slots_of settings) settings.digest seen store.selector found.0 = subst (λ slots. IsOpen slots settings.digest seen store.selector found.0) size found.2.opened in
+    let journal = opened_journal (slots_of settings) settings.digest seen found.0 store.selector (records_of entries) opened is.records in
+    leaves_then start mid new (λ image. Holds settings image entries) (holds_opening start mid settings entries is.each leaves)
+    (leaves_kept mid new found.0 (λ image. Holds settings image entries) keeps found.1 (record { records = inr journal; each = is.each }))
+
+-- ---- why a half is refused
+
+-- a half of a disk that was just formatted has no open gate
+none_open : (slots : ℕ) (digest : List ℕ) (image : ℕ → ℕ) (selector slot : ℕ) → IsJournal slots digest image [] → image 48 ≡ selector → slot < slots → image (place_of slots (selector % 2) slot) ≢ 165
+none_open slots digest image selector slot journal there under =
+    let low : 0 ≤ slot = omega arith in
+    subst (λ half. image (place_of slots half slot) ≢ 165) (ap (λ n. n % 2) there) (journal.half.closed slot low under)
+
+-- so a disk with an open gate is as it was
+as_it_was : (store : JournalValue) (digest : List ℕ) (seen image : ℕ → ℕ) (slot : ℕ) → IsKnown store digest seen image → slot < store.slots → image (place_of store.slots (store.selector % 2) slot) ≡ 165 → IsHeader store.slots digest seen × (image ≡ seen)
+as_it_was store digest seen image slot known under gate = by_cases known.opened.cases
+  where
+    by_cases : (IsHeader store.slots digest seen × (image ≡ seen)) ⊎ (IsBlank store.slots seen [] × IsJournal store.slots digest image []) → IsHeader store.slots digest seen × (image ≡ seen)
+    by_cases (inl same) = same
+    by_cases (inr formatted) = absurd (none_open store.slots digest image store.selector slot formatted.1 known.opened.selector_there under gate)
+
+abbrev Bad : ℕ → ℕ → (ℕ → ℕ) → ℕ → Type 0
+Bad slots half seen at = IsBadSlot slots half seen at ⊎ IsGap slots half seen at
+
+open_of : (slots half : ℕ) (seen : ℕ → ℕ) (at : ℕ) → Bad slots half seen at → (slot : ℕ) × (slot < slots) × (seen (place_of slots half slot) ≡ 165)
+open_of slots half seen at (inl bad) = (length bad.before, bad.within, ap seen (sym bad.there) ∙ bad.gate)
+open_of slots half seen at (inr gap) = (gap.slot, gap.within, ap seen (sym gap.there) ∙ gap.gate)
+
+pub half_refuses : (mid : Option Media) (settings : SettingsValue) (store : JournalValue) (extent : ℕ) (seen : ℕ → ℕ) (why : JournalFault) → store.slots ≡ slots_of settings → RestsWith mid (IsKnown store settings.digest seen)
+    → ((image : ℕ → ℕ) → Sees mid image → IsCount store.slots (store.selector % 2) image store.used → RefusesHalf store.slots (store.selector % 2) image why) → Refuses settings extent seen why
+half_refuses mid settings store extent seen why size known refuses =
+    let found = seen_at_rest mid (IsKnown store settings.digest seen) known in
+    by_fault why found.0 found.2 (refuses found.0 (sees_at_rest mid found.0 found.1) found.2.count)
+  where
+    by_fault : (why : JournalFault) (image : ℕ → ℕ) → IsKnown store settings.digest seen image → RefusesHalf store.slots (store.selector % 2) image why → Refuses settings extent seen why
+    by_fault (fault.NotOurs at) image is bad =
+        let opened = open_of store.slots (store.selector % 2) image at bad in
+        let was = as_it_was store settings.digest seen image opened.0 is opened.1 opened.2 in
+        let half : store.selector % 2 ≡ seen 48 % 2 = ap (λ n. n % 2) (sym is.opened.selector_there ∙ ap (λ image. image 48) was.1) in
+        inr (
+          subst (λ slots. IsHeader slots settings.digest seen) size was.0,
+          subst (λ slots. Bad slots (seen 48 % 2) seen at) size (subst (λ half. Bad store.slots half seen at) half (subst (λ image. Bad store.slots (store.selector % 2) image at) was.1 bad)),
+        )
+    by_fault fault.DiskFault image is bad = tt
+    by_fault fault.NoMemory image is bad = tt
+    by_fault (fault.TooSmall needed bytes) image is bad = absurd bad
+    by_fault (fault.SettingsChanged stored given) image is bad = absurd bad
+
+-- a disk of which a half was refused was not written
+pub not_written : (mid new : Option Media) (digest : List ℕ) (store : JournalValue) (seen : ℕ → ℕ) (why : JournalFault) → why ≢ fault.DiskFault → RestsWith mid (IsKnown store digest seen) → KeepsMedia mid new → (why ≡ fault.NoMemory → 0 < store.used)
+    → ((image : ℕ → ℕ) → Sees mid image → IsCount store.slots (store.selector % 2) image store.used → RefusesHalf store.slots (store.selector % 2) image why) → RestsWith new (Is seen)
+not_written mid new digest store seen why other known keeps some refuses =
+    let found = seen_at_rest mid (IsKnown store digest seen) known in
+    let opened = by_fault why found.0 found.2 other some (refuses found.0 (sees_at_rest mid found.0 found.1) found.2.count) in
+    let was = as_it_was store digest seen found.0 opened.0 found.2 opened.1 opened.2 in
+    rests_kept mid new (Is seen) keeps (rests_as mid (Is found.0) (Is seen) (λ image same. same ∙ was.1) found.1)
+  where
+    by_fault : (why : JournalFault) (image : ℕ → ℕ) → IsKnown store digest seen image → why ≢ fault.DiskFault → (why ≡ fault.NoMemory → 0 < store.used) → RefusesHalf store.slots (store.selector % 2) image why
+        → (slot : ℕ) × (slot < store.slots) × (image (place_of store.slots (store.selector % 2) slot) ≡ 165)
+    by_fault (fault.NotOurs at) image is other some bad = open_of store.slots (store.selector % 2) image at bad
+    by_fault fault.DiskFault image is other some bad = absurd (other refl)
+    by_fault fault.NoMemory image is other some bad =
+        let low = some refl in
+        let fits = is.count.fits in
+        (0, omega (arith, low, fits), is.count.gates 0 low)
+    by_fault (fault.TooSmall needed bytes) image is other some bad = absurd bad
+    by_fault (fault.SettingsChanged stored given) image is other some bad = absurd bad

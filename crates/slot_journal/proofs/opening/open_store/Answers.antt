@@ -1,0 +1,25 @@
+use Rattle.slot_journal.proofs.Recovering.{told_refuses, told_other, told_caused}
+use Rattle.slot_journal.proofs.opening.open_store.Goals as goal
+
+pub returns-in-Ok-clause-moments : goal.returns-in-Ok-clause-moments
+returns-in-Ok-clause-moments g c = rw (c.slots.ensures.slots, c.digest-digest.ensures.value) at c.in-Ok.ensures.moments
+
+pub returns-in-Ok-clause-known : goal.returns-in-Ok-clause-known
+returns-in-Ok-clause-known g c = rw (c.digest-digest.ensures.value) at c.in-Ok.ensures.known
+
+pub returns-in-Ok-clause-size : goal.returns-in-Ok-clause-size
+returns-in-Ok-clause-size g c = rw (c.slots.ensures.slots) at c.in-Ok.ensures.size
+
+pub returns-in-Err-clause-moments : goal.returns-in-Err-clause-moments
+returns-in-Err-clause-moments g c = rw (c.slots.ensures.slots, c.digest-digest.ensures.value) at c.in-Err.ensures.moments
+
+pub returns-in-Err-clause-refused : goal.returns-in-Err-clause-refused
+returns-in-Err-clause-refused g c = λ seen sees.
+    told_refuses c.args.settings.now (g.D.Disk.extent c.args.disk.now) seen c.in-Err.fault c.told_as.result (rw (c.digest-digest.ensures.value) at c.told_as.ensures)
+    (rw (c.slots.ensures.slots, c.digest-digest.ensures.value) at (c.in-Err.ensures.refused seen sees))
+
+pub returns-in-Err-clause-unwritten : goal.returns-in-Err-clause-unwritten
+returns-in-Err-clause-unwritten g c = λ seen other rests. c.in-Err.ensures.unwritten seen (told_other c.in-Err.fault c.digest-digest.result c.told_as.result c.told_as.ensures other) rests
+
+pub returns-in-Err-clause-cause : goal.returns-in-Err-clause-cause
+returns-in-Err-clause-cause g c = told_caused c.in-Err.fault c.digest-digest.result c.told_as.result (g.D.Disk.faults c.args.disk.now) (g.D.Disk.faults c.open.new.disk) c.told_as.ensures c.in-Err.ensures.cause

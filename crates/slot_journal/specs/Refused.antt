@@ -1,0 +1,109 @@
+-- Why a disk isn't recovered.
+use Rattle.std.specs.Prelude.{◌≡◌, ◌≢◌, ℕ, ◌%◌, ◌<◌, ◌≤◌, ◌⊎◌, List, [], length, slice_index_or, Result, Err, ⊤}
+use Rattle.std.specs.List.{AllByRecursion}
+use Rattle.dots_host.specs.Causes.{Rose}
+use Rattle.dots_settings.specs.Settings.{SettingsValue}
+use Rattle.dots_history.specs.declared.entry.Entry.{Entry}
+use Rattle.entry_records.specs.Records.{IsRecord}
+use Rattle.slot_store.specs.declared.fault.OpenFault.{OpenFault}
+use Rattle.slot_store.specs.declared.fault.OpenFault.TheVariants as opening
+use Rattle.slot_store.specs.Layout.{place_of, needed_of, IsHeader, IsSlot}
+use Rattle.slot_store.specs.Refusing.{RefusesDisk}
+use Rattle.slot_journal.specs.declared.fault.JournalFault.{JournalFault}
+use Rattle.slot_journal.specs.declared.fault.JournalFault.TheVariants as fault
+use Rattle.slot_journal.specs.Sizes.{slots_of}
+use Rattle.slot_journal.specs.Held.{HasRecord, records_of}
+
+-- what stands in the slot is the record of no entry
+abbrev pub IsStray : (ℕ → ℕ) → ℕ → Type 0
+IsStray seen at = (held : List ℕ) (entry : Entry) → IsSlot seen at held → ¬ (IsRecord held entry)
+
+-- why no entry is read of bytes that stand in the slot at the place
+abbrev pub IsNoRecord : List ℕ → ℕ → JournalFault → Type 0
+IsNoRecord bytes at (fault.NotOurs place) = (place ≡ at) × ((entry : Entry) → ¬ (IsRecord bytes entry))
+IsNoRecord bytes at fault.NoMemory = ⊤
+IsNoRecord bytes at _ = ⊥
+
+-- why no entry is read of the slot at the place
+abbrev pub RefusesSlot : (ℕ → ℕ) → ℕ → JournalFault → Type 0
+RefusesSlot seen at (fault.NotOurs place) = (place ≡ at) × IsStray seen at
+RefusesSlot seen at fault.DiskFault = ⊤
+RefusesSlot seen at fault.NoMemory = ⊤
+RefusesSlot seen at _ = ⊥
+
+-- the first slots of a half hold the records of these entries
+abbrev pub HoldsFirst : ℕ → ℕ → (ℕ → ℕ) → List Entry → Type 0
+HoldsFirst slots half seen entries = (slot : ℕ) → slot < length entries → IsSlot seen (place_of slots half slot) (slice_index_or (records_of entries) slot [])
+
+-- the gates of these slots are not open, from the one up to the other
+abbrev pub AreClosed : ℕ → ℕ → (ℕ → ℕ) → ℕ → ℕ → Type 0
+AreClosed slots half seen from to = (slot : ℕ) → from ≤ slot → slot < to → seen (place_of slots half slot) ≢ 165
+
+-- the first slot of a half whose gate is open and whose record is that of no entry
+pub record IsBadSlot (slots half : ℕ) (seen : ℕ → ℕ) (at : ℕ) : Type 0 where
+  pub before : List Entry
+  pub front : HoldsFirst slots half seen before
+  pub each : AllByRecursion HasRecord before
+  pub within : length before < slots
+  pub there : at ≡ place_of slots half (length before)
+  pub gate : seen at ≡ 165
+  pub stray : IsStray seen at
+
+-- the first slot with an open gate behind one whose gate isn't open
+pub record IsGap (slots half : ℕ) (seen : ℕ → ℕ) (at : ℕ) : Type 0 where
+  pub before : List Entry
+  pub front : HoldsFirst slots half seen before
+  pub each : AllByRecursion HasRecord before
+  pub slot : ℕ
+  pub behind : length before < slot
+  pub within : slot < slots
+  pub there : at ≡ place_of slots half slot
+  pub gate : seen at ≡ 165
+  pub closed : AreClosed slots half seen (length before) slot
+
+-- why what stands behind the entries is refused
+abbrev pub RefusesRest : ℕ → ℕ → (ℕ → ℕ) → ℕ → JournalFault → Type 0
+RefusesRest slots half seen used (fault.NotOurs at) = (slot : ℕ) × (used ≤ slot) × (slot < slots) × (at ≡ place_of slots half slot) × (seen at ≡ 165) × AreClosed slots half seen used slot
+RefusesRest slots half seen used fault.DiskFault = ⊤
+RefusesRest slots half seen used _ = ⊥
+
+-- memory didn't run out
+abbrev pub IsNoWant : JournalFault → Type 0
+IsNoWant fault.NoMemory = ⊥
+IsNoWant _ = ⊤
+
+-- why a half is refused
+abbrev pub RefusesHalf : ℕ → ℕ → (ℕ → ℕ) → JournalFault → Type 0
+RefusesHalf slots half seen (fault.NotOurs at) = IsBadSlot slots half seen at ⊎ IsGap slots half seen at
+RefusesHalf slots half seen fault.DiskFault = ⊤
+RefusesHalf slots half seen fault.NoMemory = ⊤
+RefusesHalf slots half seen _ = ⊥
+
+-- Why a disk isn't recovered, by its size and what a read gives: it is too small, its header or, where it has none, a gate isn't this format's, it was written under other settings, or a slot of the half in use is refused. Memory and calls of the disk aside.
+abbrev pub Refuses : SettingsValue → ℕ → (ℕ → ℕ) → JournalFault → Type 0
+Refuses settings extent seen (fault.TooSmall needed found) = (needed ≡ needed_of (slots_of settings)) × (found ≡ extent) × (found < needed)
+Refuses settings extent seen (fault.NotOurs at) =
+    RefusesDisk (slots_of settings) settings.digest seen (opening.NotOurs at)
+    ⊎ (IsHeader (slots_of settings) settings.digest seen × (IsBadSlot (slots_of settings) (seen 48 % 2) seen at ⊎ IsGap (slots_of settings) (seen 48 % 2) seen at))
+Refuses settings extent seen (fault.SettingsChanged stored given) = RefusesDisk (slots_of settings) settings.digest seen (opening.SettingsChanged stored) × (given ≡ settings.digest)
+Refuses settings extent seen fault.DiskFault = ⊤
+Refuses settings extent seen fault.NoMemory = ⊤
+
+-- a fault of the disk comes where its count rose, and else the count stays
+abbrev pub Caused : {A : Type 0} → ℕ → ℕ → Result A JournalFault → Type 0
+Caused before now (Err fault.DiskFault) = Rose before now
+Caused before now _ = now ≡ before
+
+-- what is told where the slots aren't opened under settings with this digest
+abbrev pub IsToldAs : OpenFault → List ℕ → JournalFault → Type 0
+IsToldAs (opening.TooSmall needed found) given told = told ≡ fault.TooSmall needed found
+IsToldAs (opening.NotOurs at) given told = told ≡ fault.NotOurs at
+IsToldAs (opening.SettingsChanged stored) given told = told ≡ fault.SettingsChanged stored given
+IsToldAs opening.DiskFault given told = told ≡ fault.DiskFault
+IsToldAs opening.NoMemory given told = told ≡ fault.NoMemory
+
+-- a disk is refused for what it holds
+abbrev pub IsRefusal : JournalFault → Type 0
+IsRefusal (fault.NotOurs at) = ⊤
+IsRefusal (fault.SettingsChanged stored given) = ⊤
+IsRefusal _ = ⊥
