@@ -3,3 +3,4 @@ pub mod Standing
 pub mod Conditions
 pub mod Keeping
 mod Judged
+mod Seeing

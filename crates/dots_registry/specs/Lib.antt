@@ -1,3 +1,4 @@
 pub mod Standing
 pub mod Fitting
 pub mod Judging
+pub mod Viewing
