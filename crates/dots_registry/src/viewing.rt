@@ -1,7 +1,9 @@
 //! What observers see of a registry.
 
-ghost use Rattle.std.specs.Prelude.{◌≡◌, ◌≤◌, ℕ, ◌&&◌, bytes_eq, length, slice_get};
-ghost use Rattle.live_mitigations.specs.Reading.{shown, shown_of, status_number};
+ghost use Rattle.std.specs.Prelude.{◌≡◌, ◌≤◌, ℕ, ◌&&◌, bytes_eq, ◌<◌, List, length, slice_get};
+ghost use Rattle.dots_history.specs.declared.entry.Entry.{Entry};
+ghost use Rattle.live_mitigations.specs.Reading.{shown, shown_of, shown_in, status_number};
+ghost use Rattle.dots_registry.specs.Standing.{StandsFor, time_of, domains_of};
 ghost use Rattle.dots_registry.specs.Viewing.{seen, seen_of, seen_among, is_wanted, views_of};
 
 use crate::registry::Registry;
@@ -22,6 +24,8 @@ impl Registry {
         place: usize,
     ) -> Option<(u32, u8)>
         ensures value { result ≡ slice_get (views_of self.now domain cuid.now mid) place }
+        ensures history { (entries : List Entry) → StandsFor self.now entries → domain < domains_of self.now
+            → result ≡ slice_get (seen_of mid (shown_in domain cuid.now (time_of self.now) entries)) place }
         ensures few { length (views_of self.now domain cuid.now mid) ≤ 64 }
     {
         if domain < self.live.domains() {
