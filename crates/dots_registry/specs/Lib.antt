@@ -1,2 +1,4 @@
 pub mod Standing
 pub mod Fitting
+pub mod Judging
+pub mod Viewing

@@ -6,13 +6,14 @@ ghost use Rattle.dots_history.specs.declared.entry.Entry.{Entry};
 ghost use Rattle.dots_history.specs.Bounds.{prefix_count};
 ghost use Rattle.dots_history.specs.Histories.{mitigations, held, remembered};
 ghost use Rattle.conflict_rules.specs.Wanted.{wanted};
-ghost use Rattle.conflict_rules.specs.ByMid.{collides, judge_mid};
+ghost use Rattle.conflict_rules.specs.ByMid.{judge_mid};
 ghost use Rattle.conflict_rules.specs.ByOverlap.{judge_overlap};
 ghost use Rattle.live_mitigations.specs.Judging.{lives_of};
 ghost use Rattle.live_mitigations.specs.Reading.{shown_in};
-ghost use Rattle.held_things.specs.Held.{aliases_of, acls_of, alias_named, acl_named, is_registered, config_of, number_of, reached};
+ghost use Rattle.held_things.specs.Held.{aliases_of, acls_of, alias_named, acl_named, is_registered, registrant, is_of_another, config_of, number_of, reached};
 ghost use Rattle.held_things.specs.Tables.{most_of, told};
 ghost use Rattle.dots_registry.specs.Standing.{StandsFor, time_of, domains_of, limits_of, number_remembered};
+ghost use Rattle.dots_registry.specs.Judging.{collides};
 
 use crate::registry::Registry;
 use acl_lists::{Acl, Alias, Asked};
@@ -31,13 +32,23 @@ impl Registry {
         self.remembered.look(peer, domain, id, self.live.time())
     }
 
-    /// Whether the client's name is in use by another peer: a live mitigation of the client, standing or terminating, has
-    /// another one (RFC 9132, section 4.4.1.3).
+    /// Whether the client's name is in use by another peer: a live mitigation of the client, standing or terminating, or its
+    /// registration has another one (RFC 9132, section 4.4.1.3).
     pub fn collides(&self, domain: u16, cuid: &[u8], peer: u32) -> bool
         requires { domain < domains_of self.now }
-        ensures { (entries : List Entry) → StandsFor self.now entries → result ≡ collides (lives_of domain (time_of self.now) entries) peer cuid.now }
+        ensures { (entries : List Entry) → StandsFor self.now entries → result ≡ collides (time_of self.now) entries peer (record { domain = domain; cuid = cuid.now }) }
     {
-        self.live.collides(domain, cuid, peer)
+        self.live.collides(domain, cuid, peer) || self.is_of_another(domain, cuid, peer)
+    }
+
+    /// Whether another peer registered the client.
+    fn is_of_another(&self, domain: u16, cuid: &[u8], peer: u32) -> bool
+        ensures { (entries : List Entry) → StandsFor self.now entries → result ≡ is_of_another peer (record { domain = domain; cuid = cuid.now }) (held entries) }
+    {
+        match self.held.registrant(domain, cuid) {
+            Some(registrant) => registrant != peer,
+            None => false,
+        }
     }
 
     /// The live mitigations of a client, in order of their entries (RFC 9132, section 4.4.2).
@@ -94,6 +105,13 @@ impl Registry {
         ensures { (entries : List Entry) → StandsFor self.now entries → result ≡ is_registered (record { domain = domain; cuid = cuid.now }) (held entries) }
     {
         self.held.registered(domain, cuid)
+    }
+
+    /// The peer that registered the client; None where it isn't registered.
+    pub fn registrant(&self, domain: u16, cuid: &[u8]) -> Option<u32>
+        ensures { (entries : List Entry) → StandsFor self.now entries → result ≡ registrant (record { domain = domain; cuid = cuid.now }) (held entries) }
+    {
+        self.held.registrant(domain, cuid)
     }
 
     /// The aliases of a client, in order of writing; none where it isn't registered (RFC 8783, section 6).

@@ -23,7 +23,7 @@ use std::mem;
 /// What a history comes to at a time.
 #[derive(Debug, Drop)]
 pub struct Registry {
-    alloc: Global,
+    pub(crate) alloc: Global,
     pub(crate) live: LiveMitigations,
     pub(crate) held: HeldThings,
     pub(crate) remembered: Remembered,

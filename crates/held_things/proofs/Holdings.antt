@@ -1,6 +1,6 @@
 -- What one more entry makes of the clients of a domain.
 use Rattle.std.proofs.Common.{◌≡◌, ℕ, ◌+◌, ◌≤◌, Bool, true, false, cond, not, ◌&&◌, ◌||◌, List, [], ◌∷◌, ◌++◌, map, filter, length, Option, Some, None, inl, inr, refl, sym, ap, ◌∙◌, append-nil, arith}
-use Rattle.std.specs.Prelude.{option_to_list, bytes_eq, ◌==◌, nat_lt}
+use Rattle.std.specs.Prelude.{option_to_list, option_map, is_some, bytes_eq, ◌==◌, nat_lt}
 use Rattle.std.specs.List.{list_any, list_all, find}
 use Rattle.std.proofs.lemmas.Bool.{false≢true, true≢false, both_ways, cond_both, cond-true, cond-false, cases_Bool, and_parts, and_left, and_right, and_from, or_left, or_parts, or_from, eqb-true, eq-eqb, false_from_ne_true, ltb-true}
 use Rattle.std.proofs.lemmas.List.Elements.{filter-append}
@@ -17,7 +17,7 @@ use Rattle.dots_laws.specs.Tables.{Client, client_of, is_of}
 use Rattle.dots_laws.specs.Views.{held_with}
 use Rattle.dots_laws.proofs.Single.{of_itself, is_of_client, client_is_of}
 use Rattle.held_things.specs.declared.rooms.Rooms.{Rooms}
-use Rattle.held_things.specs.Held.{aliases_of, acls_of, is_registered}
+use Rattle.held_things.specs.Held.{aliases_of, acls_of, registers, is_registered}
 use Rattle.held_things.specs.Tables.{Holding, Sizes, no_holding, holding_of, holding_with, aliases_with, acls_with, holdings, has_cuid, changed, list_with, is_known}
 use Rattle.held_things.proofs.Written.{other_way, like_client, own_aliases, other_aliases, own_acls, other_acls, all_pass}
 
@@ -83,31 +83,31 @@ reg_undone x e is =
     ∙ turned_and (is_of (client_of x) e) (is_leave e.change)
 
 -- ---- what a client holds
-abbrev holding_by : Rooms → List ℕ → List Alias → List Acl → Holding
-holding_by rooms cuid aliases acls = record { rooms = rooms; cuid = cuid; aliases = aliases; acls = acls }
+abbrev holding_by : Rooms → ℕ → List ℕ → List Alias → List Acl → Holding
+holding_by rooms peer cuid aliases acls = record { rooms = rooms; peer = peer; cuid = cuid; aliases = aliases; acls = acls }
 
-pub own_holding : (rooms : Rooms) (client : Client) (e : Entry) (es : List Entry) → is_of client e ≡ true
-    → holding_of rooms (held_with e es) client ≡ holding_with e.change (holding_of rooms es client)
-own_holding rooms client e es own =
-    ap (λ given. holding_by rooms client.cuid given (acls_of client (held_with e es))) (own_aliases client e es own)
-    ∙ ap (λ ls. holding_by rooms client.cuid (aliases_with e.change (aliases_of client es)) ls) (own_acls client e es own)
+pub own_holding : (rooms : Rooms) (peer : ℕ) (client : Client) (e : Entry) (es : List Entry) → is_of client e ≡ true
+    → holding_of rooms (held_with e es) peer client ≡ holding_with e.change (holding_of rooms es peer client)
+own_holding rooms peer client e es own =
+    ap (λ given. holding_by rooms peer client.cuid given (acls_of client (held_with e es))) (own_aliases client e es own)
+    ∙ ap (λ ls. holding_by rooms peer client.cuid (aliases_with e.change (aliases_of client es)) ls) (own_acls client e es own)
 
-pub other_holding : (rooms : Rooms) (client : Client) (e : Entry) (es : List Entry) → is_of client e ≡ false
-    → holding_of rooms (held_with e es) client ≡ holding_of rooms es client
-other_holding rooms client e es other =
-    ap (λ given. holding_by rooms client.cuid given (acls_of client (held_with e es))) (other_aliases client e es other)
-    ∙ ap (λ ls. holding_by rooms client.cuid (aliases_of client es) ls) (other_acls client e es other)
+pub other_holding : (rooms : Rooms) (peer : ℕ) (client : Client) (e : Entry) (es : List Entry) → is_of client e ≡ false
+    → holding_of rooms (held_with e es) peer client ≡ holding_of rooms es peer client
+other_holding rooms peer client e es other =
+    ap (λ given. holding_by rooms peer client.cuid given (acls_of client (held_with e es))) (other_aliases client e es other)
+    ∙ ap (λ ls. holding_by rooms peer client.cuid (aliases_of client es) ls) (other_acls client e es other)
 
 pub changed_holding : (rooms : Rooms) (domain : ℕ) (x e : Entry) (es : List Entry) → (x.domain == domain) ≡ true → (e.domain == domain) ≡ true
-    → holding_of rooms (held_with e es) (client_of x) ≡ changed e.cuid e.change (holding_of rooms es (client_of x))
+    → holding_of rooms (held_with e es) x.peer (client_of x) ≡ changed e.cuid e.change (holding_of rooms es x.peer (client_of x))
 changed_holding rooms domain x e es in_x in_e =
     elim (cases_Bool (bytes_eq e.cuid x.cuid)) [
       | inl is ↦
-          own_holding rooms (client_of x) e es (by_cuid domain x e in_x in_e ∙ is)
-          ∙ sym (cond-true (bytes_eq e.cuid x.cuid) (holding_with e.change (holding_of rooms es (client_of x))) (holding_of rooms es (client_of x)) is)
+          own_holding rooms x.peer (client_of x) e es (by_cuid domain x e in_x in_e ∙ is)
+          ∙ sym (cond-true (bytes_eq e.cuid x.cuid) (holding_with e.change (holding_of rooms es x.peer (client_of x))) (holding_of rooms es x.peer (client_of x)) is)
       | inr out ↦
-          other_holding rooms (client_of x) e es (by_cuid domain x e in_x in_e ∙ out)
-          ∙ sym (cond-false (bytes_eq e.cuid x.cuid) (holding_with e.change (holding_of rooms es (client_of x))) (holding_of rooms es (client_of x)) out)
+          other_holding rooms x.peer (client_of x) e es (by_cuid domain x e in_x in_e ∙ out)
+          ∙ sym (cond-false (bytes_eq e.cuid x.cuid) (holding_with e.change (holding_of rooms es x.peer (client_of x))) (holding_of rooms es x.peer (client_of x)) out)
     ]
 
 -- ---- the clients of a domain
@@ -119,7 +119,7 @@ module _ (rooms : Rooms) (domain : ℕ) where
   holdings-append es [] ys = refl
   holdings-append es (x ∷ xs) ys =
       let go = holdings-append es xs ys in
-      let here = holding_of rooms es (client_of x) in
+      let here = holding_of rooms es x.peer (client_of x) in
       cond_both
       (counts x)
       (here ∷ holdings rooms domain es xs)
@@ -132,7 +132,7 @@ module _ (rooms : Rooms) (domain : ℕ) where
   length_holdings es [] = refl
   length_holdings es (x ∷ xs) =
       let go = length_holdings es xs in
-      let here = holding_of rooms es (client_of x) in
+      let here = holding_of rooms es x.peer (client_of x) in
       cond_both
       (counts x)
       (here ∷ holdings rooms domain es xs)
@@ -148,7 +148,7 @@ module _ (rooms : Rooms) (domain : ℕ) where
   left_all e es (x ∷ xs) stays =
       let go = left_all e es xs stays in
       let left = filter (λ x. not (undoes x e)) xs in
-      let here = holding_of rooms es (client_of x) in
+      let here = holding_of rooms es x.peer (client_of x) in
       elim (cases_Bool (counts x)) [
         | inl is ↦
             let parts = and_parts (is_registration x.change) (x.domain == domain) is in
@@ -171,7 +171,7 @@ module _ (rooms : Rooms) (domain : ℕ) where
       let go = left_others e es xs own leaves in
       let left = filter (λ x. not (undoes x e)) xs in
       let rest = holdings rooms domain es xs in
-      let here = holding_of rooms es (client_of x) in
+      let here = holding_of rooms es x.peer (client_of x) in
       elim (cases_Bool (counts x)) [
         | inl is ↦
             let parts = and_parts (is_registration x.change) (x.domain == domain) is in
@@ -209,18 +209,18 @@ module _ (rooms : Rooms) (domain : ℕ) where
       let go = each_changed e es xs own in
       let rest = holdings rooms domain es xs in
       let after = holdings rooms domain (held_with e es) xs in
-      let here = holding_of rooms es (client_of x) in
+      let here = holding_of rooms es x.peer (client_of x) in
       cond_both
       (counts x)
       (here ∷ rest)
       rest
-      (λ hs. cond (counts x) (holding_of rooms (held_with e es) (client_of x) ∷ after) after ≡ map (changed e.cuid e.change) hs)
+      (λ hs. cond (counts x) (holding_of rooms (held_with e es) x.peer (client_of x) ∷ after) after ≡ map (changed e.cuid e.change) hs)
       (λ is.
       let parts = and_parts (is_registration x.change) (x.domain == domain) is in
-      cond-true (counts x) (holding_of rooms (held_with e es) (client_of x) ∷ after) after is
+      cond-true (counts x) (holding_of rooms (held_with e es) x.peer (client_of x) ∷ after) after is
       ∙ ap (λ h. h ∷ after) (changed_holding rooms domain x e es parts.1 own)
       ∙ ap (λ hs. changed e.cuid e.change here ∷ hs) go)
-      (λ out. cond-false (counts x) (holding_of rooms (held_with e es) (client_of x) ∷ after) after out ∙ go)
+      (λ out. cond-false (counts x) (holding_of rooms (held_with e es) x.peer (client_of x) ∷ after) after out ∙ go)
 
   none_changed : (e : Entry) (es xs : List Entry) → (e.domain == domain) ≡ false → holdings rooms domain (held_with e es) xs ≡ holdings rooms domain es xs
   none_changed e es [] other = refl
@@ -228,18 +228,18 @@ module _ (rooms : Rooms) (domain : ℕ) where
       let go = none_changed e es xs other in
       let rest = holdings rooms domain es xs in
       let after = holdings rooms domain (held_with e es) xs in
-      let here = holding_of rooms es (client_of x) in
+      let here = holding_of rooms es x.peer (client_of x) in
       cond_both
       (counts x)
       (here ∷ rest)
       rest
-      (λ hs. cond (counts x) (holding_of rooms (held_with e es) (client_of x) ∷ after) after ≡ hs)
+      (λ hs. cond (counts x) (holding_of rooms (held_with e es) x.peer (client_of x) ∷ after) after ≡ hs)
       (λ is.
       let parts = and_parts (is_registration x.change) (x.domain == domain) is in
-      cond-true (counts x) (holding_of rooms (held_with e es) (client_of x) ∷ after) after is
-      ∙ ap (λ h. h ∷ after) (other_holding rooms (client_of x) e es (by_domain domain x e parts.1 other))
+      cond-true (counts x) (holding_of rooms (held_with e es) x.peer (client_of x) ∷ after) after is
+      ∙ ap (λ h. h ∷ after) (other_holding rooms x.peer (client_of x) e es (by_domain domain x e parts.1 other))
       ∙ ap (λ hs. here ∷ hs) go)
-      (λ out. cond-false (counts x) (holding_of rooms (held_with e es) (client_of x) ∷ after) after out ∙ go)
+      (λ out. cond-false (counts x) (holding_of rooms (held_with e es) x.peer (client_of x) ∷ after) after out ∙ go)
 
   abbrev end : Entry → List Entry
   end e = cond (is_held e.change) (e ∷ []) []
@@ -251,7 +251,7 @@ module _ (rooms : Rooms) (domain : ℕ) where
       (e ∷ [])
       []
       (λ ys. holdings rooms domain es ys ≡ [])
-      (λ is. cond-false (counts e) (holding_of rooms es (client_of e) ∷ []) [] out)
+      (λ is. cond-false (counts e) (holding_of rooms es e.peer (client_of e) ∷ []) [] out)
       (λ no. refl)
 
   -- an entry of another domain
@@ -341,16 +341,16 @@ leaving rooms domain e es own leaves =
     ∙ without_changed e.cuid e.change (holdings rooms domain es es)
 
 nothing_with : (rooms : Rooms) (e : Entry) (es : List Entry) → e.change ≡ change.Register → aliases_of (client_of e) es ≡ [] → acls_of (client_of e) es ≡ []
-    → holding_of rooms (held_with e es) (client_of e) ≡ no_holding rooms e.cuid
+    → holding_of rooms (held_with e es) e.peer (client_of e) ≡ no_holding rooms e.peer e.cuid
 nothing_with rooms e es same no_aliases no_acls =
-    own_holding rooms (client_of e) e es (client_is_of e)
-    ∙ ap (λ c. holding_with c (holding_of rooms es (client_of e))) same
-    ∙ ap (λ given. holding_with change.Register (holding_by rooms e.cuid given (acls_of (client_of e) es))) no_aliases
-    ∙ ap (λ ls. holding_with change.Register (holding_by rooms e.cuid [] ls)) no_acls
+    own_holding rooms e.peer (client_of e) e es (client_is_of e)
+    ∙ ap (λ c. holding_with c (holding_of rooms es e.peer (client_of e))) same
+    ∙ ap (λ given. holding_with change.Register (holding_by rooms e.peer e.cuid given (acls_of (client_of e) es))) no_aliases
+    ∙ ap (λ ls. holding_with change.Register (holding_by rooms e.peer e.cuid [] ls)) no_acls
 
 registering : (rooms : Rooms) (domain : ℕ) (e : Entry) (es : List Entry) → (e.domain == domain) ≡ true → e.change ≡ change.Register
     → is_registration e.change ≡ true → IsFresh rooms domain e es
-    → holdings rooms domain (held_with e es) (held_with e es) ≡ holdings rooms domain es es ++ no_holding rooms e.cuid ∷ []
+    → holdings rooms domain (held_with e es) (held_with e es) ≡ holdings rooms domain es es ++ no_holding rooms e.peer e.cuid ∷ []
 registering rooms domain e es own same registers fresh =
     let kinds = register_holds e.change registers in
     holdings-append rooms domain (held_with e es) (filter (λ x. not (undoes x e)) es) (cond (is_held e.change) (e ∷ []) [])
@@ -367,13 +367,13 @@ registering rooms domain e es own same registers fresh =
     ∙ unchanged e.cuid e.change (holdings rooms domain es es) fresh.none)
     ∙ ap (λ b. holdings rooms domain es es ++ holdings rooms domain (held_with e es) (cond b (e ∷ []) [])) kinds.0
     ∙ ap
-    (λ b. holdings rooms domain es es ++ cond b (holding_of rooms (held_with e es) (client_of e) ∷ []) [])
+    (λ b. holdings rooms domain es es ++ cond b (holding_of rooms (held_with e es) e.peer (client_of e) ∷ []) [])
     (and_from (is_registration e.change) (e.domain == domain) registers own)
     ∙ ap (λ h. holdings rooms domain es es ++ h ∷ []) (nothing_with rooms e es same fresh.aliases fresh.acls)
 
 by_change : (rooms : Rooms) (domain : ℕ) (e : Entry) (es : List Entry) → (e.domain == domain) ≡ true
     → (is_registration e.change ≡ true → IsFresh rooms domain e es) → (c : Change) → e.change ≡ c
-    → holdings rooms domain (held_with e es) (held_with e es) ≡ list_with rooms e.cuid c (holdings rooms domain es es)
+    → holdings rooms domain (held_with e es) (held_with e es) ≡ list_with rooms e.peer e.cuid c (holdings rooms domain es es)
 unfolding is_leave is_registration
 by_change rooms domain e es own fresh change.Register same =
     let registers = ap is_registration same in
@@ -386,12 +386,42 @@ by_change rooms domain e es own fresh c same =
 -- an entry of the domain
 pub own_holdings : (rooms : Rooms) (domain : ℕ) (e : Entry) (es : List Entry) → (e.domain == domain) ≡ true
     → (is_registration e.change ≡ true → IsFresh rooms domain e es)
-    → holdings rooms domain (held_with e es) (held_with e es) ≡ list_with rooms e.cuid e.change (holdings rooms domain es es)
+    → holdings rooms domain (held_with e es) (held_with e es) ≡ list_with rooms e.peer e.cuid e.change (holdings rooms domain es es)
 own_holdings rooms domain e es own fresh = by_change rooms domain e es own fresh e.change refl
 
 -- ---- the client of a cuid
+pub any_is : {A : Type 0} (test : A → Bool) (xs : List A) → is_some (find test xs) ≡ list_any test xs
+any_is test [] = refl
+any_is test (x ∷ xs) =
+    cond_both
+    (test x)
+    (Some x)
+    (find test xs)
+    (λ o. is_some o ≡ (test x || list_any test xs))
+    (λ is. sym (or_left (test x) (list_any test xs) is))
+    (λ out. any_is test xs ∙ sym (ap (λ b. b || list_any test xs) out))
+
+pub still_some : {A B : Type 0} (f : A → B) (o : Option A) → is_some (option_map f o) ≡ is_some o
+still_some f None = refl
+still_some f (Some a) = refl
+
 abbrev pub if_registered : Rooms → Client → List Entry → List Entry → Option Holding
-if_registered rooms client es xs = cond (is_registered client xs) (Some (holding_of rooms es client)) None
+if_registered rooms client es xs = option_map (λ (x : Entry). holding_of rooms es x.peer client) (find (registers client) xs)
+
+pub registered_cases : (rooms : Rooms) (client : Client) (es xs : List Entry) (P : Option Holding → Type 0)
+    → ((x : Entry) → P (Some (holding_of rooms es x.peer client))) → (is_registered client xs ≡ false → P None) → P (if_registered rooms client es xs)
+registered_cases rooms client es xs P is out = by (find (registers client) xs) refl
+  where
+    by : (o : Option Entry) → find (registers client) xs ≡ o → P (option_map (λ (x : Entry). holding_of rooms es x.peer client) o)
+    by None none = out (sym (any_is (registers client) xs) ∙ ap is_some none)
+    by (Some x) there = is x
+
+pub not_registered : (rooms : Rooms) (client : Client) (es xs : List Entry) → is_registered client xs ≡ false → if_registered rooms client es xs ≡ None
+not_registered rooms client es xs out = by (find (registers client) xs) refl
+  where
+    by : (o : Option Entry) → find (registers client) xs ≡ o → option_map (λ (x : Entry). holding_of rooms es x.peer client) o ≡ None
+    by None none = refl
+    by (Some x) there = absurd (false≢true (sym out ∙ sym (any_is (registers client) xs) ∙ ap is_some there))
 
 of_parts : (client : Client) (x : Entry) → is_of client x ≡ ((x.domain == client.domain) && bytes_eq client.cuid x.cuid)
 unfolding is_of
@@ -402,9 +432,10 @@ pub find_client : (rooms : Rooms) (client : Client) (es xs : List Entry)
 find_client rooms client es [] = refl
 find_client rooms client es (x ∷ xs) =
     let go = find_client rooms client es xs in
-    let here = holding_of rooms es (client_of x) in
+    let here = holding_of rooms es x.peer (client_of x) in
     let rest = holdings rooms client.domain es xs in
-    let there = Some (holding_of rooms es client) in
+    let found : Option Entry = find (registers client) xs in
+    let held : Option Entry → Option Holding = option_map (λ (y : Entry). holding_of rooms es y.peer client) in
     elim (cases_Bool (is_registration x.change && (x.domain == client.domain))) [
       | inl is ↦
           let parts = and_parts (is_registration x.change) (x.domain == client.domain) is in
@@ -414,23 +445,23 @@ find_client rooms client es (x ∷ xs) =
             | inl own ↦
                 let client_is : client_of x ≡ client = is_of_client client x (of_parts client x ∙ and_from (x.domain == client.domain) (bytes_eq client.cuid x.cuid) parts.1 own) in
                 cond-true (bytes_eq client.cuid x.cuid) (Some here) (find (has_cuid client.cuid) rest) own
-                ∙ ap (λ c. Some (holding_of rooms es c)) client_is
-                ∙ sym (cond-true
-                (is_registered client (x ∷ xs))
-                there
-                None
-                (or_left (is_registration x.change && is_of client x) (is_registered client xs) (same ∙ own)))
+                ∙ ap (λ c. Some (holding_of rooms es x.peer c)) client_is
+                ∙ sym (ap held (cond-true (registers client x) (Some x) found (same ∙ own)))
             | inr out ↦
                 cond-false (bytes_eq client.cuid x.cuid) (Some here) (find (has_cuid client.cuid) rest) out
                 ∙ go
-                ∙ sym (ap (λ b. cond (b || is_registered client xs) there None) (same ∙ out))
+                ∙ sym (ap held (cond-false (registers client x) (Some x) found (same ∙ out)))
           ]
       | inr out ↦
           ap (find (has_cuid client.cuid)) (cond-false (is_registration x.change && (x.domain == client.domain)) (here ∷ rest) rest out)
           ∙ go
           ∙ sym (ap
-          (λ b. cond (b || is_registered client xs) there None)
-          (not_counted (is_registration x.change) (x.domain == client.domain) (bytes_eq client.cuid x.cuid) (is_of client x) (of_parts client x) out))
+          held
+          (cond-false
+          (registers client x)
+          (Some x)
+          found
+          (not_counted (is_registration x.change) (x.domain == client.domain) (bytes_eq client.cuid x.cuid) (is_of client x) (of_parts client x) out)))
     ]
   where
     not_counted : (a b c d : Bool) → d ≡ (b && c) → (a && b) ≡ false → (a && d) ≡ false
@@ -439,24 +470,8 @@ find_client rooms client es (x ∷ xs) =
 
 pub any_client : (rooms : Rooms) (client : Client) (es xs : List Entry)
     → list_any (has_cuid client.cuid) (holdings rooms client.domain es xs) ≡ is_registered client xs
-any_client rooms client es xs = any_found (has_cuid client.cuid) (holdings rooms client.domain es xs) (is_registered client xs) (holding_of rooms es client) (find_client rooms client es xs)
-  where
-    any_found : {A : Type 0} (test : A → Bool) (ys : List A) (b : Bool) (a : A) → find test ys ≡ cond b (Some a) None → list_any test ys ≡ b
-    any_found test [] true a is = absurd (none_is a is)
-      where
-        none_is : {A : Type 0} (a : A) → None ≡ Some a → ⊥
-        none_is a is = cc
-    any_found test [] false a is = refl
-    any_found test (y ∷ ys) b a is =
-        elim (cases_Bool (test y)) [
-          | inl here ↦
-              or_left (test y) (list_any test ys) here
-              ∙ some_true b (sym (cond-true (test y) (Some y) (find test ys) here) ∙ is)
-          | inr out ↦
-              ap (λ b. b || list_any test ys) out
-              ∙ any_found test ys b a (sym (cond-false (test y) (Some y) (find test ys) out) ∙ is)
-        ]
-      where
-        some_true : (b : Bool) → Some y ≡ cond b (Some a) None → true ≡ b
-        some_true true is = refl
-        some_true false is = cc
+any_client rooms client es xs =
+    sym (any_is (has_cuid client.cuid) (holdings rooms client.domain es xs))
+    ∙ ap is_some (find_client rooms client es xs)
+    ∙ still_some (λ (x : Entry). holding_of rooms es x.peer client) (find (registers client) xs)
+    ∙ any_is (registers client) xs

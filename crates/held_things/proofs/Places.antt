@@ -159,11 +159,17 @@ rooms_at rooms [] i d within have = absurd (omega (arith, within))
 rooms_at rooms (h ∷ hs) zero d within have = have.0
 rooms_at rooms (h ∷ hs) (suc i) d within have = rooms_at rooms hs i d (omega (arith, within)) have.1
 
-pub empty_pushed : (rooms : Rooms) (hs : List Holding) (x : Holding) → AreEmpty rooms hs → x ≡ no_holding rooms x.cuid → AreEmpty rooms (hs ++ x ∷ [])
+pub fresh_is : (rooms : Rooms) (x : Holding) → x ≡ no_holding rooms 0 [] → x ≡ no_holding rooms x.peer x.cuid
+fresh_is rooms x is =
+    is
+    ∙ ap (λ p. no_holding rooms p []) (sym (ap (λ (h : Holding). h.peer) is))
+    ∙ ap (no_holding rooms x.peer) (sym (ap (λ (h : Holding). h.cuid) is))
+
+pub empty_pushed : (rooms : Rooms) (hs : List Holding) (x : Holding) → AreEmpty rooms hs → x ≡ no_holding rooms x.peer x.cuid → AreEmpty rooms (hs ++ x ∷ [])
 empty_pushed rooms [] x empty is = (is, record {})
 empty_pushed rooms (h ∷ hs) x empty is = (empty.0, empty_pushed rooms hs x empty.1 is)
 
-pub empty_popped : (rooms : Rooms) (hs : List Holding) (x : Holding) → AreEmpty rooms (hs ++ x ∷ []) → AreEmpty rooms hs × (x ≡ no_holding rooms x.cuid)
+pub empty_popped : (rooms : Rooms) (hs : List Holding) (x : Holding) → AreEmpty rooms (hs ++ x ∷ []) → AreEmpty rooms hs × (x ≡ no_holding rooms x.peer x.cuid)
 empty_popped rooms [] x empty = (record {}, empty.0)
 empty_popped rooms (h ∷ hs) x empty = let rest = empty_popped rooms hs x empty.1 in ((empty.0, rest.0), rest.1)
 
@@ -171,22 +177,22 @@ empty_popped rooms (h ∷ hs) x empty = let rest = empty_popped rooms hs x empty
 abbrev Keeps : Rooms → List Holding → List Holding → Type 0
 Keeps rooms list spare = (length list + length spare ≡ rooms.clients) × AreApart list × HaveRooms rooms list × AreEmpty rooms spare
 
-pub register_keeps : (rooms : Rooms) (list spare after left : List Holding) (x y : Holding) (cuid : List ℕ)
+pub register_keeps : (rooms : Rooms) (list spare after left : List Holding) (x y : Holding) (peer : ℕ) (cuid : List ℕ)
     → length list + length spare ≡ rooms.clients → AreApart list → HaveRooms rooms list → AreEmpty rooms spare
-    → spare ≡ left ++ x ∷ [] → y ≡ record x { cuid = cuid } → after ≡ list ++ y ∷ [] → list_any (has_cuid cuid) list ≡ false
-    → Keeps rooms after left × (after ≡ list ++ no_holding rooms cuid ∷ [])
-register_keeps rooms list spare after left x y cuid sum apart have empty popped named pushed fresh =
+    → spare ≡ left ++ x ∷ [] → y ≡ record x { peer = peer; cuid = cuid } → after ≡ list ++ y ∷ [] → list_any (has_cuid cuid) list ≡ false
+    → Keeps rooms after left × (after ≡ list ++ no_holding rooms peer cuid ∷ [])
+register_keeps rooms list spare after left x y peer cuid sum apart have empty popped named pushed fresh =
     let parts = empty_popped rooms left x (subst (AreEmpty rooms) popped empty) in
-    let named_so : y ≡ no_holding rooms cuid = named ∙ ap (λ (h : Holding). record h { cuid = cuid }) parts.1 in
-    let is : after ≡ list ++ no_holding rooms cuid ∷ [] = pushed ∙ ap (λ h. list ++ h ∷ []) named_so in
+    let named_so : y ≡ no_holding rooms peer cuid = named ∙ ap (λ (h : Holding). record h { peer = peer; cuid = cuid }) parts.1 in
+    let is : after ≡ list ++ no_holding rooms peer cuid ∷ [] = pushed ∙ ap (λ h. list ++ h ∷ []) named_so in
     let a = ap length is in
-    let b = length-append list (no_holding rooms cuid ∷ []) in
+    let b = length-append list (no_holding rooms peer cuid ∷ []) in
     let d = ap length popped in
     let e = length-append left (x ∷ []) in (
       (
         omega (arith, sum, a, b, d, e),
-        subst AreApart (sym is) (apart_pushed list (no_holding rooms cuid) apart fresh),
-        subst (HaveRooms rooms) (sym is) (rooms_pushed rooms list (no_holding rooms cuid) have refl),
+        subst AreApart (sym is) (apart_pushed list (no_holding rooms peer cuid) apart fresh),
+        subst (HaveRooms rooms) (sym is) (rooms_pushed rooms list (no_holding rooms peer cuid) have refl),
         parts.0,
       ),
       is,
@@ -194,13 +200,14 @@ register_keeps rooms list spare after left x y cuid sum apart have empty popped 
 
 pub leave_keeps : (rooms : Rooms) (list spare after more : List Holding) (x y : Holding) (place : ℕ) (cuid : List ℕ)
     → length list + length spare ≡ rooms.clients → AreApart list → HaveRooms rooms list → AreEmpty rooms spare
-    → position (has_cuid cuid) list ≡ Some place → x ≡ get_or list place x → after ≡ remove list place → y ≡ no_holding x.rooms x.cuid → more ≡ spare ++ y ∷ []
+    → position (has_cuid cuid) list ≡ Some place → x ≡ get_or list place x → after ≡ remove list place → y ≡ no_holding x.rooms x.peer x.cuid → more ≡ spare ++ y ∷ []
     → Keeps rooms after more × (after ≡ filter (λ h. not (has_cuid cuid h)) list)
 leave_keeps rooms list spare after more x y place cuid sum apart have empty found at removed cleared pushed =
     let facts = position-Some (has_cuid cuid) list place x found in
     let is : after ≡ filter (λ h. not (has_cuid cuid h)) list = removed ∙ left_there cuid list place x found apart in
     let rooms_is : x.rooms ≡ rooms = ap (λ (h : Holding). h.rooms) at ∙ rooms_at rooms list place x facts.0 have in
-    let cleared_so : y ≡ no_holding rooms x.cuid = cleared ∙ ap (λ r. no_holding r x.cuid) rooms_is in
+    let cleared_so : y ≡ no_holding rooms x.peer x.cuid = cleared ∙ ap (λ r. no_holding r x.peer x.cuid) rooms_is in
+    let same_peer : y.peer ≡ x.peer = ap (λ (h : Holding). h.peer) cleared_so in
     let same_cuid : y.cuid ≡ x.cuid = ap (λ (h : Holding). h.cuid) cleared_so in
     let a = ap length removed in
     let b = length-remove list place facts.0 in
@@ -210,7 +217,7 @@ leave_keeps rooms list spare after more x y place cuid sum apart have empty foun
         omega (arith, sum, a, b, d, e),
         subst AreApart (sym is) (apart_filtered (λ h. not (has_cuid cuid h)) list apart),
         subst (HaveRooms rooms) (sym is) (rooms_filtered rooms (λ h. not (has_cuid cuid h)) list have),
-        subst (AreEmpty rooms) (sym pushed) (empty_pushed rooms spare y empty (cleared_so ∙ ap (no_holding rooms) (sym same_cuid))),
+        subst (AreEmpty rooms) (sym pushed) (empty_pushed rooms spare y empty (cleared_so ∙ ap (λ p. no_holding rooms p x.cuid) (sym same_peer) ∙ ap (no_holding rooms y.peer) (sym same_cuid))),
       ),
       is,
     )
@@ -265,22 +272,22 @@ length_filtered test (x ∷ xs) =
     cond_both (test x) (x ∷ filter test xs) (filter test xs) (λ ys. length ys ≤ length (x ∷ xs)) (λ is. omega (arith, go)) (λ out. omega (arith, go))
 
 -- one that doesn't register adds no client
-pub number_kept : (rooms : Rooms) (cuid : List ℕ) (c : Change) (list spare : List Holding) → length list + length spare ≡ rooms.clients
-    → is_registration c ≡ false → nat_le (length (list_with rooms cuid c list)) rooms.clients ≡ true
+pub number_kept : (rooms : Rooms) (peer : ℕ) (cuid : List ℕ) (c : Change) (list spare : List Holding) → length list + length spare ≡ rooms.clients
+    → is_registration c ≡ false → nat_le (length (list_with rooms peer cuid c list)) rooms.clients ≡ true
 unfolding is_registration
-number_kept rooms cuid change.Register list spare sum out = absurd (false≢true (sym out))
-number_kept rooms cuid change.Deregister list spare sum out =
+number_kept rooms peer cuid change.Register list spare sum out = absurd (false≢true (sym out))
+number_kept rooms peer cuid change.Deregister list spare sum out =
     let few = length_filtered (λ h. not (has_cuid cuid h)) list in
     le-leb (length (filter (λ h. not (has_cuid cuid h)) list)) rooms.clients (omega (arith, few, sum))
-number_kept rooms cuid c list spare sum out =
+number_kept rooms peer cuid c list spare sum out =
     let same = length-map list (changed cuid c) in
     le-leb (length (map (changed cuid c) list)) rooms.clients (omega (arith, same, sum))
 
-pub number_more : (rooms : Rooms) (cuid : List ℕ) (c : Change) (list : List Holding) → is_registration c ≡ true
-    → nat_lt (length list) rooms.clients ≡ nat_le (length (list_with rooms cuid c list)) rooms.clients
+pub number_more : (rooms : Rooms) (peer : ℕ) (cuid : List ℕ) (c : Change) (list : List Holding) → is_registration c ≡ true
+    → nat_lt (length list) rooms.clients ≡ nat_le (length (list_with rooms peer cuid c list)) rooms.clients
 unfolding is_registration
-number_more rooms cuid change.Register list is = one_more_fits list (no_holding rooms cuid) rooms.clients
-number_more rooms cuid _ list is = absurd (false≢true is)
+number_more rooms peer cuid change.Register list is = one_more_fits list (no_holding rooms peer cuid) rooms.clients
+number_more rooms peer cuid _ list is = absurd (false≢true is)
 
 abbrev pub clients_by : Rooms → List Holding → Clients
 clients_by rooms list = record { rooms = rooms; list = list }

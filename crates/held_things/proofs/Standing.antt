@@ -22,11 +22,11 @@ use Rattle.dots_laws.proofs.Joining.{owned_with}
 use Rattle.dots_laws.proofs.Single.{of_itself, is_of_client, client_is_of}
 use Rattle.held_things.specs.declared.rooms.Rooms.{Rooms}
 use Rattle.held_things.specs.declared.sessions.Session.{Session}
-use Rattle.held_things.specs.Held.{alias_of, aliases_of, acls_of, is_registered, config_of}
-use Rattle.held_things.specs.Tables.{Sizes, Tables, Clients, Holding, Have, StandsFor, KeepsRoom, is_known, holding_of, holdings, clients_of, clients_with, list_with, has_cuid, aliases_with, acls_with, update, tables_with, session_with, session_of, no_session, peer_of, no_clients, rooms_of, sizes_of, client_at, in_clients, aliases_in, acls_in, number_in, config_in}
+use Rattle.held_things.specs.Held.{alias_of, aliases_of, acls_of, registers, is_registered, registrant, config_of}
+use Rattle.held_things.specs.Tables.{Sizes, Tables, Clients, Holding, Have, StandsFor, KeepsRoom, is_known, holding_of, holdings, clients_of, clients_with, list_with, has_cuid, aliases_with, acls_with, update, tables_with, session_with, session_of, no_session, peer_of, no_clients, rooms_of, sizes_of, client_at, in_clients, registrant_in, aliases_in, acls_in, number_in, config_in}
 use Rattle.held_things.specs.Accepting.{keeps_rooms, keeps_room, takes, Takes, rightly, takes_in, accepts_by, accepts}
 use Rattle.held_things.proofs.Written.{other_way, own_aliases, own_acls, number_of_aliases, number_of_acls, no_aliases, no_acls}
-use Rattle.held_things.proofs.Holdings.{IsFresh, length_holdings, own_holdings, others_holdings, find_client, any_client, if_registered}
+use Rattle.held_things.proofs.Holdings.{IsFresh, length_holdings, own_holdings, others_holdings, any_is, still_some, find_client, any_client, if_registered, registered_cases, not_registered}
 use Rattle.held_things.proofs.Configs.{sessions_with, no_config, find_session}
 
 -- ---- places
@@ -120,42 +120,46 @@ module _ (tables : Tables) (es : List Entry) (have : Have tables es) where
       by_clients None none =
           let past = none_past tables.clients client.domain none in
           let number = have.domains in
-          sym (cond-false
-          (is_registered client es)
-          (Some (holding_of tables.sizes.rooms es client))
-          None
-          (no_client tables.sizes client es have.known (omega (arith, past, number))))
+          sym (not_registered tables.sizes.rooms client es es (no_client tables.sizes client es have.known (omega (arith, past, number))))
       by_clients (Some clients) some =
           ap (λ (c : Clients). find (has_cuid client.cuid) c.list) (have.clients client.domain clients some)
           ∙ find_client tables.sizes.rooms client es es
 
   pub registered_is : (client : Client) → is_some (client_at client.domain client.cuid tables.clients) ≡ is_registered client es
-  registered_is client = ap is_some (client_is client) ∙ by_test (is_registered client es)
+  registered_is client =
+      ap is_some (client_is client)
+      ∙ still_some (λ (x : Entry). holding_of tables.sizes.rooms es x.peer client) (find (registers client) es)
+      ∙ any_is (registers client) es
+
+  pub registrant_is : (client : Client) → registrant_in (client_at client.domain client.cuid tables.clients) ≡ registrant client es
+  registrant_is client = ap registrant_in (client_is client) ∙ of_found (find (registers client) es)
     where
-      by_test : (b : Bool) → is_some (cond b (Some (holding_of tables.sizes.rooms es client)) None) ≡ b
-      by_test true = refl
-      by_test false = refl
+      of_found : (o : Option Entry) → registrant_in (option_map (λ (x : Entry). holding_of tables.sizes.rooms es x.peer client) o) ≡ option_map (λ (x : Entry). x.peer) o
+      of_found None = refl
+      of_found (Some x) = refl
 
   pub aliases_are : (client : Client) → aliases_in (client_at client.domain client.cuid tables.clients) ≡ aliases_of client es
   aliases_are client =
       ap aliases_in (client_is client)
-      ∙ cond_both
-      (is_registered client es)
-      (Some (holding_of tables.sizes.rooms es client))
-      None
+      ∙ registered_cases
+      tables.sizes.rooms
+      client
+      es
+      es
       (λ o. aliases_in o ≡ aliases_of client es)
-      (λ is. refl)
+      (λ x. refl)
       (λ out. sym (no_aliases client es have.owned out))
 
   pub acls_are : (client : Client) → acls_in (client_at client.domain client.cuid tables.clients) ≡ acls_of client es
   acls_are client =
       ap acls_in (client_is client)
-      ∙ cond_both
-      (is_registered client es)
-      (Some (holding_of tables.sizes.rooms es client))
-      None
+      ∙ registered_cases
+      tables.sizes.rooms
+      client
+      es
+      es
       (λ o. acls_in o ≡ acls_of client es)
-      (λ is. refl)
+      (λ x. refl)
       (λ out. sym (no_acls client es have.owned out))
 
   pub number_is : (domain : ℕ) → number_in (slice_get tables.clients domain) ≡ tally (λ (x : Entry). is_registration x.change && (x.domain == domain)) es
@@ -283,15 +287,16 @@ own_fits rooms e es owned right =
     let ls = acls_then e es in
     ap (λ n. nat_le n rooms.aliases && nat_le (tally (λ (x : Entry). is_list x.change && same_client e x) (held_with e es)) rooms.acls) als
     ∙ ap (λ n. nat_le (length (aliases_with e.change (aliases_of (client_of e) es))) rooms.aliases && nat_le n rooms.acls) ls
-    ∙ cond_both
-    (is_registered (client_of e) es)
-    (Some (holding_of rooms es (client_of e)))
-    None
+    ∙ registered_cases
+    rooms
+    (client_of e)
+    es
+    es
     (λ o.
     nat_le (length (aliases_with e.change (aliases_of (client_of e) es))) rooms.aliases
     && nat_le (length (acls_with e.change (acls_of (client_of e) es))) rooms.acls
     ≡ keeps_room e.change o)
-    (λ is. refl)
+    (λ x. refl)
     (λ out.
     let kinds = owns_nothing e.change (is_registered (client_of e) es) out right in
     and_from
@@ -348,7 +353,7 @@ module _ (tables : Tables) (es : List Entry) (have : Have tables es) (e : Entry)
       fresh_of tables.sizes.rooms e es have.owned (not_yet e.change (is_registered (client_of e) es) registers right)
 
   own_list : (e.domain == e.domain) ≡ true → rightly e.change (is_registered (client_of e) es) ≡ true
-      → holdings tables.sizes.rooms e.domain (held_with e es) (held_with e es) ≡ list_with tables.sizes.rooms e.cuid e.change (holdings tables.sizes.rooms e.domain es es)
+      → holdings tables.sizes.rooms e.domain (held_with e es) (held_with e es) ≡ list_with tables.sizes.rooms e.peer e.cuid e.change (holdings tables.sizes.rooms e.domain es es)
   own_list own right = own_holdings tables.sizes.rooms e.domain e es own (fresh_if right)
 
   rooms_by : is_known tables.sizes e ≡ true → rightly e.change (is_registered (client_of e) es) ≡ true
@@ -375,16 +380,16 @@ module _ (tables : Tables) (es : List Entry) (have : Have tables es) (e : Entry)
           tables.sizes.rooms.clients
           (no_number tables.sizes e.domain (held_with e es) (known_with tables.sizes e es have.known known) beyond))
           (own_fits tables.sizes.rooms e es have.owned right
-          ∙ ap (keeps_room e.change) (cond-false (is_registered (client_of e) es) (Some (holding_of tables.sizes.rooms es (client_of e))) None out))
+          ∙ ap (keeps_room e.change) (not_registered tables.sizes.rooms (client_of e) es es out))
       by_clients (Some clients) some =
           ap
           (λ n. nat_le n tables.sizes.rooms.clients && own_rooms tables.sizes.rooms e es)
           (sym (length_holdings tables.sizes.rooms e.domain (held_with e es) (held_with e es)) ∙ ap length (own_list (eq-eqb e.domain e.domain refl) right))
           ∙ ap
           (λ b.
-          nat_le (length (list_with tables.sizes.rooms e.cuid e.change (holdings tables.sizes.rooms e.domain es es))) tables.sizes.rooms.clients && b)
+          nat_le (length (list_with tables.sizes.rooms e.peer e.cuid e.change (holdings tables.sizes.rooms e.domain es es))) tables.sizes.rooms.clients && b)
           (own_fits tables.sizes.rooms e es have.owned right ∙ ap (keeps_room e.change) (sym (find_client tables.sizes.rooms (client_of e) es es)))
-          ∙ ap (takes e.cuid e.change) (sym (have.clients e.domain clients some))
+          ∙ ap (takes e.peer e.cuid e.change) (sym (have.clients e.domain clients some))
 
   pub accepts_is : accepts_in tables.sizes es e ≡ accepts_by tables e
   accepts_is =
@@ -410,7 +415,7 @@ module _ (tables : Tables) (es : List Entry) (have : Have tables es) (e : Entry)
       let more = and_parts (laws.registers_rightly es e) (keeps_rooms tables.sizes.rooms e (held_with e es)) parts.1 in
       let right : rightly e.change (is_registered (client_of e) es) ≡ true = sym (law_rightly es e) ∙ more.0 in
       record {
-        domains = length_updated (clients_with e.cuid e.change) e.domain tables.clients ∙ have.domains;
+        domains = length_updated (clients_with e.peer e.cuid e.change) e.domain tables.clients ∙ have.domains;
         clients = λ domain clients some. by_domain right domain clients some (cases_Bool (e.domain == domain));
         sessions = ap (map (session_with e)) have.sessions ∙ sessions_with e es tables.sizes.peers;
         owned = owned_with
@@ -429,35 +434,35 @@ module _ (tables : Tables) (es : List Entry) (have : Have tables es) (e : Entry)
       by_map (Some b) f c is = (b, refl, same_Some (f b) c is)
 
       by_domain : rightly e.change (is_registered (client_of e) es) ≡ true → (domain : ℕ) (clients : Clients)
-          → slice_get (update (clients_with e.cuid e.change) e.domain tables.clients) domain ≡ Some clients
+          → slice_get (update (clients_with e.peer e.cuid e.change) e.domain tables.clients) domain ≡ Some clients
           → ((e.domain == domain) ≡ true) ⊎ ((e.domain == domain) ≡ false)
           → clients ≡ clients_of tables.sizes.rooms domain (held_with e es)
       by_domain right domain clients some (inl own) =
           let same = eqb-true e.domain domain own in
           let there = by_map
           (slice_get tables.clients e.domain)
-          (clients_with e.cuid e.change)
+          (clients_with e.peer e.cuid e.change)
           clients
-          (sym (get_updated (clients_with e.cuid e.change) e.domain tables.clients)
-          ∙ ap (slice_get (update (clients_with e.cuid e.change) e.domain tables.clients)) same
+          (sym (get_updated (clients_with e.peer e.cuid e.change) e.domain tables.clients)
+          ∙ ap (slice_get (update (clients_with e.peer e.cuid e.change) e.domain tables.clients)) same
           ∙ some) in
           sym there.2
-          ∙ ap (clients_with e.cuid e.change) (have.clients e.domain there.0 there.1)
+          ∙ ap (clients_with e.peer e.cuid e.change) (have.clients e.domain there.0 there.1)
           ∙ ap (clients_by tables.sizes.rooms) (sym (own_list (eq-eqb e.domain e.domain refl) right))
           ∙ ap (λ d. clients_of tables.sizes.rooms d (held_with e es)) same
       by_domain right domain clients some (inr other) =
           have.clients
           domain
           clients
-          (sym (get_other (clients_with e.cuid e.change) e.domain domain tables.clients (eqb-false e.domain domain other)) ∙ some)
+          (sym (get_other (clients_with e.peer e.cuid e.change) e.domain domain tables.clients (eqb-false e.domain domain other)) ∙ some)
           ∙ ap (clients_by tables.sizes.rooms) (sym (others_holdings tables.sizes.rooms domain e es other))
 
-pub takes_of : (cuid : List ℕ) (c : Change) (clients : Clients) → takes cuid c clients ≡ true → (is_registration c ≡ true → is_some (find (has_cuid cuid) clients.list) ≡ false)
-    → Takes cuid c clients
-takes_of cuid c clients is fresh =
-    let parts = and_parts (nat_le (length (list_with clients.rooms cuid c clients.list)) clients.rooms.clients) (keeps_room c (find (has_cuid cuid) clients.list)) is in
+pub takes_of : (peer : ℕ) (cuid : List ℕ) (c : Change) (clients : Clients) → takes peer cuid c clients ≡ true → (is_registration c ≡ true → is_some (find (has_cuid cuid) clients.list) ≡ false)
+    → Takes peer cuid c clients
+takes_of peer cuid c clients is fresh =
+    let parts = and_parts (nat_le (length (list_with clients.rooms peer cuid c clients.list)) clients.rooms.clients) (keeps_room c (find (has_cuid cuid) clients.list)) is in
     record {
-      number = leb-true (length (list_with clients.rooms cuid c clients.list)) clients.rooms.clients parts.0;
+      number = leb-true (length (list_with clients.rooms peer cuid c clients.list)) clients.rooms.clients parts.0;
       rooms = λ holding there. room_of holding (sym (ap (keeps_room c) there) ∙ parts.1);
       fresh = λ registers. sym (any_is (has_cuid cuid) clients.list) ∙ fresh registers;
     }
@@ -473,20 +478,9 @@ takes_of cuid c clients is fresh =
           acls = leb-true (length (acls_with c holding.acls)) holding.rooms.acls both.1;
         }
 
-    any_is : {A : Type 0} (test : A → Bool) (xs : List A) → is_some (find test xs) ≡ list_any test xs
-    any_is test [] = refl
-    any_is test (x ∷ xs) =
-        cond_both
-        (test x)
-        (Some x)
-        (find test xs)
-        (λ o. is_some o ≡ (test x || list_any test xs))
-        (λ is. sym (or_left (test x) (list_any test xs) is))
-        (λ out. any_is test xs ∙ sym (ap (λ b. b || list_any test xs) out))
-
 -- what is asked of the domain's clients before the entry is put in
 pub takes_from : (tables : Tables) (e : Entry) → accepts_by tables e ≡ true → (clients : Clients) → slice_get tables.clients e.domain ≡ Some clients
-    → Takes e.cuid e.change clients
+    → Takes e.peer e.cuid e.change clients
 takes_from tables e accepted clients some =
     let parts = and_parts
     (is_known tables.sizes e)
@@ -494,6 +488,7 @@ takes_from tables e accepted clients some =
     accepted in
     let more = and_parts (rightly e.change (is_some (client_at e.domain e.cuid tables.clients))) (takes_in e (slice_get tables.clients e.domain)) parts.1 in
     takes_of
+    e.peer
     e.cuid
     e.change
     clients
@@ -531,14 +526,14 @@ with_sizes domains rooms peers clients sessions =
     record { sizes = record { domains = domains; rooms = rooms; peers = peers }; clients = clients; sessions = sessions }
 
 pub fields_with : (rooms : Rooms) (clients after : List Clients) (sessions then : List Session) (e : Entry)
-    → after ≡ update (clients_with e.cuid e.change) e.domain clients → then ≡ map (session_with e) sessions
+    → after ≡ update (clients_with e.peer e.cuid e.change) e.domain clients → then ≡ map (session_with e) sessions
     → tables_of rooms after then ≡ tables_with e (tables_of rooms clients sessions)
 fields_with rooms clients after sessions then e changed configured =
     let more = map (session_with e) sessions in
-    let others = update (clients_with e.cuid e.change) e.domain clients in
+    let others = update (clients_with e.peer e.cuid e.change) e.domain clients in
     ap (λ cs. tables_of rooms cs then) changed
     ∙ ap (λ ss. tables_of rooms others ss) configured
-    ∙ ap (λ n. with_sizes n rooms (map peer_of more) others more) (length_updated (clients_with e.cuid e.change) e.domain clients)
+    ∙ ap (λ n. with_sizes n rooms (map peer_of more) others more) (length_updated (clients_with e.peer e.cuid e.change) e.domain clients)
     ∙ ap (λ peers. with_sizes (length clients) rooms peers others more) (same_peers e sessions)
 
 -- ---- the empty history

@@ -35,15 +35,15 @@ keeps_room change (Some holding) =
     nat_le (length (aliases_with change holding.aliases)) holding.rooms.aliases
     && nat_le (length (acls_with change holding.acls)) holding.rooms.acls
 
--- after the change of a client its domain and the client keep their rooms
-abbrev pub takes : List ℕ → Change → Clients → Bool
-takes cuid change clients =
-    nat_le (length (list_with clients.rooms cuid change clients.list)) clients.rooms.clients
+-- after the change of a client by this peer its domain and the client keep their rooms
+abbrev pub takes : ℕ → List ℕ → Change → Clients → Bool
+takes peer cuid change clients =
+    nat_le (length (list_with clients.rooms peer cuid change clients.list)) clients.rooms.clients
     && keeps_room change (find (has_cuid cuid) clients.list)
 
 -- the same as facts, and a client that registers isn't there
-pub record Takes (cuid : List ℕ) (change : Change) (clients : Clients) : Type 0 where
-  pub number : length (list_with clients.rooms cuid change clients.list) ≤ clients.rooms.clients
+pub record Takes (peer : ℕ) (cuid : List ℕ) (change : Change) (clients : Clients) : Type 0 where
+  pub number : length (list_with clients.rooms peer cuid change clients.list) ≤ clients.rooms.clients
   pub rooms : (holding : Holding) → find (has_cuid cuid) clients.list ≡ Some holding → KeepsRoom change holding
   pub fresh : is_registration change ≡ true → list_any (has_cuid cuid) clients.list ≡ false
 
@@ -54,7 +54,7 @@ rightly change registered =
 
 abbrev pub takes_in : Entry → Option Clients → Bool
 takes_in e None = true
-takes_in e (Some clients) = takes e.cuid e.change clients
+takes_in e (Some clients) = takes e.peer e.cuid e.change clients
 
 abbrev pub accepts_by : Tables → Entry → Bool
 accepts_by tables e =

@@ -1,5 +1,5 @@
 -- What a history leaves held of a client and of a peer, in what it leaves held at all.
-use Rattle.std.specs.Prelude.{ℕ, Bool, ◌&&◌, ◌==◌, nat_lt, bytes_eq, if◌then◌else◌, List, [], ◌∷◌, ◌++◌, filter, Option, Some, None, option_to_list}
+use Rattle.std.specs.Prelude.{ℕ, Bool, ◌&&◌, ◌==◌, nat_lt, bytes_eq, if◌then◌else◌, List, [], ◌∷◌, ◌++◌, filter, Option, Some, None, option_to_list, option_map, not}
 use Rattle.std.specs.List.{list_any, find}
 use Rattle.acl_lists.specs.declared.alias.Alias.{Alias}
 use Rattle.acl_lists.specs.declared.acl.Acl.{Acl}
@@ -7,6 +7,7 @@ use Rattle.dots_history.specs.declared.config.Config.{Config}
 use Rattle.dots_history.specs.declared.entry.Entry.{Entry}
 use Rattle.dots_history.specs.declared.change.Change.{Change}
 use Rattle.dots_history.specs.declared.change.Change.TheVariants as change
+use Rattle.dots_history.specs.Entries.{option_any}
 use Rattle.dots_history.specs.Histories.{tally, or_else}
 use Rattle.dots_history.specs.Rows.{acl_of}
 use Rattle.dots_laws.specs.Capacities.{is_registration, is_alias, is_list}
@@ -38,9 +39,21 @@ alias_named name aliases = find (λ alias. bytes_eq name alias.name) aliases
 abbrev pub acl_named : List ℕ → List Acl → Option Acl
 acl_named name acls = find (λ acl. bytes_eq name acl.name) acls
 
--- the client is registered (RFC 8783, section 5.1)
+-- the entry registers the client (RFC 8783, section 5.1)
+abbrev pub registers : Client → Entry → Bool
+registers client e = is_registration e.change && is_of client e
+
+-- the client is registered
 abbrev pub is_registered : Client → List Entry → Bool
-is_registered client standing = list_any (λ e. is_registration e.change && is_of client e) standing
+is_registered client standing = list_any (registers client) standing
+
+-- The peer that registered the client, where it is registered. Of a client one registration at most is held.
+abbrev pub registrant : Client → List Entry → Option ℕ
+registrant client standing = option_map (λ (e : Entry). e.peer) (find (registers client) standing)
+
+-- the client is registered, by another peer than this one
+abbrev pub is_of_another : ℕ → Client → List Entry → Bool
+is_of_another peer client standing = option_any (λ other. not (other == peer)) (registrant client standing)
 
 -- the session configuration that a change sets, with its sid
 abbrev pub config_set : Change → Option (ℕ × Config)

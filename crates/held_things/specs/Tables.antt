@@ -44,17 +44,24 @@ sizes_of settings = record {
 -- a registered client, with what it holds and how much that may be
 pub record Holding : Type 0 where
   pub rooms : Rooms
+  -- the peer that registered it
+  pub peer : ℕ
   pub cuid : List ℕ
   pub aliases : List Alias
   pub acls : List Acl
 
-abbrev pub no_holding : Rooms → List ℕ → Holding
-no_holding rooms cuid = record { rooms = rooms; cuid = cuid; aliases = []; acls = [] }
+abbrev pub no_holding : Rooms → ℕ → List ℕ → Holding
+no_holding rooms peer cuid = record { rooms = rooms; peer = peer; cuid = cuid; aliases = []; acls = [] }
 
--- what a client holds
-abbrev pub holding_of : Rooms → List Entry → Client → Holding
-holding_of rooms standing client =
-    record { rooms = rooms; cuid = client.cuid; aliases = aliases_of client standing; acls = acls_of client standing }
+-- what a client holds that this peer registered
+abbrev pub holding_of : Rooms → List Entry → ℕ → Client → Holding
+holding_of rooms standing peer client = record {
+  rooms = rooms;
+  peer = peer;
+  cuid = client.cuid;
+  aliases = aliases_of client standing;
+  acls = acls_of client standing;
+}
 
 -- What a change of the client makes of its aliases and of its access lists: what is written comes last, also where one of
 -- its name was there.
@@ -67,6 +74,7 @@ acls_with change acls = filter (λ acl. not (undoes_acl acl.name change)) acls +
 abbrev pub holding_with : Change → Holding → Holding
 holding_with change holding = record {
   rooms = holding.rooms;
+  peer = holding.peer;
   cuid = holding.cuid;
   aliases = aliases_with change holding.aliases;
   acls = acls_with change holding.acls;
@@ -92,7 +100,7 @@ abbrev pub holdings : Rooms → ℕ → List Entry → List Entry → List Holdi
 holdings rooms domain standing [] = []
 holdings rooms domain standing (e ∷ es) =
     if is_registration e.change && (e.domain == domain)
-    then holding_of rooms standing (client_of e) ∷ holdings rooms domain standing es
+    then holding_of rooms standing e.peer (client_of e) ∷ holdings rooms domain standing es
     else holdings rooms domain standing es
 
 -- the clients of a domain
@@ -106,14 +114,15 @@ has_cuid cuid holding = bytes_eq cuid holding.cuid
 abbrev pub changed : List ℕ → Change → Holding → Holding
 changed cuid change holding = if has_cuid cuid holding then holding_with change holding else holding
 
--- what a change of a client makes of the clients of its domain
-abbrev pub list_with : Rooms → List ℕ → Change → List Holding → List Holding
-list_with rooms cuid change.Register list = list ++ no_holding rooms cuid ∷ []
-list_with rooms cuid change.Deregister list = filter (λ holding. not (has_cuid cuid holding)) list
-list_with rooms cuid c list = map (changed cuid c) list
+-- what a change of a client by this peer makes of the clients of its domain
+abbrev pub list_with : Rooms → ℕ → List ℕ → Change → List Holding → List Holding
+list_with rooms peer cuid change.Register list = list ++ no_holding rooms peer cuid ∷ []
+list_with rooms peer cuid change.Deregister list = filter (λ holding. not (has_cuid cuid holding)) list
+list_with rooms peer cuid c list = map (changed cuid c) list
 
-abbrev pub clients_with : List ℕ → Change → Clients → Clients
-clients_with cuid change clients = record { rooms = clients.rooms; list = list_with clients.rooms cuid change clients.list }
+abbrev pub clients_with : ℕ → List ℕ → Change → Clients → Clients
+clients_with peer cuid change clients =
+    record { rooms = clients.rooms; list = list_with clients.rooms peer cuid change clients.list }
 
 -- no two have one cuid
 abbrev pub AreApart : List Holding → Type 0
@@ -123,7 +132,7 @@ AreApart (holding ∷ list) = (list_any (has_cuid holding.cuid) list ≡ false) 
 -- each of these is empty, and has these rooms
 abbrev pub AreEmpty : Rooms → List Holding → Type 0
 AreEmpty rooms [] = Unit {0}
-AreEmpty rooms (holding ∷ list) = (holding ≡ no_holding rooms holding.cuid) × AreEmpty rooms list
+AreEmpty rooms (holding ∷ list) = (holding ≡ no_holding rooms holding.peer holding.cuid) × AreEmpty rooms list
 
 -- each of these has these rooms
 abbrev pub HaveRooms : Rooms → List Holding → Type 0
@@ -166,7 +175,7 @@ update f (suc i) (x ∷ xs) = x ∷ update f i xs
 abbrev pub tables_with : Entry → Tables → Tables
 tables_with e tables = record {
   sizes = tables.sizes;
-  clients = update (clients_with e.cuid e.change) e.domain tables.clients;
+  clients = update (clients_with e.peer e.cuid e.change) e.domain tables.clients;
   sessions = map (session_with e) tables.sessions;
 }
 
@@ -197,6 +206,10 @@ in_clients cuid (Some clients) = find (has_cuid cuid) clients.list
 -- the client of this domain and cuid
 abbrev pub client_at : ℕ → List ℕ → List Clients → Option Holding
 client_at domain cuid clients = in_clients cuid (slice_get clients domain)
+
+abbrev pub registrant_in : Option Holding → Option ℕ
+registrant_in None = None
+registrant_in (Some holding) = Some holding.peer
 
 abbrev pub aliases_in : Option Holding → List Alias
 aliases_in None = []

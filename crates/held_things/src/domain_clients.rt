@@ -1,6 +1,6 @@
 //! The clients of a domain.
 
-ghost use Rattle.std.specs.Prelude.{◌≡◌, ◌<◌, ◌++◌, ◌∷◌, [], not, filter, map, length, nat_le, IfOk, false, option_copied, position, Some, slice_index_or, slice_set, vec_capacity};
+ghost use Rattle.std.specs.Prelude.{◌≡◌, ℕ, ◌<◌, ◌++◌, ◌∷◌, [], not, filter, map, length, nat_le, IfOk, false, option_copied, position, Some, slice_index_or, slice_set, vec_capacity};
 ghost use Rattle.std.specs.List.{list_any, find};
 ghost use Rattle.dots_laws.specs.Capacities.{is_registration};
 ghost use Rattle.held_things.specs.Tables.{Holding, no_holding, holding_with, has_cuid, changed, list_with, clients_with, KeepsRoom};
@@ -71,13 +71,13 @@ impl DomainClients {
 
     /// Whether the domain and the client have room for what a change of the client of this cuid makes of them.
     pub fn takes(&self, cuid: &[u8], change: &Change) -> bool
-        ensures { result ≡ takes cuid.now change.now self.now }
+        ensures { (peer : ℕ) → result ≡ takes peer cuid.now change.now self.now }
     {
         self.keeps_number(cuid, change) && has_room(self.client(cuid), change)
     }
 
     fn keeps_number(&self, cuid: &[u8], change: &Change) -> bool
-        ensures { result ≡ nat_le (length (list_with self.now.rooms cuid.now change.now self.now.list)) self.now.rooms.clients }
+        ensures { (peer : ℕ) → result ≡ nat_le (length (list_with self.now.rooms peer cuid.now change.now self.now.list)) self.now.rooms.clients }
     {
         if registers(change) {
             return self.number() < self.rooms.clients;
@@ -85,26 +85,26 @@ impl DomainClients {
         true
     }
 
-    /// What a change of the client of this cuid makes of the domain's clients. There is room for that, and a client that registers
-    /// isn't registered.
-    pub fn apply(&mut self, cuid: Text, change: Change)
-        requires { Takes cuid change self.old }
-        ensures { self.new ≡ clients_with cuid change self.old }
+    /// What a change by this peer of the client of this cuid makes of the domain's clients. There is room for that, and a client that
+    /// registers isn't registered.
+    pub fn apply(&mut self, peer: u32, cuid: Text, change: Change)
+        requires { Takes peer cuid change self.old }
+        ensures { self.new ≡ clients_with peer cuid change self.old }
     {
         match change {
-            Change::Register => self.register(cuid),
+            Change::Register => self.register(peer, cuid),
             Change::Deregister => self.leave(cuid.bytes()),
             change => self.change(cuid.bytes(), change),
         }
     }
 
-    fn register(&mut self, cuid: Text)
+    fn register(&mut self, peer: u32, cuid: Text)
         requires room { length self.old.list < self.old.rooms.clients }
         requires fresh { list_any (has_cuid cuid) self.old.list ≡ false }
-        ensures { self.new ≡ record { rooms = self.old.rooms; list = self.old.list ++ no_holding self.old.rooms cuid ∷ [] } }
+        ensures { self.new ≡ record { rooms = self.old.rooms; list = self.old.list ++ no_holding self.old.rooms peer cuid ∷ [] } }
     {
         let mut client = self.spare.pop().unwrap();
-        client.rename(cuid);
+        client.rename(peer, cuid);
         self.list.push_reserved(client);
     }
 

@@ -18,6 +18,8 @@ use std::marker::Model;
 #[derive(Debug, Drop)]
 pub struct RegisteredClient {
     rooms: Rooms,
+    /// Who registered it.
+    peer: u32,
     cuid: Text,
     aliases: Vec<Alias>,
     acls: Vec<Acl>,
@@ -31,6 +33,7 @@ impl Model for RegisteredClient {
 
     ghost view = { λ client. record {
       rooms = client.rooms;
+      peer = client.peer;
       cuid = client.cuid;
       aliases = client.aliases.items;
       acls = client.acls.items;
@@ -43,14 +46,22 @@ impl Model for RegisteredClient {
 impl RegisteredClient {
     /// A client without a name that holds nothing, with the memory for what it may hold.
     pub fn new(alloc: Global, rooms: Rooms) -> Result<Self, NoMemory>
-        ensures { IfOk result (λ client. client ≡ no_holding rooms []) }
+        ensures { IfOk result (λ client. client ≡ no_holding rooms 0 []) }
     {
         Ok(RegisteredClient {
             rooms,
+            peer: 0,
             cuid: Text::from_string(String::new(alloc)),
             aliases: Vec::with_capacity(alloc, rooms.aliases)?,
             acls: Vec::with_capacity(alloc, rooms.acls)?,
         })
+    }
+
+    /// The peer that registered it.
+    pub fn peer(&self) -> u32
+        ensures { result ≡ self.now.peer }
+    {
+        self.peer
     }
 
     /// Its name in its domain.
@@ -72,16 +83,17 @@ impl RegisteredClient {
         self.acls.as_slice()
     }
 
-    /// Gives it this name.
-    pub fn rename(&mut self, cuid: Text)
-        ensures { self.new ≡ record self.old { cuid = cuid } }
+    /// Makes it the client of this name that this peer registers.
+    pub fn rename(&mut self, peer: u32, cuid: Text)
+        ensures { self.new ≡ record self.old { peer = peer; cuid = cuid } }
     {
+        self.peer = peer;
         self.cuid = cuid;
     }
 
     /// Empties it.
     pub fn clear(&mut self)
-        ensures { self.new ≡ no_holding self.old.rooms self.old.cuid }
+        ensures { self.new ≡ no_holding self.old.rooms self.old.peer self.old.cuid }
     {
         self.aliases.clear();
         self.acls.clear();

@@ -6,8 +6,8 @@ ghost use Rattle.dots_history.specs.declared.entry.Entry.{Entry};
 ghost use Rattle.dots_history.specs.Entries.{is_configuration};
 ghost use Rattle.dots_history.specs.Histories.{held};
 ghost use Rattle.dots_laws.specs.Capacities.{is_registration, is_alias, is_list};
-ghost use Rattle.held_things.specs.Held.{aliases_of, acls_of, alias_named, acl_named, is_registered, config_of, number_of, reached};
-ghost use Rattle.held_things.specs.Tables.{StandsFor, Clients, sizes_of, rooms_of, no_clients, peer_of, update, clients_with, tables_with, is_known, client_at, aliases_in, acls_in, number_in, config_in, most_of, told};
+ghost use Rattle.held_things.specs.Held.{aliases_of, acls_of, alias_named, acl_named, is_registered, registrant, config_of, number_of, reached};
+ghost use Rattle.held_things.specs.Tables.{StandsFor, Clients, sizes_of, rooms_of, no_clients, peer_of, update, clients_with, tables_with, is_known, client_at, registrant_in, aliases_in, acls_in, number_in, config_in, most_of, told};
 ghost use Rattle.held_things.specs.Accepting.{accepts, accepts_by, FitsIn, Takes, rightly, takes_in};
 
 use crate::domain_clients::DomainClients;
@@ -87,7 +87,7 @@ impl HeldThings {
     }
 
     fn put(&mut self, entry: Entry)
-        requires { (clients : Clients) → slice_get self.old.clients entry.domain ≡ Some clients → Takes entry.cuid entry.change clients }
+        requires { (clients : Clients) → slice_get self.old.clients entry.domain ≡ Some clients → Takes entry.peer entry.cuid entry.change clients }
         ensures { self.new ≡ tables_with entry self.old }
     {
         configure(&mut self.sessions, &entry);
@@ -99,6 +99,13 @@ impl HeldThings {
         ensures { (entries : List Entry) → StandsFor self.now entries → result ≡ is_registered (record { domain = domain; cuid = cuid.now }) (held entries) }
     {
         is_there(self.client(domain, cuid))
+    }
+
+    /// The peer that registered the client; None where it isn't registered.
+    pub fn registrant(&self, domain: u16, cuid: &[u8]) -> Option<u32>
+        ensures { (entries : List Entry) → StandsFor self.now entries → result ≡ registrant (record { domain = domain; cuid = cuid.now }) (held entries) }
+    {
+        registrant_of(self.client(domain, cuid))
     }
 
     /// The aliases of a client, in order of writing; none where it isn't registered.
@@ -236,21 +243,21 @@ fn no_clients(alloc: Global, count: u16, rooms: Rooms) -> Result<Vec<DomainClien
 
 /// What an entry makes of the clients of its domain, where there is such a domain.
 fn change_clients(domains: &mut Vec<DomainClients>, entry: Entry)
-    requires { (clients : Clients) → slice_get domains.old.items entry.domain ≡ Some clients → Takes entry.cuid entry.change clients }
-    ensures { domains.new.items ≡ update (clients_with entry.cuid entry.change) entry.domain domains.old.items }
+    requires { (clients : Clients) → slice_get domains.old.items entry.domain ≡ Some clients → Takes entry.peer entry.cuid entry.change clients }
+    ensures { domains.new.items ≡ update (clients_with entry.peer entry.cuid entry.change) entry.domain domains.old.items }
 {
     change_domain(domains.as_mut_slice(), entry);
 }
 
 #[tactic(auto, using(crate::proofs::Standing::updated_past))]
 fn change_domain(domains: &mut [DomainClients], entry: Entry)
-    requires { (clients : Clients) → slice_get domains.old entry.domain ≡ Some clients → Takes entry.cuid entry.change clients }
-    ensures { domains.new ≡ update (clients_with entry.cuid entry.change) entry.domain domains.old }
+    requires { (clients : Clients) → slice_get domains.old entry.domain ≡ Some clients → Takes entry.peer entry.cuid entry.change clients }
+    ensures { domains.new ≡ update (clients_with entry.peer entry.cuid entry.change) entry.domain domains.old }
 {
     let place = usize::from(entry.domain);
     if place < domains.len() {
         let clients = &mut domains[place];
-        clients.apply(entry.cuid, entry.change);
+        clients.apply(entry.peer, entry.cuid, entry.change);
     }
 }
 
@@ -311,6 +318,15 @@ fn is_there(client: Option<&RegisteredClient>) -> bool
     match client {
         Some(_) => true,
         None => false,
+    }
+}
+
+fn registrant_of(client: Option<&RegisteredClient>) -> Option<u32>
+    ensures { result ≡ registrant_in (option_copied client.entry) }
+{
+    match client {
+        Some(client) => Some(client.peer()),
+        None => None,
     }
 }
 

@@ -84,6 +84,8 @@ pub fn acls_of(acls: &[Acl]) -> Letters {
 #[derive(Clone, Copy, Debug, PartialEq, Eq)]
 pub struct Holding {
     pub registered: bool,
+    /// Who registered it.
+    pub registrant: Option<u32>,
     pub aliases: Letters,
     pub acls: Letters,
     /// The numbers that are reached: of clients, of aliases and of access lists.
@@ -94,6 +96,7 @@ pub fn client(things: &HeldThings, who: Who<'_>) -> Holding {
     let cuid = who.cuid.as_bytes();
     Holding {
         registered: things.registered(who.domain, cuid),
+        registrant: things.registrant(who.domain, cuid),
         aliases: aliases_of(things.aliases(who.domain, cuid)),
         acls: acls_of(things.acls(who.domain, cuid)),
         full: [

@@ -61,6 +61,16 @@ fn clients(held: &[&Entry], domain: u16) -> usize {
         .count()
 }
 
+/// Who registered the client.
+fn registrant(held: &[&Entry], who: Who<'_>) -> Option<u32> {
+    for entry in held {
+        if registers(entry) && is_of(who, entry) {
+            return Some(entry.peer);
+        }
+    }
+    None
+}
+
 /// What is told of a client.
 pub fn client(held: &[&Entry], limits: Limits, who: Who<'_>) -> Holding {
     let (aliases, alias_number) = aliases(held, who);
@@ -69,6 +79,7 @@ pub fn client(held: &[&Entry], limits: Limits, who: Who<'_>) -> Holding {
         registered: held
             .iter()
             .any(|entry| registers(entry) && is_of(who, entry)),
+        registrant: registrant(held, who),
         aliases,
         acls,
         full: [

@@ -9,7 +9,7 @@ use Rattle.held_things.proofs.things.change_domain.Goals as goal
 pub apply-requires : goal.apply-requires
 apply-requires c =
     subst
-    (Takes c.args.entry.cuid c.args.entry.change)
+    (Takes c.args.entry.peer c.args.entry.cuid c.args.entry.change)
     c.index-domains-place.is
     (c.requires
     c.index-domains-place.result
@@ -20,12 +20,12 @@ pub returns-then-place-domains : goal.returns-then-place-domains
 returns-then-place-domains c =
     ap
     (set c.args.domains.now c.from-place.result)
-    (c.apply.ensures ∙ ap (clients_with c.args.entry.cuid c.args.entry.change) (sym c.index-domains-place.is))
+    (c.apply.ensures ∙ ap (clients_with c.args.entry.peer c.args.entry.cuid c.args.entry.change) (sym c.index-domains-place.is))
     ∙ set_updated
-    (clients_with c.args.entry.cuid c.args.entry.change)
+    (clients_with c.args.entry.peer c.args.entry.cuid c.args.entry.change)
     c.from-place.result
     c.args.domains.now
     c.index-domains-place.result
     c.if-place-domains.true
     c.index-domains-place.is
-    ∙ ap (λ i. update (clients_with c.args.entry.cuid c.args.entry.change) i c.args.domains.now) c.from-place.ensures
+    ∙ ap (λ i. update (clients_with c.args.entry.peer c.args.entry.cuid c.args.entry.change) i c.args.domains.now) c.from-place.ensures

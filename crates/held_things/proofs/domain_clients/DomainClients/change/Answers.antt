@@ -8,7 +8,7 @@ use Rattle.held_things.proofs.domain_clients.DomainClients.change.Goals as goal
 
 pub change_in-requires-clause-within : goal.change_in-requires-clause-within
 change_in-requires-clause-within c =
-    (position-Some (has_cuid c.args.cuid.now) c.self.inside.list.items c.in-Some.place (no_holding c.self.inside.rooms [])
+    (position-Some (has_cuid c.args.cuid.now) c.self.inside.list.items c.in-Some.place (no_holding c.self.inside.rooms 0 [])
     (ap (position (has_cuid c.args.cuid.now)) (sym c.as_slice.ensures.value) ∙ sym c.in-Some.ensures)).0
 
 pub change_in-requires-clause-room : goal.change_in-requires-clause-room
@@ -29,7 +29,7 @@ pub invariant_of-self : goal.invariant_of-self
 invariant_of-self c =
     let there : position (has_cuid c.args.cuid.now) c.self.inside.list.items ≡ Some c.in-Some.place =
     ap (position (has_cuid c.args.cuid.now)) (sym c.as_slice.ensures.value) ∙ sym c.in-Some.ensures in
-    let empty = no_holding c.self.inside.rooms [] in
+    let empty = no_holding c.self.inside.rooms 0 [] in
     let facts = position-Some (has_cuid c.args.cuid.now) c.self.inside.list.items c.in-Some.place empty there in
     let here = get_or c.self.inside.list.items c.in-Some.place empty in
     let at = at_any c.self.inside.list.items c.in-Some.place empty facts.0 in
@@ -47,7 +47,7 @@ pub returns-in-Some : goal.returns-in-Some
 returns-in-Some c =
     let there : position (has_cuid c.args.cuid.now) c.self.inside.list.items ≡ Some c.in-Some.place =
     ap (position (has_cuid c.args.cuid.now)) (sym c.as_slice.ensures.value) ∙ sym c.in-Some.ensures in
-    let empty = no_holding c.self.inside.rooms [] in
+    let empty = no_holding c.self.inside.rooms 0 [] in
     let facts = position-Some (has_cuid c.args.cuid.now) c.self.inside.list.items c.in-Some.place empty there in
     let here = get_or c.self.inside.list.items c.in-Some.place empty in
     let at = at_any c.self.inside.list.items c.in-Some.place empty facts.0 in

@@ -1,6 +1,6 @@
 use Rattle.std.proofs.Common.{◌≡◌, ◌++◌, ◌∷◌, [], ap, ◌∙◌, sym, subst, length, arith, length-append}
-use Rattle.held_things.specs.Tables.{Holding, AreEmpty, no_holding}
-use Rattle.held_things.proofs.Places.{empty_pushed}
+use Rattle.held_things.specs.Tables.{AreEmpty}
+use Rattle.held_things.proofs.Places.{empty_pushed, fresh_is}
 use Rattle.held_things.proofs.domain_clients.DomainClients.new.Goals as goal
 
 pub loop-preserved : goal.loop-preserved
@@ -14,6 +14,6 @@ loop-preserved c = (
       c.loop.spare.items
       c.in_ok-new.field-0
       c.loop.invariant.1
-      (c.in_ok-new.ensures ∙ ap (no_holding c.args.rooms) (sym (ap (λ (h : Holding). h.cuid) c.in_ok-new.ensures)))),
+      (fresh_is c.args.rooms c.in_ok-new.field-0 c.in_ok-new.ensures)),
   omega (arith, c.push_reserved.ensures.capacity, c.loop.invariant.2),
 )

@@ -7,7 +7,7 @@ use Rattle.held_things.proofs.domain_clients.DomainClients.register.Goals as goa
 
 pub invariant_of-self : goal.invariant_of-self
 invariant_of-self c =
-    let keeps = register_keeps c.self.inside.rooms c.self.inside.list.items c.self.inside.spare.items c.push_reserved.new.self.items c.pop.new.self.items _ _ c.args.cuid
+    let keeps = register_keeps c.self.inside.rooms c.self.inside.list.items c.self.inside.spare.items c.push_reserved.new.self.items c.pop.new.self.items _ _ c.args.peer c.args.cuid
     c.self.invariant.0
     c.self.invariant.1
     c.self.invariant.2
@@ -26,7 +26,7 @@ invariant_of-self c =
 
 pub returns : goal.returns
 returns c =
-    let keeps = register_keeps c.self.inside.rooms c.self.inside.list.items c.self.inside.spare.items c.push_reserved.new.self.items c.pop.new.self.items _ _ c.args.cuid
+    let keeps = register_keeps c.self.inside.rooms c.self.inside.list.items c.self.inside.spare.items c.push_reserved.new.self.items c.pop.new.self.items _ _ c.args.peer c.args.cuid
     c.self.invariant.0
     c.self.invariant.1
     c.self.invariant.2
@@ -35,4 +35,4 @@ returns c =
     c.rename.ensures
     c.push_reserved.ensures.items
     (ap (λ (v : Clients). list_any (has_cuid c.args.cuid) v.list) c.self.view_is ∙ c.requires.fresh) in
-    ap (clients_by c.self.inside.rooms) keeps.1 ∙ ap (λ (v : Clients). clients_by v.rooms (v.list ++ no_holding v.rooms c.args.cuid ∷ [])) c.self.view_is
+    ap (clients_by c.self.inside.rooms) keeps.1 ∙ ap (λ (v : Clients). clients_by v.rooms (v.list ++ no_holding v.rooms c.args.peer c.args.cuid ∷ [])) c.self.view_is

@@ -1,0 +1,42 @@
+use Rattle.std.proofs.Common.{◌<◌, Some, ap, sym, ◌∙◌, drop, arith}
+use Rattle.std.specs.Prelude.{slice_get}
+use Rattle.dots_registry.specs.Viewing.{seen_among}
+use Rattle.dots_registry.proofs.Seeing.{passed, found_here}
+use Rattle.dots_registry.proofs.viewing.seen_at.Goals as goal
+
+pub returns-then-before-eq0 : goal.returns-then-before-eq0
+returns-then-before-eq0 c = λ t.
+    ap Some (c.seen.ensures t)
+    ∙ sym (found_here
+    t
+    c.args.cuid.now
+    c.args.mid
+    c.row-item.result
+    c.args.rows.now
+    c.loop-row.row-index
+    c.loop-row-test.true
+    c.row-item.is
+    (sym (c.is_seen.ensures t) ∙ c.if-not-is_seen.false))
+    ∙ ap (slice_get (seen_among t c.args.cuid.now c.args.mid (drop c.loop-row.row-index c.args.rows.now))) (sym c.if-before-eq0.true)
+    ∙ c.loop-row.invariant.so_far t
+
+pub loop-row-preserved : goal.loop-row-preserved
+loop-row-preserved c =
+    let some : 0 < c.loop-row.before = omega arith in
+    record {
+      so_far = λ t.
+          passed
+          t
+          c.args.cuid.now
+          c.args.mid
+          c.row-item.result
+          c.args.rows.now
+          c.loop-row.row-index
+          c.loop-row.before
+          (slice_get (seen_among t c.args.cuid.now c.args.mid c.args.rows.now) c.args.place)
+          c.loop-row-test.true
+          c.row-item.is
+          (sym (c.is_seen.ensures t) ∙ c.if-not-is_seen.false)
+          some
+          (c.loop-row.invariant.so_far t);
+    }

@@ -1,0 +1,14 @@
+use Rattle.std.proofs.Common.{◌<◌, ◌≤◌, sym, ◌∙◌, arith}
+use Rattle.dots_registry.specs.Viewing.{seen_among}
+use Rattle.dots_registry.proofs.Seeing.{get_taken, get_untaken}
+use Rattle.dots_registry.proofs.viewing.view_of.Goals as goal
+
+pub returns-then-place-lt-MAX_SEEN : goal.returns-then-place-lt-MAX_SEEN
+returns-then-place-lt-MAX_SEEN c =
+    let below : c.args.place < 64 = omega arith in
+    λ t. c.seen_at.ensures t ∙ sym (get_taken 64 (seen_among t c.args.cuid.now c.args.mid c.args.rows.now) c.args.place below)
+
+pub returns : goal.returns
+returns c =
+    let past : 64 ≤ c.args.place = omega arith in
+    λ t. sym (get_untaken 64 (seen_among t c.args.cuid.now c.args.mid c.args.rows.now) c.args.place past)
