@@ -2,3 +2,4 @@ pub mod Rings
 pub mod Standing
 pub mod Conditions
 pub mod Keeping
+pub mod Filtering

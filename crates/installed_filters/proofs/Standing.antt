@@ -159,7 +159,7 @@ pub record Between (now : ℕ) (lived : LiveValue) (filters : FiltersValue) (ent
   pub acls : filters.acls ≡ acls_by_client (mitigates ms) (held entries)
   pub later : mitigations_at now ms ≡ mitigations now entries
 
-live_inside : (t domains : ℕ) (entries : List Entry) → list_all (lives.is_inside domains) entries ≡ true
+pub live_inside : (t domains : ℕ) (entries : List Entry) → list_all (lives.is_inside domains) entries ≡ true
     → list_all (λ (m : Mitigation). nat_lt m.put.domain domains) (mitigations t entries) ≡ true
 live_inside t domains [] all = refl
 live_inside t domains (e ∷ later) all =
