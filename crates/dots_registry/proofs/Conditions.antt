@@ -1,6 +1,6 @@
 -- What a registry says to an entry is whether it fits.
-use Rattle.std.proofs.Common.{◌≡◌, ℕ, ◌+◌, ◌<◌, ◌≤◌, Bool, true, false, cond, not, ◌&&◌, ◌||◌, List, [], ◌∷◌, ◌++◌, Option, Some, None, inl, inr, refl, sym, ap, ◌∙◌, arith}
-use Rattle.std.specs.Prelude.{◌==◌, nat_lt, nat_le, option_to_list, bytes_eq}
+use Rattle.std.proofs.Common.{◌≡◌, ℕ, ◌+◌, ◌<◌, ◌≤◌, Bool, true, false, cond, not, ◌&&◌, ◌||◌, List, [], ◌∷◌, ◌++◌, length, Option, Some, None, inl, inr, refl, sym, ap, ◌∙◌, arith}
+use Rattle.std.specs.Prelude.{◌==◌, ◌^◌, nat_lt, nat_le, option_to_list, bytes_eq}
 use Rattle.std.specs.List.{list_all}
 use Rattle.std.proofs.lemmas.Bool.{false≢true, cases_Bool, and_parts, and_from, ne_eqb, ltb-true, ltb-false, leb-true, le-leb, false_from_ne_true}
 use Rattle.std.proofs.lemmas.List.Folds.{list_all-append}
@@ -10,6 +10,8 @@ use Rattle.dots_history.specs.declared.entry.Entry.{Entry}
 use Rattle.dots_history.specs.declared.put.Put.{Put}
 use Rattle.dots_history.specs.declared.status.Status.{Status}
 use Rattle.dots_history.specs.declared.status.Status.TheVariants.{Ended, Open, Withdrawn}
+use Rattle.dots_lists.specs.Name.{is_name}
+use Rattle.dots_history.specs.Bounds.{within_bounds, change_within}
 use Rattle.dots_history.specs.Entries.{same_client, runs, lasts, granted_at, put_of, option_any}
 use Rattle.dots_history.specs.Histories.{Mitigation, Within, live, status, tally, mitigations, held}
 use Rattle.dots_laws.specs.Calm.{is_of_settings}
@@ -23,7 +25,7 @@ use Rattle.held_things.specs.Accepting.{accepts, keeps_rooms}
 use Rattle.held_things.proofs.Standing.{accepted_by}
 use Rattle.held_things.proofs.Lawful.{accepts_own}
 use Rattle.dots_registry.specs.Standing.{RegistryValue, IsOf, StandsFor, time_of}
-use Rattle.dots_registry.specs.Fitting.{FitsIn, fits_now, fits_tables}
+use Rattle.dots_registry.specs.Fitting.{FitsIn, fits_then, fits_now, fits_tables}
 use Rattle.dots_registry.proofs.Standing.{own_inside}
 
 -- ---- what isn't of a domain
@@ -118,7 +120,7 @@ by_tables settings registry entries e =
     && (is_of_settings settings e && (accepts registry.held.sizes entries e && has_live_room registry.live.limits entries e)))
 
 fits_is : (settings : SettingsValue) (registry : RegistryValue) (entries : List Entry) (e : Entry) → IsOf settings registry → StandsFor registry entries
-    → fits_now settings registry entries e ≡ by_tables settings registry entries e
+    → fits_then settings registry entries e ≡ by_tables settings registry entries e
 fits_is settings registry entries e is_of stands =
     elim (cases_Bool (nat_le (time_of registry) e.time)) [
       | inl later ↦
@@ -166,26 +168,37 @@ fits_is settings registry entries e is_of stands =
         (laws.registers_rightly (held entries) e && laws.keeps_room settings.limits e (mitigations e.time (entries ++ e ∷ [])) (held (entries ++ e ∷ [])))
         (accepts registry.held.sizes entries e && has_live_room registry.live.limits entries e)
 
--- in the order in which it is asked
-asked_first : (a b c d : Bool) → (a && (b && (c && d))) ≡ ((b && c) && (a && d))
-asked_first true true c d = refl
-asked_first true false c d = refl
-asked_first false true true d = refl
-asked_first false true false d = refl
-asked_first false false c d = refl
+-- in the order in which it is asked; what is within bounds has a time below 2^48
+asked_first : (w a b c d : Bool) → (w ≡ true → b ≡ true) → (w && (a && (b && (c && d)))) ≡ ((w && c) && (a && d))
+asked_first false a b c d leads = refl
+asked_first true true true c d leads = refl
+asked_first true false true true d leads = refl
+asked_first true false true false d leads = refl
+asked_first true a false c d leads = absurd (false≢true (leads refl))
+
+timed_within : (e : Entry) → within_bounds e ≡ true → nat_lt e.time 281474976710656 ≡ true
+timed_within e is =
+    let first = and_parts
+    ((nat_lt e.time (2 ^ 48) && ((length e.cuid == 0) || is_name e.cuid)) && nat_le (length e.reply) 64)
+    (change_within e.change)
+    is in
+    let second = and_parts (nat_lt e.time (2 ^ 48) && ((length e.cuid == 0) || is_name e.cuid)) (nat_le (length e.reply) 64) first.0 in
+    (and_parts (nat_lt e.time (2 ^ 48)) ((length e.cuid == 0) || is_name e.cuid) second.0).0
 
 abbrev is_possible : SettingsValue → Entry → Bool
-is_possible settings e = nat_lt e.time 281474976710656 && is_of_settings settings e
+is_possible settings e = within_bounds e && is_of_settings settings e
 
 fits_asked : (settings : SettingsValue) (registry : RegistryValue) (entries : List Entry) (e : Entry) → IsOf settings registry → StandsFor registry entries
     → fits_now settings registry entries e ≡ (is_possible settings e && fits_tables registry entries e)
 fits_asked settings registry entries e is_of stands =
-    fits_is settings registry entries e is_of stands
+    ap (λ b. within_bounds e && b) (fits_is settings registry entries e is_of stands)
     ∙ asked_first
+    (within_bounds e)
     (nat_le (time_of registry) e.time)
     (nat_lt e.time 281474976710656)
     (is_of_settings settings e)
     (accepts registry.held.sizes entries e && has_live_room registry.live.limits entries e)
+    (timed_within e)
 
 pub fits_possible : (settings : SettingsValue) (registry : RegistryValue) (entries : List Entry) (e : Entry) → IsOf settings registry → StandsFor registry entries
     → is_possible settings e ≡ true → fits_now settings registry entries e ≡ fits_tables registry entries e
@@ -200,7 +213,7 @@ fits_impossible settings registry entries e is_of stands is =
 pub possible_inside : (settings : SettingsValue) (registry : RegistryValue) (e : Entry) → IsOf settings registry → is_possible settings e ≡ true → puts e ≡ true
     → e.domain < registry.live.domains
 possible_inside settings registry e is_of is put =
-    own_inside settings registry e is_of (and_parts (nat_lt e.time 281474976710656) (is_of_settings settings e) is).1 put
+    own_inside settings registry e is_of (and_parts (within_bounds e) (is_of_settings settings e) is).1 put
 
 pub room_outside : (inside now : RegistryValue) (domains : ℕ) (entries : List Entry) (e : Entry) → inside ≡ now → domains ≡ inside.live.domains → domains ≤ e.domain
     → (puts e ≡ true → e.domain < now.live.domains) → StandsFor now entries → true ≡ has_live_room now.live.limits entries e

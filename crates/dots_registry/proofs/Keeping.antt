@@ -1,5 +1,7 @@
 -- A registry stands for each part of a history that has its view, and nothing of it is left open.
-use Rattle.std.proofs.Common.{◌≡◌, ℕ, ◌<◌, ◌≤◌, List, [], ◌∷◌, map, filter, inl, inr, sym, ap, ◌∙◌, subst, arith}
+use Rattle.std.proofs.Common.{◌≡◌, ℕ, ◌<◌, ◌≤◌, true, List, [], ◌∷◌, map, filter, inl, inr, sym, ap, ◌∙◌, subst, arith}
+use Rattle.std.specs.List.{list_all}
+use Rattle.dots_settings.specs.Settings.{SettingsValue}
 use Rattle.dots_settings.specs.declared.limits.Limits.{Limits}
 use Rattle.dots_history.specs.declared.entry.Entry.{Entry}
 use Rattle.dots_history.specs.Entries.{signals}
@@ -10,6 +12,9 @@ use Rattle.dots_laws.specs.Tables.{bare, bare_mitigation, ring}
 use Rattle.dots_laws.specs.Views.{mitigations_of}
 use Rattle.dots_laws.proofs.Apart.{apart}
 use Rattle.dots_laws.proofs.Bare.{bare_mitigations}
+use Rattle.dots_laws.specs.Calm.{is_own}
+use Rattle.dots_laws.specs.Containing.{scrubs_inside, lists_inside}
+use Rattle.dots_laws.proofs.Containing.{scrub_rows_inside, acl_rows_inside}
 use Rattle.dots_laws.proofs.Parts.{part_list_all}
 use Rattle.dots_laws.proofs.Views.{dropping}
 use Rattle.live_mitigations.specs.Standing.{LiveValue, kept_of, is_inside}
@@ -18,6 +23,9 @@ use Rattle.held_things.specs.Tables.{Have}
 use Rattle.held_things.proofs.Standing.{one_value}
 use Rattle.coap_exchange.specs.Rings.{RingValue, messages_of, reply_to}
 use Rattle.coap_exchange.specs.Noting.{Remembers, AllRemember, said_by_entry}
+use Rattle.dots_history.specs.Rows.{plain_rows, acl_rows}
+use Rattle.installed_filters.proofs.Standing.{rows_same}
+use Rattle.installed_filters.proofs.Limits.{limits_same}
 use Rattle.dots_registry.specs.Standing.{RegistryValue, StandsFor, SameSize, time_of, number_remembered, has_ring}
 use Rattle.dots_registry.proofs.Rings.{replies}
 
@@ -73,6 +81,22 @@ part_stands registry few all same stands = record {
   held = subst (Have registry.held) (sym (ap (λ (v : View). v.held) same.same_view)) stands.held;
   remembered = remember_part (number_remembered registry) registry.rings few all (ap (λ (v : View). v.recent) same.same_view) stands.remembered;
   signalled = part_list_all (has_ring registry.rings) few all same.is_part stands.signalled;
+  filters = rows_same
+      registry.filters
+      (time_of registry)
+      few
+      all
+      (ap (λ (v : View). v.mitigations) same.same_view)
+      (ap (λ (v : View). v.held) same.same_view)
+      stands.filters;
+  limits = limits_same
+      registry.live.limits
+      (time_of registry)
+      few
+      all
+      (ap (λ (v : View). v.mitigations) same.same_view)
+      (ap (λ (v : View). v.held) same.same_view)
+      stands.limits;
 }
 
 pub named_stands : (registry : RegistryValue) (entries : List Entry) → Calm entries → StandsFor registry entries
@@ -111,3 +135,22 @@ same_replies a b entries same of_a of_b now peer domain id =
     id
     (subst (λ n. AllRemember n b.rings entries) (sym (ap (λ (l : Limits). l.remembered) same.limits)) of_b.remembered)
     of_b.signalled)
+
+pub same_scrubs : (a b : RegistryValue) (entries : List Entry) → SameSize a b → StandsFor a entries → StandsFor b entries → a.filters.scrubs ≡ b.filters.scrubs
+same_scrubs a b entries same of_a of_b =
+    of_a.filters.scrubs ∙ ap (λ t. plain_rows t entries) same.time ∙ sym of_b.filters.scrubs
+
+pub same_acls : (a b : RegistryValue) (entries : List Entry) → SameSize a b → StandsFor a entries → StandsFor b entries → a.filters.acls ≡ b.filters.acls
+same_acls a b entries same of_a of_b = of_a.filters.acls ∙ ap (λ t. acl_rows t entries) same.time ∙ sym of_b.filters.acls
+
+-- ---- inside the domains
+
+pub scrubs_inside_domains : (settings : SettingsValue) (registry : RegistryValue) (entries : List Entry) → StandsFor registry entries
+    → list_all (is_own settings) entries ≡ true → list_all (scrubs_inside settings) registry.filters.scrubs ≡ true
+scrubs_inside_domains settings registry entries stands own =
+    ap (list_all (scrubs_inside settings)) stands.filters.scrubs ∙ scrub_rows_inside settings (time_of registry) entries own
+
+pub acls_inside_domains : (settings : SettingsValue) (registry : RegistryValue) (entries : List Entry) → StandsFor registry entries
+    → list_all (is_own settings) entries ≡ true → list_all (lists_inside settings) registry.filters.acls ≡ true
+acls_inside_domains settings registry entries stands own =
+    ap (list_all (lists_inside settings)) stands.filters.acls ∙ acl_rows_inside settings (time_of registry) entries own

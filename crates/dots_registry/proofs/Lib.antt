@@ -2,5 +2,6 @@ pub mod Rings
 pub mod Standing
 pub mod Conditions
 pub mod Keeping
+pub mod Filtering
 mod Judged
 mod Seeing

@@ -14,6 +14,7 @@ use Rattle.dots_history.specs.declared.status.Status.TheVariants.{Ended, Open, W
 use Rattle.dots_history.specs.declared.put.Put.{Put}
 use Rattle.dots_history.specs.Entries.{is_configuration, same_client, ends, withdraws, runs, put_of, option_any}
 use Rattle.dots_history.specs.Histories.{Mitigation, live, step, tally, mitigations, held}
+use Rattle.dots_history.specs.Bounds.{within_bounds}
 use Rattle.dots_laws.specs.Calm.{is_of_settings}
 use Rattle.dots_laws.specs.Fits as laws
 use Rattle.dots_laws.specs.Tables.{bare}
@@ -34,12 +35,16 @@ use Rattle.coap_exchange.specs.Pairs.{pairs_of}
 use Rattle.coap_exchange.specs.Rings.{RingValue, empty_ring}
 use Rattle.coap_exchange.specs.Noting.{AllRemember}
 use Rattle.coap_exchange.proofs.Standing.{start_remembers}
+use Rattle.installed_filters.specs.Filters.{FiltersValue, SameRoom}
+use Rattle.installed_filters.specs.Standing.{HasRoom, KeepsLimits}
+use Rattle.installed_filters.specs.Standing as rows
+use Rattle.installed_filters.proofs.Limits.{limits_first, limits_later}
 use Rattle.dots_registry.specs.Standing.{RegistryValue, IsOf, StandsFor, time_of, number_remembered, has_ring, pair_of, silent, rings_with}
-use Rattle.dots_registry.specs.Fitting.{FitsIn}
+use Rattle.dots_registry.specs.Fitting.{FitsIn, fits_then}
 use Rattle.dots_registry.proofs.Rings.{own_has_ring, made_pairs, remember_more, still_signalled}
 
-abbrev pub joined : LiveValue → Tables → List RingValue → RegistryValue
-joined live held rings = record { live = live; held = held; rings = rings }
+abbrev pub joined : LiveValue → Tables → List RingValue → FiltersValue → RegistryValue
+joined live held rings filters = record { live = live; held = held; rings = rings; filters = filters }
 
 -- ---- the first
 
@@ -47,9 +52,10 @@ pairs_empty : (n : ℕ) (pairs : List Pair) → map pair_of (map (empty_ring n) 
 pairs_empty n [] = refl
 pairs_empty n (pair ∷ pairs) = ap (λ ps. pair ∷ ps) (pairs_empty n pairs)
 
-pub stands_first : (settings : SettingsValue) (live : LiveValue) (held : Tables) (rings : List RingValue) → lives.StandsFor live [] → things.StandsFor held []
-    → live.limits ≡ settings.limits → rings ≡ map (empty_ring settings.limits.remembered) (pairs_of settings) → StandsFor (joined live held rings) []
-stands_first settings live held rings alive kept limits made = record {
+pub stands_first : (settings : SettingsValue) (live : LiveValue) (held : Tables) (rings : List RingValue) (filters : FiltersValue) → lives.StandsFor live []
+    → things.StandsFor held [] → live.limits ≡ settings.limits → rings ≡ map (empty_ring settings.limits.remembered) (pairs_of settings)
+    → ((t : ℕ) → rows.StandsFor filters t []) → StandsFor (joined live held rings filters) []
+stands_first settings live held rings filters alive kept limits made none = record {
   live = alive;
   held = kept;
   remembered = subst
@@ -57,37 +63,44 @@ stands_first settings live held rings alive kept limits made = record {
       (sym limits)
       (subst (λ rs. AllRemember settings.limits.remembered rs []) (sym made) (start_remembers settings.limits.remembered (pairs_of settings)));
   signalled = refl;
+  filters = none live.time;
+  limits = limits_first live.limits live.time;
 }
 
-pub is_of_first : (settings : SettingsValue) (live : LiveValue) (held : Tables) (rings : List RingValue) → live.domains ≡ length settings.domains
-    → live.limits ≡ settings.limits → held.sizes ≡ sizes_of settings → rings ≡ map (empty_ring settings.limits.remembered) (pairs_of settings)
-    → IsOf settings (joined live held rings)
-is_of_first settings live held rings domains limits sizes made = record {
+pub is_of_first : (settings : SettingsValue) (live : LiveValue) (held : Tables) (rings : List RingValue) (filters : FiltersValue)
+    → live.domains ≡ length settings.domains → live.limits ≡ settings.limits → held.sizes ≡ sizes_of settings
+    → rings ≡ map (empty_ring settings.limits.remembered) (pairs_of settings) → HasRoom (length settings.domains) settings.limits filters
+    → IsOf settings (joined live held rings filters)
+is_of_first settings live held rings filters domains limits sizes made room = record {
   domains = domains;
   limits = limits;
   sizes = sizes;
   pairs = ap (map pair_of) made ∙ pairs_empty settings.limits.remembered (pairs_of settings);
+  filters = room;
 }
 
 -- ---- sizes
 
-pub still_of : (settings : SettingsValue) (inside old : RegistryValue) (live : LiveValue) (held : Tables) (rings : List RingValue) → inside ≡ old
-    → live.domains ≡ inside.live.domains → live.limits ≡ inside.live.limits → held.sizes ≡ inside.held.sizes → map pair_of rings ≡ map pair_of inside.rings
-    → IsOf settings old → IsOf settings (joined live held rings)
-still_of settings inside old live held rings same domains limits sizes pairs is_of =
+pub still_of : (settings : SettingsValue) (inside old : RegistryValue) (live : LiveValue) (held : Tables) (rings : List RingValue) (filters : FiltersValue)
+    → inside ≡ old → live.domains ≡ inside.live.domains → live.limits ≡ inside.live.limits → held.sizes ≡ inside.held.sizes
+    → map pair_of rings ≡ map pair_of inside.rings → SameRoom inside.filters filters → IsOf settings old → IsOf settings (joined live held rings filters)
+still_of settings inside old live held rings filters same domains limits sizes pairs room is_of =
     let here : IsOf settings inside = subst (IsOf settings) (sym same) is_of in
     record {
       domains = domains ∙ here.domains;
       limits = limits ∙ here.limits;
       sizes = sizes ∙ here.sizes;
       pairs = pairs ∙ here.pairs;
+      filters = record { scrubs = room.scrubs ∙ here.filters.scrubs; acls = room.acls ∙ here.filters.acls };
     }
 
 -- ---- time
 
-pub stands_later : (now : ℕ) (inside old : RegistryValue) (live : LiveValue) (entries : List Entry) → inside ≡ old → time_of old ≤ now → live.limits ≡ inside.live.limits
-    → (lives.ComesTo now inside.live entries → lives.StandsFor live entries) → StandsFor old entries → StandsFor (joined live inside.held inside.rings) entries
-stands_later now inside old live entries same less limits comes stands =
+pub stands_later : (now : ℕ) (inside old : RegistryValue) (live : LiveValue) (filters : FiltersValue) (entries : List Entry) → inside ≡ old → time_of old ≤ now
+    → live.limits ≡ inside.live.limits → live.time ≡ now → (lives.ComesTo now inside.live entries → lives.StandsFor live entries)
+    → (inside.live.time ≤ now → lives.StandsFor inside.live entries → rows.StandsFor inside.filters inside.live.time entries → rows.StandsFor filters now entries)
+    → StandsFor old entries → StandsFor (joined live inside.held inside.rings filters) entries
+stands_later now inside old live filters entries same less limits at comes install stands =
     let here : StandsFor inside entries = subst (λ r. StandsFor r entries) (sym same) stands in
     let later : time_of inside ≤ now = subst (λ r. time_of r ≤ now) (sym same) less in
     record {
@@ -95,6 +108,11 @@ stands_later now inside old live entries same less limits comes stands =
       held = here.held;
       remembered = subst (λ (l : Limits). AllRemember l.remembered inside.rings entries) (sym limits) here.remembered;
       signalled = here.signalled;
+      filters = subst (λ t. rows.StandsFor filters t entries) (sym at) (install later here.live here.filters);
+      limits = subst
+          (λ (l : Limits). KeepsLimits l live.time entries)
+          (sym limits)
+          (subst (λ t. KeepsLimits inside.live.limits t entries) (sym at) (limits_later inside.live.limits inside.live.time now entries later here.limits));
     }
 
 -- ---- what fits
@@ -118,12 +136,24 @@ lives_of_fits settings entries e is =
     let back = and_parts (laws.registers_rightly (held entries) e) (laws.keeps_room settings.limits e ms standing) halves.1 in
     (and_parts (keeps_live_room settings.limits e ms) (keeps_rooms (sizes_of settings).rooms e standing) back.1).0
 
-law_fits : (registry : RegistryValue) (e : Entry) (fits : FitsIn registry e) → laws.fits fits.settings fits.entries e ≡ true
-law_fits registry e fits = (and_parts (nat_le (time_of registry) e.time) (laws.fits fits.settings fits.entries e) fits.fits).1
+fits_parts : (registry : RegistryValue) (e : Entry) (fits : FitsIn registry e)
+    → (within_bounds e ≡ true) × (nat_le (time_of registry) e.time ≡ true) × (laws.fits fits.settings fits.entries e ≡ true)
+fits_parts registry e fits =
+    let parts = and_parts (within_bounds e) (fits_then fits.settings registry fits.entries e) fits.fits in
+    let more = and_parts (nat_le (time_of registry) e.time) (laws.fits fits.settings fits.entries e) parts.1 in
+    (parts.0, more.0, more.1)
+
+pub law_fits : (registry : RegistryValue) (e : Entry) (fits : FitsIn registry e) → laws.fits fits.settings fits.entries e ≡ true
+law_fits registry e fits = (fits_parts registry e fits).2
+
+pub own_of : (settings : SettingsValue) (entries : List Entry) (e : Entry) → laws.fits settings entries e ≡ true → is_of_settings settings e ≡ true
+own_of settings entries e is = (timed_of settings entries e is).1
+
+pub fits_within : (registry : RegistryValue) (e : Entry) → FitsIn registry e → within_bounds e ≡ true
+fits_within registry e fits = (fits_parts registry e fits).0
 
 pub fits_later : (registry : RegistryValue) (e : Entry) → FitsIn registry e → time_of registry ≤ e.time
-fits_later registry e fits =
-    leb-true (time_of registry) e.time (and_parts (nat_le (time_of registry) e.time) (laws.fits fits.settings fits.entries e) fits.fits).0
+fits_later registry e fits = leb-true (time_of registry) e.time (fits_parts registry e fits).1
 
 pub fits_bounded : (registry : RegistryValue) (e : Entry) → FitsIn registry e → e.time < never
 fits_bounded registry e fits =
@@ -139,10 +169,14 @@ fits_still old new e fits stands is_of at = record {
   is_of = is_of fits.settings fits.is_of;
   stands = stands fits.entries fits.stands;
   fits = and_from
+      (within_bounds e)
+      (fits_then fits.settings new fits.entries e)
+      (fits_within old e fits)
+      (and_from
       (nat_le (time_of new) e.time)
       (laws.fits fits.settings fits.entries e)
       (le-leb (time_of new) e.time (omega (arith, at)))
-      (law_fits old e fits);
+      (law_fits old e fits));
 }
 
 pub fits_inside : (inside old : RegistryValue) (e : Entry) → inside ≡ old → FitsIn old e → FitsIn inside e
@@ -160,7 +194,7 @@ unfolding laws.is_of_mitigations is_configuration
 kind_of_put (change.Put put) is = (refl, refl)
 kind_of_put _ is = absurd (false≢true is)
 
-puts_kind : (e : Entry) → puts e ≡ true → (laws.is_of_mitigations e.change ≡ true) × (is_configuration e.change ≡ false)
+pub puts_kind : (e : Entry) → puts e ≡ true → (laws.is_of_mitigations e.change ≡ true) × (is_configuration e.change ≡ false)
 puts_kind e is = kind_of_put e.change is
 
 pub own_inside : (settings : SettingsValue) (registry : RegistryValue) (e : Entry) → IsOf settings registry → is_of_settings settings e ≡ true → puts e ≡ true
@@ -241,17 +275,23 @@ put_room inside old e entry same is fits put =
 
 -- ---- one more entry
 
-stands_more : (inside : RegistryValue) (live : LiveValue) (held : Tables) (rings : List RingValue) (slot : ℕ) (e : Entry) (entries : List Entry) → StandsFor inside entries
-    → has_ring inside.rings e ≡ true → live.limits ≡ inside.live.limits → rings ≡ rings_with slot e inside.rings
-    → lives.StandsFor live (entries ++ e ∷ []) → things.StandsFor held (entries ++ e ∷ []) → StandsFor (joined live held rings) (entries ++ e ∷ [])
-stands_more inside live held rings slot e entries stands has limits made alive kept =
+-- the rows after an entry at the time, and the limits
+pub record Filtered (inside : RegistryValue) (filters : FiltersValue) (entries : List Entry) : Type 0 where
+  pub filters_are : rows.StandsFor filters inside.live.time entries
+  pub limits_are : KeepsLimits inside.live.limits inside.live.time entries
+
+stands_more : (inside : RegistryValue) (live : LiveValue) (held : Tables) (rings : List RingValue) (filters : FiltersValue) (slot : ℕ) (e : Entry) (entries : List Entry)
+    → StandsFor inside entries → has_ring inside.rings e ≡ true → SameButRows inside.live live → rings ≡ rings_with slot e inside.rings
+    → lives.StandsFor live (entries ++ e ∷ []) → things.StandsFor held (entries ++ e ∷ []) → Filtered inside filters (entries ++ e ∷ [])
+    → StandsFor (joined live held rings filters) (entries ++ e ∷ [])
+stands_more inside live held rings filters slot e entries stands has but made alive kept filtered =
     let pairs : map pair_of rings ≡ map pair_of inside.rings = made_pairs slot e inside.rings rings made in
     record {
       live = alive;
       held = kept;
       remembered = subst
           (λ (l : Limits). AllRemember l.remembered rings (entries ++ e ∷ []))
-          (sym limits)
+          (sym but.limits)
           (subst
           (λ rs. AllRemember (number_remembered inside) rs (entries ++ e ∷ []))
           (sym made)
@@ -267,32 +307,40 @@ stands_more inside live held rings slot e entries stands has limits made alive k
           (list_all (has_ring inside.rings) (e ∷ []))
           stands.signalled
           (and_from (has_ring inside.rings e) true has refl));
+      filters = subst (λ t. rows.StandsFor filters t (entries ++ e ∷ [])) (sym but.time) filtered.filters_are;
+      limits = subst
+          (λ (l : Limits). KeepsLimits l live.time (entries ++ e ∷ []))
+          (sym but.limits)
+          (subst (λ t. KeepsLimits inside.live.limits t (entries ++ e ∷ [])) (sym but.time) filtered.limits_are);
     }
 
-pub put_stands : (inside old : RegistryValue) (live : LiveValue) (rings : List RingValue) (slot : ℕ) (e entry : Entry) (entries : List Entry) → inside ≡ old
-    → entry ≡ silent e → FitsIn old e → puts e ≡ true → SameButRows inside.live live → rings ≡ rings_with slot e inside.rings
+pub put_stands : (inside old : RegistryValue) (live : LiveValue) (rings : List RingValue) (filters : FiltersValue) (slot : ℕ) (e entry : Entry) (entries : List Entry)
+    → inside ≡ old → entry ≡ silent e → FitsIn old e → puts e ≡ true → SameButRows inside.live live → rings ≡ rings_with slot e inside.rings
     → ((x : Entry) → bare x ≡ bare entry → lives.StandsFor inside.live entries → lives.StandsFor live (entries ++ x ∷ []))
-    → StandsFor old entries → StandsFor (joined live inside.held rings) (entries ++ e ∷ [])
-put_stands inside old live rings slot e entry entries same is fits put but made alive stands =
+    → (StandsFor inside entries → Filtered inside filters (entries ++ e ∷ []))
+    → StandsFor old entries → StandsFor (joined live inside.held rings filters) (entries ++ e ∷ [])
+put_stands inside old live rings filters slot e entry entries same is fits put but made alive install stands =
     let here : StandsFor inside entries = subst (λ r. StandsFor r entries) (sym same) stands in
     stands_more
     inside
     live
     inside.held
     rings
+    filters
     slot
     e
     entries
     here
     (fits_ring inside old e same fits)
-    but.limits
+    but
     made
     (alive e (ap bare (sym is)) here.live)
     (still_stands inside.held e entries (puts_kind e put).0 here.held)
+    (install here)
 
 -- ---- what writes something else
 
-accepted : (inside : RegistryValue) (e : Entry) (fits : FitsIn inside e) → accepts_by inside.held e ≡ true
+pub accepted : (inside : RegistryValue) (e : Entry) (fits : FitsIn inside e) → accepts_by inside.held e ≡ true
 accepted inside e fits =
     sym (accepted_by inside.held fits.entries e fits.stands.held)
     ∙ ap (λ s. accepts s fits.entries e) fits.is_of.sizes
@@ -306,12 +354,14 @@ held_fits inside old e entry same is fits =
     (sym is)
     (here.entries, here.stands.held, accepted_by inside.held here.entries (silent e) here.stands.held ∙ accepted inside e here)
 
-pub write_stands : (inside old : RegistryValue) (live : LiveValue) (held : Tables) (rings : List RingValue) (slot : ℕ) (e entry : Entry) (entries : List Entry) → inside ≡ old
+pub write_stands : (inside old : RegistryValue) (live : LiveValue) (held : Tables) (rings : List RingValue) (filters : FiltersValue) (slot : ℕ) (e entry : Entry)
+    (entries : List Entry) → inside ≡ old
     → entry ≡ silent e → FitsIn old e → SameButRows inside.live live → held.sizes ≡ inside.held.sizes → rings ≡ rings_with slot e inside.rings
     → (lives.StandsFor inside.live entries → lives.StandsFor live (entries ++ e ∷ []))
     → (things.StandsFor inside.held entries → things.StandsFor held (entries ++ entry ∷ []))
-    → StandsFor old entries → StandsFor (joined live held rings) (entries ++ e ∷ [])
-write_stands inside old live held rings slot e entry entries same is fits but sizes made alive kept stands =
+    → (StandsFor inside entries → Filtered inside filters (entries ++ e ∷ []))
+    → StandsFor old entries → StandsFor (joined live held rings filters) (entries ++ e ∷ [])
+write_stands inside old live held rings filters slot e entry entries same is fits but sizes made alive kept install stands =
     let here : StandsFor inside entries = subst (λ r. StandsFor r entries) (sym same) stands in
     let taken : accepts_by inside.held e ≡ true = accepted inside e (fits_inside inside old e same fits) in
     let one : held ≡ tables_with (silent e) inside.held =
@@ -327,12 +377,14 @@ write_stands inside old live held rings slot e entry entries same is fits but si
     live
     held
     rings
+    filters
     slot
     e
     entries
     here
     (fits_ring inside old e same fits)
-    but.limits
+    but
     made
     (alive here.live)
     (subst (λ t. things.StandsFor t (entries ++ e ∷ [])) (sym one) (stands_with inside.held entries e here.held taken))
+    (install here)

@@ -2,14 +2,19 @@
 use Rattle.std.specs.Prelude.{◌≡◌, Bool, true, ◌&&◌, nat_le, List}
 use Rattle.dots_settings.specs.Settings.{SettingsValue}
 use Rattle.dots_history.specs.declared.entry.Entry.{Entry}
+use Rattle.dots_history.specs.Bounds.{within_bounds}
 use Rattle.dots_laws.specs.Fits as laws
 use Rattle.live_mitigations.specs.Standing.{has_live_room}
 use Rattle.held_things.specs.Accepting.{accepts}
 use Rattle.dots_registry.specs.Standing.{RegistryValue, StandsFor, IsOf, time_of}
 
 -- the entry isn't before the registry's time, and fits a history by the settings
+abbrev pub fits_then : SettingsValue → RegistryValue → List Entry → Entry → Bool
+fits_then settings registry entries e = nat_le (time_of registry) e.time && laws.fits settings entries e
+
+-- and it is within bounds
 abbrev pub fits_now : SettingsValue → RegistryValue → List Entry → Entry → Bool
-fits_now settings registry entries e = nat_le (time_of registry) e.time && laws.fits settings entries e
+fits_now settings registry entries e = within_bounds e && fits_then settings registry entries e
 
 -- the same but for what the settings say of the entry alone: by the registry's time, what is held and the live mitigations
 abbrev pub fits_tables : RegistryValue → List Entry → Entry → Bool

@@ -9,17 +9,21 @@ use Rattle.live_mitigations.specs.Standing.{LiveValue}
 use Rattle.live_mitigations.specs.Standing as live
 use Rattle.held_things.specs.Tables.{Tables, sizes_of}
 use Rattle.held_things.specs.Tables as held
+use Rattle.installed_filters.specs.Filters.{FiltersValue}
+use Rattle.installed_filters.specs.Standing.{HasRoom, KeepsLimits}
+use Rattle.installed_filters.specs.Standing as filters
 use Rattle.coap_exchange.specs.declared.pair.Pair.{Pair}
 use Rattle.coap_exchange.specs.Pairs.{pairs_of}
 use Rattle.coap_exchange.specs.Rings.{RingValue, is_ring_of, noted}
 use Rattle.coap_exchange.specs.Noting.{AllRemember, message_of}
 
 -- What is kept: the live mitigations with the time at which they are, the registrations, aliases, access lists and
--- session configurations, and the last messages of each peer and domain.
+-- session configurations, the last messages of each peer and domain, and the rows that filter.
 pub record RegistryValue : Type 0 where
   pub live : LiveValue
   pub held : Tables
   pub rings : List RingValue
+  pub filters : FiltersValue
 
 abbrev pub time_of : RegistryValue → ℕ
 time_of registry = registry.live.time
@@ -41,12 +45,15 @@ has_ring rings e = not (is_signal e.change) || list_any (is_ring_of e.peer e.dom
 
 -- It stands for a history at its time: the live mitigations of each domain are those of the history at this time; held is what
 -- the history leaves held; of each peer and domain that it has a ring for, the last so many messages of the history are
--- remembered; and each signal entry of the history is of one of these.
+-- remembered; each signal entry of the history is of one of these; the rows are those of the history at this time; and the
+-- history keeps the limits.
 pub record StandsFor (registry : RegistryValue) (entries : List Entry) : Type 0 where
   pub live : live.StandsFor registry.live entries
   pub held : held.StandsFor registry.held entries
   pub remembered : AllRemember (number_remembered registry) registry.rings entries
   pub signalled : list_all (has_ring registry.rings) entries ≡ true
+  pub filters : filters.StandsFor registry.filters (time_of registry) entries
+  pub limits : KeepsLimits (limits_of registry) (time_of registry) entries
 
 -- ---- settings
 
@@ -54,12 +61,13 @@ abbrev pub pair_of : RingValue → Pair
 pair_of ring = ring.pair
 
 -- The registry is of these settings: it has their domains, their capacities, their peers, and each pair of a peer and a
--- domain that it may act for.
+-- domain that it may act for, and room for the rows.
 pub record IsOf (settings : SettingsValue) (registry : RegistryValue) : Type 0 where
   pub domains : domains_of registry ≡ length settings.domains
   pub limits : limits_of registry ≡ settings.limits
   pub sizes : registry.held.sizes ≡ sizes_of settings
   pub pairs : map pair_of registry.rings ≡ pairs_of settings
+  pub filters : HasRoom (length settings.domains) settings.limits registry.filters
 
 -- both have the same domains, capacities and peers, at the same time
 pub record SameSize (a b : RegistryValue) : Type 0 where

@@ -1,6 +1,7 @@
 //! Which entries a registry can take.
 
-ghost use Rattle.std.specs.Prelude.{◌≡◌, ◌≤◌, ◌<◌, ◌&&◌, nat_lt, true, List};
+ghost use Rattle.std.specs.Prelude.{◌≡◌, ◌≤◌, ◌<◌, ◌&&◌, true, List};
+ghost use Rattle.dots_history.specs.Bounds.{within_bounds};
 ghost use Rattle.dots_laws.specs.Calm.{is_of_settings};
 ghost use Rattle.dots_history.specs.declared.entry.Entry.{Entry};
 ghost use Rattle.live_mitigations.specs.Standing.{puts, has_live_room};
@@ -8,17 +9,14 @@ ghost use Rattle.dots_registry.specs.Standing.{StandsFor, IsOf, time_of, domains
 ghost use Rattle.dots_registry.specs.Fitting.{fits_now, fits_tables};
 
 use crate::registry::Registry;
-use dots_history::Entry;
+use dots_history::{Entry, is_within_bounds};
 use dots_laws::is_of_settings;
 use dots_settings::Settings;
 
-/// No entry has this time, in seconds, or a later one.
-const TIMES: u64 = 281_474_976_710_656;
-
 impl Registry {
-    /// Whether an entry fits, by the settings of which the registry is: its time isn't before that of the registry and is below
-    /// 2^48; its peer may act for its domain, inside which lies what it names; only a client that isn't registered registers,
-    /// and only one that is writes aliases and access lists; and after it the capacities are kept.
+    /// Whether an entry fits, by the settings of which the registry is: it is within bounds, and its time isn't before that of
+    /// the registry; its peer may act for its domain, inside which lies what it names; only a client that isn't registered
+    /// registers, and only one that is writes aliases and access lists; and after it the capacities are kept.
     pub fn fits(&self, settings: &Settings, entry: &Entry) -> bool
         requires { IsOf settings.now self.now }
         ensures { (entries : List Entry) → StandsFor self.now entries → result ≡ fits_now settings.now self.now entries entry.now }
@@ -48,9 +46,9 @@ impl Registry {
     }
 }
 
-/// Whether its time is below 2^48 and it is of the settings.
+/// Whether it is within bounds and of the settings.
 fn is_possible(settings: &Settings, entry: &Entry) -> bool
-    ensures { result ≡ (nat_lt entry.now.time 281474976710656 && is_of_settings settings.now entry.now) }
+    ensures { result ≡ (within_bounds entry.now && is_of_settings settings.now entry.now) }
 {
-    entry.time < TIMES && is_of_settings(settings, entry)
+    is_within_bounds(entry) && is_of_settings(settings, entry)
 }

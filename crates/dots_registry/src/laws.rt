@@ -1,10 +1,13 @@
 //! What the definitions come to: each function's contract is a law, and its body does nothing.
 
 ghost use Rattle.std.specs.Prelude.{◌≡◌, ℕ, ◌<◌, true, List};
+ghost use Rattle.std.specs.List.{list_all};
 ghost use Rattle.dots_settings.specs.Settings.{SettingsValue};
 ghost use Rattle.dots_history.specs.declared.entry.Entry.{Entry};
 ghost use Rattle.dots_history.specs.Histories.{Kept, Calm};
 ghost use Rattle.dots_history.specs.Keeping.{kept};
+ghost use Rattle.dots_laws.specs.Calm.{is_own};
+ghost use Rattle.dots_laws.specs.Containing.{scrubs_inside, lists_inside};
 ghost use Rattle.live_mitigations.specs.Standing.{kept_of};
 ghost use Rattle.coap_exchange.specs.Rings.{messages_of, reply_to};
 ghost use Rattle.dots_registry.specs.Standing.{RegistryValue, StandsFor, IsOf, SameSize, time_of, domains_of, number_remembered};
@@ -19,14 +22,25 @@ pub fn parts_with_the_view_are_stood_for()
         → StandsFor registry (kept (number_remembered registry) (time_of registry) entries) }
 {}
 
-/// Registries of one size and time that stand for one history keep the same mitigations and things, and answer the same
-/// replies.
+/// Registries of one size and time that stand for one history keep the same mitigations and things, answer the same replies,
+/// and have the same rows.
 pub fn registries_are_one()
     ensures mitigations { (a b : RegistryValue) (entries : List Entry) → SameSize a b → StandsFor a entries → StandsFor b entries
         → (domain : ℕ) → domain < domains_of a → kept_of a.live domain ≡ kept_of b.live domain }
     ensures things { (a b : RegistryValue) (entries : List Entry) → SameSize a b → StandsFor a entries → StandsFor b entries → a.held ≡ b.held }
     ensures replies { (a b : RegistryValue) (entries : List Entry) → SameSize a b → StandsFor a entries → StandsFor b entries
         → (now peer domain id : ℕ) → reply_to id now (messages_of peer domain a.rings) ≡ reply_to id now (messages_of peer domain b.rings) }
+    ensures scrubs { (a b : RegistryValue) (entries : List Entry) → SameSize a b → StandsFor a entries → StandsFor b entries → a.filters.scrubs ≡ b.filters.scrubs }
+    ensures acls { (a b : RegistryValue) (entries : List Entry) → SameSize a b → StandsFor a entries → StandsFor b entries → a.filters.acls ≡ b.filters.acls }
+{}
+
+/// Where the entries are the settings' own, the prefix of each row of a mitigation lies inside the domain of its client, and so
+/// does each destination in a row of an access list.
+pub fn rows_lie_inside()
+    ensures scrubs { (settings : SettingsValue) (registry : RegistryValue) (entries : List Entry) → StandsFor registry entries
+        → list_all (is_own settings) entries ≡ true → list_all (scrubs_inside settings) registry.filters.scrubs ≡ true }
+    ensures lists { (settings : SettingsValue) (registry : RegistryValue) (entries : List Entry) → StandsFor registry entries
+        → list_all (is_own settings) entries ≡ true → list_all (lists_inside settings) registry.filters.acls ≡ true }
 {}
 
 /// Whether an entry fits is the same for all histories that a registry stands for; and what fits one of them can be applied.

@@ -1,12 +1,16 @@
 //! What a registry keeps, and how it goes on.
 
-ghost use Rattle.std.specs.Prelude.{◌≡◌, ◌≤◌, ◌<◌, ◌++◌, ◌∷◌, [], true, false, List, IfOk};
+ghost use Rattle.std.specs.Prelude.{◌≡◌, ◌≤◌, ◌<◌, ◌++◌, ◌∷◌, [], true, false, map, List, IfOk, OnErr};
 ghost use Rattle.std.specs.List.{list_any};
 ghost use Rattle.dots_settings.specs.Settings.{SettingsValue};
 ghost use Rattle.dots_history.specs.declared.entry.Entry.{Entry};
 ghost use Rattle.coap_exchange.specs.Rings.{RingValue};
 ghost use Rattle.live_mitigations.specs.Ends.{never};
 ghost use Rattle.live_mitigations.specs.Standing.{puts};
+ghost use Rattle.filter_table.specs.Held.{row_of_scrub, row_of_acl, active_rows};
+ghost use Rattle.dots_history.specs.Rows.{plain_rows, acl_rows};
+ghost use Rattle.live_mitigations.specs.Standing.{kept_of};
+ghost use Rattle.installed_filters.specs.Filters.{rows_put, list_put, needs_rows, some_of, everyone};
 ghost use Rattle.dots_registry.specs.Standing.{StandsFor, IsOf, time_of, has_ring, silent, answered, rings_with};
 ghost use Rattle.dots_registry.specs.Fitting.{FitsIn};
 
@@ -14,7 +18,10 @@ use coap_exchange::Remembered;
 use dots_history::{Entry, is_signal};
 use dots_lists::{Bytes, NoMemory};
 use dots_settings::Settings;
+use filter_rows::{AclRow, ScrubRow};
+use filter_table::FilterTable;
 use held_things::HeldThings;
+use installed_filters::{InstalledFilters, Staged, expire_all, is_mitigating};
 use live_mitigations::{LiveMitigations, puts};
 use std::alloc::Global;
 use std::marker::Model;
@@ -27,6 +34,7 @@ pub struct Registry {
     pub(crate) live: LiveMitigations,
     pub(crate) held: HeldThings,
     pub(crate) remembered: Remembered,
+    filters: InstalledFilters,
 }
 
 impl Model for Registry {
@@ -34,11 +42,17 @@ impl Model for Registry {
 
     ghost Value = { RegistryValue };
 
-    ghost view = { λ registry. record { live = registry.live; held = registry.held; rings = registry.remembered } };
+    ghost view = { λ registry. record {
+      live = registry.live;
+      held = registry.held;
+      rings = registry.remembered;
+      filters = registry.filters;
+    } };
 }
 
 impl Registry {
-    /// That of the empty history at time 0, with the room that the settings say. This is the only call that takes memory.
+    /// That of the empty history at time 0, with the room that the settings say. Only this call and [`Registry::stage`] take
+    /// memory.
     pub fn new(alloc: Global, settings: &Settings) -> Result<Self, NoMemory>
         ensures stands { IfOk result (λ registry. StandsFor registry []) }
         ensures settings { IfOk result (λ registry. IsOf settings.now registry) }
@@ -49,6 +63,7 @@ impl Registry {
             live: LiveMitigations::new(alloc, settings)?,
             held: HeldThings::new(alloc, settings)?,
             remembered: Remembered::new(alloc, settings)?,
+            filters: InstalledFilters::new(alloc, settings)?,
         })
     }
 
@@ -68,54 +83,91 @@ impl Registry {
         ensures rings { self.new.rings ≡ self.old.rings }
         ensures settings { (settings : SettingsValue) → IsOf settings self.old → IsOf settings self.new }
     {
+        expire_all(&mut self.live, &mut self.filters, now);
         self.live.tick(now);
+    }
+
+    /// Makes the copies that the rows of an entry need, so that it can be applied without memory. This takes memory only for
+    /// an entry that puts a mitigation or writes an access list.
+    pub fn stage(&self, entry: Entry) -> Result<Staged, NoMemory>
+        ensures value { IfOk result (λ staged. staged ≡ entry) }
+        ensures no_memory { OnErr result (needs_rows entry.change ≡ true) }
+    {
+        Staged::of(self.alloc, entry)
+    }
+
+    /// The rows that filter: those of the live mitigations, each active, in order of the entries, their targets and their
+    /// prefixes; and those of the access lists that are held, in order of writing.
+    pub fn filters(&self) -> &FilterTable
+        ensures scrubs { (entries : List Entry) → StandsFor self.now entries → map row_of_scrub result.now.scrubs ≡ plain_rows (time_of self.now) entries }
+        ensures acls { (entries : List Entry) → StandsFor self.now entries → map row_of_acl result.now.acls ≡ acl_rows (time_of self.now) entries }
+    {
+        self.filters.table()
     }
 
     /// Takes an entry that fits, which stands in this slot of the journal. The time is then the entry's. The reply to a signal
     /// entry is remembered with the slot.
-    pub fn apply(&mut self, entry: Entry, slot: u32)
-        requires { FitsIn self.old entry }
-        ensures stands { (entries : List Entry) → StandsFor self.old entries → StandsFor self.new (entries ++ entry ∷ []) }
-        ensures time { time_of self.new ≡ entry.time }
-        ensures slot { self.new.rings ≡ rings_with slot entry self.old.rings }
+    pub fn apply(&mut self, staged: Staged, slot: u32)
+        requires { FitsIn self.old staged }
+        ensures stands { (entries : List Entry) → StandsFor self.old entries → StandsFor self.new (entries ++ staged ∷ []) }
+        ensures time { time_of self.new ≡ staged.time }
+        ensures slot { self.new.rings ≡ rings_with slot staged self.old.rings }
         ensures settings { (settings : SettingsValue) → IsOf settings self.old → IsOf settings self.new }
     {
+        let (entry, scrubs, list) = staged.into_parts();
         self.tick(entry.time);
         if puts(&entry) {
-            self.put(entry, slot);
+            self.put(entry, scrubs, slot);
         } else {
-            self.write(entry, slot);
+            self.write(entry, list, slot);
         }
     }
 
-    /// Takes an entry at the time that puts a mitigation.
-    fn put(&mut self, entry: Entry, slot: u32)
+    /// Takes an entry at the time that puts a mitigation, with the rows of the mitigation.
+    fn put(&mut self, entry: Entry, scrubs: Vec<ScrubRow>, slot: u32)
         requires fits { FitsIn self.old entry }
         requires at { entry.time ≡ time_of self.old }
         requires puts { puts entry ≡ true }
+        requires staged { scrubs.items ≡ rows_put entry }
         ensures stands { (entries : List Entry) → StandsFor self.old entries → StandsFor self.new (entries ++ entry ∷ []) }
         ensures time { time_of self.new ≡ time_of self.old }
         ensures slot { self.new.rings ≡ rings_with slot entry self.old.rings }
         ensures settings { (settings : SettingsValue) → IsOf settings self.old → IsOf settings self.new }
     {
+        self.filters
+            .put(&entry, scrubs, self.live.rows(entry.domain));
         let entry = remember(&mut self.remembered, self.alloc, entry, slot);
         self.live.put(entry);
     }
 
-    /// Takes an entry at the time that puts no mitigation.
-    fn write(&mut self, entry: Entry, slot: u32)
+    /// Takes an entry at the time that puts no mitigation, with the row of the access list that it writes.
+    fn write(&mut self, entry: Entry, list: Option<AclRow>, slot: u32)
         requires fits { FitsIn self.old entry }
         requires at { entry.time ≡ time_of self.old }
         requires puts { puts entry ≡ false }
+        requires staged { list ≡ list_put entry }
         ensures stands { (entries : List Entry) → StandsFor self.old entries → StandsFor self.new (entries ++ entry ∷ []) }
         ensures time { time_of self.new ≡ time_of self.old }
         ensures slot { self.new.rings ≡ rings_with slot entry self.old.rings }
         ensures settings { (settings : SettingsValue) → IsOf settings self.old → IsOf settings self.new }
     {
+        let mitigating = has_live(&self.live, &entry);
+        let acls = self.held.acls(entry.domain, entry.cuid.bytes());
+        self.filters.write(&entry, list, mitigating, acls);
         self.live.note(&entry);
         let entry = remember(&mut self.remembered, self.alloc, entry, slot);
         self.held.apply(entry);
     }
+}
+
+/// Whether the entry's client has a live mitigation, where its domain is one of these.
+fn has_live(live: &LiveMitigations, entry: &Entry) -> bool
+    ensures { entry.now.domain < live.now.domains → result ≡ some_of everyone entry.now.cuid (kept_of live.now entry.now.domain) }
+{
+    if entry.domain < live.domains() {
+        return is_mitigating(live.rows(entry.domain), entry.cuid.bytes());
+    }
+    false
 }
 
 /// Remembers the message of a signal entry with its reply, and gives the entry back without the reply.

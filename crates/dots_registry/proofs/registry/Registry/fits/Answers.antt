@@ -1,5 +1,5 @@
 use Rattle.std.proofs.Common.{sym, ◌∙◌}
-use Rattle.dots_registry.proofs.Conditions.{possible_inside, fits_possible}
+use Rattle.dots_registry.proofs.Conditions.{possible_inside, fits_possible, fits_impossible}
 use Rattle.dots_registry.proofs.registry.Registry.fits.Goals as goal
 
 pub takes-requires : goal.takes-requires
@@ -9,3 +9,8 @@ pub returns-then-is_possible : goal.returns-then-is_possible
 returns-then-is_possible c = λ entries stands.
     c.takes.ensures entries stands
     ∙ sym (fits_possible c.args.settings.now c.args.self.now entries c.args.entry.now c.requires stands (sym c.is_possible.ensures ∙ c.if-is_possible.true))
+
+pub returns-else-is_possible : goal.returns-else-is_possible
+returns-else-is_possible c = λ entries stands.
+    c.if-is_possible.false
+    ∙ sym (fits_impossible c.args.settings.now c.args.self.now entries c.args.entry.now c.requires stands (sym c.is_possible.ensures ∙ c.if-is_possible.false))

@@ -8,10 +8,12 @@ returns-clause-stands c =
     c.in_ok-new.field-0
     c.in_ok-new-2.field-0
     c.in_ok-new-3.field-0
+    c.in_ok-new-4.field-0
     c.in_ok-new.ensures.stands
     c.in_ok-new-2.ensures.stands
     c.in_ok-new.ensures.limits
     c.in_ok-new-3.ensures
+    c.in_ok-new-4.ensures.stands
 
 pub returns-clause-settings : goal.returns-clause-settings
 returns-clause-settings c =
@@ -20,7 +22,9 @@ returns-clause-settings c =
     c.in_ok-new.field-0
     c.in_ok-new-2.field-0
     c.in_ok-new-3.field-0
+    c.in_ok-new-4.field-0
     c.in_ok-new.ensures.domains
     c.in_ok-new.ensures.limits
     c.in_ok-new-2.ensures.sizes
     c.in_ok-new-3.ensures
+    c.in_ok-new-4.ensures.room

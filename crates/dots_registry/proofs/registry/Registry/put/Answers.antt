@@ -1,15 +1,17 @@
-use Rattle.std.proofs.Common.{refl}
+use Rattle.std.proofs.Common.{refl, ap, sym, ◌∙◌, ◌≡◌, ◌≤◌, length, subst}
 use Rattle.dots_registry.proofs.Rings.{made_pairs}
 use Rattle.dots_registry.proofs.Standing.{joined, still_of, fits_ring, put_inside, put_room, put_stands}
+use Rattle.installed_filters.specs.Filters.{FiltersValue, filters_put}
+use Rattle.dots_registry.proofs.Filtering.{put_fits, put_filtered, put_within}
 use Rattle.dots_registry.proofs.registry.Registry.put.Goals as goal
 
 pub remember-entry-requires : goal.remember-entry-requires
-remember-entry-requires c = fits_ring (joined c.self.inside.live c.self.inside.held c.self.inside.remembered) c.args.self.now c.args.entry c.self.view_is c.requires.fits
+remember-entry-requires c = fits_ring (joined c.self.inside.live c.self.inside.held c.self.inside.remembered c.self.inside.filters) c.args.self.now c.args.entry c.self.view_is c.requires.fits
 
-pub put-requires-clause-inside : goal.put-requires-clause-inside
-put-requires-clause-inside c =
+pub put-requires-2-clause-inside : goal.put-requires-2-clause-inside
+put-requires-2-clause-inside c =
     put_inside
-    (joined c.self.inside.live c.self.inside.held c.self.inside.remembered)
+    (joined c.self.inside.live c.self.inside.held c.self.inside.remembered c.self.inside.filters)
     c.args.self.now
     c.args.entry
     c.remember-entry.result
@@ -18,10 +20,10 @@ put-requires-clause-inside c =
     c.requires.fits
     c.requires.puts
 
-pub put-requires-clause-room : goal.put-requires-clause-room
-put-requires-clause-room c =
+pub put-requires-2-clause-room : goal.put-requires-2-clause-room
+put-requires-2-clause-room c =
     put_room
-    (joined c.self.inside.live c.self.inside.held c.self.inside.remembered)
+    (joined c.self.inside.live c.self.inside.held c.self.inside.remembered c.self.inside.filters)
     c.args.self.now
     c.args.entry
     c.remember-entry.result
@@ -33,10 +35,11 @@ put-requires-clause-room c =
 pub returns-clause-stands : goal.returns-clause-stands
 returns-clause-stands c = λ entries stands.
     put_stands
-    (joined c.self.inside.live c.self.inside.held c.self.inside.remembered)
+    (joined c.self.inside.live c.self.inside.held c.self.inside.remembered c.self.inside.filters)
     c.args.self.now
-    c.put.new.self
+    c.put-2.new.self
     c.remember-entry.new.remembered
+    c.put.new.self
     c.args.slot
     c.args.entry
     c.remember-entry.result
@@ -45,23 +48,37 @@ returns-clause-stands c = λ entries stands.
     c.remember-entry.ensures.entry
     c.requires.fits
     c.requires.puts
-    c.put.ensures.same
+    c.put-2.ensures.same
     c.remember-entry.ensures.rings
-    (c.put.ensures.stands entries)
+    (c.put-2.ensures.stands entries)
+    (put_filtered (joined c.self.inside.live c.self.inside.held c.self.inside.remembered c.self.inside.filters) c.args.self.now c.args.entry c.put.new.self entries c.self.view_is c.requires.fits c.requires.at c.requires.puts
+    (c.put.ensures ∙ ap (λ kept. filters_put c.args.entry kept c.self.inside.filters) c.rows.ensures.kept))
     stands
 
 pub returns-clause-settings : goal.returns-clause-settings
 returns-clause-settings c = λ settings is_of.
     still_of
     settings
-    (joined c.self.inside.live c.self.inside.held c.self.inside.remembered)
+    (joined c.self.inside.live c.self.inside.held c.self.inside.remembered c.self.inside.filters)
     c.args.self.now
-    c.put.new.self
+    c.put-2.new.self
     c.self.inside.held
     c.remember-entry.new.remembered
+    c.put.new.self
     c.self.view_is
-    c.put.ensures.same.domains
-    c.put.ensures.same.limits
+    c.put-2.ensures.same.domains
+    c.put-2.ensures.same.limits
     refl
     (made_pairs c.args.slot c.args.entry c.self.inside.remembered c.remember-entry.new.remembered c.remember-entry.ensures.rings)
+    (record { scrubs = ap (λ (f : FiltersValue). f.scrub_room) c.put.ensures; acls = ap (λ (f : FiltersValue). f.acl_room) c.put.ensures })
     is_of
+
+pub rows-requires : goal.rows-requires
+rows-requires c = put_within (joined c.self.inside.live c.self.inside.held c.self.inside.remembered c.self.inside.filters) c.args.self.now c.args.entry c.self.view_is c.requires.fits c.requires.puts
+
+pub put-requires-clause-room : goal.put-requires-clause-room
+put-requires-clause-room c =
+    subst
+    (λ kept. length (filters_put c.args.entry kept c.self.inside.filters).scrubs ≤ c.self.inside.filters.scrub_room)
+    (sym c.rows.ensures.kept)
+    (put_fits (joined c.self.inside.live c.self.inside.held c.self.inside.remembered c.self.inside.filters) c.args.self.now c.args.entry c.self.view_is c.requires.fits c.requires.at c.requires.puts)

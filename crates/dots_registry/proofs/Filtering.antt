@@ -1,0 +1,234 @@
+-- The rows after an entry, and that there is room for them.
+use Rattle.std.proofs.Common.{◌≡◌, ℕ, ◌+◌, ◌<◌, ◌≤◌, Bool, true, false, cond, not, ◌&&◌, List, [], ◌∷◌, ◌++◌, map, length, Option, Some, None, refl, sym, ap, ◌∙◌, subst, arith}
+use Rattle.std.specs.Prelude.{◌==◌, nat_lt, nat_le}
+use Rattle.std.specs.List.{list_any, list_all}
+use Rattle.std.proofs.lemmas.Bool.{false≢true, cond-false, and_parts, and_from, ltb-true}
+use Rattle.std.proofs.lemmas.List.Folds.{list_all-append}
+use Rattle.std.proofs.lemmas.Option.{none-some}
+use Rattle.acl_lists.specs.declared.acl.Acl.{Acl}
+use Rattle.filter_table.specs.Table.{TableValue}
+use Rattle.dots_settings.specs.Settings.{SettingsValue}
+use Rattle.dots_settings.specs.declared.limits.Limits.{Limits}
+use Rattle.dots_history.specs.declared.entry.Entry.{Entry}
+use Rattle.dots_history.specs.declared.change.Change.{Change}
+use Rattle.dots_history.specs.declared.change.Change.TheVariants as change
+use Rattle.dots_history.specs.Bounds.{within_bounds}
+use Rattle.dots_history.specs.Entries.{is_configuration}
+use Rattle.dots_history.specs.Histories.{Mitigation, mitigations, held}
+use Rattle.dots_history.specs.Rows.{acl_of, plain_rows, acl_rows}
+use Rattle.dots_laws.specs.Fits as laws
+use Rattle.dots_laws.specs.Tables.{client_of}
+use Rattle.live_mitigations.specs.Standing.{LiveValue, kept_of, puts, is_inside}
+use Rattle.live_mitigations.specs.Standing as lives
+use Rattle.live_mitigations.proofs.Standing.{within_inside, quiet_inside}
+use Rattle.held_things.specs.Held.{acls_of}
+use Rattle.held_things.specs.Tables.{Tables, is_known, sizes_of, tables_with}
+use Rattle.held_things.specs.Tables as things
+use Rattle.held_things.proofs.Lawful.{same_held, known_of}
+use Rattle.held_things.proofs.Standing.{stands_with}
+use Rattle.installed_filters.specs.Filters.{FiltersValue, filters_put, filters_written, some_of, everyone}
+use Rattle.installed_filters.specs.Standing.{KeepsLimits, HasRoom, scrub_room_of, acl_room_of}
+use Rattle.installed_filters.specs.Standing as rows
+use Rattle.installed_filters.proofs.Limits.{limits_with}
+use Rattle.installed_filters.proofs.Room.{scrubs_fit, lists_fit}
+use Rattle.installed_filters.proofs.Standing.{put_stands, write_stands, client_mitigates, live_inside}
+use Rattle.installed_filters.proofs.Waking.{mitigates}
+use Rattle.dots_registry.specs.Standing.{RegistryValue, IsOf, StandsFor, time_of}
+use Rattle.dots_registry.specs.Fitting.{FitsIn, fits_then, fits_now}
+use Rattle.dots_registry.proofs.Standing.{Filtered, fits_inside, fits_later, fits_within, law_fits, own_of, own_inside, puts_kind, accepted}
+use Rattle.dots_registry.proofs.Conditions.{same_fits}
+
+-- it fits each history for which the registry stands
+law_for : (inside : RegistryValue) (e : Entry) (entries : List Entry) (fits : FitsIn inside e) → StandsFor inside entries → laws.fits fits.settings entries e ≡ true
+law_for inside e entries fits stands =
+    let now : fits_now fits.settings inside entries e ≡ true =
+    same_fits fits.settings inside entries fits.entries e fits.is_of stands fits.stands ∙ fits.fits in
+    let parts = and_parts (within_bounds e) (fits_then fits.settings inside entries e) now in
+    (and_parts (nat_le (time_of inside) e.time) (laws.fits fits.settings entries e) parts.1).1
+
+limits_after : (inside : RegistryValue) (e : Entry) (entries : List Entry) → FitsIn inside e → e.time ≡ time_of inside → StandsFor inside entries
+    → KeepsLimits inside.live.limits inside.live.time (entries ++ e ∷ [])
+limits_after inside e entries fits at stands =
+    subst
+    (λ t. KeepsLimits inside.live.limits t (entries ++ e ∷ []))
+    at
+    (subst
+    (λ (l : Limits). KeepsLimits l e.time (entries ++ e ∷ []))
+    (sym fits.is_of.limits)
+    (limits_with
+    fits.settings
+    inside.live.time
+    entries
+    e
+    (fits_later inside e fits)
+    (law_for inside e entries fits stands)
+    (fits_within inside e fits)
+    (subst (λ (l : Limits). KeepsLimits l inside.live.time entries) fits.is_of.limits stands.limits)))
+
+inside_after : (inside : RegistryValue) (e : Entry) (entries : List Entry) → is_inside inside.live.domains e ≡ true → StandsFor inside entries
+    → list_all (λ (m : Mitigation). nat_lt m.put.domain inside.live.domains) (mitigations inside.live.time (entries ++ e ∷ [])) ≡ true
+inside_after inside e entries own stands =
+    live_inside
+    inside.live.time
+    inside.live.domains
+    (entries ++ e ∷ [])
+    (list_all-append (is_inside inside.live.domains) entries (e ∷ [])
+    ∙ and_from
+    (list_all (is_inside inside.live.domains) entries)
+    (list_all (is_inside inside.live.domains) (e ∷ []))
+    stands.live.inside
+    (and_from (is_inside inside.live.domains e) true own refl))
+
+-- ---- an entry that puts a mitigation
+
+domain_of : (inside : RegistryValue) (e : Entry) → FitsIn inside e → puts e ≡ true → e.domain < inside.live.domains
+domain_of inside e fits put = own_inside fits.settings inside e fits.is_of (own_of fits.settings fits.entries e (law_fits inside e fits)) put
+
+pub put_within : (inside old : RegistryValue) (e : Entry) → inside ≡ old → FitsIn old e → puts e ≡ true → e.domain < inside.live.domains
+put_within inside old e same fits put = domain_of inside e (fits_inside inside old e same fits) put
+
+rows_after_put : (inside : RegistryValue) (e : Entry) (new : FiltersValue) (entries : List Entry) → FitsIn inside e → e.time ≡ time_of inside → puts e ≡ true
+    → new ≡ filters_put e (kept_of inside.live e.domain) inside.filters → StandsFor inside entries
+    → rows.StandsFor new inside.live.time (entries ++ e ∷ [])
+rows_after_put inside e new entries fits at put made stands =
+    subst
+    (λ t. rows.StandsFor new t (entries ++ e ∷ []))
+    at
+    (put_stands
+    inside.live
+    inside.filters
+    new
+    e
+    entries
+    at
+    (domain_of inside e fits put)
+    put
+    stands.live
+    stands.filters
+    made
+    (same_held e entries (puts_kind e put).0))
+
+pub put_filtered : (inside old : RegistryValue) (e : Entry) (new : FiltersValue) (entries : List Entry) → inside ≡ old → FitsIn old e → e.time ≡ time_of old
+    → puts e ≡ true → new ≡ filters_put e (kept_of inside.live e.domain) inside.filters → StandsFor inside entries
+    → Filtered inside new (entries ++ e ∷ [])
+put_filtered inside old e new entries same fits at put made stands =
+    let here = fits_inside inside old e same fits in
+    let now : e.time ≡ time_of inside = at ∙ sym (ap time_of same) in
+    record {
+      filters_are = rows_after_put inside e new entries here now put made stands;
+      limits_are = limits_after inside e entries here now stands;
+    }
+
+pub put_fits : (inside old : RegistryValue) (e : Entry) → inside ≡ old → FitsIn old e → e.time ≡ time_of old → puts e ≡ true
+    → length (filters_put e (kept_of inside.live e.domain) inside.filters).scrubs ≤ inside.filters.scrub_room
+put_fits inside old e same fits at put =
+    let here = fits_inside inside old e same fits in
+    let now : e.time ≡ time_of inside = at ∙ sym (ap time_of same) in
+    let after = rows_after_put inside e (filters_put e (kept_of inside.live e.domain) inside.filters) here.entries here now put refl here.stands in
+    let most = scrubs_fit
+    inside.live.domains
+    inside.live.limits
+    inside.live.time
+    (here.entries ++ e ∷ [])
+    (inside_after inside e here.entries (within_inside inside.live.domains e (domain_of inside e here put)) here.stands)
+    (limits_after inside e here.entries here now here.stands) in
+    let long = ap length after.scrubs in
+    let room : inside.filters.scrub_room ≡ scrub_room_of inside.live.domains inside.live.limits =
+    here.is_of.filters.scrubs ∙ sym (ap (λ n. scrub_room_of n inside.live.limits) here.is_of.domains ∙ ap (scrub_room_of (length here.settings.domains)) here.is_of.limits) in
+    omega (arith, most, long, room)
+
+-- ---- an entry that writes something else
+
+list_no_configuration : (c : Change) (acl : Acl) → acl_of c ≡ Some acl → is_configuration c ≡ false
+unfolding is_configuration
+list_no_configuration (change.SetAcl acl) a is = refl
+list_no_configuration _ a is = absurd (none-some a is)
+
+list_inside : (inside : RegistryValue) (e : Entry) (acl : Acl) → FitsIn inside e → acl_of e.change ≡ Some acl → e.domain < inside.live.domains
+list_inside inside e acl fits is =
+    let own = own_of fits.settings fits.entries e (law_fits inside e fits) in
+    let below : e.domain < length fits.settings.domains =
+    ltb-true
+    e.domain
+    (length fits.settings.domains)
+    (sym (cond-false
+    (is_configuration e.change)
+    (list_any (λ peer. e.peer == peer) (sizes_of fits.settings).peers)
+    (nat_lt e.domain (length fits.settings.domains))
+    (list_no_configuration e.change acl is))
+    ∙ known_of fits.settings e own) in
+    subst (λ n. e.domain < n) (sym fits.is_of.domains) below
+
+rows_after_write : (inside : RegistryValue) (e : Entry) (mitigating : Bool) (acls : List Acl) (new : FiltersValue) (entries : List Entry) → FitsIn inside e
+    → e.time ≡ time_of inside → puts e ≡ false → new ≡ filters_written mitigating acls e inside.filters
+    → (e.domain < inside.live.domains → mitigating ≡ some_of everyone e.cuid (kept_of inside.live e.domain))
+    → acls ≡ acls_of (client_of e) (held entries) → StandsFor inside entries → rows.StandsFor new inside.live.time (entries ++ e ∷ [])
+rows_after_write inside e mitigating acls new entries fits at quiet made by_kept are stands =
+    subst
+    (λ t. rows.StandsFor new t (entries ++ e ∷ []))
+    at
+    (write_stands
+    inside.live
+    inside.filters
+    new
+    mitigating
+    acls
+    e
+    entries
+    at
+    quiet
+    stands.live
+    stands.filters
+    made
+    (λ acl is.
+    let within = list_inside inside e acl fits is in by_kept within ∙ client_mitigates inside.live e entries within stands.live)
+    are)
+
+pub write_filtered : (inside old : RegistryValue) (e : Entry) (mitigating : Bool) (acls : List Acl) (new : FiltersValue) (entries : List Entry) → inside ≡ old
+    → FitsIn old e → e.time ≡ time_of old → puts e ≡ false → new ≡ filters_written mitigating acls e inside.filters
+    → (e.domain < inside.live.domains → mitigating ≡ some_of everyone e.cuid (kept_of inside.live e.domain))
+    → (things.StandsFor inside.held entries → acls ≡ acls_of (client_of e) (held entries)) → StandsFor inside entries
+    → Filtered inside new (entries ++ e ∷ [])
+write_filtered inside old e mitigating acls new entries same fits at quiet made by_kept are stands =
+    let here = fits_inside inside old e same fits in
+    let now : e.time ≡ time_of inside = at ∙ sym (ap time_of same) in
+    record {
+      filters_are = rows_after_write inside e mitigating acls new entries here now quiet made by_kept (are stands.held) stands;
+      limits_are = limits_after inside e entries here now stands;
+    }
+
+pub write_fits : (inside old : RegistryValue) (e : Entry) (mitigating : Bool) (acls : List Acl) → inside ≡ old → FitsIn old e → e.time ≡ time_of old → puts e ≡ false
+    → (e.domain < inside.live.domains → mitigating ≡ some_of everyone e.cuid (kept_of inside.live e.domain))
+    → ((entries : List Entry) → things.StandsFor inside.held entries → acls ≡ acls_of (client_of e) (held entries))
+    → length (filters_written mitigating acls e inside.filters).acls ≤ inside.filters.acl_room
+write_fits inside old e mitigating acls same fits at quiet by_kept are =
+    let here = fits_inside inside old e same fits in
+    let now : e.time ≡ time_of inside = at ∙ sym (ap time_of same) in
+    let after = rows_after_write
+    inside
+    e
+    mitigating
+    acls
+    (filters_written mitigating acls e inside.filters)
+    here.entries
+    here
+    now
+    quiet
+    refl
+    by_kept
+    (are here.entries here.stands.held)
+    here.stands in
+    let things_after = stands_with inside.held here.entries e here.stands.held (accepted inside e here) in
+    let most = lists_fit
+    (tables_with e inside.held).sizes
+    inside.live.limits
+    inside.live.time
+    (here.entries ++ e ∷ [])
+    things_after.known
+    things_after.owned
+    (limits_after inside e here.entries here now here.stands) in
+    let long = ap length after.acls in
+    let room : inside.filters.acl_room ≡ acl_room_of inside.held.sizes.domains inside.live.limits =
+    here.is_of.filters.acls
+    ∙ sym (ap (λ (s : things.Sizes). acl_room_of s.domains inside.live.limits) here.is_of.sizes ∙ ap (acl_room_of (length here.settings.domains)) here.is_of.limits) in
+    omega (arith, most, long, room)

@@ -1,0 +1,45 @@
+-- The copies that an entry needs.
+use Rattle.std.proofs.Common.{◌≡◌, ℕ, List, [], ◌∷◌, ◌++◌, map, Option, Some, None, refl, sym, ap, ◌∙◌, append-nil, length, drop, ◌≤◌}
+use Rattle.std.specs.List.{flat_map}
+use Rattle.std.proofs.lemmas.List.{map-append, drop_all}
+use Rattle.ip_scope.specs.Prefix.{PrefixValue}
+use Rattle.filter_rows.specs.declared.rows.ScrubRow.{ScrubRow}
+use Rattle.dots_history.specs.declared.entry.Entry.{Entry}
+use Rattle.dots_history.specs.declared.put.Put.{Put}
+use Rattle.dots_history.specs.declared.put.Target.{Target}
+use Rattle.dots_history.specs.declared.change.Change.TheVariants as change
+use Rattle.dots_history.specs.Rows.{Row, rows_of, targets_of, plain_row}
+use Rattle.installed_filters.specs.Filters.{rows_put, rows_of_target}
+
+-- the rows of these targets
+abbrev pub rows_in : Entry → List Target → List ScrubRow
+rows_in e targets = flat_map (rows_of_target e) targets
+
+prefixes_are : (e : Entry) (target : Target) (prefixes : List PrefixValue)
+    → map plain_row (map (λ (p : PrefixValue). record { put = e; target = target; prefix = p }) prefixes)
+    ≡ map (λ (p : PrefixValue). plain_row (record { put = e; target = target; prefix = p })) prefixes
+prefixes_are e target [] = refl
+prefixes_are e target (p ∷ prefixes) = ap (λ rows. plain_row (record { put = e; target = target; prefix = p }) ∷ rows) (prefixes_are e target prefixes)
+
+targets_are : (e : Entry) (targets : List Target)
+    → map plain_row (flat_map (λ (target : Target). map (λ (p : PrefixValue). record { put = e; target = target; prefix = p }) target.prefixes) targets)
+    ≡ rows_in e targets
+targets_are e [] = refl
+targets_are e (target ∷ targets) =
+    let here = map (λ (p : PrefixValue). record { put = e; target = target; prefix = p }) target.prefixes in
+    let rest = flat_map (λ (t : Target). map (λ (p : PrefixValue). record { put = e; target = t; prefix = p }) t.prefixes) targets in
+    map-append plain_row here rest
+    ∙ ap (λ rows. rows ++ map plain_row rest) (prefixes_are e target target.prefixes)
+    ∙ ap (λ rows. rows_of_target e target ++ rows) (targets_are e targets)
+
+pub put_rows : (e : Entry) → rows_put e ≡ rows_in e (targets_of e.change)
+put_rows e = targets_are e (targets_of e.change)
+
+pub copied_end : (e : Entry) (put : Put) (i : ℕ) (items : List ScrubRow) → e.change ≡ change.Put put → length put.targets ≤ i
+    → items ++ rows_in e (drop i put.targets) ≡ rows_in e put.targets → items ≡ rows_put e
+copied_end e put i items is past all =
+    sym (append-nil items)
+    ∙ ap (λ targets. items ++ rows_in e targets) (sym (drop_all i put.targets past))
+    ∙ all
+    ∙ ap (λ c. rows_in e (targets_of c)) (sym is)
+    ∙ sym (put_rows e)

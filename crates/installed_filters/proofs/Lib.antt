@@ -1,0 +1,11 @@
+pub mod Places
+pub mod Sieving
+pub mod Steps
+pub mod Keys
+pub mod Waking
+pub mod Writing
+pub mod Standing
+pub mod Room
+pub mod Limits
+pub mod Copies
+pub mod Changes

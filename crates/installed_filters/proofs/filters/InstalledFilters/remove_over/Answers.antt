@@ -1,0 +1,32 @@
+use Rattle.std.proofs.Common.{arith}
+use Rattle.installed_filters.specs.Filters.{lives_at}
+use Rattle.installed_filters.proofs.Steps.{sweep_step, sweep_end}
+use Rattle.installed_filters.proofs.filters.InstalledFilters.remove_over.Goals as goal
+
+pub loop-row-preserved : goal.loop-row-preserved
+loop-row-preserved c =
+    sweep_step
+    c.args.domain
+    (lives_at c.args.now)
+    c.loop-row.row-index
+    c.args.rows.now
+    _
+    c.loop-row.self
+    c.remove_if_over.new.self
+    _
+    c.loop-row-test.true
+    c.row-item.is
+    c.remove_if_over.ensures
+    c.loop-row.invariant
+
+pub returns : goal.returns
+returns c =
+    sweep_end
+    c.args.domain
+    (lives_at c.args.now)
+    c.loop-row.row-index
+    c.args.rows.now
+    c.loop-row.self
+    _
+    (omega (arith, c.loop-row-test.false))
+    c.loop-row.invariant

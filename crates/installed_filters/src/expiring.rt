@@ -1,0 +1,29 @@
+//! Mitigations that are over, with their rows.
+
+ghost use Rattle.std.specs.Prelude.{◌<◌, ◌≤◌, List};
+ghost use Rattle.dots_history.specs.declared.entry.Entry.{Entry};
+ghost use Rattle.live_mitigations.specs.Ends.{never};
+ghost use Rattle.live_mitigations.specs.Standing.{ComesTo, SameButRows};
+ghost use Rattle.live_mitigations.specs.Standing as lives;
+ghost use Rattle.installed_filters.specs.Filters.{SameRoom};
+ghost use Rattle.installed_filters.specs.Standing.{StandsFor};
+
+use crate::filters::InstalledFilters;
+use live_mitigations::LiveMitigations;
+
+/// Takes the mitigations out that are over by this time, domain by domain, and before that their rows. The time of the
+/// mitigations doesn't move; `LiveMitigations::tick` moves it then.
+#[tactic(auto, using(crate::proofs::Standing::between_first, crate::proofs::Standing::between_next, crate::proofs::Standing::between_last))]
+pub fn expire_all(live: &mut LiveMitigations, filters: &mut InstalledFilters, now: u64)
+    requires { now < never }
+    ensures comes { (entries : List Entry) → ComesTo now live.old entries → ComesTo now live.new entries }
+    ensures same { SameButRows live.old live.new }
+    ensures stands { (entries : List Entry) → live.old.time ≤ now → lives.StandsFor live.old entries → StandsFor filters.old live.old.time entries
+        → StandsFor filters.new now entries }
+    ensures room { SameRoom filters.old filters.new }
+{
+    while let Some(domain) = live.next_due(now) {
+        filters.leave_live(domain, live.rows(domain), now);
+        live.expire(domain, now);
+    }
+}

@@ -1,0 +1,150 @@
+//! An entry with the copies that its rows need.
+
+ghost use Rattle.std.specs.Prelude.{◌≡◌, ◌++◌, ℕ, true, false, map, option_map, IfOk, OnOk, OnErr};
+ghost use Rattle.dots_history.specs.Rows.{acl_of, mid_of, targets_of};
+ghost use Rattle.dots_history.specs.declared.change.Change.TheVariants as change;
+ghost use Rattle.installed_filters.specs.Filters.{rows_put, rows_of_target, list_put, acl_row_with, needs_rows};
+
+use acl_lists::Acl;
+use dots_history::{Change, Entry, Put, Target};
+use dots_lists::NoMemory;
+use filter_rows::{AclRow, ScrubRow};
+use std::alloc::Global;
+use std::marker::Model;
+
+/// An entry whose rows can be installed without memory. Contracts see it as the entry.
+#[derive(Debug, Drop)]
+pub struct Staged {
+    entry: Entry,
+    scrubs: Vec<ScrubRow>,
+    list: Option<AclRow>,
+}
+
+impl Model for Staged {
+    ghost use Rattle.dots_history.specs.declared.entry.Entry.{Entry};
+    ghost use Rattle.installed_filters.specs.Filters.{IsStaged};
+
+    ghost Value = { Entry };
+
+    ghost view = { λ staged. staged.entry };
+
+    ghost invariant = { λ staged. IsStaged staged.entry staged.scrubs.items staged.list };
+}
+
+impl Staged {
+    /// Makes the copies. This takes memory only for an entry that puts a mitigation or writes an access list.
+    pub fn of(alloc: Global, entry: Entry) -> Result<Self, NoMemory>
+        ensures value { IfOk result (λ staged. staged ≡ entry) }
+        ensures no_memory { OnErr result (needs_rows entry.change ≡ true) }
+    {
+        let scrubs = rows_put(alloc, &entry)?;
+        let list = list_put(alloc, &entry)?;
+        Ok(Staged {
+            entry,
+            scrubs,
+            list,
+        })
+    }
+
+    /// The entry.
+    pub fn entry(&self) -> &Entry
+        ensures { result.now ≡ self.now }
+    {
+        &self.entry
+    }
+
+    /// The entry, the rows of the mitigation that it puts, and that of the list that it writes.
+    pub fn into_parts(self) -> (Entry, Vec<ScrubRow>, Option<AclRow>)
+        ensures entry { result.0 ≡ self }
+        ensures scrubs { result.1.items ≡ rows_put self }
+        ensures list { result.2 ≡ list_put self }
+    {
+        (self.entry, self.scrubs, self.list)
+    }
+}
+
+/// A row for each prefix of each target of the mitigation that the entry puts.
+fn rows_put(alloc: Global, entry: &Entry) -> Result<Vec<ScrubRow>, NoMemory>
+    ensures rows { IfOk result (λ rows. rows.items ≡ rows_put entry.now) }
+    ensures no_memory { OnErr result (needs_rows entry.now.change ≡ true) }
+{
+    match &entry.change {
+        Change::Put(put) => rows_of_put(alloc, entry, put),
+        Change::Withdraw { .. }
+        | Change::SetAlias(_)
+        | Change::DropAlias { .. }
+        | Change::SetAcl(_)
+        | Change::DropAcl { .. }
+        | Change::Register
+        | Change::Deregister
+        | Change::SetConfig { .. }
+        | Change::ClearConfig => Ok(Vec::new(alloc)),
+    }
+}
+
+#[tactic(auto, using(crate::proofs::Copies::copied_end))]
+fn rows_of_put(alloc: Global, entry: &Entry, put: &Put) -> Result<Vec<ScrubRow>, NoMemory>
+    requires { entry.now.change ≡ change.Put put.now }
+    ensures { IfOk result (λ rows. rows.items ≡ rows_put entry.now) }
+{
+    let mut rows = Vec::new(alloc);
+    for target in put.targets.items() {
+        push_rows(&mut rows, entry, put.mid, target)?;
+    }
+    Ok(rows)
+}
+
+/// Puts the rows of a target behind the others.
+fn push_rows(
+    rows: &mut Vec<ScrubRow>,
+    entry: &Entry,
+    mid: u32,
+    target: &Target,
+) -> Result<(), NoMemory>
+    requires { mid ≡ mid_of entry.now.change }
+    ensures { OnOk result (rows.new.items ≡ rows.old.items ++ rows_of_target entry.now target.now) }
+{
+    for prefix in target.prefixes.items() {
+        rows.push(ScrubRow {
+            domain: entry.domain,
+            cuid: entry.cuid.copy()?,
+            mid,
+            prefix: *prefix,
+            ports: target.ports.copy()?,
+            protocols: target.protocols.copy()?,
+            active: true,
+        })?;
+    }
+    Ok(())
+}
+
+/// The row of the list that the entry writes.
+fn list_put(alloc: Global, entry: &Entry) -> Result<Option<AclRow>, NoMemory>
+    ensures row { IfOk result (λ row. row ≡ list_put entry.now) }
+    ensures no_memory { OnErr result (needs_rows entry.now.change ≡ true) }
+{
+    match &entry.change {
+        Change::SetAcl(acl) => Ok(Some(row_of_acl(alloc, entry, acl)?)),
+        Change::Put(_)
+        | Change::Withdraw { .. }
+        | Change::SetAlias(_)
+        | Change::DropAlias { .. }
+        | Change::DropAcl { .. }
+        | Change::Register
+        | Change::Deregister
+        | Change::SetConfig { .. }
+        | Change::ClearConfig => Ok(None),
+    }
+}
+
+/// A row that isn't active yet.
+fn row_of_acl(alloc: Global, entry: &Entry, acl: &Acl) -> Result<AclRow, NoMemory>
+    ensures { IfOk result (λ row. row ≡ acl_row_with false entry.now acl.now) }
+{
+    Ok(AclRow {
+        domain: entry.domain,
+        cuid: entry.cuid.copy()?,
+        acl: acl.copy(alloc)?,
+        active: false,
+    })
+}
