@@ -3,4 +3,4 @@ use Rattle.dots_server.proofs.Bodies.{grant_short}
 use Rattle.dots_server.proofs.replies.created.Goals as goal
 
 pub with_body-requires-clause-body : goal.with_body-requires-clause-body
-with_body-requires-clause-body c = subst (λ xs. length xs ≤ 40) (sym (c.items.ensures ∙ c.in_ok-body.ensures)) (grant_short _ _)
+with_body-requires-clause-body c = subst (λ xs. length xs ≤ 40) (sym (c.items.ensures ∙ c.in_ok-body.ensures.body)) (grant_short _ _)
