@@ -10,4 +10,4 @@ loop-one-preserved c =
     let none : MitigationSlots = record { put = 0; withdrawal = None } in
     ap (set c.loop-one.slots c.loop-one.one-index) c.renumber_one.ensures
     ∙ map_over_more (renumbered c.args.keep.now) _ _ _ (get_or c.loop-one.slots c.loop-one.one-index none) c.loop-one-test.true c.loop-one.invariant
-      (get_twice c.loop-one.slots c.loop-one.one-index none)
+    (get_twice c.loop-one.slots c.loop-one.one-index none)
