@@ -1,0 +1,11 @@
+pub mod Lists
+pub mod Granted
+pub mod Inside
+pub mod Bounded
+pub mod Counted
+pub mod Fitting
+pub mod Alone
+pub mod Places
+pub mod HeldPlaces
+pub mod Rules
+pub mod Judging
