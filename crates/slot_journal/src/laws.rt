@@ -2,6 +2,7 @@
 
 ghost use Rattle.std.specs.Prelude.{◌≡◌, ◌⊎◌, ℕ, ◌≤◌, ◌<◌, List, [], ◌∷◌, ◌++◌, IsTrue, IfOk, IfErr, OnOk};
 ghost use Rattle.slot_journal.specs.declared.fault.JournalFault.{JournalFault};
+ghost use Rattle.dots_host.specs.Causes.{HasCause};
 ghost use Rattle.dots_disk.specs.Becoming.{RestsWith};
 ghost use Rattle.dots_settings.specs.Settings.{SettingsValue};
 ghost use Rattle.dots_history.specs.declared.entry.Entry.{Entry};
@@ -48,6 +49,10 @@ pub fn survives_crash<D: Disk, C: Disk>(
     requires room { journal.old.used < journal.old.slots }
     requires size { needed_of journal.old.slots ≤ D.extent disk.old }
     requires within { IsTrue (within_bounds entry.now) }
+
+    // What the append answered: the slot, or a fault of its disk.
+    ensures slot { IfOk result (λ answer. IfOk answer.0 (λ slot. slot ≡ journal.old.used)) }
+    ensures fault { IfOk result (λ answer. HasCause (D.faults disk.old) (D.faults disk.new) answer.0) }
 
     // Where the entry was appended, the journal rests with it behind those from before.
     ensures appended { IfOk result (λ answer. OnOk answer.0 ((before : List Entry) →

@@ -15,6 +15,12 @@ returns-in_err-entries-clause-refused g c =
     let p = err_from_is_err_and c.from_residual.result c.from_residual.ensures.1 in
     rw (p.1, p.2) c.in_err-entries.ensures.refused
 
+pub returns-clause-slot : goal.returns-clause-slot
+returns-clause-slot g c = c.append-answer.ensures.slot
+
+pub returns-clause-fault : goal.returns-clause-fault
+returns-clause-fault g c = c.append-answer.ensures.cause
+
 pub returns-clause-appended : goal.returns-clause-appended
 returns-clause-appended g c = on_ok_as c.append-answer.result (λ rests before. rests c.args.settings.now before) c.append-answer.ensures.rests
 
