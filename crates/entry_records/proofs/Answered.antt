@@ -1,5 +1,5 @@
 -- What is answered of bytes, by what reading gives.
-use Rattle.std.proofs.Common.{◌≡◌, ◌≢◌, ℕ, suc, ◌<◌, List, [], ◌∷◌, Result, Ok, Err, get_or, refl, ap, ◌∙◌}
+use Rattle.std.proofs.Common.{◌≡◌, ◌≢◌, ℕ, List, Result, Ok, Err, refl, ap, ◌∙◌}
 use Rattle.std.specs.Prelude.{IfOk, IfErr}
 use Rattle.dots_history.specs.declared.entry.Entry.{Entry}
 use Rattle.entry_records.specs.declared.fault.EntryFault.{EntryFault}
@@ -8,10 +8,6 @@ use Rattle.entry_records.specs.Reading.{Gives, record_at}
 use Rattle.entry_records.specs.Records.{IsRecord, IsBroken}
 use Rattle.entry_records.proofs.Readers.{AreBytes}
 use Rattle.entry_records.proofs.Places.{read_record, read_is, read_broken, broken_is, one_answer, no_error}
-
-pub bytes_are : (bytes : List ℕ) → ((i : ℕ) → get_or bytes i 0 < 256) → AreBytes bytes
-bytes_are [] each = tt
-bytes_are (b ∷ bytes) each = (each 0, bytes_are bytes (λ i. each (suc i)))
 
 abbrev Answer : Type 0
 Answer = Result Entry EntryFault

@@ -1,7 +1,7 @@
 -- How what functions write is joined.
 use Rattle.std.proofs.Common.{true, nat_le, nat_lt, IsTrue, ◌&&◌, ◌||◌, ◌^◌, add-one, get_or, ◌≡◌, ℕ, zero, suc, ◌+◌, ◌*◌, ◌<◌, ◌≤◌, List, [], ◌∷◌, ◌++◌, length, take, sym, ap, subst, ◌∙◌, arith, append_assoc}
 use Rattle.std.specs.Prelude.{◌==◌}
-use Rattle.std.specs.List.{flat_map}
+use Rattle.std.specs.List.{AllByRecursion, flat_map}
 use Rattle.std.proofs.lemmas.Bool.{and_parts}
 use Rattle.dots_lists.specs.Name.{is_name}
 use native.Mathlib.Numerals.{unary_clauses}
@@ -10,6 +10,7 @@ use Rattle.acl_lists.specs.declared.asked.Asked.{Asked}
 use Rattle.dots_history.specs.Bounds.{asked_within, prefix_count, change_within, target_within, within_bounds}
 use Rattle.dots_history.specs.declared.entry.Entry.{Entry}
 use Rattle.dots_history.specs.declared.put.Target.{Target}
+use Rattle.entry_records.specs.Values.{IsByte}
 use Rattle.entry_records.specs.Layout.{target_bytes}
 use Rattle.entry_records.specs.Writing.{Writes}
 use Rattle.entry_records.proofs.Within.{five_of, at_most, cuid_from}
@@ -61,6 +62,21 @@ one_more f k i xs x {n} few is before item =
     let step : take (i + 1) xs ≡ take i xs ++ (x ∷ []) = rw (add-one i) (next_item i xs x few is) in
     let most : 1 + k * i + k ≤ 1 + k * (i + 1) = rw (mul_suc k i) (omega arith) in
     looser (same (both before item) (ap (λ l. n ∷ l) (sym (ap (flat_map f) step ∙ laid_next f (take i xs) x)))) most
+
+all_pushed : {A : Type 0} (P : A → Type 0) (xs : List A) (x : A) → AllByRecursion P xs → P x → AllByRecursion P (xs ++ (x ∷ []))
+all_pushed P [] x all here = (here, tt)
+all_pushed P (y ∷ xs) x all here = (all.0, all_pushed P xs x all.1 here)
+
+-- one item more that has what the items before have
+pub all_next : {A : Type 0} (P : A → Type 0) (i : ℕ) (xs : List A) (x : A) → i < length xs → x ≡ get_or xs i x → AllByRecursion P (take i xs) → P x → AllByRecursion P (take (i + 1) xs)
+all_next P i xs x few is before item =
+    let step : take (i + 1) xs ≡ take i xs ++ (x ∷ []) = rw (add-one i) (next_item i xs x few is) in
+    subst (AllByRecursion P) (sym step) (all_pushed P (take i xs) x before item)
+
+-- the items of a slice of bytes are bytes
+pub bytes_are : (bytes : List ℕ) → ((i : ℕ) → get_or bytes i 0 < 256) → AllByRecursion IsByte bytes
+bytes_are [] each = tt
+bytes_are (b ∷ bytes) each = (each 0, bytes_are bytes (λ i. each (suc i)))
 
 -- ---- targets
 

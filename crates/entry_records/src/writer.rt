@@ -1,8 +1,11 @@
-//! Writing bytes, numbers and names behind others.
+//! Writing bytes, numbers and names behind others. Each call says what it writes (`written`), and what the type of its
+//! value says of that (`typed`).
 
-ghost use Rattle.std.specs.Prelude.{◌≡◌, ◌+◌, ◌*◌, ◌≤◌, [], ◌∷◌, length};
+ghost use Rattle.std.specs.Prelude.{◌≡◌, ◌+◌, ◌*◌, ◌^◌, ◌<◌, ◌≤◌, [], ◌∷◌, length};
+ghost use Rattle.std.specs.List.{AllByRecursion};
 ghost use Rattle.std.specs.Int.{w16, w32, w64, w128, to_be_bytes};
 ghost use Rattle.entry_records.specs.Layout.{counted};
+ghost use Rattle.entry_records.specs.Values.{IsByte, IsName};
 ghost use Rattle.entry_records.specs.Writing.{Writes};
 
 use arrayvec::ArrayVec;
@@ -52,7 +55,8 @@ impl Writer {
     }
 
     pub(crate) fn bytes(&mut self, bytes: &[u8])
-        ensures { Writes (length bytes.now) bytes.now self.old self.new }
+        ensures written { Writes (length bytes.now) bytes.now self.old self.new }
+        ensures typed { AllByRecursion IsByte bytes.now }
     {
         for byte in bytes {
             self.byte(*byte);
@@ -60,19 +64,22 @@ impl Writer {
     }
 
     pub(crate) fn u16(&mut self, number: u16)
-        ensures { Writes 2 (to_be_bytes w16 number) self.old self.new }
+        ensures written { Writes 2 (to_be_bytes w16 number) self.old self.new }
+        ensures typed { number < 2 ^ 16 }
     {
         self.bytes(&number.to_be_bytes());
     }
 
     pub(crate) fn u32(&mut self, number: u32)
-        ensures { Writes 4 (to_be_bytes w32 number) self.old self.new }
+        ensures written { Writes 4 (to_be_bytes w32 number) self.old self.new }
+        ensures typed { number < 2 ^ 32 }
     {
         self.bytes(&number.to_be_bytes());
     }
 
     pub(crate) fn u64(&mut self, number: u64)
-        ensures { Writes 8 (to_be_bytes w64 number) self.old self.new }
+        ensures written { Writes 8 (to_be_bytes w64 number) self.old self.new }
+        ensures typed { number < 2 ^ 64 }
     {
         self.bytes(&number.to_be_bytes());
     }
@@ -86,14 +93,16 @@ impl Writer {
     /// Bytes behind how many there are.
     pub(crate) fn counted(&mut self, bytes: &[u8])
         requires { length bytes.now ≤ 255 }
-        ensures { Writes (1 + length bytes.now) (counted bytes.now) self.old self.new }
+        ensures written { Writes (1 + length bytes.now) (counted bytes.now) self.old self.new }
+        ensures typed { AllByRecursion IsByte bytes.now }
     {
         self.byte(bytes.len() as u8);
         self.bytes(bytes);
     }
 
     pub(crate) fn name(&mut self, name: &Name)
-        ensures { Writes 65 (counted name.now) self.old self.new }
+        ensures written { Writes 65 (counted name.now) self.old self.new }
+        ensures typed { IsName name.now }
     {
         self.counted(name.bytes());
     }

@@ -1,6 +1,7 @@
 ghost use Rattle.std.specs.Prelude.{◌≡◌, ◌≤◌, ◌++◌, drop, length, IsTrue};
 ghost use Rattle.dots_history.specs.Bounds.{within_bounds};
 ghost use Rattle.entry_records.specs.Layout.{record_bytes};
+ghost use Rattle.entry_records.specs.Records.{IsRecord};
 
 use crate::writer::Writer;
 use dots_history::Entry;
@@ -10,6 +11,7 @@ pub fn record_len(entry: &Entry) -> usize
     requires { IsTrue (within_bounds entry.now) }
     ensures len { result ≡ length (record_bytes entry.now) }
     ensures short { result ≤ 3929 }
+    ensures record { IsRecord (record_bytes entry.now) entry.now }
 {
     let mut writer = Writer::new();
     writer.entry(entry);
@@ -23,6 +25,7 @@ pub fn record_into(entry: &Entry, into: &mut [u8]) -> usize
     requires room { length (record_bytes entry.now) ≤ length into.old }
     ensures len { result ≡ length (record_bytes entry.now) }
     ensures written { into.new ≡ record_bytes entry.now ++ drop result into.old }
+    ensures record { IsRecord (record_bytes entry.now) entry.now }
 {
     let mut writer = Writer::new();
     writer.entry(entry);

@@ -1,10 +1,11 @@
 //! Writing access lists, mitigations, session configurations and whole entries.
 
-ghost use Rattle.std.specs.Prelude.{◌≡◌, ◌+◌, ◌*◌, ◌≤◌, ◌∷◌, ◌++◌, length, nat_le, IsTrue};
-ghost use Rattle.std.specs.List.{list_all};
+ghost use Rattle.std.specs.Prelude.{◌≡◌, ◌+◌, ◌*◌, ◌^◌, ◌<◌, ◌≤◌, ◌∷◌, ◌++◌, length, nat_le, IsTrue};
+ghost use Rattle.std.specs.List.{AllByRecursion, list_all};
 ghost use Rattle.std.specs.Int.{w32, to_be_bytes};
 ghost use Rattle.dots_history.specs.Bounds.{change_within, prefix_count, put_within, target_within, values_within, within_bounds};
 ghost use Rattle.entry_records.specs.Layout.{ace_bytes, acl_bytes, activation_number, change_bytes, change_fields, change_number, config_bytes, family_number, flag_number, key_bytes, key_id, key_number, listed, put_bytes, record_bytes, reply_bytes, target_bytes, values_bytes};
+ghost use Rattle.entry_records.specs.Values.{IsAce, IsAcl, IsByte, IsChange, IsEntry, IsKey, IsPut, IsTarget};
 ghost use Rattle.entry_records.specs.Writing.{Writes};
 
 use crate::writer::Writer;
@@ -59,7 +60,8 @@ fn change_byte(change: &Change) -> u8
 
 impl Writer {
     fn ace(&mut self, ace: &Ace)
-        ensures { Writes 116 (ace_bytes ace.now) self.old self.new }
+        ensures written { Writes 116 (ace_bytes ace.now) self.old self.new }
+        ensures typed { IsAce ace.now }
     {
         self.name(&ace.name);
         self.optional_prefix(&ace.source);
@@ -72,7 +74,8 @@ impl Writer {
 
     fn aces(&mut self, aces: &[Ace])
         requires { length aces.now ≤ 32 }
-        ensures { Writes 3713 (listed ace_bytes aces.now) self.old self.new }
+        ensures written { Writes 3713 (listed ace_bytes aces.now) self.old self.new }
+        ensures typed { AllByRecursion IsAce aces.now }
     {
         self.byte(aces.len() as u8);
         for ace in aces {
@@ -82,7 +85,8 @@ impl Writer {
 
     fn acl(&mut self, acl: &Acl)
         requires { length acl.now.aces ≤ 32 }
-        ensures { Writes 3780 (acl_bytes acl.now) self.old self.new }
+        ensures written { Writes 3780 (acl_bytes acl.now) self.old self.new }
+        ensures typed { IsAcl acl.now }
     {
         self.name(&acl.name);
         self.byte(family_byte(acl.family));
@@ -93,7 +97,8 @@ impl Writer {
     fn target(&mut self, target: &Target)
         requires within { IsTrue (target_within target.now) }
         requires prefixes { length target.now.prefixes ≤ 64 }
-        ensures { Writes (83 + 18 * length target.now.prefixes) (target_bytes target.now) self.old self.new }
+        ensures written { Writes (83 + 18 * length target.now.prefixes) (target_bytes target.now) self.old self.new }
+        ensures typed { IsTarget target.now }
     {
         self.prefixes(target.prefixes.items());
         self.ranges(target.ports.items());
@@ -104,7 +109,8 @@ impl Writer {
         requires count { length targets.now ≤ 9 }
         requires within { IsTrue (list_all target_within targets.now) }
         requires prefixes { prefix_count targets.now ≤ 64 }
-        ensures { Writes 1900 (listed target_bytes targets.now) self.old self.new }
+        ensures written { Writes 1900 (listed target_bytes targets.now) self.old self.new }
+        ensures typed { AllByRecursion IsTarget targets.now }
     {
         self.byte(targets.len() as u8);
         for target in targets {
@@ -114,7 +120,8 @@ impl Writer {
 
     fn put(&mut self, put: &Put)
         requires { IsTrue (put_within put.now) }
-        ensures { Writes 3329 (put_bytes put.now) self.old self.new }
+        ensures written { Writes 3329 (put_bytes put.now) self.old self.new }
+        ensures typed { IsPut put.now }
     {
         self.u32(put.mid);
         self.asked(&put.asked);
@@ -146,7 +153,8 @@ impl Writer {
 
     /// The key of the message, with 0 in place of a Message ID that isn't there.
     fn key(&mut self, key: MessageKey)
-        ensures { Writes 3 (key_bytes key) self.old self.new }
+        ensures written { Writes 3 (key_bytes key) self.old self.new }
+        ensures typed { IsKey key }
     {
         match key {
             MessageKey::Http => self.pair(0, 0),
@@ -157,7 +165,8 @@ impl Writer {
 
     fn reply(&mut self, reply: &[u8])
         requires { length reply.now ≤ 64 }
-        ensures { Writes 66 (reply_bytes reply.now) self.old self.new }
+        ensures written { Writes 66 (reply_bytes reply.now) self.old self.new }
+        ensures typed { AllByRecursion IsByte reply.now }
     {
         self.u16(reply.len() as u16);
         self.bytes(reply);
@@ -166,7 +175,8 @@ impl Writer {
     fn set_config(&mut self, sid: u32, config: &Config)
         requires mitigating { IsTrue (values_within config.now.mitigating) }
         requires idle { IsTrue (values_within config.now.idle) }
-        ensures { Writes 52 (to_be_bytes w32 sid ++ config_bytes config.now) self.old self.new }
+        ensures written { Writes 52 (to_be_bytes w32 sid ++ config_bytes config.now) self.old self.new }
+        ensures typed { sid < 2 ^ 32 }
     {
         self.u32(sid);
         self.config(config);
@@ -175,7 +185,8 @@ impl Writer {
     /// The fields of a change.
     fn fields(&mut self, change: &Change)
         requires { IsTrue (change_within change.now) }
-        ensures { Writes 3780 (change_fields change.now) self.old self.new }
+        ensures written { Writes 3780 (change_fields change.now) self.old self.new }
+        ensures typed { IsChange change.now }
     {
         match change {
             Change::Put(put) => self.put(put),
@@ -193,7 +204,8 @@ impl Writer {
 
     pub(crate) fn entry(&mut self, entry: &Entry)
         requires { IsTrue (within_bounds entry.now) }
-        ensures { Writes 3929 (record_bytes entry.now) self.old self.new }
+        ensures written { Writes 3929 (record_bytes entry.now) self.old self.new }
+        ensures typed { IsEntry entry.now }
     {
         self.u64(entry.time);
         self.u32(entry.peer);

@@ -1,9 +1,12 @@
 //! Writing prefixes, ports, and what requests and aliases name.
 
-ghost use Rattle.std.specs.Prelude.{◌≡◌, ◌+◌, ◌*◌, ◌≤◌, ◌∷◌, length, IsTrue};
+ghost use Rattle.std.specs.Prelude.{◌≡◌, ◌+◌, ◌*◌, ◌^◌, ◌<◌, ◌≤◌, ◌∷◌, length, IsTrue};
+ghost use Rattle.std.specs.List.{AllByRecursion};
 ghost use Rattle.std.specs.Int.{w16, to_be_bytes};
+ghost use Rattle.ip_scope.specs.Prefix.{IsPrefix};
 ghost use Rattle.dots_history.specs.Bounds.{asked_within, alias_within};
 ghost use Rattle.entry_records.specs.Layout.{alias_bytes, asked_bytes, byte, counted, listed, optional, ports_bytes, prefix_bytes, test_bytes, version};
+ghost use Rattle.entry_records.specs.Values.{IsAlias, IsAsked, IsByte, IsName, IsRange, IsTest, IfThere};
 ghost use Rattle.entry_records.specs.Writing.{Writes};
 
 use crate::writer::Writer;
@@ -23,7 +26,8 @@ fn version_of(family: Family) -> u8
 
 impl Writer {
     pub(crate) fn prefix(&mut self, prefix: &Prefix)
-        ensures { Writes 18 (prefix_bytes prefix.now) self.old self.new }
+        ensures written { Writes 18 (prefix_bytes prefix.now) self.old self.new }
+        ensures typed { IsPrefix prefix.now }
     {
         self.byte(version_of(prefix.family()));
         self.byte(prefix.length());
@@ -32,7 +36,8 @@ impl Writer {
 
     pub(crate) fn prefixes(&mut self, prefixes: &[Prefix])
         requires { length prefixes.now ≤ 64 }
-        ensures { Writes (1 + 18 * length prefixes.now) (listed prefix_bytes prefixes.now) self.old self.new }
+        ensures written { Writes (1 + 18 * length prefixes.now) (listed prefix_bytes prefixes.now) self.old self.new }
+        ensures typed { AllByRecursion IsPrefix prefixes.now }
     {
         self.byte(prefixes.len() as u8);
         for prefix in prefixes {
@@ -41,7 +46,8 @@ impl Writer {
     }
 
     pub(crate) fn ports(&mut self, ports: &PortRange)
-        ensures { Writes 4 (ports_bytes ports.now) self.old self.new }
+        ensures written { Writes 4 (ports_bytes ports.now) self.old self.new }
+        ensures typed { IsRange ports.now }
     {
         self.u16(ports.lower());
         self.u16(ports.upper());
@@ -49,7 +55,8 @@ impl Writer {
 
     pub(crate) fn ranges(&mut self, ranges: &[PortRange])
         requires { length ranges.now ≤ 16 }
-        ensures { Writes 65 (listed ports_bytes ranges.now) self.old self.new }
+        ensures written { Writes 65 (listed ports_bytes ranges.now) self.old self.new }
+        ensures typed { AllByRecursion IsRange ranges.now }
     {
         self.byte(ranges.len() as u8);
         for ports in ranges {
@@ -59,7 +66,8 @@ impl Writer {
 
     fn names(&mut self, names: &[Name])
         requires { length names.now ≤ 8 }
-        ensures { Writes 521 (listed counted names.now) self.old self.new }
+        ensures written { Writes 521 (listed counted names.now) self.old self.new }
+        ensures typed { AllByRecursion IsName names.now }
     {
         self.byte(names.len() as u8);
         for name in names {
@@ -69,7 +77,8 @@ impl Writer {
 
     pub(crate) fn asked(&mut self, asked: &Asked)
         requires { IsTrue (asked_within asked.now) }
-        ensures { Writes 1413 (asked_bytes asked.now) self.old self.new }
+        ensures written { Writes 1413 (asked_bytes asked.now) self.old self.new }
+        ensures typed { IsAsked asked.now }
     {
         self.prefixes(asked.prefixes.items());
         self.ranges(asked.ports.items());
@@ -80,14 +89,16 @@ impl Writer {
 
     pub(crate) fn alias(&mut self, alias: &Alias)
         requires { IsTrue (alias_within alias.now) }
-        ensures { Writes 1478 (alias_bytes alias.now) self.old self.new }
+        ensures written { Writes 1478 (alias_bytes alias.now) self.old self.new }
+        ensures typed { IsAlias alias.now }
     {
         self.name(&alias.name);
         self.asked(&alias.asked);
     }
 
     pub(crate) fn optional_prefix(&mut self, prefix: &Option<Prefix>)
-        ensures { Writes 19 (optional prefix_bytes prefix.now) self.old self.new }
+        ensures written { Writes 19 (optional prefix_bytes prefix.now) self.old self.new }
+        ensures typed { IfThere IsPrefix prefix.now }
     {
         match prefix {
             None => self.byte(0),
@@ -99,7 +110,8 @@ impl Writer {
     }
 
     pub(crate) fn optional_protocol(&mut self, protocol: Option<u8>)
-        ensures { Writes 2 (optional byte protocol) self.old self.new }
+        ensures written { Writes 2 (optional byte protocol) self.old self.new }
+        ensures typed { IfThere IsByte protocol }
     {
         match protocol {
             None => self.byte(0),
@@ -112,14 +124,16 @@ impl Writer {
 
     /// A number of one byte, and one of two.
     pub(crate) fn pair(&mut self, number: u8, port: u16)
-        ensures { Writes 3 (number ∷ to_be_bytes w16 port) self.old self.new }
+        ensures written { Writes 3 (number ∷ to_be_bytes w16 port) self.old self.new }
+        ensures typed { port < 2 ^ 16 }
     {
         self.byte(number);
         self.u16(port);
     }
 
     pub(crate) fn port_test(&mut self, test: &PortTest)
-        ensures { Writes 5 (test_bytes test.now) self.old self.new }
+        ensures written { Writes 5 (test_bytes test.now) self.old self.new }
+        ensures typed { IsTest test.now }
     {
         match test {
             PortTest::Any => self.byte(0),

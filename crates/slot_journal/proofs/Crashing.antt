@@ -1,5 +1,6 @@
 -- What is left of a disk at a moment of calls, and what is recovered of it.
-use Rattle.std.proofs.Common.{◌≡◌, ◌≢◌, ◌⊎◌, inl, inr, ℕ, zero, suc, ◌+◌, ◌*◌, ◌%◌, ◌<◌, ◌≤◌, List, [], ◌∷◌, ◌++◌, length, map, get_or, Option, Some, None, refl, sym, ap, subst, ◌∙◌, arith}
+use Rattle.std.proofs.Common.{◌≡◌, ◌≢◌, ◌⊎◌, inl, inr, ℕ, zero, suc, ◌+◌, ◌*◌, ◌%◌, ◌<◌, ◌≤◌, List, [], ◌∷◌, ◌++◌, length, map, get_or, Option, Some, None, Result, Ok, Err, refl, sym, ap, subst, ◌∙◌, arith}
+use Rattle.std.specs.Prelude.{OnOk}
 use Rattle.std.specs.List.{AllByRecursion}
 use Rattle.std.proofs.lemmas.List.{append_cancel_left, length-map}
 use Rattle.std.proofs.lemmas.Bool.{cases_lt}
@@ -20,7 +21,7 @@ use Rattle.slot_store.proofs.Keeping.{gate_of_header, one_list}
 use Rattle.slot_journal.specs.declared.fault.JournalFault.{JournalFault}
 use Rattle.slot_journal.specs.declared.fault.JournalFault.TheVariants as fault
 use Rattle.slot_journal.specs.Sizes.{slots_of}
-use Rattle.slot_journal.specs.Held.{HasRecord, AreWithin, Holds, HoldsEither, StandsFor, records_of}
+use Rattle.slot_journal.specs.Held.{HasRecord, Holds, HoldsEither, StandsFor, records_of}
 use Rattle.slot_journal.specs.Left.{IsLeftOf, IsLeft}
 use Rattle.slot_journal.proofs.Writing.{holds}
 use Rattle.slot_journal.specs.Refused.{Refuses, IsRefusal, IsBadSlot, IsGap, HoldsFirst, IsStray}
@@ -154,7 +155,6 @@ pub left_not_refused : (settings : SettingsValue) (extent : ℕ) (before after :
 left_not_refused settings extent before after image why (inl is) refuses refusal = held_not_refused settings extent image before why is refuses refusal
 left_not_refused settings extent before after image why (inr is) refuses refusal = held_not_refused settings extent image after why is refuses refusal
 
--- what has a record is within bounds
-pub are_within : (entries : List Entry) → AllByRecursion HasRecord entries → AreWithin entries
-are_within [] all = tt
-are_within (entry ∷ entries) all = (all.0.within, are_within entries all.1)
+pub on_ok_as : {A E : Type 0} {P R : Type 0} (result : Result A E) → (P → R) → OnOk result P → OnOk result R
+on_ok_as (Ok x) made is = made is
+on_ok_as (Err fault) made is = tt

@@ -7,6 +7,7 @@ use Rattle.dots_disk.specs.Becoming.{Leaves, RestsWith}
 use Rattle.dots_settings.specs.Settings.{SettingsValue}
 use Rattle.dots_history.specs.declared.entry.Entry.{Entry}
 use Rattle.entry_records.specs.Layout.{record_bytes}
+use Rattle.entry_records.specs.Records.{IsRecord}
 use Rattle.slot_store.specs.Layout.{HoldsRecords}
 use Rattle.slot_store.specs.Copying.{AreSlots, kept_of}
 use Rattle.slot_store.specs.Standing.{JournalValue, Stands, HoldsEither as RecordsEither}
@@ -53,6 +54,9 @@ rests_second start new journal next settings records first second same are rests
     rests_as new (Stands next settings.digest records) (StandsFor next settings second)
     (λ image is. record { slots = same ∙ found.2.slots; stands = subst (λ records. Stands next settings.digest records image) of.same is; each = of.each })
     (goes (rests_as start (StandsFor journal settings first) (Stands journal settings.digest (records_of first)) (λ image is. is.stands) rests))
+
+pub has_record : (bytes : List ℕ) (entry : Entry) → IsRecord bytes entry → HasRecord entry
+has_record bytes entry is = record { typed = is.typed; within = is.within }
 
 -- one entry more
 pub appended : (journal : JournalValue) (settings : SettingsValue) (entries : List Entry) (entry : Entry) (bytes : List ℕ) (image : ℕ → ℕ) → bytes ≡ record_bytes entry → HasRecord entry → StandsFor journal settings entries image

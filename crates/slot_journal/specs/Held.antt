@@ -15,10 +15,6 @@ pub record HasRecord (entry : Entry) : Type 0 where
   pub typed : IsEntry entry
   pub within : IsTrue (within_bounds entry)
 
--- each is within bounds
-abbrev pub AreWithin : List Entry → Type 0
-AreWithin entries = AllByRecursion (λ entry. IsTrue (within_bounds entry)) entries
-
 abbrev pub records_of : List Entry → List (List ℕ)
 records_of entries = map record_bytes entries
 

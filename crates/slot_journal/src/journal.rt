@@ -115,10 +115,10 @@ impl Journal {
         ensures same { OnErr result (self.new ≡ self.old) }
 
         // At each moment each image holds the entries, or one more; in the end one more alone.
-        ensures moments { (settings : SettingsValue) (entries : List Entry) → HasRecord entry.now →
+        ensures moments { (settings : SettingsValue) (entries : List Entry) →
             RestsWith (D.media disk.old) (StandsFor self.old settings entries) →
             Leaves (D.media disk.old) (D.media disk.new) (HoldsEither settings entries (entries ++ entry.now ∷ [])) }
-        ensures rests { OnOk result ((settings : SettingsValue) (entries : List Entry) → HasRecord entry.now →
+        ensures rests { OnOk result ((settings : SettingsValue) (entries : List Entry) →
             RestsWith (D.media disk.old) (StandsFor self.old settings entries) →
             RestsWith (D.media disk.new) (StandsFor self.new settings (entries ++ entry.now ∷ []))) }
 

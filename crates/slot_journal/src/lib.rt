@@ -5,7 +5,6 @@
 //! first, then [`Journal`]; `specs/Refused.antt` says why a disk isn't recovered.
 #![tactic(auto)]
 
-mod comparing;
 mod entries;
 mod fault;
 mod journal;

@@ -1,5 +1,6 @@
 use Rattle.std.proofs.Common.{arith}
-use Rattle.entry_records.proofs.Answered.{bytes_are, is_found, is_only, is_broken, is_first}
+use Rattle.entry_records.proofs.Answered.{is_found, is_only, is_broken, is_first}
+use Rattle.entry_records.proofs.Writings.{bytes_are}
 use Rattle.entry_records.proofs.reading.entry_of.Goals as goal
 
 pub returns-clause-found : goal.returns-clause-found

@@ -3,8 +3,18 @@ use Rattle.entry_records.specs.Layout.{ace_bytes}
 use Rattle.entry_records.proofs.Writings.{both, same}
 use Rattle.entry_records.proofs.writer.Writer.ace.Goals as goal
 
-pub returns : goal.returns
+pub returns-clause-written : goal.returns-clause-written
 unfolding ace_bytes
-returns c =
-    same (both c.name.ensures (both c.optional_prefix.ensures (both c.optional_prefix-2.ensures (both c.optional_protocol.ensures (both c.port_test.ensures (both c.port_test-2.ensures c.byte.ensures))))))
+returns-clause-written c =
+    same (both c.name.ensures.written (both c.optional_prefix.ensures.written (both c.optional_prefix-2.ensures.written (both c.optional_protocol.ensures.written (both c.port_test.ensures.written (both c.port_test-2.ensures.written c.byte.ensures))))))
     (rw (c.from.ensures) refl)
+
+pub returns-clause-typed : goal.returns-clause-typed
+returns-clause-typed c = record {
+  name = c.name.ensures.typed;
+  source = c.optional_prefix.ensures.typed;
+  destination = c.optional_prefix-2.ensures.typed;
+  protocol = c.optional_protocol.ensures.typed;
+  source_port = c.port_test.ensures.typed;
+  destination_port = c.port_test-2.ensures.typed;
+}

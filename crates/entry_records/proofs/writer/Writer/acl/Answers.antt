@@ -1,8 +1,13 @@
-use Rattle.std.proofs.Common.{refl}
+use Rattle.std.proofs.Common.{refl, subst}
+use Rattle.std.specs.List.{AllByRecursion}
+use Rattle.entry_records.specs.Values.{IsAce}
 use Rattle.entry_records.specs.Layout.{acl_bytes}
 use Rattle.entry_records.proofs.Writings.{both, same}
 use Rattle.entry_records.proofs.writer.Writer.acl.Goals as goal
 
-pub returns : goal.returns
+pub returns-clause-written : goal.returns-clause-written
 unfolding acl_bytes
-returns c = same (both c.name.ensures (both c.byte.ensures (both c.byte-2.ensures c.aces.ensures))) (rw (c.family_byte.ensures, c.activation_byte.ensures, c.items.ensures) refl)
+returns-clause-written c = same (both c.name.ensures.written (both c.byte.ensures (both c.byte-2.ensures c.aces.ensures.written))) (rw (c.family_byte.ensures, c.activation_byte.ensures, c.items.ensures) refl)
+
+pub returns-clause-typed : goal.returns-clause-typed
+returns-clause-typed c = record { name = c.name.ensures.typed; aces = subst (AllByRecursion IsAce) c.items.ensures c.aces.ensures.typed }

@@ -3,9 +3,12 @@ use Rattle.entry_records.specs.Layout.{alias_bytes}
 use Rattle.entry_records.proofs.Writings.{both}
 use Rattle.entry_records.proofs.writer.Writer.alias.Goals as goal
 
-pub returns : goal.returns
+pub returns-clause-written : goal.returns-clause-written
 unfolding alias_bytes
-returns c = both c.name.ensures c.asked.ensures
+returns-clause-written c = both c.name.ensures.written c.asked.ensures.written
 
 pub asked-requires : goal.asked-requires
 asked-requires c = (and_parts _ _ c.requires).0
+
+pub returns-clause-typed : goal.returns-clause-typed
+returns-clause-typed c = record { name = c.name.ensures.typed; asked = c.asked.ensures.typed }

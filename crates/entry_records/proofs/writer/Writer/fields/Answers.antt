@@ -3,42 +3,63 @@ use Rattle.entry_records.specs.Layout.{change_fields}
 use Rattle.entry_records.proofs.Writings.{same, looser, nothing}
 use Rattle.entry_records.proofs.writer.Writer.fields.Goals as goal
 
-pub returns-in-Put : goal.returns-in-Put
+pub returns-in-Put-clause-written : goal.returns-in-Put-clause-written
 unfolding change_fields
-returns-in-Put c = looser (same c.put.ensures (rw (c.in-Put.is) refl)) (omega arith)
+returns-in-Put-clause-written c = looser (same c.put.ensures.written (rw (c.in-Put.is) refl)) (omega arith)
 
-pub returns-in-Withdraw : goal.returns-in-Withdraw
+pub returns-in-Withdraw-clause-written : goal.returns-in-Withdraw-clause-written
 unfolding change_fields
-returns-in-Withdraw c = looser (same c.u32.ensures (rw (c.in-Withdraw.is) refl)) (omega arith)
+returns-in-Withdraw-clause-written c = looser (same c.u32.ensures.written (rw (c.in-Withdraw.is) refl)) (omega arith)
 
-pub returns-in-SetAlias : goal.returns-in-SetAlias
+pub returns-in-SetAlias-clause-written : goal.returns-in-SetAlias-clause-written
 unfolding change_fields
-returns-in-SetAlias c = looser (same c.alias.ensures (rw (c.in-SetAlias.is) refl)) (omega arith)
+returns-in-SetAlias-clause-written c = looser (same c.alias.ensures.written (rw (c.in-SetAlias.is) refl)) (omega arith)
 
-pub returns-in-DropAlias : goal.returns-in-DropAlias
+pub returns-in-DropAlias-clause-written : goal.returns-in-DropAlias-clause-written
 unfolding change_fields
-returns-in-DropAlias c = looser (same c.name.ensures (rw (c.in-DropAlias.is) refl)) (omega arith)
+returns-in-DropAlias-clause-written c = looser (same c.name.ensures.written (rw (c.in-DropAlias.is) refl)) (omega arith)
 
-pub returns-in-SetAcl : goal.returns-in-SetAcl
+pub returns-in-SetAcl-clause-written : goal.returns-in-SetAcl-clause-written
 unfolding change_fields
-returns-in-SetAcl c = looser (same c.acl.ensures (rw (c.in-SetAcl.is) refl)) (omega arith)
+returns-in-SetAcl-clause-written c = looser (same c.acl.ensures.written (rw (c.in-SetAcl.is) refl)) (omega arith)
 
-pub returns-in-DropAcl : goal.returns-in-DropAcl
+pub returns-in-DropAcl-clause-written : goal.returns-in-DropAcl-clause-written
 unfolding change_fields
-returns-in-DropAcl c = looser (same c.name-in-DropAcl.ensures (rw (c.in-DropAcl.is) refl)) (omega arith)
+returns-in-DropAcl-clause-written c = looser (same c.name-in-DropAcl.ensures.written (rw (c.in-DropAcl.is) refl)) (omega arith)
 
-pub returns-in-SetConfig : goal.returns-in-SetConfig
+pub returns-in-SetConfig-clause-written : goal.returns-in-SetConfig-clause-written
 unfolding change_fields
-returns-in-SetConfig c = looser (same c.set_config.ensures (rw (c.in-SetConfig.is) refl)) (omega arith)
+returns-in-SetConfig-clause-written c = looser (same c.set_config.ensures.written (rw (c.in-SetConfig.is) refl)) (omega arith)
 
-pub returns-in-Register : goal.returns-in-Register
+pub returns-in-Register-clause-written : goal.returns-in-Register-clause-written
 unfolding change_fields
-returns-in-Register c = looser (same nothing (rw (c.in-Register.is) refl)) (omega arith)
+returns-in-Register-clause-written c = looser (same nothing (rw (c.in-Register.is) refl)) (omega arith)
 
-pub returns-in-Deregister : goal.returns-in-Deregister
+pub returns-in-Deregister-clause-written : goal.returns-in-Deregister-clause-written
 unfolding change_fields
-returns-in-Deregister c = looser (same nothing (rw (c.in-Deregister.is) refl)) (omega arith)
+returns-in-Deregister-clause-written c = looser (same nothing (rw (c.in-Deregister.is) refl)) (omega arith)
 
-pub returns-in-ClearConfig : goal.returns-in-ClearConfig
+pub returns-in-ClearConfig-clause-written : goal.returns-in-ClearConfig-clause-written
 unfolding change_fields
-returns-in-ClearConfig c = looser (same nothing (rw (c.in-ClearConfig.is) refl)) (omega arith)
+returns-in-ClearConfig-clause-written c = looser (same nothing (rw (c.in-ClearConfig.is) refl)) (omega arith)
+
+pub returns-in-Put-clause-typed : goal.returns-in-Put-clause-typed
+returns-in-Put-clause-typed c = rw (c.in-Put.is) c.put.ensures.typed
+
+pub returns-in-Withdraw-clause-typed : goal.returns-in-Withdraw-clause-typed
+returns-in-Withdraw-clause-typed c = rw (c.in-Withdraw.is) c.u32.ensures.typed
+
+pub returns-in-SetAlias-clause-typed : goal.returns-in-SetAlias-clause-typed
+returns-in-SetAlias-clause-typed c = rw (c.in-SetAlias.is) c.alias.ensures.typed
+
+pub returns-in-DropAlias-clause-typed : goal.returns-in-DropAlias-clause-typed
+returns-in-DropAlias-clause-typed c = rw (c.in-DropAlias.is) c.name.ensures.typed
+
+pub returns-in-SetAcl-clause-typed : goal.returns-in-SetAcl-clause-typed
+returns-in-SetAcl-clause-typed c = rw (c.in-SetAcl.is) c.acl.ensures.typed
+
+pub returns-in-DropAcl-clause-typed : goal.returns-in-DropAcl-clause-typed
+returns-in-DropAcl-clause-typed c = rw (c.in-DropAcl.is) c.name-in-DropAcl.ensures.typed
+
+pub returns-in-SetConfig-clause-typed : goal.returns-in-SetConfig-clause-typed
+returns-in-SetConfig-clause-typed c = rw (c.in-SetConfig.is) c.set_config.ensures.typed
