@@ -1,6 +1,8 @@
 -- How a history judges a request for a mitigation at a time (RFC 9132, section 4.4.1).
 use Rattle.std.specs.Prelude.{ℕ, Bool, ◌||◌, List, Result}
 use Rattle.dots_settings.specs.Settings.{SettingsValue}
+use Rattle.dots_heads.specs.declared.request.MitigationPath.{MitigationPath}
+use Rattle.dots_keys.specs.declared.request.MitigationBody.{MitigationBody}
 use Rattle.dots_history.specs.declared.entry.Entry.{Entry}
 use Rattle.dots_history.specs.Histories.{held}
 use Rattle.dots_laws.specs.Tables.{Client}
@@ -31,3 +33,8 @@ judge_request settings t entries domain request =
     (client_in entries (record { domain = domain; cuid = request.cuid }))
     t
     request
+
+-- what this peer asks for with the path and the body of a message, the path having this mid
+abbrev pub asked_by : ℕ → MitigationPath → MitigationBody → ℕ → Request
+asked_by peer path body mid =
+    record { peer = peer; cuid = path.cuid; mid = mid; asked = body.asked; lifetime = body.lifetime }

@@ -1,17 +1,45 @@
 //! The judgement of a request for a mitigation.
 
-ghost use Rattle.std.specs.Prelude.{◌<◌, List};
+ghost use Rattle.std.specs.Prelude.{◌<◌, List, IsSome, IfSome};
 ghost use Rattle.lifetime_clock.specs.Lifetime.{IsLifetime};
 ghost use Rattle.dots_history.specs.declared.entry.Entry.{Entry};
 ghost use Rattle.put_judging.specs.Results.{Gives};
 ghost use Rattle.dots_registry.specs.Standing.{StandsFor, time_of, domains_of};
-ghost use Rattle.dots_registry.specs.Judging.{judge_request};
+ghost use Rattle.dots_registry.specs.Judging.{judge_request, asked_by};
 
 use crate::registry::Registry;
+use dots_heads::MitigationPath;
+use dots_keys::MitigationBody;
 use dots_settings::Settings;
 use put_judging::{Client, Judged, PutFault, PutRequest, judge_put};
 
 impl Registry {
+    /// Judges the PUT of a mitigation, as it was read of a message of this peer, for a domain (RFC 9132, section 4.4.1). The path
+    /// has a mid.
+    pub fn judge_put(
+        &self,
+        settings: &Settings,
+        path: &MitigationPath,
+        body: &MitigationBody,
+        peer: u32,
+        domain: u16,
+    ) -> Result<Judged, PutFault>
+        requires within { domain < domains_of self.now }
+        requires mid { IsSome path.now.mid }
+        requires lifetime { IsLifetime body.now.lifetime }
+        ensures { (entries : List Entry) → StandsFor self.now entries
+            → IfSome path.now.mid (λ mid. Gives result (judge_request settings.now (time_of self.now) entries domain (asked_by peer path.now body.now mid))) }
+    {
+        let request = PutRequest {
+            peer,
+            cuid: path.cuid.bytes(),
+            mid: path.mid.unwrap(),
+            asked: &body.asked,
+            lifetime: body.lifetime,
+        };
+        self.judge_request(settings, domain, &request)
+    }
+
     /// Judges a request for a domain by what the registry keeps of the domain and of the client.
     pub fn judge_request(
         &self,

@@ -3,8 +3,8 @@
 //! A [`Registry`] keeps no old entries. Its value is what a history comes to, as far as its tables show it (`specs/Standing`),
 //! and the contract of each call is said for every history that it stands for: [`Registry::apply`] makes it stand for the
 //! history with one more entry, [`Registry::tick`] for the same history at a later time, and each reader answers what the
-//! definitions of `dots_history` say of that history at that time. Only [`Registry::new`], [`Registry::stage`] and
-//! [`Registry::judge_request`] take memory.
+//! definitions of `dots_history` say of that history at that time. Only [`Registry::new`], [`Registry::stage`],
+//! [`Registry::judge_request`] and [`Registry::judge_put`] take memory.
 //!
 //! It joins the tables of `live_mitigations`, `held_things`, `coap_exchange` and `installed_filters`. The settings of which it is
 //! (`IsOf`) stay with the caller. [`laws`] says that it also stands for what a compaction keeps, and that nothing of it is left

@@ -7,6 +7,7 @@ ghost use Rattle.dots_registry.specs.Standing.{StandsFor, time_of, domains_of};
 ghost use Rattle.dots_registry.specs.Viewing.{seen, seen_of, seen_among, is_wanted, views_of};
 
 use crate::registry::Registry;
+use coap_observe::Views;
 use dots_history::Status;
 use live_mitigations::Row;
 
@@ -32,6 +33,14 @@ impl Registry {
             return view_of(self.live.rows(domain), cuid, mid, place);
         }
         None
+    }
+}
+
+impl Views for Registry {
+    ghost lists = { λ registry. views_of registry };
+
+    fn view(&self, domain: u16, cuid: &[u8], mid: Option<u32>, place: usize) -> Option<(u32, u8)> {
+        Registry::view(self, domain, cuid, mid, place)
     }
 }
 

@@ -1,0 +1,4 @@
+pub mod Names
+pub mod Going
+pub mod Named
+pub mod Slots

@@ -1,0 +1,52 @@
+//! What the definitions come to: each function's contract is a law, and its body does nothing.
+
+ghost use Rattle.std.specs.Prelude.{◌≡◌, ℕ, ◌≤◌, ◌++◌, ◌∷◌, [], true, false, List, Some, length, map, option_map};
+ghost use Rattle.std.specs.List.{list_all};
+ghost use Rattle.dots_history.specs.Entries.{is_signal};
+ghost use Rattle.dots_history.specs.Keeping.{names, kept_places};
+ghost use Rattle.dots_history.specs.Slots.{Rises};
+ghost use Rattle.dots_laws.specs.Capacities.{Capacities, KeepsCapacities, belongs, most_named};
+ghost use Rattle.dots_laws.specs.KeptPlaces.{at_places, union};
+ghost use Rattle.live_mitigations.specs.Standing.{is_inside};
+ghost use Rattle.coap_exchange.specs.declared.pair.Pair.{Pair};
+ghost use Rattle.coap_exchange.specs.Rings.{RingValue, empty_ring, noted, number_in, ring_renumbered};
+ghost use Rattle.coap_exchange.specs.Noting.{message_of};
+ghost use Rattle.mitigation_slots.specs.Slots.{Filed, entry_of, slot_of};
+ghost use Rattle.mitigation_slots.specs.Tables.{SlotTable, table_renumbered};
+ghost use Rattle.mitigation_slots.specs.Standing.{SlotsAre};
+ghost use Rattle.held_slots.specs.Rows.{rows_of, refiled};
+ghost use Rattle.kept_slots.specs.Kept.{RingsAre, has_ring, last_slot, kept_slots};
+
+/// The slots in rings go on with a history whose entries stand in slots: with a signal entry whose message is noted with its slot, with
+/// any other entry, and with new numbers of the slots.
+pub fn rings_go_on()
+    ensures none { (n : ℕ) (pairs : List Pair) → RingsAre n (map (empty_ring n) pairs) [] }
+    ensures noted { (n : ℕ) (rings : List RingValue) (filed : List Filed) (x : Filed) → is_signal x.entry.change ≡ true → RingsAre n rings filed
+        → RingsAre n (noted x.entry.peer x.entry.domain (message_of x.slot x.entry) rings) (filed ++ x ∷ []) }
+    ensures other { (n : ℕ) (rings : List RingValue) (filed : List Filed) (x : Filed) → is_signal x.entry.change ≡ false → RingsAre n rings filed
+        → RingsAre n rings (filed ++ x ∷ []) }
+    ensures moved { (n : ℕ) (keep : List ℕ) (rings : List RingValue) (filed : List Filed) → RingsAre n rings filed
+        → RingsAre n (map (ring_renumbered keep) rings) (map (refiled keep) filed) }
+    ensures last { (filed : List Filed) (x : Filed) → last_slot (filed ++ x ∷ []) ≡ Some x.slot }
+{}
+
+/// The slots that are kept at a time are those in which the entries stand that the view of the history names.
+pub fn kept_slots_are_named()
+    ensures { (n t : ℕ) (tables : List SlotTable) (rings : List RingValue) (filed : List Filed) (items : List ℕ) → Rises items → SlotsAre t tables filed
+        → list_all (is_inside (length tables)) (map entry_of filed) ≡ true → RingsAre n rings filed → list_all (has_ring rings) (map entry_of filed) ≡ true
+        → union (kept_slots tables rings (last_slot filed) (rows_of filed)) items
+        ≡ union (at_places (map slot_of filed) (kept_places (names n t) [] 0 (map entry_of filed))) items }
+{}
+
+/// New numbers of the slots keep those beside the live mitigations, and that of the last entry, the ones of the history with these numbers.
+pub fn kept_slots_move()
+    ensures live { (t : ℕ) (keep : List ℕ) (tables : List SlotTable) (filed : List Filed) → SlotsAre t tables filed
+        → SlotsAre t (map (table_renumbered keep) tables) (map (refiled keep) filed) }
+    ensures last { (keep : List ℕ) (filed : List Filed) → last_slot (map (refiled keep) filed) ≡ option_map (number_in keep) (last_slot filed) }
+{}
+
+/// There are at most as many rows of what is held as the capacities let a view name that remembers no messages.
+pub fn rows_of_what_is_held_are_few()
+    ensures { (room : Capacities) (t : ℕ) (filed : List Filed) → list_all (belongs room) (map entry_of filed) ≡ true → KeepsCapacities room t (map entry_of filed)
+        → length (rows_of filed) ≤ most_named room 0 }
+{}
