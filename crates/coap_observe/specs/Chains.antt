@@ -1,5 +1,5 @@
 -- Where the observers of each peer stand among all, in the order of registration.
-use Rattle.std.specs.Prelude.{◌≡◌, ℕ, ◌+◌, ◌-◌, ◌*◌, Bool, ◌==◌, not, nat_lt, if◌then◌else◌, List, [], ◌∷◌, ◌++◌, map, filter, drop, option_map, unwrap_or, Option, Some, None}
+use Rattle.std.specs.Prelude.{◌≡◌, ℕ, ◌+◌, ◌-◌, ◌*◌, Bool, ◌==◌, not, nat_lt, if◌then◌else◌, List, [], ◌∷◌, ◌++◌, map, filter, drop, option_map, unwrap_or}
 use Rattle.std.specs.List.{find, position_from}
 use Rattle.std.specs.Map.{lookup}
 use Rattle.dots_history.specs.Histories.{tally}
@@ -53,11 +53,6 @@ chained place chain = record { peer = chain.peer; room = chain.room; places = ch
 
 abbrev pub one_chained : ℕ → ℕ → List ChainValue → List ChainValue
 one_chained peer place chains = replace_first (is_chain_of peer) (λ chain. chained place chain ∷ []) chains
-
--- an observer that is registered again keeps its place, and another is the last
-abbrev pub with_place : ℕ → ℕ → Option ℕ → List ChainValue → List ChainValue
-with_place peer next (Some place) chains = chains
-with_place peer next None chains = one_chained peer next chains
 
 -- where the one at a place goes, those behind it move down
 abbrev pub lowered : ℕ → ℕ → ℕ

@@ -3,7 +3,7 @@ ghost use Rattle.std.specs.List.{find, list_any, remove};
 ghost use Rattle.dots_history.specs.Entries.{option_any};
 ghost use Rattle.dots_history.specs.Histories.{tally};
 ghost use Rattle.coap_exchange.specs.Firsts.{replace_at};
-ghost use Rattle.coap_observe.specs.Chains.{places_in, room_in, places_of, with_place, AreChained, SameRoom};
+ghost use Rattle.coap_observe.specs.Chains.{places_in, room_in, places_of, AreChained, SameRoom};
 ghost use Rattle.coap_observe.specs.Observed.{is_token, is_of, had_id, is_due};
 ghost use Rattle.coap_observe.specs.Observing.{ObserversValue, own_of, has_room, number_for, entered, registered, deregistered, without_id, NoneIsDue, IsNextDue, told_or_gone, after_notice};
 ghost use Rattle.coap_exchange.specs.Pairs.{is_pair, pairs_of};
