@@ -1,5 +1,5 @@
 -- How many observers there are.
-use Rattle.std.proofs.Common.{◌≡◌, ℕ, zero, suc, ◌+◌, ◌*◌, ◌<◌, ◌≤◌, Bool, true, false, cond, List, [], ◌∷◌, ◌++◌, length, filter, Option, Some, None, refl, sym, ap, subst, ◌∙◌, inl, inr, arith}
+use Rattle.std.proofs.Common.{◌≡◌, ℕ, zero, suc, ◌+◌, ◌*◌, ◌<◌, ◌≤◌, Bool, true, false, cond, List, [], ◌∷◌, ◌++◌, length, filter, Some, refl, sym, ap, ◌∙◌, inl, inr, arith}
 use Rattle.std.specs.Prelude.{not, ◌||◌, ◌&&◌, ◌==◌, nat_lt, ◌⊎◌}
 use Rattle.std.specs.List.{list_any}
 use Rattle.std.proofs.lemmas.Bool.{cases_Bool, cases_eq, or_cases, and_parts, eqb-true, eq-eqb, ne_eqb, ltb-true, cond-true, cond-false, false≢true}
@@ -9,10 +9,14 @@ use Rattle.coap_exchange.specs.declared.pair.Pair.{Pair}
 use Rattle.coap_observe.specs.declared.observer.Observer.{Observer}
 use Rattle.coap_exchange.specs.Firsts.{replace_at}
 use Rattle.coap_exchange.specs.Pairs.{is_pair}
+use Rattle.coap_observe.specs.Chains.{peer_of, is_pair_of, room_for}
 use Rattle.coap_observe.specs.Observed.{ObservedValue, is_of, is_token, told, registered_again}
 use Rattle.coap_observe.specs.Observing.{own_of, has_room, registered_first, entered, told_or_gone, AreOf, AreBounded}
 
 -- ---- those that a test keeps
+
+pub none_bounded : (pairs : List Pair) (room : ℕ) → AreBounded pairs room []
+none_bounded pairs room = record { known = record {}; few = λ peer domain. omega arith }
 
 count_kept : (q f : ObservedValue → Bool) (xs : List ObservedValue) → tally q (filter f xs) ≤ tally q xs
 count_kept q f [] = omega arith
@@ -75,6 +79,56 @@ bounded_length (pair ∷ pairs) room xs bounded =
           omega (arith, less, all);
     }) in
     omega (arith, apart, few, rest)
+
+-- ---- no more of a peer than its pairs have room for
+
+abbrev is_peers : ℕ → ObservedValue → Bool
+is_peers peer o = peer_of o == peer
+
+peers_apart : (pair : Pair) (peer : ℕ) (xs : List ObservedValue)
+    → tally (is_peers peer) xs ≡ cond (is_pair_of peer pair) (tally (is_of pair.peer pair.domain) xs) 0 + tally (is_peers peer) (others pair xs)
+peers_apart pair peer [] = by_test (is_pair_of peer pair)
+  where
+    by_test : (b : Bool) → 0 ≡ cond {A = ℕ} b 0 0 + 0
+    by_test true = omega arith
+    by_test false = omega arith
+peers_apart pair peer (o ∷ os) =
+    by_tests (is_pair_of peer pair) (is_of pair.peer pair.domain o)
+    (λ is. ap (λ p. p == peer) (eqb-true o.observer.peer pair.peer (and_parts (o.observer.peer == pair.peer) (o.observer.domain == pair.domain) is).0))
+    (peers_apart pair peer os)
+  where
+    by_tests : (p m : Bool) → (m ≡ true → is_peers peer o ≡ p)
+        → tally (is_peers peer) os ≡ cond p (tally (is_of pair.peer pair.domain) os) 0 + tally (is_peers peer) (others pair os)
+        → cond (is_peers peer o) 1 0 + tally (is_peers peer) os
+        ≡ cond p (cond m 1 0 + tally (is_of pair.peer pair.domain) os) 0 + tally (is_peers peer) (cond (not m) (o ∷ others pair os) (others pair os))
+    by_tests true true own same = let one : cond {A = ℕ} (is_peers peer o) 1 0 ≡ 1 = ap (λ b. cond {A = ℕ} b 1 0) (own refl) in omega (arith, one, same)
+    by_tests false true own same = let none : cond {A = ℕ} (is_peers peer o) 1 0 ≡ 0 = ap (λ b. cond {A = ℕ} b 1 0) (own refl) in omega (arith, none, same)
+    by_tests true false own same = omega (arith, same)
+    by_tests false false own same = omega (arith, same)
+
+one_more : (n m : ℕ) → (1 + n) * m ≡ m + n * m
+one_more n m = omega arith
+
+pub few_of_peer : (pairs : List Pair) (room peer : ℕ) (xs : List ObservedValue) → AreBounded pairs room xs → tally (is_peers peer) xs ≤ room_for pairs room peer
+few_of_peer [] room peer [] bounded = omega arith
+few_of_peer [] room peer (o ∷ os) bounded = absurd (false≢true bounded.known.0)
+few_of_peer (pair ∷ pairs) room peer xs bounded =
+    by_test (is_pair_of peer pair) (peers_apart pair peer xs) (bounded.few pair.peer pair.domain)
+    (few_of_peer pairs room peer (others pair xs) (record {
+      known = others_known pair pairs xs bounded.known;
+      few = λ p domain.
+          let less = count_kept (is_of p domain) (λ o. not (is_of pair.peer pair.domain o)) xs in
+          let all = bounded.few p domain in
+          omega (arith, less, all);
+    }))
+  where
+    by_test : (b : Bool)
+        → tally (is_peers peer) xs ≡ cond b (tally (is_of pair.peer pair.domain) xs) 0 + tally (is_peers peer) (others pair xs)
+        → tally (is_of pair.peer pair.domain) xs ≤ room
+        → tally (is_peers peer) (others pair xs) ≤ tally (is_pair_of peer) pairs * room
+        → tally (is_peers peer) xs ≤ (cond b 1 0 + tally (is_pair_of peer) pairs) * room
+    by_test true apart few rest = omega (arith, apart, few, rest, one_more (tally (is_pair_of peer) pairs) room)
+    by_test false apart few rest = omega (arith, apart, rest)
 
 -- ---- one that was told of something, or is gone
 

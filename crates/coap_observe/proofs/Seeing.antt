@@ -1,5 +1,5 @@
 -- What an observer sees, place by place.
-use Rattle.std.proofs.Common.{◌≡◌, ℕ, suc, ◌+◌, ◌<◌, Bool, true, false, List, [], ◌∷◌, length, drop, get_or, add-one, Option, Some, None, refl, sym, ap, ◌∙◌, le_refl}
+use Rattle.std.proofs.Common.{◌≡◌, ℕ, suc, ◌+◌, ◌<◌, true, false, List, [], ◌∷◌, length, drop, get_or, add-one, Option, Some, None, refl, sym, ap, ◌∙◌, le_refl}
 use Rattle.std.specs.Prelude.{◌&&◌, slice_get, is_none}
 use Rattle.std.proofs.lemmas.Bool.{false≢true}
 use Rattle.std.proofs.lemmas.List.{drop_all}

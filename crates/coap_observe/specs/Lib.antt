@@ -1,3 +1,4 @@
+pub mod Chains
 pub mod Observed
 pub mod Observing
 pub mod Seen

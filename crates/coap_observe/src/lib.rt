@@ -7,6 +7,7 @@
 //! Only [`Observers::new`] takes memory. Start reading at `specs/Observing.antt` and `specs/Observed.antt`.
 #![tactic(auto)]
 
+mod chains;
 pub mod laws;
 mod observed;
 mod observer;

@@ -1,11 +1,14 @@
-ghost use Rattle.std.specs.Prelude.{◌≡◌, ◌<◌, ◌≤◌, ◌&&◌, true, nat_le, if◌then◌else◌, [], Some, None, IfOk, length, position, option_copied, vec_capacity, MatchOption};
-ghost use Rattle.std.specs.List.{list_any};
+ghost use Rattle.std.specs.Prelude.{◌≡◌, ◌<◌, ◌≤◌, ◌&&◌, ◌==◌, true, nat_le, if◌then◌else◌, [], Some, None, IfOk, length, position, slice_get, vec_capacity, MatchOption};
+ghost use Rattle.std.specs.List.{find, list_any, remove};
+ghost use Rattle.dots_history.specs.Entries.{option_any};
 ghost use Rattle.dots_history.specs.Histories.{tally};
 ghost use Rattle.coap_exchange.specs.Firsts.{replace_at};
-ghost use Rattle.coap_observe.specs.Observed.{is_token, is_of, is_due};
+ghost use Rattle.coap_observe.specs.Chains.{places_in, room_in, places_of, AreChained, SameRoom};
+ghost use Rattle.coap_observe.specs.Observed.{is_token, is_of, had_id, is_due};
 ghost use Rattle.coap_observe.specs.Observing.{ObserversValue, own_of, has_room, number_for, entered, registered, deregistered, without_id, NoneIsDue, IsNextDue, told_or_gone, after_notice};
 ghost use Rattle.coap_exchange.specs.Pairs.{is_pair, pairs_of};
 
+use crate::chains::Chains;
 use crate::observed::Observed;
 use crate::observer::Observer;
 use crate::seen::{SeenList, ends_at};
@@ -32,6 +35,8 @@ pub struct Notice<'a> {
 #[derive(Debug, Drop)]
 pub struct Observers {
     observed: Vec<Observed>,
+    /// The places of each peer's.
+    chains: Chains,
     pairs: Pairs,
     /// How many there may be of one peer and domain.
     room: usize,
@@ -39,13 +44,19 @@ pub struct Observers {
 
 impl Model for Observers {
     ghost use Rattle.std.specs.Prelude.{◌*◌, ◌≤◌, length, vec_capacity};
+    ghost use Rattle.coap_observe.specs.Chains.{AreChained, HaveRoom};
     ghost use Rattle.coap_observe.specs.Observing.{ObserversValue, AreBounded};
 
     ghost Value = { ObserversValue };
 
     ghost view = { λ o. record { room = o.room; pairs = o.pairs; observed = o.observed.items } };
 
-    ghost invariant = { λ o. AreBounded o.pairs o.room o.observed.items × (length o.pairs * o.room ≤ vec_capacity o.observed) };
+    ghost invariant = { λ o. record {
+      bounded : AreBounded o.pairs o.room o.observed.items;
+      reserved : length o.pairs * o.room ≤ vec_capacity o.observed;
+      chained : AreChained o.chains o.observed.items;
+      rooms : HaveRoom o.pairs o.room o.chains;
+    } };
 }
 
 impl Observers {
@@ -60,8 +71,10 @@ impl Observers {
             return Err(NoMemory);
         };
         let observed = Vec::with_capacity(alloc, count)?;
+        let chains = Chains::new(alloc, pairs.pairs(), room)?;
         Ok(Observers {
             observed,
+            chains,
             pairs,
             room,
         })
@@ -83,9 +96,10 @@ impl Observers {
         ensures number { result ≡ (if has_room self.old.room observer self.old.observed then Some (number_for observer self.old.observed) else None) }
         ensures list { self.new ≡ record self.old { observed = registered (V.lists views.now) self.old.room observer self.old.observed } }
     {
-        if has_room(self.observed.as_slice(), self.room, &observer) {
+        let places = self.chains.places(observer.peer);
+        if has_room(self.observed.as_slice(), places, self.room, &observer) {
             let seen = SeenList::of(views, &observer);
-            return Some(enter(&mut self.observed, observer, seen));
+            return Some(enter(&mut self.observed, &mut self.chains, observer, seen));
         }
         None
     }
@@ -94,7 +108,7 @@ impl Observers {
     pub fn deregister(&mut self, peer: u32, token: &[u8])
         ensures { self.new ≡ record self.old { observed = deregistered peer token.now self.old.observed } }
     {
-        leave_others(&mut self.observed, peer, token);
+        leave_others(&mut self.observed, &mut self.chains, peer, token);
     }
 
     /// Takes the observer of this peer away whose last notification had this Message ID, where there is one: it was
@@ -102,7 +116,7 @@ impl Observers {
     pub fn reset(&mut self, peer: u32, id: u16)
         ensures { self.new ≡ record self.old { observed = without_id peer id self.old.observed } }
     {
-        leave_other_ids(&mut self.observed, peer, id);
+        leave_other_ids(&mut self.observed, &mut self.chains, peer, id);
     }
 
     /// The first observer at the place `from` or behind it that is due: what there is to see isn't what it was told last.
@@ -120,77 +134,194 @@ impl Observers {
         requires { place < length self.old.observed }
         ensures { self.new ≡ record self.old { observed = replace_at place (after_notice (V.lists views.now) id) self.old.observed } }
     {
-        tell(&mut self.observed, views, place, id);
+        tell(&mut self.observed, &mut self.chains, views, place, id);
     }
 }
 
-/// Whether the observer is there already for its domain, or there are fewer of its peer and domain than the room.
-fn has_room(observed: &[Observed], room: usize, observer: &Observer) -> bool
+/// Whether the observer is there already for its domain, or there are fewer of its peer and domain than the room. The places are
+/// those of its peer.
+fn has_room(observed: &[Observed], places: &[usize], room: usize, observer: &Observer) -> bool
+    requires { places.now ≡ places_of observer.now.peer observed.now }
     ensures { result ≡ has_room room observer.now observed.now }
 {
-    if let Some(own) = own_of(observed, observer)
-        && own.observer().domain == observer.domain
-    {
+    if is_at_home(observed, places, observer) {
         return true;
     }
-    count_of(observed, observer.peer, observer.domain) < room
+    count_of(observed, places, observer.peer, observer.domain) < room
 }
 
-/// The observer of the same peer and token.
-fn own_of<'a>(observed: &'a [Observed], observer: &Observer) -> Option<&'a Observed>
-    ensures { option_copied result ≡ own_of observer.now observed.now }
+/// Whether the observer is there already, and for its domain.
+fn is_at_home(observed: &[Observed], places: &[usize], observer: &Observer) -> bool
+    requires { places.now ≡ places_of observer.now.peer observed.now }
+    ensures { result ≡ option_any (λ o. o.observer.domain == observer.now.domain) (own_of observer.now observed.now) }
 {
-    observed.iter().find(|other| other.is_token(observer.peer, observer.token.bytes()))
+    match place_of(observed, places, observer.peer, observer.token.bytes()) {
+        Some(place) => is_domain_at(observed, place, observer.domain),
+        None => false,
+    }
 }
 
-/// How many observers are of this peer and domain.
-fn count_of(observed: &[Observed], peer: u32, domain: u16) -> usize
+fn is_domain_at(observed: &[Observed], place: usize, domain: u16) -> bool
+    ensures { result ≡ option_any (λ o. o.observer.domain == domain) (slice_get observed.now place) }
+{
+    match observed.get(place) {
+        Some(one) => one.observer().domain == domain,
+        None => false,
+    }
+}
+
+/// The place of the observer of this peer and token. The places are those of the peer.
+fn place_of(observed: &[Observed], places: &[usize], peer: u32, token: &[u8]) -> Option<usize>
+    requires { places.now ≡ places_of peer observed.now }
+    ensures { result ≡ position (is_token peer token.now) observed.now }
+{
+    place_among(observed, places, peer, token)
+}
+
+fn place_among(observed: &[Observed], places: &[usize], peer: u32, token: &[u8]) -> Option<usize>
+    ensures { result ≡ find (λ place. option_any (is_token peer token.now) (slice_get observed.now place)) places.now }
+{
+    for place in places {
+        if is_token_at(observed, *place, peer, token) {
+            return Some(*place);
+        }
+    }
+    None
+}
+
+fn is_token_at(observed: &[Observed], place: usize, peer: u32, token: &[u8]) -> bool
+    ensures { result ≡ option_any (is_token peer token.now) (slice_get observed.now place) }
+{
+    match observed.get(place) {
+        Some(one) => one.is_token(peer, token),
+        None => false,
+    }
+}
+
+/// The place of the first observer of this peer whose last notification had this Message ID. The places are those of the peer.
+fn place_of_id(observed: &[Observed], places: &[usize], peer: u32, id: u16) -> Option<usize>
+    requires { places.now ≡ places_of peer observed.now }
+    ensures { result ≡ position (had_id peer id) observed.now }
+{
+    id_among(observed, places, peer, id)
+}
+
+fn id_among(observed: &[Observed], places: &[usize], peer: u32, id: u16) -> Option<usize>
+    ensures { result ≡ find (λ place. option_any (had_id peer id) (slice_get observed.now place)) places.now }
+{
+    for place in places {
+        if had_id_at(observed, *place, peer, id) {
+            return Some(*place);
+        }
+    }
+    None
+}
+
+fn had_id_at(observed: &[Observed], place: usize, peer: u32, id: u16) -> bool
+    ensures { result ≡ option_any (had_id peer id) (slice_get observed.now place) }
+{
+    match observed.get(place) {
+        Some(one) => one.had_id(peer, id),
+        None => false,
+    }
+}
+
+/// How many observers are of this peer and domain. The places are those of the peer.
+fn count_of(observed: &[Observed], places: &[usize], peer: u32, domain: u16) -> usize
+    requires { places.now ≡ places_of peer observed.now }
     ensures { result ≡ tally (is_of peer domain) observed.now }
 {
+    count_among(observed, places, peer, domain)
+}
+
+fn count_among(observed: &[Observed], places: &[usize], peer: u32, domain: u16) -> usize
+    ensures { result ≡ tally (λ place. option_any (is_of peer domain) (slice_get observed.now place)) places.now }
+{
     let mut count = 0;
-    for other in observed {
-        if other.is_of(peer, domain) {
+    for place in places {
+        if is_of_at(observed, *place, peer, domain) {
             count += 1;
         }
     }
     count
 }
 
+fn is_of_at(observed: &[Observed], place: usize, peer: u32, domain: u16) -> bool
+    ensures { result ≡ option_any (is_of peer domain) (slice_get observed.now place) }
+{
+    match observed.get(place) {
+        Some(one) => one.is_of(peer, domain),
+        None => false,
+    }
+}
+
 /// Puts an observer into the place of the one of its peer and token, or else to the end, and answers its number.
-fn enter(observed: &mut Vec<Observed>, observer: Observer, seen: SeenList) -> u32
-    requires { length (entered observer seen observed.old.items) ≤ vec_capacity observed.old }
+fn enter(
+    observed: &mut Vec<Observed>,
+    chains: &mut Chains,
+    observer: Observer,
+    seen: SeenList,
+) -> u32
+    requires fits { length (entered observer seen observed.old.items) ≤ vec_capacity observed.old }
+    requires chained { AreChained chains.old observed.old.items }
+    requires room { tally (λ o. o.observer.peer == observer.peer) (entered observer seen observed.old.items) ≤ room_in observer.peer chains.old }
     ensures number { result ≡ number_for observer observed.old.items }
     ensures list { observed.new.items ≡ entered observer seen observed.old.items }
     ensures capacity { vec_capacity observed.new ≡ vec_capacity observed.old }
+    ensures chained { AreChained chains.new observed.new.items }
+    ensures room { SameRoom chains.old chains.new }
 {
-    match place_of(observed.as_slice(), &observer) {
+    let peer = observer.peer;
+    match place_of(
+        observed.as_slice(),
+        chains.places(peer),
+        peer,
+        observer.token.bytes(),
+    ) {
         Some(place) => observed[place].register_again(observer, seen),
         None => {
+            chains.push(peer, observed.len());
             observed.push_reserved(Observed::new(observer, seen));
             1
         }
     }
 }
 
-/// The place of the observer of the same peer and token.
-fn place_of(observed: &[Observed], observer: &Observer) -> Option<usize>
-    ensures { result ≡ position (is_token observer.now.peer observer.now.token) observed.now }
+/// The observer at this place goes.
+fn remove_at(observed: &mut Vec<Observed>, chains: &mut Chains, place: usize)
+    requires at { place < length observed.old.items }
+    requires chained { AreChained chains.old observed.old.items }
+    ensures items { observed.new.items ≡ remove observed.old.items place }
+    ensures capacity { vec_capacity observed.new ≡ vec_capacity observed.old }
+    ensures chained { AreChained chains.new observed.new.items }
+    ensures room { SameRoom chains.old chains.new }
 {
-    observed.iter().position(|other| other.is_token(observer.peer, observer.token.bytes()))
+    let _gone = observed.remove(place);
+    chains.leave(place);
 }
 
-fn leave_others(observed: &mut Vec<Observed>, peer: u32, token: &[u8])
+fn leave_others(observed: &mut Vec<Observed>, chains: &mut Chains, peer: u32, token: &[u8])
+    requires chained { AreChained chains.old observed.old.items }
     ensures items { observed.new.items ≡ deregistered peer token.now observed.old.items }
     ensures capacity { vec_capacity observed.new ≡ vec_capacity observed.old }
+    ensures chained { AreChained chains.new observed.new.items }
+    ensures room { SameRoom chains.old chains.new }
 {
-    observed.retain(|other| !other.is_token(peer, token));
+    while let Some(place) = place_of(observed.as_slice(), chains.places(peer), peer, token) {
+        remove_at(observed, chains, place);
+    }
 }
 
-fn leave_other_ids(observed: &mut Vec<Observed>, peer: u32, id: u16)
+fn leave_other_ids(observed: &mut Vec<Observed>, chains: &mut Chains, peer: u32, id: u16)
+    requires chained { AreChained chains.old observed.old.items }
     ensures items { observed.new.items ≡ without_id peer id observed.old.items }
     ensures capacity { vec_capacity observed.new ≡ vec_capacity observed.old }
+    ensures chained { AreChained chains.new observed.new.items }
+    ensures room { SameRoom chains.old chains.new }
 {
-    observed.retain(|other| !other.had_id(peer, id));
+    while let Some(place) = place_of_id(observed.as_slice(), chains.places(peer), peer, id) {
+        remove_at(observed, chains, place);
+    }
 }
 
 fn next_due<'a, V: Views>(observed: &'a [Observed], views: &V, from: usize) -> Option<Notice<'a>>
@@ -218,14 +349,23 @@ fn is_next<V: Views>(one: &Observed, views: &V, place: usize, from: usize) -> bo
 }
 
 /// The observer at this place was told what there is to see, or goes where there is nothing.
-fn tell<V: Views>(observed: &mut Vec<Observed>, views: &V, place: usize, id: u16)
-    requires { place < length observed.old.items }
+fn tell<V: Views>(
+    observed: &mut Vec<Observed>,
+    chains: &mut Chains,
+    views: &V,
+    place: usize,
+    id: u16,
+)
+    requires at { place < length observed.old.items }
+    requires chained { AreChained chains.old observed.old.items }
     ensures items { observed.new.items ≡ replace_at place (after_notice (V.lists views.now) id) observed.old.items }
     ensures capacity { vec_capacity observed.new ≡ vec_capacity observed.old }
+    ensures chained { AreChained chains.new observed.new.items }
+    ensures room { SameRoom chains.old chains.new }
 {
     let seen = SeenList::of(views, observed[place].observer());
     if seen.is_empty() {
-        let _gone = observed.remove(place);
+        remove_at(observed, chains, place);
         return;
     }
     observed[place].tell(seen, id);

@@ -1,12 +1,8 @@
 -- Answers that depend on the body, and which of them are want of memory.
 use Rattle.std.proofs.Common.{◌≡◌, ℕ, List, true, false, refl, sym, Option, Some, None, Result, Ok, Err}
-use Rattle.std.specs.Prelude.{IsUtf8}
-use Rattle.std.specs.Bool.{MatchBool}
 use Rattle.serde_json.specs.Data.{Data}
-use Rattle.list_json.specs.declared.fault.ListFault.{ListFault}
 use Rattle.data_channel.specs.declared.reject.RestReject.{RestReject}
 use Rattle.data_channel.specs.declared.reject.RestReject.TheVariants as reject
-use Rattle.data_channel.specs.declared.request.Head.{Head}
 use Rattle.data_channel.specs.declared.request.Head.TheVariants.{Plain, Wants}
 use Rattle.data_channel.specs.declared.request.RestRequest.{RestRequest}
 use Rattle.data_channel.specs.declared.request.Wanted.{Wanted}

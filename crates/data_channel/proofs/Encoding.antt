@@ -1,5 +1,5 @@
 -- The path of a resource stays in its line, and is short.
-use Rattle.std.proofs.Common.{◌≡◌, ℕ, ◌+◌, ◌*◌, ◌≤◌, true, false, Bool, List, [], ◌∷◌, ◌++◌, length, length-append, All, refl, sym, ◌⊎◌, inl, inr, ⊎_elim, arith, IsTrue}
+use Rattle.std.proofs.Common.{◌≡◌, ℕ, ◌*◌, ◌≤◌, true, false, Bool, List, [], ◌∷◌, ◌++◌, length, length-append, All, refl, inl, inr, arith}
 use Rattle.std.specs.Prelude.{codes, ◌&&◌, nat_le, if◌then◌else◌}
 use Rattle.std.specs.Char.{is_ascii_graphic}
 use Rattle.dots_lists.specs.Name.{is_name}

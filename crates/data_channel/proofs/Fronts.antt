@@ -1,7 +1,7 @@
 -- Fronts and segments of bytes.
-use Rattle.std.proofs.Common.{◌≡◌, ℕ, ◌+◌, suc, true, false, Bool, List, [], ◌∷◌, ◌++◌, length, take, drop, refl, ap, Option, Some, None, arith, cond}
+use Rattle.std.proofs.Common.{◌≡◌, ℕ, ◌+◌, suc, true, false, Bool, List, [], ◌∷◌, ◌++◌, length, take, drop, refl, ap, Some, None, arith, cond}
 use Rattle.std.specs.Prelude.{◌==◌, ◌||◌, not, if◌then◌else◌}
-use Rattle.std.specs.List.{list_all, list_any, before_first, after_first, position_or_len}
+use Rattle.std.specs.List.{list_any, before_first, after_first, position_or_len}
 use Rattle.std.proofs.lemmas.Bool.{eqb-true, eq-eqb, and_parts, and_from, not_from_false}
 use Rattle.data_channel.specs.Paths.{lacks}
 use Rattle.data_channel.specs.Places.{behind_front}

@@ -1,7 +1,7 @@
 -- Targets and paths are read as the grammar says.
-use Rattle.std.proofs.Common.{◌≡◌, ℕ, ◌==◌, true, false, Bool, List, [], ◌∷◌, ◌++◌, length, take, drop, refl, sym, ap, subst, ◌∙◌, Option, Some, None, Result, Ok, Err, IsTrue, append-nil, take-append-drop}
+use Rattle.std.proofs.Common.{◌≡◌, ℕ, ◌==◌, true, false, Bool, List, [], ◌∷◌, ◌++◌, refl, sym, ap, subst, ◌∙◌, Option, Some, None, Result, Ok, Err, IsTrue, append-nil, take-append-drop}
 use Rattle.std.specs.Prelude.{codes, bytes_eq, if◌then◌else◌, is_some, option_and_then}
-use Rattle.std.specs.List.{list_any, after_first, before_first, position_or_len}
+use Rattle.std.specs.List.{after_first, position_or_len}
 use Rattle.std.proofs.lemmas.Slice.Eq.{bytes_eq-Decides}
 use Rattle.std.proofs.Math.Seq.{take-append_seam, drop-append_seam, take-length, drop-length}
 use Rattle.data_channel.specs.declared.place.Kind.{Kind}
@@ -11,7 +11,7 @@ use Rattle.data_channel.specs.declared.request.Head.{Head}
 use Rattle.data_channel.specs.declared.request.Verb.{Verb}
 use Rattle.data_channel.specs.Heads.{Gives, UnlessNoMemory, verb_in, head_at, IsHead}
 use Rattle.data_channel.specs.Paths.{Place, is_segment, IsTarget, root, client_path, spelled, HasNames, IsPathOf, IsAt}
-use Rattle.data_channel.specs.Places.{path_of, has_query, behind_front, segment, behind_segment, unnamed, named, by_acl, by_alias, below_client, client_place, below_root, place_in}
+use Rattle.data_channel.specs.Places.{path_of, has_query, behind_front, segment, behind_segment, unnamed, by_alias, below_client, client_place, below_root, place_in}
 use Rattle.data_channel.proofs.Answering.{failed, fulfils_more}
 use Rattle.data_channel.proofs.Fronts.{front_is, position_of_sign, position_of_none, before_lacks, sign_splits, none_splits}
 

@@ -4,3 +4,4 @@ pub mod Answering
 pub mod Encoding
 pub mod Fronts
 pub mod Grammar
+pub mod Meaning

@@ -1,5 +1,5 @@
 -- The bodies of requests (RFC 8783, sections 4.3, 6 and 7; RFC 8040, section 4; RFC 7951, section 4).
-use Rattle.std.specs.Prelude.{◌≡◌, ℕ, Bool, ◌||◌, List, codes, bytes_eq, is_some, if◌then◌else◌, Option, Some, None, Result, Ok, Err}
+use Rattle.std.specs.Prelude.{ℕ, Bool, ◌||◌, List, codes, bytes_eq, is_some, if◌then◌else◌, Option, Some, None, Result, Ok, Err}
 use Rattle.acl_lists.specs.declared.alias.Alias.{Alias}
 use Rattle.acl_lists.specs.declared.acl.Acl.{Acl}
 use Rattle.serde_json.specs.Data.{Data, Items, no_items, item}

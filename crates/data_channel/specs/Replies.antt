@@ -5,7 +5,7 @@ use Rattle.std.specs.List.{flat_map}
 use Rattle.acl_lists.specs.declared.alias.Alias.{Alias}
 use Rattle.acl_lists.specs.declared.acl.Acl.{Acl}
 use Rattle.percent_encoding.specs.Percent.{percent_encode_byte}
-use Rattle.serde_json.specs.Data.{Data, string, array, object, Items, no_items, item, Members, no_members, member}
+use Rattle.serde_json.specs.Data.{Data, string, array, object, no_items, item, no_members, member}
 use Rattle.serde_json.specs.View.{items_of}
 use Rattle.list_json.specs.AliasPrinting.{alias_data}
 use Rattle.list_json.specs.ListPrinting.{acl_data}

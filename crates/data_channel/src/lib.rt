@@ -17,6 +17,7 @@
 
 mod bodies;
 mod heads;
+pub mod laws;
 mod location;
 mod place;
 mod reading;

@@ -4,22 +4,11 @@ ghost use Rattle.std.specs.Prelude.{◌≡◌, ◌++◌, ◌+◌, ◌*◌, ◌�
 ghost use Rattle.http_cut.specs.Reply.{is_in_line};
 ghost use Rattle.data_channel.specs.Replies.{is_unreserved, encode_byte, encoded, path_to, location_in};
 
-use crate::place::ROOT;
+use crate::place::{ACL, ACLS, ALIAS, ALIASES, DOTS_CLIENT, ROOT};
 use crate::request::RestRequest;
 use dots_lists::{Bytes, Name, NoMemory};
 use percent_encoding::percent_encode_byte;
 use std::alloc::Global;
-
-/// What stands between the root and a cuid, and between a cuid and a name.
-const DOTS_CLIENT: &[u8] = b"/dots-client=";
-
-const ALIASES: &[u8] = b"/aliases";
-
-const ALIAS: &[u8] = b"/aliases/alias=";
-
-const ACLS: &[u8] = b"/acls";
-
-const ACL: &[u8] = b"/acls/acl=";
 
 /// Whether a byte stands for itself in a path (RFC 3986, section 2.3).
 fn is_unreserved(byte: u8) -> bool

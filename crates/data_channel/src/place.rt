@@ -8,6 +8,19 @@ ghost use Rattle.data_channel.specs.Places.{path_of, has_query, behind_front, un
 /// The root of the data channel.
 pub const ROOT: &[u8] = b"/restconf/data/ietf-dots-data-channel:dots-data";
 
+/// What stands between the root and the name of a client.
+pub const DOTS_CLIENT: &[u8] = b"/dots-client=";
+
+/// What stands below a client: all aliases, and what is in front of the name of one.
+pub const ALIASES: &[u8] = b"/aliases";
+
+pub const ALIAS: &[u8] = b"/aliases/alias=";
+
+/// The same of access lists.
+pub const ACLS: &[u8] = b"/acls";
+
+pub const ACL: &[u8] = b"/acls/acl=";
+
 /// A kind of resource.
 #[derive(Clone, Copy, Debug, PartialEq, Eq)]
 pub enum Kind {
@@ -109,16 +122,16 @@ fn below_client<'a>(client: &'a [u8], below: &'a [u8]) -> Option<Place<'a>>
     if below == b"".as_slice() {
         return Some(unnamed(Kind::Client, client));
     }
-    if below == b"/aliases".as_slice() {
+    if below == ALIASES {
         return Some(unnamed(Kind::Aliases, client));
     }
-    if below == b"/acls".as_slice() {
+    if below == ACLS {
         return Some(unnamed(Kind::Acls, client));
     }
-    if let Some(name) = behind_front(b"/aliases/alias=", below) {
+    if let Some(name) = behind_front(ALIAS, below) {
         return named(Kind::Alias, client, name);
     }
-    match behind_front(b"/acls/acl=", below) {
+    match behind_front(ACL, below) {
         Some(name) => named(Kind::Acl, client, name),
         None => None,
     }
@@ -137,7 +150,7 @@ fn below_root(below: &[u8]) -> Option<Place<'_>>
     if below == b"".as_slice() {
         return Some(unnamed(Kind::Root, b""));
     }
-    match behind_front(b"/dots-client=", below) {
+    match behind_front(DOTS_CLIENT, below) {
         Some(rest) => client_place(rest),
         None => None,
     }

@@ -228,3 +228,49 @@ fn a_gateway(rt: HostRuntime) -> Result<(), Fail> {
     }
     Ok(())
 }
+
+/// The first of four observers goes, and the others move down and are found where they then stand: the second was told of a change
+/// with Message ID 7.
+#[test]
+fn the_others_move_down(rt: HostRuntime) -> Result<(), Fail> {
+    for (last, want) in [
+        (
+            [Step::Deregister(3, 3), Step::Notify(8)],
+            Shown::Notice(4, 2),
+        ),
+        ([Step::Notify(8), Step::Notify(9)], Shown::Notice(4, 2)),
+        ([Step::Reset(1, 7), Step::Notify(8)], Shown::Notice(3, 2)),
+        (
+            [Step::Reset(1, 7), Step::Register(1, 0, 2)],
+            Shown::Reply(1),
+        ),
+        (
+            [Step::Deregister(0, 1), Step::Register(1, 0, 2)],
+            Shown::Reply(3),
+        ),
+        (
+            [Step::Deregister(3, 3), Step::Register(3, 1, 4)],
+            Shown::Reply(2),
+        ),
+        (
+            [Step::Register(3, 0, 4), Step::Notify(8)],
+            Shown::Notice(3, 2),
+        ),
+    ] {
+        let [eighth, ninth] = last;
+        let steps = [
+            Step::See(&[(1, 2)]),
+            Step::Register(0, 0, 1),
+            Step::Register(1, 0, 2),
+            Step::Register(3, 0, 3),
+            Step::Register(3, 1, 4),
+            Step::Deregister(0, 1),
+            Step::See(&[(1, 5)]),
+            Step::Notify(7),
+            eighth,
+            ninth,
+        ];
+        assert_eq!(rt; last_shown(rt.alloc(), &steps)?, want);
+    }
+    Ok(())
+}

@@ -1,6 +1,33 @@
-use Rattle.std.proofs.Common.{rules}
-use Rattle.std.proofs.lemmas.Fn.{filter_same}
+use Rattle.std.proofs.Common.{filter, ap, sym, ◌∙◌}
+use Rattle.std.specs.Prelude.{not, position}
+use Rattle.coap_observe.specs.Chains.{places_of}
+use Rattle.coap_observe.specs.Observed.{had_id}
+use Rattle.coap_observe.proofs.Leaving.{is_there, others_same, all_stay}
+use Rattle.coap_exchange.proofs.Firsts.{none_passes}
 use Rattle.coap_observe.proofs.observers.leave_other_ids.Goals as goal
 
+pub place_of_id-requires : goal.place_of_id-requires
+place_of_id-requires c = c.places.ensures ∙ c.loop-place.invariant.chained c.args.peer ∙ ap (places_of c.args.peer) (sym c.as_slice.ensures.value)
+
+pub remove_at-requires : goal.remove_at-requires
+remove_at-requires c =
+    let test = had_id c.args.peer c.args.id in
+    let found = ap (position test) (sym c.as_slice.ensures.value) ∙ sym c.in-Some.ensures in
+    record { at = (is_there test c.loop-place.observed.items c.in-Some.place found).within; chained = c.loop-place.invariant.chained }
+
+pub loop-place-preserved : goal.loop-place-preserved
+loop-place-preserved c =
+    let test = had_id c.args.peer c.args.id in
+    let found = ap (position test) (sym c.as_slice.ensures.value) ∙ sym c.in-Some.ensures in
+    record {
+      stay = ap (filter (λ o. not (test o))) c.remove_at.ensures.items ∙ others_same test c.loop-place.observed.items c.in-Some.place found ∙ c.loop-place.invariant.stay;
+      capacity = c.remove_at.ensures.capacity ∙ c.loop-place.invariant.capacity;
+      chained = c.remove_at.ensures.chained;
+      room = λ peer. c.remove_at.ensures.room peer ∙ c.loop-place.invariant.room peer;
+    }
+
 pub returns-clause-items : goal.returns-clause-items
-returns-clause-items c = filter_same _ _ _ (λ x b f' k. search rules) _ _ c.retain.ensures.filtered
+returns-clause-items c =
+    let test = had_id c.args.peer c.args.id in
+    let none = none_passes test c.loop-place.observed.items (ap (position test) (sym c.as_slice.ensures.value) ∙ sym c.place_of_id.ensures ∙ c.in_default.is) in
+    sym (all_stay test c.loop-place.observed.items none) ∙ c.loop-place.invariant.stay

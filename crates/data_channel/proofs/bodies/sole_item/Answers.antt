@@ -1,4 +1,4 @@
-use Rattle.std.proofs.Common.{◌≡◌, ◌≤◌, length, sym, ap, ◌∙◌, arith}
+use Rattle.std.proofs.Common.{◌≤◌, length, sym, ap, ◌∙◌, arith}
 use Rattle.data_channel.specs.Bodies.{sole_of}
 use Rattle.data_channel.proofs.Items.{many_items}
 use Rattle.data_channel.proofs.bodies.sole_item.Goals as goal

@@ -1,5 +1,4 @@
-use Rattle.std.proofs.Common.{◌≡◌, rules}
-use Rattle.data_channel.specs.Replies.{path_to}
+use Rattle.std.proofs.Common.{rules}
 use Rattle.data_channel.proofs.Encoding.{path_in_line, path_length, name_length}
 use Rattle.data_channel.proofs.location.path_to.Goals as goal
 

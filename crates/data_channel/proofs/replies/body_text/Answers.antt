@@ -1,4 +1,4 @@
-use Rattle.std.proofs.Common.{◌≡◌, ap, ◌∙◌}
+use Rattle.std.proofs.Common.{ap, ◌∙◌}
 use Rattle.serde_json.specs.Written.{has_float, compact_text}
 use Rattle.data_channel.proofs.Plain.{body_plain}
 use Rattle.data_channel.proofs.replies.body_text.Goals as goal

@@ -1,23 +1,37 @@
-use Rattle.std.proofs.Common.{◌≡◌, ap, sym, subst, ◌∙◌, arith}
+use Rattle.std.proofs.Common.{ap, sym, subst, ◌∙◌, arith}
 use Rattle.std.specs.List.{list_any}
 use Rattle.coap_exchange.specs.Pairs.{is_pair}
-use Rattle.coap_observe.specs.Observing.{ObserversValue, has_room, AreBounded}
-use Rattle.coap_observe.proofs.Counting.{bounded_entered, bounded_length}
+use Rattle.coap_observe.specs.Chains.{places_of}
+use Rattle.coap_observe.specs.Observing.{ObserversValue, has_room, entered, AreBounded}
+use Rattle.coap_observe.proofs.Chaining.{rooms_stay}
+use Rattle.coap_observe.proofs.Counting.{bounded_entered, bounded_length, few_of_peer}
 use Rattle.coap_observe.proofs.observers.Observers.register.Goals as goal
+
+pub has_room-requires : goal.has_room-requires
+has_room-requires g c = c.places-places.ensures ∙ c.self.invariant.chained c.args.observer.peer ∙ ap (places_of c.args.observer.peer) (sym c.as_slice.ensures.value)
 
 pub enter-requires : goal.enter-requires
 enter-requires g c =
     let has = ap (has_room c.self.inside.room c.args.observer) (sym c.as_slice.ensures.value) ∙ sym c.has_room.ensures ∙ c.if-has_room.true in
     let pair = ap (λ (v : ObserversValue). list_any (is_pair c.args.observer.peer c.args.observer.domain) v.pairs) c.self.view_is ∙ c.requires in
-    let bounded = bounded_entered c.self.inside.pairs c.self.inside.room c.args.observer c.of-seen.result c.self.inside.observed.items has pair c.self.invariant.0 in
+    let bounded = bounded_entered c.self.inside.pairs c.self.inside.room c.args.observer c.of-seen.result c.self.inside.observed.items has pair c.self.invariant.bounded in
     let fits = bounded_length c.self.inside.pairs c.self.inside.room _ bounded in
-    omega (arith, fits, c.self.invariant.1)
+    let few = few_of_peer c.self.inside.pairs c.self.inside.room c.args.observer.peer (entered c.args.observer c.of-seen.result c.self.inside.observed.items) bounded in
+    let room = c.self.invariant.rooms c.args.observer.peer in
+    record {
+      fits = omega (arith, fits, c.self.invariant.reserved);
+      chained = c.self.invariant.chained;
+      room = omega (arith, few, room);
+    }
 
 pub invariant_of-self : goal.invariant_of-self
 invariant_of-self g c =
     let has = ap (has_room c.self.inside.room c.args.observer) (sym c.as_slice.ensures.value) ∙ sym c.has_room.ensures ∙ c.if-has_room.true in
     let pair = ap (λ (v : ObserversValue). list_any (is_pair c.args.observer.peer c.args.observer.domain) v.pairs) c.self.view_is ∙ c.requires in
-    let bounded = bounded_entered c.self.inside.pairs c.self.inside.room c.args.observer c.of-seen.result c.self.inside.observed.items has pair c.self.invariant.0 in (
-      subst (AreBounded c.self.inside.pairs c.self.inside.room) (sym c.enter.ensures.list) bounded,
-      omega (arith, c.self.invariant.1, c.enter.ensures.capacity),
-    )
+    let bounded = bounded_entered c.self.inside.pairs c.self.inside.room c.args.observer c.of-seen.result c.self.inside.observed.items has pair c.self.invariant.bounded in
+    record {
+      bounded = subst (AreBounded c.self.inside.pairs c.self.inside.room) (sym c.enter.ensures.list) bounded;
+      reserved = omega (arith, c.self.invariant.reserved, c.enter.ensures.capacity);
+      chained = c.enter.ensures.chained;
+      rooms = rooms_stay c.self.inside.pairs c.self.inside.room c.self.inside.chains _ c.enter.ensures.room c.self.invariant.rooms;
+    }

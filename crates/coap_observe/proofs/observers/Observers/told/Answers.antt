@@ -1,12 +1,16 @@
 use Rattle.std.proofs.Common.{sym, subst, arith}
 use Rattle.coap_observe.specs.Seen.{list_for}
 use Rattle.coap_observe.specs.Observing.{AreBounded}
+use Rattle.coap_observe.proofs.Chaining.{rooms_stay}
 use Rattle.coap_observe.proofs.Counting.{bounded_told}
 use Rattle.coap_observe.proofs.observers.Observers.told.Goals as goal
 
 pub invariant_of-self : goal.invariant_of-self
-invariant_of-self g c = (
-  subst (AreBounded c.self.inside.pairs c.self.inside.room) (sym c.tell.ensures.items)
-      (bounded_told c.self.inside.pairs c.self.inside.room c.args.place c.args.id (λ o. list_for (g.V.Views.lists c.args.views.now) o.observer) c.self.inside.observed.items c.self.invariant.0),
-  omega (arith, c.self.invariant.1, c.tell.ensures.capacity),
-)
+invariant_of-self g c = record {
+  bounded =
+      subst (AreBounded c.self.inside.pairs c.self.inside.room) (sym c.tell.ensures.items)
+      (bounded_told c.self.inside.pairs c.self.inside.room c.args.place c.args.id (λ o. list_for (g.V.Views.lists c.args.views.now) o.observer) c.self.inside.observed.items c.self.invariant.bounded);
+  reserved = omega (arith, c.self.invariant.reserved, c.tell.ensures.capacity);
+  chained = c.tell.ensures.chained;
+  rooms = rooms_stay c.self.inside.pairs c.self.inside.room c.self.inside.chains _ c.tell.ensures.room c.self.invariant.rooms;
+}
