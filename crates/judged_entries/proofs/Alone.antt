@@ -1,30 +1,27 @@
 -- A domain's judgements are those of its own entries.
-use Rattle.std.proofs.Common.{◌≡◌, ℕ, Bool, true, false, cond, not, ◌&&◌, ◌||◌, List, [], ◌∷◌, ◌++◌, filter, map, Option, Some, None, inl, inr, refl, sym, ap, ◌∙◌}
+use Rattle.std.proofs.Common.{◌≡◌, ℕ, Bool, true, false, cond, not, ◌&&◌, ◌||◌, List, [], ◌∷◌, ◌++◌, map, Option, Some, None, inl, inr, refl, sym, ap, ◌∙◌}
 use Rattle.std.specs.Prelude.{◌==◌, option_to_list, option_map, bytes_eq}
 use Rattle.std.specs.List.{list_any, find}
-use Rattle.std.proofs.lemmas.Bool.{false≢true, both_ways, cond_both, cond-false, cases_Bool, and_left, and_right, eqb-true, eq-eqb, false_from_ne_true}
+use Rattle.std.proofs.lemmas.Bool.{both_ways, cond_both, cond-false, cases_Bool, and_left, and_right, eqb-true, eq-eqb, false_from_ne_true}
 use Rattle.acl_lists.specs.declared.alias.Alias.{Alias}
 use Rattle.dots_settings.specs.Settings.{SettingsValue}
 use Rattle.dots_history.specs.declared.entry.Entry.{Entry}
 use Rattle.dots_history.specs.Entries.{is_held, undoes, is_leave, option_any}
-use Rattle.dots_history.specs.Histories.{Mitigation, mitigations, stays, held, alone}
+use Rattle.dots_history.specs.Histories.{mitigations, stays, held, alone}
 use Rattle.dots_laws.specs.Capacities.{is_registration}
-use Rattle.dots_laws.specs.Tables.{Client, client_of, is_of}
+use Rattle.dots_laws.specs.Tables.{Client, is_of}
 use Rattle.dots_laws.specs.Views.{mitigations_of}
 use Rattle.dots_laws.proofs.Apart.{apart}
 use Rattle.dots_laws.proofs.Single.{is_of_client}
-use Rattle.conflict_rules.specs.declared.live.Live.{Live}
 use Rattle.conflict_rules.specs.ByMid as by_mid
 use Rattle.live_mitigations.specs.Judging.{live_of, lives_of}
 use Rattle.live_mitigations.specs.Reading.{shown_of, shown_in}
 use Rattle.held_things.specs.Held.{aliases_of, registers, registrant, of_client}
 use Rattle.held_things.proofs.Holdings.{reg_undone}
 use Rattle.held_things.proofs.Written.{aliases_alone}
-use Rattle.put_judging.specs.declared.fault.PutFault.{PutFault}
-use Rattle.put_judging.specs.declared.judging.Judged.{Judged}
 use Rattle.put_judging.specs.Requests.{Request, ClientValue}
 use Rattle.put_judging.specs.Judging.{judge_put}
-use Rattle.dots_registry.specs.Judging.{collides, client_in, judge_request}
+use Rattle.dots_registry.specs.Judging.{collides, judge_request}
 
 -- ---- the live mitigations
 same_mitigations : (domain t : ℕ) (one other : List Entry) → alone domain one ≡ alone domain other

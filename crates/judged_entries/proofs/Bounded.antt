@@ -1,5 +1,5 @@
 -- What is granted and what is withdrawn is within bounds.
-use Rattle.std.proofs.Common.{◌≡◌, ℕ, ◌+◌, ◌≤◌, ◌<◌, Bool, true, false, cond, ◌&&◌, ◌||◌, List, [], ◌∷◌, ◌++◌, length, Option, Some, None, Result, Ok, Err, inl, inr, refl, sym, ap, ◌∙◌, length-append, arith}
+use Rattle.std.proofs.Common.{◌≡◌, ℕ, ◌≤◌, ◌<◌, Bool, true, false, ◌&&◌, ◌||◌, List, [], ◌∷◌, length, Option, Some, None, Ok, refl, sym, ap, ◌∙◌, length-append, arith}
 use Rattle.std.specs.Prelude.{◌==◌, ◌^◌, nat_le, nat_lt, option_to_list, option_map, bytes_eq}
 use Rattle.std.specs.List.{list_all, flat_map}
 use Rattle.std.proofs.lemmas.Bool.{cond_both, and_parts, and_from, or_right, leb-true, le-leb, lt-ltb}
@@ -15,15 +15,15 @@ use Rattle.dots_history.specs.declared.put.Target.{Target}
 use Rattle.dots_history.specs.declared.change.Change.{Change}
 use Rattle.dots_history.specs.declared.change.Change.TheVariants as change
 use Rattle.dots_history.specs.Entries.{put_of}
-use Rattle.dots_history.specs.Histories.{Mitigation, is_nil, held}
+use Rattle.dots_history.specs.Histories.{is_nil, held}
 use Rattle.dots_history.specs.Bounds.{asked_within, alias_within, target_within, prefix_count, put_within, change_within, within_bounds}
-use Rattle.dots_laws.specs.Tables.{Client, is_of}
+use Rattle.dots_laws.specs.Tables.{Client}
 use Rattle.conflict_rules.specs.declared.live.Live.{Live}
 use Rattle.conflict_rules.specs.ByMid.{has_mid}
-use Rattle.live_mitigations.specs.Judging.{put_or_nothing, live_of, lives_of}
+use Rattle.live_mitigations.specs.Judging.{put_or_nothing, lives_of}
 use Rattle.held_things.specs.Held.{alias_of, aliases_of}
 use Rattle.put_judging.specs.declared.judging.Judged.{Judged}
-use Rattle.put_judging.specs.Requests.{Request, ClientValue}
+use Rattle.put_judging.specs.Requests.{Request}
 use Rattle.put_judging.specs.Targets.{prefixes_asked, target_of, own_target, alias_named, alias_target, targets_of}
 use Rattle.put_judging.specs.Judging.{refreshed, begun}
 use Rattle.dots_registry.specs.Judging.{client_in, judge_request}

@@ -1,8 +1,8 @@
 -- How many live mitigations there are after an entry that is granted or withdraws.
-use Rattle.std.proofs.Common.{◌≡◌, ◌⊎◌, ℕ, suc, ◌+◌, ◌<◌, ◌≤◌, Bool, true, false, cond, not, ◌&&◌, ◌||◌, List, [], ◌∷◌, ◌++◌, map, filter, Option, Some, None, Result, Ok, Err, inl, inr, refl, sym, ap, ◌∙◌, subst, arith}
-use Rattle.std.specs.Prelude.{◌==◌, nat_lt, nat_le, bytes_eq, option_to_list}
-use Rattle.std.specs.List.{list_any, list_all, find, count_by}
-use Rattle.std.proofs.lemmas.Bool.{false≢true, both_ways, cond_both, cond-true, cases_Bool, and_parts, and_from, or_left, or_right, or_cases, eqb-true, eq-eqb, leb-false, false_from_ne_true}
+use Rattle.std.proofs.Common.{◌≡◌, ◌⊎◌, ℕ, suc, ◌+◌, ◌<◌, ◌≤◌, Bool, true, false, cond, not, ◌&&◌, ◌||◌, List, [], ◌∷◌, ◌++◌, map, Some, None, inl, inr, refl, sym, ap, ◌∙◌, subst, arith}
+use Rattle.std.specs.Prelude.{◌==◌, nat_le, bytes_eq, option_to_list}
+use Rattle.std.specs.List.{list_any, list_all, count_by}
+use Rattle.std.proofs.lemmas.Bool.{false≢true, both_ways, cond_both, cond-true, cases_Bool, and_parts, and_from, or_left, or_right, or_cases, eqb-true, leb-false, false_from_ne_true}
 use Rattle.std.proofs.lemmas.List.Recursion.{is_count_by}
 use Rattle.dots_settings.specs.declared.limits.Limits.{Limits}
 use Rattle.dots_settings.specs.Settings.{SettingsValue}
@@ -19,7 +19,7 @@ use Rattle.dots_history.specs.Keeping.{moved}
 use Rattle.dots_laws.specs.Views.{mitigations_with, mitigations_of}
 use Rattle.dots_laws.proofs.Adding.{adding}
 use Rattle.dots_laws.proofs.Joining.{tally_same}
-use Rattle.dots_laws.proofs.Touching.{never_live, ends_parts, one_domain}
+use Rattle.dots_laws.proofs.Touching.{never_live, ends_parts}
 use Rattle.conflict_rules.specs.declared.live.Live.{Live}
 use Rattle.conflict_rules.specs.Wanted.{wanted}
 use Rattle.conflict_rules.specs.Live.{is_of, stands_for, would_end}
@@ -33,9 +33,9 @@ use Rattle.held_things.proofs.Holdings.{turned_eq, turned_bytes}
 use Rattle.put_judging.specs.declared.judging.Judged.{Judged}
 use Rattle.put_judging.specs.Requests.{Request, ClientValue}
 use Rattle.put_judging.specs.Targets.{targets_of}
-use Rattle.put_judging.specs.Judging.{granted_put, refreshed, begun}
+use Rattle.put_judging.specs.Judging.{granted_put}
 use Rattle.judged_entries.proofs.Lists.{found_any}
-use Rattle.judged_entries.proofs.Granted.{IsGranted, refreshes, begins, HasPlace}
+use Rattle.judged_entries.proofs.Granted.{IsGranted, refreshes, begins}
 
 -- ---- what an entry leaves: those that it doesn't end, and its own
 dead_ended : (t : ℕ) (put : Entry) (s : Status) (e : Entry) → ends put e ≡ true → live t put (step put s e) ≡ false

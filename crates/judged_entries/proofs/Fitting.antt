@@ -1,5 +1,5 @@
 -- What is granted and what is withdrawn fits the history, and the clients keep their limits.
-use Rattle.std.proofs.Common.{◌≡◌, ℕ, ◌+◌, ◌≤◌, Bool, true, false, cond, not, ◌&&◌, ◌||◌, List, [], ◌∷◌, ◌++◌, filter, Result, Ok, Err, inl, inr, refl, sym, ap, ◌∙◌, subst, le_trans, arith}
+use Rattle.std.proofs.Common.{◌≡◌, ℕ, ◌+◌, ◌≤◌, Bool, true, false, cond, not, ◌&&◌, ◌||◌, List, [], ◌∷◌, ◌++◌, Ok, inl, inr, refl, sym, ap, ◌∙◌, subst, le_trans, arith}
 use Rattle.std.specs.Prelude.{◌==◌, nat_le}
 use Rattle.std.proofs.lemmas.Bool.{false≢true, cond_both, cases_Bool, and_parts, and_from, le-leb}
 use Rattle.dots_settings.specs.declared.limits.Limits.{Limits}
@@ -10,15 +10,15 @@ use Rattle.dots_history.specs.declared.change.Change.TheVariants as change
 use Rattle.dots_history.specs.Bounds.{within_bounds}
 use Rattle.dots_history.specs.Entries.{same_client}
 use Rattle.dots_history.specs.Histories.{Mitigation, live, tally, mitigations, held}
-use Rattle.dots_laws.specs.Calm.{is_of_settings, came_rightly, is_own}
+use Rattle.dots_laws.specs.Calm.{is_of_settings, came_rightly, is_own, IsCalmBy}
 use Rattle.dots_laws.specs.Capacities.{is_registration, is_alias, is_list, has_client}
 use Rattle.dots_laws.specs.Fits.{is_of_mitigations, is_registered, registers_rightly, fits}
 use Rattle.dots_laws.proofs.Adding.{adding}
 use Rattle.dots_laws.proofs.Ageing.{mitigations_age}
 use Rattle.dots_laws.proofs.GoingOn.{held_push}
-use Rattle.dots_laws.proofs.Joining.{FitsSo, fits_so, tally_with, tally_held, tally_same, same_by}
+use Rattle.dots_laws.proofs.Joining.{fits_so, tally_with, tally_held, tally_same, same_by}
 use Rattle.dots_laws.specs.Views.{mitigations_at}
-use Rattle.held_things.specs.Tables.{rooms_of, sizes_of}
+use Rattle.held_things.specs.Tables.{rooms_of}
 use Rattle.held_things.specs.Accepting.{accepts, keeps_rooms}
 use Rattle.held_things.proofs.Lawful.{same_held, accepts_own}
 use Rattle.live_mitigations.specs.Standing.{has_live_room}
@@ -26,11 +26,11 @@ use Rattle.live_mitigations.specs.Judging.{lives_of}
 use Rattle.put_judging.specs.declared.judging.Judged.{Judged}
 use Rattle.put_judging.specs.Requests.{Request}
 use Rattle.dots_registry.specs.Standing.{RegistryValue, IsOf, StandsFor, time_of}
-use Rattle.dots_registry.specs.Fitting.{fits_now, fits_tables}
+use Rattle.dots_registry.specs.Fitting.{fits_now}
 use Rattle.dots_registry.specs.Judging.{client_in, judge_request}
 use Rattle.dots_registry.proofs.Conditions.{fits_possible}
 use Rattle.judged_entries.specs.Limits.{ClientsKeepLimits}
-use Rattle.judged_entries.proofs.Granted.{IsGranted, granted_by}
+use Rattle.judged_entries.proofs.Granted.{granted_by}
 use Rattle.judged_entries.proofs.Counted.{Keeps, granted_room, withdrawn_room}
 
 -- ---- what puts or withdraws a mitigation registers nothing, and holds nothing
@@ -199,6 +199,9 @@ limits_fitting settings t entries e clients later is =
       live = live_still settings.limits t entries e clients later so.of_client;
       aliased = aliased_still settings.limits t entries e clients so.aliased;
     }
+
+pub limits_calm : (settings : SettingsValue) (t : ℕ) (entries : List Entry) → IsCalmBy settings t entries → ClientsKeepLimits settings.limits t entries
+limits_calm settings t entries calm = record { live = calm.of_client; aliased = calm.capacities.aliased }
 
 limits_kept : (limits : Limits) (t : ℕ) (entries : List Entry) (e : Entry) → ClientsKeepLimits limits t entries → e.time ≡ t → is_of_mitigations e.change ≡ true
     → Keeps limits t entries e → ClientsKeepLimits limits t (entries ++ e ∷ [])

@@ -1,8 +1,8 @@
 -- What is held of a client, by the places of its entries.
-use Rattle.std.proofs.Common.{◌≡◌, ◌⊎◌, ℕ, zero, suc, ◌+◌, ◌<◌, Bool, true, false, cond, not, ◌&&◌, ◌||◌, List, [], ◌∷◌, ◌++◌, drop, Option, Some, None, inl, inr, refl, sym, ap, ◌∙◌, subst, arith}
+use Rattle.std.proofs.Common.{◌≡◌, ℕ, zero, suc, ◌<◌, Bool, true, false, cond, ◌&&◌, List, [], ◌∷◌, ◌++◌, drop, Option, Some, None, inl, inr, refl, sym, ap, ◌∙◌, subst, arith}
 use Rattle.std.specs.Prelude.{◌==◌, ◌≢◌, slice_get, option_to_list, option_map, is_none, bytes_eq}
 use Rattle.std.specs.List.{list_any, find, flat_map}
-use Rattle.std.proofs.lemmas.Bool.{false≢true, both_ways, cond_both, cond-true, cond-false, cases_Bool, cases_order, and_parts, and_from, or_left, or_right, or_cases, or_parts, or_from, eqb-true, eq-eqb, false_from_ne_true}
+use Rattle.std.proofs.lemmas.Bool.{false≢true, both_ways, cond-true, cond-false, cases_Bool, cases_order, and_parts, and_from, or_left, or_right, or_cases, or_parts, or_from, eqb-true, eq-eqb, false_from_ne_true}
 use Rattle.std.proofs.lemmas.Option.{none-some, same_Some}
 use Rattle.std.proofs.lemmas.Slice.Eq.{bytes_eq-Decides}
 use Rattle.acl_lists.specs.declared.alias.Alias.{Alias}
@@ -12,17 +12,17 @@ use Rattle.dots_history.specs.declared.entry.Entry.{Entry}
 use Rattle.dots_history.specs.declared.put.Target.{Target}
 use Rattle.dots_history.specs.declared.change.Change.{Change}
 use Rattle.dots_history.specs.declared.change.Change.TheVariants as change
-use Rattle.dots_history.specs.Entries.{is_held, undoes, undoes_of_client, undoes_alias, reconfigures, same_client}
+use Rattle.dots_history.specs.Entries.{undoes, undoes_of_client, undoes_alias, reconfigures, same_client}
 use Rattle.dots_history.specs.Histories.{stays, held}
 use Rattle.dots_history.specs.Places.{IsHeld}
 use Rattle.dots_history.proofs.HeldPlaces.{held_at_place, place_is_held}
 use Rattle.dots_laws.specs.Capacities.{is_registration}
-use Rattle.dots_laws.specs.Tables.{Client, client_of, is_of}
+use Rattle.dots_laws.specs.Tables.{Client, is_of}
 use Rattle.dots_laws.proofs.Members.{In, any_of}
 use Rattle.held_things.specs.Held.{alias_of, written, aliases_of, registers}
 use Rattle.put_judging.specs.Targets.{target_of, own_target, alias_named, is_unknown, alias_target, targets_of}
 use Rattle.judged_entries.specs.Judgements.{HoldsIn, HoldsAlias, HasUnknown, AliasTargets, AreTargets}
-use Rattle.judged_entries.proofs.Places.{in_found, in_any}
+use Rattle.judged_entries.proofs.Places.{in_found}
 
 -- ---- clients
 pub client_parts : (client : Client) (e : Entry) → is_of client e ≡ true → (e.domain ≡ client.domain) × (e.cuid ≡ client.cuid)

@@ -1,8 +1,8 @@
 -- What is granted and what is withdrawn is the settings' own.
-use Rattle.std.proofs.Common.{◌≡◌, ℕ, Bool, true, false, cond, ◌&&◌, ◌||◌, not, List, [], ◌∷◌, ◌++◌, Option, Some, None, Result, Ok, Err, inl, inr, refl, sym, ap, ◌∙◌, subst}
+use Rattle.std.proofs.Common.{◌≡◌, ℕ, Bool, true, false, cond, ◌&&◌, ◌||◌, not, List, [], ◌∷◌, Option, Some, None, Ok, refl, sym, ap, ◌∙◌}
 use Rattle.std.specs.Prelude.{◌==◌, option_to_list, option_map, bytes_eq}
-use Rattle.std.specs.List.{list_any, list_all, find, flat_map}
-use Rattle.std.proofs.lemmas.Bool.{false≢true, cond_both, cond-false, cases_Bool, and_parts, and_from, eqb-true, eq-eqb}
+use Rattle.std.specs.List.{list_any, list_all, flat_map}
+use Rattle.std.proofs.lemmas.Bool.{false≢true, cond_both, and_parts, and_from, eqb-true}
 use Rattle.std.proofs.lemmas.List.Folds.{list_all-append}
 use Rattle.std.proofs.lemmas.Option.{none-some, same_Some}
 use Rattle.ip_scope.specs.Prefix.{PrefixValue, inside}
@@ -23,11 +23,9 @@ use Rattle.conflict_rules.specs.declared.live.Live.{Live}
 use Rattle.conflict_rules.specs.ByMid.{has_mid}
 use Rattle.live_mitigations.specs.Judging.{put_or_nothing, live_of, lives_of}
 use Rattle.held_things.specs.Held.{alias_of, aliases_of}
-use Rattle.put_judging.specs.declared.fault.PutFault.{PutFault}
 use Rattle.put_judging.specs.declared.judging.Judged.{Judged}
-use Rattle.put_judging.specs.Requests.{Request, ClientValue}
+use Rattle.put_judging.specs.Requests.{Request}
 use Rattle.put_judging.specs.Targets.{prefixes_asked, target_of, own_target, alias_named, alias_target, targets_of}
-use Rattle.put_judging.specs.Judging.{granted_put, refreshed, begun}
 use Rattle.dots_registry.specs.Judging.{client_in, judge_request}
 use Rattle.judged_entries.proofs.Lists.{found_passes, held_pass, lives_pass, written_pass}
 use Rattle.judged_entries.proofs.Granted.{IsGranted, refreshes, begins, granted_by}

@@ -1,12 +1,11 @@
 -- A request is judged by the rules exactly as it is by the places of the entries.
-use Rattle.std.proofs.Common.{◌≡◌, ◌⊎◌, ℕ, ◌<◌, ◌≤◌, Bool, true, false, cond, ◌&&◌, ◌||◌, List, [], ◌∷◌, ◌++◌, map, filter, length, Option, Some, None, Result, Ok, Err, inl, inr, refl, sym, ap, ◌∙◌, subst, arith}
+use Rattle.std.proofs.Common.{◌≡◌, ℕ, ◌<◌, Bool, true, false, cond, List, [], filter, length, Option, Some, None, Result, Ok, Err, inl, inr, refl, sym, ap, ◌∙◌, subst, arith}
 use Rattle.std.specs.Prelude.{◌≢◌, nat_le}
 use Rattle.std.specs.List.{list_any, find}
-use Rattle.std.proofs.lemmas.Bool.{false≢true, both_ways, cond-true, cond-false, cases_Bool, leb-true, leb-false, le-leb, false_from_ne_true}
+use Rattle.std.proofs.lemmas.Bool.{both_ways, cond-true, cond-false, cases_Bool, leb-true, leb-false, le-leb, false_from_ne_true}
 use Rattle.std.proofs.lemmas.Option.{none-some}
 use Rattle.ip_scope.specs.Prefix.{PrefixValue}
 use Rattle.acl_lists.specs.declared.alias.Alias.{Alias}
-use Rattle.filter_rows.specs.Fates.{greatest}
 use Rattle.dots_settings.specs.Settings.{SettingsValue}
 use Rattle.dots_history.specs.declared.entry.Entry.{Entry}
 use Rattle.dots_history.specs.declared.put.Put.{Put}
@@ -14,7 +13,6 @@ use Rattle.dots_history.specs.declared.put.Target.{Target}
 use Rattle.dots_history.specs.Bounds.{prefix_count}
 use Rattle.dots_history.specs.Histories.{held}
 use Rattle.dots_laws.specs.Tables.{Client}
-use Rattle.dots_laws.proofs.Members.{In}
 use Rattle.conflict_rules.specs.declared.live.Live.{Live}
 use Rattle.conflict_rules.specs.declared.by_overlap.Judgement.{Judgement}
 use Rattle.conflict_rules.specs.declared.by_overlap.Judgement.TheVariants as judgement
@@ -30,9 +28,9 @@ use Rattle.put_judging.specs.declared.fault.PutFault.TheVariants as faults
 use Rattle.put_judging.specs.declared.judging.Judged.{Judged}
 use Rattle.put_judging.specs.Requests.{Request}
 use Rattle.put_judging.specs.Targets.{is_unknown, targets_of}
-use Rattle.put_judging.specs.Judging.{refreshed, begun, fault_of, overlap_fault, unless, judge_targets, judge_new, judge_standing, judge_known}
+use Rattle.put_judging.specs.Judging.{refreshed, begun, fault_of, unless, judge_targets, judge_standing, judge_known}
 use Rattle.dots_registry.specs.Judging.{collides, judge_request}
-use Rattle.judged_entries.specs.Judgements.{IsTaken, HasMid, HasUnknown, AreTargets, IsHigher, Meets, Those, Stays, StaysOwn, Number, IsNew, IsHighest, IsFree, IsJudged, collision, refreshes, changes, unknown, too_many, higher, other, client_full, domain_full, begins}
+use Rattle.judged_entries.specs.Judgements.{IsTaken, HasMid, AreTargets, Meets, Those, Stays, StaysOwn, IsNew, IsHighest, IsFree, IsJudged, collision, refreshes, changes, unknown, too_many, higher, other, client_full, domain_full, begins}
 use Rattle.judged_entries.proofs.Places.{one_number}
 use Rattle.judged_entries.proofs.HeldPlaces.{unknown_there, there_unknown, are_targets, targets_are}
 use Rattle.judged_entries.proofs.Rules.{found_some, collides_taken, taken_collides, mid_there, there_mid, one_of_mid, in_higher, higher_in, higher_mids, those_meet, meet_those, number_staying, number_own, greatest_in, greatest_none, in_greatest, contested_by, none_kept, some_kept}

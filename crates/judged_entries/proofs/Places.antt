@@ -1,12 +1,11 @@
 -- The live mitigations of a domain, as the rules see them, by their places in the list of the entries.
-use Rattle.std.proofs.Common.{◌≡◌, ◌⊎◌, ℕ, zero, suc, ◌+◌, ◌-◌, ◌<◌, ◌≤◌, Bool, true, false, cond, not, ◌&&◌, ◌||◌, List, [], ◌∷◌, ◌++◌, map, filter, length, drop, Option, Some, None, inl, inr, refl, sym, ap, ◌∙◌, subst, arith}
-use Rattle.std.specs.Prelude.{◌==◌, slice_get, option_to_list, bytes_eq}
-use Rattle.std.specs.List.{list_any, list_all, find, count_by}
-use Rattle.std.proofs.lemmas.Bool.{false≢true, both_ways, cond_both, cond-true, cond-false, cases_Bool, and_parts, and_from, or_left, or_right, or_cases, eqb-true, eq-eqb, not_from_false, false_from_ne_true}
+use Rattle.std.proofs.Common.{◌≡◌, ℕ, zero, suc, ◌+◌, ◌-◌, Bool, true, false, cond, ◌&&◌, List, [], ◌∷◌, ◌++◌, map, length, drop, Some, None, inl, inr, refl, sym, ap, ◌∙◌, subst, arith}
+use Rattle.std.specs.Prelude.{◌==◌, slice_get, option_to_list}
+use Rattle.std.specs.List.{list_any, find, count_by}
+use Rattle.std.proofs.lemmas.Bool.{false≢true, both_ways, cond_both, cond-true, cond-false, cases_Bool, and_parts, and_from, or_cases, eqb-true, eq-eqb}
 use Rattle.std.proofs.lemmas.Option.{none-some, same_Some}
 use Rattle.dots_history.specs.declared.entry.Entry.{Entry}
 use Rattle.dots_history.specs.declared.put.Put.{Put}
-use Rattle.dots_history.specs.declared.change.Change.{Change}
 use Rattle.dots_history.specs.declared.change.Change.TheVariants as change
 use Rattle.dots_history.specs.declared.status.Status.{Status}
 use Rattle.dots_history.specs.declared.status.Status.TheVariants.{Ended, Open, Withdrawn}
@@ -14,12 +13,11 @@ use Rattle.dots_history.specs.Entries.{ends, withdraws, put_of}
 use Rattle.dots_history.specs.Histories.{Mitigation, live, status, mitigations, tally}
 use Rattle.dots_history.specs.Keeping.{is_open}
 use Rattle.dots_history.specs.Places.{Stands, Terminating, Live}
-use Rattle.dots_history.proofs.Fates.{NoneIs, HasFirst, Fate, fate_of}
+use Rattle.dots_history.proofs.Fates.{Fate, fate_of}
 use Rattle.dots_history.proofs.PlaceLaws.{live_at_place, place_is_live, to_after, after_place}
 use Rattle.dots_laws.specs.Views.{mitigations_of}
-use Rattle.dots_laws.proofs.Members.{In, any_of}
+use Rattle.dots_laws.proofs.Members.{In}
 use Rattle.conflict_rules.specs.declared.live.Live.{Live as LiveView}
-use Rattle.live_mitigations.specs.Standing.{puts}
 use Rattle.live_mitigations.specs.Judging.{put_or_nothing, live_of, lives_of}
 use Rattle.judged_entries.specs.Judgements.{LivesIn, StandsIn, Number}
 use Rattle.judged_entries.proofs.Counted.{put_there, live_puts, counted}

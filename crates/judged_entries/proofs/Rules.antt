@@ -1,34 +1,31 @@
 -- Each rule for a request holds of the live mitigations of the domain exactly where it does by their places.
-use Rattle.std.proofs.Common.{◌≡◌, ◌⊎◌, ℕ, zero, suc, ◌+◌, ◌*◌, ◌<◌, ◌≤◌, Bool, true, false, cond, if◌then◌else◌, not, ◌&&◌, ◌||◌, List, [], ◌∷◌, ◌++◌, map, filter, length, Option, Some, None, inl, inr, refl, sym, ap, ◌∙◌, subst, arith}
+use Rattle.std.proofs.Common.{◌≡◌, ℕ, ◌+◌, ◌*◌, ◌<◌, ◌≤◌, Bool, true, false, cond, if◌then◌else◌, not, ◌&&◌, ◌||◌, List, [], ◌∷◌, map, filter, length, Option, Some, None, inl, inr, refl, sym, ap, ◌∙◌, subst, arith}
 use Rattle.std.specs.Prelude.{◌==◌, ◌≢◌, slice_get, option_map, nat_lt, nat_le, max, bytes_eq}
-use Rattle.std.specs.List.{list_any, find, count_by}
-use Rattle.std.proofs.lemmas.Bool.{false≢true, true≢false, both_ways, cond_both, cond-true, cond-false, cases_Bool, cases_order, and_parts, and_from, or_left, or_right, or_cases, or_from, or_parts, eqb-true, eq-eqb, ne_eqb, ltb-true, lt-ltb, not_from_true, not_from_false, false_from_ne_true}
+use Rattle.std.specs.List.{list_any, find}
+use Rattle.std.proofs.lemmas.Bool.{false≢true, both_ways, cond_both, cond-true, cond-false, cases_Bool, cases_order, and_parts, and_from, or_left, or_right, or_cases, or_from, or_parts, eqb-true, eq-eqb, ne_eqb, ltb-true, lt-ltb, false_from_ne_true}
 use Rattle.std.proofs.lemmas.Option.{none-some, same_Some}
 use Rattle.std.proofs.lemmas.Slice.Eq.{bytes_eq-Decides}
 use Rattle.ip_scope.specs.Prefix.{PrefixValue, meets}
 use Rattle.filter_rows.specs.Fates.{greatest, greatest_from}
-use Rattle.dots_settings.specs.Settings.{SettingsValue}
 use Rattle.dots_history.specs.declared.entry.Entry.{Entry}
 use Rattle.dots_history.specs.declared.put.Put.{Put}
-use Rattle.dots_history.specs.declared.put.Target.{Target}
 use Rattle.dots_history.specs.declared.change.Change.TheVariants as change
 use Rattle.dots_history.specs.Entries.{some_prefix, overlaps, ends, replaces, same_client, option_any, put_of}
 use Rattle.dots_history.specs.Histories.{held}
 use Rattle.dots_laws.specs.Tables.{Client}
 use Rattle.dots_laws.proofs.Members.{In, any_of, in_map}
 use Rattle.conflict_rules.specs.declared.live.Live.{Live}
-use Rattle.conflict_rules.specs.Wanted.{wanted}
 use Rattle.conflict_rules.specs.Live.{is_of, stands_for, stands_against, would_end}
 use Rattle.conflict_rules.specs.ByMid as by_mid
 use Rattle.conflict_rules.specs.ByMid.{has_mid}
-use Rattle.conflict_rules.specs.ByOverlap.{is_higher, highest_mid, is_contested, resolved, meets_another, bits, meeting, staying, own_staying}
+use Rattle.conflict_rules.specs.ByOverlap.{is_higher, is_contested, resolved, meets_another, bits, staying, own_staying}
 use Rattle.conflict_rules.proofs.Contesting.{contested_marked}
-use Rattle.live_mitigations.specs.Judging.{live_of, lives_of, put_or_nothing}
-use Rattle.held_things.specs.Held.{registers, registrant, is_of_another}
+use Rattle.live_mitigations.specs.Judging.{lives_of, put_or_nothing}
+use Rattle.held_things.specs.Held.{registers, is_of_another}
 use Rattle.dots_registry.specs.Judging.{collides}
-use Rattle.judged_entries.specs.Judgements.{LivesIn, StandsIn, IsTaken, by_mitigation, by_registration, HasMid, IsHigher, Meets, Those, Stays, StaysOwn, Number}
+use Rattle.judged_entries.specs.Judgements.{StandsIn, IsTaken, by_mitigation, by_registration, HasMid, IsHigher, Meets, Those, Stays, StaysOwn, Number}
 use Rattle.judged_entries.proofs.Places.{At, PassesAt, seen_at, in_found, in_any, seen_there, there_seen, lives_at, at_lives, same_put, standing_at, stands_at, lives_of_standing, number_by, number_passing}
-use Rattle.judged_entries.proofs.HeldPlaces.{Registered, registered_found, found_registered}
+use Rattle.judged_entries.proofs.HeldPlaces.{registered_found, found_registered}
 
 -- ---- small steps
 not_is : (b : Bool) → not b ≡ true → b ≡ false
@@ -245,6 +242,11 @@ module _ (t : ℕ) (entries : List Entry) (client : Client) where
         | inr (inl less) ↦ absurd (never_two mid one other a b less)
         | inr (inr more) ↦ absurd (never_two mid other one b a more)
       ]
+
+  -- one stands
+  pub mid_stands : (mid : ℕ) → list_any (has_mid client.cuid mid) lives ≡ true → (put : Put) × HasMid t entries client mid put
+  mid_stands mid is =
+      let one = found_some (has_mid client.cuid mid) lives is in (one.0.put, mid_there mid one.0 one.1)
 
   -- ---- a higher mid
   pub higher_there : (wants : Put) (i : ℕ) (e : Entry) → At client.domain t entries i e → is_higher client.cuid wants (seen_at entries i e) ≡ true

@@ -2,7 +2,8 @@
 //! body does nothing.
 //!
 //! What is granted, and what is withdrawn, is an entry of the settings' own, is within bounds and fits the history. A domain's
-//! judgements are those of its own entries alone.
+//! judgements are those of its own entries alone. A request is judged exactly as it is by the places of the entries
+//! (`specs/Judgements`).
 //!
 //! `StandsFor` of a registry says nothing of how many live mitigations and aliases a client has, so that its clients keep the
 //! limits is a premise of its own (`specs/Limits`). It goes on with each entry that fits.
