@@ -1,5 +1,5 @@
 -- The parts of an event line are those that a reading from the left finds.
-use Rattle.std.proofs.Common.{◌≡◌, ℕ, ◌^◌, ◌<◌, zero, suc, List, [], ◌∷◌, ◌++◌, codes, decimal, Ok, refl, sym, ap, ◌∙◌, arith, subst}
+use Rattle.std.proofs.Common.{◌≡◌, ℕ, ◌^◌, ◌<◌, zero, suc, List, [], ◌∷◌, ◌++◌, get_or, codes, decimal, Ok, refl, sym, ap, ◌∙◌, arith, subst}
 use Rattle.std.proofs.lemmas.Fmt.{decimal_injective}
 use Rattle.std.proofs.lemmas.List.{append_cancel_left}
 use Rattle.std.specs.Char.{digit_value}
@@ -70,17 +70,6 @@ pub from_is : (words rest : List ℕ) (from : ℕ) (digits : List ℕ) (peer : �
     → (from ≡ peer) × (digits ≡ h.digits)
 from_is words rest from digits peer bytes h is after = one_number rest from peer digits h.digits after (from_of words rest peer bytes h is)
 
--- where the words are of no datagram they say no event
-pub no_words : (words : List ℕ) (event : Event) → ((peer : ℕ) (bytes : List ℕ) → IsDatagram words peer bytes → ⊥) → SaysEvent words event → ⊥
-no_words words (event.Datagram peer bytes) none h = none peer bytes h
-no_words words (event.Opened conn peer) none h = h
-no_words words (event.Piece conn bytes) none h = h
-no_words words (event.Closed conn) none h = h
-no_words words event.Tick none h = h
-no_words words event.Restart none h = h
-no_words words event.End none h = h
-no_words words event.Failed none h = h
-
 -- ---- a line says one event
 
 one_datagram : (words : List ℕ) (peer from : ℕ) (bytes others : List ℕ) → IsDatagram words peer bytes → IsDatagram words from others → (peer ≡ from) × (bytes ≡ others)
@@ -90,6 +79,11 @@ one_datagram words peer from bytes others h g =
     let read : decode_of h.digits ≡ Ok others = ap decode_of peers.1 ∙ g.read.bytes_are in
     (peers.0, decode_of-same h.digits bytes others h.read.bytes_are read)
 
+not_both : (words : List ℕ) (peer : ℕ) (bytes : List ℕ) → IsDatagram words peer bytes → words ≡ codes "tick" → ⊥
+not_both words peer bytes h tick =
+    let first : 102 ≡ 116 = ap (λ text. get_or text 0 0) (sym h.spelled ∙ tick) in
+    absurd (omega (arith, first))
+
 one_saying : (words : List ℕ) (event other : Event) → SaysEvent words event → SaysEvent words other → event ≡ other
 one_saying words (event.Datagram peer bytes) (event.Datagram from others) h g =
     let same = one_datagram words peer from bytes others h g in
@@ -97,14 +91,21 @@ one_saying words (event.Datagram peer bytes) (event.Datagram from others) h g =
 one_saying words (event.Datagram peer bytes) (event.Opened a b) h g = absurd g
 one_saying words (event.Datagram peer bytes) (event.Piece a b) h g = absurd g
 one_saying words (event.Datagram peer bytes) (event.Closed a) h g = absurd g
-one_saying words (event.Datagram peer bytes) event.Tick h g = absurd g
+one_saying words (event.Datagram peer bytes) event.Tick h g = absurd (not_both words peer bytes h g)
 one_saying words (event.Datagram peer bytes) event.Restart h g = absurd g
 one_saying words (event.Datagram peer bytes) event.End h g = absurd g
 one_saying words (event.Datagram peer bytes) event.Failed h g = absurd g
 one_saying words (event.Opened a b) other h g = absurd h
 one_saying words (event.Piece a b) other h g = absurd h
 one_saying words (event.Closed a) other h g = absurd h
-one_saying words event.Tick other h g = absurd h
+one_saying words event.Tick (event.Datagram peer bytes) h g = absurd (not_both words peer bytes g h)
+one_saying words event.Tick (event.Opened a b) h g = absurd g
+one_saying words event.Tick (event.Piece a b) h g = absurd g
+one_saying words event.Tick (event.Closed a) h g = absurd g
+one_saying words event.Tick event.Tick h g = refl
+one_saying words event.Tick event.Restart h g = absurd g
+one_saying words event.Tick event.End h g = absurd g
+one_saying words event.Tick event.Failed h g = absurd g
 one_saying words event.Restart other h g = absurd h
 one_saying words event.End other h g = absurd h
 one_saying words event.Failed other h g = absurd h

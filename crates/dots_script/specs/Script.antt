@@ -16,9 +16,10 @@ pub record IsDatagram (words : List ℕ) (peer : ℕ) (bytes : List ℕ) : Type 
   pub small : peer < 2 ^ 32
   pub read : IsHex digits bytes
 
--- the words say the event
+-- the words say the event: a datagram, or `tick`, that the time has come
 abbrev pub SaysEvent : List ℕ → Event → Type 0
 SaysEvent words (event.Datagram peer bytes) = IsDatagram words peer bytes
+SaysEvent words event.Tick = words ≡ codes "tick"
 SaysEvent words _ = ⊥
 
 -- `at T` and the words of an event: it comes at this time

@@ -1,8 +1,8 @@
-ghost use Rattle.std.specs.Prelude.{◌≡◌, ◌≢◌, ℕ, List, ◌∷◌, ◌++◌, ◌^◌, ◌<◌, ◌≤◌, length, take, IfSome, IfNone, MatchOption, decimal};
+ghost use Rattle.std.specs.Prelude.{◌≡◌, ◌≢◌, ℕ, List, ◌∷◌, ◌++◌, ◌^◌, ◌<◌, ◌≤◌, length, take, IfSome, IfNone, MatchOption, codes, decimal};
 ghost use Rattle.dots_host.specs.Acts.{IsWithin, OnFailed, event_of};
 ghost use Rattle.dots_host.specs.declared.event.Event.{Event};
 ghost use Rattle.dots_host.specs.declared.TheConstants.{MAX_EVENT_BYTES};
-ghost use Rattle.dots_script.specs.Script.{SaysEvent, IsEventLine};
+ghost use Rattle.dots_script.specs.Script.{IsDatagram, SaysEvent, IsEventLine};
 ghost use Rattle.dots_script.specs.Words.{HasNoSpace, IsAfterNumber};
 
 use decimal_text::parse_decimal;
@@ -42,10 +42,24 @@ fn parse_words(words: &[u8], into: &mut [u8]) -> Option<What>
     ensures within { IfSome result (λ what. IsWithin what MAX_EVENT_BYTES) }
     ensures event { IfSome result (λ what. OnFailed what ⊥) }
 {
-    let Some(rest) = after(words, b"from ") else {
-        return None;
-    };
-    let Some((from, digits)) = number_before_space(rest) else {
+    if words == b"tick".as_slice() {
+        return Some(What::Tick);
+    }
+    if let Some(rest) = after(words, b"from ") {
+        return parse_datagram(rest, into);
+    }
+    None
+}
+
+/// The datagram of the words behind `from`, its bytes at the front of the room.
+fn parse_datagram(words: &[u8], into: &mut [u8]) -> Option<What>
+    requires { length into.old ≡ MAX_EVENT_BYTES }
+    ensures some { IfSome result (λ what. SaysEvent (codes "from " ++ words.now) (event_of what into.new)) }
+    ensures none { IfNone result ((peer : ℕ) (bytes : List ℕ) → ¬ (IsDatagram (codes "from " ++ words.now) peer bytes)) }
+    ensures within { IfSome result (λ what. IsWithin what MAX_EVENT_BYTES) }
+    ensures event { IfSome result (λ what. OnFailed what ⊥) }
+{
+    let Some((from, digits)) = number_before_space(words) else {
         return None;
     };
     if from > u64::from(u32::MAX) {

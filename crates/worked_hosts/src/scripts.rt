@@ -52,8 +52,24 @@ fn a_script_is_read(rt: HostRuntime) -> Result<(), Fail> {
     Ok(())
 }
 
-/// A line that lacks its line feed, a number with leading zeros, half a byte, no byte, and a time of 49 bits. `;` stands for a
-/// line feed.
+#[test]
+fn ticks_are_read(rt: HostRuntime) -> Result<(), Fail> {
+    let script = b"at 1000 from 0 aaff\n\nat 1001 tick\n";
+    let want = [datagram(0, 2, 1000), got(What::Tick, 1001)];
+    assert!(rt; are_events(rt.alloc(), script, &want, b"")?);
+    let script = b"at 0 tick\n# comment\nat 281474976710655 tick\n";
+    let want = [got(What::Tick, 0), got(What::Tick, 281_474_976_710_655)];
+    assert!(rt; are_events(rt.alloc(), script, &want, b"")?);
+    let script = b"at 1001 tick\nat 1000 from 0 aaff\n";
+    let want = [got(What::Tick, 1001), datagram(0, 2, 1000)];
+    assert!(rt; are_events(rt.alloc(), script, &want, b"\xaa\xff")?);
+    let want = [got(What::Tick, 7), got(What::Failed, 0)];
+    assert!(rt; are_events(rt.alloc(), b"at 7 tick\nat 8 tick", &want, b"")?);
+    Ok(())
+}
+
+/// A line that lacks its line feed, a number with leading zeros, half a byte, no byte, a time of 49 bits, a tick with no
+/// time, in capitals or with something around it, and other words. `;` stands for a line feed.
 const FAULTS: &str = "\
 at 1 from 0 00
 # comment
@@ -61,7 +77,24 @@ at 01 from 0 00;
 at 1 from 0 0;
 at 1 from 0 ;
 at 281474976710656 from 0 00;
-at 1 tick;";
+at 1 tick
+at 281474976710656 tick;
+at 01 tick;
+at tick;
+at 1 tick ;
+at 1  tick;
+at 1 tick 0;
+at 1 ticks;
+at 1 tic;
+at 1 TICK;
+at 1 tickfrom 0 00;
+at 1 ;
+at 1;
+at 1 tock;
+at 1 restart;
+at 1 open 5 0;
+at 1 piece 5 00;
+at 1 close 5;";
 
 fn is_fault(alloc: Global, row: &str) -> Result<bool, NoMemory> {
     let mut script = Vec::from_slice(alloc, row.as_bytes())?;
