@@ -1,53 +1,41 @@
-//! What a scope comes to: the prefixes that are asked for, or why they may not be asked for.
+//! Which scopes may be asked for.
 
-ghost use Rattle.std.specs.Prelude.{◌≡◌, ◌≤◌, ◌<◌, ◌^◌, ◌++◌, IfOk, OnOk};
+ghost use Rattle.std.specs.Prelude.{◌≡◌, ◌≤◌, ◌<◌, ◌^◌};
+ghost use Rattle.std.specs.List.{list_any};
 ghost use Rattle.ip_scope.specs.Family.{width};
-ghost use Rattle.ip_scope.specs.Prefix.{prefix_of};
-ghost use Rattle.dots_machine.specs.Targets.{is_target, prefix_fault, first_fault, fault_of_addresses};
-ghost use Rattle.dots_server.specs.Resolving.{IsResolved};
+ghost use Rattle.ip_scope.specs.Prefix.{prefix_of, meets};
+ghost use Rattle.dots_machine.specs.Targets.{is_target, prefix_fault, first_fault, fault_of_addresses, name_fault, scope_fault};
 
-use crate::overlaps::meets_any;
-use acl_lists::{Asked, PrefixList};
-use dots_lists::NoMemory;
+use acl_lists::Asked;
+use dots_lists::Name;
 use dots_machine::TargetFault;
 use dots_settings::Settings;
-use ip_scope::{Addr, Family, Prefix, inside_any};
+use ip_scope::{Addr, Family, Prefix, inside_any, meets};
 
-/// What a scope comes to.
-#[derive(Debug, Drop)]
-pub enum Resolved {
-    /// The asked prefixes, and the addresses of the names in their order.
-    Prefixes(PrefixList),
-    /// The fault of the first asked prefix that has one, else of the first name that has one.
-    Fault(TargetFault),
+/// Why a scope may not be asked for in a domain of these prefixes: the fault of the first asked prefix that has one, else of the
+/// first name that has one.
+pub fn scope_fault(settings: &Settings, domain: &[Prefix], asked: &Asked) -> Option<TargetFault>
+    ensures { result ≡ scope_fault settings.now domain.now asked.now }
+{
+    match first_prefix_fault(domain, asked.prefixes.items()) {
+        Some(fault) => Some(fault),
+        None => first_name_fault(settings, domain, asked.names.items()),
+    }
 }
 
-/// What a scope comes to in a domain of these prefixes. Each name is looked up once.
-pub fn resolve(settings: &Settings, domain: &[Prefix], asked: &Asked) -> Result<Resolved, NoMemory>
-    ensures { IfOk result (IsResolved settings.now domain.now asked.now) }
+fn first_name_fault(
+    settings: &Settings,
+    domain: &[Prefix],
+    names: &[Name],
+) -> Option<TargetFault>
+    ensures { result ≡ first_fault (name_fault settings.now domain.now) names.now }
 {
-    if let Some(fault) = first_prefix_fault(domain, asked.prefixes.items()) {
-        return Ok(Resolved::Fault(fault));
-    }
-    let mut prefixes = asked.prefixes.copy()?;
-    for name in asked.names.items() {
-        let found = settings.addresses(name.bytes());
-        if let Some(fault) = fault_of_addresses(domain, found) {
-            return Ok(Resolved::Fault(fault));
+    for name in names {
+        if let Some(fault) = fault_of_addresses(domain, settings.addresses(name.bytes())) {
+            return Some(fault);
         }
-        push_all(&mut prefixes, found)?;
     }
-    Ok(Resolved::Prefixes(prefixes))
-}
-
-/// Puts more prefixes behind those that are there.
-fn push_all(prefixes: &mut PrefixList, more: &[Prefix]) -> Result<(), NoMemory>
-    ensures { OnOk result (prefixes.new ≡ prefixes.old ++ more.now) }
-{
-    for prefix in more {
-        prefixes.push(*prefix)?;
-    }
-    Ok(())
+    None
 }
 
 fn first_prefix_fault(domain: &[Prefix], prefixes: &[Prefix]) -> Option<TargetFault>
@@ -96,6 +84,13 @@ fn is_target(prefix: &Prefix) -> bool
         block(Family::V6, 255 << 120, 8),
     ];
     !meets_any(prefix, &never)
+}
+
+/// Whether a prefix meets one of these.
+fn meets_any(prefix: &Prefix, list: &[Prefix]) -> bool
+    ensures { result ≡ list_any (meets prefix.now) list.now }
+{
+    list.iter().any(|other| meets(prefix, other))
 }
 
 fn block(family: Family, number: u128, length: u8) -> Prefix
