@@ -17,7 +17,7 @@ use Rattle.dots_heads.specs.declared.request.MitigationPath.{MitigationPath}
 use Rattle.dots_keys.specs.declared.request.Request.{Request}
 use Rattle.dots_keys.specs.declared.request.Request.TheVariants as request
 use Rattle.dots_keys.specs.declared.request.MitigationBody.{MitigationBody}
-use Rattle.judged_entries.proofs.Apart.{judgement_apart, collision_apart, shown_apart}
+use Rattle.judged_entries.proofs.Alone.{judged_apart, collides_apart, shown_apart}
 use Rattle.dots_machine.specs.declared.exchange.Exchange.{Exchange}
 use Rattle.dots_machine.specs.declared.received.Received.{Received}
 use Rattle.dots_machine.specs.declared.received.Received.TheVariants as received
@@ -76,15 +76,15 @@ module _ (settings : SettingsValue) where
           let a : MitigationRequest = record { from = from; mid = mid; body = body } in
           ap (λ t. put_verdict settings t one.history a) same.time
           ∙ ap (λ r. unless_faulty from.exchange (scope_fault settings (prefixes_of settings from.domain) body.asked) (judged other.time a r))
-          (judgement_apart settings other.time from.domain (request_of a) one.history other.history own)
+          (judged_apart settings other.time one.history other.history from.domain (request_of a) own)
 
       taken_same : is_taken one.time one.history from ≡ is_taken other.time other.history from
       taken_same =
           ap (λ t. is_taken t one.history from) same.time
-          ∙ collision_apart other.time from.peer (record { domain = from.domain; cuid = from.cuid }) one.history other.history own
+          ∙ collides_apart other.time one.history other.history from.peer (record { domain = from.domain; cuid = from.cuid }) own
 
       lives_same : lives one.time one.history from ≡ lives other.time other.history from
-      lives_same = ap (λ t. lives t one.history from) same.time ∙ shown_apart from.domain from.cuid other.time one.history other.history own
+      lives_same = ap (λ t. lives t one.history from) same.time ∙ shown_apart other.time one.history other.history from.domain from.cuid own
 
       delete_same : (mid : ℕ) → delete_verdict one.time one.history from mid ≡ delete_verdict other.time other.history from mid
       delete_same mid =

@@ -1,9 +1,9 @@
+pub mod Accepting
 pub mod Bodies
 pub mod CommaTexts
-pub mod Granting
 pub mod Keeping
-pub mod LineTexts
 pub mod Puts
 pub mod Received
 pub mod Reports
+pub mod Scopes
 pub mod Verdicts

@@ -1,15 +1,38 @@
 -- The report of a server is the machine's.
-use Rattle.std.proofs.Common.{◌≡◌, ℕ, List, [], flat_map, false, refl, sym, ap, ◌∙◌, subst}
+use Rattle.std.proofs.Common.{◌≡◌, ℕ, List, [], ◌∷◌, ◌++◌, map, filter, flat_map, false, true, refl, sym, ap, ◌∙◌, subst}
 use Rattle.dots_host.proofs.WriteLemmas.{owes_all}
+use Rattle.filter_rows.specs.declared.rows.ScrubRow.{ScrubRow}
+use Rattle.filter_rows.specs.Fates.{fate_by_rows}
+use Rattle.filter_table.specs.Held.{HeldScrub, row_of_scrub, row_of_acl, is_active, active_rows}
+use Rattle.filter_table.specs.declared.held.HeldAcl.{HeldAcl}
 use Rattle.dots_settings.specs.Settings.{SettingsValue}
+use Rattle.dots_settings.specs.Lookups.{prefixes_of}
+use Rattle.dots_history.specs.Rows.{Row, plain_row, scrub_rows, plain_rows, acl_rows}
 use Rattle.dots_machine.specs.Machine.{State}
-use Rattle.dots_machine.specs.Report.{report_of}
+use Rattle.dots_machine.specs.Report.{scrub_line, packet_lines, report_of}
 use Rattle.dots_server.specs.Gathering.{Sunk, HasWritten}
-use Rattle.dots_server.specs.Lines.{scrub_lines}
 use Rattle.dots_server.specs.Standing.{ServerValue, StandsFor}
 
-pub report_is : (server : ServerValue) (settings : SettingsValue) (state : State) → StandsFor server settings state → flat_map (scrub_lines server.settings) server.running ≡ report_of settings state
-report_is server settings state stands = ap (λ s. flat_map (scrub_lines s) server.running) stands.settings_are ∙ ap (flat_map (scrub_lines settings)) stands.running_are
+-- each row of a live mitigation is active
+all_active : (rows : List Row) → filter is_active (map plain_row rows) ≡ map plain_row rows
+all_active [] = refl
+all_active (row ∷ rows) = ap (λ rest. plain_row row ∷ rest) (all_active rows)
+
+-- what a table of these rows has to report
+abbrev pub lines_of : SettingsValue → List HeldScrub → List HeldAcl → List ℕ
+lines_of settings scrubs acls =
+    flat_map (scrub_line settings) (active_rows scrubs)
+    ++ packet_lines (fate_by_rows (prefixes_of settings) (map row_of_scrub scrubs) (map row_of_acl acls)) 1 settings.packets
+
+pub report_is : (server : ServerValue) (settings : SettingsValue) (state : State) (scrubs : List HeldScrub) (acls : List HeldAcl) → StandsFor server settings state
+    → map row_of_scrub scrubs ≡ plain_rows state.time state.history → map row_of_acl acls ≡ acl_rows state.time state.history
+    → lines_of server.settings scrubs acls ≡ report_of settings state
+report_is server settings state scrubs acls stands rows lists =
+    ap (λ s. lines_of s scrubs acls) stands.settings_are
+    ∙ ap (λ active. flat_map (scrub_line settings) active ++ packet_lines (fate_by_rows (prefixes_of settings) (map row_of_scrub scrubs) (map row_of_acl acls)) 1 settings.packets)
+    (ap (filter is_active) rows ∙ all_active (scrub_rows state.time state.history))
+    ∙ ap (λ held. flat_map (scrub_line settings) (plain_rows state.time state.history) ++ packet_lines (fate_by_rows (prefixes_of settings) held (map row_of_acl acls)) 1 settings.packets) rows
+    ∙ ap (λ held. flat_map (scrub_line settings) (plain_rows state.time state.history) ++ packet_lines (fate_by_rows (prefixes_of settings) (plain_rows state.time state.history) held) 1 settings.packets) lists
 
 pub nothing_written : (now : Sunk) → HasWritten now now false [] []
 nothing_written now = (owes_all now.held [], refl)
