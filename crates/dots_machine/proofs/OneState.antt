@@ -14,6 +14,8 @@ use Rattle.dots_machine.specs.declared.verdict.Verdict.{Verdict}
 use Rattle.dots_machine.specs.declared.verdict.Verdict.TheVariants as verdict
 use Rattle.dots_machine.specs.declared.received.Received.{Received}
 use Rattle.dots_machine.specs.Domains.{is_gateway}
+use Rattle.dots_machine.specs.Exchanges.{exchange_in}
+use Rattle.dots_machine.specs.Replies.{unavailable}
 use Rattle.dots_machine.specs.Machine.{State, later, verdict_on, Decides, by_silence, by_rules, for_want_of_memory, sends_of, after, Answers, Step}
 use Rattle.dots_machine.proofs.OneRequest.{Same, one, first_refused, second_refused, same_received}
 use Rattle.dots_machine.proofs.Outcomes.{code_of, is_success, IsAccept, IsRefusal, SucceedsWell, reject_refuses, succeeds}
@@ -58,7 +60,7 @@ module _ (settings : SettingsValue) (state : State) (peer : ℕ) (datagram : Lis
   one_accept v w (by_rules n got received is) (by_silence m at) same a =
       absurd (subst (λ w. SendsSuccess (sends_of w peer)) at (subst SendsSuccess same (accepts_well v (by_rules n got received is) a)))
   one_accept v w (by_rules n got received is) (for_want_of_memory m lacks) same a =
-      absurd (refusal_sends (verdict.Reply _) peer refl (subst (λ w. SendsSuccess (sends_of w peer)) lacks.answer (subst SendsSuccess same (accepts_well v (by_rules n got received is) a))))
+      absurd (refusal_sends (verdict.Reply (unavailable (exchange_in lacks.message))) peer refl (subst (λ w. SendsSuccess (sends_of w peer)) lacks.answer (subst SendsSuccess same (accepts_well v (by_rules n got received is) a))))
   one_accept v w (by_rules n got received is) (by_rules m other also at) same a = both (same_received datagram gateway got other received also)
     where
       both : Same got other → v ≡ w

@@ -69,7 +69,7 @@ grant time from judged =
     verdict.Accept (granting from.exchange judged) (entry_of time from (granting from.exchange judged) (change.Put judged.put))
 
 abbrev pub judged : ℕ → MitigationRequest → Result Judged PutFault → Verdict
-judged time asked (Ok judged) = grant time asked.from judged
+judged time asked (Ok put) = grant time asked.from put
 judged time asked (Err fault) = refusal asked.from.exchange asked.mid fault
 
 -- one for what may not be asked for is refused before the rules are looked at

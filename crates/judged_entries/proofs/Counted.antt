@@ -1,5 +1,5 @@
 -- How many live mitigations there are after an entry that is granted or withdraws.
-use Rattle.std.proofs.Common.{◌≡◌, ℕ, suc, ◌+◌, ◌<◌, ◌≤◌, Bool, true, false, cond, not, ◌&&◌, ◌||◌, List, [], ◌∷◌, ◌++◌, map, filter, Option, Some, None, Result, Ok, Err, inl, inr, refl, sym, ap, ◌∙◌, subst, arith}
+use Rattle.std.proofs.Common.{◌≡◌, ◌⊎◌, ℕ, suc, ◌+◌, ◌<◌, ◌≤◌, Bool, true, false, cond, not, ◌&&◌, ◌||◌, List, [], ◌∷◌, ◌++◌, map, filter, Option, Some, None, Result, Ok, Err, inl, inr, refl, sym, ap, ◌∙◌, subst, arith}
 use Rattle.std.specs.Prelude.{◌==◌, nat_lt, nat_le, bytes_eq, option_to_list}
 use Rattle.std.specs.List.{list_any, list_all, find, count_by}
 use Rattle.std.proofs.lemmas.Bool.{false≢true, both_ways, cond_both, cond-true, cases_Bool, and_parts, and_from, or_left, or_right, or_cases, eqb-true, eq-eqb, leb-false, false_from_ne_true}
@@ -55,9 +55,10 @@ own_count : (q : Bool) (b : Bool) (x : Mitigation) (test : Mitigation → Bool) 
 own_count q true x test is = let one = at_most_one (test x) in omega (arith, one)
 own_count q false x test is = omega arith
 
-and_true : (b : Bool) → (b && true) ≡ b
-and_true true = refl
-and_true false = refl
+at_least : (a b : Bool) → b ≡ false → cond a 1 0 ≤ cond (a && not b) 1 0
+at_least true true is = absurd (false≢true (sym is))
+at_least true false is = omega arith
+at_least false b is = omega arith
 
 pub left_by : (q : Entry → Bool) (e : Entry) (ms : List Mitigation)
     → tally (λ (m : Mitigation). q m.put) (mitigations_with e ms)
@@ -72,8 +73,7 @@ left_by q e (m ∷ ms) =
     (λ ys. tally (λ (x : Mitigation). q x.put) ys
     ≤ cond (q m.put && not (ends m.put e)) 1 0 + tally (λ (x : Mitigation). q x.put && not (ends x.put e)) ms + cond (live e.time e Open) 1 0)
     (λ alive.
-    let one : cond (q m.put && not (ends m.put e)) 1 0 ≡ cond (q m.put) 1 0 =
-    ap (λ b. cond (q m.put && not b) 1 0) (live_unended m.put m.status e alive) ∙ ap (λ b. cond b 1 0) (and_true (q m.put)) in
+    let one = at_least (q m.put) (ends m.put e) (live_unended m.put m.status e alive) in
     omega (arith, go, one))
     (λ dead. omega (arith, go))
 
@@ -181,17 +181,18 @@ any_lives test q domain (m ∷ ms) leads all is =
     is
     (cases_Bool (m.put.domain == domain))
 
+one_first : (b : Bool) (n : ℕ) → cond b 1 0 + n ≡ cond b (1 + n) n
+one_first true n = refl
+one_first false n = omega arith
+
 pub counted : {A : Type 0} (test : A → Bool) (xs : List A) → tally test xs ≡ count_by test xs
-counted test xs = is_count_by (tally test) test refl (step_of test) xs
-  where
-    step_of : {A : Type 0} (test : A → Bool) (x : A) (xs : List A) → tally test (x ∷ xs) ≡ cond (test x) (1 + tally test xs) (tally test xs)
-    step_of test x xs = by_first (test x) (tally test xs)
-      where
-        by_first : (b : Bool) (n : ℕ) → cond b 1 0 + n ≡ cond b (1 + n) n
-        by_first true n = refl
-        by_first false n = omega arith
+counted test xs = is_count_by (tally test) test refl (λ x ys. one_first (test x) (tally test ys)) xs
 
 -- ---- what a put ends
+bracketed : (a b c : Bool) → ((a && b) && c) ≡ (a && (b && c))
+bracketed true b c = refl
+bracketed false b c = refl
+
 module _ (e : Entry) (put : Put) (asks : e.change ≡ change.Put put) where
   abbrev request : Put
   request = wanted put.mid put.asked put.targets
@@ -218,11 +219,7 @@ module _ (e : Entry) (put : Put) (asks : e.change ≡ change.Put put) where
   client_by m =
       ap (λ b. (b && bytes_eq e.cuid m.put.cuid) && not (ends m.put e)) (turned_eq e.domain m.put.domain)
       ∙ ap (λ b. ((m.put.domain == e.domain) && b) && not (ends m.put e)) (turned_bytes e.cuid m.put.cuid)
-      ∙ further (m.put.domain == e.domain) (bytes_eq m.put.cuid e.cuid) (not (ends m.put e))
-    where
-      further : (a b c : Bool) → ((a && b) && c) ≡ (a && (b && c))
-      further true b c = refl
-      further false b c = refl
+      ∙ bracketed (m.put.domain == e.domain) (bytes_eq m.put.cuid e.cuid) (not (ends m.put e))
 
   -- and the client's own
   stay_own : (t : ℕ) (entries : List Entry)

@@ -168,19 +168,16 @@ pub limits_empty : (limits : Limits) (t : ℕ) → ClientsKeepLimits limits t []
 limits_empty limits t = record { live = λ client. omega arith; aliased = λ client. omega arith }
 
 fewer_at : (q : Mitigation → Bool) (u : ℕ) (ms : List Mitigation) → tally q (mitigations_at u ms) ≤ tally q ms
-fewer_at q u ms = tally_filter q (λ (m : Mitigation). live u m.put m.status) ms
-  where
-    tally_filter : (q keep : Mitigation → Bool) (ms : List Mitigation) → tally q (filter keep ms) ≤ tally q ms
-    tally_filter q keep [] = omega arith
-    tally_filter q keep (m ∷ ms) =
-        let go = tally_filter q keep ms in
-        cond_both
-        (keep m)
-        (m ∷ filter keep ms)
-        (filter keep ms)
-        (λ ys. tally q ys ≤ cond (q m) 1 0 + tally q ms)
-        (λ stays. omega (arith, go))
-        (λ goes. omega (arith, go))
+fewer_at q u [] = omega arith
+fewer_at q u (m ∷ ms) =
+    let go = fewer_at q u ms in
+    cond_both
+    (live u m.put m.status)
+    (m ∷ mitigations_at u ms)
+    (mitigations_at u ms)
+    (λ ys. tally q ys ≤ cond (q m) 1 0 + tally q ms)
+    (λ stays. omega (arith, go))
+    (λ goes. omega (arith, go))
 
 pub limits_later : (limits : Limits) (t u : ℕ) (entries : List Entry) → t ≤ u → ClientsKeepLimits limits t entries → ClientsKeepLimits limits u entries
 limits_later limits t u entries later clients = record {
