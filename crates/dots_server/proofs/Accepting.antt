@@ -25,7 +25,7 @@ use Rattle.dots_machine.specs.Replies.{granting, deleted}
 use Rattle.dots_machine.specs.Mitigations.{request_of, entry_of}
 use Rattle.dots_machine.specs.Machine.{State}
 use Rattle.dots_server.specs.Standing.{ServerValue, StandsFor, IsAcceptable}
-use Rattle.dots_server.proofs.Scopes.{lies_inside}
+use Rattle.dots_server.proofs.Insides.{lies_inside}
 
 few_within : (asked : Asked) → AreFew asked → asked_within asked ≡ true
 few_within asked few =

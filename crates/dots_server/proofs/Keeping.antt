@@ -6,7 +6,7 @@ use Rattle.std.proofs.lemmas.List.Folds.{list_all-append}
 use Rattle.dots_host.specs.declared.event.What.{What}
 use Rattle.dots_host.specs.declared.event.What.TheVariants as what_is
 use Rattle.dots_host.specs.Acts.{event_of}
-use Rattle.dots_settings.specs.Settings.{SettingsValue, IsSettings}
+use Rattle.dots_settings.specs.Settings.{SettingsValue}
 use Rattle.dots_history.specs.declared.entry.Entry.{Entry}
 use Rattle.dots_history.specs.Bounds.{within_bounds}
 use Rattle.dots_laws.specs.Calm.{is_own}
@@ -19,10 +19,10 @@ use Rattle.dots_machine.specs.Machine.{State, begun_at, later, with_entry, Step}
 use Rattle.dots_server.specs.Standing.{ServerValue, StandsFor, IsLiving, IsAcceptable}
 
 -- a server that begins
-pub stands_first : (settings : SettingsValue) (at : ℕ) (r : RegistryValue) → at < 2 ^ 48 → IsSettings settings → IsOf settings r → registry.StandsFor r [] → time_of r ≡ at
+pub stands_first : (settings : SettingsValue) (at : ℕ) (r : RegistryValue) → at < 2 ^ 48 → IsOf settings r → registry.StandsFor r [] → time_of r ≡ at
     → StandsFor (record { settings = settings; registry = r }) settings (begun_at at)
-stands_first settings at r early valid is_of stands time =
-    record { settings_are = refl; valid = valid; is_of = is_of; registry = stands; time_is = time; early = early; own = refl; bounded = refl; limits = limits_empty settings.limits at }
+stands_first settings at r early is_of stands time =
+    record { settings_are = refl; is_of = is_of; registry = stands; time_is = time; early = early; own = refl; bounded = refl; limits = limits_empty settings.limits at }
 
 -- the time of the registry was moved
 module _ (at : ℕ) (old new : ServerValue) (early : at < 2 ^ 48) (same : new.settings ≡ old.settings) (time : time_of new.registry ≡ max at (time_of old.registry))
@@ -31,7 +31,6 @@ module _ (at : ℕ) (old new : ServerValue) (early : at < 2 ^ 48) (same : new.se
   pub stands_later : (settings : SettingsValue) (state : State) → StandsFor old settings state → StandsFor new settings (later state at)
   stands_later settings state stands = record {
     settings_are = same ∙ stands.settings_are;
-    valid = stands.valid;
     is_of = keeps settings stands.is_of;
     registry = goes state.history stands.registry;
     time_is = time ∙ ap (max at) stands.time_is;
@@ -69,7 +68,6 @@ module _ (entry : Entry) (old new : ServerValue) (can : IsAcceptable old entry) 
       let fits = and_parts _ _ (can.fits settings state stands) in
       let at : entry.time ≡ state.time = can.now ∙ stands.time_is in record {
         settings_are = same ∙ stands.settings_are;
-        valid = stands.valid;
         is_of = keeps settings stands.is_of;
         registry = goes state.history stands.registry;
         time_is = time ∙ at;

@@ -1,3 +1,4 @@
+pub mod Acting
 pub mod Accepting
 pub mod Bodies
 pub mod CommaTexts
@@ -5,5 +6,6 @@ pub mod Keeping
 pub mod Puts
 pub mod Received
 pub mod Reports
-pub mod Scopes
+pub mod Insides
+pub mod Told
 pub mod Verdicts

@@ -1,6 +1,6 @@
 -- What is decided on a request.
-use Rattle.std.proofs.Common.{◌≡◌, ℕ, Bool, Option, true, false, List, Some, None, refl, sym, ap, ◌∙◌, subst}
-use Rattle.std.specs.Prelude.{not, Result, Ok, Err, IfOk}
+use Rattle.std.proofs.Common.{◌≡◌, ◌≢◌, ℕ, Bool, Option, true, false, List, Some, None, refl, sym, ap, ◌∙◌, subst}
+use Rattle.std.specs.Prelude.{not, Result, Ok, Err, IfOk, OnOk}
 use Rattle.std.specs.Option.{is_some}
 use Rattle.std.proofs.lemmas.Bool.{false≢true}
 use Rattle.dots_history.specs.declared.entry.Entry.{Entry}
@@ -13,7 +13,9 @@ use Rattle.dots_keys.specs.declared.request.MitigationBody.{MitigationBody}
 use Rattle.dots_settings.specs.Settings.{SettingsValue}
 use Rattle.dots_settings.specs.Lookups.{role_of, prefixes_of}
 use Rattle.put_judging.specs.declared.fault.PutFault.{PutFault}
+use Rattle.put_judging.specs.declared.fault.PutFault.TheVariants as faults
 use Rattle.put_judging.specs.declared.judging.Judged.{Judged}
+use Rattle.put_judging.specs.Results.{Fails}
 use Rattle.dots_registry.specs.Standing.{time_of}
 use Rattle.dots_registry.specs.Judging.{judge_request}
 use Rattle.dots_machine.specs.declared.target.TargetFault.{TargetFault}
@@ -32,6 +34,25 @@ use Rattle.dots_server.specs.Standing.{ServerValue, StandsFor}
 pub if_ok : {A E : Type 0} (r : Result A E) (P Q : A → Type 0) → ((x : A) → P x → Q x) → IfOk r P → IfOk r Q
 if_ok (Ok x) P Q f p = f x p
 if_ok (Err e) P Q f p = tt
+
+pub if_both : {A E : Type 0} (r : Result A E) (P Q : A → Type 0) (X Y : Type 0) → ((x : A) → P x → X → Y → Q x) → IfOk r P → OnOk r X → OnOk r Y → IfOk r Q
+if_both (Ok x) P Q X Y f p s t = f x p s t
+if_both (Err e) P Q X Y f p s t = tt
+
+pub if_one : {A E : Type 0} (r : Result A E) (P Q : A → Type 0) (X : Type 0) → ((x : A) → P x → X → Q x) → IfOk r P → OnOk r X → IfOk r Q
+if_one (Ok x) P Q X f p s = f x p s
+if_one (Err e) P Q X f p s = tt
+
+-- a fault that isn't want of memory is the judgement's
+pub fails_known : (fault : PutFault) (judged : Result Judged PutFault) → fault ≢ faults.NoMemory → Fails fault judged → judged ≡ Err fault
+fails_known faults.Collision judged known is = is
+fails_known faults.Changed judged known is = is
+fails_known faults.UnknownAlias judged known is = is
+fails_known faults.TooMany judged known is = is
+fails_known (faults.Higher mid) judged known is = is
+fails_known (faults.Other prefixes) judged known is = is
+fails_known (faults.Capacity which number) judged known is = is
+fails_known faults.NoMemory judged known is = absurd (known refl)
 
 -- what a server finds by its settings
 pub domain_of : (server : ServerValue) (settings : SettingsValue) (state : State) (own : Option ℕ) (cdid : Option (List ℕ)) (found : Option ℕ) → StandsFor server settings state

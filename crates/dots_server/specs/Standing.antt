@@ -1,7 +1,7 @@
 -- What a server keeps: the settings, and a registry of what the history comes to.
 use Rattle.std.specs.Prelude.{◌≡◌, ◌<◌, ◌^◌, ℕ, true, ⊤}
 use Rattle.std.specs.List.{list_all}
-use Rattle.dots_settings.specs.Settings.{SettingsValue, IsSettings}
+use Rattle.dots_settings.specs.Settings.{SettingsValue}
 use Rattle.dots_history.specs.declared.entry.Entry.{Entry}
 use Rattle.dots_history.specs.Bounds.{within_bounds}
 use Rattle.dots_laws.specs.Calm.{is_own}
@@ -21,7 +21,6 @@ pub record ServerValue : Type 0 where
 -- 2^48; and the entries are the settings' own and within bounds, and the clients keep the limits.
 pub record StandsFor (server : ServerValue) (settings : SettingsValue) (state : State) : Type 0 where
   pub settings_are : server.settings ≡ settings
-  pub valid : IsSettings settings
   pub is_of : IsOf settings server.registry
   pub registry : registry.StandsFor server.registry state.history
   pub time_is : time_of server.registry ≡ state.time

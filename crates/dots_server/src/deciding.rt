@@ -1,6 +1,6 @@
 //! What a server decides on a datagram.
 
-ghost use Rattle.std.specs.Prelude.{◌≡◌, true, IfOk, IfSome, IfNone, Some, None};
+ghost use Rattle.std.specs.Prelude.{◌≡◌, ◌<◌, length, true, IfOk, IfSome, IfNone, Some, None};
 ghost use Rattle.dots_keys.specs.Askable.{IsAskable};
 ghost use Rattle.dots_settings.specs.Settings.{SettingsValue};
 ghost use Rattle.dots_settings.specs.Lookups.{role_of};
@@ -128,7 +128,7 @@ impl Server {
         ensures none { IfNone result (domain_asked self.now.settings own cdid.now ≡ None) }
         ensures acts { IfSome result (λ from. may_act self.now.settings (role_of self.now.settings peer) from.domain ≡ true) }
     {
-        let domain = self.domain_for(own, cdid)?;
+        let domain = self.domain_for(peer, own, cdid)?;
         Some(ClientRequest {
             peer,
             domain,
@@ -138,8 +138,10 @@ impl Server {
     }
 
     /// The domain for which a client of this domain, or a gateway, asks.
-    fn domain_for(&self, own: Option<u16>, cdid: &Option<Name>) -> Option<u16>
-        ensures { result ≡ domain_asked self.now.settings own cdid.now }
+    fn domain_for(&self, peer: u32, own: Option<u16>, cdid: &Option<Name>) -> Option<u16>
+        requires own { IsOwn self.now.settings peer own }
+        ensures domain { result ≡ domain_asked self.now.settings own cdid.now }
+        ensures within { IfSome result (λ domain. domain < length self.now.settings.domains) }
     {
         match (own, cdid) {
             (Some(domain), _) => Some(domain),

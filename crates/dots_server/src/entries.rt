@@ -1,6 +1,6 @@
 //! What is kept of an accepted change.
 
-ghost use Rattle.std.specs.Prelude.{◌≡◌, ◌≤◌, true, length, IfOk};
+ghost use Rattle.std.specs.Prelude.{◌≡◌, ◌≤◌, true, length, IfOk, OnOk};
 ghost use Rattle.dots_lists.specs.Name.{is_name};
 ghost use Rattle.dots_machine.specs.Mitigations.{key_of, entry_of};
 
@@ -19,8 +19,8 @@ pub fn entry_of(
     change: Change,
 ) -> Result<Entry, NoMemory>
     ensures entry { IfOk result (λ entry. entry ≡ entry_of time from.now reply.now change) }
-    ensures cuid { is_name from.now.cuid ≡ true }
-    ensures reply { length reply.now ≤ 64 }
+    ensures cuid { OnOk result (is_name from.now.cuid ≡ true) }
+    ensures reply { OnOk result (length reply.now ≤ 64) }
 {
     let kept = Bytes::from_slice(alloc, reply.bytes())?;
     Ok(Entry {
@@ -47,7 +47,7 @@ fn key_of(kind: Kind, id: u16) -> MessageKey
 /// The name as a text.
 fn text_of(alloc: Global, name: &Name) -> Result<Text, NoMemory>
     ensures text { IfOk result (λ text. text ≡ name.now) }
-    ensures name { is_name name.now ≡ true }
+    ensures name { OnOk result (is_name name.now ≡ true) }
 {
     match Text::new(alloc, name.bytes())? {
         Some(text) => Ok(text),

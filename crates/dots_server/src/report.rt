@@ -1,11 +1,11 @@
 //! The report: a line for each row of a mitigation, and one for each sample packet.
 
-ghost use Rattle.std.specs.Prelude.{◌≡◌, ◌++◌, flat_map, map, decimal};
+ghost use Rattle.std.specs.Prelude.{◌≡◌, ◌++◌, flat_map, map, codes, decimal};
 ghost use Rattle.filter_rows.specs.Fates.{fate_by_rows};
 ghost use Rattle.filter_rows.specs.Told.{fate_of};
 ghost use Rattle.filter_table.specs.Held.{row_of_scrub, row_of_acl, active_rows};
 ghost use Rattle.dots_settings.specs.Lookups.{prefixes_of};
-ghost use Rattle.dots_machine.specs.Report.{any_or, texts_of, ports_text, scrub_line, packet_line, packet_lines};
+ghost use Rattle.dots_machine.specs.Report.{any_or, texts_of, ports_text, scrub_line, fate_text, packet_line, packet_lines};
 ghost use Rattle.dots_server.specs.Gathering.{sunk, Puts};
 ghost use Rattle.dots_server.specs.Lines.{line_front, line_end};
 
@@ -43,35 +43,58 @@ pub fn put_packets<K: Sink>(
     ensures { Puts (sunk K.holds K.faults sink.old) report.old (sunk K.holds K.faults sink.new) report.new
         (packet_lines (fate_by_rows (prefixes_of settings.now) (map row_of_scrub table.now.scrubs) (map row_of_acl table.now.acls)) 1 settings.now.packets) }
 {
-    let mut number: u32 = 1;
-    for packet in settings.packets() {
+    let packets = settings.packets();
+    let mut number: usize = 0;
+    for packet in packets {
+        number += 1;
         let fate = table.fate(packet, settings);
         put_packet(number, &fate, report, sink);
-        number += 1;
     }
 }
 
 /// `packet N FATE`
-fn put_packet<K: Sink>(number: u32, fate: &Fate<'_>, report: &mut Gatherer, sink: &mut K)
+fn put_packet<K: Sink>(number: usize, fate: &Fate<'_>, report: &mut Gatherer, sink: &mut K)
     ensures { Puts (sunk K.holds K.faults sink.old) report.old (sunk K.holds K.faults sink.new) report.new (packet_line number (fate_of fate.now)) }
 {
+    put_number(number, report, sink);
+    put_fate(fate, report, sink);
+    report.put(sink, b"\n");
+}
+
+/// `packet N ` with the blank behind it.
+fn put_number<K: Sink>(number: usize, report: &mut Gatherer, sink: &mut K)
+    ensures { Puts (sunk K.holds K.faults sink.old) report.old (sunk K.holds K.faults sink.new) report.new (codes "packet " ++ decimal number ++ codes " ") }
+{
     let mut digits = itoa::Buffer::new();
-    let mut others = itoa::Buffer::new();
-    let (word, name) = match fate {
-        Fate::Pass => (b"pass".as_slice(), b"".as_slice()),
-        Fate::Accepted { acl } => (b"accepted ".as_slice(), acl.bytes()),
-        Fate::Dropped { acl } => (b"dropped ".as_slice(), acl.bytes()),
-        Fate::Scrubbed { mid } => (b"scrubbed ".as_slice(), others.format(*mid).as_bytes()),
-    };
     let pieces = [
         b"packet ".as_slice(),
         digits.format(number).as_bytes(),
         b" ".as_slice(),
-        word,
-        name,
-        b"\n".as_slice(),
     ];
     report.put_all(sink, &pieces)
+}
+
+/// What becomes of a packet, in words.
+fn put_fate<K: Sink>(fate: &Fate<'_>, report: &mut Gatherer, sink: &mut K)
+    ensures { Puts (sunk K.holds K.faults sink.old) report.old (sunk K.holds K.faults sink.new) report.new (fate_text (fate_of fate.now)) }
+{
+    match fate {
+        Fate::Pass => report.put(sink, b"pass"),
+        Fate::Accepted { acl } => put_with(b"accepted ", acl.bytes(), report, sink),
+        Fate::Dropped { acl } => put_with(b"dropped ", acl.bytes(), report, sink),
+        Fate::Scrubbed { mid } => {
+            let mut digits = itoa::Buffer::new();
+            put_with(b"scrubbed ", digits.format(*mid).as_bytes(), report, sink);
+        }
+    }
+}
+
+/// A word and what stands behind it.
+fn put_with<K: Sink>(word: &[u8], behind: &[u8], report: &mut Gatherer, sink: &mut K)
+    ensures { Puts (sunk K.holds K.faults sink.old) report.old (sunk K.holds K.faults sink.new) report.new (word.now ++ behind.now) }
+{
+    report.put(sink, word);
+    report.put(sink, behind);
 }
 
 /// `scrub DOMAIN CUID MID PREFIX ` with the blank behind it.

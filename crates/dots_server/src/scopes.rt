@@ -23,11 +23,7 @@ pub fn scope_fault(settings: &Settings, domain: &[Prefix], asked: &Asked) -> Opt
     }
 }
 
-fn first_name_fault(
-    settings: &Settings,
-    domain: &[Prefix],
-    names: &[Name],
-) -> Option<TargetFault>
+fn first_name_fault(settings: &Settings, domain: &[Prefix], names: &[Name]) -> Option<TargetFault>
     ensures { result ≡ first_fault (name_fault settings.now domain.now) names.now }
 {
     for name in names {

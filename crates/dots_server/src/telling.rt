@@ -31,24 +31,15 @@ pub fn conflicting(
 }
 
 /// 2.05, with these mitigations (RFC 9132, section 4.4.2).
-pub fn telling(
-    alloc: Global,
-    exchange: &Exchange,
-    views: ViewList<'_>,
-) -> Result<Bytes, NoMemory>
-    ensures { IfOk result (λ reply. reply ≡ with_body CONTENT exchange.now (canon (views_tree views))) }
+pub fn telling(alloc: Global, exchange: &Exchange, views: ViewList<'_>) -> Result<Bytes, NoMemory>
+    ensures { IfOk result (λ reply. reply ≡ with_body CONTENT exchange.now (canon (views_tree views.entry))) }
 {
     let body = body_of(alloc, &Reply::Mitigations(views))?;
     told(alloc, CONTENT, exchange, body.items())
 }
 
 /// A reply with a body of CBOR.
-fn told(
-    alloc: Global,
-    code: u8,
-    exchange: &Exchange,
-    body: &[u8],
-) -> Result<Bytes, NoMemory>
+fn told(alloc: Global, code: u8, exchange: &Exchange, body: &[u8]) -> Result<Bytes, NoMemory>
     requires { code ≢ 0 }
     ensures { IfOk result (λ reply. reply ≡ with_body code exchange.now body.now) }
 {
