@@ -68,12 +68,12 @@ module _ (fate : Packet → Fate) where
       ∙ sym (append_assoc (packet_line n (fate p)) (packet_lines fate (n + 1) (take i ps)) (packet_line (n + 1 + i) (fate (get_or ps i d))))
       ∙ ap (λ m. (packet_line n (fate p) ++ packet_lines fate (n + 1) (take i ps)) ++ packet_line m (fate (get_or ps i d))) (omega arith)
 
-  pub puts_packet : (a b c : Sunk) (g h k : Gathered) (packets : List Packet) (i : ℕ) (d : Packet) (f : Fate) → i < length packets → f ≡ fate (get_or packets i d)
-      → Puts a g b h (packet_lines fate 1 (take i packets)) → (n : ℕ) → n ≡ i + 1 → Puts b h c k (packet_line n f) → Puts a g c k (packet_lines fate 1 (take (suc i) packets))
-  puts_packet a b c g h k packets i d f within is first n at second =
+  pub puts_packet : (a b c : Sunk) (g h k : Gathered) (packets : List Packet) (i : ℕ) (p : Packet) (n : ℕ) → i < length packets → p ≡ get_or packets i p
+      → Puts a g b h (packet_lines fate 1 (take i packets)) → Puts b h c k (packet_line n (fate p)) → n ≡ i + 1 → Puts a g c k (packet_lines fate 1 (take (suc i) packets))
+  puts_packet a b c g h k packets i p n within is first second at =
       puts_same a c g k _ _
-      (ap (λ f. packet_lines fate 1 (take i packets) ++ packet_line n f) is ∙ ap (λ m. packet_lines fate 1 (take i packets) ++ packet_line m (fate (get_or packets i d))) (omega (arith, at))
-      ∙ sym (packet_lines_more 1 packets i d within))
+      (ap (λ p. packet_lines fate 1 (take i packets) ++ packet_line n (fate p)) is ∙ ap (λ m. packet_lines fate 1 (take i packets) ++ packet_line m (fate (get_or packets i p))) (omega (arith, at))
+      ∙ sym (packet_lines_more 1 packets i p within))
       (puts_then a b c g h k _ _ first second)
 
 pub nothing_written : (now : Sunk) → HasWritten now now false [] []

@@ -11,6 +11,7 @@ ghost use Rattle.dots_server.specs.Lines.{line_front, line_end};
 
 use crate::gathering::Gatherer;
 use crate::naming::name_of;
+use acl_lists::Packet;
 use dots_host::Sink;
 use dots_settings::Settings;
 use filter_rows::{Fate, ScrubRow};
@@ -47,17 +48,25 @@ pub fn put_packets<K: Sink>(
     let mut number: usize = 0;
     for packet in packets {
         number += 1;
-        let fate = table.fate(packet, settings);
-        put_packet(number, &fate, report, sink);
+        put_packet(settings, table, number, packet, report, sink);
     }
 }
 
-/// `packet N FATE`
-fn put_packet<K: Sink>(number: usize, fate: &Fate<'_>, report: &mut Gatherer, sink: &mut K)
-    ensures { Puts (sunk K.holds K.faults sink.old) report.old (sunk K.holds K.faults sink.new) report.new (packet_line number (fate_of fate.now)) }
+/// `packet N FATE`, with the fate by the table.
+fn put_packet<K: Sink>(
+    settings: &Settings,
+    table: &FilterTable,
+    number: usize,
+    packet: &Packet,
+    report: &mut Gatherer,
+    sink: &mut K,
+)
+    ensures { Puts (sunk K.holds K.faults sink.old) report.old (sunk K.holds K.faults sink.new) report.new
+        (packet_line number (fate_by_rows (prefixes_of settings.now) (map row_of_scrub table.now.scrubs) (map row_of_acl table.now.acls) packet.now)) }
 {
+    let fate = table.fate(packet, settings);
     put_number(number, report, sink);
-    put_fate(fate, report, sink);
+    put_fate(&fate, report, sink);
     report.put(sink, b"\n");
 }
 
