@@ -1,5 +1,4 @@
 pub mod Apart
-pub mod Containment
 pub mod OneAnswer
 pub mod OneRequest
 pub mod OneState

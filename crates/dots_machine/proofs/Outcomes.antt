@@ -1,129 +1,177 @@
--- What a verdict comes to: a reply that isn't 2.01 and changes nothing, silence, or the entry of a request without a fault.
-use Rattle.std.proofs.Common.{◌≡◌, ℕ, Bool, true, false, List, [], ◌∷◌, Option, Some, None, refl, sym, subst, ap, ◌∙◌, arith}
+-- Of what is accepted the client is told with a success, 2.01, 2.02 or 2.04; of what is refused, or can't be served, never.
+use Rattle.std.proofs.Common.{◌≡◌, ℕ, ◌==◌, Bool, true, false, ◌||◌, List, [], ◌∷◌, Option, Some, None, Result, Ok, Err, refl}
+use Rattle.std.specs.List.{list_any}
 use Rattle.coap_message.specs.declared.kind.Kind.{Kind}
 use Rattle.coap_message.specs.declared.kind.Kind.TheVariants.{Con, Non, Ack, Rst}
 use Rattle.dots_settings.specs.Settings.{SettingsValue}
-use Rattle.dots_history.specs.Histories.{is_nil}
+use Rattle.dots_settings.specs.Lookups.{role_of, prefixes_of}
 use Rattle.dots_heads.specs.declared.reject.Reject.{Reject}
 use Rattle.dots_heads.specs.declared.reject.Reject.TheVariants as reject
+use Rattle.dots_heads.specs.declared.request.Content.{Content}
+use Rattle.dots_heads.specs.declared.request.MitigationPath.{MitigationPath}
 use Rattle.dots_keys.specs.declared.request.Request.{Request}
 use Rattle.dots_keys.specs.declared.request.Request.TheVariants as request
-use Rattle.dots_heads.specs.declared.request.MitigationPath.{MitigationPath}
 use Rattle.dots_keys.specs.declared.request.MitigationBody.{MitigationBody}
+use Rattle.live_mitigations.specs.Reading.{Shown}
+use Rattle.put_judging.specs.declared.fault.PutFault.{PutFault}
+use Rattle.put_judging.specs.declared.fault.PutFault.TheVariants as faults
+use Rattle.put_judging.specs.declared.judging.Judged.{Judged}
+use Rattle.dots_registry.specs.Judging.{judge_request}
 use Rattle.dots_machine.specs.declared.target.TargetFault.{TargetFault}
 use Rattle.dots_machine.specs.declared.exchange.Exchange.{Exchange}
 use Rattle.dots_machine.specs.declared.dismissal.Dismissal.{Dismissal}
 use Rattle.dots_machine.specs.declared.dismissal.Dismissal.TheVariants as dismissal
 use Rattle.dots_machine.specs.declared.received.Received.{Received}
 use Rattle.dots_machine.specs.declared.received.Received.TheVariants as received
+use Rattle.dots_machine.specs.declared.client_request.ClientRequest.{ClientRequest}
 use Rattle.dots_machine.specs.declared.mitigation_request.MitigationRequest.{MitigationRequest}
 use Rattle.dots_machine.specs.declared.verdict.Verdict.{Verdict}
 use Rattle.dots_machine.specs.declared.verdict.Verdict.TheVariants as verdict
-use Rattle.dots_settings.specs.Lookups.{role_of, prefixes_of}
 use Rattle.dots_machine.specs.Domains.{domain_for}
 use Rattle.dots_machine.specs.Targets.{scope_fault}
-use Rattle.dots_heads.specs.RejectText.{reject_code}
-use Rattle.dots_machine.specs.Replies.{rejection}
-use Rattle.dots_machine.specs.Machine.{State, entry_of, reply_to, conflicts, judged, put_verdict, in_domain, put_in, asked_verdict, option_verdict, reject_verdict, dismissal_verdict, verdict_on, LacksMemory, Decides, by_silence, by_rules, for_want_of_memory, after}
+use Rattle.dots_machine.specs.Replies.{grant_code, rejection}
+use Rattle.dots_machine.specs.Mitigations.{request_of, refusal, judged, unless_faulty, put_verdict, is_taken, lives, stands_as, delete_by, delete_verdict, tell, get_by, get_verdict}
+use Rattle.dots_machine.specs.Machine.{State, in_domain, asks_for, with_mid, put_in, put_for, delete_for, get_for, asked_verdict, option_verdict, reject_verdict, dismissal_verdict, verdict_on}
 
 abbrev pub code_of : List ℕ → ℕ
 code_of (first ∷ code ∷ bytes) = code
 code_of _ = 0
 
--- silence, or a reply that isn't 2.01
-abbrev pub IsPlain : Verdict → Type 0
-IsPlain verdict.Silent = Unit {0}
-IsPlain (verdict.Reply reply) = code_of reply ≡ 0x41 → ⊥
-IsPlain (verdict.Accept reply entry) = ⊥
+-- 2.01, 2.02 or 2.04
+abbrev pub is_success : ℕ → Bool
+is_success code = (code == 0x41) || ((code == 0x42) || (code == 0x44))
 
-pub plain_after : (v : Verdict) (state : State) → IsPlain v → after v state ≡ state
-plain_after verdict.Silent state plain = refl
-plain_after (verdict.Reply reply) state plain = refl
-plain_after (verdict.Accept reply entry) state plain = absurd plain
+abbrev pub IsAccept : Verdict → Type 0
+IsAccept (verdict.Accept reply entry) = Unit {0}
+IsAccept _ = ⊥
 
-pub data Outcome (settings : SettingsValue) (state : State) (v : Verdict) : Type 0 where
-  plain : IsPlain v → Outcome settings state v
-  accepted : (asked : MitigationRequest) → scope_fault settings (prefixes_of settings asked.domain) asked.body.asked ≡ None
-      → v ≡ verdict.Accept (reply_to settings asked) (entry_of settings state.time asked) → Outcome settings state v
+-- where it accepts, for a domain, it tells a success
+abbrev pub AcceptsWell : ℕ → Verdict → Type 0
+AcceptsWell domain (verdict.Accept reply entry) = (is_success (code_of reply) ≡ true) × (entry.domain ≡ domain)
+AcceptsWell domain _ = Unit {0}
 
-option_plain : (kind : Kind) (reply : List ℕ) → (code_of reply ≡ 0x41 → ⊥) → IsPlain (option_verdict kind reply)
-option_plain Con reply other = other
-option_plain Non reply other = tt
-option_plain Ack reply other = tt
-option_plain Rst reply other = tt
+-- nothing is accepted, nor is a success told
+abbrev pub IsRefusal : Verdict → Type 0
+IsRefusal verdict.Silent = Unit {0}
+IsRefusal (verdict.Reply reply) = is_success (code_of reply) ≡ false
+IsRefusal _ = ⊥
 
-reject_code_is : (e : Reject) → reject_code e ≡ 0x41 → ⊥
-reject_code_is (reject.Critical number) is = absurd (omega (arith, is))
-reject_code_is reject.Path is = absurd (omega (arith, is))
-reject_code_is reject.Method is = absurd (omega (arith, is))
-reject_code_is reject.HopLimit is = absurd (omega (arith, is))
-reject_code_is reject.Parameter is = absurd (omega (arith, is))
-reject_code_is reject.Accept is = absurd (omega (arith, is))
-reject_code_is reject.Format is = absurd (omega (arith, is))
-reject_code_is reject.Query is = absurd (omega (arith, is))
-reject_code_is (reject.Body cause) is = absurd (omega (arith, is))
-reject_code_is reject.NoMemory is = absurd (omega (arith, is))
+option_refuses : (kind : Kind) (reply : List ℕ) → is_success (code_of reply) ≡ false → IsRefusal (option_verdict kind reply)
+option_refuses Con reply none = none
+option_refuses Non reply none = tt
+option_refuses Ack reply none = tt
+option_refuses Rst reply none = tt
 
-pub reject_plain : (exchange : Exchange) (e : Reject) → IsPlain (reject_verdict exchange e)
-reject_plain exchange (reject.Critical number) = option_plain exchange.kind (rejection exchange (reject.Critical number)) (reject_code_is (reject.Critical number))
-reject_plain exchange reject.Path = reject_code_is reject.Path
-reject_plain exchange reject.Method = reject_code_is reject.Method
-reject_plain exchange reject.HopLimit = reject_code_is reject.HopLimit
-reject_plain exchange reject.Parameter = reject_code_is reject.Parameter
-reject_plain exchange reject.Accept = reject_code_is reject.Accept
-reject_plain exchange reject.Format = reject_code_is reject.Format
-reject_plain exchange reject.Query = reject_code_is reject.Query
-reject_plain exchange (reject.Body cause) = reject_code_is (reject.Body cause)
-reject_plain exchange reject.NoMemory = reject_code_is reject.NoMemory
+pub reject_refuses : (exchange : Exchange) (e : Reject) → IsRefusal (reject_verdict exchange e)
+reject_refuses exchange (reject.Critical number) = option_refuses exchange.kind (rejection exchange (reject.Critical number)) refl
+reject_refuses exchange reject.Path = refl
+reject_refuses exchange reject.Method = refl
+reject_refuses exchange reject.HopLimit = refl
+reject_refuses exchange reject.Parameter = refl
+reject_refuses exchange reject.Accept = refl
+reject_refuses exchange reject.Format = refl
+reject_refuses exchange reject.Query = refl
+reject_refuses exchange (reject.Body cause) = refl
+reject_refuses exchange reject.NoMemory = refl
 
-dismissal_plain : (d : Dismissal) → IsPlain (dismissal_verdict d)
-dismissal_plain dismissal.Ignored = tt
-dismissal_plain (dismissal.Reset id) = λ is. absurd (omega (arith, is))
+refusal_accepts : (x : Exchange) (mid domain : ℕ) (fault : PutFault) → AcceptsWell domain (refusal x mid fault)
+refusal_accepts x mid domain faults.Collision = tt
+refusal_accepts x mid domain faults.Changed = tt
+refusal_accepts x mid domain faults.UnknownAlias = tt
+refusal_accepts x mid domain faults.TooMany = tt
+refusal_accepts x mid domain (faults.Higher higher) = tt
+refusal_accepts x mid domain (faults.Other prefixes) = tt
+refusal_accepts x mid domain (faults.Capacity which number) = tt
+refusal_accepts x mid domain faults.NoMemory = tt
+
+grant_succeeds : (refreshed : Bool) → is_success (grant_code refreshed) ≡ true
+grant_succeeds true = refl
+grant_succeeds false = refl
 
 module _ (settings : SettingsValue) (state : State) where
-  judged_outcome : (a : MitigationRequest) (fault : Option TargetFault) (no_alias conflict : Bool) → scope_fault settings (prefixes_of settings a.domain) a.body.asked ≡ fault
-      → Outcome settings state (judged settings state a fault no_alias conflict)
-  judged_outcome a (Some fault) no_alias conflict is = plain (λ is. absurd (omega (arith, is)))
-  judged_outcome a None false conflict is = plain (λ is. absurd (omega (arith, is)))
-  judged_outcome a None true true is = plain (λ is. absurd (omega (arith, is)))
-  judged_outcome a None true false is = accepted a is refl
+  judged_accepts : (a : MitigationRequest) (r : Result Judged PutFault) → AcceptsWell a.from.domain (judged state.time a r)
+  judged_accepts a (Ok j) = (grant_succeeds j.refreshed, refl)
+  judged_accepts a (Err fault) = refusal_accepts a.from.exchange a.mid a.from.domain fault
 
-  put_outcome : (a : MitigationRequest) → Outcome settings state (put_verdict settings state a)
-  put_outcome a =
-      judged_outcome
-      a
-      (scope_fault settings (prefixes_of settings a.domain) a.body.asked)
-      (is_nil a.body.asked.aliases)
-      (conflicts settings state a)
-      refl
+  unless_accepts : (x : Exchange) (domain : ℕ) (fault : Option TargetFault) (v : Verdict) → AcceptsWell domain v → AcceptsWell domain (unless_faulty x fault v)
+  unless_accepts x domain (Some fault) v well = tt
+  unless_accepts x domain None v well = well
 
-  domain_outcome : (exchange : Exchange) (domain : Option ℕ) (f : ℕ → Verdict) → ((d : ℕ) → Outcome settings state (f d)) → Outcome settings state (in_domain exchange domain f)
-  domain_outcome exchange None f each = plain (λ is. absurd (omega (arith, is)))
-  domain_outcome exchange (Some d) f each = each d
+  put_accepts : (a : MitigationRequest) → AcceptsWell a.from.domain (put_verdict settings state.time state.history a)
+  put_accepts a =
+      unless_accepts a.from.exchange a.from.domain (scope_fault settings (prefixes_of settings a.from.domain) a.body.asked) _
+      (judged_accepts a (judge_request settings state.time state.history a.from.domain (request_of a)))
 
-  put_in_outcome : (peer : ℕ) (exchange : Exchange) (path : MitigationPath) (body : MitigationBody) (mid : Option ℕ) (d : ℕ) → Outcome settings state (put_in settings state peer exchange path body mid d)
-  put_in_outcome peer exchange path body None d = plain (λ is. absurd (omega (arith, is)))
-  put_in_outcome peer exchange path body (Some mid) d =
-      put_outcome (record { peer = peer; domain = d; exchange = exchange; cuid = path.cuid; mid = mid; body = body })
+  delete_accepts : (from : ClientRequest) (mid : ℕ) → AcceptsWell from.domain (delete_verdict state.time state.history from mid)
+  delete_accepts from mid = by_test (is_taken state.time state.history from) (list_any (stands_as mid) (lives state.time state.history from))
+    where
+      by_test : (taken stands : Bool) → AcceptsWell from.domain (delete_by state.time from mid taken stands)
+      by_test true stands = tt
+      by_test false true = (refl, refl)
+      by_test false false = tt
 
-  asked_outcome : (peer : ℕ) (exchange : Exchange) (r : Request) → Outcome settings state (asked_verdict settings state peer exchange r)
-  asked_outcome peer exchange (request.PutMitigation path body) =
-      domain_outcome exchange (domain_for settings (role_of settings peer) path.cdid) (put_in settings state peer exchange path body path.mid) (put_in_outcome peer exchange path body path.mid)
-  asked_outcome peer exchange (request.GetMitigation path content observe) =
-      domain_outcome exchange (domain_for settings (role_of settings peer) path.cdid) _ (λ d. plain (λ is. absurd (omega (arith, is))))
-  asked_outcome peer exchange (request.DeleteMitigation path) =
-      domain_outcome exchange (domain_for settings (role_of settings peer) path.cdid) _ (λ d. plain (λ is. absurd (omega (arith, is))))
-  asked_outcome peer exchange (request.PutConfig sid body) = plain (λ is. absurd (omega (arith, is)))
-  asked_outcome peer exchange (request.GetConfig sid) = plain (λ is. absurd (omega (arith, is)))
-  asked_outcome peer exchange (request.DeleteConfig sid) = plain (λ is. absurd (omega (arith, is)))
-  asked_outcome peer exchange (request.PutHeartbeat heard) = plain (λ is. absurd (omega (arith, is)))
+  tell_accepts : (x : Exchange) (domain : ℕ) (content : Content) (ms : List Shown) → AcceptsWell domain (tell x content ms)
+  tell_accepts x domain content [] = tt
+  tell_accepts x domain content (m ∷ ms) = tt
 
-  pub outcome : (peer : ℕ) (got : Received) → Outcome settings state (verdict_on settings state peer got)
-  outcome peer (received.Dismissed d) = plain (dismissal_plain d)
-  outcome peer (received.Refused x e) = plain (reject_plain x e)
-  outcome peer (received.Asked x r) = asked_outcome peer x r
+  get_accepts : (from : ClientRequest) (mid : Option ℕ) (content : Content) → AcceptsWell from.domain (get_verdict state.time state.history from mid content)
+  get_accepts from mid content = by_test (is_taken state.time state.history from)
+    where
+      by_test : (taken : Bool) → AcceptsWell from.domain (get_by from.exchange mid content taken (lives state.time state.history from))
+      by_test true = tt
+      by_test false = tell_accepts from.exchange from.domain content _
 
-  pub decided_outcome : (peer : ℕ) (datagram : List ℕ) (v : Verdict) → Decides settings state peer datagram v → Outcome settings state v
-  decided_outcome peer datagram v (by_silence stranger is) = subst (Outcome settings state) (sym is) (plain tt)
-  decided_outcome peer datagram v (by_rules known got received is) = subst (Outcome settings state) (sym is) (outcome peer got)
-  decided_outcome peer datagram v (for_want_of_memory known lacks) = subst (Outcome settings state) (sym lacks.answer) (plain (λ is. absurd (omega (arith, is))))
+  with_mid_accepts : (x : Exchange) (domain : ℕ) (mid : Option ℕ) (f : ℕ → Verdict) → ((m : ℕ) → AcceptsWell domain (f m)) → AcceptsWell domain (with_mid x mid f)
+  with_mid_accepts x domain None f each = tt
+  with_mid_accepts x domain (Some mid) f each = each mid
+
+  module _ (peer : ℕ) (x : Exchange) where
+    pub puts_accept : (path : MitigationPath) (body : MitigationBody) (domain : ℕ) → AcceptsWell domain (put_for settings state peer x path body domain)
+    puts_accept path body domain =
+        with_mid_accepts x domain path.mid (put_in settings state (asks_for peer x path domain) body)
+        (λ mid. put_accepts (record { from = asks_for peer x path domain; mid = mid; body = body }))
+
+    pub deletes_accept : (path : MitigationPath) (domain : ℕ) → AcceptsWell domain (delete_for state peer x path domain)
+    deletes_accept path domain = with_mid_accepts x domain path.mid _ (delete_accepts (asks_for peer x path domain))
+
+    pub gets_accept : (path : MitigationPath) (content : Content) (domain : ℕ) → AcceptsWell domain (get_for state peer x path content domain)
+    gets_accept path content domain = get_accepts (asks_for peer x path domain) path.mid content
+
+  -- where it accepts it tells a success
+  abbrev pub SucceedsWell : Verdict → Type 0
+  SucceedsWell (verdict.Accept reply entry) = is_success (code_of reply) ≡ true
+  SucceedsWell _ = Unit {0}
+
+  of_domain : (domain : ℕ) (v : Verdict) → AcceptsWell domain v → SucceedsWell v
+  of_domain domain verdict.Silent well = tt
+  of_domain domain (verdict.Reply reply) well = tt
+  of_domain domain (verdict.Told reply) well = tt
+  of_domain domain (verdict.Accept reply entry) well = well.0
+
+  in_domain_succeeds : (x : Exchange) (found : Option ℕ) (f : ℕ → Verdict) → ((d : ℕ) → AcceptsWell d (f d)) → SucceedsWell (in_domain x found f)
+  in_domain_succeeds x None f each = tt
+  in_domain_succeeds x (Some d) f each = of_domain d (f d) (each d)
+
+  asked_succeeds : (peer : ℕ) (x : Exchange) (r : Request) → SucceedsWell (asked_verdict settings state peer x r)
+  asked_succeeds peer x (request.PutMitigation path body) = in_domain_succeeds x (domain_for settings (role_of settings peer) path.cdid) _ (puts_accept peer x path body)
+  asked_succeeds peer x (request.GetMitigation path content observe) = in_domain_succeeds x (domain_for settings (role_of settings peer) path.cdid) _ (gets_accept peer x path content)
+  asked_succeeds peer x (request.DeleteMitigation path) = in_domain_succeeds x (domain_for settings (role_of settings peer) path.cdid) _ (deletes_accept peer x path)
+  asked_succeeds peer x (request.PutConfig sid body) = tt
+  asked_succeeds peer x (request.GetConfig sid) = tt
+  asked_succeeds peer x (request.DeleteConfig sid) = tt
+  asked_succeeds peer x (request.PutHeartbeat heard) = tt
+
+  refusal_succeeds : (v : Verdict) → IsRefusal v → SucceedsWell v
+  refusal_succeeds verdict.Silent none = tt
+  refusal_succeeds (verdict.Reply reply) none = tt
+  refusal_succeeds (verdict.Told reply) none = tt
+  refusal_succeeds (verdict.Accept reply entry) none = absurd none
+
+  dismissal_succeeds : (d : Dismissal) → SucceedsWell (dismissal_verdict d)
+  dismissal_succeeds dismissal.Ignored = tt
+  dismissal_succeeds (dismissal.Reset id) = tt
+
+  pub succeeds : (peer : ℕ) (got : Received) → SucceedsWell (verdict_on settings state peer got)
+  succeeds peer (received.Dismissed d) = dismissal_succeeds d
+  succeeds peer (received.Refused x e) = refusal_succeeds (reject_verdict x e) (reject_refuses x e)
+  succeeds peer (received.Asked x r) = asked_succeeds peer x r

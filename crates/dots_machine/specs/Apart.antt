@@ -1,11 +1,11 @@
 -- How the domains stay apart.
-use Rattle.std.specs.Prelude.{◌≡◌, ◌≢◌, ℕ, List, Some}
+use Rattle.std.specs.Prelude.{◌≡◌, ◌≢◌, ℕ, List, Option, Some, None}
 use Rattle.dots_host.specs.declared.event.Event.{Event}
 use Rattle.dots_host.specs.declared.event.Event.TheVariants as event
 use Rattle.dots_host.specs.declared.out.OwnedOut.{OwnedOut}
 use Rattle.dots_host.specs.Runs.{outs_of}
 use Rattle.dots_heads.specs.declared.request.MitigationPath.{MitigationPath}
-use Rattle.dots_keys.specs.declared.request.MitigationBody.{MitigationBody}
+use Rattle.dots_keys.specs.declared.request.Request.{Request}
 use Rattle.dots_keys.specs.declared.request.Request.TheVariants as request
 use Rattle.dots_settings.specs.Settings.{SettingsValue}
 use Rattle.dots_history.specs.Histories.{alone}
@@ -21,10 +21,17 @@ pub record SameFor (domain : ℕ) (one other : State) : Type 0 where
   pub time : one.time ≡ other.time
   pub entries : alone domain one.history ≡ alone domain other.history
 
--- the event is a request for a mitigation, for this domain
+-- the path of a request for mitigations
+abbrev pub path_of : Request → Option MitigationPath
+path_of (request.PutMitigation path body) = Some path
+path_of (request.GetMitigation path content observe) = Some path
+path_of (request.DeleteMitigation path) = Some path
+path_of _ = None
+
+-- the event is a request for mitigations of this domain
 pub data AsksFor (settings : SettingsValue) (domain : ℕ) (what : Event) : Type 0 where
-  by_datagram : (peer : ℕ) (datagram : List ℕ) (exchange : Exchange) (path : MitigationPath) (body : MitigationBody) → what ≡ event.Datagram peer datagram
-      → IsReceived datagram (is_gateway (role_of settings peer)) (received.Asked exchange (request.PutMitigation path body))
+  by_datagram : (peer : ℕ) (datagram : List ℕ) (exchange : Exchange) (asked : Request) (path : MitigationPath) → what ≡ event.Datagram peer datagram
+      → IsReceived datagram (is_gateway (role_of settings peer)) (received.Asked exchange asked) → path_of asked ≡ Some path
       → domain_for settings (role_of settings peer) path.cdid ≡ Some domain → AsksFor settings domain what
 
 -- A step from one state is for another domain, and leaves the entries of this one as they were; or it can be made from the other

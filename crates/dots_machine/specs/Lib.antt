@@ -3,7 +3,7 @@ pub mod Domains
 pub mod Exchanges
 pub mod Requests
 pub mod Replies
-pub mod Running
+pub mod Mitigations
 pub mod Machine
 pub mod Apart
 pub mod Answering

@@ -1,8 +1,5 @@
 -- The machine: its state, what it decides on a datagram, and a step.
-use Rattle.std.specs.Prelude.{◌≡◌, ℕ, ℤ, pos, Bool, true, false, ◌&&◌, ◌||◌, ◌==◌, bytes_eq, max, List, [], ◌∷◌, ◌++◌, map, Option, Some, None, IsOk}
-use Rattle.std.specs.List.{list_any}
-use Rattle.ip_scope.specs.Prefix.{PrefixValue, meets}
-use Rattle.lifetime_clock.specs.Lifetime.{granted}
+use Rattle.std.specs.Prelude.{◌≡◌, ℕ, Bool, true, false, max, List, [], ◌∷◌, ◌++◌, Option, Some, None, IsOk}
 use Rattle.dots_host.specs.declared.event.Event.{Event}
 use Rattle.dots_host.specs.declared.event.Event.TheVariants as event
 use Rattle.dots_host.specs.declared.out.OwnedOut.{OwnedOut}
@@ -14,37 +11,29 @@ use Rattle.coap_message.specs.Message.{CoapMessage, IsMessage, spelling}
 use Rattle.dots_settings.specs.declared.peer.Role.{Role}
 use Rattle.dots_settings.specs.declared.peer.Role.TheVariants as role
 use Rattle.dots_settings.specs.Settings.{SettingsValue}
+use Rattle.dots_settings.specs.Lookups.{role_of}
 use Rattle.dots_history.specs.declared.entry.Entry.{Entry}
-use Rattle.dots_history.specs.declared.entry.MessageKey.{MessageKey}
-use Rattle.dots_history.specs.declared.entry.MessageKey.TheVariants as key
-use Rattle.dots_history.specs.declared.put.Put.{Put}
-use Rattle.dots_history.specs.declared.change.Change.{Change}
-use Rattle.dots_history.specs.declared.change.Change.TheVariants as change
-use Rattle.dots_history.specs.Entries.{some_prefix}
-use Rattle.dots_history.specs.Histories.{is_nil}
 use Rattle.dots_heads.specs.declared.reject.Reject.{Reject}
 use Rattle.dots_heads.specs.declared.reject.Reject.TheVariants as reject
+use Rattle.dots_heads.specs.declared.request.Content.{Content}
+use Rattle.dots_heads.specs.declared.request.MitigationPath.{MitigationPath}
+use Rattle.dots_heads.specs.Heads.{head_of}
 use Rattle.dots_keys.specs.declared.request.Request.{Request}
 use Rattle.dots_keys.specs.declared.request.Request.TheVariants as request
-use Rattle.dots_heads.specs.declared.request.MitigationPath.{MitigationPath}
 use Rattle.dots_keys.specs.declared.request.MitigationBody.{MitigationBody}
-use Rattle.dots_heads.specs.Heads.{head_of}
-use Rattle.dots_machine.specs.declared.target.TargetFault.{TargetFault}
 use Rattle.dots_machine.specs.declared.exchange.Exchange.{Exchange}
 use Rattle.dots_machine.specs.declared.dismissal.Dismissal.{Dismissal}
 use Rattle.dots_machine.specs.declared.dismissal.Dismissal.TheVariants as dismissal
 use Rattle.dots_machine.specs.declared.received.Received.{Received}
 use Rattle.dots_machine.specs.declared.received.Received.TheVariants as received
-use Rattle.dots_machine.specs.declared.mitigation_request.MitigationRequest.{MitigationRequest}
+use Rattle.dots_machine.specs.declared.client_request.ClientRequest.{ClientRequest}
 use Rattle.dots_machine.specs.declared.verdict.Verdict.{Verdict}
 use Rattle.dots_machine.specs.declared.verdict.Verdict.TheVariants as verdict
-use Rattle.dots_settings.specs.Lookups.{role_of, prefixes_of}
 use Rattle.dots_machine.specs.Domains.{is_gateway, domain_for}
-use Rattle.dots_machine.specs.Targets.{scope_fault, resolved, targets_of}
 use Rattle.dots_machine.specs.Exchanges.{exchange_in, dismissed}
 use Rattle.dots_machine.specs.Requests.{IsReceived}
-use Rattle.dots_machine.specs.Replies.{created, not_implemented, unavailable, reset_message, rejection, bad_parameter, bad_target, conflicting}
-use Rattle.dots_machine.specs.Running.{running}
+use Rattle.dots_machine.specs.Replies.{not_implemented, unavailable, reset_message, rejection, bad_parameter}
+use Rattle.dots_machine.specs.Mitigations.{put_verdict, delete_verdict, get_verdict}
 
 -- the history, and the time of the last event
 pub record State : Type 0 where
@@ -65,90 +54,44 @@ later state at = record state { time = max at state.time }
 abbrev pub with_entry : State → Entry → State
 with_entry state entry = record state { history = state.history ++ entry ∷ [] }
 
--- what is granted of the lifetime, by the settings
-abbrev pub lifetime_of : SettingsValue → MitigationRequest → ℤ
-lifetime_of settings asked = granted asked.body.lifetime (pos settings.ceiling) settings.indefinite
-
-abbrev pub reply_to : SettingsValue → MitigationRequest → List ℕ
-reply_to settings asked = created asked.exchange asked.mid (lifetime_of settings asked)
-
--- the message by which its repeats are known
-abbrev pub key_of : Kind → ℕ → MessageKey
-key_of Con id = key.Con id
-key_of _ id = key.Non id
-
-abbrev pub put_of : SettingsValue → ℕ → MitigationRequest → Put
-put_of settings time asked = record {
-  mid = asked.mid;
-  asked = asked.body.asked;
-  targets = targets_of settings asked.body.asked;
-  granted = lifetime_of settings asked;
-  start = time;
-}
-
--- what is kept of an accepted request
-abbrev pub entry_of : SettingsValue → ℕ → MitigationRequest → Entry
-entry_of settings time asked = record {
-  time = time;
-  peer = asked.peer;
-  domain = asked.domain;
-  cuid = asked.cuid;
-  key = key_of asked.exchange.kind asked.exchange.id;
-  reply = reply_to settings asked;
-  change = change.Put (put_of settings time asked);
-}
-
--- A mitigation is in the way of a request for its domain that has its client and mid, or one of whose prefixes meets one of its
--- own.
-abbrev pub put_in_the_way : MitigationRequest → List PrefixValue → Bool → Change → Bool
-put_in_the_way asked prefixes of_client (change.Put put) =
-    (of_client && (put.mid == asked.mid)) || list_any (λ prefix. some_prefix (meets prefix) put.targets) prefixes
-put_in_the_way asked prefixes of_client _ = false
-
-abbrev pub in_the_way : MitigationRequest → List PrefixValue → Entry → Bool
-in_the_way asked prefixes entry = (entry.domain == asked.domain) && put_in_the_way asked prefixes (bytes_eq entry.cuid asked.cuid) entry.change
-
--- a request that runs is in the way
-abbrev pub conflicts : SettingsValue → State → MitigationRequest → Bool
-conflicts settings state asked = list_any (in_the_way asked (resolved settings asked.body.asked)) (running state.time state.history)
-
--- On a request for a mitigation, by its fault, by whether it names an alias, and by whether it conflicts: it is refused for the
--- fault, isn't served yet, is refused for the conflict, or is accepted.
-abbrev pub judged : SettingsValue → State → MitigationRequest → Option TargetFault → Bool → Bool → Verdict
-judged settings state asked (Some fault) plain conflict = verdict.Reply (bad_target asked.exchange fault)
-judged settings state asked None false conflict = verdict.Reply (not_implemented asked.exchange)
-judged settings state asked None true true = verdict.Reply (conflicting asked.exchange)
-judged settings state asked None true false = verdict.Accept (reply_to settings asked) (entry_of settings state.time asked)
-
-abbrev pub put_verdict : SettingsValue → State → MitigationRequest → Verdict
-put_verdict settings state asked =
-    judged
-    settings
-    state
-    asked
-    (scope_fault settings (prefixes_of settings asked.domain) asked.body.asked)
-    (is_nil asked.body.asked.aliases)
-    (conflicts settings state asked)
-
 -- for a domain that there is, or none
 abbrev pub in_domain : Exchange → Option ℕ → (ℕ → Verdict) → Verdict
 in_domain exchange None decided = verdict.Reply (bad_parameter exchange)
 in_domain exchange (Some domain) decided = decided domain
 
--- A PUT for a mitigation has a mid, or a parameter is missing.
-abbrev pub put_in : SettingsValue → State → ℕ → Exchange → MitigationPath → MitigationBody → Option ℕ → ℕ → Verdict
-put_in settings state peer exchange path body None domain = verdict.Reply (bad_parameter exchange)
-put_in settings state peer exchange path body (Some mid) domain =
-    put_verdict settings state (record { peer = peer; domain = domain; exchange = exchange; cuid = path.cuid; mid = mid; body = body })
+-- who asks, for which domain, with the path of the request
+abbrev pub asks_for : ℕ → Exchange → MitigationPath → ℕ → ClientRequest
+asks_for peer exchange path domain = record { peer = peer; domain = domain; exchange = exchange; cuid = path.cuid }
+
+-- with a mid, or a parameter is missing
+abbrev pub with_mid : Exchange → Option ℕ → (ℕ → Verdict) → Verdict
+with_mid exchange None decided = verdict.Reply (bad_parameter exchange)
+with_mid exchange (Some mid) decided = decided mid
+
+abbrev pub put_in : SettingsValue → State → ClientRequest → MitigationBody → ℕ → Verdict
+put_in settings state from body mid = put_verdict settings state.time state.history (record { from = from; mid = mid; body = body })
+
+-- what is asked of the mitigations of a client in a domain
+abbrev pub put_for : SettingsValue → State → ℕ → Exchange → MitigationPath → MitigationBody → ℕ → Verdict
+put_for settings state peer exchange path body domain =
+    with_mid exchange path.mid (put_in settings state (asks_for peer exchange path domain) body)
+
+abbrev pub delete_for : State → ℕ → Exchange → MitigationPath → ℕ → Verdict
+delete_for state peer exchange path domain =
+    with_mid exchange path.mid (delete_verdict state.time state.history (asks_for peer exchange path domain))
+
+abbrev pub get_for : State → ℕ → Exchange → MitigationPath → Content → ℕ → Verdict
+get_for state peer exchange path content domain =
+    get_verdict state.time state.history (asks_for peer exchange path domain) path.mid content
 
 -- what is asked
 abbrev pub asked_verdict : SettingsValue → State → ℕ → Exchange → Request → Verdict
 asked_verdict settings state peer exchange (request.PutMitigation path body) =
-    in_domain exchange (domain_for settings (role_of settings peer) path.cdid) (put_in settings state peer exchange path body path.mid)
+    in_domain exchange (domain_for settings (role_of settings peer) path.cdid) (put_for settings state peer exchange path body)
 asked_verdict settings state peer exchange (request.GetMitigation path content observe) =
-    in_domain exchange (domain_for settings (role_of settings peer) path.cdid) (λ domain. verdict.Reply (not_implemented exchange))
+    in_domain exchange (domain_for settings (role_of settings peer) path.cdid) (get_for state peer exchange path content)
 asked_verdict settings state peer exchange (request.DeleteMitigation path) =
-    in_domain exchange (domain_for settings (role_of settings peer) path.cdid) (λ domain. verdict.Reply (not_implemented exchange))
+    in_domain exchange (domain_for settings (role_of settings peer) path.cdid) (delete_for state peer exchange path)
 asked_verdict settings state peer exchange _ = verdict.Reply (not_implemented exchange)
 
 -- A message with a critical option that isn't recognised is answered where it is confirmable (RFC 7252, section 5.4.1); any other
@@ -197,6 +140,7 @@ pub data Decides (settings : SettingsValue) (state : State) (peer : ℕ) (datagr
 abbrev pub sends_of : Verdict → ℕ → List OwnedOut
 sends_of verdict.Silent peer = []
 sends_of (verdict.Reply reply) peer = owned.To peer reply ∷ []
+sends_of (verdict.Told reply) peer = owned.To peer reply ∷ []
 sends_of (verdict.Accept reply entry) peer = owned.To peer reply ∷ []
 
 abbrev pub after : Verdict → State → State

@@ -1,16 +1,25 @@
--- The replies: messages with the Message ID and the token of the request (RFC 7252, section 5.2; RFC 9132, section 4.4.1.3).
-use Rattle.std.specs.Prelude.{ℕ, ◌/◌, ◌%◌, ℤ, List, [], ◌∷◌, codes}
+-- The replies: messages with the Message ID and the token of the request (RFC 7252, section 5.2; RFC 9132, section 4.4).
+use Rattle.std.specs.Prelude.{ℕ, ◌/◌, ◌%◌, Bool, true, false, List, [], ◌∷◌, ◌++◌, codes, map, Option}
 use Rattle.cbor_profile.specs.Canon.{canon}
-use Rattle.coap_message.specs.declared.codes.TheConstants.{EMPTY, CREATED, BAD_REQUEST, CONFLICT, INTERNAL_SERVER_ERROR, NOT_IMPLEMENTED}
+use Rattle.cbor_profile.specs.Tree.{Tree, unsigned}
+use Rattle.coap_message.specs.declared.codes.TheConstants.{EMPTY, CREATED, DELETED, CHANGED, CONTENT, BAD_REQUEST, NOT_FOUND, CONFLICT, INTERNAL_SERVER_ERROR, NOT_IMPLEMENTED, SERVICE_UNAVAILABLE}
 use Rattle.coap_message.specs.declared.option_numbers.TheConstants.{CONTENT_FORMAT}
 use Rattle.coap_message.specs.declared.TheConstants.{DOTS_CBOR}
 use Rattle.coap_message.specs.declared.kind.Kind.TheVariants.{Rst}
 use Rattle.coap_message.specs.Message.{CoapOption, spelling}
 use Rattle.dots_heads.specs.declared.reject.Reject.{Reject}
 use Rattle.dots_heads.specs.declared.reject.Reject.TheVariants as reject
+use Rattle.dots_heads.specs.declared.request.Content.{Content}
+use Rattle.dots_heads.specs.declared.request.Content.TheVariants.{All, Config, State}
 use Rattle.dots_heads.specs.RejectText.{reject_text, reject_code}
+use Rattle.reply_bodies.specs.declared.conflict.ConflictCause.{ConflictCause}
+use Rattle.reply_bodies.specs.declared.keys.TheConstants.{MID, LIFETIME, MITIGATION_START, STATUS}
 use Rattle.reply_bodies.specs.declared.reply.Reply.TheVariants as reply
+use Rattle.reply_bodies.specs.Maps.{field, map_of, integer}
+use Rattle.reply_bodies.specs.Mitigations.{asked_fields, mitigations_with}
 use Rattle.reply_bodies.specs.Replies.{reply_tree}
+use Rattle.live_mitigations.specs.Reading.{Shown}
+use Rattle.put_judging.specs.declared.judging.Judged.{Judged}
 use Rattle.dots_machine.specs.declared.target.TargetFault.{TargetFault}
 use Rattle.dots_machine.specs.declared.exchange.Exchange.{Exchange}
 use Rattle.dots_machine.specs.Targets.{target_text}
@@ -46,24 +55,63 @@ with_body code exchange body = spelling (record {
   payload = body;
 })
 
--- 2.01 Created, with the mid and the granted lifetime
-abbrev pub created : Exchange → ℕ → ℤ → List ℕ
-created exchange mid lifetime = with_body CREATED exchange (canon (reply_tree (reply.Granted mid lifetime)))
+-- 2.04 Changed where a mitigation that stands is refreshed, and else 2.01 Created (section 4.4.1.3)
+abbrev pub grant_code : Bool → ℕ
+grant_code true = CHANGED
+grant_code false = CREATED
+
+-- with the mid and the granted lifetime
+abbrev pub granting : Exchange → Judged → List ℕ
+granting exchange judged =
+    with_body (grant_code judged.refreshed) exchange (canon (reply_tree (reply.Granted judged.put.mid judged.put.granted)))
+
+-- 4.09 Conflict (section 4.4.1.3); of a request without a mid none is told
+abbrev pub conflicting : Exchange → Option ℕ → ConflictCause → List ℕ
+conflicting exchange mid cause = with_body CONFLICT exchange (canon (reply_tree (reply.Conflict (record { mid = mid; cause = cause }))))
+
+-- 2.02 Deleted, whether or not there was something to withdraw (section 4.4.4)
+abbrev pub deleted : Exchange → List ℕ
+deleted exchange = plain DELETED exchange []
+
+-- Of a mitigation the client is told what was asked for and the seconds left, the start and the status, or one of these parts
+-- (section 4.4.2).
+abbrev pub config_told : Content → Shown → List (Tree × Tree)
+config_told State m = []
+config_told _ m = asked_fields m.put.asked ++ field LIFETIME (integer m.left)
+
+abbrev pub state_told : Content → Shown → List (Tree × Tree)
+state_told Config m = []
+state_told _ m = field MITIGATION_START (unsigned m.put.start) ++ field STATUS (unsigned m.status)
+
+abbrev pub told : Content → Shown → Tree
+told content m = map_of (field MID (unsigned m.put.mid) ++ config_told content m ++ state_told content m)
+
+-- 2.05 Content, with these mitigations in their order
+abbrev pub telling : Exchange → Content → List Shown → List ℕ
+telling exchange content ms = with_body CONTENT exchange (canon (mitigations_with (map (told content) ms)))
+
+-- 4.04 Not Found, where there is none
+abbrev pub absent : Exchange → List ℕ
+absent exchange = plain NOT_FOUND exchange (codes "absent")
 
 -- the refusal of a message
 abbrev pub rejection : Exchange → Reject → List ℕ
 rejection exchange reject = plain (reject_code reject) exchange (reject_text reject)
 
--- 4.00 Bad Request, for a parameter that is missing, for a domain that there isn't, and for what may not be asked for in a domain
+-- 4.00 Bad Request, for a parameter that is missing, for a domain that there isn't, for what may not be asked for in a domain, and
+-- for a request that can't be granted, with the cause as its text
 abbrev pub bad_parameter : Exchange → List ℕ
 bad_parameter exchange = rejection exchange reject.Parameter
 
 abbrev pub bad_target : Exchange → TargetFault → List ℕ
 bad_target exchange fault = plain BAD_REQUEST exchange (target_text fault)
 
--- 4.09 Conflict, with a request that stands
-abbrev pub conflicting : Exchange → List ℕ
-conflicting exchange = plain CONFLICT exchange (codes "conflict")
+abbrev pub bad_request : Exchange → List ℕ → List ℕ
+bad_request exchange text = plain BAD_REQUEST exchange text
+
+-- 5.03 Service Unavailable, where as many mitigations live as may be
+abbrev pub at_capacity : Exchange → List ℕ
+at_capacity exchange = plain SERVICE_UNAVAILABLE exchange (codes "capacity")
 
 -- 5.01 Not Implemented, for what isn't served yet
 abbrev pub not_implemented : Exchange → List ℕ

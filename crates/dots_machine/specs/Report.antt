@@ -1,15 +1,15 @@
--- The report: a line for each row of the filter table.
-use Rattle.std.specs.Prelude.{◌≡◌, ℕ, Bool, true, List, [], ◌∷◌, ◌++◌, codes, decimal}
-use Rattle.std.specs.List.{list_all, list_any, flat_map}
+-- The report: a line for each row that mitigations install in the filter table, and one for each sample packet.
+use Rattle.std.specs.Prelude.{◌≡◌, ℕ, ◌+◌, true, List, [], ◌∷◌, ◌++◌, codes, decimal}
+use Rattle.std.specs.List.{list_all, flat_map}
 use Rattle.ip_scope.specs.Ports.{Ports}
-use Rattle.ip_scope.specs.Prefix.{inside}
 use Rattle.ip_scope.specs.PrefixText.{prefix_text}
+use Rattle.acl_lists.specs.declared.packet.Packet.{Packet}
+use Rattle.filter_rows.specs.declared.rows.ScrubRow.{ScrubRow}
+use Rattle.filter_rows.specs.Fates.{Fate, Pass, Accepted, Dropped, Scrubbed}
 use Rattle.dots_settings.specs.Settings.{SettingsValue}
-use Rattle.dots_history.specs.declared.entry.Entry.{Entry}
-use Rattle.dots_history.specs.declared.put.Target.{Target}
-use Rattle.dots_history.specs.Rows.{Row, rows_of, targets_of, mid_of}
 use Rattle.dots_settings.specs.Lookups.{name_of, prefixes_of}
-use Rattle.dots_machine.specs.Running.{running}
+use Rattle.dots_history.specs.Rows.{plain_rows, acl_rows, fate}
+use Rattle.dots_laws.specs.Containing.{scrubs_inside, lists_inside}
 use Rattle.dots_machine.specs.Machine.{State}
 
 -- texts with commas between them, or `any` where there are none
@@ -30,25 +30,39 @@ abbrev pub ports_text : Ports → List ℕ
 ports_text ports = decimal ports.lower ++ codes "-" ++ decimal ports.upper
 
 -- `scrub DOMAIN CUID MID PREFIX PROTOCOLS PORTS`
-abbrev pub scrub_line : SettingsValue → Row → List ℕ
+abbrev pub scrub_line : SettingsValue → ScrubRow → List ℕ
 scrub_line settings row =
-    codes "scrub " ++ name_of settings row.put.domain ++ codes " " ++ row.put.cuid ++ codes " " ++ decimal (mid_of row.put.change)
-    ++ codes " " ++ prefix_text row.prefix ++ codes " " ++ any_or (texts_of decimal row.target.protocols)
-    ++ codes " " ++ any_or (texts_of ports_text row.target.ports) ++ codes "\n"
+    codes "scrub " ++ name_of settings row.domain ++ codes " " ++ row.cuid ++ codes " " ++ decimal row.mid
+    ++ codes " " ++ prefix_text row.prefix ++ codes " " ++ any_or (texts_of decimal row.protocols)
+    ++ codes " " ++ any_or (texts_of ports_text row.ports) ++ codes "\n"
 
--- the rows of the requests that run at the state's time, in order of acceptance, each with its prefixes in order
+abbrev pub fate_text : Fate → List ℕ
+fate_text Pass = codes "pass"
+fate_text (Accepted name) = codes "accepted " ++ name
+fate_text (Dropped name) = codes "dropped " ++ name
+fate_text (Scrubbed mid) = codes "scrubbed " ++ decimal mid
+
+-- `packet N FATE`
+abbrev pub packet_line : ℕ → Fate → List ℕ
+packet_line number fate = codes "packet " ++ decimal number ++ codes " " ++ fate_text fate ++ codes "\n"
+
+-- the fate of a packet by the rows at the state's time
+abbrev pub fate_in : SettingsValue → State → Packet → Fate
+fate_in settings state packet = fate (prefixes_of settings) state.time state.history packet
+
+-- sample packets, numbered from here on
+abbrev pub packet_lines : (Packet → Fate) → ℕ → List Packet → List ℕ
+packet_lines fate number [] = []
+packet_lines fate number (packet ∷ packets) = packet_line number (fate packet) ++ packet_lines fate (number + 1) packets
+
+-- the rows of the mitigations that are live at the state's time, in order of their entries, each with its prefixes in order, and the
+-- fates of the sample packets of the settings, numbered from 1
 abbrev pub report_of : SettingsValue → State → List ℕ
-report_of settings state = flat_map (λ entry. flat_map (scrub_line settings) (rows_of entry)) (running state.time state.history)
+report_of settings state =
+    flat_map (scrub_line settings) (plain_rows state.time state.history) ++ packet_lines (fate_in settings state) 1 settings.packets
 
--- each prefix of a request lies inside a prefix of the domain that it was asked for
-abbrev pub lies_inside : SettingsValue → Entry → Bool
-lies_inside settings entry =
-    list_all (λ (target : Target). list_all (λ prefix. list_any (inside prefix) (prefixes_of settings entry.domain)) target.prefixes) (targets_of entry.change)
-
--- each filter that was ever accepted does
-abbrev pub AllInside : SettingsValue → State → Type 0
-AllInside settings state = list_all (lies_inside settings) state.history ≡ true
-
--- containment: each filter that is reported lies inside the domain that its request was for
-abbrev pub Contained : SettingsValue → State → Type 0
-Contained settings state = list_all (lies_inside settings) (running state.time state.history) ≡ true
+-- containment: the prefix of each row of a mitigation lies inside the domain that its request was for, and so does each destination
+-- of an access list
+pub record Contained (settings : SettingsValue) (state : State) : Type 0 where
+  pub scrubs : list_all (scrubs_inside settings) (plain_rows state.time state.history) ≡ true
+  pub lists : list_all (lists_inside settings) (acl_rows state.time state.history) ≡ true

@@ -1,10 +1,9 @@
 -- Which scopes may be asked for (RFC 9132, section 4.4.1: target-prefix, target-fqdn).
-use Rattle.std.specs.Prelude.{ℕ, ◌*◌, ◌^◌, ◌-◌, Bool, not, if◌then◌else◌, List, [], ◌∷◌, ◌++◌, codes, Option, Some, None}
-use Rattle.std.specs.List.{list_any, flat_map}
+use Rattle.std.specs.Prelude.{ℕ, ◌*◌, ◌^◌, ◌-◌, Bool, not, if◌then◌else◌, List, [], ◌∷◌, codes, Option, Some, None}
+use Rattle.std.specs.List.{list_any}
 use Rattle.ip_scope.specs.declared.family.Family.TheVariants.{V4, V6}
 use Rattle.ip_scope.specs.Prefix.{PrefixValue, inside, meets}
 use Rattle.acl_lists.specs.declared.asked.Asked.{Asked}
-use Rattle.dots_history.specs.declared.put.Target.{Target}
 use Rattle.dots_history.specs.Histories.{or_else}
 use Rattle.dots_settings.specs.Settings.{SettingsValue}
 use Rattle.dots_machine.specs.declared.target.TargetFault.{TargetFault}
@@ -47,14 +46,7 @@ abbrev pub scope_fault : SettingsValue → List PrefixValue → Asked → Option
 scope_fault settings domain asked =
     or_else (first_fault (prefix_fault domain) asked.prefixes) (first_fault (name_fault settings domain) asked.names)
 
--- The targets of a scope without aliases: one, with the asked prefixes, those of the names in order, and the asked ports and
--- protocols.
-abbrev pub resolved : SettingsValue → Asked → List PrefixValue
-resolved settings asked = asked.prefixes ++ flat_map (addresses_of settings) asked.names
-
-abbrev pub targets_of : SettingsValue → Asked → List Target
-targets_of settings asked = record { prefixes = resolved settings asked; ports = asked.ports; protocols = asked.protocols } ∷ []
-
+-- the text of its refusal
 abbrev pub target_text : TargetFault → List ℕ
 target_text NotATarget = codes "not a target"
 target_text OutsideDomain = codes "outside domain"

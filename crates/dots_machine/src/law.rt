@@ -1,15 +1,14 @@
 //! Laws of runs.
 
-ghost use Rattle.std.specs.Prelude.{◌≡◌, ◌⊎◌, ◌<◌, ◌^◌, ℕ, List, length, get_or};
+ghost use Rattle.std.specs.Prelude.{◌≡◌, ◌⊎◌, ◌==◌, ℕ, List, filter};
 ghost use Rattle.dots_host.specs.Acts.{Timed};
 ghost use Rattle.dots_host.specs.Runs.{resting, outs_of, Trace};
 ghost use Rattle.dots_host.specs.declared.event.Event.{Event};
 ghost use Rattle.dots_host.specs.declared.out.OwnedOut.{OwnedOut};
-ghost use Rattle.dots_history.specs.Histories.{alone};
+ghost use Rattle.dots_history.specs.Rows.{plain_rows};
 ghost use Rattle.dots_settings.specs.Settings.{SettingsValue};
 ghost use Rattle.dots_machine.specs.Apart.{SameFor, StaysApart};
 ghost use Rattle.dots_machine.specs.Answering.{IsHandedIn, IsUnavailable};
-ghost use Rattle.dots_machine.specs.Running.{running};
 ghost use Rattle.dots_machine.specs.Machine.{State, Step};
 
 /// A list of acts fixes one state: whatever was free to choose shows in the sends.
@@ -30,10 +29,10 @@ pub fn one_answer()
 
 /// The domains stay apart: of two states of one time that have the same entries of a domain, a step from the one is for another
 /// domain, and leaves the entries of this one as they were, or it can be made from the other too, with the same sends, and both
-/// leave this domain the same. And the same requests of the domain run in both.
+/// leave this domain the same. And the same rows of mitigations filter for it in both.
 pub fn domains_stay_apart()
     ensures step { (settings : SettingsValue) (domain : ℕ) (old other : State) (event : Event) (at : ℕ) (owed : List (State × OwnedOut)) (new : State)
         → SameFor domain old other → Step settings old event at owed new → StaysApart settings domain old other event at (outs_of owed) new }
-    ensures running { (domain : ℕ) (one other : State) → SameFor domain one other
-        → alone domain (running one.time one.history) ≡ alone domain (running other.time other.history) }
+    ensures rows { (domain : ℕ) (one other : State) → SameFor domain one other
+        → filter (λ row. row.domain == domain) (plain_rows one.time one.history) ≡ filter (λ row. row.domain == domain) (plain_rows other.time other.history) }
 {}

@@ -39,7 +39,8 @@ impl ShortMessage {
     }
 
     pub fn bytes(&self) -> &[u8]
-        ensures { result.now ≡ self.now }
+        ensures value { result.now ≡ self.now }
+        ensures short { length self.now ≤ MAX_SHORT }
     {
         &self.bytes[..self.size]
     }

@@ -1,5 +1,6 @@
 use crate::short_message::ShortMessage;
-use dots_history::Entry;
+use dots_lists::Bytes;
+use installed_filters::Staged;
 
 /// What is decided on a datagram.
 #[derive(Debug, Drop)]
@@ -8,6 +9,8 @@ pub enum Verdict {
     Silent,
     /// A reply that changes nothing.
     Reply(ShortMessage),
+    /// The same, with a body of any length.
+    Told(Bytes),
     /// An accepted change, and the reply that it carries.
-    Accept { reply: ShortMessage, entry: Entry },
+    Accept { reply: ShortMessage, entry: Staged },
 }

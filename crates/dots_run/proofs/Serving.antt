@@ -5,14 +5,13 @@ use Rattle.dots_host.specs.Runs.{Added, resting}
 use Rattle.dots_settings.specs.Settings.{SettingsValue}
 use Rattle.dots_machine.specs.declared.ending.Stop.{Stop}
 use Rattle.dots_machine.specs.Machine.{State, begun}
-use Rattle.dots_machine.specs.Report.{AllInside, Contained}
 use Rattle.dots_machine.specs.Endings.{Ran, Serves}
-use Rattle.dots_machine.proofs.Containment.{contained}
+use Rattle.dots_laws.proofs.Containing.{scrub_rows_inside, acl_rows_inside}
 use Rattle.dots_server.specs.Standing.{ServerValue, StandsFor}
 
 abbrev pub HasRun : SettingsValue → ServerValue → Option (List Timed) → Option (List Timed) → Stop → Type 0
 HasRun settings server before now how =
-    (state : State) × StandsFor server settings state × (AllInside settings begun → AllInside settings state)
+    (state : State) × StandsFor server settings state
     × (trace : List State) × Added before now (Ran settings begun trace (resting state) how)
 
 pub serves : (settings : SettingsValue) (server : ServerValue) (before now : Option (List Timed)) (how : Stop) (wrote : State → Type 0) (ran : HasRun settings server before now how) → wrote ran.0
@@ -20,8 +19,8 @@ pub serves : (settings : SettingsValue) (server : ServerValue) (before now : Opt
 serves settings server before now how wrote ran reports = record {
   end = resting ran.0;
   settled = refl;
-  trace = ran.3;
-  ran = ran.4;
-  contained = contained settings ran.0 (ran.2 refl);
+  trace = ran.2;
+  ran = ran.3;
+  contained = record { scrubs = scrub_rows_inside settings ran.0.time ran.0.history ran.1.own; lists = acl_rows_inside settings ran.0.time ran.0.history ran.1.own };
   reports = reports;
 }

@@ -8,7 +8,6 @@ ghost use Rattle.dots_settings.specs.Settings.{SettingsValue};
 ghost use Rattle.dots_machine.specs.declared.ending.Stop.TheVariants as stop;
 ghost use Rattle.dots_machine.specs.Endings.{Ran};
 ghost use Rattle.dots_machine.specs.Machine.{State};
-ghost use Rattle.dots_machine.specs.Report.{AllInside};
 ghost use Rattle.dots_server.specs.Standing.{StandsFor};
 
 use dots_host::{Host, MAX_EVENT_BYTES, What};
@@ -25,8 +24,7 @@ pub fn take_events<H: Host>(server: &mut Server, host: &mut H, room: &mut [u8]) 
     ensures later { H.faults host.old ≤ H.faults host.new }
     ensures cause { result ≡ stop.NextFailed → Rose (H.faults host.old) (H.faults host.new) }
     ensures ran { (settings : SettingsValue) (start : State) → StandsFor server.old settings start
-        → (state : State) × StandsFor server.new settings state × (AllInside settings start → AllInside settings state)
-        × (trace : List State) × Added (H.acts host.old) (H.acts host.new) (Ran settings start trace (resting state) result) }
+        → (state : State) × StandsFor server.new settings state × (trace : List State) × Added (H.acts host.old) (H.acts host.new) (Ran settings start trace (resting state) result) }
 {
     for _turn in 0..MAX_EVENTS {
         let got = host.next(room);

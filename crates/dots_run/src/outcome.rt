@@ -9,6 +9,9 @@ ghost use Rattle.dots_machine.specs.declared.ending.Stop.TheVariants as stop;
 ghost use Rattle.dots_machine.specs.Commands.{is_replay, is_show, is_command, second_of};
 ghost use Rattle.dots_machine.specs.Endings.{status_of, has_served, Shows, ServesTo, Behaves, fault_line, GivesFault, GivesSettings, IsReadable};
 ghost use Rattle.dots_host.specs.Writing.{Writes};
+ghost use Rattle.dots_settings.specs.Settings.{SettingsValue};
+ghost use Rattle.dots_machine.specs.Machine.{begun};
+ghost use Rattle.dots_server.specs.Standing.{StandsFor};
 
 use crate::events::take_events;
 use crate::words::{is_replay, word_to_show};
@@ -16,7 +19,7 @@ use dots_host::{Host, MAX_EVENT_BYTES, Sink, Source, write_all};
 use dots_lists::NoMemory;
 use dots_machine::{Ending, Showing, Stop};
 use dots_server::Server;
-use dots_settings::{Settings, SettingsFault, read_settings};
+use dots_settings::{SettingsFault, read_settings};
 use message_text::{Shown, show};
 use std::alloc::Global;
 
@@ -92,7 +95,10 @@ fn ending_of<H: Host, S: Source, K: Sink>(
         return Ending::WrongWords;
     }
     match read_settings(alloc, settings) {
-        Ok(settings) => return serve(alloc, settings, host, report),
+        Ok(settings) => match Server::begin(alloc, settings, 0) {
+            Ok(server) => return serve(server, host, report),
+            Err(_) => return Ending::NoMemory,
+        },
         Err(SettingsFault::ReadFault) => return Ending::SettingsFailed,
         Err(SettingsFault::NoMemory) => return Ending::NoMemory,
         Err(fault) => {
@@ -121,19 +127,14 @@ fn show_word<K: Sink>(alloc: Global, word: &[u8], report: &mut K) -> Result<Show
 }
 
 /// Serves the events of the host, and reports the filters that stand at End.
-fn serve<H: Host, K: Sink>(
-    alloc: Global,
-    settings: Settings,
-    host: &mut H,
-    report: &mut K,
-) -> Ending
-    ensures machine { ServesTo result settings
+fn serve<H: Host, K: Sink>(mut server: Server, host: &mut H, report: &mut K) -> Ending
+    ensures machine { (settings : SettingsValue) → StandsFor server settings begun → ServesTo result settings
         (record { left = None; source_faults = 0; acts = H.acts host.old; wire_faults = H.faults host.old; held = K.holds report.old; report_faults = K.faults report.old })
         (record { left = None; source_faults = 0; acts = H.acts host.new; wire_faults = H.faults host.new; held = K.holds report.new; report_faults = K.faults report.new }) }
+    ensures served { has_served result ≡ true }
     ensures leads { H.leads host.old host.new }
 {
     let mut room = [0; MAX_EVENT_BYTES];
-    let mut server = Server::begin(alloc, settings, 0);
     match take_events(&mut server, host, &mut room) {
         Stop::Ended => match server.write_report(report) {
             Ok(()) => return Ending::Served(Stop::Ended),

@@ -1,64 +1,88 @@
 -- What a server stands for, as it goes on.
-use Rattle.std.proofs.Common.{◌≡◌, ℕ, ◌≤◌, Bool, true, false, List, [], ◌∷◌, ◌++◌, max, refl, sym, ap, ◌∙◌, subst, cond, arith, ◌⊎◌, inl, inr}
+use Rattle.std.proofs.Common.{◌≡◌, ℕ, ◌<◌, ◌^◌, Bool, true, false, ◌&&◌, List, [], ◌∷◌, ◌++◌, max, refl, sym, ap, ◌∙◌, subst, arith, ◌⊎◌, inl, inr}
+use Rattle.std.specs.List.{list_all}
+use Rattle.std.proofs.lemmas.Bool.{and_parts}
+use Rattle.std.proofs.lemmas.List.Folds.{list_all-append}
 use Rattle.dots_host.specs.declared.event.What.{What}
 use Rattle.dots_host.specs.declared.event.What.TheVariants as what_is
 use Rattle.dots_host.specs.Acts.{event_of}
 use Rattle.dots_settings.specs.Settings.{SettingsValue}
 use Rattle.dots_history.specs.declared.entry.Entry.{Entry}
-use Rattle.dots_history.specs.Entries.{runs}
-use Rattle.dots_laws.proofs.Lasting.{runs_no_more}
-use Rattle.dots_machine.specs.Running.{running}
-use Rattle.dots_machine.specs.Machine.{State, later, with_entry, Step}
-use Rattle.dots_server.specs.Standing.{ServerValue, StandsFor, KeepsAll}
+use Rattle.dots_history.specs.Bounds.{within_bounds}
+use Rattle.dots_laws.specs.Calm.{is_own}
+use Rattle.dots_registry.specs.Standing.{RegistryValue, IsOf, time_of}
+use Rattle.dots_registry.specs.Standing as registry
+use Rattle.dots_registry.specs.Fitting.{FitsIn}
+use Rattle.judged_entries.specs.Limits.{ClientsKeepLimits}
+use Rattle.judged_entries.proofs.Fitting.{limits_empty, limits_later, limits_fitting}
+use Rattle.dots_machine.specs.Machine.{State, begun_at, later, with_entry, Step}
+use Rattle.dots_server.specs.Standing.{ServerValue, StandsFor, IsLiving, IsAcceptable}
 
--- what runs later is found among what ran before
-runs_later : (early late : ℕ) (history : List Entry) → early ≤ late → running late (running early history) ≡ running late history
-runs_later early late [] before = refl
-runs_later early late (entry ∷ history) before = by_test (runs early entry) refl (runs_later early late history before)
-  where
-    by_test : (b : Bool) → runs early entry ≡ b → running late (running early history) ≡ running late history
-        → running late (cond b (entry ∷ running early history) (running early history)) ≡ running late (entry ∷ history)
-    by_test true is rest = ap (λ entries. cond (runs late entry) (entry ∷ entries) entries) rest
-    by_test false is rest = rest ∙ sym (ap (λ b. cond b (entry ∷ running late history) (running late history)) (runs_no_more early late entry before is))
+-- a server that begins
+pub stands_first : (settings : SettingsValue) (at : ℕ) (r : RegistryValue) → at < 2 ^ 48 → IsOf settings r → registry.StandsFor r [] → time_of r ≡ at
+    → StandsFor (record { settings = settings; registry = r }) settings (begun_at at)
+stands_first settings at r early is_of stands time =
+    record { settings_are = refl; is_of = is_of; registry = stands; time_is = time; early = early; own = refl; bounded = refl; limits = limits_empty settings.limits at }
 
-pub stands_later : (settings : SettingsValue) (state : State) (at : ℕ) (old new : ServerValue) → StandsFor old settings state → new.settings ≡ old.settings → new.time ≡ max at old.time
-    → new.running ≡ running (max at old.time) old.running → StandsFor new settings (later state at)
-stands_later settings state at old new stands same time entries =
-    let before : state.time ≤ max at state.time = omega arith in
-    record {
-      settings_are = same ∙ stands.settings_are;
-      running_are = entries ∙ ap (λ time. running (max at time) old.running) stands.time_is ∙ ap (running (max at state.time)) stands.running_are
-          ∙ runs_later state.time (max at state.time) state.history before;
-      time_is = time ∙ ap (max at) stands.time_is;
-    }
+-- the time of the registry was moved
+module _ (at : ℕ) (old new : ServerValue) (early : at < 2 ^ 48) (same : new.settings ≡ old.settings) (time : time_of new.registry ≡ max at (time_of old.registry))
+    (goes : (entries : List Entry) → registry.StandsFor old.registry entries → registry.StandsFor new.registry entries)
+    (keeps : (s : SettingsValue) → IsOf s old.registry → IsOf s new.registry) where
+  pub stands_later : (settings : SettingsValue) (state : State) → StandsFor old settings state → StandsFor new settings (later state at)
+  stands_later settings state stands = record {
+    settings_are = same ∙ stands.settings_are;
+    is_of = keeps settings stands.is_of;
+    registry = goes state.history stands.registry;
+    time_is = time ∙ ap (max at) stands.time_is;
+    early = omega (arith, early, stands.early);
+    own = stands.own;
+    bounded = stands.bounded;
+    limits = limits_later settings.limits state.time (max at state.time) state.history (omega arith) stands.limits;
+  }
 
-pub stands_still : (settings : SettingsValue) (state : State) (old new : ServerValue) → KeepsAll old new → StandsFor old settings state → StandsFor new settings state
-stands_still settings state old new keeps stands = record {
-  settings_are = keeps.settings ∙ stands.settings_are;
-  running_are = keeps.running ∙ stands.running_are;
-  time_is = keeps.time ∙ stands.time_is;
+  pub lives_later : IsLiving old → IsLiving new
+  lives_later living = record {
+    state = later living.state at;
+    stands = subst (λ s. StandsFor new s (later living.state at)) (sym same) (stands_later old.settings living.state living.stands);
+  }
+
+list_with : {A : Type 0} (test : A → Bool) (xs : List A) (x : A) → list_all test xs ≡ true → test x ≡ true → list_all test (xs ++ x ∷ []) ≡ true
+list_with test xs x all one = list_all-append test xs (x ∷ []) ∙ ap (λ b. b && (test x && true)) all ∙ ap (λ b. b && true) one
+
+-- an entry that can be taken fits some history
+pub fits_in : (server : ServerValue) (entry : Entry) → IsLiving server → IsAcceptable server entry → FitsIn server.registry entry
+fits_in server entry living can = record {
+  settings = server.settings;
+  entries = living.state.history;
+  is_of = living.stands.is_of;
+  stands = living.stands.registry;
+  fits = can.fits server.settings living.state living.stands;
 }
 
-running_then : (time : ℕ) (front back : List Entry) → running time (front ++ back) ≡ running time front ++ running time back
-running_then time [] back = refl
-running_then time (entry ∷ front) back = by_test (runs time entry) (running_then time front back)
-  where
-    by_test : (b : Bool) → running time (front ++ back) ≡ running time front ++ running time back
-        → cond b (entry ∷ running time (front ++ back)) (running time (front ++ back)) ≡ cond b (entry ∷ running time front) (running time front) ++ running time back
-    by_test true rest = ap (λ entries. entry ∷ entries) rest
-    by_test false rest = rest
+-- an entry was taken
+module _ (entry : Entry) (old new : ServerValue) (can : IsAcceptable old entry) (same : new.settings ≡ old.settings) (time : time_of new.registry ≡ entry.time)
+    (goes : (entries : List Entry) → registry.StandsFor old.registry entries → registry.StandsFor new.registry (entries ++ entry ∷ []))
+    (keeps : (s : SettingsValue) → IsOf s old.registry → IsOf s new.registry) where
+  pub stands_with : (settings : SettingsValue) (state : State) → StandsFor old settings state → StandsFor new settings (with_entry state entry)
+  stands_with settings state stands =
+      let fits = and_parts _ _ (can.fits settings state stands) in
+      let at : entry.time ≡ state.time = can.now ∙ stands.time_is in record {
+        settings_are = same ∙ stands.settings_are;
+        is_of = keeps settings stands.is_of;
+        registry = goes state.history stands.registry;
+        time_is = time ∙ at;
+        early = stands.early;
+        own = list_with (is_own settings) state.history entry stands.own (can.own settings state stands);
+        bounded = list_with within_bounds state.history entry stands.bounded fits.0;
+        limits = subst (λ t. ClientsKeepLimits settings.limits t (state.history ++ entry ∷ [])) at
+            (limits_fitting settings state.time state.history entry stands.limits (omega (arith, at)) (and_parts _ _ fits.1).1);
+      }
 
-pub stands_with : (settings : SettingsValue) (state : State) (entry : Entry) (old new : ServerValue) → runs old.time entry ≡ true → StandsFor old settings state → new.settings ≡ old.settings
-    → new.time ≡ old.time → new.running ≡ old.running ++ entry ∷ [] → StandsFor new settings (with_entry state entry)
-stands_with settings state entry old new first stands same time added =
-    let now : runs state.time entry ≡ true = subst (λ time. runs time entry ≡ true) stands.time_is first in
-    let one : running state.time (entry ∷ []) ≡ entry ∷ [] = ap (λ b. cond b (entry ∷ []) []) now in
-    record {
-      settings_are = same ∙ stands.settings_are;
-      running_are = added ∙ ap (λ entries. entries ++ entry ∷ []) stands.running_are ∙ ap (λ back. running state.time state.history ++ back) (sym one)
-          ∙ sym (running_then state.time state.history (entry ∷ []));
-      time_is = time ∙ stands.time_is;
-    }
+  pub lives_with : IsLiving old → IsLiving new
+  lives_with living = record {
+    state = with_entry living.state entry;
+    stands = subst (λ s. StandsFor new s (with_entry living.state entry)) (sym same) (stands_with old.settings living.state living.stands);
+  }
 
 abbrev pub MovesAlone : What → Type 0
 MovesAlone what =

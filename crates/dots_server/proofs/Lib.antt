@@ -1,9 +1,11 @@
+pub mod Acting
+pub mod Accepting
 pub mod Bodies
 pub mod CommaTexts
-pub mod Granting
 pub mod Keeping
-pub mod LineTexts
 pub mod Puts
 pub mod Received
 pub mod Reports
+pub mod Insides
+pub mod Told
 pub mod Verdicts

@@ -1,8 +1,8 @@
 -- For which domain is asked, and what is decided on what was received.
-use Rattle.std.specs.Prelude.{◌≡◌, ◌⊎◌, ℕ, false, bytes_eq, List, position, Option, Some, None}
+use Rattle.std.specs.Prelude.{◌≡◌, ◌⊎◌, ℕ, false, bytes_eq, List, length, position, Option, Some, None}
 use Rattle.dots_settings.specs.declared.peer.Role.{Role}
 use Rattle.dots_settings.specs.declared.peer.Role.TheVariants as role
-use Rattle.dots_settings.specs.Settings.{SettingsValue}
+use Rattle.dots_settings.specs.Settings.{SettingsValue, IsKnown}
 use Rattle.dots_machine.specs.declared.exchange.Exchange.{Exchange}
 use Rattle.dots_machine.specs.declared.received.Received.{Received}
 use Rattle.dots_machine.specs.declared.received.Received.TheVariants as received
@@ -17,8 +17,10 @@ abbrev pub role_with : Option ℕ → Role
 role_with None = role.Gateway
 role_with (Some domain) = role.Client domain
 
-abbrev pub IsOwn : SettingsValue → ℕ → Option ℕ → Type 0
-IsOwn settings peer own = role_of settings peer ≡ role_with own
+-- this is the peer's own domain, which is one of the settings, or none, and it is a gateway
+pub record IsOwn (settings : SettingsValue) (peer : ℕ) (own : Option ℕ) : Type 0 where
+  pub role : role_of settings peer ≡ role_with own
+  pub known : IsKnown (length settings.domains) (role_with own)
 
 -- a client's own domain, or the one that a gateway names
 abbrev pub domain_asked : SettingsValue → Option ℕ → Option (List ℕ) → Option ℕ

@@ -2,7 +2,7 @@
 use Rattle.std.specs.Prelude.{◌≡◌, ℕ, Bool, List, None, IsOk, ⊤}
 use Rattle.coap_message.specs.Message.{CoapMessage, IsMessage, spelling}
 use Rattle.dots_heads.specs.Heads.{head_of}
-use Rattle.dots_keys.specs.Lifetimes.{HasLifetime}
+use Rattle.dots_keys.specs.Askable.{IsAskable}
 use Rattle.dots_machine.specs.declared.exchange.Exchange.{Exchange}
 use Rattle.dots_machine.specs.declared.received.Received.{Received}
 use Rattle.dots_machine.specs.declared.received.Received.TheVariants as received
@@ -17,7 +17,7 @@ pub record Lacks (datagram : List ℕ) (gateway : Bool) (exchange : Exchange) : 
   pub head : IsOk (head_of message gateway)
   pub exchange_is : exchange ≡ exchange_in message
 
--- a request asks for a lifetime that can be granted
+-- a request is one that may be asked: it has its mid, its lists are within their numbers, and its lifetime can be granted
 abbrev pub IsGrantable : Received → Type 0
-IsGrantable (received.Asked exchange request) = HasLifetime request
+IsGrantable (received.Asked exchange request) = IsAskable request
 IsGrantable _ = ⊤

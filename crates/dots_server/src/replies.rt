@@ -1,16 +1,18 @@
 //! The replies.
 
 ghost use Rattle.std.specs.Prelude.{◌≡◌, ◌≢◌, ◌≤◌, length, IfOk};
-ghost use Rattle.dots_machine.specs.Replies.{reset_message, plain, with_body, created, rejection, bad_parameter, not_implemented, unavailable, bad_target, conflicting};
+ghost use Rattle.dots_machine.specs.Replies.{reset_message, plain, with_body, granting, grant_code, deleted, absent, bad_request, at_capacity, rejection, bad_parameter, not_implemented, unavailable, bad_target};
 
 use coap_message::codes::{
-    BAD_REQUEST, CONFLICT, CREATED, EMPTY, INTERNAL_SERVER_ERROR, NOT_IMPLEMENTED,
+    BAD_REQUEST, CHANGED, CREATED, DELETED, EMPTY, INTERNAL_SERVER_ERROR, NOT_FOUND,
+    NOT_IMPLEMENTED, SERVICE_UNAVAILABLE,
 };
 use coap_message::option_numbers::CONTENT_FORMAT;
 use coap_message::{DOTS_CBOR, Kind, OptionPart, Parts};
 use dots_heads::{MAX_TEXT, Reject};
 use dots_lists::NoMemory;
 use dots_machine::{Exchange, ShortMessage, TargetFault};
+use put_judging::Judged;
 use reply_bodies::{Reply, body_of};
 use std::alloc::Global;
 
@@ -51,7 +53,7 @@ pub fn reset(id: u16) -> ShortMessage
 }
 
 /// A reply with a body of CBOR.
-fn with_body(code: u8, exchange: &Exchange, body: &[u8]) -> ShortMessage
+pub fn with_body(code: u8, exchange: &Exchange, body: &[u8]) -> ShortMessage
     requires code { code ≢ 0 }
     requires body { length body.now ≤ MAX_BODY }
     ensures { result ≡ with_body code exchange.now body.now }
@@ -70,17 +72,57 @@ fn with_body(code: u8, exchange: &Exchange, body: &[u8]) -> ShortMessage
     })
 }
 
-/// 2.01 with the mid and the granted lifetime in seconds, -1 for an indefinite one (RFC 9132, section 4.4.1.3).
-pub fn created(
+/// 2.04 where a mitigation that stands is refreshed, else 2.01; with the mid and the granted lifetime in seconds, -1 for an
+/// indefinite one (RFC 9132, section 4.4.1.3).
+pub fn granting(
     alloc: Global,
     exchange: &Exchange,
-    mid: u32,
-    lifetime: i32,
+    judged: &Judged,
 ) -> Result<ShortMessage, NoMemory>
-    ensures { IfOk result (λ reply. reply ≡ created exchange.now mid lifetime) }
+    ensures { IfOk result (λ reply. reply ≡ granting exchange.now judged.now) }
 {
-    let body = body_of(alloc, &Reply::Granted { mid, lifetime })?;
-    Ok(with_body(CREATED, exchange, body.items()))
+    let granted = Reply::Granted {
+        mid: judged.put.mid,
+        lifetime: judged.put.granted,
+    };
+    let body = body_of(alloc, &granted)?;
+    Ok(with_body(grant_code(judged.refreshed), exchange, body.items()))
+}
+
+fn grant_code(refreshed: bool) -> u8
+    ensures code { result ≡ grant_code refreshed }
+    ensures class { result ≢ 0 }
+{
+    if refreshed { CHANGED } else { CREATED }
+}
+
+/// 2.02, whether or not there was something to withdraw (RFC 9132, section 4.4.4).
+pub fn deleted(exchange: &Exchange) -> ShortMessage
+    ensures { result ≡ deleted exchange.now }
+{
+    plain(DELETED, exchange, &[])
+}
+
+/// 4.04, where there is no mitigation to tell of (RFC 9132, section 4.4.2).
+pub fn absent(exchange: &Exchange) -> ShortMessage
+    ensures { result ≡ absent exchange.now }
+{
+    plain(NOT_FOUND, exchange, b"absent")
+}
+
+/// 4.00, with a text that says why a request can't be granted.
+pub fn bad_request(exchange: &Exchange, text: &[u8]) -> ShortMessage
+    requires { length text.now ≤ 28 }
+    ensures { result ≡ bad_request exchange.now text.now }
+{
+    plain(BAD_REQUEST, exchange, text)
+}
+
+/// 5.03, where as many mitigations live as may be.
+pub fn at_capacity(exchange: &Exchange) -> ShortMessage
+    ensures { result ≡ at_capacity exchange.now }
+{
+    plain(SERVICE_UNAVAILABLE, exchange, b"capacity")
 }
 
 /// 5.01, for what isn't served.
@@ -109,13 +151,6 @@ pub fn bad_parameter(exchange: &Exchange) -> ShortMessage
     ensures { result ≡ bad_parameter exchange.now }
 {
     rejection(exchange, &Reject::Parameter)
-}
-
-/// 4.09, for a request in the way of which another runs.
-pub fn conflicting(exchange: &Exchange) -> ShortMessage
-    ensures { result ≡ conflicting exchange.now }
-{
-    plain(CONFLICT, exchange, b"conflict")
 }
 
 /// The refusal of a message, by its cause.

@@ -1,83 +1,125 @@
-//! The report: a line for each filter that stands.
+//! The report: a line for each row of a mitigation, and one for each sample packet.
 
-ghost use Rattle.std.specs.Prelude.{◌≡◌, [], ◌++◌, flat_map, codes, decimal};
-ghost use Rattle.dots_history.specs.declared.change.Change.TheVariants as change;
-ghost use Rattle.dots_machine.specs.Report.{any_or, texts_of, ports_text};
+ghost use Rattle.std.specs.Prelude.{◌≡◌, ◌++◌, flat_map, map, codes, decimal};
+ghost use Rattle.filter_rows.specs.Fates.{fate_by_rows};
+ghost use Rattle.filter_rows.specs.Told.{fate_of};
+ghost use Rattle.filter_table.specs.Held.{row_of_scrub, row_of_acl, active_rows};
+ghost use Rattle.dots_settings.specs.Lookups.{prefixes_of};
+ghost use Rattle.dots_machine.specs.Report.{any_or, texts_of, ports_text, scrub_line, fate_text, packet_line, packet_lines};
 ghost use Rattle.dots_server.specs.Gathering.{sunk, Puts};
-ghost use Rattle.dots_server.specs.Lines.{scrub_lines, target_lines, line_front, line_end};
+ghost use Rattle.dots_server.specs.Lines.{line_front, line_end};
 
 use crate::gathering::Gatherer;
 use crate::naming::name_of;
-use dots_history::{Change, Entry, Put, Target};
+use acl_lists::Packet;
 use dots_host::Sink;
 use dots_settings::Settings;
-use ip_scope::{PortRange, Prefix, write_prefix};
+use filter_rows::{Fate, ScrubRow};
+use filter_table::FilterTable;
+use ip_scope::{PortRange, write_prefix};
 
-/// The lines of requests, in order.
-pub fn put_entries<K: Sink>(
+/// The lines of the active rows of mitigations, in order.
+pub fn put_rows<K: Sink>(
     settings: &Settings,
-    entries: &[Entry],
+    table: &FilterTable,
     report: &mut Gatherer,
     sink: &mut K,
 )
-    ensures { Puts (sunk K.holds K.faults sink.old) report.old (sunk K.holds K.faults sink.new) report.new (flat_map (scrub_lines settings.now) entries.now) }
+    ensures { Puts (sunk K.holds K.faults sink.old) report.old (sunk K.holds K.faults sink.new) report.new
+        (flat_map (scrub_line settings.now) (active_rows table.now.scrubs)) }
 {
-    for entry in entries {
-        put_entry(settings, entry, report, sink);
+    for row in table.scrubs() {
+        put_front(settings, row, report, sink);
+        put_end(row, report, sink);
     }
 }
 
-/// The lines of one request: one for each row.
-fn put_entry<K: Sink>(settings: &Settings, entry: &Entry, report: &mut Gatherer, sink: &mut K)
-    ensures { Puts (sunk K.holds K.faults sink.old) report.old (sunk K.holds K.faults sink.new) report.new (scrub_lines settings.now entry.now) }
-{
-    let Change::Put(put) = &entry.change else {
-        return;
-    };
-    for target in put.targets.items() {
-        put_target(settings, entry, put, target, report, sink);
-    }
-}
-
-/// The lines of one target: one for each prefix.
-fn put_target<K: Sink>(
+/// The lines of the sample packets, in order, with their fates by the table.
+pub fn put_packets<K: Sink>(
     settings: &Settings,
-    entry: &Entry,
-    put: &Put,
-    target: &Target,
+    table: &FilterTable,
     report: &mut Gatherer,
     sink: &mut K,
 )
-    requires { entry.now.change ≡ change.Put put.now }
-    ensures { Puts (sunk K.holds K.faults sink.old) report.old (sunk K.holds K.faults sink.new) report.new (target_lines settings.now entry.now target.now) }
+    ensures { Puts (sunk K.holds K.faults sink.old) report.old (sunk K.holds K.faults sink.new) report.new
+        (packet_lines (fate_by_rows (prefixes_of settings.now) (map row_of_scrub table.now.scrubs) (map row_of_acl table.now.acls)) 1 settings.now.packets) }
 {
-    for prefix in target.prefixes.items() {
-        put_front(settings, entry, put.mid, prefix, report, sink);
-        put_end(target, report, sink);
+    let packets = settings.packets();
+    let mut number: usize = 0;
+    for packet in packets {
+        number += 1;
+        put_packet(settings, table, number, packet, report, sink);
     }
+}
+
+/// `packet N FATE`, with the fate by the table.
+fn put_packet<K: Sink>(
+    settings: &Settings,
+    table: &FilterTable,
+    number: usize,
+    packet: &Packet,
+    report: &mut Gatherer,
+    sink: &mut K,
+)
+    ensures { Puts (sunk K.holds K.faults sink.old) report.old (sunk K.holds K.faults sink.new) report.new
+        (packet_line number (fate_by_rows (prefixes_of settings.now) (map row_of_scrub table.now.scrubs) (map row_of_acl table.now.acls) packet.now)) }
+{
+    let fate = table.fate(packet, settings);
+    put_number(number, report, sink);
+    put_fate(&fate, report, sink);
+    report.put(sink, b"\n");
+}
+
+/// `packet N ` with the blank behind it.
+fn put_number<K: Sink>(number: usize, report: &mut Gatherer, sink: &mut K)
+    ensures { Puts (sunk K.holds K.faults sink.old) report.old (sunk K.holds K.faults sink.new) report.new (codes "packet " ++ decimal number ++ codes " ") }
+{
+    let mut digits = itoa::Buffer::new();
+    let pieces = [
+        b"packet ".as_slice(),
+        digits.format(number).as_bytes(),
+        b" ".as_slice(),
+    ];
+    report.put_all(sink, &pieces)
+}
+
+/// What becomes of a packet, in words.
+fn put_fate<K: Sink>(fate: &Fate<'_>, report: &mut Gatherer, sink: &mut K)
+    ensures { Puts (sunk K.holds K.faults sink.old) report.old (sunk K.holds K.faults sink.new) report.new (fate_text (fate_of fate.now)) }
+{
+    match fate {
+        Fate::Pass => report.put(sink, b"pass"),
+        Fate::Accepted { acl } => put_with(b"accepted ", acl.bytes(), report, sink),
+        Fate::Dropped { acl } => put_with(b"dropped ", acl.bytes(), report, sink),
+        Fate::Scrubbed { mid } => {
+            let mut digits = itoa::Buffer::new();
+            put_with(b"scrubbed ", digits.format(*mid).as_bytes(), report, sink);
+        }
+    }
+}
+
+/// A word and what stands behind it.
+fn put_with<K: Sink>(word: &[u8], behind: &[u8], report: &mut Gatherer, sink: &mut K)
+    ensures { Puts (sunk K.holds K.faults sink.old) report.old (sunk K.holds K.faults sink.new) report.new (word.now ++ behind.now) }
+{
+    report.put(sink, word);
+    report.put(sink, behind);
 }
 
 /// `scrub DOMAIN CUID MID PREFIX ` with the blank behind it.
-fn put_front<K: Sink>(
-    settings: &Settings,
-    entry: &Entry,
-    mid: u32,
-    prefix: &Prefix,
-    report: &mut Gatherer,
-    sink: &mut K,
-)
-    ensures { Puts (sunk K.holds K.faults sink.old) report.old (sunk K.holds K.faults sink.new) report.new (line_front settings.now entry.now mid prefix.now) }
+fn put_front<K: Sink>(settings: &Settings, row: &ScrubRow, report: &mut Gatherer, sink: &mut K)
+    ensures { Puts (sunk K.holds K.faults sink.old) report.old (sunk K.holds K.faults sink.new) report.new (line_front settings.now row.now) }
 {
     let mut digits = itoa::Buffer::new();
     let mut text = [0; 43];
-    let len = write_prefix(prefix, &mut text);
+    let len = write_prefix(&row.prefix, &mut text);
     let pieces = [
         b"scrub ".as_slice(),
-        name_of(settings, entry.domain),
+        name_of(settings, row.domain),
         b" ".as_slice(),
-        entry.cuid.bytes(),
+        row.cuid.bytes(),
         b" ".as_slice(),
-        digits.format(mid).as_bytes(),
+        digits.format(row.mid).as_bytes(),
         b" ".as_slice(),
         &text[..len],
         b" ".as_slice(),
@@ -86,12 +128,12 @@ fn put_front<K: Sink>(
 }
 
 /// `PROTOCOLS PORTS`, with which a line ends.
-fn put_end<K: Sink>(target: &Target, report: &mut Gatherer, sink: &mut K)
-    ensures { Puts (sunk K.holds K.faults sink.old) report.old (sunk K.holds K.faults sink.new) report.new (line_end target.now) }
+fn put_end<K: Sink>(row: &ScrubRow, report: &mut Gatherer, sink: &mut K)
+    ensures { Puts (sunk K.holds K.faults sink.old) report.old (sunk K.holds K.faults sink.new) report.new (line_end row.now) }
 {
-    put_protocols(target.protocols.items(), report, sink);
+    put_protocols(row.protocols.items(), report, sink);
     report.put(sink, b" ");
-    put_ports(target.ports.items(), report, sink);
+    put_ports(row.ports.items(), report, sink);
     report.put(sink, b"\n");
 }
 

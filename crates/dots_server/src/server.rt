@@ -1,6 +1,6 @@
-//! The server: the settings, the requests that run and the time.
+//! The server: the settings, and the registry.
 
-ghost use Rattle.std.specs.Prelude.{◌≡◌, [], ◌∷◌, length, max, List, OnOk, OnErr};
+ghost use Rattle.std.specs.Prelude.{◌≡◌, ◌<◌, ◌^◌, [], ◌∷◌, length, List, IfOk, OnOk, OnErr};
 ghost use Rattle.std.specs.Io.KnownBytes.{Appends};
 ghost use Rattle.dots_host.specs.Acts.{IsWithin, event_of};
 ghost use Rattle.dots_host.specs.Causes.{HasCause};
@@ -9,37 +9,39 @@ ghost use Rattle.dots_host.specs.Writing.{AppendsBeginning};
 ghost use Rattle.dots_host.specs.declared.out.OwnedOut.{OwnedOut};
 ghost use Rattle.dots_host.specs.declared.out.OwnedOut.TheVariants as owned;
 ghost use Rattle.dots_settings.specs.Settings.{SettingsValue};
-ghost use Rattle.dots_machine.specs.Running.{running};
-ghost use Rattle.dots_machine.specs.Machine.{State, begun_at, Decides, sends_of, after, Step};
+ghost use Rattle.dots_machine.specs.Machine.{State, begun_at, later, sends_of, after, Step};
 ghost use Rattle.dots_machine.specs.Report.{report_of};
-ghost use Rattle.dots_server.specs.Standing.{StandsFor, KeepsAll, CanCarryOut};
+ghost use Rattle.dots_server.specs.Standing.{StandsFor, CanCarryOut};
 
 use crate::gathering::Gatherer;
-use crate::overlaps::leave_running;
-use crate::report::put_entries;
-use dots_history::Entry;
+use crate::report::{put_packets, put_rows};
 use dots_host::{Got, Host, Out, Sink, What};
+use dots_lists::NoMemory;
 use dots_machine::Verdict;
+use dots_registry::Registry;
 use dots_settings::Settings;
 use std::alloc::Global;
 use std::marker::Model;
 
-/// A server: its settings, the requests that run in order of acceptance, and the time of the last event.
+/// Without a journal no entry stands in a slot, and nothing reads this number.
+const NO_SLOT: u32 = 0;
+
+/// A server: its settings, and the registry of what it has accepted.
 #[derive(Drop)]
 pub struct Server {
     pub(crate) alloc: Global,
     pub(crate) settings: Settings,
-    pub(crate) running: Vec<Entry>,
-    pub(crate) time: u64,
+    pub(crate) registry: Registry,
 }
 
 impl Model for Server {
-    ghost use Rattle.std.specs.Prelude.{◌-◌, vec_len, vec_capacity};
-    ghost use Rattle.dots_server.specs.Standing.{ServerValue};
+    ghost use Rattle.dots_server.specs.Standing.{ServerValue, IsLiving};
 
     ghost Value = { ServerValue };
 
-    ghost view = { λ server. record { settings = server.settings; running = server.running.items; room = vec_capacity server.running - vec_len server.running; time = server.time } };
+    ghost view = { λ server. record { settings = server.settings; registry = server.registry } };
+
+    ghost invariant = { λ server. IsLiving (record { settings = server.settings; registry = server.registry }) };
 }
 
 /// The report couldn't be written.
@@ -50,16 +52,18 @@ pub enum ReportFault {
 }
 
 impl Server {
-    /// A server that has accepted nothing yet, at a time in seconds. Takes no memory.
-    pub fn begin(alloc: Global, settings: Settings, at: u64) -> Self
-        ensures stands { StandsFor result settings (begun_at at) }
+    /// A server that has accepted nothing yet, at a time in seconds, below 2^48, with the memory of all its tables.
+    pub fn begin(alloc: Global, settings: Settings, at: u64) -> Result<Self, NoMemory>
+        requires early { at < 2 ^ 48 }
+        ensures stands { IfOk result (λ server. StandsFor server settings (begun_at at)) }
     {
-        Server {
+        let mut registry = Registry::new(alloc, &settings)?;
+        registry.tick(at);
+        Ok(Server {
             alloc,
             settings,
-            running: Vec::new(alloc),
-            time: at,
-        }
+            registry,
+        })
     }
 
     /// The settings again. Takes no memory.
@@ -72,7 +76,8 @@ impl Server {
     /// Takes one event, its bytes at the front of the room: one step of the machine. Its sends are handed to the host, and
     /// nothing else is.
     pub fn handle<H: Host>(&mut self, host: &mut H, got: &Got, room: &[u8])
-        requires { IsWithin got.now.what (length room.now) }
+        requires within { IsWithin got.now.what (length room.now) }
+        requires early { got.now.at < 2 ^ 48 }
         ensures settings { self.new.settings ≡ self.old.settings }
         ensures faults { H.faults host.new ≡ H.faults host.old }
         ensures leads { H.leads host.old host.new }
@@ -95,15 +100,14 @@ impl Server {
         }
     }
 
-    /// The time never falls, and what has ended by then is forgotten.
+    /// The time never falls, and what has ended by then is taken out.
     fn move_time(&mut self, at: u64)
+        requires early { at < 2 ^ 48 }
         ensures settings { self.new.settings ≡ self.old.settings }
-        ensures time { self.new.time ≡ max at self.old.time }
-        ensures running { self.new.running ≡ running (max at self.old.time) self.old.running }
+        ensures stands { (settings : SettingsValue) (state : State) → StandsFor self.old settings state → StandsFor self.new settings (later state at) }
     {
-        let time = at.max(self.time);
-        leave_running(&mut self.running, time);
-        self.time = time;
+        let time = at.max(self.registry.time());
+        self.registry.tick(time);
     }
 
     /// Carries a verdict on a peer's datagram out: what is accepted is kept, and then the reply is sent.
@@ -118,15 +122,16 @@ impl Server {
         match verdict {
             Verdict::Silent => {}
             Verdict::Reply(reply) => return send_to(host, peer, reply.bytes()),
+            Verdict::Told(reply) => return send_to(host, peer, reply.items()),
             Verdict::Accept { reply, entry } => {
-                self.running.push_reserved(entry);
+                self.registry.apply(entry, NO_SLOT);
                 return send_to(host, peer, reply.bytes());
             }
         }
     }
 
-    /// Writes the report: a line for each filter that stands, in order of acceptance. Takes no memory. Where the sink fails, a
-    /// beginning was written.
+    /// Writes the report: a line for each row that mitigations install, in order of acceptance, and one for each sample packet.
+    /// Takes no memory. Where the sink fails, a beginning was written.
     pub fn write_report<K: Sink>(&self, report: &mut K) -> Result<(), ReportFault>
         ensures ok { (settings : SettingsValue) (state : State) → StandsFor self.now settings state
             → OnOk result (Appends (K.holds report.old) (K.holds report.new) (report_of settings state)) }
@@ -135,12 +140,9 @@ impl Server {
         ensures cause { HasCause (K.faults report.old) (K.faults report.new) result }
     {
         let mut gatherer = Gatherer::new();
-        put_entries(
-            &self.settings,
-            self.running.as_slice(),
-            &mut gatherer,
-            report,
-        );
+        let table = self.registry.filters();
+        put_rows(&self.settings, table, &mut gatherer, report);
+        put_packets(&self.settings, table, &mut gatherer, report);
         match gatherer.finish(report) {
             Ok(()) => Ok(()),
             Err(_) => Err(ReportFault::Failed),

@@ -21,8 +21,8 @@ const WHOSE: &str = "\
 > to 0 REPLY
 = ROW";
 
-/// The same cuid and mid stand in another domain, for a client of it and for a gateway; and in the same domain they
-/// conflict, whoever sends them, for whatever prefixes: the last asks for 2001:db8:1::/64.
+/// The same cuid and mid stand in another domain, for a client of it and for a gateway; and in the same domain the cuid is in use,
+/// for whatever prefixes: the last asks for 2001:db8:1::/64.
 const ONE_NAME_IN_TWO: &str = "\
 < at 1000 from 0 REQUEST
 < at 1000 from 2 START+CUID+MID_123+NET2
@@ -41,7 +41,7 @@ const ONE_NAME_IN_TWO: &str = "\
 < at 1000 from 0 REQUEST
 < at 1000 from 1 START+CUID+MID_123+12010fffa101a10281a206816f323030313a6462383a313a3a2f36340e190e10
 > to 0 REPLY
-> to 1 CONFLICT
+> to 1 COLLISION
 = ROW";
 
 /// Prefixes of the second family: inside the domain, outside it, and loopback and multicast.

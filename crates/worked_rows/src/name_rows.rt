@@ -27,43 +27,61 @@ const SCOPES: &str = "\
 > to 0 REPLY
 = scrub net1 dz6pHjaADkaFTbjr0JGBpw 123 192.0.2.80/32 any any
 = scrub net1 dz6pHjaADkaFTbjr0JGBpw 123 2001:db8:1::80/128 any any
+= packet 1 pass
+= packet 2 pass
 
 # the same in capitals
 < at 1000 from 0 HEAD+MID_123+12010fffa101a10281+a20b816f5757572e4578616d706c652e4e45540e190e10
 > to 0 REPLY
 = scrub net1 dz6pHjaADkaFTbjr0JGBpw 123 192.0.2.80/32 any any
 = scrub net1 dz6pHjaADkaFTbjr0JGBpw 123 2001:db8:1::80/128 any any
+= packet 1 pass
+= packet 2 pass
 
 # names whose address may not be asked for
 < at 1000 from 0 HEAD+MID_123+12010fffa101a10281+a20b816f6f75742e6578616d706c652e6e65740e190e10
 > to 0 OUTSIDE_DOMAIN
+= packet 1 pass
+= packet 2 pass
 
 < at 1000 from 0 HEAD+MID_123+12010fffa101a10281+a20b8170626f74682e6578616d706c652e6e65740e190e10
 > to 0 NOT_A_TARGET
+= packet 1 pass
+= packet 2 pass
 
 # one that the settings don't have
 < at 1000 from 0 HEAD+MID_123+12010fffa101a10281+a20b816e6e6f2e6578616d706c652e6e65740e190e10
 > to 0 UNKNOWN_NAME
+= packet 1 pass
+= packet 2 pass
 
 # a prefix at fault comes before a name at fault
 < at 1000 from 0 HEAD+MID_123+12010fffa101a10281+a306816c3132372e302e302e312f33320b816e6e6f2e6578616d706c652e6e65740e190e10
 > to 0 NOT_A_TARGET
+= packet 1 pass
+= packet 2 pass
 
 # ports and protocols
 < at 1000 from 0 HEAD+MID_123+12010fffa101a10281+a406816c3139322e302e322e302f32340782a2081850091851a1081901bb0a8206110e190e10
 > to 0 REPLY
 = scrub net1 dz6pHjaADkaFTbjr0JGBpw 123 192.0.2.0/24 6,17 80-81,443-443
+= packet 1 pass
+= packet 2 pass
 
 # an alias
 < at 1000 from 0 HEAD+MID_123+12010fffa101a10281+a20d81637765620e190e10
-> to 0 UNSERVED";
+> to 0 UNKNOWN_ALIAS
+= packet 1 pass
+= packet 2 pass";
 
 /// A lifetime without end is granted where the settings say so.
 const ENDLESS: &str = "\
 < at 1000 from 0 HEAD+MID_123+12010fffa101a10281a206816c3139322e302e322e302f32340e+20
 < at 86000 from 77 00
 > to 0 514100014ac2010fffa101a10281a205187b0e20
-= ROW";
+= ROW
+= packet 1 scrubbed 123
+= packet 2 scrubbed 123";
 
 /// A lifetime is cut to the ceiling.
 const LIFETIMES: &str = "\

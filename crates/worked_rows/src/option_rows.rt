@@ -61,17 +61,16 @@ const PASSED_OVER: &str = "\
 < at 1000 from 0 HEAD+MID_123+12010fffa101a10281a306816c3139322e302e322e302f32340e190e10183c00
 > to 0 518000014aff756e6b6e6f776e203630";
 
-/// Reading and withdrawing a mitigation, the configuration of a session and heartbeats aren't served; what is wrong with
-/// them is answered.
+/// The configuration of a session and heartbeats aren't served; what is wrong with them is answered.
 const NOT_SERVED: &str = "\
 < at 1000 from 0 510100014abb2e77656c6c2d6b6e6f776e04646f7473086d69746967617465+CUID
-> to 0 UNSERVED
+> to 0 ABSENT
 
 < at 1000 from 0 510400014abb2e77656c6c2d6b6e6f776e04646f7473086d69746967617465+CUID
 > to 0 NO_PARAMETER
 
 < at 1000 from 0 510400014abb2e77656c6c2d6b6e6f776e04646f7473086d69746967617465+B_7
-> to 0 UNSERVED
+> to 0 DELETED
 
 < at 1000 from 0 510400014abb2e77656c6c2d6b6e6f776e04646f747306636f6e666967057369643d31
 > to 0 UNSERVED
@@ -88,7 +87,7 @@ const NOT_SERVED: &str = "\
 /// A GET with a query that isn't one of the contents.
 const QUERIES: &str = "\
 < at 1000 from 0 510100014abb2e77656c6c2d6b6e6f776e04646f7473086d69746967617465+CUID+43633d61
-> to 0 UNSERVED
+> to 0 ABSENT
 
 < at 1000 from 0 510100014abb2e77656c6c2d6b6e6f776e04646f7473086d69746967617465+CUID+43633d78
 > to 0 QUERY

@@ -42,19 +42,26 @@ const PREFIXES: &str = "\
 < at 1000 from 0 HEAD+MID_123+BODY+90+INSIDE+INSIDE+INSIDE+INSIDE+INSIDE+INSIDE+INSIDE+INSIDE+INSIDE+INSIDE+INSIDE+INSIDE+INSIDE+INSIDE+INSIDE+OUTSIDE+LIFETIME
 > to 0 OUTSIDE_DOMAIN";
 
-/// The same request again, up to the last second of the first, and at its end.
+/// The same request again, up to the last second of the first, refreshes it; at its end it is a new one.
 const AGAIN: &str = "\
 < at 1000 from 0 REQUEST
 < at 1000 from 0 REQUEST
 > to 0 REPLY
-> to 0 CONFLICT
+> to 0 REFRESHED
 = ROW
 
 < at 1000 from 0 REQUEST
 < at 4599 from 0 REQUEST
+< at 8198 tick
 > to 0 REPLY
-> to 0 CONFLICT
+> to 0 REFRESHED
 = ROW
+
+< at 1000 from 0 REQUEST
+< at 4599 from 0 REQUEST
+< at 8199 tick
+> to 0 REPLY
+> to 0 REFRESHED
 
 < at 1000 from 0 REQUEST
 < at 4600 from 0 REQUEST
@@ -62,7 +69,7 @@ const AGAIN: &str = "\
 > to 0 REPLY
 = ROW";
 
-/// A second request that meets the first in no prefix: it stands beside the first unless it has its mid.
+/// A second request that meets the first in no prefix stands beside the first; with its mid it would change it.
 const BESIDE: &str = "\
 < at 1000 from 0 HEAD+MID_123+BODY+816c3139322e302e322e302f3235+LIFETIME
 < at 1000 from 0 HEAD+MID_124+BODY+816e3139322e302e322e3132382f3235+LIFETIME
@@ -74,7 +81,7 @@ const BESIDE: &str = "\
 < at 1000 from 0 HEAD+MID_123+BODY+816c3139322e302e322e302f3235+LIFETIME
 < at 1000 from 0 HEAD+MID_123+BODY+816e3139322e302e322e3132382f3235+LIFETIME
 > to 0 REPLY
-> to 0 CONFLICT
+> to 0 CHANGED
 = scrub net1 dz6pHjaADkaFTbjr0JGBpw 123 192.0.2.0/25 any any";
 
 #[test]

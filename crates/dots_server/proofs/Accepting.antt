@@ -1,0 +1,94 @@
+-- What is accepted can be taken.
+use Rattle.std.proofs.Common.{◌≡◌, ℕ, ◌≤◌, ◌<◌, ◌^◌, Bool, true, false, ◌&&◌, nat_le, List, length, Option, None, Result, Ok, Err, refl, sym, ap, ◌∙◌, subst, arith}
+use Rattle.std.proofs.lemmas.Bool.{and_from}
+use Rattle.std.proofs.lemmas.Bool.Decides.{nat_tests}
+use Rattle.dots_lists.specs.Name.{is_name}
+use Rattle.acl_lists.specs.declared.asked.Asked.{Asked}
+use Rattle.dots_settings.specs.Settings.{SettingsValue}
+use Rattle.dots_settings.specs.Lookups.{role_of, prefixes_of}
+use Rattle.dots_history.specs.declared.entry.Entry.{Entry}
+use Rattle.dots_history.specs.declared.change.Change.TheVariants as change
+use Rattle.dots_history.specs.Bounds.{asked_within, within_bounds}
+use Rattle.dots_laws.specs.Calm.{may_act, is_own}
+use Rattle.dots_keys.specs.Askable.{AreFew}
+use Rattle.put_judging.specs.declared.judging.Judged.{Judged}
+use Rattle.dots_registry.specs.Standing.{time_of}
+use Rattle.dots_registry.specs.Judging.{judge_request}
+use Rattle.judged_entries.specs.Limits.{ClientsKeepLimits}
+use Rattle.judged_entries.proofs.Inside.{own_granted, own_withdrawal}
+use Rattle.judged_entries.proofs.Bounded.{bounded_granted, bounded_withdrawal}
+use Rattle.judged_entries.proofs.Fitting.{fits_granted, fits_withdrawal}
+use Rattle.dots_machine.specs.declared.client_request.ClientRequest.{ClientRequest}
+use Rattle.dots_machine.specs.declared.mitigation_request.MitigationRequest.{MitigationRequest}
+use Rattle.dots_machine.specs.Targets.{scope_fault}
+use Rattle.dots_machine.specs.Replies.{granting, deleted}
+use Rattle.dots_machine.specs.Mitigations.{request_of, entry_of}
+use Rattle.dots_machine.specs.Machine.{State}
+use Rattle.dots_server.specs.Standing.{ServerValue, StandsFor, IsAcceptable}
+use Rattle.dots_server.proofs.Insides.{lies_inside}
+
+few_within : (asked : Asked) → AreFew asked → asked_within asked ≡ true
+few_within asked few =
+    let at_most : (n m : ℕ) → n ≤ m → nat_le n m ≡ true = λ n m le. grind (arith, nat_tests, le) in
+    and_from _ _
+    (and_from _ _
+    (and_from _ _
+    (and_from _ _ (at_most (length asked.prefixes) 16 few.prefixes) (at_most (length asked.ports) 16 few.ports))
+    (at_most (length asked.protocols) 16 few.protocols))
+    (at_most (length asked.names) 8 few.names))
+    (at_most (length asked.aliases) 8 few.aliases)
+
+module _ (server : ServerValue) (asked : MitigationRequest) (judged : Judged) (reply : List ℕ) (may : may_act server.settings (role_of server.settings asked.from.peer) asked.from.domain ≡ true)
+    (clear : scope_fault server.settings (prefixes_of server.settings asked.from.domain) asked.body.asked ≡ None) (few : AreFew asked.body.asked)
+    (named : is_name asked.from.cuid ≡ true) (short : length reply ≤ 64)
+    (is : (settings : SettingsValue) (state : State) → StandsFor server settings state → judge_request settings state.time state.history asked.from.domain (request_of asked) ≡ Ok judged) where
+  abbrev entry_put : Entry
+  entry_put = entry_of (time_of server.registry) asked.from reply (change.Put judged.put)
+
+  owned : (settings : SettingsValue) (state : State) → StandsFor server settings state → is_own settings entry_put ≡ true
+  owned settings state stands =
+      let same = stands.settings_are in
+      let inside = lies_inside settings (prefixes_of settings asked.from.domain) asked.body.asked
+      (subst (λ s. scope_fault s (prefixes_of s asked.from.domain) asked.body.asked ≡ None) same clear) in
+      own_granted settings state.time state.history asked.from.domain (request_of asked) judged entry_put stands.own
+      (subst (λ s. may_act s (role_of s asked.from.peer) asked.from.domain ≡ true) same may)
+      inside.prefixes inside.names (is settings state stands) refl refl refl refl
+
+  pub grant_acceptable : IsAcceptable server entry_put
+  grant_acceptable = record {
+    now = refl;
+    fits = λ settings state stands.
+        let early : entry_put.time < 2 ^ 48 = subst (λ t. t < 2 ^ 48) (sym stands.time_is) stands.early in
+        let judged_so = is settings state stands in
+        let here : judge_request settings (time_of server.registry) state.history asked.from.domain (request_of asked) ≡ Ok judged =
+        ap (λ t. judge_request settings t state.history asked.from.domain (request_of asked)) stands.time_is ∙ judged_so in
+        fits_granted settings server.registry state.history asked.from.domain (request_of asked) judged entry_put stands.is_of stands.registry
+        (subst (λ t. ClientsKeepLimits settings.limits t state.history) (sym stands.time_is) stands.limits)
+        (owned settings state stands)
+        (bounded_granted settings state.time state.history asked.from.domain (request_of asked) judged entry_put stands.bounded (few_within asked.body.asked few) early named short
+        judged_so refl refl refl refl)
+        refl here refl refl refl refl;
+    own = owned;
+  }
+
+module _ (server : ServerValue) (from : ClientRequest) (mid : ℕ) (reply : List ℕ) (may : may_act server.settings (role_of server.settings from.peer) from.domain ≡ true)
+    (named : is_name from.cuid ≡ true) (short : length reply ≤ 64) where
+  abbrev entry_withdrawn : Entry
+  entry_withdrawn = entry_of (time_of server.registry) from reply (change.Withdraw mid)
+
+  withdrawn_owned : (settings : SettingsValue) (state : State) → StandsFor server settings state → is_own settings entry_withdrawn ≡ true
+  withdrawn_owned settings state stands =
+      own_withdrawal settings mid entry_withdrawn refl (subst (λ s. may_act s (role_of s from.peer) from.domain ≡ true) stands.settings_are may)
+
+  pub withdrawal_acceptable : IsAcceptable server entry_withdrawn
+  withdrawal_acceptable = record {
+    now = refl;
+    fits = λ settings state stands.
+        let early : entry_withdrawn.time < 2 ^ 48 = subst (λ t. t < 2 ^ 48) (sym stands.time_is) stands.early in
+        fits_withdrawal settings server.registry state.history mid entry_withdrawn refl stands.is_of stands.registry
+        (subst (λ t. ClientsKeepLimits settings.limits t state.history) (sym stands.time_is) stands.limits)
+        (withdrawn_owned settings state stands)
+        (bounded_withdrawal mid entry_withdrawn refl early named short)
+        refl;
+    own = withdrawn_owned;
+  }

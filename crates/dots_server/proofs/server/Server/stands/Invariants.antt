@@ -1,0 +1,13 @@
+use Rattle.std.proofs.Common.{◌≡◌}
+use Rattle.std.specs.List.{list_any}
+use Rattle.live_mitigations.specs.Reading.{Shown}
+use Rattle.dots_settings.specs.Settings.{SettingsValue}
+use Rattle.dots_machine.specs.Machine.{State}
+use Rattle.dots_machine.specs.Mitigations.{lives, stands_as}
+use Rattle.dots_server.specs.Standing.{StandsFor}
+use Rattle.dots_server.proofs.server.Server.stands.Given as goal
+
+abbrev pub invariant-loop-row : goal.invariant-loop-row
+invariant-loop-row l =
+    (settings : SettingsValue) (state : State) → StandsFor l.fn.self settings state
+    → list_any (stands_as l.fn.mid) (lives state.time state.history l.fn.from) ≡ list_any (stands_as l.fn.mid) l.row-iterator

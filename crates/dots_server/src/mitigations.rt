@@ -1,0 +1,259 @@
+//! What a server decides on requests for mitigations.
+
+ghost use Rattle.std.specs.Prelude.{◌≡◌, ◌≢◌, ◌≤◌, List, ◌++◌, ◌∷◌, [], map, filter, length, true, false, IfOk, OnOk, None};
+ghost use Rattle.std.specs.List.{list_any};
+ghost use Rattle.dots_keys.specs.Askable.{IsAskableBody};
+ghost use Rattle.dots_settings.specs.Settings.{SettingsValue};
+ghost use Rattle.dots_settings.specs.Lookups.{role_of, prefixes_of};
+ghost use Rattle.dots_laws.specs.Calm.{may_act};
+ghost use Rattle.dots_history.specs.declared.entry.Entry.{Entry};
+ghost use Rattle.put_judging.specs.Results.{Gives};
+ghost use Rattle.put_judging.specs.declared.fault.PutFault.TheVariants as faults;
+ghost use Rattle.dots_registry.specs.Standing.{time_of};
+ghost use Rattle.dots_registry.specs.Standing as registry;
+ghost use Rattle.dots_registry.specs.Judging.{judge_request};
+ghost use Rattle.dots_registry.specs.Viewing.{is_wanted};
+ghost use Rattle.reply_bodies.specs.Mitigations.{scope_of};
+ghost use Rattle.dots_machine.specs.Machine.{State};
+ghost use Rattle.dots_lists.specs.Name.{is_name};
+ghost use Rattle.dots_machine.specs.Replies.{conflicting, deleted, granting, told};
+ghost use Rattle.dots_machine.specs.Targets.{scope_fault};
+ghost use Rattle.dots_machine.specs.declared.verdict.Verdict.TheVariants as verdicts;
+ghost use Rattle.dots_machine.specs.Mitigations.{grant, refusal, request_of, put_verdict, is_taken, lives, stands_as, delete_by, delete_verdict, get_verdict};
+ghost use Rattle.reply_bodies.specs.declared.conflict.ConflictCause.TheVariants as cause;
+ghost use Rattle.live_mitigations.specs.Reading.{Shown, row_view};
+ghost use Rattle.dots_server.specs.Standing.{StandsFor, CanCarryOut};
+
+use crate::entries::entry_of;
+use crate::replies::{
+    absent, at_capacity, bad_request, bad_target, deleted, granting, unavailable,
+};
+use crate::scopes::scope_fault;
+use crate::server::Server;
+use crate::telling::{conflicting, telling};
+use dots_history::Change;
+use dots_lists::{List, NoMemory};
+use dots_machine::{ClientRequest, Exchange, MitigationRequest, Verdict};
+use live_mitigations::MitigationRow;
+use put_judging::{Judged, PutFault, PutRequest};
+use reply_bodies::{ConflictCause, Content, MitigationView, ViewList};
+
+/// The status of a mitigation that stands (RFC 9132, section 4.4.2).
+const STANDS: u8 = 2;
+
+impl Server {
+    /// What is decided on a request for a mitigation of a peer that may act for the domain (RFC 9132, section 4.4.1).
+    pub(crate) fn decide_put(&self, asked: MitigationRequest) -> Result<Verdict, NoMemory>
+        requires askable { IsAskableBody asked.body }
+        requires acts { may_act self.now.settings (role_of self.now.settings asked.from.peer) asked.from.domain ≡ true }
+        ensures decides { (settings : SettingsValue) (state : State) → StandsFor self.now settings state
+            → IfOk result (λ verdict. verdict ≡ put_verdict settings state.time state.history asked) }
+        ensures ready { IfOk result (λ verdict. CanCarryOut verdict self.now) }
+    {
+        let domain = self.settings.prefixes_of(asked.from.domain);
+        if let Some(fault) = scope_fault(&self.settings, domain, &asked.body.asked) {
+            return Ok(Verdict::Reply(bad_target(&asked.from.exchange, fault)));
+        }
+        self.judge(asked)
+    }
+
+    /// What the rules say of a request for what may be asked for.
+    fn judge(&self, asked: MitigationRequest) -> Result<Verdict, NoMemory>
+        requires askable { IsAskableBody asked.body }
+        requires acts { may_act self.now.settings (role_of self.now.settings asked.from.peer) asked.from.domain ≡ true }
+        requires clear { scope_fault self.now.settings (prefixes_of self.now.settings asked.from.domain) asked.body.asked ≡ None }
+        ensures decides { (settings : SettingsValue) (state : State) → StandsFor self.now settings state
+            → IfOk result (λ verdict. verdict ≡ put_verdict settings state.time state.history asked) }
+        ensures ready { IfOk result (λ verdict. CanCarryOut verdict self.now) }
+    {
+        match self.judged(&asked) {
+            Ok(judged) => self.grant(&asked.from, judged),
+            Err(fault) => self.refuse(&asked.from.exchange, asked.mid, fault),
+        }
+    }
+
+    /// The judgement of a request by the rules, over what the registry keeps.
+    fn judged(&self, asked: &MitigationRequest) -> Result<Judged, PutFault>
+        requires askable { IsAskableBody asked.now.body }
+        requires acts { may_act self.now.settings (role_of self.now.settings asked.now.from.peer) asked.now.from.domain ≡ true }
+        ensures { (entries : List Entry) → registry.StandsFor self.now.registry entries
+            → Gives result (judge_request self.now.settings (time_of self.now.registry) entries asked.now.from.domain (request_of asked.now)) }
+    {
+        let request = PutRequest {
+            peer: asked.from.peer,
+            cuid: asked.from.cuid.bytes(),
+            mid: asked.mid,
+            asked: &asked.body.asked,
+            lifetime: asked.body.lifetime,
+        };
+        self.registry
+            .judge_request(&self.settings, asked.from.domain, &request)
+    }
+
+    /// What is granted is kept, and its client is told.
+    fn grant(&self, from: &ClientRequest, judged: Judged) -> Result<Verdict, NoMemory>
+        ensures verdict { IfOk result (λ verdict. verdict ≡ grant (time_of self.now.registry) from.now judged) }
+        ensures cuid { OnOk result (is_name from.now.cuid ≡ true) }
+        ensures reply { OnOk result (length (granting from.now.exchange judged) ≤ 64) }
+    {
+        let reply = granting(self.alloc, &from.exchange, &judged)?;
+        let time = self.registry.time();
+        let entry = entry_of(self.alloc, time, from, &reply, Change::Put(judged.put))?;
+        let entry = self.registry.stage(entry)?;
+        Ok(Verdict::Accept { reply, entry })
+    }
+
+    /// The answer to a request that can't be granted.
+    fn refuse(&self, exchange: &Exchange, mid: u32, fault: PutFault) -> Result<Verdict, NoMemory>
+        ensures verdict { IfOk result (λ verdict. verdict ≡ refusal exchange.now mid fault) }
+        ensures known { OnOk result (fault ≢ faults.NoMemory) }
+        ensures ready { IfOk result (λ verdict. CanCarryOut verdict self.now) }
+    {
+        let cause = match fault {
+            PutFault::Collision => ConflictCause::Collision,
+            PutFault::Higher { mid } => ConflictCause::Higher(mid),
+            PutFault::Other { prefixes } => ConflictCause::Other(prefixes),
+            PutFault::Changed => return Ok(Verdict::Reply(bad_request(exchange, b"changed"))),
+            PutFault::UnknownAlias => {
+                return Ok(Verdict::Reply(bad_request(exchange, b"unknown alias")));
+            }
+            PutFault::TooMany => return Ok(Verdict::Reply(bad_request(exchange, b"too many"))),
+            PutFault::Capacity { .. } => return Ok(Verdict::Reply(at_capacity(exchange))),
+            PutFault::NoMemory => return Err(NoMemory),
+        };
+        Ok(Verdict::Told(conflicting(self.alloc, exchange, Some(mid), cause)?))
+    }
+
+    /// What is decided on a request to withdraw the mitigation of a mid (RFC 9132, section 4.4.4).
+    pub(crate) fn decide_delete(&self, from: ClientRequest, mid: u32) -> Result<Verdict, NoMemory>
+        requires acts { may_act self.now.settings (role_of self.now.settings from.peer) from.domain ≡ true }
+        ensures decides { (settings : SettingsValue) (state : State) → StandsFor self.now settings state
+            → IfOk result (λ verdict. verdict ≡ delete_verdict state.time state.history from mid) }
+        ensures ready { IfOk result (λ verdict. CanCarryOut verdict self.now) }
+    {
+        if self.is_taken(&from) {
+            return self.collision(&from.exchange, Some(mid));
+        }
+        if !self.stands(&from, mid) {
+            return Ok(Verdict::Reply(deleted(&from.exchange)));
+        }
+        self.withdraw(&from, mid)
+    }
+
+    /// A mitigation that stands is withdrawn.
+    fn withdraw(&self, from: &ClientRequest, mid: u32) -> Result<Verdict, NoMemory>
+        ensures verdict { IfOk result (λ verdict. verdict ≡ delete_by (time_of self.now.registry) from.now mid false true) }
+        ensures cuid { OnOk result (is_name from.now.cuid ≡ true) }
+        ensures reply { OnOk result (length (deleted from.now.exchange) ≤ 64) }
+    {
+        let reply = deleted(&from.exchange);
+        let time = self.registry.time();
+        let entry = entry_of(self.alloc, time, from, &reply, Change::Withdraw { mid })?;
+        let entry = self.registry.stage(entry)?;
+        Ok(Verdict::Accept { reply, entry })
+    }
+
+    /// What is decided on a request to read mitigations of a client, or that of a mid (RFC 9132, section 4.4.2).
+    pub(crate) fn decide_get(
+        &self,
+        from: &ClientRequest,
+        mid: Option<u32>,
+        content: Content,
+    ) -> Result<Verdict, NoMemory>
+        requires acts { may_act self.now.settings (role_of self.now.settings from.now.peer) from.now.domain ≡ true }
+        ensures decides { (settings : SettingsValue) (state : State) → StandsFor self.now settings state
+            → IfOk result (λ verdict. verdict ≡ get_verdict state.time state.history from.now mid content) }
+        ensures ready { IfOk result (λ verdict. CanCarryOut verdict self.now) }
+    {
+        if self.is_taken(from) {
+            return self.collision(&from.exchange, mid);
+        }
+        let views = self.views(from, mid, content)?;
+        if views.items().is_empty() {
+            return Ok(Verdict::Reply(absent(&from.exchange)));
+        }
+        Ok(Verdict::Told(telling(self.alloc, &from.exchange, views)?))
+    }
+
+    /// The refusal where the client's name is in use by another peer.
+    fn collision(&self, exchange: &Exchange, mid: Option<u32>) -> Result<Verdict, NoMemory>
+        ensures verdict { IfOk result (λ verdict. verdict ≡ verdicts.Told (conflicting exchange.now mid cause.Collision)) }
+        ensures ready { IfOk result (λ verdict. CanCarryOut verdict self.now) }
+    {
+        let cause = ConflictCause::Collision;
+        Ok(Verdict::Told(conflicting(self.alloc, exchange, mid, cause)?))
+    }
+
+    /// Whether the client's name is in use by another peer.
+    fn is_taken(&self, from: &ClientRequest) -> bool
+        requires acts { may_act self.now.settings (role_of self.now.settings from.now.peer) from.now.domain ≡ true }
+        ensures { (settings : SettingsValue) (state : State) → StandsFor self.now settings state → result ≡ is_taken state.time state.history from.now }
+    {
+        self.registry
+            .collides(from.domain, from.cuid.bytes(), from.peer)
+    }
+
+    /// Whether a mitigation of the client with this mid stands.
+    fn stands(&self, from: &ClientRequest, mid: u32) -> bool
+        requires acts { may_act self.now.settings (role_of self.now.settings from.now.peer) from.now.domain ≡ true }
+        ensures { (settings : SettingsValue) (state : State) → StandsFor self.now settings state
+            → result ≡ list_any (stands_as mid) (lives state.time state.history from.now) }
+    {
+        for row in self.registry.mitigations(from.domain, from.cuid.bytes()) {
+            if row.put.mid == mid && row.status == STANDS {
+                return true;
+            }
+        }
+        false
+    }
+
+    /// The live mitigations of the client, or that of a mid, as they are to be told.
+    fn views<'a>(
+        &'a self,
+        from: &'a ClientRequest,
+        mid: Option<u32>,
+        content: Content,
+    ) -> Result<ViewList<'a>, NoMemory>
+        requires acts { may_act self.now.settings (role_of self.now.settings from.now.peer) from.now.domain ≡ true }
+        ensures { (settings : SettingsValue) (state : State) → StandsFor self.now settings state
+            → IfOk result (λ views. map scope_of views ≡ map (told content) (filter (is_wanted mid) (lives state.time state.history from.now))) }
+    {
+        let mut views = List::new(self.alloc);
+        for row in self.registry.mitigations(from.domain, from.cuid.bytes()) {
+            push_wanted(&mut views, &row, mid, content)?;
+        }
+        Ok(views)
+    }
+}
+
+/// Puts what is to be told of a live mitigation behind the others, where it is wanted.
+fn push_wanted<'a>(
+    views: &mut ViewList<'a>,
+    row: &MitigationRow<'a>,
+    mid: Option<u32>,
+    content: Content,
+) -> Result<(), NoMemory>
+    ensures { OnOk result (map scope_of views.new ≡ map scope_of views.old ++ map (told content) (filter (is_wanted mid) (row_view row.now ∷ []))) }
+{
+    if !is_wanted(mid, row.put.mid) {
+        return Ok(());
+    }
+    views.push(MitigationView {
+        mid: row.put.mid,
+        asked: &row.put.asked,
+        left: row.left,
+        start: row.put.start,
+        status: row.status,
+        content,
+    })
+}
+
+/// Whether all are wanted, or the mid is the one that is.
+fn is_wanted(wanted: Option<u32>, mid: u32) -> bool
+    ensures { (m : Shown) → m.put.mid ≡ mid → result ≡ is_wanted wanted m }
+{
+    match wanted {
+        Some(wanted) => mid == wanted,
+        None => true,
+    }
+}
