@@ -1,0 +1,3 @@
+mod Scripts
+mod Once
+mod Endings

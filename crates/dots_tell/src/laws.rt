@@ -1,0 +1,12 @@
+//! What the definitions come to: the contract is a law, and the body does nothing.
+
+ghost use Rattle.std.specs.Prelude.{◌≡◌, ℕ, List, Option};
+ghost use Rattle.file_checks.specs.declared.checked.Checked.{Checked};
+ghost use Rattle.dots_tell.specs.Telling.{IsOf};
+
+use crate::topic::Topic;
+
+/// The topic and the bytes of the source decide what is to be told.
+pub fn one_text()
+    ensures { (topic : Topic) (left : Option (List ℕ)) (one other : Checked) → IsOf topic left one → IsOf topic left other → one ≡ other }
+{}

@@ -1,0 +1,45 @@
+//! The texts that no file decides.
+
+ghost use Rattle.std.specs.Prelude.{◌≡◌};
+ghost use Rattle.dots_tell.specs.Usage.{usage_text, version_text};
+
+/// How the program is called: the commands, what an exit status means and what to do then, and where the documents are.
+#[tactic(auto, unfolding(crate::specs::Usage::usage_text))]
+pub fn usage() -> &'static [u8]
+    ensures { result.now ≡ usage_text }
+{
+    b"\
+dots replay SETTINGS   serves a script of datagrams, which it reads from standard input: prints the replies, and at the
+                       end the filters that stand
+dots show HEX          prints the CoAP message that bytes in hexadecimal spell
+dots check SETTINGS    prints what a settings file comes to, or its first fault and why it is one
+dots check-script      reads a script from standard input: prints how many events it has, or its first fault, and why
+dots help              prints this
+dots version           prints the version of the program, and of the kit that it is proved with
+
+SETTINGS is a file that names domains, their prefixes, and the peers that may ask for them. docs/PROTOCOL.md has its
+lines, those of a script, and what is printed. README.md begins with an example:
+
+    ./dots replay examples/one-filter/settings < examples/one-filter/script
+
+The exit status, and what to do:
+  0   all went well
+  1   show: the bytes spell no message. What is printed names the first fault: mend the bytes there
+  2   the words are no command: take a line from above
+  3   the settings, or a script that is checked, have a fault. What is printed names the line; dots check SETTINGS says
+      why it is one
+  4   no memory was found: free some, and begin again
+  5   the settings or the script can't be read, or a line is no script line: dots check-script says which, and why
+  9   standard output can't be written: look where it goes
+  11  the script has no end within 2^40 lines: cut it
+  70  the program isn't built yet, and can't be built: what stands above says why
+"
+}
+
+/// The version of the program, and the line of the kit that it is proved with.
+#[tactic(auto, unfolding(crate::specs::Usage::version_text))]
+pub fn version() -> &'static [u8]
+    ensures { result.now ≡ version_text }
+{
+    b"dots 0.1\nrattle-kit-13f logic dac8208d650f15bf\n"
+}

@@ -1,0 +1,12 @@
+/// What is told without serving.
+#[derive(Clone, Copy, Debug, PartialEq, Eq)]
+pub enum Topic {
+    /// What a settings file comes to, or its first fault and why it is one.
+    Settings,
+    /// How many events a script has, or its first fault and why it is one.
+    Script,
+    /// How the program is called.
+    Usage,
+    /// The version of the program, and of the kit that it is proved with.
+    Version,
+}
