@@ -1,5 +1,5 @@
 mod Completeness
 mod Serving
 mod Texts
-mod Topics
+mod Asking
 mod Turns

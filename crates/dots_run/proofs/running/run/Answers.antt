@@ -1,7 +1,7 @@
 use Rattle.std.proofs.Common.{◌≡◌, ◌∙◌, map, string_bytes, inl, refl, sym, subst}
 use Rattle.dots_host.specs.Causes.{Rose}
 use Rattle.dots_tell.specs.Telling.{told_status, Tells, IsSound, IsAtFault}
-use Rattle.dots_run.proofs.Topics.{no_replay, no_show, no_source, one_topic, topic_is_known, known_without, no_topic, never_two, status_unread, status_unwritten, status_sound, status_at_fault, status_heard}
+use Rattle.dots_run.proofs.Asking.{no_replay, no_show, no_source, one_topic, topic_is_known, known_without, no_topic, never_two, status_unread, status_unwritten, status_sound, status_at_fault, status_heard}
 use Rattle.dots_run.proofs.running.run.Goals as goal
 
 -- ---- what is told without serving

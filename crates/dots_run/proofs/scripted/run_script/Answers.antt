@@ -7,7 +7,7 @@ use Rattle.dots_script.specs.Accounts.{Standing, standing}
 use Rattle.dots_script.specs.Scripting.{Scripting}
 use Rattle.dots_run.specs.Outcomes.{Outcome}
 use Rattle.dots_run.proofs.Texts.{standing_of, known, told_whole, joins, stands_at_first}
-use Rattle.dots_run.proofs.Topics.{not_served}
+use Rattle.dots_run.proofs.Asking.{not_served}
 use Rattle.dots_run.proofs.scripted.run_script.Goals as goal
 
 pub returns-in-Ok-clause-runs : goal.returns-in-Ok-clause-runs
