@@ -1,6 +1,6 @@
-use Rattle.std.proofs.Common.{◌≡◌, ◌∙◌, map, string_bytes, inl, refl, sym, subst}
+use Rattle.std.proofs.Common.{◌∙◌, map, string_bytes, inl, sym, subst}
 use Rattle.dots_host.specs.Causes.{Rose}
-use Rattle.dots_tell.specs.Telling.{told_status, Tells, IsSound, IsAtFault}
+use Rattle.dots_tell.specs.Telling.{Tells, IsSound, IsAtFault}
 use Rattle.dots_run.proofs.Asking.{no_replay, no_show, no_source, one_topic, topic_is_known, known_without, no_topic, never_two, status_unread, status_unwritten, status_sound, status_at_fault, status_heard}
 use Rattle.dots_run.proofs.running.run.Goals as goal
 
@@ -15,8 +15,8 @@ returns-in-Some-clause-told g c = λ topic is.
       c.tell.result,
       c.status.ensures,
       subst (λ topic. Tells topic c.tell.result (g.S.Source.left c.args.settings.now) (g.K.Sink.holds c.args.report.now) (g.K.Sink.holds c.tell.new.report)
-        (Rose (g.S.Source.faults c.args.settings.now) (g.S.Source.faults c.tell.new.source)) (Rose (g.K.Sink.faults c.args.report.now) (g.K.Sink.faults c.tell.new.report)))
-        same c.tell.ensures.tells,
+          (Rose (g.S.Source.faults c.args.settings.now) (g.S.Source.faults c.tell.new.source)) (Rose (g.K.Sink.faults c.args.report.now) (g.K.Sink.faults c.tell.new.report)))
+          same c.tell.ensures.tells,
     )
 
 pub returns-in-Some-clause-words : goal.returns-in-Some-clause-words

@@ -1,4 +1,4 @@
-use Rattle.std.proofs.Common.{◌≡◌, ◌∙◌, [], Some, map, string_bytes, refl, ap, subst}
+use Rattle.std.proofs.Common.{◌≡◌, ◌∙◌, map, string_bytes, refl, ap, subst}
 use Rattle.dots_host.specs.Acts.{wire_acts}
 use Rattle.dots_host.specs.Memory.{told}
 use Rattle.dots_machine.specs.Outside.{Outside}
