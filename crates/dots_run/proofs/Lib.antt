@@ -1,4 +1,5 @@
 mod Completeness
 mod Serving
 mod Texts
+mod Asking
 mod Turns

@@ -2,3 +2,4 @@ pub mod Living
 pub mod Outcomes
 pub mod Programs
 pub mod Scripted
+pub mod Topics

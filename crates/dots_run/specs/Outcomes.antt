@@ -1,12 +1,15 @@
 -- What a status of a run says of its words, of what the settings' source gives, and of what failed.
-use Rattle.std.specs.Prelude.{◌≡◌, ◌≢◌, ◌⊎◌, ◌↔◌, ℕ, List, true, false}
-use Rattle.dots_machine.specs.Commands.{is_replay, is_show, is_command, second_of}
+use Rattle.std.specs.Prelude.{◌≡◌, ◌≢◌, ◌⊎◌, ◌↔◌, ℕ, List, true, false, Some}
+use Rattle.dots_machine.specs.Commands.{is_replay, is_show, second_of}
 use Rattle.dots_machine.specs.Endings.{GivesFault, GivesSettings, IsReadable}
 use Rattle.dots_machine.specs.Outside.{Outside, SourceFailed, WireFailed, ReportFailed}
+use Rattle.dots_tell.specs.declared.topic.Topic.{Topic}
+use Rattle.dots_tell.specs.Telling.{IsSound, IsAtFault}
+use Rattle.dots_run.specs.Topics.{topic_of, is_known}
 
 pub record Outcome (words : List (List ℕ)) (status : ℕ) (before now : Outside) : Type 0 where
-  -- when the words are no command; which faults there must have been, and where none was
-  pub commands : (status ≡ 2) ↔ (is_command words ≡ false)
+  -- when the words are no line that the program knows; which faults there must have been, and where none was
+  pub commands : (status ≡ 2) ↔ (is_known words ≡ false)
   pub read : status ≡ 5 → SourceFailed before now ⊎ WireFailed before now
   pub heard : status ≢ 4 → status ≢ 5 → now.source_faults ≡ before.source_faults
   pub written : status ≡ 9 → ReportFailed before now
@@ -18,3 +21,6 @@ pub record Outcome (words : List (List ℕ)) (status : ℕ) (before now : Outsid
   -- when a message is shown, and when a fault is, want of memory aside
   pub readable : is_show words ≡ true → IsReadable (second_of words) → ¬ (ReportFailed before now) → (status ≡ 0) ⊎ (status ≡ 4)
   pub unreadable : is_show words ≡ true → ¬ (IsReadable (second_of words)) → (status ≡ 1) ⊎ (status ≡ 4)
+  -- when what is checked has no fault, and when it has one, want of memory aside
+  pub sound : (topic : Topic) → topic_of words ≡ Some topic → IsSound topic before.left → ¬ (SourceFailed before now) → ¬ (ReportFailed before now) → (status ≡ 0) ⊎ (status ≡ 4)
+  pub at_fault : (topic : Topic) → topic_of words ≡ Some topic → IsAtFault topic before.left → ¬ (SourceFailed before now) → (status ≡ 3) ⊎ (status ≡ 4)

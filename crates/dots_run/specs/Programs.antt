@@ -1,25 +1,39 @@
 -- What a run over a script has done, and over which file.
-use Rattle.std.specs.Prelude.{◌≡◌, ℕ, Bool, true, false, List, Option, None}
+use Rattle.std.specs.Prelude.{◌≡◌, ℕ, Bool, true, false, List, Option, Some, None}
 use Rattle.dots_script.specs.Accounts.{Standing}
 use Rattle.dots_machine.specs.declared.ending.Ending.{Ending}
-use Rattle.dots_machine.specs.Commands.{is_replay, second_of}
+use Rattle.dots_machine.specs.Commands.{second_of}
 use Rattle.dots_machine.specs.Endings.{status_of, Behaves}
-use Rattle.dots_machine.specs.Outside.{Outside}
+use Rattle.dots_machine.specs.Outside.{Outside, SourceFailed, ReportFailed}
+use Rattle.dots_tell.specs.declared.told.Told.{Told}
+use Rattle.dots_tell.specs.declared.topic.Topic.{Topic}
+use Rattle.dots_tell.specs.Telling.{told_status, Tells}
 use Rattle.dots_run.specs.Outcomes.{Outcome}
 use Rattle.dots_run.specs.Scripted.{JoinsTexts}
+use Rattle.dots_run.specs.Topics.{topic_of, names_settings}
+
+-- A run that told of a topic with this status: nothing was taken from the script's host or sent by it.
+pub record HasTold (topic : Topic) (status : ℕ) (before now : Outside) (start end : Standing) : Type 0 where
+  pub how : Told
+  pub status_is : status ≡ told_status how
+  pub tells : Tells topic how before.left before.held now.held (SourceFailed before now) (ReportFailed before now)
+  pub no_acts : now.acts ≡ before.acts
+  pub stands : end ≡ start
 
 -- A run of these words with this status, from what stood outside before to what stands there now, and from where the script and the
 -- sink of its sends stood to where they stand. Whole says whether the host could record each call.
 pub record Runs (words : List (List ℕ)) (status : ℕ) (before now : Outside) (start end : Standing) (whole : Bool) : Type 0 where
   -- what it has done, by the ending that its status is of
-  pub machine : (ending : Ending) × (status ≡ status_of ending) × Behaves ending words before now
+  pub machine : topic_of words ≡ None → (ending : Ending) × (status ≡ status_of ending) × Behaves ending words before now
   -- From text to text: what the machine sends on the events of the script's lines stands line by line in the sink, and the
   -- machine's report in the report.
-  pub texts : whole ≡ true → (ending : Ending) × (status ≡ status_of ending) × JoinsTexts ending before now start end
+  pub texts : topic_of words ≡ None → whole ≡ true → (ending : Ending) × (status ≡ status_of ending) × JoinsTexts ending before now start end
+  -- what is told without serving
+  pub told : (topic : Topic) → topic_of words ≡ Some topic → HasTold topic status before now start end
   -- what the status says of the words, of the settings and of what failed
   pub outcome : Outcome words status before now
 
--- The file of the settings is what opening it by the second word gave, where the words are `replay SETTINGS`, and else there is none.
+-- The file of the settings is what opening it by the second word gave, where that names one, and else there is none.
 pub record IsOpened {F : Type 0} (opening : List ℕ → Option F → Type 0) (words : List (List ℕ)) (file : Option F) : Type 0 where
-  pub named : is_replay words ≡ true → opening (second_of words) file
-  pub nameless : is_replay words ≡ false → file ≡ None
+  pub named : names_settings words ≡ true → opening (second_of words) file
+  pub nameless : names_settings words ≡ false → file ≡ None

@@ -1,4 +1,4 @@
-//! The top call.
+//! The commands of the machine, `replay` and `show`.
 
 ghost use Rattle.std.specs.Prelude.{◌≡◌, ◌≢◌, ◌≤◌, ◌⊎◌, ◌↔◌, map, false, true, string_bytes, None, IfOk, OnErr};
 ghost use Rattle.dots_host.specs.Causes.{Rose};
@@ -23,13 +23,11 @@ use dots_settings::{SettingsFault, read_settings};
 use message_text::{Shown, show};
 use std::alloc::Global;
 
-/// Does all that the program does, and answers its exit status.
-///
-/// `words` are the command line's words without the program's name. With `replay SETTINGS` the settings are read
+/// Does what the words ask of the machine, and answers the exit status. With `replay SETTINGS` the settings are read
 /// from the source, the events are taken from the host, and at End the filters that stand are written to the
 /// report. With `show HEX` the lines of a message are written to the report, or that of its fault, and neither source
-/// nor host is called.
-pub fn run<H: Host, S: Source, K: Sink>(
+/// nor host is called. Other words are refused.
+pub fn run_machine<H: Host, S: Source, K: Sink>(
     alloc: Global,
     words: &[String],
     settings: &mut S,

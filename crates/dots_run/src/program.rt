@@ -1,12 +1,14 @@
 //! The whole program over the streams that it is handed.
 
-ghost use Rattle.std.specs.Prelude.{◌≡◌, [], map, string_bytes, Option, Some, None, option_and_then, IfOk, OnErr, MatchOption};
+ghost use Rattle.std.specs.Prelude.{◌≡◌, [], true, false, map, string_bytes, Option, Some, None, option_and_then, IfOk, OnErr, MatchOption};
 ghost use Rattle.std.specs.Fn.{FnOnceReturnsAt};
 ghost use Rattle.dots_host.specs.Memory.{told};
 ghost use Rattle.dots_script.specs.Accounts.{standing};
 ghost use Rattle.dots_run.specs.Programs.{Runs, IsOpened};
+ghost use Rattle.dots_run.specs.Topics.{is_check_script};
 
 use crate::scripted::{Scripted, run_script};
+use crate::topics::is_check_script;
 use crate::words::settings_name;
 use dots_host::{Sink, Source, StdSink, StdSource};
 use dots_lists::NoMemory;
@@ -24,7 +26,9 @@ pub struct Finished<F, I, O, R> {
     pub status: u8,
     /// The file of the settings.
     pub settings: StdSource<F>,
-    /// The script and the sink of its sends, in their host. None where no memory was found, and nothing was read or written.
+    /// The script where it was checked, and not served.
+    pub checked: Option<StdSource<I>>,
+    /// The script that is served and the sink of its sends, in their host. None where no memory was found, and nothing was read or written.
     pub host: Option<ScriptHost<StdSource<I>, StdSink<O>>>,
     /// The sink of the report.
     pub report: StdSink<R>,
@@ -32,7 +36,8 @@ pub struct Finished<F, I, O, R> {
 
 /// Does all that the program does with the words of its command line, without its name: `opening` opens the file of the settings, the script is
 /// read from `input`, its sends are written to `sends`, and what is reported to `report`. A file that can't be opened, where `opening` gives
-/// None, fails when it is read. Status 4 where no memory was found for the words, or is found for the host.
+/// None, fails when it is read. With `check-script` the script is checked and not served. Status 4 where no memory was found for the
+/// words, or is found for the host.
 pub fn run_program<
     F: Read + Drop,
     I: Read + Drop,
@@ -50,7 +55,7 @@ pub fn run_program<
     requires { Open.IsAlwaysCallable opening }
     // Where the words found no memory, or the host finds none, nothing was read or written.
     ensures lacks { OnErr words.now (result.status ≡ 4) }
-    ensures ran { IfOk words.now (λ list. (file : Option F) × IsOpened (FnOnceReturnsAt Open.FnOnce opening) (map string_bytes list.items) file
+    ensures ran { IfOk words.now (λ list. is_check_script (map string_bytes list.items) ≡ false → (file : Option F) × IsOpened (FnOnceReturnsAt Open.FnOnce opening) (map string_bytes list.items) file
         × MatchOption result.host ((result.status ≡ 4) × (⟦<StdSource<F> as Source>⟧.left result.settings ≡ option_and_then F.remaining file) × (⟦<StdSink<R> as Sink>⟧.holds result.report ≡ R.contents report))
         (λ host. Runs (map string_bytes list.items) result.status
         (record { left = option_and_then F.remaining file; source_faults = 0; acts = Some []; wire_faults = 0; held = R.contents report; report_faults = 0 })
@@ -64,6 +69,21 @@ pub fn run_program<
         })
         (record { script = I.remaining input; held = O.contents sends; failures = 0 })
         (standing ⟦<StdSource<I> as Source>⟧.left ⟦<StdSource<I> as Source>⟧.faults ⟦<StdSink<O> as Sink>⟧.holds host) host.whole)) }
+    // With `check-script` the script stands in the place of the settings, no file is opened, and no script is left to be served.
+    ensures checked { IfOk words.now (λ list. is_check_script (map string_bytes list.items) ≡ true → MatchOption result.checked ⊥ (λ script.
+        MatchOption result.host ((result.status ≡ 4) × (⟦<StdSource<I> as Source>⟧.left script ≡ I.remaining input) × (⟦<StdSink<R> as Sink>⟧.holds result.report ≡ R.contents report))
+        (λ host. Runs (map string_bytes list.items) result.status
+        (record { left = I.remaining input; source_faults = 0; acts = Some []; wire_faults = 0; held = R.contents report; report_faults = 0 })
+        (record {
+          left = ⟦<StdSource<I> as Source>⟧.left script;
+          source_faults = ⟦<StdSource<I> as Source>⟧.faults script;
+          acts = told host.whole host.acts;
+          wire_faults = host.faults;
+          held = ⟦<StdSink<R> as Sink>⟧.holds result.report;
+          report_faults = ⟦<StdSink<R> as Sink>⟧.faults result.report;
+        })
+        (record { script = None; held = O.contents sends; failures = 0 })
+        (standing ⟦<StdSource<I> as Source>⟧.left ⟦<StdSource<I> as Source>⟧.faults ⟦<StdSink<O> as Sink>⟧.holds host) host.whole))) }
 {
     let mut report = StdSink::new(report);
     let words = match words {
@@ -72,11 +92,15 @@ pub fn run_program<
             return Finished {
                 status: NO_MEMORY,
                 settings: StdSource::new(None),
+                checked: None,
                 host: None,
                 report,
             };
         }
     };
+    if is_check_script(words) {
+        return check_input(alloc, words, input, sends, report);
+    }
     let file = match settings_name(words) {
         Some(name) => opening(name),
         None => None,
@@ -94,6 +118,51 @@ pub fn run_program<
     Finished {
         status,
         settings,
+        checked: None,
+        host,
+        report,
+    }
+}
+
+/// Checks the script that the input gives. No file is opened, and the host has no script.
+fn check_input<F: Read + Drop, I: Read + Drop, O: Write + Drop, R: Write + Drop>(
+    alloc: Global,
+    words: &[String],
+    input: I,
+    sends: O,
+    report: StdSink<R>,
+) -> Finished<F, I, O, R>
+    ensures { MatchOption result.checked ⊥ (λ script.
+        MatchOption result.host ((result.status ≡ 4) × (⟦<StdSource<I> as Source>⟧.left script ≡ I.remaining input) × (result.report ≡ report))
+        (λ host. Runs (map string_bytes words.now) result.status
+        (record { left = I.remaining input; source_faults = 0; acts = Some []; wire_faults = 0; held = ⟦<StdSink<R> as Sink>⟧.holds report; report_faults = ⟦<StdSink<R> as Sink>⟧.faults report })
+        (record {
+          left = ⟦<StdSource<I> as Source>⟧.left script;
+          source_faults = ⟦<StdSource<I> as Source>⟧.faults script;
+          acts = told host.whole host.acts;
+          wire_faults = host.faults;
+          held = ⟦<StdSink<R> as Sink>⟧.holds result.report;
+          report_faults = ⟦<StdSink<R> as Sink>⟧.faults result.report;
+        })
+        (record { script = None; held = O.contents sends; failures = 0 })
+        (standing ⟦<StdSource<I> as Source>⟧.left ⟦<StdSource<I> as Source>⟧.faults ⟦<StdSink<O> as Sink>⟧.holds host) host.whole)) }
+{
+    let mut report = report;
+    let mut script = StdSource::new(Some(input));
+    let nothing = StdSource::new(None);
+    let sends = StdSink::new(sends);
+    let Scripted { status, host } = run_script(
+        alloc,
+        words,
+        &mut script,
+        nothing,
+        sends,
+        &mut report,
+    );
+    Finished {
+        status,
+        settings: StdSource::new(None),
+        checked: Some(script),
         host,
         report,
     }

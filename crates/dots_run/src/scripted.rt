@@ -5,7 +5,7 @@ ghost use Rattle.dots_host.specs.Memory.{told};
 ghost use Rattle.dots_script.specs.Accounts.{standing};
 ghost use Rattle.dots_run.specs.Programs.{Runs};
 
-use crate::outcome::run;
+use crate::running::run;
 use dots_host::{Sink, Source};
 use dots_script::ScriptHost;
 use std::alloc::Global;

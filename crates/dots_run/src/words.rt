@@ -2,6 +2,9 @@
 
 ghost use Rattle.std.specs.Prelude.{◌≡◌, map, string_bytes, true, false, MatchOption};
 ghost use Rattle.dots_machine.specs.Commands.{is_replay, is_show, is_word, second_of};
+ghost use Rattle.dots_run.specs.Topics.{names_settings};
+
+use crate::topics::is_check;
 
 /// Whether they are `replay SETTINGS`.
 pub fn is_replay(words: &[String]) -> bool
@@ -13,18 +16,25 @@ pub fn is_replay(words: &[String]) -> bool
     }
 }
 
-/// The name of the settings file, where they are `replay SETTINGS`.
+/// The name of the settings file, where they are `replay SETTINGS` or `check SETTINGS`.
 pub fn settings_name(words: &[String]) -> Option<&str>
-    ensures { MatchOption result (is_replay (map string_bytes words.now) ≡ false)
-        (λ name. (is_replay (map string_bytes words.now) ≡ true) × (name.now ≡ second_of (map string_bytes words.now))) }
+    ensures { MatchOption result (names_settings (map string_bytes words.now) ≡ false)
+        (λ name. (names_settings (map string_bytes words.now) ≡ true) × (name.now ≡ second_of (map string_bytes words.now))) }
 {
-    if !is_replay(words) {
+    if !names_settings(words) {
         return None;
     }
     match words {
         [_, name] => Some(name.as_str()),
         _ => None,
     }
+}
+
+/// Whether they are `replay SETTINGS` or `check SETTINGS`.
+fn names_settings(words: &[String]) -> bool
+    ensures { result ≡ names_settings (map string_bytes words.now) }
+{
+    is_replay(words) || is_check(words)
 }
 
 /// Whether they are `show HEX`.
@@ -52,7 +62,7 @@ pub fn word_to_show(words: &[String]) -> Option<&[u8]>
 }
 
 /// Whether a word isn't empty and doesn't begin with `-`.
-fn is_word(word: &[u8]) -> bool
+pub fn is_word(word: &[u8]) -> bool
     ensures { result ≡ is_word word.now }
 {
     match word {

@@ -30,4 +30,6 @@ mod status_rows;
 #[cfg(test)]
 mod tables;
 #[cfg(test)]
+mod telling_rows;
+#[cfg(test)]
 mod texts;

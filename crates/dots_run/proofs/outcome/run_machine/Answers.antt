@@ -1,6 +1,6 @@
 use Rattle.std.proofs.Common.{◌∙◌}
 use Rattle.dots_run.proofs.Completeness.{ends_refused, ends_well, ends_shown, ends_unreadable, wrong_words, no_command, has_read, has_written, has_heard, not_served}
-use Rattle.dots_run.proofs.outcome.run.Goals as goal
+use Rattle.dots_run.proofs.outcome.run_machine.Goals as goal
 
 pub returns-clause-words : goal.returns-clause-words
 returns-clause-words g c = (

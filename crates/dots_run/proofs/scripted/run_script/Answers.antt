@@ -1,4 +1,4 @@
-use Rattle.std.proofs.Common.{◌≡◌, ◌∙◌, [], Some, map, string_bytes, refl, ap, subst}
+use Rattle.std.proofs.Common.{◌≡◌, ◌∙◌, map, string_bytes, refl, ap, subst}
 use Rattle.dots_host.specs.Acts.{wire_acts}
 use Rattle.dots_host.specs.Memory.{told}
 use Rattle.dots_machine.specs.Outside.{Outside}
@@ -7,6 +7,7 @@ use Rattle.dots_script.specs.Accounts.{Standing, standing}
 use Rattle.dots_script.specs.Scripting.{Scripting}
 use Rattle.dots_run.specs.Outcomes.{Outcome}
 use Rattle.dots_run.proofs.Texts.{standing_of, known, told_whole, joins, stands_at_first}
+use Rattle.dots_run.proofs.Asking.{not_served}
 use Rattle.dots_run.proofs.scripted.run_script.Goals as goal
 
 pub returns-in-Ok-clause-runs : goal.returns-in-Ok-clause-runs
@@ -18,7 +19,6 @@ returns-in-Ok-clause-runs g c =
     let status = c.run-status.result in
     let host = c.run-status.new.host in
     let start : Standing = standing_of (left c.args.script) (holds c.args.sends) (faults c.args.script) in
-    let (ending, status_is, behaves, uncalled) = c.run-status.ensures.machine in
     let after : Outside = record {
       left = g.S.Source.left c.run-status.new.settings;
       source_faults = g.S.Source.faults c.run-status.new.settings;
@@ -36,7 +36,8 @@ returns-in-Ok-clause-runs g c =
       report_faults = g.R.Sink.faults c.args.report.now;
     } in
     let first = c.in-Ok.ensures.host in
-    let did = subst (λ h. Behaves ending words (before h) after) first behaves in
+    let stands : host ≡ c.in-Ok.host → standing left faults holds host ≡ start =
+    λ kept. ap (standing left faults holds) (kept ∙ first) ∙ stands_at_first (left c.args.script) (holds c.args.sends) (faults c.args.script) in
     let said = c.run-status.ensures in
     let outcome : Outcome words status (before c.in-Ok.host) after = record {
       commands = said.words;
@@ -47,15 +48,28 @@ returns-in-Ok-clause-runs g c =
       complete = said.complete;
       readable = said.readable;
       unreadable = said.unreadable;
+      sound = said.sound;
+      at_fault = said.at_fault;
     } in
     record {
-      machine = (ending, status_is, did);
-      texts = λ whole.
-          let accounts = known start (standing left faults holds host) host.whole host.acts whole (c.run-status.ensures.leads start c.in-Ok.ensures.accounts) in (
+      machine = λ none. let (ending, status_is, behaves, uncalled) = said.machine none in (ending, status_is, subst (λ h. Behaves ending words (before h) after) first behaves);
+      texts = λ none whole.
+          let (ending, status_is, behaves, uncalled) = said.machine none in
+          let did = subst (λ h. Behaves ending words (before h) after) first behaves in
+          let accounts = known start (standing left faults holds host) host.whole host.acts whole (said.leads start c.in-Ok.ensures.accounts) in (
             ending,
             status_is,
-            joins words _ after (wire_acts 0 host.acts) refl (told_whole host.whole host.acts whole) start (standing left faults holds host) accounts ending did
-                (λ none. ap (standing left faults holds) (uncalled none ∙ first) ∙ stands_at_first (left c.args.script) (holds c.args.sends) (faults c.args.script)),
+            joins words _ after (wire_acts 0 host.acts) refl (told_whole host.whole host.acts whole) start (standing left faults holds host) accounts ending did (λ idle. stands (uncalled idle)),
           );
+      told = λ topic is.
+          let (how, status_is, tells) = said.told topic is in
+          let kept = said.unserved (not_served words topic is) in
+          record {
+            how = how;
+            status_is = status_is;
+            tells = tells;
+            no_acts = ap (λ (h : Scripting _ _). told h.whole h.acts) (kept ∙ first);
+            stands = stands kept;
+          };
       outcome = subst (λ h. Outcome words status (before h) after) first outcome;
     }

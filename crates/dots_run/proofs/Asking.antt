@@ -1,0 +1,141 @@
+-- Words that ask for what is told ask for nothing else, and how their statuses are told apart.
+use Rattle.std.proofs.Common.{◌≡◌, ◌≢◌, ℕ, ◌⊎◌, inl, inr, Bool, true, false, ◌&&◌, ◌||◌, if◌then◌else◌, List, [], ◌∷◌, codes, Some, None, refl, sym, ◌∙◌, subst, arith}
+use Rattle.std.proofs.lemmas.Bool.Decides.{nat_tests}
+use Rattle.std.specs.Prelude.{bytes_eq, is_some}
+use Rattle.dots_machine.specs.Commands.{is_word, is_replay, is_show, is_command}
+use Rattle.dots_tell.specs.declared.told.Told.{Told}
+use Rattle.dots_tell.specs.declared.told.Told.TheVariants as told
+use Rattle.dots_tell.specs.declared.topic.Topic.{Topic}
+use Rattle.dots_tell.specs.declared.topic.Topic.TheVariants as topic
+use Rattle.dots_tell.specs.Telling.{told_status, has_source}
+use Rattle.dots_run.specs.Topics.{is_check, is_alone, is_check_script, topic_of, is_known}
+
+check_or_replay : (name word : List ℕ) → (bytes_eq name (codes "check") && is_word word) ≡ true → (bytes_eq name (codes "replay") && is_word word) ≡ true → ⊥
+check_or_replay [] word c r = absurd (cc c)
+check_or_replay (byte ∷ name) word c r = grind (arith, nat_tests)
+
+check_or_show : (name word : List ℕ) → (bytes_eq name (codes "check") && is_word word) ≡ true → (bytes_eq name (codes "show") && is_word word) ≡ true → ⊥
+check_or_show [] word c s = absurd (cc c)
+check_or_show (byte ∷ name) word c s = grind (arith, nat_tests)
+
+check_no_replay : (words : List (List ℕ)) → is_check words ≡ true → is_replay words ≡ true → ⊥
+check_no_replay [] c r = absurd (cc c)
+check_no_replay (name ∷ []) c r = absurd (cc c)
+check_no_replay (name ∷ word ∷ []) c r = check_or_replay name word c r
+check_no_replay (name ∷ word ∷ more ∷ words) c r = absurd (cc c)
+
+check_no_show : (words : List (List ℕ)) → is_check words ≡ true → is_show words ≡ true → ⊥
+check_no_show [] c s = absurd (cc c)
+check_no_show (name ∷ []) c s = absurd (cc c)
+check_no_show (name ∷ word ∷ []) c s = check_or_show name word c s
+check_no_show (name ∷ word ∷ more ∷ words) c s = absurd (cc c)
+
+alone_no_replay : (word : List ℕ) (words : List (List ℕ)) → is_alone word words ≡ true → is_replay words ≡ true → ⊥
+alone_no_replay word [] a r = absurd (cc a)
+alone_no_replay word (name ∷ []) a r = absurd (cc r)
+alone_no_replay word (name ∷ other ∷ words) a r = absurd (cc a)
+
+alone_no_show : (word : List ℕ) (words : List (List ℕ)) → is_alone word words ≡ true → is_show words ≡ true → ⊥
+alone_no_show word [] a s = absurd (cc a)
+alone_no_show word (name ∷ []) a s = absurd (cc s)
+alone_no_show word (name ∷ other ∷ words) a s = absurd (cc a)
+
+some_once : (x y : Topic) → Some x ≡ Some y → x ≡ y
+some_once x y e = cc e
+
+module _ (words : List (List ℕ)) (asked : Topic) where
+  -- words with a topic are a check of settings, or one word
+  one_of : (P : Type 0) → topic_of words ≡ Some asked → (is_check words ≡ true → P) → ((word : List ℕ) → is_alone word words ≡ true → P) → P
+  one_of P is check alone =
+      by (is_check words) (is_alone (codes "check-script") words) (is_alone (codes "help") words) (is_alone (codes "version") words) check (alone (codes "check-script")) (alone (codes "help")) (alone (codes "version")) is
+    where
+      by : (a b c d : Bool) → (a ≡ true → P) → (b ≡ true → P) → (c ≡ true → P) → (d ≡ true → P)
+          → (if a then Some topic.Settings else if b then Some topic.Script else if c then Some topic.Usage else if d then Some topic.Version else None) ≡ Some asked → P
+      by true b c d p q r s is = p refl
+      by false true c d p q r s is = q refl
+      by false false true d p q r s is = r refl
+      by false false false true p q r s is = s refl
+      by false false false false p q r s is = absurd (cc is)
+
+  pub no_replay : topic_of words ≡ Some asked → is_replay words ≡ true → ⊥
+  no_replay is replay = one_of ⊥ is (λ check. check_no_replay words check replay) (λ word alone. alone_no_replay word words alone replay)
+
+  -- so the run doesn't serve
+  pub not_served : topic_of words ≡ Some asked → is_replay words ≡ false
+  not_served is = by (is_replay words) (no_replay is)
+    where
+      by : (b : Bool) → (b ≡ true → ⊥) → b ≡ false
+      by true none = absurd (none refl)
+      by false none = refl
+
+  pub no_show : topic_of words ≡ Some asked → is_show words ≡ true → ⊥
+  no_show is show = one_of ⊥ is (λ check. check_no_show words check show) (λ word alone. alone_no_show word words alone show)
+
+  -- where neither settings nor a script are checked no source is read
+  pub no_source : topic_of words ≡ Some asked → is_check words ≡ false → is_check_script words ≡ false → has_source asked ≡ false
+  no_source is none nor = by (is_check words) (is_alone (codes "check-script") words) (is_alone (codes "help") words) (is_alone (codes "version") words) none nor is
+    where
+      by : (a b c d : Bool) → a ≡ false → b ≡ false
+          → (if a then Some topic.Settings else if b then Some topic.Script else if c then Some topic.Usage else if d then Some topic.Version else None) ≡ Some asked → has_source asked ≡ false
+      by true b c d p q is = absurd (cc p)
+      by false true c d p q is = absurd (cc q)
+      by false false true d p q is = subst (λ t. has_source t ≡ false) (some_once topic.Usage asked is) refl
+      by false false false true p q is = subst (λ t. has_source t ≡ false) (some_once topic.Version asked is) refl
+      by false false false false p q is = absurd (cc is)
+
+or_true : (b : Bool) → (b || true) ≡ false → ⊥
+or_true true e = cc e
+or_true false e = cc e
+
+or_false : (b : Bool) → (b || false) ≡ b
+or_false true = refl
+or_false false = refl
+
+pub topic_is_known : (words : List (List ℕ)) (asked : Topic) → topic_of words ≡ Some asked → is_known words ≡ false → ⊥
+topic_is_known words asked is none = or_true (is_command words) (subst (λ t. (is_command words || is_some t) ≡ false) is none)
+
+pub known_without : (words : List (List ℕ)) → topic_of words ≡ None → is_known words ≡ is_command words
+known_without words is = subst (λ t. (is_command words || is_some t) ≡ is_command words) (sym is) (or_false (is_command words))
+
+-- the words that ask for no topic of what is read
+pub no_topic : (words : List (List ℕ)) (asked : Topic) (P : Type 0) → topic_of words ≡ None → topic_of words ≡ Some asked → P
+no_topic words asked P none some = absurd (cc (sym none ∙ some))
+
+-- how telling ended, by the status
+pub never_two : (end : Told) → told_status end ≡ 2 → ⊥
+never_two told.Written is = absurd (omega (arith, is))
+never_two told.Failed is = absurd (omega (arith, is))
+never_two told.AtFault is = absurd (omega (arith, is))
+never_two told.Unread is = absurd (omega (arith, is))
+never_two told.NoMemory is = absurd (omega (arith, is))
+
+pub status_unread : (end : Told) → told_status end ≡ 5 → end ≡ told.Unread
+status_unread told.Written is = absurd (omega (arith, is))
+status_unread told.Failed is = absurd (omega (arith, is))
+status_unread told.AtFault is = absurd (omega (arith, is))
+status_unread told.Unread is = refl
+status_unread told.NoMemory is = absurd (omega (arith, is))
+
+pub status_unwritten : (end : Told) → told_status end ≡ 9 → end ≡ told.Failed
+status_unwritten told.Written is = absurd (omega (arith, is))
+status_unwritten told.Failed is = refl
+status_unwritten told.AtFault is = absurd (omega (arith, is))
+status_unwritten told.Unread is = absurd (omega (arith, is))
+status_unwritten told.NoMemory is = absurd (omega (arith, is))
+
+pub status_sound : (end : Told) → (end ≡ told.Written) ⊎ (end ≡ told.NoMemory) → (told_status end ≡ 0) ⊎ (told_status end ≡ 4)
+status_sound end (inl is) = inl (subst (λ end. told_status end ≡ 0) (sym is) refl)
+status_sound end (inr is) = inr (subst (λ end. told_status end ≡ 4) (sym is) refl)
+
+pub status_at_fault : (end : Told) → (end ≡ told.AtFault) ⊎ (end ≡ told.NoMemory) → (told_status end ≡ 3) ⊎ (told_status end ≡ 4)
+status_at_fault end (inl is) = inl (subst (λ end. told_status end ≡ 3) (sym is) refl)
+status_at_fault end (inr is) = inr (subst (λ end. told_status end ≡ 4) (sym is) refl)
+
+-- no read of the file failed, where the status says neither that nor want of memory
+pub status_heard : (end : Told) (P : Type 0) → (end ≡ told.NoMemory) ⊎ ((end ≡ told.Unread) ⊎ P) → told_status end ≢ 4 → told_status end ≢ 5 → P
+status_heard end P (inl is) four five = absurd (four (subst (λ end. told_status end ≡ 4) (sym is) refl))
+status_heard end P (inr (inl is)) four five = absurd (five (subst (λ end. told_status end ≡ 5) (sym is) refl))
+status_heard end P (inr (inr same)) four five = same
+
+pub one_topic : (words : List (List ℕ)) (asked other : Topic) → topic_of words ≡ Some asked → topic_of words ≡ Some other → asked ≡ other
+one_topic words asked other a b = cc (sym a ∙ b)

@@ -1,0 +1,35 @@
+-- Which words ask for what is told without serving.
+use Rattle.std.specs.Prelude.{ℕ, List, [], ◌∷◌, Bool, false, ◌&&◌, ◌||◌, if◌then◌else◌, bytes_eq, codes, Option, Some, None, is_some}
+use Rattle.dots_tell.specs.declared.topic.Topic.{Topic}
+use Rattle.dots_tell.specs.declared.topic.Topic.TheVariants as topic
+use Rattle.dots_machine.specs.Commands.{is_word, is_replay, is_command}
+
+-- `check SETTINGS`
+abbrev pub is_check : List (List ℕ) → Bool
+is_check (name ∷ file ∷ []) = bytes_eq name (codes "check") && is_word file
+is_check _ = false
+
+-- this word alone
+abbrev pub is_alone : List ℕ → List (List ℕ) → Bool
+is_alone word (name ∷ []) = bytes_eq name word
+is_alone word _ = false
+
+abbrev pub is_check_script : List (List ℕ) → Bool
+is_check_script words = is_alone (codes "check-script") words
+
+-- the topic that the words ask for
+abbrev pub topic_of : List (List ℕ) → Option Topic
+topic_of words =
+    if is_check words then Some topic.Settings
+    else if is_check_script words then Some topic.Script
+    else if is_alone (codes "help") words then Some topic.Usage
+    else if is_alone (codes "version") words then Some topic.Version
+    else None
+
+-- the words are a line that the program knows
+abbrev pub is_known : List (List ℕ) → Bool
+is_known words = is_command words || is_some (topic_of words)
+
+-- the second word names a settings file
+abbrev pub names_settings : List (List ℕ) → Bool
+names_settings words = is_replay words || is_check words

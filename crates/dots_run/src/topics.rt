@@ -1,0 +1,53 @@
+//! The words that ask for what is told without serving.
+
+ghost use Rattle.std.specs.Prelude.{◌≡◌, map, string_bytes};
+ghost use Rattle.dots_run.specs.Topics.{is_check, is_alone, is_check_script, topic_of};
+
+use crate::words::is_word;
+use dots_tell::Topic;
+
+/// The topic that the words ask for: `check SETTINGS`, `check-script`, `help` and `version` have one.
+pub fn topic_of(words: &[String]) -> Option<Topic>
+    ensures { result ≡ topic_of (map string_bytes words.now) }
+{
+    if is_check(words) {
+        return Some(Topic::Settings);
+    }
+    if is_check_script(words) {
+        return Some(Topic::Script);
+    }
+    if is_alone("help", words) {
+        return Some(Topic::Usage);
+    }
+    if is_alone("version", words) {
+        return Some(Topic::Version);
+    }
+    None
+}
+
+/// Whether they are `check SETTINGS`.
+pub fn is_check(words: &[String]) -> bool
+    ensures { result ≡ is_check (map string_bytes words.now) }
+{
+    match words {
+        [name, file] => name.as_str() == "check" && is_word(file.as_bytes()),
+        _ => false,
+    }
+}
+
+/// Whether they are `check-script`.
+pub fn is_check_script(words: &[String]) -> bool
+    ensures { result ≡ is_check_script (map string_bytes words.now) }
+{
+    is_alone("check-script", words)
+}
+
+/// Whether they are this word alone.
+fn is_alone(word: &str, words: &[String]) -> bool
+    ensures { result ≡ is_alone word.now (map string_bytes words.now) }
+{
+    match words {
+        [name] => name.as_str() == word,
+        _ => false,
+    }
+}
