@@ -21,7 +21,7 @@ returns-in-Settings-clause-at_fault g c =
     let found = c.check_settings.result in
     let finds = checks ChecksSettings left unread found c.check_settings.ensures.checks c.check_settings.ensures.cause in
     ends_at_fault c.report_found.result left _ _ unread _ c.args.topic
-        (record { found = found; finds = subst (λ topic. Finds topic left unread found) (sym c.in-Settings.is) finds; reports = c.report_found.ensures })
+    (record { found = found; finds = subst (λ topic. Finds topic left unread found) (sym c.in-Settings.is) finds; reports = c.report_found.ensures })
 
 pub returns-in-Script-clause-sound : goal.returns-in-Script-clause-sound
 returns-in-Script-clause-sound g c =
@@ -30,7 +30,7 @@ returns-in-Script-clause-sound g c =
     let found = c.check_script.result in
     let finds = checks ChecksScript left unread found c.check_script.ensures.checks c.check_script.ensures.cause in
     ends_well c.report_found-in-Script.result left _ _ unread _ c.args.topic
-        (record { found = found; finds = subst (λ topic. Finds topic left unread found) (sym c.in-Script.is) finds; reports = c.report_found-in-Script.ensures })
+    (record { found = found; finds = subst (λ topic. Finds topic left unread found) (sym c.in-Script.is) finds; reports = c.report_found-in-Script.ensures })
 
 pub returns-in-Script-clause-at_fault : goal.returns-in-Script-clause-at_fault
 returns-in-Script-clause-at_fault g c =
@@ -39,7 +39,7 @@ returns-in-Script-clause-at_fault g c =
     let found = c.check_script.result in
     let finds = checks ChecksScript left unread found c.check_script.ensures.checks c.check_script.ensures.cause in
     ends_at_fault c.report_found-in-Script.result left _ _ unread _ c.args.topic
-        (record { found = found; finds = subst (λ topic. Finds topic left unread found) (sym c.in-Script.is) finds; reports = c.report_found-in-Script.ensures })
+    (record { found = found; finds = subst (λ topic. Finds topic left unread found) (sym c.in-Script.is) finds; reports = c.report_found-in-Script.ensures })
 
 pub returns-in-Usage-clause-tells : goal.returns-in-Usage-clause-tells
 returns-in-Usage-clause-tells g c =
