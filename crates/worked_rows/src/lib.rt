@@ -12,6 +12,7 @@ mod datagram_rows;
 mod domain_rows;
 #[cfg(test)]
 mod memory_rows;
+#[cfg(test)]
 mod mitigation_rows;
 #[cfg(test)]
 mod name_rows;
