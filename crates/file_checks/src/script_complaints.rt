@@ -2,7 +2,7 @@
 
 ghost use Rattle.std.specs.Prelude.{◌≡◌, map};
 ghost use Rattle.dots_settings.specs.Lines.{fields_of};
-ghost use Rattle.file_checks.specs.ScriptComplaints.{event_complaint, script_complaint};
+ghost use Rattle.file_checks.specs.ScriptComplaints.{datagram_complaint, tick_complaint, complaint_by_word, event_complaint, script_complaint};
 
 use crate::complaint::Complaint;
 use crate::kinds::{is_datagram, is_decimal_up_to};
@@ -31,27 +31,58 @@ pub fn script_complaint(ended: bool, line: &[u8], fields: &[&[u8]]) -> Complaint
     }
 }
 
-/// The complaint of a line that is to be `at SECONDS from PEER HEX`.
+/// The complaint of a line that is to be `at SECONDS` and an event.
 fn event_complaint(fields: &[&[u8]]) -> Option<Complaint>
     ensures { result ≡ event_complaint (map (λ field. field.now) fields.now) }
 {
-    let [word, seconds, from, peer, digits] = fields else {
+    let [at, seconds, word, rest @ ..] = fields else {
         return Some(Complaint::of_line(Reason::EventFields));
     };
-    if *word != b"at".as_slice() {
+    if *at != b"at".as_slice() {
         return Some(Complaint::of_field(Reason::At, 0));
     }
     if !is_decimal_up_to(MAX_SECONDS, seconds) {
         return Some(Complaint::of_field(Reason::Seconds, 1));
     }
-    if *from != b"from".as_slice() {
-        return Some(Complaint::of_field(Reason::From, 2));
+    complaint_by_word(word, rest)
+}
+
+/// The complaint of a line whose event begins with this word, and has these fields behind it.
+#[tactic(auto, unfolding(crate::specs::ScriptComplaints::complaint_by_word))]
+fn complaint_by_word(word: &[u8], fields: &[&[u8]]) -> Option<Complaint>
+    ensures { result ≡ complaint_by_word word.now (map (λ field. field.now) fields.now) }
+{
+    if word == b"from".as_slice() {
+        return datagram_complaint(fields);
     }
+    if word == b"tick".as_slice() {
+        return tick_complaint(fields);
+    }
+    Some(Complaint::of_field(Reason::EventWord, 2))
+}
+
+/// The complaint of the fields behind `from`.
+fn datagram_complaint(fields: &[&[u8]]) -> Option<Complaint>
+    ensures { result ≡ datagram_complaint (map (λ field. field.now) fields.now) }
+{
+    let [peer, digits] = fields else {
+        return Some(Complaint::of_line(Reason::DatagramFields));
+    };
     if !is_decimal_up_to(MAX_PEER, peer) {
         return Some(Complaint::of_field(Reason::Peer, 3));
     }
     if !is_datagram(digits) {
         return Some(Complaint::of_field(Reason::Datagram, 4));
     }
+    None
+}
+
+/// The complaint of the fields behind `tick`.
+fn tick_complaint(fields: &[&[u8]]) -> Option<Complaint>
+    ensures { result ≡ tick_complaint (map (λ field. field.now) fields.now) }
+{
+    let [] = fields else {
+        return Some(Complaint::of_line(Reason::TickFields));
+    };
     None
 }

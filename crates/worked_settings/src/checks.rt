@@ -31,12 +31,22 @@ const SCRIPTS: &str = r#"
 |events: 0;
 # none;;|events: 0;
 at 1000 from 0 50030002;at 1001 from 0 50030002;|events: 2;
-at 1000 from 0 50030002;at 1000 frm 0 5003;|script line 2: "at 1000 frm 0 5003";line 2: the third word of a line is from: "frm";
+at 5 tick;|events: 1;
+at 1000 from 0 50030002;at 1001 tick;#;at 1001 tick;|events: 3;
+at 1000 from 0 50030002;at 1000 frm 0 5003;|script line 2: "at 1000 frm 0 5003";line 2: the third word of a line is from or tick: "frm";
+at 5 tock;|script line 1: "at 5 tock";line 1: the third word of a line is from or tick: "tock";
+at 5 tick;at 6 restart;|script line 2: "at 6 restart";line 2: the third word of a line is from or tick: "restart";
+at 5 tick 0;|script line 1: "at 5 tick 0";line 1: a tick line is: at SECONDS tick, with one space between two fields: "at 5 tick 0";
+at 5 tick ;|script line 1: "at 5 tick ";line 1: a tick line is: at SECONDS tick, with one space between two fields: "at 5 tick ";
+at 05 tick;|script line 1: "at 05 tick";line 1: the time is a number of seconds below 281474976710656, without leading zeros: "05";
+in 5 tick;|script line 1: "in 5 tick";line 1: the first word of a line is at: "in";
+at 5;|script line 1: "at 5";line 1: a line is: at SECONDS from PEER HEX, or: at SECONDS tick, with one space between two fields: "at 5";
 at 1000 from 0 500;|script line 1: "at 1000 from 0 500";line 1: a datagram is 1 to 4096 bytes in hexadecimal, two digits each: "500";
 at 01 from 0 50;|script line 1: "at 01 from 0 50";line 1: the time is a number of seconds below 281474976710656, without leading zeros: "01";
 at 1 from x 50;|script line 1: "at 1 from x 50";line 1: a peer is a number from 0 to 4294967295, without leading zeros: "x";
-at 1 from  0 50;|script line 1: "at 1 from  0 50";line 1: a line is: at SECONDS from PEER HEX, with one space between two fields: "at 1 from  0 50";
-#;at 1 from 0 50|script line 2: "at 1 from 0 50";line 2: the last line does not end with a line feed: "at 1 from 0 50";"#;
+at 1 from  0 50;|script line 1: "at 1 from  0 50";line 1: a from line is: at SECONDS from PEER HEX, with one space between two fields: "at 1 from  0 50";
+#;at 1 from 0 50|script line 2: "at 1 from 0 50";line 2: the last line does not end with a line feed: "at 1 from 0 50";
+at 5 tick|script line 1: "at 5 tick";line 1: the last line does not end with a line feed: "at 5 tick";"#;
 
 /// The text with a line feed in place of each semicolon.
 fn lines(alloc: Global, text: &str) -> Result<Vec<u8>, Fail> {
