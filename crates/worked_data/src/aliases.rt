@@ -44,6 +44,13 @@ fn examples_of_the_standard(rt: HostRuntime) -> Result<(), Fail> {
             "{\"ietf-dots-data-channel:alias\":[{\"name\":\"web\",\"target-prefix\":[\"192.0.2.80/32\"]}]}",
             "PutAlias /dots-client=dz6pHjaADkaFTbjr0JGBpw/aliases/alias=web {\"name\":\"web\",\"target-prefix\":[\"192.0.2.80/32\"]}",
         ),
+        // the name of a gateway's domain isn't served
+        (
+            "POST",
+            "",
+            "{\"ietf-dots-data-channel:dots-client\":[{\"cuid\":\"dz6pHjaADkaFTbjr0JGBpw\",\"cdid\":\"7eeaf349529eb55ed50113\"}]}",
+            "Body(Unknown)",
+        ),
     ] {
         let text = asked(rt.alloc(), method, below, body)?;
         assert_eq!(rt; text.as_str(), want, "at {method} {below}");

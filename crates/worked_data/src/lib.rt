@@ -9,6 +9,8 @@ mod aliases;
 #[cfg(test)]
 mod asking;
 #[cfg(test)]
+mod exchanges;
+#[cfg(test)]
 mod lists;
 #[cfg(test)]
 mod paths;

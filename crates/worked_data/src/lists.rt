@@ -47,7 +47,17 @@ fn examples_of_the_standard(rt: HostRuntime) -> Result<(), Fail> {
             "{\"ietf-dots-data-channel:acl\":[{\"name\":\"sample-ipv4-acl\",\"type\":\"ipv4-acl-type\",\"activation-type\":\"immediate\",\"aces\":{\"ace\":[{\"name\":\"rule1\",\"matches\":{\"ipv4\":{\"source-ipv4-network\":\"192.0.2.0/24\"}},\"actions\":{\"forwarding\":\"drop\"}}]}}]}",
             "PostAcl /dots-client=paL8p4Zqo4SLv64TLPXrxA/acls/acl=sample-ipv4-acl {\"aces\":{\"ace\":[{\"actions\":{\"forwarding\":\"drop\"},\"matches\":{\"ipv4\":{\"source-ipv4-network\":\"192.0.2.0/24\"}},\"name\":\"rule1\"}]},\"activation-type\":\"immediate\",\"name\":\"sample-ipv4-acl\",\"type\":\"ipv4-acl-type\"}",
         ),
-        // a match of fragments isn't served
+        (
+            "/dots-client=paL8p4Zqo4SLv64TLPXrxA",
+            "{\"ietf-dots-data-channel:acls\":{\"acl\":[{\"name\":\"dns\",\"type\":\"ipv4-acl-type\",\"aces\":{\"ace\":[{\"name\":\"allow-dns-packets\",\"matches\":{\"ipv4\":{\"destination-ipv4-network\":\"198.51.100.0/24\"},\"udp\":{\"destination-port\":{\"operator\":\"eq\",\"port\":53}}},\"actions\":{\"forwarding\":\"accept\"}}]}}]}}",
+            "PostAcl /dots-client=paL8p4Zqo4SLv64TLPXrxA/acls/acl=dns {\"aces\":{\"ace\":[{\"actions\":{\"forwarding\":\"accept\"},\"matches\":{\"ipv4\":{\"destination-ipv4-network\":\"198.51.100.0/24\"},\"udp\":{\"destination-port-range-or-operator\":{\"operator\":\"eq\",\"port\":53}}},\"name\":\"allow-dns-packets\"}]},\"activation-type\":\"activate-when-mitigating\",\"name\":\"dns\",\"type\":\"ipv4-acl-type\"}",
+        ),
+        // a match of flow labels or of fragments isn't served
+        (
+            "/dots-client=paL8p4Zqo4SLv64TLPXrxA",
+            "{\"ietf-dots-data-channel:acls\":{\"acl\":[{\"name\":\"test-acl-ipv6-udp\",\"type\":\"ipv6-acl-type\",\"activation-type\":\"immediate\",\"aces\":{\"ace\":[{\"name\":\"my-test-ace\",\"matches\":{\"ipv6\":{\"destination-ipv6-network\":\"2001:db8:6401::2/127\",\"source-ipv6-network\":\"2001:db8:1234::/96\",\"protocol\":17,\"flow-label\":10000}},\"actions\":{\"forwarding\":\"accept\"}}]}}]}}",
+            "Body(Unknown)",
+        ),
         (
             "/dots-client=paL8p4Zqo4SLv64TLPXrxA",
             "{\"ietf-dots-data-channel:acls\":{\"acl\":[{\"name\":\"dns-fragments\",\"type\":\"ipv4-acl-type\",\"aces\":{\"ace\":[{\"name\":\"drop-all-fragments\",\"matches\":{\"ipv4\":{\"fragment\":{\"operator\":\"match\",\"type\":\"isf\"}}},\"actions\":{\"forwarding\":\"drop\"}}]}}]}}",

@@ -59,6 +59,52 @@ fn paths(rt: HostRuntime) -> Result<(), Fail> {
     Ok(())
 }
 
+/// Requests without a body, as RFC 8783, sections 5.2, 6.2, 6.3, 7.3 and 7.4 show them.
+#[test]
+fn examples_of_the_standard(rt: HostRuntime) -> Result<(), Fail> {
+    for (method, below, want) in [
+        (
+            "DELETE",
+            "/dots-client=dz6pHjaADkaFTbjr0JGBpw",
+            "DeleteClient /dots-client=dz6pHjaADkaFTbjr0JGBpw ",
+        ),
+        (
+            "GET",
+            "/dots-client=dz6pHjaADkaFTbjr0JGBpw/aliases?content=all",
+            "GetAliases /dots-client=dz6pHjaADkaFTbjr0JGBpw/aliases ",
+        ),
+        (
+            "GET",
+            "/dots-client=dz6pHjaADkaFTbjr0JGBpw/aliases/alias=Server2?content=all",
+            "GetAlias /dots-client=dz6pHjaADkaFTbjr0JGBpw/aliases/alias=Server2 ",
+        ),
+        (
+            "DELETE",
+            "/dots-client=dz6pHjaADkaFTbjr0JGBpw/aliases/alias=Server1",
+            "DeleteAlias /dots-client=dz6pHjaADkaFTbjr0JGBpw/aliases/alias=Server1 ",
+        ),
+        (
+            "GET",
+            "/dots-client=paL8p4Zqo4SLv64TLPXrxA/acls?content=all",
+            "GetAcls /dots-client=paL8p4Zqo4SLv64TLPXrxA/acls ",
+        ),
+        (
+            "GET",
+            "/dots-client=paL8p4Zqo4SLv64TLPXrxA/acls/acl=test-acl-ipv6-udp?content=config",
+            "GetAcl /dots-client=paL8p4Zqo4SLv64TLPXrxA/acls/acl=test-acl-ipv6-udp ",
+        ),
+        (
+            "DELETE",
+            "/dots-client=paL8p4Zqo4SLv64TLPXrxA/acls/acl=sample-ipv4-acl",
+            "DeleteAcl /dots-client=paL8p4Zqo4SLv64TLPXrxA/acls/acl=sample-ipv4-acl ",
+        ),
+    ] {
+        let text = asked(rt.alloc(), method, below, "")?;
+        assert_eq!(rt; text.as_str(), want, "at {method} {below}");
+    }
+    Ok(())
+}
+
 /// Refusals before the body, in their order.
 #[test]
 fn heads(rt: HostRuntime) -> Result<(), Fail> {
