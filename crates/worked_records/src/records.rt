@@ -20,7 +20,23 @@ const CHANGES: &str = "\
     0a\n\
     01 00000009 01 04 18 000000000000000000000000c0000200 01 0050 0051 01 06 01 0161 01 0162 \
     01 01 06 20 20010db8000000000000000000000000 00 00 ffffffff 0000000000000004\n\
-    05 0161 00 01 01 0162 00 01 04 00 00000000000000000000000000000000 01 11 01 0035 05 0400 ffff 00";
+    05 0161 00 01 01 0162 00 01 04 00 00000000000000000000000000000000 01 11 01 0035 05 0400 ffff 00\n\
+    03 0161 01 06 30 20010db8000100000000000000000000 00 00 01 0162 00\n\
+    05 0162 00 02 00\n\
+    05 0162 01 00 03 \
+    0163 01 06 40 20010db8000100000000000000000000 00 00 02 0050 03 03ff 01 \
+    0164 00 01 06 80 20010db8000100000000000000000009 01 06 04 0400 00 00 \
+    0165 00 00 00 01 0035 05 0050 0050 01\n\
+    01 0000000a 02 04 20 000000000000000000000000c0000207 06 00 00000000000000000000000000000000 02 0000 ffff 0035 0035 \
+    02 06 11 02 0161 0162 00 02 01 04 19 000000000000000000000000c0000280 00 00 00 01 01bb 01bb 01 11 00000e10 \
+    00000000000003e8";
+
+/// Heads of an entry without a cuid and a reply that came by HTTP, and of one with the greatest numbers, by a
+/// non-confirmable message.
+const HEADS: [&str; 2] = [
+    "0000000000000005 00000001 0002 00 000000 0000",
+    "0000ffffffffffff ffffffff ffff 0161 01ffff 0001 00",
+];
 
 /// What is written of the entry whose record the bytes are.
 fn written_again(alloc: Global, bytes: &[u8]) -> Result<Vec<u8>, EntryFault> {
@@ -32,9 +48,11 @@ fn written_again(alloc: Global, bytes: &[u8]) -> Result<Vec<u8>, EntryFault> {
 }
 
 /// The bytes behind the head.
-fn record(alloc: Global, change: &str) -> Result<Vec<u8>, Fail> {
+fn record(alloc: Global, head: &str, change: &str) -> Result<Vec<u8>, Fail> {
     let mut digits = String::new(alloc);
-    digits.push_str(HEAD)?;
+    for word in head.split_whitespace() {
+        digits.push_str(word)?;
+    }
     for word in change.split_whitespace() {
         digits.push_str(word)?;
     }
@@ -42,8 +60,8 @@ fn record(alloc: Global, change: &str) -> Result<Vec<u8>, Fail> {
 }
 
 /// Whether the record is read and written again as it was.
-fn is_record(alloc: Global, change: &str) -> Result<bool, Fail> {
-    let bytes = record(alloc, change)?;
+fn is_record(alloc: Global, head: &str, change: &str) -> Result<bool, Fail> {
+    let bytes = record(alloc, head, change)?;
     match written_again(alloc, bytes.as_slice()) {
         Ok(again) => Ok(again == bytes),
         Err(_) => Ok(false),
@@ -52,7 +70,7 @@ fn is_record(alloc: Global, change: &str) -> Result<bool, Fail> {
 
 /// Whether the first fault is at this place of the change.
 fn is_fault(alloc: Global, change: &str, place: usize) -> Result<bool, Fail> {
-    let bytes = record(alloc, change)?;
+    let bytes = record(alloc, HEAD, change)?;
     match written_again(alloc, bytes.as_slice()) {
         Err(EntryFault::NotEntry { at }) => Ok(at.checked_sub(HEAD.len() / 2) == Some(place)),
         _ => Ok(false),
@@ -62,7 +80,10 @@ fn is_fault(alloc: Global, change: &str, place: usize) -> Result<bool, Fail> {
 #[test]
 fn records_of_each_kind_are_read_and_written(rt: HostRuntime) -> Result<(), Fail> {
     for change in CHANGES.lines() {
-        assert!(rt; is_record(rt.alloc(), change)?, "at {change}");
+        assert!(rt; is_record(rt.alloc(), HEAD, change)?, "at {change}");
+    }
+    for head in HEADS {
+        assert!(rt; is_record(rt.alloc(), head, "07")?, "at {head}");
     }
     Ok(())
 }
