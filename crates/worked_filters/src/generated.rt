@@ -246,10 +246,10 @@ fn drive(alloc: Global, seed: u32, steps: u32) -> Result<Counts, Fail> {
 #[test]
 fn readers_answer_what_the_plain_programs_say(rt: HostRuntime) -> Result<(), Fail> {
     for seed in 0..3 {
-        let counts = drive(rt.alloc(), seed, 120)?;
+        let counts = drive(rt.alloc(), seed, 40)?;
         assert_eq!(rt; counts.differed, 0, "seed {seed}");
-        assert!(rt; counts.fitted > 50);
-        assert!(rt; counts.refused > 10);
+        assert!(rt; counts.fitted > 10);
+        assert!(rt; counts.refused > 2);
     }
     Ok(())
 }
