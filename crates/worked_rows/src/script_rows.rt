@@ -7,7 +7,7 @@ use dots_host::NoMemory;
 use std::alloc::Global;
 use std::test::Fail;
 
-/// A mitigation ends 3600 s after it was accepted, that second excluded, and the time doesn't fall.
+/// A mitigation ends 3600 s after it was accepted, at that second, and the time doesn't fall.
 const TIMES: &str = "\
 < at 1000 from 0 REQUEST
 > to 0 REPLY
