@@ -5,3 +5,6 @@ pub mod Keeping
 pub mod Filtering
 mod Judged
 mod Seeing
+pub mod Bared
+pub mod Filed
+pub mod Shrinking

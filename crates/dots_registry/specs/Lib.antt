@@ -2,3 +2,4 @@ pub mod Standing
 pub mod Fitting
 pub mod Judging
 pub mod Viewing
+pub mod Filed

@@ -16,14 +16,17 @@ use Rattle.coap_exchange.specs.declared.pair.Pair.{Pair}
 use Rattle.coap_exchange.specs.Pairs.{pairs_of}
 use Rattle.coap_exchange.specs.Rings.{RingValue, is_ring_of, noted}
 use Rattle.coap_exchange.specs.Noting.{AllRemember, message_of}
+use Rattle.kept_slots.specs.Kept.{KeptValue}
 
 -- What is kept: the live mitigations with the time at which they are, the registrations, aliases, access lists and
--- session configurations, the last messages of each peer and domain, and the rows that filter.
+-- session configurations, the last messages of each peer and domain, the rows that filter, and the slots of a journal in which the
+-- entries stand of which this is what is left.
 pub record RegistryValue : Type 0 where
   pub live : LiveValue
   pub held : Tables
   pub rings : List RingValue
   pub filters : FiltersValue
+  pub slots : KeptValue
 
 abbrev pub time_of : RegistryValue → ℕ
 time_of registry = registry.live.time

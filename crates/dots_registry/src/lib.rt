@@ -6,11 +6,16 @@
 //! definitions of `dots_history` say of that history at that time. Only [`Registry::new`], [`Registry::stage`],
 //! [`Registry::judge_request`] and [`Registry::judge_put`] take memory.
 //!
+//! The entries of a history may stand in slots of a journal (`specs/Filed`). [`Registry::kept`] gives the slots of those that a
+//! compaction keeps, and after [`Registry::moved`] what it kept stands in the first slots.
+//!
 //! It joins the tables of `live_mitigations`, `held_things`, `coap_exchange` and `installed_filters`. The settings of which it is
 //! (`IsOf`) stay with the caller. [`laws`] says that it also stands for what a compaction keeps, and that nothing of it is left
-//! open. What it doesn't have yet: the slots that a compaction keeps.
+//! open.
 #![tactic(auto)]
 
+mod compacting;
+mod expiring;
 mod fitting;
 mod judging;
 pub mod laws;

@@ -13,7 +13,10 @@ ghost use Rattle.live_mitigations.specs.Standing.{kept_of};
 ghost use Rattle.installed_filters.specs.Filters.{rows_put, list_put, needs_rows, some_of, everyone};
 ghost use Rattle.dots_registry.specs.Standing.{StandsFor, IsOf, time_of, has_ring, silent, answered, rings_with};
 ghost use Rattle.dots_registry.specs.Fitting.{FitsIn};
+ghost use Rattle.mitigation_slots.specs.Slots.{Filed};
+ghost use Rattle.dots_registry.specs.Filed.{StandsIn, CanTake, taken_in};
 
+use crate::expiring::expire_all;
 use coap_exchange::Remembered;
 use dots_history::{Entry, is_signal};
 use dots_lists::{Bytes, NoMemory};
@@ -21,7 +24,8 @@ use dots_settings::Settings;
 use filter_rows::{AclRow, ScrubRow};
 use filter_table::FilterTable;
 use held_things::HeldThings;
-use installed_filters::{InstalledFilters, Staged, expire_all, is_mitigating};
+use installed_filters::{InstalledFilters, Staged, is_mitigating};
+use kept_slots::KeptSlots;
 use live_mitigations::{LiveMitigations, puts};
 use std::alloc::Global;
 use std::marker::Model;
@@ -35,10 +39,12 @@ pub struct Registry {
     pub(crate) held: HeldThings,
     pub(crate) remembered: Remembered,
     filters: InstalledFilters,
+    pub(crate) slots: KeptSlots,
 }
 
 impl Model for Registry {
     ghost use Rattle.dots_registry.specs.Standing.{RegistryValue};
+    ghost use Rattle.dots_registry.specs.Filed.{IsFiled};
 
     ghost Value = { RegistryValue };
 
@@ -47,7 +53,16 @@ impl Model for Registry {
       held = registry.held;
       rings = registry.remembered;
       filters = registry.filters;
+      slots = registry.slots;
     } };
+
+    ghost invariant = { λ registry. IsFiled (record {
+      live = registry.live;
+      held = registry.held;
+      rings = registry.remembered;
+      filters = registry.filters;
+      slots = registry.slots;
+    }) };
 }
 
 impl Registry {
@@ -55,6 +70,7 @@ impl Registry {
     /// memory.
     pub fn new(alloc: Global, settings: &Settings) -> Result<Self, NoMemory>
         ensures stands { IfOk result (λ registry. StandsFor registry []) }
+        ensures filed { IfOk result (λ registry. StandsIn registry []) }
         ensures settings { IfOk result (λ registry. IsOf settings.now registry) }
         ensures time { IfOk result (λ registry. time_of registry ≡ 0) }
     {
@@ -64,6 +80,7 @@ impl Registry {
             held: HeldThings::new(alloc, settings)?,
             remembered: Remembered::new(alloc, settings)?,
             filters: InstalledFilters::new(alloc, settings)?,
+            slots: KeptSlots::new(alloc, settings)?,
         })
     }
 
@@ -79,11 +96,12 @@ impl Registry {
         requires later { time_of self.old ≤ now }
         requires bounded { now < never }
         ensures stands { (entries : List Entry) → StandsFor self.old entries → StandsFor self.new entries }
+        ensures filed { (filed : List Filed) → StandsIn self.old filed → StandsIn self.new filed }
         ensures time { time_of self.new ≡ now }
         ensures rings { self.new.rings ≡ self.old.rings }
         ensures settings { (settings : SettingsValue) → IsOf settings self.old → IsOf settings self.new }
     {
-        expire_all(&mut self.live, &mut self.filters, now);
+        expire_all(&mut self.live, &mut self.filters, &mut self.slots, now);
         self.live.tick(now);
     }
 
@@ -110,6 +128,7 @@ impl Registry {
     pub fn apply(&mut self, staged: Staged, slot: u32)
         requires { FitsIn self.old staged }
         ensures stands { (entries : List Entry) → StandsFor self.old entries → StandsFor self.new (entries ++ staged ∷ []) }
+        ensures filed { (filed : List Filed) → StandsIn self.old filed → StandsIn self.new (filed ++ record { entry = staged; slot = slot } ∷ []) }
         ensures time { time_of self.new ≡ staged.time }
         ensures slot { self.new.rings ≡ rings_with slot staged self.old.rings }
         ensures settings { (settings : SettingsValue) → IsOf settings self.old → IsOf settings self.new }
@@ -130,12 +149,14 @@ impl Registry {
         requires puts { puts entry ≡ true }
         requires staged { scrubs.items ≡ rows_put entry }
         ensures stands { (entries : List Entry) → StandsFor self.old entries → StandsFor self.new (entries ++ entry ∷ []) }
+        ensures filed { (filed : List Filed) → StandsIn self.old filed → StandsIn self.new (filed ++ record { entry = entry; slot = slot } ∷ []) }
         ensures time { time_of self.new ≡ time_of self.old }
         ensures slot { self.new.rings ≡ rings_with slot entry self.old.rings }
         ensures settings { (settings : SettingsValue) → IsOf settings self.old → IsOf settings self.new }
     {
         self.filters
             .put(&entry, scrubs, self.live.rows(entry.domain));
+        take_slot(&mut self.slots, &self.live, &entry, slot);
         let entry = remember(&mut self.remembered, self.alloc, entry, slot);
         self.live.put(entry);
     }
@@ -147,6 +168,7 @@ impl Registry {
         requires puts { puts entry ≡ false }
         requires staged { list ≡ list_put entry }
         ensures stands { (entries : List Entry) → StandsFor self.old entries → StandsFor self.new (entries ++ entry ∷ []) }
+        ensures filed { (filed : List Filed) → StandsIn self.old filed → StandsIn self.new (filed ++ record { entry = entry; slot = slot } ∷ []) }
         ensures time { time_of self.new ≡ time_of self.old }
         ensures slot { self.new.rings ≡ rings_with slot entry self.old.rings }
         ensures settings { (settings : SettingsValue) → IsOf settings self.old → IsOf settings self.new }
@@ -154,6 +176,7 @@ impl Registry {
         let mitigating = has_live(&self.live, &entry);
         let acls = self.held.acls(entry.domain, entry.cuid.bytes());
         self.filters.write(&entry, list, mitigating, acls);
+        take_slot(&mut self.slots, &self.live, &entry, slot);
         self.live.note(&entry);
         let entry = remember(&mut self.remembered, self.alloc, entry, slot);
         self.held.apply(entry);
@@ -189,4 +212,15 @@ fn note_signal(remembered: &mut Remembered, entry: &Entry, slot: u32, reply: Byt
     if is_signal(&entry.change) {
         remembered.note(entry.peer, entry.domain, entry.key, entry.time, slot, reply);
     }
+}
+
+/// Takes the slot of an entry, before the live mitigations take the entry.
+fn take_slot(slots: &mut KeptSlots, live: &LiveMitigations, entry: &Entry, slot: u32)
+    requires { CanTake live.now slots.old (record { entry = entry.now; slot = slot }) }
+    ensures { slots.new ≡ taken_in live.now (record { entry = entry.now; slot = slot }) slots.old }
+{
+    if entry.domain < live.domains() {
+        return slots.take(live.rows(entry.domain), entry, slot);
+    }
+    slots.take_outside(entry, slot);
 }

@@ -2,21 +2,20 @@
 //!
 //! An [`InstalledFilters`] keeps a filter table and gives each row a place behind all others, so that the rows stand in order of
 //! the entries that they come from. Contracts see two lists of rows (`specs/Filters`), and each call says what it makes of them.
-//! `specs/Standing` says when they are the rows that a history comes to at a time: [`expire_all`] keeps them so when time moves,
-//! [`InstalledFilters::put`] and [`InstalledFilters::write`] with one more entry.
+//! `specs/Standing` says when they are the rows that a history comes to at a time: [`InstalledFilters::put`] and
+//! [`InstalledFilters::write`] keep them so with one more entry. When time moves, [`InstalledFilters::leave_live`] takes those of one
+//! domain out whose mitigations are over.
 //!
 //! The copies that the rows of an entry need are made before, by [`Staged::of`]; after [`InstalledFilters::new`] no call takes
 //! memory but that one.
 #![tactic(auto)]
 
-mod expiring;
 mod filters;
 mod lists;
 mod mitigations;
 mod placing;
 mod staged;
 
-pub use expiring::expire_all;
 pub use filters::InstalledFilters;
 pub use mitigations::is_mitigating;
 pub use staged::Staged;

@@ -17,7 +17,7 @@ use Rattle.held_slots.specs.Rows.{refiled}
 use Rattle.kept_slots.specs.Kept.{last_slot}
 use Rattle.kept_slots.proofs.Going.{filter_refiled}
 
-same_entries : (keep : List ℕ) (filed : List Filed) → map entry_of (map (refiled keep) filed) ≡ map entry_of filed
+pub same_entries : (keep : List ℕ) (filed : List Filed) → map entry_of (map (refiled keep) filed) ≡ map entry_of filed
 same_entries keep [] = refl
 same_entries keep (x ∷ later) = ap (λ rest. x.entry ∷ rest) (same_entries keep later)
 

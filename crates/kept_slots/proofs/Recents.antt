@@ -36,14 +36,14 @@ none_recent n (x ∷ later) all =
 
 -- ---- the last n with one more before them
 
-more_few : {A : Type 0} → (n : ℕ) (x : A) (xs : List A) → nat_lt (length xs) n ≡ true → lasts n (x ∷ xs) ≡ x ∷ lasts n xs
+pub more_few : {A : Type 0} → (n : ℕ) (x : A) (xs : List A) → nat_lt (length xs) n ≡ true → lasts n (x ∷ xs) ≡ x ∷ lasts n xs
 more_few n x xs few =
     let less : length xs < n = ltb-true (length xs) n few in
     let none : length xs - n ≡ 0 = omega (arith, less) in
     let still : length (x ∷ xs) - n ≡ 0 = omega (arith, less) in
     ap (λ k. drop k (x ∷ xs)) still ∙ sym (ap (λ k. x ∷ drop k xs) none)
 
-more_many : {A : Type 0} → (n : ℕ) (x : A) (xs : List A) → nat_lt (length xs) n ≡ false → lasts n (x ∷ xs) ≡ lasts n xs
+pub more_many : {A : Type 0} → (n : ℕ) (x : A) (xs : List A) → nat_lt (length xs) n ≡ false → lasts n (x ∷ xs) ≡ lasts n xs
 more_many n x xs many =
     let enough : n ≤ length xs = ltb-false (length xs) n many in
     let one : length (x ∷ xs) - n ≡ suc (length xs - n) = omega (arith, enough) in
@@ -51,7 +51,7 @@ more_many n x xs many =
 
 -- ---- how many signal after an entry
 
-signal_parts : (peer domain : ℕ) (e : Entry) → signals peer domain e ≡ true → (is_signal e.change ≡ true) × (e.peer ≡ peer) × (e.domain ≡ domain)
+pub signal_parts : (peer domain : ℕ) (e : Entry) → signals peer domain e ≡ true → (is_signal e.change ≡ true) × (e.peer ≡ peer) × (e.domain ≡ domain)
 unfolding signals
 signal_parts peer domain e is =
     let parts = and_parts (is_signal e.change) ((e.peer == peer) && (e.domain == domain)) is in
@@ -71,7 +71,7 @@ count_is pair (x ∷ later) =
     (λ out. ap (λ b. cond b 1 0 + tally (signals pair.peer pair.domain) (map entry_of later)) out ∙ (omega (arith, rest)))
 
 -- an entry of the pair is recent by how many of it come later
-own_recent : (n : ℕ) (pair : Pair) (x : Filed) (later : List Filed) → is_from pair x ≡ true
+pub own_recent : (n : ℕ) (pair : Pair) (x : Filed) (later : List Filed) → is_from pair x ≡ true
     → is_recent n x.entry (map entry_of later) ≡ nat_lt (length (map slot_of (filter (is_from pair) later))) n
 own_recent n pair x later is =
     let parts = signal_parts pair.peer pair.domain x.entry is in

@@ -1,16 +1,20 @@
 -- The slots of the entries that a compaction keeps for the messages that are remembered, and for the last entry.
-use Rattle.std.specs.Prelude.{◌≡◌, ℕ, Bool, not, ◌||◌, List, [], ◌∷◌, ◌++◌, map, filter, Option, Some, None, option_to_list}
+use Rattle.std.specs.Prelude.{◌≡◌, ℕ, ◌+◌, Bool, not, ◌||◌, if◌then◌else◌, List, [], ◌∷◌, ◌++◌, map, filter, Option, Some, None, option_map, option_to_list}
 use Rattle.std.specs.List.{list_any}
 use Rattle.dots_history.specs.declared.entry.Entry.{Entry}
 use Rattle.dots_history.specs.Entries.{is_signal, signals}
-use Rattle.dots_history.specs.Histories.{or_else}
+use Rattle.dots_history.specs.Histories.{Mitigation, or_else}
+use Rattle.dots_history.specs.Keeping.{names, pass, kept_places}
 use Rattle.dots_history.specs.Places.{lasts}
+use Rattle.dots_laws.specs.KeptPlaces.{at_places}
 use Rattle.coap_exchange.specs.declared.pair.Pair.{Pair}
-use Rattle.coap_exchange.specs.Rings.{RingValue, is_ring_of, slots_of, all_slots}
-use Rattle.mitigation_slots.specs.Slots.{Filed, slot_of}
-use Rattle.mitigation_slots.specs.Tables.{SlotTable, all_numbers}
+use Rattle.coap_exchange.specs.Rings.{RingValue, is_ring_of, slots_of, all_slots, number_in}
+use Rattle.live_mitigations.specs.Rows.{update}
+use Rattle.mitigation_slots.specs.Slots.{Filed, entry_of, slot_of}
+use Rattle.mitigation_slots.specs.Standing.{SlotsAre}
+use Rattle.mitigation_slots.specs.Tables.{SlotTable, all_numbers, aged, grown, table_renumbered}
 use Rattle.held_slots.specs.declared.row.HeldSlot.{HeldSlot}
-use Rattle.held_slots.specs.Rows.{slots_in}
+use Rattle.held_slots.specs.Rows.{HeldRows, rows_of, rows_with, renumbered, slots_in}
 
 -- a signal entry of this peer and domain
 abbrev pub is_from : Pair → Filed → Bool
@@ -37,3 +41,76 @@ last_slot (x ∷ later) = or_else (last_slot later) (Some x.slot)
 -- all slots that are kept: beside the live mitigations, in the rings, that of the last entry, and in the rows of what is held
 abbrev pub kept_slots : List SlotTable → List RingValue → Option ℕ → List HeldSlot → List ℕ
 kept_slots tables rings last rows = all_numbers tables ++ (all_slots rings ++ (option_to_list last ++ slots_in rows))
+
+-- ---- beside a registry
+
+-- what is kept: the slots of the live mitigations of each domain, the rows of what is held, and the slot of the last entry
+pub record KeptValue : Type 0 where
+  pub tables : List SlotTable
+  pub rows : HeldRows
+  pub last : Option ℕ
+
+-- At this time they are those of a history whose entries stand in slots, and so are those in the rings, each of which has room for n
+-- messages.
+pub record AreOf (n t : ℕ) (slots : KeptValue) (rings : List RingValue) (filed : List Filed) : Type 0 where
+  pub live : SlotsAre t slots.tables filed
+  pub messages : RingsAre n rings filed
+  pub last : slots.last ≡ last_slot filed
+  pub rows : slots.rows.rows ≡ rows_of filed
+
+-- ---- what a compaction leaves
+
+-- the entries that a test keeps, which sees those before each and those after it
+abbrev pub filed_kept_by : (List Mitigation → Entry → List Entry → Bool) → List Mitigation → List Filed → List Filed
+filed_kept_by keep passed [] = []
+filed_kept_by keep passed (x ∷ later) =
+    if keep passed x.entry (map entry_of later) then x ∷ filed_kept_by keep (pass passed x.entry) later
+    else filed_kept_by keep (pass passed x.entry) later
+
+-- the entries that the view names, in order
+abbrev pub filed_kept : ℕ → ℕ → List Filed → List Filed
+filed_kept n t filed = filed_kept_by (names n t) [] filed
+
+-- the slots in which they stand
+abbrev pub named_slots : ℕ → ℕ → List Filed → List ℕ
+named_slots n t filed = at_places (map slot_of filed) (kept_places (names n t) [] 0 (map entry_of filed))
+
+-- entries in the slots from this one on, in order
+abbrev pub filed_from : ℕ → List Entry → List Filed
+filed_from slot [] = []
+filed_from slot (e ∷ later) = record { entry = e; slot = slot } ∷ filed_from (slot + 1) later
+
+-- entries in the first slots
+abbrev pub filed : List Entry → List Filed
+filed entries = filed_from 0 entries
+
+-- ---- what the calls make of them
+
+-- as time goes on in a domain with these live mitigations
+abbrev pub expired : ℕ → ℕ → List Mitigation → KeptValue → KeptValue
+expired domain now ms slots = record { tables = update (aged now ms) domain slots.tables; rows = slots.rows; last = slots.last }
+
+-- one more entry stands in a slot; of another domain than those that there are it is no mitigation's
+abbrev pub rows_more : Filed → HeldRows → HeldRows
+rows_more x rows = record { room = rows.room; rows = rows_with x rows.rows }
+
+abbrev pub taken : Filed → List Mitigation → KeptValue → KeptValue
+taken x ms slots = record { tables = update (grown x ms) x.entry.domain slots.tables; rows = rows_more x slots.rows; last = Some x.slot }
+
+abbrev pub taken_outside : Filed → KeptValue → KeptValue
+taken_outside x slots = record { tables = slots.tables; rows = rows_more x slots.rows; last = Some x.slot }
+
+-- slots get new numbers
+abbrev pub rows_moved : List ℕ → HeldRows → HeldRows
+rows_moved keep rows = record { room = rows.room; rows = map (renumbered keep) rows.rows }
+
+abbrev pub moved : List ℕ → KeptValue → KeptValue
+moved keep slots = record {
+  tables = map (table_renumbered keep) slots.tables;
+  rows = rows_moved keep slots.rows;
+  last = option_map (number_in keep) slots.last;
+}
+
+-- all slots, with those in the rings
+abbrev pub all_kept : KeptValue → List RingValue → List ℕ
+all_kept slots rings = kept_slots slots.tables rings slots.last slots.rows.rows

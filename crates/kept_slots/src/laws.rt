@@ -2,8 +2,10 @@
 
 ghost use Rattle.std.specs.Prelude.{◌≡◌, ℕ, ◌≤◌, ◌++◌, ◌∷◌, [], true, false, List, Some, length, map, option_map};
 ghost use Rattle.std.specs.List.{list_all};
+ghost use Rattle.dots_history.specs.declared.entry.Entry.{Entry};
 ghost use Rattle.dots_history.specs.Entries.{is_signal};
-ghost use Rattle.dots_history.specs.Keeping.{names, kept_places};
+ghost use Rattle.dots_history.specs.Histories.{Within, Calm};
+ghost use Rattle.dots_history.specs.Keeping.{names, kept, kept_places};
 ghost use Rattle.dots_history.specs.Slots.{Rises};
 ghost use Rattle.dots_laws.specs.Capacities.{Capacities, KeepsCapacities, belongs, most_named};
 ghost use Rattle.dots_laws.specs.KeptPlaces.{at_places, union};
@@ -15,7 +17,7 @@ ghost use Rattle.mitigation_slots.specs.Slots.{Filed, entry_of, slot_of};
 ghost use Rattle.mitigation_slots.specs.Tables.{SlotTable, table_renumbered};
 ghost use Rattle.mitigation_slots.specs.Standing.{SlotsAre};
 ghost use Rattle.held_slots.specs.Rows.{rows_of, refiled};
-ghost use Rattle.kept_slots.specs.Kept.{RingsAre, has_ring, last_slot, kept_slots};
+ghost use Rattle.kept_slots.specs.Kept.{RingsAre, has_ring, last_slot, kept_slots, KeptValue, AreOf, filed_kept, named_slots, filed};
 
 /// The slots in rings go on with a history whose entries stand in slots: with a signal entry whose message is noted with its slot, with
 /// any other entry, and with new numbers of the slots.
@@ -49,4 +51,21 @@ pub fn kept_slots_move()
 pub fn rows_of_what_is_held_are_few()
     ensures { (room : Capacities) (t : ℕ) (filed : List Filed) → list_all (belongs room) (map entry_of filed) ≡ true → KeepsCapacities room t (map entry_of filed)
         → length (rows_of filed) ≤ most_named room 0 }
+{}
+
+/// What the view of a calm history names has the slots that are kept: the entries that it doesn't name have none. Where the slots rise, those of
+/// what it names rise too, and with new numbers what it names stands in the first slots, in order.
+pub fn what_is_named_has_the_slots()
+    ensures stay { (n t : ℕ) (slots : KeptValue) (rings : List RingValue) (all : List Filed) → Within 0 (map entry_of all) t → Calm (map entry_of all)
+        → AreOf n t slots rings all → AreOf n t slots rings (filed_kept n t all) }
+    ensures rise { (n t : ℕ) (all : List Filed) → Rises (map slot_of all) → Rises (named_slots n t all) }
+    ensures first { (n t : ℕ) (all : List Filed) → Rises (map slot_of all)
+        → map (refiled (named_slots n t all)) (filed_kept n t all) ≡ filed (kept n t (map entry_of all)) }
+{}
+
+/// Entries in the first slots are these entries, their slots rise, and one more stands in the next slot.
+pub fn entries_stand_in_the_first_slots()
+    ensures entries { (entries : List Entry) → map entry_of (filed entries) ≡ entries }
+    ensures rise { (entries : List Entry) → Rises (map slot_of (filed entries)) }
+    ensures more { (entries : List Entry) (e : Entry) → filed (entries ++ e ∷ []) ≡ filed entries ++ record { entry = e; slot = length entries } ∷ [] }
 {}

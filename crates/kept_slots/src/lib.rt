@@ -6,3 +6,7 @@
 #![tactic(auto)]
 
 pub mod laws;
+mod size;
+mod slots;
+
+pub use slots::KeptSlots;

@@ -35,7 +35,7 @@ apart_withdraws : (p e : Entry) → (p.domain == e.domain) ≡ false → withdra
 unfolding withdraws same_client
 apart_withdraws p e apart = and_left _ _ (and_left _ _ apart)
 
-status_own : (domain : ℕ) (p : Entry) (st : Status) (later : List Filed) → (p.domain == domain) ≡ true
+pub status_own : (domain : ℕ) (p : Entry) (st : Status) (later : List Filed) → (p.domain == domain) ≡ true
     → status p st (map entry_of (filed_alone domain later)) ≡ status p st (map entry_of later)
 status_own domain p st [] own = refl
 status_own domain p st (x ∷ later) own =
@@ -50,7 +50,7 @@ status_own domain p st (x ∷ later) own =
     status_own domain p st later own
     ∙ ap (λ now. status p now (map entry_of later)) (sym (untouched p st x.entry (apart_ends p x.entry apart) (apart_withdraws p x.entry apart))))
 
-withdrawal_own : (domain : ℕ) (p : Entry) (st : Status) (found : Option ℕ) (later : List Filed) → (p.domain == domain) ≡ true
+pub withdrawal_own : (domain : ℕ) (p : Entry) (st : Status) (found : Option ℕ) (later : List Filed) → (p.domain == domain) ≡ true
     → withdrawal_in p st found (filed_alone domain later) ≡ withdrawal_in p st found later
 withdrawal_own domain p st found [] own = refl
 withdrawal_own domain p st found (x ∷ later) own =

@@ -1,3 +1,4 @@
+use Rattle.dots_registry.specs.Filed.{StandsIn}
 use Rattle.std.proofs.Common.{◌≡◌, ◌≤◌, ◌++◌, ◌∷◌, [], sym, ap, ◌∙◌, subst}
 use Rattle.dots_history.specs.declared.entry.Entry.{Entry}
 use Rattle.dots_registry.specs.Standing.{StandsFor, time_of}
@@ -50,3 +51,17 @@ returns-else-puts-clause-stands c = λ entries stands.
 
 pub returns-else-puts-clause-settings : goal.returns-else-puts-clause-settings
 returns-else-puts-clause-settings c = λ settings is_of. c.write.ensures.settings settings (c.tick.ensures.settings settings is_of)
+
+pub returns-then-puts-clause-filed : goal.returns-then-puts-clause-filed
+returns-then-puts-clause-filed c = λ filed stands.
+    subst
+    (λ (e : Entry). StandsIn c.put.new.self (filed ++ record { entry = e; slot = c.args.slot } ∷ []))
+    c.into_parts-entry.ensures.entry
+    (c.put.ensures.filed filed (c.tick.ensures.filed filed stands))
+
+pub returns-else-puts-clause-filed : goal.returns-else-puts-clause-filed
+returns-else-puts-clause-filed c = λ filed stands.
+    subst
+    (λ (e : Entry). StandsIn c.write.new.self (filed ++ record { entry = e; slot = c.args.slot } ∷ []))
+    c.into_parts-entry.ensures.entry
+    (c.write.ensures.filed filed (c.tick.ensures.filed filed stands))

@@ -1,3 +1,6 @@
+use Rattle.std.proofs.Common.{[], length, ap}
+use Rattle.held_slots.specs.Rows.{HeldRows}
+use Rattle.dots_registry.proofs.Filed.{filed_first, slots_first_room}
 use Rattle.dots_registry.proofs.Standing.{stands_first, is_of_first}
 use Rattle.dots_registry.proofs.registry.Registry.new.Goals as goal
 
@@ -9,6 +12,7 @@ returns-clause-stands c =
     c.in_ok-new-2.field-0
     c.in_ok-new-3.field-0
     c.in_ok-new-4.field-0
+    c.in_ok-new-5.field-0
     c.in_ok-new.ensures.stands
     c.in_ok-new-2.ensures.stands
     c.in_ok-new.ensures.limits
@@ -23,8 +27,45 @@ returns-clause-settings c =
     c.in_ok-new-2.field-0
     c.in_ok-new-3.field-0
     c.in_ok-new-4.field-0
+    c.in_ok-new-5.field-0
     c.in_ok-new.ensures.domains
     c.in_ok-new.ensures.limits
     c.in_ok-new-2.ensures.sizes
     c.in_ok-new-3.ensures
     c.in_ok-new-4.ensures.room
+
+pub returns-clause-filed : goal.returns-clause-filed
+returns-clause-filed c =
+    filed_first
+    c.in_ok-new.field-0
+    c.in_ok-new-2.field-0
+    c.in_ok-new-3.field-0
+    c.in_ok-new-4.field-0
+    c.in_ok-new-5.field-0
+    c.args.settings.now
+    (length c.args.settings.now.domains)
+    c.args.settings.now.limits.domain_mitigations
+    c.in_ok-new.ensures.limits
+    c.in_ok-new-3.ensures
+    c.in_ok-new-5.ensures.tables
+    (ap (λ (r : HeldRows). r.rows) c.in_ok-new-5.ensures.rows)
+    c.in_ok-new-5.ensures.last
+    (returns-clause-stands c)
+
+pub invariant_of-result : goal.invariant_of-result
+invariant_of-result c = record {
+  filed = [];
+  stands = returns-clause-filed c;
+  room = slots_first_room
+      c.in_ok-new.field-0
+      c.in_ok-new-2.field-0
+      c.in_ok-new-3.field-0
+      c.in_ok-new-4.field-0
+      c.in_ok-new-5.field-0
+      c.args.settings.now
+      c.in_ok-new.ensures.domains
+      c.in_ok-new.ensures.limits
+      c.in_ok-new-2.ensures.sizes
+      c.in_ok-new-5.ensures.tables
+      (ap (λ (r : HeldRows). r.room) c.in_ok-new-5.ensures.rows);
+}

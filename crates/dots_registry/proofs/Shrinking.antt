@@ -1,0 +1,190 @@
+-- What a compaction keeps, and that the registry stands for it.
+use Rattle.std.proofs.Common.{◌≡◌, ℕ, ◌+◌, ◌≤◌, true, cond, List, [], ◌∷◌, length, map, refl, sym, ap, subst, ◌∙◌, arith}
+use Rattle.std.specs.Prelude.{nat_lt, ◌==◌, option_map}
+use Rattle.std.specs.List.{list_all}
+use Rattle.std.proofs.lemmas.Bool.{cond_both}
+use Rattle.std.proofs.lemmas.List.{length-map}
+use Rattle.dots_history.specs.declared.entry.Entry.{Entry}
+use Rattle.dots_history.specs.Histories.{Calm, tally, held}
+use Rattle.dots_history.specs.Keeping.{names, kept}
+use Rattle.dots_history.specs.Slots.{Rises, placed}
+use Rattle.dots_laws.specs.KeptPlaces.{union}
+use Rattle.dots_laws.proofs.Keeping.{kept_is_part}
+use Rattle.dots_laws.proofs.Parts.{part_list_all}
+use Rattle.dots_laws.proofs.Views.{kept_held}
+use Rattle.live_mitigations.specs.Standing.{is_inside}
+use Rattle.held_things.specs.Tables.{is_known}
+use Rattle.coap_exchange.specs.Rings.{RingValue, number_in, ring_renumbered}
+use Rattle.coap_exchange.proofs.Standing.{moved_remembers, pairs_moved}
+use Rattle.mitigation_slots.specs.Slots.{Filed, entry_of, slot_of}
+use Rattle.held_slots.specs.declared.row.HeldSlot.{HeldSlot}
+use Rattle.held_slots.specs.Rows.{refiled, renumbered as held_renumbered}
+use Rattle.held_slots.proofs.Going.{rows_moved}
+use Rattle.kept_slots.specs.Kept.{KeptValue, AreOf, all_kept, kept_slots, last_slot, filed_kept, named_slots, filed, moved}
+use Rattle.kept_slots.proofs.Named.{kept_named}
+use Rattle.kept_slots.proofs.Going.{rings_moved}
+use Rattle.kept_slots.proofs.Moving.{same_entries, slots_moved, last_moved}
+use Rattle.kept_slots.proofs.Staying.{kept_entries, kept_stay}
+use Rattle.kept_slots.proofs.Numbering.{named_are, named_rise, kept_are_first, union_nil, filed_entries}
+use Rattle.dots_settings.specs.Settings.{SettingsValue}
+use Rattle.dots_registry.specs.Standing.{RegistryValue, StandsFor, IsOf, time_of, number_remembered}
+use Rattle.dots_registry.specs.Filed.{StandsIn, HasSlots, IsFiled, most_kept, is_alias_of}
+use Rattle.dots_registry.proofs.Standing.{joined}
+use Rattle.dots_registry.proofs.Rings.{still_signalled}
+use Rattle.dots_registry.proofs.Keeping.{named_stands}
+use Rattle.dots_registry.proofs.Filed.{few_kept, rooms_moved, slots_still}
+
+-- ---- the slots that are kept
+
+-- a list with one more is longer by one at most
+placed_few : (x : ℕ) (ys : List ℕ) → length (placed x ys) ≤ length ys + 1
+placed_few x [] = omega arith
+placed_few x (y ∷ ys) =
+    let go = placed_few x ys in
+    cond_both
+    (nat_lt y x)
+    (y ∷ placed x ys)
+    (cond (y == x) (y ∷ ys) (x ∷ y ∷ ys))
+    (λ zs. length zs ≤ length (y ∷ ys) + 1)
+    (λ is. omega (arith, go))
+    (λ out. cond_both (y == x) (y ∷ ys) (x ∷ y ∷ ys) (λ zs. length zs ≤ length (y ∷ ys) + 1) (λ same. omega arith) (λ other. omega arith))
+
+union_few : (xs : List ℕ) → length (union xs []) ≤ length xs
+union_few [] = omega arith
+union_few (x ∷ xs) = let go = union_few xs in let more = placed_few x (union xs []) in omega (arith, go, more)
+
+named_many : (n t : ℕ) (all : List Filed) → length (named_slots n t all) ≡ length (kept n t (map entry_of all))
+named_many n t all =
+    ap length (named_are n t all)
+    ∙ length-map (filed_kept n t all) slot_of
+    ∙ sym (length-map (filed_kept n t all) entry_of)
+    ∙ ap length (kept_entries (names n t) [] all)
+
+union_named : (registry : RegistryValue) (all : List Filed) → HasSlots registry → StandsIn registry all
+    → union (all_kept registry.slots registry.rings) [] ≡ union (named_slots (number_remembered registry) (time_of registry) all) []
+union_named registry all room stands =
+    let tables = registry.slots.tables in
+    ap
+    (λ o. union (all_kept (record { tables = tables; rows = registry.slots.rows; last = o }) registry.rings) [])
+    stands.slots.last
+    ∙ ap (λ rows. union (kept_numbers rows) []) stands.slots.rows
+    ∙ kept_named
+    (number_remembered registry)
+    (time_of registry)
+    tables
+    registry.rings
+    all
+    []
+    (record {})
+    stands.slots.live
+    (subst (λ k. list_all (is_inside k) (map entry_of all) ≡ true) (sym room.number) stands.stands.live.inside)
+    stands.slots.messages
+    stands.stands.signalled
+  where
+    kept_numbers : List HeldSlot → List ℕ
+    kept_numbers rows = kept_slots registry.slots.tables registry.rings (last_slot all) rows
+
+pub few_slots : (registry : RegistryValue) → IsFiled registry → length (union (all_kept registry.slots registry.rings) []) ≤ most_kept registry
+few_slots registry is =
+    let n = number_remembered registry in
+    let t = time_of registry in
+    let same = ap length (union_named registry is.filed is.room is.stands) in
+    let fewer = union_few (named_slots n t is.filed) in
+    let many = named_many n t is.filed in
+    let few = few_kept registry is.filed is.stands in
+    omega (arith, same, fewer, many, few)
+
+pub slots_are_named : (registry : RegistryValue) (all : List Filed) → HasSlots registry → StandsIn registry all → Rises (map slot_of all)
+    → union (all_kept registry.slots registry.rings) [] ≡ named_slots (number_remembered registry) (time_of registry) all
+slots_are_named registry all room stands rises =
+    union_named registry all room stands
+    ∙ union_nil
+    (named_slots (number_remembered registry) (time_of registry) all)
+    (named_rise (number_remembered registry) (time_of registry) all rises)
+
+-- ---- new numbers
+
+abbrev pub renumbered : List ℕ → RegistryValue → RegistryValue
+renumbered keep registry = joined registry.live registry.held (map (ring_renumbered keep) registry.rings) registry.filters (moved keep registry.slots)
+
+-- after both calls
+pub renumbered_to : (keep : List ℕ) (inside old : RegistryValue) (rings : List RingValue) (slots : KeptValue) → inside ≡ old
+    → rings ≡ map (ring_renumbered keep) inside.rings → slots ≡ moved keep inside.slots
+    → renumbered keep old ≡ joined inside.live inside.held rings inside.filters slots
+renumbered_to keep inside old rings slots same rings_are slots_are =
+    ap (renumbered keep) (sym same)
+    ∙ ap (λ rs. joined inside.live inside.held rs inside.filters (moved keep inside.slots)) (sym rings_are)
+    ∙ ap (joined inside.live inside.held rings inside.filters) (sym slots_are)
+
+pub moved_of : (keep : List ℕ) (settings : SettingsValue) (registry : RegistryValue) → IsOf settings registry → IsOf settings (renumbered keep registry)
+moved_of keep settings registry is_of = record {
+  domains = is_of.domains;
+  limits = is_of.limits;
+  sizes = is_of.sizes;
+  pairs = pairs_moved keep registry.rings ∙ is_of.pairs;
+  filters = is_of.filters;
+}
+
+pub moved_stands : (keep : List ℕ) (registry : RegistryValue) (entries : List Entry) → StandsFor registry entries → StandsFor (renumbered keep registry) entries
+moved_stands keep registry entries stands = record {
+  live = stands.live;
+  held = stands.held;
+  remembered = moved_remembers (number_remembered registry) keep registry.rings entries stands.remembered;
+  signalled = still_signalled registry.rings (map (ring_renumbered keep) registry.rings) entries (pairs_moved keep registry.rings) stands.signalled;
+  filters = stands.filters;
+  limits = stands.limits;
+}
+
+moved_are : (n t : ℕ) (keep : List ℕ) (slots : KeptValue) (rings : List RingValue) (all : List Filed) → AreOf n t slots rings all
+    → AreOf n t (moved keep slots) (map (ring_renumbered keep) rings) (map (refiled keep) all)
+moved_are n t keep slots rings all are = record {
+  live = slots_moved t keep slots.tables all are.live;
+  messages = rings_moved n keep rings all are.messages;
+  last = ap (option_map (number_in keep)) are.last ∙ sym (last_moved keep all);
+  rows = ap (map (held_renumbered keep)) are.rows ∙ rows_moved keep all;
+}
+
+-- the same entries in slots with new numbers
+pub moved_in : (keep : List ℕ) (registry : RegistryValue) (all : List Filed) → StandsIn registry all → StandsIn (renumbered keep registry) (map (refiled keep) all)
+moved_in keep registry all stands =
+    let same : map entry_of all ≡ map entry_of (map (refiled keep) all) = sym (same_entries keep all) in
+    record {
+      stands = subst (StandsFor (renumbered keep registry)) same (moved_stands keep registry (map entry_of all) stands.stands);
+      slots = moved_are (number_remembered registry) (time_of registry) keep registry.slots registry.rings all stands.slots;
+      known = subst (λ es. list_all (is_known registry.held.sizes) es ≡ true) same stands.known;
+      aliased = λ client. subst (λ es. tally (is_alias_of client) (held es) ≤ registry.live.limits.aliases) same (stands.aliased client);
+    }
+
+pub moved_room : (keep : List ℕ) (registry : RegistryValue) → HasSlots registry → HasSlots (renumbered keep registry)
+moved_room keep registry room = slots_still registry (renumbered keep registry) refl refl refl (rooms_moved keep registry.slots.tables) refl room
+
+-- what the view names is stood for
+kept_in : (registry : RegistryValue) (all : List Filed) → StandsIn registry all → Calm (map entry_of all)
+    → StandsIn registry (filed_kept (number_remembered registry) (time_of registry) all)
+kept_in registry all stands calm =
+    let n = number_remembered registry in
+    let t = time_of registry in
+    let es = map entry_of all in
+    let same : kept n t es ≡ map entry_of (filed_kept n t all) = sym (kept_entries (names n t) [] all) in
+    record {
+      stands = subst (StandsFor registry) same (named_stands registry es calm stands.stands);
+      slots = kept_stay n t registry.slots registry.rings all stands.stands.live.in_order calm stands.slots;
+      known = subst (λ xs. list_all (is_known registry.held.sizes) xs ≡ true) same (part_list_all (is_known registry.held.sizes) (kept n t es) es (kept_is_part (names n t) [] es) stands.known);
+      aliased = λ client.
+          subst
+          (λ xs. tally (is_alias_of client) (held xs) ≤ registry.live.limits.aliases)
+          same
+          (subst (λ hs. tally (is_alias_of client) hs ≤ registry.live.limits.aliases) (sym (kept_held n t [] es calm)) (stands.aliased client));
+    }
+
+pub compacted_in : (keep : List ℕ) (registry : RegistryValue) (all : List Filed) → StandsIn registry all → Rises (map slot_of all) → Calm (map entry_of all)
+    → keep ≡ named_slots (number_remembered registry) (time_of registry) all
+    → StandsIn (renumbered keep registry) (filed (kept (number_remembered registry) (time_of registry) (map entry_of all)))
+compacted_in keep registry all stands rises calm is =
+    let n = number_remembered registry in
+    let t = time_of registry in
+    let few = filed_kept n t all in
+    subst
+    (StandsIn (renumbered keep registry))
+    (ap (λ (ks : List ℕ). map (refiled ks) few) is ∙ kept_are_first n t all rises)
+    (moved_in keep registry few (kept_in registry all stands calm))
