@@ -5,18 +5,20 @@ use Rattle.std.proofs.lemmas.Bool.{false≢true}
 use Rattle.dots_host.specs.declared.act.Act.{Act}
 use Rattle.dots_host.specs.declared.act.Act.TheVariants as act
 use Rattle.dots_host.specs.declared.event.Event.{Event}
-use Rattle.dots_host.specs.declared.out.OwnedOut.{OwnedOut}
 use Rattle.dots_host.specs.Acts.{Adds, took}
 use Rattle.dots_host.specs.Memory.{Coming, HandsOne, Hands, told}
 use Rattle.dots_host.proofs.TapeLemmas.{adds_took}
 use Rattle.dots_disk.specs.Media.{Medium, after, all_media, next_media, blank, grown}
 use Rattle.dots_disk.specs.Becoming.{Becomes, MayBecome, KeepsMedia}
-use Rattle.dots_disk.specs.Stored.{Stored, media_of, IsOfDisk, IsOfWire, GoesOn, Records, Forgets, MakesRoom}
-use Rattle.dots_disk.specs.Hosted.{Hosted, KeepsDisk}
-use Rattle.dots_disk.specs.HostedLaws.{grown-push}
+use Rattle.dots_disk.specs.Stored.{Stored, media_of, IsOfDisk, IsOfWire, GoesOn, KeepsDisk, Records, Forgets, MakesRoom}
+use Rattle.dots_disk.specs.StoredLaws.{grown-push}
+use Rattle.dots_disk.specs.Hosted.{Hosted}
+
+media_more : (old new : Stored) (call : Act) → new.base ≡ old.base → new.acts ≡ old.acts ++ call ∷ [] → media_of new ≡ next_media (media_of old) (after (media_of old).now call)
+media_more old new call base acts = ap (λ base. grown (blank base) new.acts) base ∙ ap (grown (blank old.base)) acts ∙ grown-push (blank old.base) old.acts call
 
 pub media_after : (old new : Stored) (call : Act) → Records old new call → media_of new ≡ next_media (media_of old) (after (media_of old).now call)
-media_after old new call made = ap (λ base. grown (blank base) new.acts) made.base ∙ ap (grown (blank old.base)) made.acts ∙ grown-push (blank old.base) old.acts call
+media_after old new call made = media_more old new call made.base made.acts
 
 pub becomes : (old new : Stored) (call : Act) (Step : Medium → Medium → Type 0) → Records old new call → Step (media_of old).now (after (media_of old).now call)
     → Becomes (Some (media_of old)) (Some (media_of new)) Step
@@ -28,8 +30,11 @@ pub became : (old : Stored) (base : List ℕ) (acts : List Act) (call : Act) (St
 became old base acts call Step same more step =
     (after (media_of old).now call, ap (λ base. grown (blank base) acts) same ∙ ap (grown (blank old.base)) more ∙ grown-push (blank old.base) old.acts call, step)
 
+media_same : (old new : Stored) → new.base ≡ old.base → new.acts ≡ old.acts → media_of new ≡ media_of old
+media_same old new base acts = ap (λ base. grown (blank base) new.acts) base ∙ ap (grown (blank old.base)) acts
+
 pub same_media : (old new : Stored) → Forgets old new → media_of new ≡ media_of old
-same_media old new made = ap (λ base. grown (blank base) new.acts) made.base ∙ ap (grown (blank old.base)) made.acts
+same_media old new made = media_same old new made.base made.acts
 
 pub may_stay : (old new : Stored) (Step : Medium → Medium → Type 0) → Forgets old new → MayBecome (Some (media_of old)) (Some (media_of new)) Step
 may_stay old new Step made = inl (same_media old new made)
@@ -86,34 +91,37 @@ records_from old mid new call acts whole base extent made = record {
 pub records_in_room : (old mid new : Stored) (call : Act) → MakesRoom old mid → Records mid new call → Records old new call
 records_in_room old mid new call room made = records_from old mid new call room.acts room.whole room.base room.extent made
 
--- a send that was recorded, or not
-pub seen_given : (made : Bool) (base : List ℕ) (acts later : List Act) (out : OwnedOut) (done : Bool) (bytes : ℕ → ℕ) → MatchBool made (later ≡ acts ++ act.Gave out done ∷ []) (later ≡ acts)
+-- a call of the wire that was recorded, or not
+pub seen_may_rest : (made : Bool) (base : List ℕ) (acts later : List Act) (call : Act) (bytes : ℕ → ℕ) → IsOfWire call → MatchBool made (later ≡ acts ++ call ∷ []) (later ≡ acts)
     → bytes ≡ (grown (blank base) acts).now.seen → bytes ≡ (grown (blank base) later).now.seen
-seen_given true base acts later out done bytes more same = seen_same base acts later (act.Gave out done) bytes more same (λ medium. refl)
-seen_given false base acts later out done bytes more same = same ∙ sym (ap (λ acts. (grown (blank base) acts).now.seen) more)
+seen_may_rest true base acts later call bytes is more same = seen_same base acts later call bytes more same (seen_wire call is)
+seen_may_rest false base acts later call bytes is more same = same ∙ sym (ap (λ acts. (grown (blank base) acts).now.seen) more)
 
 -- ---- calls of a host
 
-keeps_by_wire : (old new : Stored) (call : Act) → Records old new call → IsOfWire call → KeepsMedia (Some (media_of old)) (Some (media_of new))
-keeps_by_wire old new call made is =
+keeps_by_wire : (old new : Stored) (call : Act) → IsOfWire call → new.base ≡ old.base → new.acts ≡ old.acts ++ call ∷ [] → KeepsMedia (Some (media_of old)) (Some (media_of new))
+keeps_by_wire old new call is base acts =
     let same : after (media_of old).now call ≡ (media_of old).now = after_wire (media_of old).now call is in
-    let next = media_after old new call made in (
+    let next = media_more old new call base acts in (
       after (media_of old).now call ∷ [],
       ap all_media next,
       (same, tt),
       ap (λ media. media.now) next ∙ same,
     )
 
-keeps_nothing : (old new : Stored) → Forgets old new → KeepsMedia (Some (media_of old)) (Some (media_of new))
-keeps_nothing old new made =
-    let same = same_media old new made in
+keeps_nothing : (old new : Stored) → new.base ≡ old.base → new.acts ≡ old.acts → KeepsMedia (Some (media_of old)) (Some (media_of new))
+keeps_nothing old new base acts =
+    let same = media_same old new base acts in
     ([], ap all_media same ∙ sym (append-nil (all_media (media_of old))), tt, ap (λ media. media.now) same)
 
-pub wire_beside : (old new : Hosted) (call : Act) → Records old.disk new.disk call → IsOfWire call → new.disk.faults ≡ old.disk.faults → KeepsDisk old new
-wire_beside old new call made is faults = record { media = keeps_by_wire old.disk new.disk call made is; extent = made.extent; faults = faults }
+pub wire_beside : (old new : Stored) (call : Act) → Records old new call → IsOfWire call → new.faults ≡ old.faults → KeepsDisk old new
+wire_beside old new call made is faults = record { media = keeps_by_wire old new call is made.base made.acts; extent = made.extent; faults = faults }
 
-pub wire_lost : (old new : Hosted) → Forgets old.disk new.disk → new.disk.faults ≡ old.disk.faults → KeepsDisk old new
-wire_lost old new made faults = record { media = keeps_nothing old.disk new.disk made; extent = made.extent; faults = faults }
+-- a call of the wire that was recorded, or not, and changed nothing else
+pub wire_may_rest : (made : Bool) (old new : Stored) (call : Act) → IsOfWire call → MatchBool made (new.acts ≡ old.acts ++ call ∷ []) (new.acts ≡ old.acts) → new.base ≡ old.base → new.extent ≡ old.extent
+    → new.faults ≡ old.faults → KeepsDisk old new
+wire_may_rest true old new call is acts base extent faults = record { media = keeps_by_wire old new call is base acts; extent = extent; faults = faults }
+wire_may_rest false old new call is acts base extent faults = record { media = keeps_nothing old new base acts; extent = extent; faults = faults }
 
 pub handed : (old : Hosted) (disk : Stored) (later : List Coming) (call : Act) → Records old.disk disk call → HandsOne old.coming call later
     → disk.whole ≡ true → (old.disk.whole ≡ true) × (more : List Act) × (disk.acts ≡ old.disk.acts ++ more) × Hands old.coming more later

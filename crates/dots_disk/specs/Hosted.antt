@@ -1,11 +1,10 @@
 -- What contracts see of a memory host, and what it says of its own calls.
-use Rattle.std.specs.Prelude.{◌≡◌, ℕ, true, List, [], ◌∷◌, ◌++◌, Some}
+use Rattle.std.specs.Prelude.{◌≡◌, ℕ, true, List, [], ◌∷◌, ◌++◌}
 use Rattle.dots_host.specs.declared.event.Event.{Event}
 use Rattle.dots_host.specs.declared.act.Act.{Act}
 use Rattle.dots_host.specs.Memory.{Coming, Hands}
 use Rattle.dots_disk.specs.declared.calls.Calls.{Calls}
-use Rattle.dots_disk.specs.Becoming.{KeepsMedia}
-use Rattle.dots_disk.specs.Stored.{Stored, GoesOn, media_of}
+use Rattle.dots_disk.specs.Stored.{Stored, GoesOn}
 
 -- the events to come, the disk, the calls, and how often the wire failed
 pub record Hosted : Type 0 where
@@ -27,9 +26,3 @@ pub record KeepsWire (old new : Hosted) : Type 0 where
   pub disk : GoesOn old.disk new.disk
   pub coming : new.coming ≡ old.coming
   pub faults : new.faults ≡ old.faults
-
--- Calls of the wire alone came: what the disk holds and what is pending are as before.
-pub record KeepsDisk (old new : Hosted) : Type 0 where
-  pub media : KeepsMedia (Some (media_of old.disk)) (Some (media_of new.disk))
-  pub extent : new.disk.extent ≡ old.disk.extent
-  pub faults : new.disk.faults ≡ old.disk.faults

@@ -1,8 +1,9 @@
 -- What contracts see of a memory disk.
-use Rattle.std.specs.Prelude.{◌≡◌, ◌<◌, ℕ, Bool, true, false, List, [], ◌∷◌, ◌++◌, ⊤}
+use Rattle.std.specs.Prelude.{◌≡◌, ◌<◌, ℕ, Bool, true, false, List, [], ◌∷◌, ◌++◌, Some, ⊤}
 use Rattle.dots_host.specs.declared.act.Act.{Act}
 use Rattle.dots_host.specs.declared.act.Act.TheVariants as act
 use Rattle.dots_disk.specs.Media.{Media, blank, grown}
+use Rattle.dots_disk.specs.Becoming.{KeepsMedia}
 
 -- Its size, the bytes that it held at the start, the calls of its host so far, whether that is all of them and for how many more there is room, and how often a call of the disk failed.
 pub record Stored : Type 0 where
@@ -40,14 +41,20 @@ pub record GoesOn (old new : Stored) : Type 0 where
   pub disk : AreOfDisk more
   pub whole : new.whole ≡ true → old.whole ≡ true
 
--- a call of the disk was recorded
+-- Calls of the wire alone came: what the disk holds and what is pending are as before.
+pub record KeepsDisk (old new : Stored) : Type 0 where
+  pub media : KeepsMedia (Some (media_of old)) (Some (media_of new))
+  pub extent : new.extent ≡ old.extent
+  pub faults : new.faults ≡ old.faults
+
+-- a call of the host was recorded
 pub record Records (old new : Stored) (call : Act) : Type 0 where
   pub acts : new.acts ≡ old.acts ++ call ∷ []
   pub whole : new.whole ≡ old.whole
   pub base : new.base ≡ old.base
   pub extent : new.extent ≡ old.extent
 
--- a call of the disk that could not be recorded: nothing changed, and the acts are no longer told
+-- a call of the host that could not be recorded: nothing changed, and the acts are no longer told
 pub record Forgets (old new : Stored) : Type 0 where
   pub acts : new.acts ≡ old.acts
   pub whole : new.whole ≡ false

@@ -1,16 +1,16 @@
 ghost use Rattle.std.specs.Prelude.{◌≡◌, ◌⊎◌, ◌+◌, ◌≤◌, ◌<◌, [], ◌∷◌, ◌++◌, length, true, false, Some, IfOk, OnOk, OnErr, MatchBool, IfSome};
 ghost use Rattle.dots_host.specs.declared.act.Act.TheVariants as act;
 ghost use Rattle.dots_host.specs.Causes.{HasCause};
-ghost use Rattle.dots_host.specs.Acts.{Adds, owned_of, is_done, given};
+ghost use Rattle.dots_host.specs.Acts.{IsWithin, Adds, event_of, owned_of, is_done, taken, given};
 ghost use Rattle.dots_host.specs.Memory.{told};
 ghost use Rattle.dots_disk.specs.Media.{Medium, byte_of, bytes_at, written, IsTorn, settled, after};
 ghost use Rattle.dots_disk.specs.Becoming.{Becomes, MayBecome, Stays};
-ghost use Rattle.dots_disk.specs.Stored.{media_of, IsOfWire, IsOfDisk, GoesOn, Records, Forgets, MakesRoom};
+ghost use Rattle.dots_disk.specs.Stored.{media_of, IsOfWire, IsOfDisk, GoesOn, KeepsDisk, Records, Forgets, MakesRoom};
 ghost use Rattle.dots_disk.specs.StoredLaws.{goes_on_same, goes_on_then};
 
 use crate::content::Content;
 use crate::disk::Disk;
-use dots_host::{Act, Bytes, Failed, NoMemory, Out, Sent, Tape};
+use dots_host::{Act, Bytes, Failed, Got, NoMemory, Out, Sent, Tape};
 use std::alloc::Global;
 use std::marker::Model;
 
@@ -112,13 +112,26 @@ impl MemoryDisk {
         self.tape.log(act);
     }
 
+    /// Records that the wire beside the disk handed in an event, its bytes at the front of the room, and answers whether
+    /// that could be done.
+    pub fn record_taken(&mut self, alloc: Global, got: Got, room: &[u8]) -> bool
+        requires { IsWithin got.what (length room.now) }
+        ensures call { MatchBool result (Records self.old self.new (act.Took (event_of got.what room.now) got.at))
+            (Forgets self.old self.new) }
+        ensures adds { Adds (told self.old.whole self.old.acts) (length self.old.acts)
+            (told self.new.whole self.new.acts) (length self.new.acts) (taken got room.now) }
+        ensures beside { KeepsDisk self.old self.new }
+    {
+        self.tape.record_taken(alloc, got, room)
+    }
+
     /// Records a send of the wire beside the disk, and answers whether that could be done.
     pub fn record_given(&mut self, alloc: Global, out: &Out, sent: Sent) -> bool
         ensures call { MatchBool result (Records self.old self.new (act.Gave (owned_of out.now) (is_done sent)))
             (Forgets self.old self.new) }
         ensures adds { Adds (told self.old.whole self.old.acts) (length self.old.acts)
             (told self.new.whole self.new.acts) (length self.new.acts) (given out.now sent) }
-        ensures faults { self.new.faults ≡ self.old.faults }
+        ensures beside { KeepsDisk self.old self.new }
     {
         self.tape.record_given(alloc, out, sent)
     }

@@ -6,9 +6,10 @@ ghost use Rattle.dots_host.specs.declared.TheConstants.{MAX_EVENT_BYTES};
 ghost use Rattle.dots_disk.specs.Calls.{no_calls, failing_at, stopping_at, is_to_fail, counted};
 ghost use Rattle.dots_disk.specs.Media.{byte_of, bytes_at, written, IsTorn, settled};
 ghost use Rattle.dots_disk.specs.Becoming.{Becomes, MayBecome, Stays};
-ghost use Rattle.dots_disk.specs.Stored.{media_of};
-ghost use Rattle.dots_disk.specs.Hosted.{with_event, HandsOut, KeepsWire, KeepsDisk};
-ghost use Rattle.dots_disk.specs.HostedLaws.{hands_out_same, hands_out_then, keeps_wire_same, keeps_wire_then, keeps_disk_same, keeps_disk_then, one_moment, keeps_acts, disk_leads};
+ghost use Rattle.dots_disk.specs.Stored.{media_of, KeepsDisk};
+ghost use Rattle.dots_disk.specs.Hosted.{with_event, HandsOut, KeepsWire};
+ghost use Rattle.dots_disk.specs.StoredLaws.{keeps_disk_same, keeps_disk_then, one_moment, keeps_acts};
+ghost use Rattle.dots_disk.specs.HostedLaws.{hands_out_same, hands_out_then, keeps_wire_same, keeps_wire_then, disk_leads};
 
 use crate::calls::Calls;
 use crate::disk::Disk;
@@ -176,11 +177,11 @@ impl Wire for MemoryHost {
 
     ghost faults = { λ host. host.faults };
 
-    ghost beside = { KeepsDisk };
+    ghost beside = { λ old new. KeepsDisk old.disk new.disk };
 
-    ghost beside_same = { keeps_disk_same };
+    ghost beside_same = { λ host. keeps_disk_same host.disk };
 
-    ghost beside_then = { keeps_disk_then };
+    ghost beside_then = { λ old mid new. keeps_disk_then old.disk mid.disk new.disk };
 
     ghost leads = { HandsOut };
 
@@ -196,7 +197,7 @@ impl Wire for MemoryHost {
             (told self.new.disk.whole self.new.disk.acts) (length self.new.disk.acts) (taken result into.new) }
         ensures later { self.old.faults ≤ self.new.faults }
         ensures cause { OnFailed result.what (Rose self.old.faults self.new.faults) }
-        ensures beside { KeepsDisk self.old self.new }
+        ensures beside { KeepsDisk self.old.disk self.new.disk }
         ensures leads { HandsOut self.old self.new }
 
         // It fails where the call was to fail, and else only for want of memory.
@@ -233,7 +234,7 @@ impl Wire for MemoryHost {
         ensures acts { Adds (told self.old.disk.whole self.old.disk.acts) (length self.old.disk.acts)
             (told self.new.disk.whole self.new.disk.acts) (length self.new.disk.acts) (given out.now result) }
         ensures faults { self.new.faults ≡ self.old.faults }
-        ensures beside { KeepsDisk self.old self.new }
+        ensures beside { KeepsDisk self.old.disk self.new.disk }
         ensures leads { HandsOut self.old self.new }
 
         // It is lost where the call was to fail, and else done unless memory ran out.
@@ -339,7 +340,7 @@ impl Disk for MemoryHost {
 }
 
 impl Host for MemoryHost {
-    ghost one_moment = { one_moment };
+    ghost one_moment = { λ host. one_moment host.disk };
 
     ghost disk_keeps = { λ old new keeps. (keeps_acts old.disk new.disk keeps.disk, keeps.faults, disk_leads old new keeps) };
 

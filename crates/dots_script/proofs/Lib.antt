@@ -6,4 +6,5 @@ pub mod Reading
 pub mod OneAnswer
 pub mod Making
 pub mod Accounting
+pub mod Beginning
 pub mod OneList

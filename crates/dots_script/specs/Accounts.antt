@@ -100,4 +100,4 @@ standing left failures holds host = record { script = to_come host.ahead (left h
 
 -- the acts that a host tells are all that was read and written since that start
 abbrev pub AccountsSince : {S K : Type 0} → (S → Option (List ℕ)) → (S → ℕ) → (K → Option (List ℕ)) → Standing → Scripting S K → Type 0
-AccountsSince left failures holds start host = AccountsKnown start (standing left failures holds host) (told host.whole host.acts)
+AccountsSince left failures holds start host = AccountsKnown start (standing left failures holds host) (told host.disk.whole host.disk.acts)

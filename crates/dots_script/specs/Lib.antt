@@ -5,3 +5,4 @@ pub mod Finding
 pub mod Sends
 pub mod Scripting
 pub mod Accounts
+pub mod ScriptingLaws

@@ -1,4 +1,5 @@
-//! A host whose events come from a script: it reads lines from a source and writes its sends to a sink.
+//! A host whose events come from a script: it reads lines from a source and writes its sends to a sink. Its disk is in
+//! memory.
 //!
 //! A script has one event a line, as `at 1000 from 0 50030002`: at second 1000 a datagram of these bytes comes
 //! from peer 0; or `at 1001 tick`: second 1001 has come. Blank lines and lines that begin with `#` are skipped, and
@@ -18,4 +19,4 @@ mod send_line;
 pub use event_line::parse_event;
 pub use laws::{a_fault_stays, a_script_has_one_answer, lines_say_one_list};
 pub use lines::{MAX_LINE_BYTES, MAX_SKIPPED};
-pub use script_host::ScriptHost;
+pub use script_host::{DISK_BYTES, ScriptHost};

@@ -1,27 +1,39 @@
-ghost use Rattle.std.specs.Prelude.{◌≡◌, ◌+◌, ◌≤◌, ◌<◌, ◌^◌, [], length, true, IfOk};
+ghost use Rattle.std.specs.Prelude.{◌≡◌, ◌+◌, ◌≤◌, ◌<◌, ◌^◌, [], length, false, Some, IfOk, OnOk, OnErr};
 ghost use Rattle.std.specs.Io.KnownBytes.{Appends};
-ghost use Rattle.dots_host.specs.Causes.{Rose};
+ghost use Rattle.dots_host.specs.Causes.{Rose, HasCause};
 ghost use Rattle.dots_host.specs.Acts.{IsWithin, OnFailed, OnEvent, Adds, taken, given, event_of, owned_of};
 ghost use Rattle.dots_host.specs.Memory.{told};
 ghost use Rattle.dots_host.specs.Writing.{AppendsBeginning};
 ghost use Rattle.dots_host.specs.declared.TheConstants.{MAX_EVENT_BYTES};
+ghost use Rattle.dots_disk.specs.Media.{bytes_at, written, IsTorn, settled};
+ghost use Rattle.dots_disk.specs.Becoming.{Becomes, MayBecome, Stays};
+ghost use Rattle.dots_disk.specs.Stored.{media_of, KeepsDisk};
+ghost use Rattle.dots_disk.specs.StoredLaws.{keeps_disk_same, keeps_disk_then, one_moment, keeps_acts};
 ghost use Rattle.dots_script.specs.Lines.{to_come, NextIs};
 ghost use Rattle.dots_script.specs.Sends.{line_of};
 ghost use Rattle.dots_script.specs.Accounts.{Standing, AccountsSince};
+ghost use Rattle.dots_script.specs.Scripting.{zeros, KeepsScript};
+ghost use Rattle.dots_script.specs.ScriptingLaws.{keeps_script_same, keeps_script_then, script_leads};
 
 use crate::block::Block;
 use crate::event_line::parse_event;
 use crate::lines::{Found, find_unskipped};
 use crate::send_line::{SEND_ROOM, write_line};
+use dots_disk::{Disk, MemoryDisk};
 use dots_host::{
-    Failed, Got, Host, MAX_EVENT_BYTES, NoMemory, Out, Sent, Sink, Source, Tape, What, Wire,
+    Failed, Got, Host, MAX_EVENT_BYTES, NoMemory, Out, Sent, Sink, Source, What, Wire,
 };
 use std::alloc::Global;
 use std::marker::Model;
 
-/// A host whose events are the lines of a script and whose sends are written as lines. It records its calls.
+/// The size of its disk in bytes.
+pub const DISK_BYTES: u64 = 1_073_741_824;
+
+/// A host whose events are the lines of a script and whose sends are written as lines. Its disk is in memory, of
+/// [`DISK_BYTES`] zeros at first, and takes memory for what is written to it alone. It records its calls.
 ///
-/// A call that can't be recorded for want of memory goes on, and from then on the acts are no longer told.
+/// A call of the wire that can't be recorded for want of memory goes on, and one of the disk fails; from then on the acts
+/// are no longer told. A call of the disk fails for no other reason.
 #[derive(Debug, Drop)]
 pub struct ScriptHost<S, K> {
     alloc: Global,
@@ -29,7 +41,7 @@ pub struct ScriptHost<S, K> {
     block: Block,
     sink: K,
     room: Vec<u8>,
-    tape: Tape,
+    disk: MemoryDisk,
     faults: u64,
 }
 
@@ -39,7 +51,7 @@ impl<S, K> Model for ScriptHost<S, K> {
 
     ghost Value = { Scripting S K };
 
-    ghost view = { λ host. record { source = host.source; ahead = host.block; sink = host.sink; acts = host.tape.acts; whole = host.tape.whole; faults = host.faults } };
+    ghost view = { λ host. record { source = host.source; ahead = host.block; sink = host.sink; disk = host.disk; faults = host.faults } };
 
     ghost invariant = { λ host. length host.room.items ≡ 8209 };
 }
@@ -53,7 +65,7 @@ impl<S: Source + Drop, K: Sink + Drop> ScriptHost<S, K> {
     /// A host over the script that the source gives, whose sends go to the sink. Takes the room for lines.
     pub fn new(alloc: Global, source: S, sink: K) -> Result<Self, NoMemory>
         ensures host { IfOk result (λ host. host ≡
-            record { source = source; ahead = []; sink = sink; acts = []; whole = true; faults = 0 }) }
+            record { source = source; ahead = []; sink = sink; disk = zeros host.disk.room; faults = 0 }) }
         // It has read and written nothing yet.
         ensures accounts { IfOk result (λ host. AccountsSince S.left S.faults K.holds
             (record { script = S.left source; held = K.holds sink; failures = S.faults source }) host) }
@@ -66,7 +78,7 @@ impl<S: Source + Drop, K: Sink + Drop> ScriptHost<S, K> {
             block,
             sink,
             room,
-            tape: Tape::new(alloc),
+            disk: MemoryDisk::new(alloc, DISK_BYTES),
             faults: 0,
         })
     }
@@ -82,9 +94,9 @@ impl<S: Source, K: Sink> ScriptHost<S, K> {
 
     /// Whether it tells its acts: each call so far was recorded.
     pub fn whole(&self) -> bool
-        ensures { result ≡ self.now.whole }
+        ensures { result ≡ self.now.disk.whole }
     {
-        self.tape.is_whole()
+        self.disk.is_whole()
     }
 }
 
@@ -130,17 +142,17 @@ fn count_fault(faults: u64, what: What) -> u64
 }
 
 impl<S: Source, K: Sink> Wire for ScriptHost<S, K> {
-    ghost acts = { λ host. told host.whole host.acts };
+    ghost acts = { λ host. told host.disk.whole host.disk.acts };
 
-    ghost moment = { λ host. length host.acts };
+    ghost moment = { λ host. length host.disk.acts };
 
     ghost faults = { λ host. host.faults };
 
-    ghost beside = { λ _ _. Unit {0} };
+    ghost beside = { λ old new. KeepsDisk old.disk new.disk };
 
-    ghost beside_same = { λ _. tt };
+    ghost beside_same = { λ host. keeps_disk_same host.disk };
 
-    ghost beside_then = { λ _ _ _ _ _. tt };
+    ghost beside_then = { λ old mid new. keeps_disk_then old.disk mid.disk new.disk };
 
     // Whatever the start, the acts that it tells still are all that was read and written since.
     ghost leads = { λ old new. (start : Standing) → AccountsSince S.left S.faults K.holds start old →
@@ -154,11 +166,11 @@ impl<S: Source, K: Sink> Wire for ScriptHost<S, K> {
         requires { length into.old ≡ MAX_EVENT_BYTES }
         ensures at { result.at < 2 ^ 48 }
         ensures within { IsWithin result.what MAX_EVENT_BYTES }
-        ensures acts { Adds (told self.old.whole self.old.acts) (length self.old.acts)
-            (told self.new.whole self.new.acts) (length self.new.acts) (taken result into.new) }
+        ensures acts { Adds (told self.old.disk.whole self.old.disk.acts) (length self.old.disk.acts)
+            (told self.new.disk.whole self.new.disk.acts) (length self.new.disk.acts) (taken result into.new) }
         ensures later { self.old.faults ≤ self.new.faults }
         ensures cause { OnFailed result.what (Rose self.old.faults self.new.faults) }
-        ensures beside { Unit {0} }
+        ensures beside { KeepsDisk self.old.disk self.new.disk }
         ensures leads { (start : Standing) → AccountsSince S.left S.faults K.holds start self.old →
             AccountsSince S.left S.faults K.holds start self.new }
 
@@ -172,15 +184,15 @@ impl<S: Source, K: Sink> Wire for ScriptHost<S, K> {
     {
         let got = next_event(&mut self.block, &mut self.source, into);
         self.faults = count_fault(self.faults, got.what);
-        self.tape.record_taken(self.alloc, got, into);
+        self.disk.record_taken(self.alloc, got, into);
         got
     }
 
     fn send(&mut self, out: &Out) -> Sent
-        ensures acts { Adds (told self.old.whole self.old.acts) (length self.old.acts)
-            (told self.new.whole self.new.acts) (length self.new.acts) (given out.now result) }
+        ensures acts { Adds (told self.old.disk.whole self.old.disk.acts) (length self.old.disk.acts)
+            (told self.new.disk.whole self.new.disk.acts) (length self.new.disk.acts) (given out.now result) }
         ensures faults { self.new.faults ≡ self.old.faults }
-        ensures beside { Unit {0} }
+        ensures beside { KeepsDisk self.old.disk self.new.disk }
         ensures leads { (start : Standing) → AccountsSince S.left S.faults K.holds start self.old →
             AccountsSince S.left S.faults K.holds start self.new }
 
@@ -198,9 +210,84 @@ impl<S: Source, K: Sink> Wire for ScriptHost<S, K> {
             Ok(()) => Sent::Done,
             Err(Failed) => Sent::Lost,
         };
-        self.tape.record_given(self.alloc, out, sent);
+        self.disk.record_given(self.alloc, out, sent);
         sent
     }
 }
 
+impl<S: Source, K: Sink> Disk for ScriptHost<S, K> {
+    ghost media = { λ host. Some (media_of host.disk) };
+
+    ghost extent = { λ host. host.disk.extent };
+
+    ghost faults = { λ host. host.disk.faults };
+
+    ghost beside = { KeepsScript };
+
+    ghost beside_same = { keeps_script_same };
+
+    ghost beside_then = { keeps_script_then };
+
+    fn size(&self) -> u64
+        ensures { result ≡ self.now.disk.extent }
+    {
+        self.disk.size()
+    }
+
+    fn read(&mut self, at: u64, into: &mut [u8]) -> Result<(), Failed>
+        requires { at + length into.old ≤ self.old.disk.extent }
+        ensures bytes { OnOk result (into.new ≡ bytes_at (media_of self.old.disk).now.seen at (length into.old)) }
+        ensures ok { OnOk result (Becomes (Some (media_of self.old.disk)) (Some (media_of self.new.disk)) Stays) }
+        ensures err { OnErr result (MayBecome (Some (media_of self.old.disk)) (Some (media_of self.new.disk)) Stays) }
+        ensures extent { self.new.disk.extent ≡ self.old.disk.extent }
+        ensures cause { HasCause self.old.disk.faults self.new.disk.faults result }
+        ensures beside { KeepsScript self.old self.new }
+
+        // It fails for want of memory alone.
+        ensures memory { OnErr result (self.new.disk.whole ≡ false) }
+        ensures whole { OnOk result (self.new.disk.whole ≡ self.old.disk.whole) }
+    {
+        self.disk.read(at, into)
+    }
+
+    fn write_at(&mut self, at: u64, bytes: &[u8]) -> Result<(), Failed>
+        requires { at + length bytes.now ≤ self.old.disk.extent }
+        ensures ok { OnOk result (Becomes (Some (media_of self.old.disk)) (Some (media_of self.new.disk)) (λ old new.
+            new ≡ written old at bytes.now)) }
+        ensures err { OnErr result (MayBecome (Some (media_of self.old.disk)) (Some (media_of self.new.disk))
+            (IsTorn at (length bytes.now))) }
+        ensures extent { self.new.disk.extent ≡ self.old.disk.extent }
+        ensures cause { HasCause self.old.disk.faults self.new.disk.faults result }
+        ensures beside { KeepsScript self.old self.new }
+
+        // It fails for want of memory alone.
+        ensures memory { OnErr result (self.new.disk.whole ≡ false) }
+        ensures whole { OnOk result (self.new.disk.whole ≡ self.old.disk.whole) }
+    {
+        self.disk.write_at(at, bytes)
+    }
+
+    fn sync(&mut self) -> Result<(), Failed>
+        ensures ok { OnOk result (Becomes (Some (media_of self.old.disk)) (Some (media_of self.new.disk)) (λ old new. new ≡ settled old)) }
+        ensures err { OnErr result (MayBecome (Some (media_of self.old.disk)) (Some (media_of self.new.disk)) Stays) }
+        ensures extent { self.new.disk.extent ≡ self.old.disk.extent }
+        ensures cause { HasCause self.old.disk.faults self.new.disk.faults result }
+        ensures beside { KeepsScript self.old self.new }
+
+        // It fails for want of memory alone.
+        ensures memory { OnErr result (self.new.disk.whole ≡ false) }
+        ensures whole { OnOk result (self.new.disk.whole ≡ self.old.disk.whole) }
+    {
+        self.disk.sync()
+    }
+}
+
 impl<S: Source, K: Sink> Host for ScriptHost<S, K> {}
+
+impl<S: Source, K: Sink> dots_disk::Host for ScriptHost<S, K> {
+    ghost one_moment = { λ host. one_moment host.disk };
+
+    ghost disk_keeps = { λ old new keeps. (keeps_acts old.disk new.disk keeps.disk, keeps.faults, script_leads S.left S.faults K.holds old new keeps) };
+
+    ghost wire_keeps = { λ old new keeps. (keeps.media, keeps.extent, keeps.faults) };
+}

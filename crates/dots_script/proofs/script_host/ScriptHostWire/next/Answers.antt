@@ -15,6 +15,6 @@ returns-clause-leads g c = λ start.
     let got = c.next_event-got.result in
     let old : Standing = record { script = to_come inside.block (left inside.source); held = holds inside.sink; failures = faults inside.source } in
     let new : Standing = record { script = to_come c.next_event-got.new.block (left c.next_event-got.new.source); held = holds inside.sink; failures = faults c.next_event-got.new.source } in
-    let tape = c.record_taken.new.self in
-    let step = accounts_taken start old new _ (told tape.whole tape.acts) (length inside.tape.acts) (length tape.acts) (event_of got.what c.next_event-got.new.into) got.at c.record_taken.ensures.adds c.next_event-got.ensures.answer c.next_event-got.ensures.later refl in
-    subst (λ host. AccountsSince left faults holds start host → AccountsKnown start new (told tape.whole tape.acts)) c.self.view_is step
+    let disk = c.record_taken.new.self in
+    let step = accounts_taken start old new _ (told disk.whole disk.acts) (length inside.disk.acts) (length disk.acts) (event_of got.what c.next_event-got.new.into) got.at c.record_taken.ensures.adds c.next_event-got.ensures.answer c.next_event-got.ensures.later refl in
+    subst (λ host. AccountsSince left faults holds start host → AccountsKnown start new (told disk.whole disk.acts)) c.self.view_is step

@@ -15,12 +15,12 @@ returns-clause-leads g c = λ start.
     let inside = c.self.inside in
     let old : Standing = record { script = to_come inside.block (left inside.source); held = holds inside.sink; failures = faults inside.source } in
     let new : Standing = record { script = to_come inside.block (left inside.source); held = holds c.write_line.new.sink; failures = faults inside.source } in
-    let tape = c.record_given.new.self in
+    let disk = c.record_given.new.self in
     let out = owned_of c.args.out.now in
     let sent = c.match-write_line.sent in
     let one : Piece old.held new.held out sent = elim c.match-write_line.branch [
       | in-Ok w ↦ piece_done old.held new.held out sent w.sent-is w.in-Ok.ensures.ok
       | in-Err w ↦ piece_lost old.held new.held out sent w.sent-is w.in-Err.ensures.err
     ] in
-    let step = accounts_given start old new _ (told tape.whole tape.acts) (length inside.tape.acts) (length tape.acts) out sent c.record_given.ensures.adds refl refl one in
-    subst (λ host. AccountsSince left faults holds start host → AccountsKnown start new (told tape.whole tape.acts)) c.self.view_is step
+    let step = accounts_given start old new _ (told disk.whole disk.acts) (length inside.disk.acts) (length disk.acts) out sent c.record_given.ensures.adds refl refl one in
+    subst (λ host. AccountsSince left faults holds start host → AccountsKnown start new (told disk.whole disk.acts)) c.self.view_is step
