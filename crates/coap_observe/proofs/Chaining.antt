@@ -1,199 +1,68 @@
--- The chains of places, and the list of observers that they are of.
-use Rattle.std.proofs.Common.{◌≡◌, ◌≢◌, ℕ, zero, suc, ◌+◌, ◌-◌, ◌*◌, ◌<◌, ◌≤◌, Bool, true, false, cond, List, [], ◌∷◌, ◌++◌, length, filter, map, Some, None, refl, sym, ap, subst, ◌∙◌, inl, inr, arith}
-use Rattle.std.specs.Prelude.{not, ◌||◌, ◌==◌, nat_lt, option_map, slice_get, position, unwrap_or}
-use Rattle.std.specs.List.{find, list_any, remove, position_from}
-use Rattle.std.proofs.lemmas.Bool.{cases_Bool, eqb-true, eq-eqb, ne_eqb, lt-ltb, le-ltb, cond-true, cond-false, false≢true}
-use Rattle.std.proofs.lemmas.Iterator.Adapters.{position_from-zero}
+-- The keys of each peer, and the observers that they are of.
+use Rattle.std.proofs.Common.{◌≡◌, ◌≢◌, ℕ, ◌+◌, ◌*◌, ◌<◌, Bool, true, false, cond, List, [], ◌∷◌, ◌++◌, length, filter, map, Some, None, refl, sym, ap, subst, ◌∙◌, inl, inr, arith}
+use Rattle.std.specs.Prelude.{◌||◌, ◌==◌, option_map, slice_get, position, unwrap_or}
+use Rattle.std.specs.List.{find, list_any}
+use Rattle.std.proofs.lemmas.Bool.{cases_Bool, eqb-true, eq-eqb, ne_eqb, cond-true, cond-false, false≢true}
 use Rattle.std.proofs.lemmas.List.Quantifiers.{position-Some}
-use Rattle.dots_history.specs.Entries.{option_any}
 use Rattle.dots_history.specs.Histories.{tally}
 use Rattle.coap_exchange.specs.declared.pair.Pair.{Pair}
 use Rattle.coap_exchange.specs.Firsts.{replace_at}
 use Rattle.coap_exchange.proofs.Firsts.{first_found, first_replaced, none_passes, found_none, replaced_none}
-use Rattle.coap_observe.specs.Chains.{ChainValue, peer_of, places_from, places_of, is_chain_of, places_in, room_in, is_pair_of, room_for, empty_chain, chained, one_chained, lowered, left_places, chain_left, AreChained, HaveRoom, SameRoom}
+use Rattle.slot_order.specs.Links.{Apart, Distinct}
+use Rattle.slot_order.specs.Orders.{without}
+use Rattle.slot_order.proofs.Ringing.{distinct_last}
+use Rattle.coap_observe.specs.Chains.{ChainValue, is_chain_of, keys_in, room_in, is_pair_of, room_for, empty_chain, chained, one_chained, chain_left, one_left, AreChained, HaveRoom, SameRoom}
 use Rattle.coap_observe.specs.Observed.{ObservedValue}
-
-plus_zero : (n : ℕ) → n ≡ n + 0
-plus_zero n = omega arith
-
-zero_plus : (n : ℕ) → 0 + n ≡ n
-zero_plus n = omega arith
-
-moved : (n i : ℕ) → n + 1 + i ≡ n + suc i
-moved n i = omega arith
-
--- ---- what is found among the places of a peer is found among all
-
--- a test of places says of each place what the other says of what stands there, and passes this peer's alone
-abbrev Tells : ℕ → ℕ → (ℕ → Bool) → (ObservedValue → Bool) → List ObservedValue → Type 0
-Tells n peer at test xs = (i : ℕ) (x : ObservedValue) → slice_get xs i ≡ Some x → at (n + i) ≡ test x
-
-abbrev IsOwn : ℕ → (ObservedValue → Bool) → Type 0
-IsOwn peer test = (x : ObservedValue) → test x ≡ true → (peer_of x == peer) ≡ true
-
-tells_more : (n peer : ℕ) (at : ℕ → Bool) (test : ObservedValue → Bool) (x : ObservedValue) (xs : List ObservedValue)
-    → Tells n peer at test (x ∷ xs) → Tells (n + 1) peer at test xs
-tells_more n peer at test x xs tells i y there = ap at (moved n i) ∙ tells (suc i) y there
-
-found_from : (n peer : ℕ) (at : ℕ → Bool) (test : ObservedValue → Bool) (xs : List ObservedValue) → Tells n peer at test xs → IsOwn peer test
-    → find at (places_from n peer (map peer_of xs)) ≡ position_from test n xs
-found_from n peer at test [] tells own = refl
-found_from n peer at test (x ∷ xs) tells own =
-    by_test (peer_of x == peer) (test x) (ap at (plus_zero n) ∙ tells 0 x refl) (own x) (found_from (n + 1) peer at test xs (tells_more n peer at test x xs tells) own)
-  where
-    by_test : (b s : Bool) → at n ≡ s → (s ≡ true → b ≡ true)
-        → find at (places_from (n + 1) peer (map peer_of xs)) ≡ position_from test (n + 1) xs
-        → find at (cond b (n ∷ places_from (n + 1) peer (map peer_of xs)) (places_from (n + 1) peer (map peer_of xs)))
-        ≡ cond s (Some n) (position_from test (n + 1) xs)
-    by_test true s is own rest =
-        ap (λ h. cond h (Some n) (find at (places_from (n + 1) peer (map peer_of xs)))) is ∙ ap (λ o. cond s (Some n) o) rest
-    by_test false true is own rest = absurd (false≢true (own refl))
-    by_test false false is own rest = rest
-
-pub found_place : (peer : ℕ) (test : ObservedValue → Bool) (xs : List ObservedValue) → IsOwn peer test
-    → find (λ place. option_any test (slice_get xs place)) (places_of peer xs) ≡ position test xs
-found_place peer test xs own =
-    found_from 0 peer (λ place. option_any test (slice_get xs place)) test xs
-    (λ i x there. ap (λ k. option_any test (slice_get xs k)) (zero_plus i) ∙ ap (option_any test) there) own
-    ∙ sym (position_from-zero test xs)
-
-count_from : (n peer : ℕ) (at : ℕ → Bool) (test : ObservedValue → Bool) (xs : List ObservedValue) → Tells n peer at test xs → IsOwn peer test
-    → tally at (places_from n peer (map peer_of xs)) ≡ tally test xs
-count_from n peer at test [] tells own = refl
-count_from n peer at test (x ∷ xs) tells own =
-    by_test (peer_of x == peer) (test x) (ap at (plus_zero n) ∙ tells 0 x refl) (own x) (count_from (n + 1) peer at test xs (tells_more n peer at test x xs tells) own)
-  where
-    by_test : (b s : Bool) → at n ≡ s → (s ≡ true → b ≡ true)
-        → tally at (places_from (n + 1) peer (map peer_of xs)) ≡ tally test xs
-        → tally at (cond b (n ∷ places_from (n + 1) peer (map peer_of xs)) (places_from (n + 1) peer (map peer_of xs)))
-        ≡ cond s 1 0 + tally test xs
-    by_test true s is own rest =
-        ap (λ h. cond {A = ℕ} h 1 0 + tally at (places_from (n + 1) peer (map peer_of xs))) is ∙ ap (λ t. cond {A = ℕ} s 1 0 + t) rest
-    by_test false true is own rest = absurd (false≢true (own refl))
-    by_test false false is own rest = omega (arith, rest)
-
-pub counted : (peer : ℕ) (test : ObservedValue → Bool) (xs : List ObservedValue) → IsOwn peer test
-    → tally (λ place. option_any test (slice_get xs place)) (places_of peer xs) ≡ tally test xs
-counted peer test xs own =
-    count_from 0 peer (λ place. option_any test (slice_get xs place)) test xs
-    (λ i x there. ap (λ k. option_any test (slice_get xs k)) (zero_plus i) ∙ ap (option_any test) there) own
-
--- ---- one more observer
-
-last_from : (n peer : ℕ) (o : ObservedValue) (xs : List ObservedValue)
-    → places_from n peer (map peer_of (xs ++ o ∷ [])) ≡ places_from n peer (map peer_of xs) ++ cond (peer_of o == peer) ((n + length xs) ∷ []) []
-last_from n peer o [] = ap (λ k. cond (peer_of o == peer) (k ∷ []) []) (plus_zero n)
-last_from n peer o (x ∷ xs) = by_test (peer_of x == peer) (last_from (n + 1) peer o xs ∙ ap (λ k. places_from (n + 1) peer (map peer_of xs) ++ cond (peer_of o == peer) (k ∷ []) []) (moved n (length xs)))
-  where
-    by_test : (b : Bool)
-        → places_from (n + 1) peer (map peer_of (xs ++ o ∷ [])) ≡ places_from (n + 1) peer (map peer_of xs) ++ cond (peer_of o == peer) ((n + suc (length xs)) ∷ []) []
-        → cond b (n ∷ places_from (n + 1) peer (map peer_of (xs ++ o ∷ []))) (places_from (n + 1) peer (map peer_of (xs ++ o ∷ [])))
-        ≡ cond b (n ∷ places_from (n + 1) peer (map peer_of xs)) (places_from (n + 1) peer (map peer_of xs)) ++ cond (peer_of o == peer) ((n + suc (length xs)) ∷ []) []
-    by_test true rest = ap (λ ps. n ∷ ps) rest
-    by_test false rest = rest
-
--- ---- one observer less
-
-lowered_above : (p m : ℕ) → p ≤ m → lowered p (m + 1) ≡ m
-lowered_above p m above = cond-true (nat_lt p (m + 1)) (m + 1 - 1) (m + 1) (lt-ltb p (m + 1) (omega (arith, above))) ∙ one_less m
-  where
-    one_less : (k : ℕ) → k + 1 - 1 ≡ k
-    one_less k = omega arith
-
-lowered_below : (p m : ℕ) → m < p → lowered p m ≡ m
-lowered_below p m below = cond-false (nat_lt p m) (m - 1) m (le-ltb p m (omega (arith, below)))
-
-one_kept : (p m : ℕ) (places : List ℕ) → m ≢ p → left_places p (m ∷ places) ≡ lowered p m ∷ left_places p places
-one_kept p m places apart =
-    ap (λ b. map (lowered p) (cond (not b) (m ∷ filter (λ other. not (other == p)) places) (filter (λ other. not (other == p)) places))) (ne_eqb m p apart)
-
-one_gone : (p : ℕ) (places : List ℕ) → left_places p (p ∷ places) ≡ left_places p places
-one_gone p places =
-    ap (λ b. map (lowered p) (cond (not b) (p ∷ filter (λ other. not (other == p)) places) (filter (λ other. not (other == p)) places))) (eq-eqb p p refl)
-
-above_from : (p m peer : ℕ) (ps : List ℕ) → p ≤ m → left_places p (places_from (m + 1) peer ps) ≡ places_from m peer ps
-above_from p m peer [] above = refl
-above_from p m peer (q ∷ ps) above = by_test (q == peer) (above_from p (m + 1) peer ps (omega (arith, above)))
-  where
-    by_test : (b : Bool) → left_places p (places_from (m + 1 + 1) peer ps) ≡ places_from (m + 1) peer ps
-        → left_places p (cond b ((m + 1) ∷ places_from (m + 1 + 1) peer ps) (places_from (m + 1 + 1) peer ps))
-        ≡ cond b (m ∷ places_from (m + 1) peer ps) (places_from (m + 1) peer ps)
-    by_test true rest =
-        one_kept p (m + 1) (places_from (m + 1 + 1) peer ps) (λ same. absurd (omega (arith, same, above)))
-        ∙ ap (λ k. k ∷ left_places p (places_from (m + 1 + 1) peer ps)) (lowered_above p m above)
-        ∙ ap (λ ks. m ∷ ks) rest
-    by_test false rest = rest
-
-left_from : (n i peer : ℕ) (xs : List ObservedValue) → i < length xs
-    → left_places (n + i) (places_from n peer (map peer_of xs)) ≡ places_from n peer (map peer_of (remove xs i))
-left_from n i peer [] less = absurd (omega (arith, less))
-left_from n zero peer (x ∷ xs) less =
-    ap (λ k. left_places k (places_from n peer (map peer_of (x ∷ xs)))) (sym (plus_zero n))
-    ∙ by_test (peer_of x == peer) (above_from n n peer (map peer_of xs) (omega arith))
-  where
-    by_test : (b : Bool) → left_places n (places_from (n + 1) peer (map peer_of xs)) ≡ places_from n peer (map peer_of xs)
-        → left_places n (cond b (n ∷ places_from (n + 1) peer (map peer_of xs)) (places_from (n + 1) peer (map peer_of xs))) ≡ places_from n peer (map peer_of xs)
-    by_test true rest = one_gone n (places_from (n + 1) peer (map peer_of xs)) ∙ rest
-    by_test false rest = rest
-left_from n (suc i) peer (x ∷ xs) less =
-    by_test (peer_of x == peer)
-    (ap (λ k. left_places k (places_from (n + 1) peer (map peer_of xs))) (sym (moved n i)) ∙ left_from (n + 1) i peer xs (omega (arith, less)))
-  where
-    by_test : (b : Bool) → left_places (n + suc i) (places_from (n + 1) peer (map peer_of xs)) ≡ places_from (n + 1) peer (map peer_of (remove xs i))
-        → left_places (n + suc i) (cond b (n ∷ places_from (n + 1) peer (map peer_of xs)) (places_from (n + 1) peer (map peer_of xs)))
-        ≡ cond b (n ∷ places_from (n + 1) peer (map peer_of (remove xs i))) (places_from (n + 1) peer (map peer_of (remove xs i)))
-    by_test true rest =
-        one_kept (n + suc i) n (places_from (n + 1) peer (map peer_of xs)) (λ same. absurd (omega (arith, same)))
-        ∙ ap (λ k. k ∷ left_places (n + suc i) (places_from (n + 1) peer (map peer_of xs))) (lowered_below (n + suc i) n (omega arith))
-        ∙ ap (λ ks. n ∷ ks) rest
-    by_test false rest = rest
+use Rattle.coap_observe.specs.Rolls.{Row, keys_of, observed_of, has_key, one_at, without_key, with_key, peer_of, is_row_of, own_keys}
+use Rattle.coap_observe.proofs.Keying.{keys_last, keys_less, keys_with, own_last, own_less, own_other, own_with}
+use Rattle.coap_observe.proofs.Rolling.{distinct_kept}
 
 -- ---- the chain of a peer
 
-in_first : (peer : ℕ) (c : ChainValue) (cs : List ChainValue) → is_chain_of peer c ≡ true → places_in peer (c ∷ cs) ≡ c.places
-in_first peer c cs is = ap (λ o. unwrap_or (option_map (λ (y : ChainValue). y.places) o) []) (cond-true (is_chain_of peer c) (Some c) (find (is_chain_of peer) cs) is)
+in_first : (peer : ℕ) (c : ChainValue) (cs : List ChainValue) → is_chain_of peer c ≡ true → keys_in peer (c ∷ cs) ≡ c.keys
+in_first peer c cs is = ap (λ o. unwrap_or (option_map (λ (y : ChainValue). y.keys) o) []) (cond-true (is_chain_of peer c) (Some c) (find (is_chain_of peer) cs) is)
 
-in_rest : (peer : ℕ) (c : ChainValue) (cs : List ChainValue) → is_chain_of peer c ≡ false → places_in peer (c ∷ cs) ≡ places_in peer cs
-in_rest peer c cs out = ap (λ o. unwrap_or (option_map (λ (y : ChainValue). y.places) o) []) (cond-false (is_chain_of peer c) (Some c) (find (is_chain_of peer) cs) out)
+in_rest : (peer : ℕ) (c : ChainValue) (cs : List ChainValue) → is_chain_of peer c ≡ false → keys_in peer (c ∷ cs) ≡ keys_in peer cs
+in_rest peer c cs out = ap (λ o. unwrap_or (option_map (λ (y : ChainValue). y.keys) o) []) (cond-false (is_chain_of peer c) (Some c) (find (is_chain_of peer) cs) out)
 
 room_rest : (peer : ℕ) (c : ChainValue) (cs : List ChainValue) → is_chain_of peer c ≡ false → room_in peer (c ∷ cs) ≡ room_in peer cs
 room_rest peer c cs out = ap (λ o. unwrap_or (option_map (λ (y : ChainValue). y.room) o) 0) (cond-false (is_chain_of peer c) (Some c) (find (is_chain_of peer) cs) out)
 
-own_chained : (peer place : ℕ) (cs : List ChainValue) → 0 < room_in peer cs → places_in peer (one_chained peer place cs) ≡ places_in peer cs ++ place ∷ []
-own_chained peer place [] some = absurd (omega (arith, some))
-own_chained peer place (c ∷ cs) some =
+own_chained : (peer key : ℕ) (cs : List ChainValue) → 0 < room_in peer cs → keys_in peer (one_chained peer key cs) ≡ keys_in peer cs ++ key ∷ []
+own_chained peer key [] some = absurd (omega (arith, some))
+own_chained peer key (c ∷ cs) some =
     elim (cases_Bool (is_chain_of peer c)) [
       | inl is ↦
-          ap (places_in peer) (cond-true (is_chain_of peer c) (chained place c ∷ cs) (c ∷ one_chained peer place cs) is)
-          ∙ in_first peer (chained place c) cs is
-          ∙ ap (λ ps. ps ++ place ∷ []) (sym (in_first peer c cs is))
+          ap (keys_in peer) (cond-true (is_chain_of peer c) (chained key c ∷ cs) (c ∷ one_chained peer key cs) is)
+          ∙ in_first peer (chained key c) cs is
+          ∙ ap (λ ps. ps ++ key ∷ []) (sym (in_first peer c cs is))
       | inr out ↦
-          ap (places_in peer) (cond-false (is_chain_of peer c) (chained place c ∷ cs) (c ∷ one_chained peer place cs) out)
-          ∙ in_rest peer c (one_chained peer place cs) out
-          ∙ own_chained peer place cs (subst (λ n. 0 < n) (room_rest peer c cs out) some)
-          ∙ ap (λ ps. ps ++ place ∷ []) (sym (in_rest peer c cs out))
+          ap (keys_in peer) (cond-false (is_chain_of peer c) (chained key c ∷ cs) (c ∷ one_chained peer key cs) out)
+          ∙ in_rest peer c (one_chained peer key cs) out
+          ∙ own_chained peer key cs (subst (λ n. 0 < n) (room_rest peer c cs out) some)
+          ∙ ap (λ ps. ps ++ key ∷ []) (sym (in_rest peer c cs out))
     ]
 
-same_rest : (q : ℕ) (c : ChainValue) (cs ds : List ChainValue) → places_in q cs ≡ places_in q ds → places_in q (c ∷ cs) ≡ places_in q (c ∷ ds)
+same_rest : (q : ℕ) (c : ChainValue) (cs ds : List ChainValue) → keys_in q cs ≡ keys_in q ds → keys_in q (c ∷ cs) ≡ keys_in q (c ∷ ds)
 same_rest q c cs ds same =
     elim (cases_Bool (is_chain_of q c)) [
       | inl is ↦ in_first q c cs is ∙ sym (in_first q c ds is)
       | inr out ↦ in_rest q c cs out ∙ same ∙ sym (in_rest q c ds out)
     ]
 
-other_chained : (q peer place : ℕ) (cs : List ChainValue) → q ≢ peer → places_in q (one_chained peer place cs) ≡ places_in q cs
-other_chained q peer place [] apart = refl
-other_chained q peer place (c ∷ cs) apart =
+other_chained : (q peer key : ℕ) (cs : List ChainValue) → q ≢ peer → keys_in q (one_chained peer key cs) ≡ keys_in q cs
+other_chained q peer key [] apart = refl
+other_chained q peer key (c ∷ cs) apart =
     elim (cases_Bool (is_chain_of peer c)) [
       | inl is ↦
           let own : c.peer ≡ peer = eqb-true c.peer peer is in
           let out : is_chain_of q c ≡ false = ne_eqb c.peer q (λ same. apart (sym same ∙ own)) in
-          ap (places_in q) (cond-true (is_chain_of peer c) (chained place c ∷ cs) (c ∷ one_chained peer place cs) is)
-          ∙ in_rest q (chained place c) cs out
+          ap (keys_in q) (cond-true (is_chain_of peer c) (chained key c ∷ cs) (c ∷ one_chained peer key cs) is)
+          ∙ in_rest q (chained key c) cs out
           ∙ sym (in_rest q c cs out)
       | inr out ↦
-          ap (places_in q) (cond-false (is_chain_of peer c) (chained place c ∷ cs) (c ∷ one_chained peer place cs) out)
-          ∙ same_rest q c (one_chained peer place cs) cs (other_chained q peer place cs apart)
+          ap (keys_in q) (cond-false (is_chain_of peer c) (chained key c ∷ cs) (c ∷ one_chained peer key cs) out)
+          ∙ same_rest q c (one_chained peer key cs) cs (other_chained q peer key cs apart)
     ]
 
 room_either : (q : ℕ) (c d : ChainValue) (cs ds : List ChainValue) → c.peer ≡ d.peer → c.room ≡ d.room → room_in q cs ≡ room_in q ds → room_in q (c ∷ cs) ≡ room_in q (d ∷ ds)
@@ -206,77 +75,137 @@ room_either q c d cs ds peer room same =
     by_test true = room
     by_test false = same
 
-pub room_chained : (peer place : ℕ) (cs : List ChainValue) → SameRoom cs (one_chained peer place cs)
-room_chained peer place [] q = refl
-room_chained peer place (c ∷ cs) q = by_test (is_chain_of peer c) (room_chained peer place cs q)
+pub room_chained : (peer key : ℕ) (cs : List ChainValue) → SameRoom cs (one_chained peer key cs)
+room_chained peer key [] q = refl
+room_chained peer key (c ∷ cs) q = by_test (is_chain_of peer c) (room_chained peer key cs q)
   where
-    by_test : (b : Bool) → room_in q (one_chained peer place cs) ≡ room_in q cs
-        → room_in q (cond b (chained place c ∷ cs) (c ∷ one_chained peer place cs)) ≡ room_in q (c ∷ cs)
-    by_test true rest = room_either q (chained place c) c cs cs refl refl refl
-    by_test false rest = room_either q c c (one_chained peer place cs) cs refl refl rest
+    by_test : (b : Bool) → room_in q (one_chained peer key cs) ≡ room_in q cs
+        → room_in q (cond b (chained key c ∷ cs) (c ∷ one_chained peer key cs)) ≡ room_in q (c ∷ cs)
+    by_test true rest = room_either q (chained key c) c cs cs refl refl refl
+    by_test false rest = room_either q c c (one_chained peer key cs) cs refl refl rest
 
-pub room_left : (place : ℕ) (cs : List ChainValue) → SameRoom cs (map (chain_left place) cs)
-room_left place [] q = refl
-room_left place (c ∷ cs) q = room_either q (chain_left place c) c (map (chain_left place) cs) cs refl refl (room_left place cs q)
-
-left_in : (peer place : ℕ) (cs : List ChainValue) → places_in peer (map (chain_left place) cs) ≡ left_places place (places_in peer cs)
-left_in peer place [] = refl
-left_in peer place (c ∷ cs) = by_test (is_chain_of peer c) (left_in peer place cs)
+pub room_left : (peer key : ℕ) (cs : List ChainValue) → SameRoom cs (one_left peer key cs)
+room_left peer key [] q = refl
+room_left peer key (c ∷ cs) q = by_test (is_chain_of peer c) (room_left peer key cs q)
   where
-    by_test : (b : Bool) → places_in peer (map (chain_left place) cs) ≡ left_places place (places_in peer cs)
-        → unwrap_or (option_map (λ (y : ChainValue). y.places) (cond b (Some (chain_left place c)) (find (is_chain_of peer) (map (chain_left place) cs)))) []
-        ≡ left_places place (unwrap_or (option_map (λ (y : ChainValue). y.places) (cond b (Some c) (find (is_chain_of peer) cs))) [])
-    by_test true rest = refl
-    by_test false rest = rest
+    by_test : (b : Bool) → room_in q (one_left peer key cs) ≡ room_in q cs
+        → room_in q (cond b (chain_left key c ∷ cs) (c ∷ one_left peer key cs)) ≡ room_in q (c ∷ cs)
+    by_test true rest = room_either q (chain_left key c) c cs cs refl refl refl
+    by_test false rest = room_either q c c (one_left peer key cs) cs refl refl rest
+
+own_left : (peer key : ℕ) (cs : List ChainValue) → keys_in peer (one_left peer key cs) ≡ without key (keys_in peer cs)
+own_left peer key [] = refl
+own_left peer key (c ∷ cs) =
+    elim (cases_Bool (is_chain_of peer c)) [
+      | inl is ↦
+          ap (keys_in peer) (cond-true (is_chain_of peer c) (chain_left key c ∷ cs) (c ∷ one_left peer key cs) is)
+          ∙ in_first peer (chain_left key c) cs is
+          ∙ ap (without key) (sym (in_first peer c cs is))
+      | inr out ↦
+          ap (keys_in peer) (cond-false (is_chain_of peer c) (chain_left key c ∷ cs) (c ∷ one_left peer key cs) out)
+          ∙ in_rest peer c (one_left peer key cs) out
+          ∙ own_left peer key cs
+          ∙ ap (without key) (sym (in_rest peer c cs out))
+    ]
+
+other_left : (q peer key : ℕ) (cs : List ChainValue) → q ≢ peer → keys_in q (one_left peer key cs) ≡ keys_in q cs
+other_left q peer key [] apart = refl
+other_left q peer key (c ∷ cs) apart =
+    elim (cases_Bool (is_chain_of peer c)) [
+      | inl is ↦
+          let own : c.peer ≡ peer = eqb-true c.peer peer is in
+          let out : is_chain_of q c ≡ false = ne_eqb c.peer q (λ same. apart (sym same ∙ own)) in
+          ap (keys_in q) (cond-true (is_chain_of peer c) (chain_left key c ∷ cs) (c ∷ one_left peer key cs) is)
+          ∙ in_rest q (chain_left key c) cs out
+          ∙ sym (in_rest q c cs out)
+      | inr out ↦
+          ap (keys_in q) (cond-false (is_chain_of peer c) (chain_left key c ∷ cs) (c ∷ one_left peer key cs) out)
+          ∙ same_rest q c (one_left peer key cs) cs (other_left q peer key cs apart)
+    ]
 
 -- ---- the chains stay those of the observers
 
-pub chained_last : (chains : List ChainValue) (xs : List ObservedValue) (o : ObservedValue) → 0 < room_in (peer_of o) chains → AreChained chains xs
-    → AreChained (one_chained (peer_of o) (length xs) chains) (xs ++ o ∷ [])
-chained_last chains xs o some are peer =
-    elim (cases_Bool (peer_of o == peer)) [
-      | inl is ↦
-          let own : peer_of o ≡ peer = eqb-true (peer_of o) peer is in
-          ap (λ p. places_in p (one_chained (peer_of o) (length xs) chains)) (sym own)
-          ∙ own_chained (peer_of o) (length xs) chains some
-          ∙ ap (λ ps. ps ++ length xs ∷ []) (are (peer_of o))
-          ∙ ap (λ p. places_of p xs ++ length xs ∷ []) own
-          ∙ ap (λ k. places_of peer xs ++ k ∷ []) (sym (zero_plus (length xs)))
-          ∙ ap (λ ks. places_of peer xs ++ ks) (sym (cond-true (peer_of o == peer) ((0 + length xs) ∷ []) [] is))
-          ∙ sym (last_from 0 peer o xs)
-      | inr out ↦
-          other_chained peer (peer_of o) (length xs) chains (λ same. false≢true (sym out ∙ eq-eqb (peer_of o) peer (sym same)))
-          ∙ are peer
-          ∙ sym (nothing_more (places_of peer xs))
-          ∙ ap (λ ks. places_of peer xs ++ ks) (sym (cond-false (peer_of o == peer) ((0 + length xs) ∷ []) [] out))
-          ∙ sym (last_from 0 peer o xs)
-    ]
+nothing_more : (ys : List ℕ) → ys ++ [] ≡ ys
+nothing_more [] = refl
+nothing_more (y ∷ ys) = ap (λ zs. y ∷ zs) (nothing_more ys)
+
+off_keys : (key : ℕ) (rows : List Row) → has_key key rows ≡ false → Apart key (keys_of rows)
+off_keys key [] none = record {}
+off_keys key (r ∷ rows) none = by_test (r.0 == key) refl none (off_keys key rows)
   where
-    nothing_more : (ys : List ℕ) → ys ++ [] ≡ ys
-    nothing_more [] = refl
-    nothing_more (y ∷ ys) = ap (λ zs. y ∷ zs) (nothing_more ys)
+    by_test : (b : Bool) → (r.0 == key) ≡ b → b || has_key key rows ≡ false → (has_key key rows ≡ false → Apart key (keys_of rows)) → Apart key (keys_of (r ∷ rows))
+    by_test true is none rest = absurd (false≢true (sym none))
+    by_test false is none rest = (λ same. absurd (false≢true (sym is ∙ eq-eqb r.0 key same)), rest none)
 
-pub chained_less : (chains : List ChainValue) (xs : List ObservedValue) (place : ℕ) → place < length xs → AreChained chains xs
-    → AreChained (map (chain_left place) chains) (remove xs place)
-chained_less chains xs place less are peer =
-    left_in peer place chains
-    ∙ ap (left_places place) (are peer)
-    ∙ ap (λ k. left_places k (places_of peer xs)) (sym (zero_plus place))
-    ∙ left_from 0 place peer xs less
+pub chained_last : (chains : List ChainValue) (rows : List Row) (key : ℕ) (o : ObservedValue) → has_key key rows ≡ false → 0 < room_in (peer_of o) chains → AreChained chains rows
+    → AreChained (one_chained (peer_of o) key chains) (rows ++ (key, o) ∷ [])
+chained_last chains rows key o new some are = record {
+  apart = subst Distinct (sym (keys_last (key, o) rows)) (distinct_last key (keys_of rows) are.apart (off_keys key rows new));
+  own = λ peer. own_is peer;
+}
+  where
+    own_is : (peer : ℕ) → keys_in peer (one_chained (peer_of o) key chains) ≡ own_keys peer (rows ++ (key, o) ∷ [])
+    own_is peer =
+        elim (cases_Bool (peer_of o == peer)) [
+          | inl is ↦
+              let same : peer_of o ≡ peer = eqb-true (peer_of o) peer is in
+              ap (λ p. keys_in p (one_chained (peer_of o) key chains)) (sym same)
+              ∙ own_chained (peer_of o) key chains some
+              ∙ ap (λ ks. ks ++ key ∷ []) (are.own (peer_of o))
+              ∙ ap (λ p. own_keys p rows ++ key ∷ []) same
+              ∙ ap (λ ks. own_keys peer rows ++ ks) (sym (cond-true (peer_of o == peer) (key ∷ []) [] is))
+              ∙ sym (own_last peer key o rows)
+          | inr out ↦
+              other_chained peer (peer_of o) key chains (λ same. false≢true (sym out ∙ eq-eqb (peer_of o) peer (sym same)))
+              ∙ are.own peer
+              ∙ sym (nothing_more (own_keys peer rows))
+              ∙ ap (λ ks. own_keys peer rows ++ ks) (sym (cond-false (peer_of o == peer) (key ∷ []) [] out))
+              ∙ sym (own_last peer key o rows)
+        ]
 
-pub chained_same : (chains : List ChainValue) (xs ys : List ObservedValue) → map peer_of ys ≡ map peer_of xs → AreChained chains xs → AreChained chains ys
-chained_same chains xs ys same are peer = are peer ∙ ap (places_from 0 peer) (sym same)
+pub chained_less : (chains : List ChainValue) (rows : List Row) (key : ℕ) (one : ObservedValue) → one_at key rows ≡ Some one → AreChained chains rows
+    → AreChained (one_left (peer_of one) key chains) (without_key key rows)
+chained_less chains rows key one there are = record {
+  apart = subst Distinct (sym (keys_less key rows)) (distinct_kept key (keys_of rows) are.apart);
+  own = λ peer. own_is peer;
+}
+  where
+    own_is : (peer : ℕ) → keys_in peer (one_left (peer_of one) key chains) ≡ own_keys peer (without_key key rows)
+    own_is peer =
+        elim (cases_Bool (peer_of one == peer)) [
+          | inl is ↦
+              let same : peer_of one ≡ peer = eqb-true (peer_of one) peer is in
+              ap (λ p. keys_in p (one_left (peer_of one) key chains)) (sym same)
+              ∙ own_left (peer_of one) key chains
+              ∙ ap (without key) (are.own (peer_of one))
+              ∙ ap (λ p. without key (own_keys p rows)) same
+              ∙ sym (own_less peer key rows)
+          | inr out ↦
+              other_left peer (peer_of one) key chains (λ same. false≢true (sym out ∙ eq-eqb (peer_of one) peer (sym same)))
+              ∙ are.own peer
+              ∙ sym (own_other peer key one rows are.apart there out)
+        ]
+
+pub chained_with : (chains : List ChainValue) (rows : List Row) (key : ℕ) (becomes : ObservedValue → ObservedValue) (one : ObservedValue) → one_at key rows ≡ Some one
+    → peer_of (becomes one) ≡ peer_of one → AreChained chains rows → AreChained chains (with_key key becomes rows)
+chained_with chains rows key becomes one there same_peer are = record {
+  apart = subst Distinct (sym (keys_with key becomes rows)) are.apart;
+  own = λ peer. are.own peer ∙ sym (own_with peer key becomes one rows are.apart there same_peer);
+}
 
 -- ---- at the beginning
 
-pub none_chained : (all : List Pair) (room : ℕ) (pairs : List Pair) → AreChained (map (empty_chain all room) pairs) []
-none_chained all room [] peer = refl
-none_chained all room (pair ∷ pairs) peer = by_test (pair.peer == peer) (none_chained all room pairs peer)
+no_keys : (all : List Pair) (room : ℕ) (pairs : List Pair) (peer : ℕ) → keys_in peer (map (empty_chain all room) pairs) ≡ []
+no_keys all room [] peer = refl
+no_keys all room (pair ∷ pairs) peer = by_test (pair.peer == peer) (no_keys all room pairs peer)
   where
-    by_test : (b : Bool) → places_in peer (map (empty_chain all room) pairs) ≡ []
-        → unwrap_or (option_map (λ (y : ChainValue). y.places) (cond b (Some (empty_chain all room pair)) (find (is_chain_of peer) (map (empty_chain all room) pairs)))) [] ≡ []
+    by_test : (b : Bool) → keys_in peer (map (empty_chain all room) pairs) ≡ []
+        → unwrap_or (option_map (λ (y : ChainValue). y.keys) (cond b (Some (empty_chain all room pair)) (find (is_chain_of peer) (map (empty_chain all room) pairs)))) [] ≡ []
     by_test true rest = refl
     by_test false rest = rest
+
+pub none_chained : (all : List Pair) (room : ℕ) (pairs : List Pair) → AreChained (map (empty_chain all room) pairs) []
+none_chained all room pairs = record { apart = record {}; own = λ peer. no_keys all room pairs peer }
 
 room_among : (all : List Pair) (room peer : ℕ) (pairs : List Pair) → room_in peer (map (empty_chain all room) pairs) ≡ cond (list_any (is_pair_of peer) pairs) (room_for all room peer) 0
 room_among all room peer [] = refl
@@ -316,12 +245,12 @@ rooms_stay pairs room old new same have peer = same peer ∙ have peer
 
 -- ---- how many there are of a peer
 
-pub length_from : (n peer : ℕ) (xs : List ObservedValue) → length (places_from n peer (map peer_of xs)) ≡ tally (λ o. peer_of o == peer) xs
-length_from n peer [] = refl
-length_from n peer (x ∷ xs) = by_test (peer_of x == peer) (length_from (n + 1) peer xs)
+pub length_own : (peer : ℕ) (rows : List Row) → length (own_keys peer rows) ≡ tally (λ o. peer_of o == peer) (observed_of rows)
+length_own peer [] = refl
+length_own peer (r ∷ rows) = by_test (is_row_of peer r) (length_own peer rows)
   where
-    by_test : (b : Bool) → length (places_from (n + 1) peer (map peer_of xs)) ≡ tally (λ o. peer_of o == peer) xs
-        → length (cond b (n ∷ places_from (n + 1) peer (map peer_of xs)) (places_from (n + 1) peer (map peer_of xs))) ≡ cond b 1 0 + tally (λ o. peer_of o == peer) xs
+    by_test : (b : Bool) → length (own_keys peer rows) ≡ tally (λ o. peer_of o == peer) (observed_of rows)
+        → length (keys_of (cond b (r ∷ filter (is_row_of peer) rows) (filter (is_row_of peer) rows))) ≡ cond b 1 0 + tally (λ o. peer_of o == peer) (observed_of rows)
     by_test true rest = omega (arith, rest)
     by_test false rest = omega (arith, rest)
 
@@ -338,30 +267,40 @@ chain_found peer i cs c found there =
     first_found (is_chain_of peer) cs i c at.0 at.1 at.2 ∙ there
 
 pub room_at : (peer i : ℕ) (cs : List ChainValue) (c : ChainValue) → position (is_chain_of peer) cs ≡ Some i → slice_get cs i ≡ Some c
-    → length (places_in peer cs) < room_in peer cs → length c.places < c.room
+    → length (keys_in peer cs) < room_in peer cs → length c.keys < c.room
 room_at peer i cs c found there less =
     let own = chain_found peer i cs c found there in
-    let places : length (places_in peer cs) ≡ length c.places = ap (λ o. length (unwrap_or (option_map (λ (y : ChainValue). y.places) o) [])) own in
+    let places : length (keys_in peer cs) ≡ length c.keys = ap (λ o. length (unwrap_or (option_map (λ (y : ChainValue). y.keys) o) [])) own in
     let room : room_in peer cs ≡ c.room = ap (λ o. unwrap_or (option_map (λ (y : ChainValue). y.room) o) 0) own in
     omega (arith, places, room, less)
 
-pub chained_at : (peer place i : ℕ) (cs : List ChainValue) → position (is_chain_of peer) cs ≡ Some i
-    → replace_at i (λ c. chained place c ∷ []) cs ≡ one_chained peer place cs
-chained_at peer place i cs found =
-    let d : ChainValue = record { peer = 0; room = 0; places = [] } in
+pub chained_at : (peer key i : ℕ) (cs : List ChainValue) → position (is_chain_of peer) cs ≡ Some i
+    → replace_at i (λ c. chained key c ∷ []) cs ≡ one_chained peer key cs
+chained_at peer key i cs found =
+    let d : ChainValue = record { peer = 0; room = 0; keys = [] } in
     let at = position-Some (is_chain_of peer) cs i d found in
-    first_replaced (is_chain_of peer) (λ c. chained place c ∷ []) cs i d at.0 at.1 at.2
+    first_replaced (is_chain_of peer) (λ c. chained key c ∷ []) cs i d at.0 at.1 at.2
 
 pub chain_within : (peer i : ℕ) (cs : List ChainValue) → position (is_chain_of peer) cs ≡ Some i → i < length cs
 chain_within peer i cs found =
-    let d : ChainValue = record { peer = 0; room = 0; places = [] } in
+    let d : ChainValue = record { peer = 0; room = 0; keys = [] } in
     (position-Some (is_chain_of peer) cs i d found).0
 
-pub chained_nowhere : (peer place : ℕ) (cs : List ChainValue) → position (is_chain_of peer) cs ≡ None → cs ≡ one_chained peer place cs
-chained_nowhere peer place cs none = sym (replaced_none (is_chain_of peer) (λ c. chained place c ∷ []) cs (none_passes (is_chain_of peer) cs none))
+pub chained_nowhere : (peer key : ℕ) (cs : List ChainValue) → position (is_chain_of peer) cs ≡ None → cs ≡ one_chained peer key cs
+chained_nowhere peer key cs none = sym (replaced_none (is_chain_of peer) (λ c. chained key c ∷ []) cs (none_passes (is_chain_of peer) cs none))
 
-pub places_at : (peer i : ℕ) (cs : List ChainValue) (c : ChainValue) → position (is_chain_of peer) cs ≡ Some i → slice_get cs i ≡ Some c → c.places ≡ places_in peer cs
-places_at peer i cs c found there = sym (ap (λ o. unwrap_or (option_map (λ (y : ChainValue). y.places) o) []) (chain_found peer i cs c found there))
+pub keys_at : (peer i : ℕ) (cs : List ChainValue) (c : ChainValue) → position (is_chain_of peer) cs ≡ Some i → slice_get cs i ≡ Some c → c.keys ≡ keys_in peer cs
+keys_at peer i cs c found there = sym (ap (λ o. unwrap_or (option_map (λ (y : ChainValue). y.keys) o) []) (chain_found peer i cs c found there))
 
-pub places_nowhere : (peer : ℕ) (cs : List ChainValue) → position (is_chain_of peer) cs ≡ None → places_in peer cs ≡ []
-places_nowhere peer cs none = ap (λ o. unwrap_or (option_map (λ (y : ChainValue). y.places) o) []) (found_none (is_chain_of peer) cs (none_passes (is_chain_of peer) cs none))
+pub keys_nowhere : (peer : ℕ) (cs : List ChainValue) → position (is_chain_of peer) cs ≡ None → keys_in peer cs ≡ []
+keys_nowhere peer cs none = ap (λ o. unwrap_or (option_map (λ (y : ChainValue). y.keys) o) []) (found_none (is_chain_of peer) cs (none_passes (is_chain_of peer) cs none))
+
+pub left_at : (peer key i : ℕ) (cs : List ChainValue) → position (is_chain_of peer) cs ≡ Some i
+    → replace_at i (λ c. chain_left key c ∷ []) cs ≡ one_left peer key cs
+left_at peer key i cs found =
+    let d : ChainValue = record { peer = 0; room = 0; keys = [] } in
+    let at = position-Some (is_chain_of peer) cs i d found in
+    first_replaced (is_chain_of peer) (λ c. chain_left key c ∷ []) cs i d at.0 at.1 at.2
+
+pub left_nowhere : (peer key : ℕ) (cs : List ChainValue) → position (is_chain_of peer) cs ≡ None → cs ≡ one_left peer key cs
+left_nowhere peer key cs none = sym (replaced_none (is_chain_of peer) (λ c. chain_left key c ∷ []) cs (none_passes (is_chain_of peer) cs none))

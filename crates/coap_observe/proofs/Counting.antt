@@ -9,7 +9,8 @@ use Rattle.coap_exchange.specs.declared.pair.Pair.{Pair}
 use Rattle.coap_observe.specs.declared.observer.Observer.{Observer}
 use Rattle.coap_exchange.specs.Firsts.{replace_at}
 use Rattle.coap_exchange.specs.Pairs.{is_pair}
-use Rattle.coap_observe.specs.Chains.{peer_of, is_pair_of, room_for}
+use Rattle.coap_observe.specs.Chains.{is_pair_of, room_for}
+use Rattle.coap_observe.specs.Rolls.{peer_of}
 use Rattle.coap_observe.specs.Observed.{ObservedValue, is_of, is_token, told, registered_again}
 use Rattle.coap_observe.specs.Observing.{own_of, has_room, registered_first, entered, told_or_gone, AreOf, AreBounded}
 

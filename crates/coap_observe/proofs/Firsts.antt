@@ -5,7 +5,7 @@ use Rattle.std.specs.List.{position_from}
 use Rattle.std.proofs.lemmas.Bool.{cases_eq, eq-eqb, ne_eqb}
 use Rattle.std.proofs.lemmas.Iterator.Adapters.{position_from-zero}
 use Rattle.coap_exchange.specs.declared.pair.Pair.{Pair}
-use Rattle.coap_observe.specs.Chains.{ChainValue, is_chain_of, empty_chain, chained, one_chained, chain_left, chain_peer, pair_peer}
+use Rattle.coap_observe.specs.Chains.{ChainValue, is_chain_of, empty_chain, chained, one_chained, chain_left, one_left, chain_peer, pair_peer}
 
 eq_turned : (a b : ℕ) → (a == b) ≡ (b == a)
 eq_turned a b =
@@ -57,6 +57,11 @@ peers_chained peer place (c ∷ cs) = by_test (is_chain_of peer c) (peers_chaine
     by_test true rest = refl
     by_test false rest = ap (λ ps. c.peer ∷ ps) rest
 
-pub peers_left : (place : ℕ) (cs : List ChainValue) → map chain_peer (map (chain_left place) cs) ≡ map chain_peer cs
-peers_left place [] = refl
-peers_left place (c ∷ cs) = ap (λ ps. c.peer ∷ ps) (peers_left place cs)
+pub peers_left : (peer key : ℕ) (cs : List ChainValue) → map chain_peer (one_left peer key cs) ≡ map chain_peer cs
+peers_left peer key [] = refl
+peers_left peer key (c ∷ cs) = by_test (is_chain_of peer c) (peers_left peer key cs)
+  where
+    by_test : (b : Bool) → map chain_peer (one_left peer key cs) ≡ map chain_peer cs
+        → map chain_peer (cond b (chain_left key c ∷ cs) (c ∷ one_left peer key cs)) ≡ map chain_peer (c ∷ cs)
+    by_test true rest = refl
+    by_test false rest = ap (λ ps. c.peer ∷ ps) rest

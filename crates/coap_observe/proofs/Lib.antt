@@ -2,7 +2,9 @@ pub mod Chaining
 pub mod Counting
 pub mod Entering
 pub mod Firsts
+pub mod Keying
 pub mod Leaving
 pub mod Numbers
+pub mod Rolling
 pub mod Seeing
 pub mod Telling

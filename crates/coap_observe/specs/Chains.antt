@@ -1,38 +1,25 @@
--- Where the observers of each peer stand among all, in the order of registration.
-use Rattle.std.specs.Prelude.{◌≡◌, ℕ, ◌+◌, ◌-◌, ◌*◌, Bool, ◌==◌, not, nat_lt, if◌then◌else◌, List, [], ◌∷◌, ◌++◌, map, filter, drop, option_map, unwrap_or}
+-- The keys of each peer's observers.
+use Rattle.std.specs.Prelude.{◌≡◌, ℕ, ◌*◌, Bool, ◌==◌, List, [], ◌∷◌, ◌++◌, drop, option_map, unwrap_or}
 use Rattle.std.specs.List.{find, position_from}
 use Rattle.std.specs.Map.{lookup}
 use Rattle.dots_history.specs.Histories.{tally}
 use Rattle.coap_exchange.specs.declared.pair.Pair.{Pair}
 use Rattle.coap_exchange.specs.Firsts.{replace_first}
-use Rattle.coap_observe.specs.Observed.{ObservedValue}
+use Rattle.slot_order.specs.Links.{Distinct}
+use Rattle.slot_order.specs.Orders.{without}
+use Rattle.coap_observe.specs.Rolls.{Row, keys_of, own_keys}
 
--- the places of a peer's observers, in rising order, and how many there may be
+-- the keys of a peer's observers, in the order of registration, and how many there may be
 pub record ChainValue : Type 0 where
   pub peer : ℕ
   pub room : ℕ
-  pub places : List ℕ
-
--- ---- the places that a peer has in a list of peers
-
-abbrev pub peer_of : ObservedValue → ℕ
-peer_of o = o.observer.peer
-
-abbrev pub places_from : ℕ → ℕ → List ℕ → List ℕ
-places_from n peer [] = []
-places_from n peer (p ∷ ps) = if p == peer then n ∷ places_from (n + 1) peer ps else places_from (n + 1) peer ps
-
--- those of a peer's observers
-abbrev pub places_of : ℕ → List ObservedValue → List ℕ
-places_of peer observed = places_from 0 peer (map peer_of observed)
-
--- ---- chains
+  pub keys : List ℕ
 
 abbrev pub is_chain_of : ℕ → ChainValue → Bool
 is_chain_of peer chain = chain.peer == peer
 
-abbrev pub places_in : ℕ → List ChainValue → List ℕ
-places_in peer chains = unwrap_or (option_map (λ (chain : ChainValue). chain.places) (find (is_chain_of peer) chains)) []
+abbrev pub keys_in : ℕ → List ChainValue → List ℕ
+keys_in peer chains = unwrap_or (option_map (λ (chain : ChainValue). chain.keys) (find (is_chain_of peer) chains)) []
 
 abbrev pub room_in : ℕ → List ChainValue → ℕ
 room_in peer chains = unwrap_or (option_map (λ (chain : ChainValue). chain.room) (find (is_chain_of peer) chains)) 0
@@ -45,30 +32,28 @@ abbrev pub room_for : List Pair → ℕ → ℕ → ℕ
 room_for pairs room peer = tally (is_pair_of peer) pairs * room
 
 abbrev pub empty_chain : List Pair → ℕ → Pair → ChainValue
-empty_chain pairs room pair = record { peer = pair.peer; room = room_for pairs room pair.peer; places = [] }
+empty_chain pairs room pair = record { peer = pair.peer; room = room_for pairs room pair.peer; keys = [] }
 
--- one more place is the last
+-- one more key is the last
 abbrev pub chained : ℕ → ChainValue → ChainValue
-chained place chain = record { peer = chain.peer; room = chain.room; places = chain.places ++ place ∷ [] }
+chained key chain = record { peer = chain.peer; room = chain.room; keys = chain.keys ++ key ∷ [] }
 
 abbrev pub one_chained : ℕ → ℕ → List ChainValue → List ChainValue
-one_chained peer place chains = replace_first (is_chain_of peer) (λ chain. chained place chain ∷ []) chains
+one_chained peer key chains = replace_first (is_chain_of peer) (λ chain. chained key chain ∷ []) chains
 
--- where the one at a place goes, those behind it move down
-abbrev pub lowered : ℕ → ℕ → ℕ
-lowered place other = if nat_lt place other then other - 1 else other
-
-abbrev pub left_places : ℕ → List ℕ → List ℕ
-left_places place places = map (lowered place) (filter (λ other. not (other == place)) places)
-
+-- a key goes
 abbrev pub chain_left : ℕ → ChainValue → ChainValue
-chain_left place chain = record { peer = chain.peer; room = chain.room; places = left_places place chain.places }
+chain_left key chain = record { peer = chain.peer; room = chain.room; keys = without key chain.keys }
+
+abbrev pub one_left : ℕ → ℕ → List ChainValue → List ChainValue
+one_left peer key chains = replace_first (is_chain_of peer) (λ chain. chain_left key chain ∷ []) chains
 
 -- ---- what always holds
 
--- each chain has the places of its peer's observers
-abbrev pub AreChained : List ChainValue → List ObservedValue → Type 0
-AreChained chains observed = (peer : ℕ) → places_in peer chains ≡ places_of peer observed
+-- no key is there twice, and each chain has the keys of its peer's observers
+pub record AreChained (chains : List ChainValue) (rows : List Row) : Type 0 where
+  pub apart : Distinct (keys_of rows)
+  pub own : (peer : ℕ) → keys_in peer chains ≡ own_keys peer rows
 
 abbrev pub HaveRoom : List Pair → ℕ → List ChainValue → Type 0
 HaveRoom pairs room chains = (peer : ℕ) → room_in peer chains ≡ room_for pairs room peer

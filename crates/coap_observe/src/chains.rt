@@ -1,9 +1,10 @@
-//! Where the observers of each peer stand.
+//! The keys of each peer's observers.
 
-ghost use Rattle.std.specs.Prelude.{◌≡◌, ◌<◌, ◌∷◌, [], map, filter, not, ◌==◌, length, position, slice_get, Some, vec_capacity, IfOk};
+ghost use Rattle.std.specs.Prelude.{◌≡◌, ◌<◌, ◌∷◌, [], map, length, position, slice_get, Some, vec_capacity, IfOk};
 ghost use Rattle.dots_history.specs.Histories.{tally};
 ghost use Rattle.coap_exchange.specs.Firsts.{replace_at};
-ghost use Rattle.coap_observe.specs.Chains.{ChainValue, is_chain_of, places_in, room_in, is_pair_of, room_for, empty_chain, chained, one_chained, lowered, left_places, chain_left, pair_peer, AreFirsts};
+ghost use Rattle.slot_order.specs.Orders.{without};
+ghost use Rattle.coap_observe.specs.Chains.{ChainValue, is_chain_of, keys_in, room_in, is_pair_of, room_for, empty_chain, chained, one_chained, chain_left, one_left, pair_peer, AreFirsts};
 
 use coap_exchange::Pair;
 use dots_lists::NoMemory;
@@ -11,11 +12,11 @@ use std::alloc::Global;
 use std::collections::HashMap;
 use std::marker::Model;
 
-/// The places of one peer's observers, in rising order.
+/// The keys of one peer's observers, in the order of registration.
 #[derive(Debug, Drop)]
 struct Chain {
     peer: u32,
-    places: Vec<usize>,
+    keys: Vec<usize>,
     /// How many there may be.
     room: usize,
 }
@@ -26,47 +27,47 @@ impl Model for Chain {
 
     ghost Value = { ChainValue };
 
-    ghost view = { λ chain. record { peer = chain.peer; room = chain.room; places = chain.places.items } };
+    ghost view = { λ chain. record { peer = chain.peer; room = chain.room; keys = chain.keys.items } };
 
-    ghost invariant = { λ chain. chain.room ≤ vec_capacity chain.places };
+    ghost invariant = { λ chain. chain.room ≤ vec_capacity chain.keys };
 }
 
 impl Chain {
-    /// No places, and room for so many.
+    /// No keys, and room for so many.
     fn new(alloc: Global, peer: u32, room: usize) -> Result<Self, NoMemory>
-        ensures { IfOk result (λ chain. chain ≡ record { peer = peer; room = room; places = [] }) }
+        ensures { IfOk result (λ chain. chain ≡ record { peer = peer; room = room; keys = [] }) }
     {
         Ok(Chain {
             peer,
-            places: Vec::with_capacity(alloc, room)?,
+            keys: Vec::with_capacity(alloc, room)?,
             room,
         })
     }
 
-    fn places(&self) -> &[usize]
-        ensures { result.now ≡ self.now.places }
+    fn keys(&self) -> &[usize]
+        ensures { result.now ≡ self.now.keys }
     {
-        self.places.as_slice()
+        self.keys.as_slice()
     }
 
-    /// One more place, which is the last.
-    fn push(&mut self, place: usize)
-        requires { length self.old.places < self.old.room }
-        ensures { self.new ≡ chained place self.old }
+    /// One more key, which is the last.
+    fn push(&mut self, key: usize)
+        requires { length self.old.keys < self.old.room }
+        ensures { self.new ≡ chained key self.old }
     {
-        self.places.push_reserved(place);
+        self.keys.push_reserved(key);
     }
 
-    /// The one at the place goes, and those behind it move down.
-    fn leave(&mut self, place: usize)
-        ensures { self.new ≡ chain_left place self.old }
+    /// This key goes.
+    fn leave(&mut self, key: usize)
+        ensures { self.new ≡ chain_left key self.old }
     {
-        leave_places(&mut self.places, place);
+        keep_others(&mut self.keys, key);
     }
 }
 
-/// Where the observers of each peer stand among all of them, in the order of registration. The chain of a peer is found at once, by
-/// its hash, so those of a peer are found without passing over the others.
+/// The keys of each peer's observers, in the order of registration. The chain of a peer is found at once, by its hash, so those of a
+/// peer are found without passing over the others.
 #[derive(Debug, Drop)]
 pub struct Chains {
     chains: Vec<Chain>,
@@ -86,7 +87,7 @@ impl Model for Chains {
 }
 
 impl Chains {
-    /// No places, and room for so many of each of these pairs. This is the only call that takes memory.
+    /// No keys, and room for so many of each of these pairs. This is the only call that takes memory.
     pub fn new(alloc: Global, pairs: &[Pair], room: usize) -> Result<Self, NoMemory>
         ensures { IfOk result (λ made. made ≡ map (empty_chain pairs.now room) pairs.now) }
     {
@@ -102,32 +103,35 @@ impl Chains {
         self.firsts.get(&peer).copied()
     }
 
-    /// The places of this peer's observers, in rising order.
-    pub fn places(&self, peer: u32) -> &[usize]
-        ensures { result.now ≡ places_in peer self.now }
+    /// The keys of this peer's observers, in the order of registration.
+    pub fn keys(&self, peer: u32) -> &[usize]
+        ensures { result.now ≡ keys_in peer self.now }
     {
         match self.place(peer) {
-            Some(at) => self.chains[at].places(),
+            Some(at) => self.chains[at].keys(),
             None => &[],
         }
     }
 
-    /// One more place of this peer, which is behind all others.
-    pub fn push(&mut self, peer: u32, place: usize)
-        requires { length (places_in peer self.old) < room_in peer self.old }
-        ensures { self.new ≡ one_chained peer place self.old }
+    /// One more key of this peer, which is behind all others.
+    pub fn push(&mut self, peer: u32, key: usize)
+        requires { length (keys_in peer self.old) < room_in peer self.old }
+        ensures { self.new ≡ one_chained peer key self.old }
     {
         match self.place(peer) {
-            Some(at) => push_at(&mut self.chains, at, place),
+            Some(at) => push_at(&mut self.chains, at, key),
             None => {}
         }
     }
 
-    /// The observer at this place goes, and those behind it move down.
-    pub fn leave(&mut self, place: usize)
-        ensures { self.new ≡ map (chain_left place) self.old }
+    /// This key of the peer goes.
+    pub fn leave(&mut self, peer: u32, key: usize)
+        ensures { self.new ≡ one_left peer key self.old }
     {
-        leave_chains(&mut self.chains, place);
+        match self.place(peer) {
+            Some(at) => leave_at(&mut self.chains, at, key),
+            None => {}
+        }
     }
 }
 
@@ -157,7 +161,7 @@ fn chains_for(alloc: Global, pairs: &[Pair], room: usize) -> Result<Vec<Chain>, 
 }
 
 fn chain_for(alloc: Global, pairs: &[Pair], room: usize, peer: u32) -> Result<Chain, NoMemory>
-    ensures { IfOk result (λ chain. chain ≡ record { peer = peer; room = room_for pairs.now room peer; places = [] }) }
+    ensures { IfOk result (λ chain. chain ≡ record { peer = peer; room = room_for pairs.now room peer; keys = [] }) }
 {
     let Some(room) = pairs_with(pairs, peer).checked_mul(room) else {
         return Err(NoMemory);
@@ -178,62 +182,24 @@ fn pairs_with(pairs: &[Pair], peer: u32) -> usize
     count
 }
 
-fn push_at(chains: &mut Vec<Chain>, at: usize, place: usize)
+fn push_at(chains: &mut Vec<Chain>, at: usize, key: usize)
     requires at { at < length chains.old.items }
-    requires room { (chain : ChainValue) → slice_get chains.old.items at ≡ Some chain → length chain.places < chain.room }
-    ensures { chains.new.items ≡ replace_at at (λ chain. chained place chain ∷ []) chains.old.items }
+    requires room { (chain : ChainValue) → slice_get chains.old.items at ≡ Some chain → length chain.keys < chain.room }
+    ensures { chains.new.items ≡ replace_at at (λ chain. chained key chain ∷ []) chains.old.items }
 {
-    chains[at].push(place);
+    chains[at].push(key);
 }
 
-fn leave_chains(chains: &mut Vec<Chain>, place: usize)
-    ensures { chains.new.items ≡ map (chain_left place) chains.old.items }
+fn leave_at(chains: &mut Vec<Chain>, at: usize, key: usize)
+    requires { at < length chains.old.items }
+    ensures { chains.new.items ≡ replace_at at (λ chain. chain_left key chain ∷ []) chains.old.items }
 {
-    leave_all(chains.as_mut_slice(), place);
+    chains[at].leave(key);
 }
 
-fn leave_all(chains: &mut [Chain], place: usize)
-    ensures { chains.new ≡ map (chain_left place) chains.old }
+fn keep_others(keys: &mut Vec<usize>, key: usize)
+    ensures items { keys.new.items ≡ without key keys.old.items }
+    ensures capacity { vec_capacity keys.new ≡ vec_capacity keys.old }
 {
-    for chain in chains.iter_mut() {
-        chain.leave(place);
-    }
-}
-
-fn leave_places(places: &mut Vec<usize>, place: usize)
-    ensures items { places.new.items ≡ left_places place places.old.items }
-    ensures capacity { vec_capacity places.new ≡ vec_capacity places.old }
-{
-    keep_others(places, place);
-    lower_places(places, place);
-}
-
-fn keep_others(places: &mut Vec<usize>, place: usize)
-    ensures items { places.new.items ≡ filter (λ other. not (other == place)) places.old.items }
-    ensures capacity { vec_capacity places.new ≡ vec_capacity places.old }
-{
-    places.retain(|other| *other != place);
-}
-
-fn lower_places(places: &mut Vec<usize>, place: usize)
-    ensures items { places.new.items ≡ map (lowered place) places.old.items }
-    ensures capacity { vec_capacity places.new ≡ vec_capacity places.old }
-{
-    lower_all(places.as_mut_slice(), place);
-}
-
-fn lower_all(places: &mut [usize], place: usize)
-    ensures { places.new ≡ map (lowered place) places.old }
-{
-    for other in places.iter_mut() {
-        lower(other, place);
-    }
-}
-
-fn lower(other: &mut usize, place: usize)
-    ensures { other.new ≡ lowered place other.old }
-{
-    if *other > place {
-        *other -= 1;
-    }
+    keys.retain(|other| *other != key);
 }

@@ -12,6 +12,7 @@ pub mod laws;
 mod observed;
 mod observer;
 mod observers;
+mod roll;
 mod seen;
 mod views;
 

@@ -1,9 +1,11 @@
-ghost use Rattle.std.specs.Prelude.{◌≡◌, ◌<◌, ◌≤◌, ◌&&◌, ◌==◌, true, nat_le, if◌then◌else◌, [], Some, None, IfOk, length, position, slice_get, vec_capacity, MatchOption};
-ghost use Rattle.std.specs.List.{find, list_any, remove};
+ghost use Rattle.std.specs.Prelude.{◌≡◌, ◌<◌, ◌≤◌, ◌&&◌, ◌==◌, true, nat_le, if◌then◌else◌, [], Some, None, IfOk, length, option_map, MatchOption};
+ghost use Rattle.std.specs.List.{find, list_any};
 ghost use Rattle.dots_history.specs.Entries.{option_any};
 ghost use Rattle.dots_history.specs.Histories.{tally};
 ghost use Rattle.coap_exchange.specs.Firsts.{replace_at};
-ghost use Rattle.coap_observe.specs.Chains.{places_in, room_in, places_of, AreChained, SameRoom};
+ghost use Rattle.slot_order.specs.Links.{Distinct};
+ghost use Rattle.coap_observe.specs.Chains.{room_in, AreChained, SameRoom};
+ghost use Rattle.coap_observe.specs.Rolls.{keys_of, observed_of, has_key, one_at, without_key, first_key, peer_of, own_keys};
 ghost use Rattle.coap_observe.specs.Observed.{is_token, is_of, had_id, is_due};
 ghost use Rattle.coap_observe.specs.Observing.{ObserversValue, own_of, has_room, number_for, entered, registered, deregistered, without_id, NoneIsDue, IsNextDue, told_or_gone, after_notice};
 ghost use Rattle.coap_exchange.specs.Pairs.{is_pair, pairs_of};
@@ -11,6 +13,7 @@ ghost use Rattle.coap_exchange.specs.Pairs.{is_pair, pairs_of};
 use crate::chains::Chains;
 use crate::observed::Observed;
 use crate::observer::Observer;
+use crate::roll::Roll;
 use crate::seen::{SeenList, ends_at};
 use crate::views::Views;
 use coap_exchange::Pairs;
@@ -34,8 +37,8 @@ pub struct Notice<'a> {
 /// Observers of mitigations (RFC 7641; RFC 9132, section 4.4.2.1), in the order of their registration.
 #[derive(Debug, Drop)]
 pub struct Observers {
-    observed: Vec<Observed>,
-    /// The places of each peer's.
+    roll: Roll,
+    /// The keys of each peer's.
     chains: Chains,
     pairs: Pairs,
     /// How many there may be of one peer and domain.
@@ -43,18 +46,19 @@ pub struct Observers {
 }
 
 impl Model for Observers {
-    ghost use Rattle.std.specs.Prelude.{◌*◌, ◌≤◌, length, vec_capacity};
+    ghost use Rattle.std.specs.Prelude.{◌*◌, ◌≤◌, length};
     ghost use Rattle.coap_observe.specs.Chains.{AreChained, HaveRoom};
+    ghost use Rattle.coap_observe.specs.Rolls.{observed_of};
     ghost use Rattle.coap_observe.specs.Observing.{ObserversValue, AreBounded};
 
     ghost Value = { ObserversValue };
 
-    ghost view = { λ o. record { room = o.room; pairs = o.pairs; observed = o.observed.items } };
+    ghost view = { λ o. record { room = o.room; pairs = o.pairs; observed = observed_of o.roll.rows } };
 
     ghost invariant = { λ o. record {
-      bounded : AreBounded o.pairs o.room o.observed.items;
-      reserved : length o.pairs * o.room ≤ vec_capacity o.observed;
-      chained : AreChained o.chains o.observed.items;
+      bounded : AreBounded o.pairs o.room (observed_of o.roll.rows);
+      reserved : length o.pairs * o.room ≤ o.roll.room;
+      chained : AreChained o.chains o.roll.rows;
       rooms : HaveRoom o.pairs o.room o.chains;
     } };
 }
@@ -70,10 +74,10 @@ impl Observers {
         let Some(count) = pairs.pairs().len().checked_mul(room) else {
             return Err(NoMemory);
         };
-        let observed = Vec::with_capacity(alloc, count)?;
+        let roll = Roll::new(alloc, count)?;
         let chains = Chains::new(alloc, pairs.pairs(), room)?;
         Ok(Observers {
-            observed,
+            roll,
             chains,
             pairs,
             room,
@@ -96,10 +100,10 @@ impl Observers {
         ensures number { result ≡ (if has_room self.old.room observer self.old.observed then Some (number_for observer self.old.observed) else None) }
         ensures list { self.new ≡ record self.old { observed = registered (V.lists views.now) self.old.room observer self.old.observed } }
     {
-        let places = self.chains.places(observer.peer);
-        if has_room(self.observed.as_slice(), places, self.room, &observer) {
+        let keys = self.chains.keys(observer.peer);
+        if has_room(&self.roll, keys, self.room, &observer) {
             let seen = SeenList::of(views, &observer);
-            return Some(enter(&mut self.observed, &mut self.chains, observer, seen));
+            return Some(enter(&mut self.roll, &mut self.chains, observer, seen));
         }
         None
     }
@@ -108,7 +112,7 @@ impl Observers {
     pub fn deregister(&mut self, peer: u32, token: &[u8])
         ensures { self.new ≡ record self.old { observed = deregistered peer token.now self.old.observed } }
     {
-        leave_others(&mut self.observed, &mut self.chains, peer, token);
+        leave_others(&mut self.roll, &mut self.chains, peer, token);
     }
 
     /// Takes the observer of this peer away whose last notification had this Message ID, where there is one: it was
@@ -116,7 +120,7 @@ impl Observers {
     pub fn reset(&mut self, peer: u32, id: u16)
         ensures { self.new ≡ record self.old { observed = without_id peer id self.old.observed } }
     {
-        leave_other_ids(&mut self.observed, &mut self.chains, peer, id);
+        leave_other_ids(&mut self.roll, &mut self.chains, peer, id);
     }
 
     /// The first observer at the place `from` or behind it that is due: what there is to see isn't what it was told last.
@@ -125,7 +129,7 @@ impl Observers {
         ensures { MatchOption result (NoneIsDue (V.lists views.now) from (length self.now.observed) self.now.observed)
             (λ notice. IsNextDue (V.lists views.now) from self.now.observed notice.place notice.observer.now notice.number notice.gone) }
     {
-        next_due(self.observed.as_slice(), views, from)
+        next_due(&self.roll, views, from)
     }
 
     /// A notification to the observer at this place was sent with this Message ID. Where nothing is left to
@@ -134,201 +138,200 @@ impl Observers {
         requires { place < length self.old.observed }
         ensures { self.new ≡ record self.old { observed = replace_at place (after_notice (V.lists views.now) id) self.old.observed } }
     {
-        tell(&mut self.observed, &mut self.chains, views, place, id);
+        tell(&mut self.roll, &mut self.chains, views, place, id);
     }
 }
 
-/// Whether the observer is there already for its domain, or there are fewer of its peer and domain than the room. The places are
+/// Whether the observer is there already for its domain, or there are fewer of its peer and domain than the room. The keys are
 /// those of its peer.
-fn has_room(observed: &[Observed], places: &[usize], room: usize, observer: &Observer) -> bool
-    requires { places.now ≡ places_of observer.now.peer observed.now }
-    ensures { result ≡ has_room room observer.now observed.now }
+fn has_room(roll: &Roll, keys: &[usize], room: usize, observer: &Observer) -> bool
+    requires apart { Distinct (keys_of roll.now.rows) }
+    requires own { keys.now ≡ own_keys observer.now.peer roll.now.rows }
+    ensures { result ≡ has_room room observer.now (observed_of roll.now.rows) }
 {
-    if is_at_home(observed, places, observer) {
+    if is_at_home(roll, keys, observer) {
         return true;
     }
-    count_of(observed, places, observer.peer, observer.domain) < room
+    count_of(roll, keys, observer.peer, observer.domain) < room
 }
 
 /// Whether the observer is there already, and for its domain.
-fn is_at_home(observed: &[Observed], places: &[usize], observer: &Observer) -> bool
-    requires { places.now ≡ places_of observer.now.peer observed.now }
-    ensures { result ≡ option_any (λ o. o.observer.domain == observer.now.domain) (own_of observer.now observed.now) }
+fn is_at_home(roll: &Roll, keys: &[usize], observer: &Observer) -> bool
+    requires apart { Distinct (keys_of roll.now.rows) }
+    requires own { keys.now ≡ own_keys observer.now.peer roll.now.rows }
+    ensures { result ≡ option_any (λ o. o.observer.domain == observer.now.domain) (own_of observer.now (observed_of roll.now.rows)) }
 {
-    match place_of(observed, places, observer.peer, observer.token.bytes()) {
-        Some(place) => is_domain_at(observed, place, observer.domain),
+    match token_key(roll, keys, observer.peer, observer.token.bytes()) {
+        Some(key) => is_domain_at(roll, key, observer.domain),
         None => false,
     }
 }
 
-fn is_domain_at(observed: &[Observed], place: usize, domain: u16) -> bool
-    ensures { result ≡ option_any (λ o. o.observer.domain == domain) (slice_get observed.now place) }
+fn is_domain_at(roll: &Roll, key: usize, domain: u16) -> bool
+    ensures { result ≡ option_any (λ o. o.observer.domain == domain) (one_at key roll.now.rows) }
 {
-    match observed.get(place) {
+    match roll.get(key) {
         Some(one) => one.observer().domain == domain,
         None => false,
     }
 }
 
-/// The place of the observer of this peer and token. The places are those of the peer.
-fn place_of(observed: &[Observed], places: &[usize], peer: u32, token: &[u8]) -> Option<usize>
-    requires { places.now ≡ places_of peer observed.now }
-    ensures { result ≡ position (is_token peer token.now) observed.now }
+/// The key of the observer of this peer and token. The keys are those of the peer.
+fn token_key(roll: &Roll, keys: &[usize], peer: u32, token: &[u8]) -> Option<usize>
+    requires apart { Distinct (keys_of roll.now.rows) }
+    requires own { keys.now ≡ own_keys peer roll.now.rows }
+    ensures { result ≡ first_key (is_token peer token.now) roll.now.rows }
 {
-    place_among(observed, places, peer, token)
+    token_among(roll, keys, peer, token)
 }
 
-fn place_among(observed: &[Observed], places: &[usize], peer: u32, token: &[u8]) -> Option<usize>
-    ensures { result ≡ find (λ place. option_any (is_token peer token.now) (slice_get observed.now place)) places.now }
+fn token_among(roll: &Roll, keys: &[usize], peer: u32, token: &[u8]) -> Option<usize>
+    ensures { result ≡ find (λ key. option_any (is_token peer token.now) (one_at key roll.now.rows)) keys.now }
 {
-    for place in places {
-        if is_token_at(observed, *place, peer, token) {
-            return Some(*place);
+    for key in keys {
+        if is_token_at(roll, *key, peer, token) {
+            return Some(*key);
         }
     }
     None
 }
 
-fn is_token_at(observed: &[Observed], place: usize, peer: u32, token: &[u8]) -> bool
-    ensures { result ≡ option_any (is_token peer token.now) (slice_get observed.now place) }
+fn is_token_at(roll: &Roll, key: usize, peer: u32, token: &[u8]) -> bool
+    ensures { result ≡ option_any (is_token peer token.now) (one_at key roll.now.rows) }
 {
-    match observed.get(place) {
+    match roll.get(key) {
         Some(one) => one.is_token(peer, token),
         None => false,
     }
 }
 
-/// The place of the first observer of this peer whose last notification had this Message ID. The places are those of the peer.
-fn place_of_id(observed: &[Observed], places: &[usize], peer: u32, id: u16) -> Option<usize>
-    requires { places.now ≡ places_of peer observed.now }
-    ensures { result ≡ position (had_id peer id) observed.now }
+/// The key of the first observer of this peer whose last notification had this Message ID. The keys are those of the peer.
+fn id_key(roll: &Roll, keys: &[usize], peer: u32, id: u16) -> Option<usize>
+    requires apart { Distinct (keys_of roll.now.rows) }
+    requires own { keys.now ≡ own_keys peer roll.now.rows }
+    ensures { result ≡ first_key (had_id peer id) roll.now.rows }
 {
-    id_among(observed, places, peer, id)
+    id_among(roll, keys, peer, id)
 }
 
-fn id_among(observed: &[Observed], places: &[usize], peer: u32, id: u16) -> Option<usize>
-    ensures { result ≡ find (λ place. option_any (had_id peer id) (slice_get observed.now place)) places.now }
+fn id_among(roll: &Roll, keys: &[usize], peer: u32, id: u16) -> Option<usize>
+    ensures { result ≡ find (λ key. option_any (had_id peer id) (one_at key roll.now.rows)) keys.now }
 {
-    for place in places {
-        if had_id_at(observed, *place, peer, id) {
-            return Some(*place);
+    for key in keys {
+        if had_id_at(roll, *key, peer, id) {
+            return Some(*key);
         }
     }
     None
 }
 
-fn had_id_at(observed: &[Observed], place: usize, peer: u32, id: u16) -> bool
-    ensures { result ≡ option_any (had_id peer id) (slice_get observed.now place) }
+fn had_id_at(roll: &Roll, key: usize, peer: u32, id: u16) -> bool
+    ensures { result ≡ option_any (had_id peer id) (one_at key roll.now.rows) }
 {
-    match observed.get(place) {
+    match roll.get(key) {
         Some(one) => one.had_id(peer, id),
         None => false,
     }
 }
 
-/// How many observers are of this peer and domain. The places are those of the peer.
-fn count_of(observed: &[Observed], places: &[usize], peer: u32, domain: u16) -> usize
-    requires { places.now ≡ places_of peer observed.now }
-    ensures { result ≡ tally (is_of peer domain) observed.now }
+/// How many observers are of this peer and domain. The keys are those of the peer.
+fn count_of(roll: &Roll, keys: &[usize], peer: u32, domain: u16) -> usize
+    requires apart { Distinct (keys_of roll.now.rows) }
+    requires own { keys.now ≡ own_keys peer roll.now.rows }
+    ensures { result ≡ tally (is_of peer domain) (observed_of roll.now.rows) }
 {
-    count_among(observed, places, peer, domain)
+    count_among(roll, keys, peer, domain)
 }
 
-fn count_among(observed: &[Observed], places: &[usize], peer: u32, domain: u16) -> usize
-    ensures { result ≡ tally (λ place. option_any (is_of peer domain) (slice_get observed.now place)) places.now }
+fn count_among(roll: &Roll, keys: &[usize], peer: u32, domain: u16) -> usize
+    ensures { result ≡ tally (λ key. option_any (is_of peer domain) (one_at key roll.now.rows)) keys.now }
 {
     let mut count = 0;
-    for place in places {
-        if is_of_at(observed, *place, peer, domain) {
+    for key in keys {
+        if is_of_at(roll, *key, peer, domain) {
             count += 1;
         }
     }
     count
 }
 
-fn is_of_at(observed: &[Observed], place: usize, peer: u32, domain: u16) -> bool
-    ensures { result ≡ option_any (is_of peer domain) (slice_get observed.now place) }
+fn is_of_at(roll: &Roll, key: usize, peer: u32, domain: u16) -> bool
+    ensures { result ≡ option_any (is_of peer domain) (one_at key roll.now.rows) }
 {
-    match observed.get(place) {
+    match roll.get(key) {
         Some(one) => one.is_of(peer, domain),
         None => false,
     }
 }
 
 /// Puts an observer into the place of the one of its peer and token, or else to the end, and answers its number.
-fn enter(
-    observed: &mut Vec<Observed>,
-    chains: &mut Chains,
-    observer: Observer,
-    seen: SeenList,
-) -> u32
-    requires fits { length (entered observer seen observed.old.items) ≤ vec_capacity observed.old }
-    requires chained { AreChained chains.old observed.old.items }
-    requires room { tally (λ o. o.observer.peer == observer.peer) (entered observer seen observed.old.items) ≤ room_in observer.peer chains.old }
-    ensures number { result ≡ number_for observer observed.old.items }
-    ensures list { observed.new.items ≡ entered observer seen observed.old.items }
-    ensures capacity { vec_capacity observed.new ≡ vec_capacity observed.old }
-    ensures chained { AreChained chains.new observed.new.items }
+fn enter(roll: &mut Roll, chains: &mut Chains, observer: Observer, seen: SeenList) -> u32
+    requires fits { length (entered observer seen (observed_of roll.old.rows)) ≤ roll.old.room }
+    requires chained { AreChained chains.old roll.old.rows }
+    requires room { tally (λ o. peer_of o == observer.peer) (entered observer seen (observed_of roll.old.rows)) ≤ room_in observer.peer chains.old }
+    ensures number { result ≡ number_for observer (observed_of roll.old.rows) }
+    ensures list { observed_of roll.new.rows ≡ entered observer seen (observed_of roll.old.rows) }
+    ensures capacity { roll.new.room ≡ roll.old.room }
+    ensures chained { AreChained chains.new roll.new.rows }
     ensures room { SameRoom chains.old chains.new }
 {
     let peer = observer.peer;
-    match place_of(
-        observed.as_slice(),
-        chains.places(peer),
-        peer,
-        observer.token.bytes(),
-    ) {
-        Some(place) => observed[place].register_again(observer, seen),
+    match token_key(roll, chains.keys(peer), peer, observer.token.bytes()) {
+        Some(key) => roll.register_again(key, observer, seen),
         None => {
-            chains.push(peer, observed.len());
-            observed.push_reserved(Observed::new(observer, seen));
+            let key = roll.push(Observed::new(observer, seen));
+            chains.push(peer, key);
             1
         }
     }
 }
 
-/// The observer at this place goes.
-fn remove_at(observed: &mut Vec<Observed>, chains: &mut Chains, place: usize)
-    requires at { place < length observed.old.items }
-    requires chained { AreChained chains.old observed.old.items }
-    ensures items { observed.new.items ≡ remove observed.old.items place }
-    ensures capacity { vec_capacity observed.new ≡ vec_capacity observed.old }
-    ensures chained { AreChained chains.new observed.new.items }
+/// The observer under this key, which is of this peer, goes.
+fn remove_key(roll: &mut Roll, chains: &mut Chains, peer: u32, key: usize)
+    requires own { option_map peer_of (one_at key roll.old.rows) ≡ Some peer }
+    requires chained { AreChained chains.old roll.old.rows }
+    ensures rows { roll.new.rows ≡ without_key key roll.old.rows }
+    ensures capacity { roll.new.room ≡ roll.old.room }
+    ensures chained { AreChained chains.new roll.new.rows }
     ensures room { SameRoom chains.old chains.new }
 {
-    let _gone = observed.remove(place);
-    chains.leave(place);
+    roll.remove(key);
+    chains.leave(peer, key);
 }
 
-fn leave_others(observed: &mut Vec<Observed>, chains: &mut Chains, peer: u32, token: &[u8])
-    requires chained { AreChained chains.old observed.old.items }
-    ensures items { observed.new.items ≡ deregistered peer token.now observed.old.items }
-    ensures capacity { vec_capacity observed.new ≡ vec_capacity observed.old }
-    ensures chained { AreChained chains.new observed.new.items }
+fn leave_others(roll: &mut Roll, chains: &mut Chains, peer: u32, token: &[u8])
+    requires chained { AreChained chains.old roll.old.rows }
+    ensures items { observed_of roll.new.rows ≡ deregistered peer token.now (observed_of roll.old.rows) }
+    ensures capacity { roll.new.room ≡ roll.old.room }
+    ensures chained { AreChained chains.new roll.new.rows }
     ensures room { SameRoom chains.old chains.new }
 {
-    while let Some(place) = place_of(observed.as_slice(), chains.places(peer), peer, token) {
-        remove_at(observed, chains, place);
+    while let Some(key) = token_key(roll, chains.keys(peer), peer, token) {
+        remove_key(roll, chains, peer, key);
     }
 }
 
-fn leave_other_ids(observed: &mut Vec<Observed>, chains: &mut Chains, peer: u32, id: u16)
-    requires chained { AreChained chains.old observed.old.items }
-    ensures items { observed.new.items ≡ without_id peer id observed.old.items }
-    ensures capacity { vec_capacity observed.new ≡ vec_capacity observed.old }
-    ensures chained { AreChained chains.new observed.new.items }
+fn leave_other_ids(roll: &mut Roll, chains: &mut Chains, peer: u32, id: u16)
+    requires chained { AreChained chains.old roll.old.rows }
+    ensures items { observed_of roll.new.rows ≡ without_id peer id (observed_of roll.old.rows) }
+    ensures capacity { roll.new.room ≡ roll.old.room }
+    ensures chained { AreChained chains.new roll.new.rows }
     ensures room { SameRoom chains.old chains.new }
 {
-    while let Some(place) = place_of_id(observed.as_slice(), chains.places(peer), peer, id) {
-        remove_at(observed, chains, place);
+    while let Some(key) = id_key(roll, chains.keys(peer), peer, id) {
+        remove_key(roll, chains, peer, key);
     }
 }
 
-fn next_due<'a, V: Views>(observed: &'a [Observed], views: &V, from: usize) -> Option<Notice<'a>>
-    ensures { MatchOption result (NoneIsDue (V.lists views.now) from (length observed.now) observed.now)
-        (λ notice. IsNextDue (V.lists views.now) from observed.now notice.place notice.observer.now notice.number notice.gone) }
+fn next_due<'a, V: Views>(roll: &'a Roll, views: &V, from: usize) -> Option<Notice<'a>>
+    requires { Distinct (keys_of roll.now.rows) }
+    ensures { MatchOption result (NoneIsDue (V.lists views.now) from (length (observed_of roll.now.rows)) (observed_of roll.now.rows))
+        (λ notice. IsNextDue (V.lists views.now) from (observed_of roll.now.rows) notice.place notice.observer.now notice.number notice.gone) }
 {
-    for (place, one) in observed.iter().enumerate() {
+    let mut key = roll.start();
+    for place in 0..roll.len() {
+        key = roll.behind(key, place);
+        let one = roll.one(key);
         if is_next(one, views, place, from) {
             return Some(Notice {
                 place,
@@ -349,24 +352,21 @@ fn is_next<V: Views>(one: &Observed, views: &V, place: usize, from: usize) -> bo
 }
 
 /// The observer at this place was told what there is to see, or goes where there is nothing.
-fn tell<V: Views>(
-    observed: &mut Vec<Observed>,
-    chains: &mut Chains,
-    views: &V,
-    place: usize,
-    id: u16,
-)
-    requires at { place < length observed.old.items }
-    requires chained { AreChained chains.old observed.old.items }
-    ensures items { observed.new.items ≡ replace_at place (after_notice (V.lists views.now) id) observed.old.items }
-    ensures capacity { vec_capacity observed.new ≡ vec_capacity observed.old }
-    ensures chained { AreChained chains.new observed.new.items }
+fn tell<V: Views>(roll: &mut Roll, chains: &mut Chains, views: &V, place: usize, id: u16)
+    requires at { place < length roll.old.rows }
+    requires chained { AreChained chains.old roll.old.rows }
+    ensures items { observed_of roll.new.rows ≡ replace_at place (after_notice (V.lists views.now) id) (observed_of roll.old.rows) }
+    ensures capacity { roll.new.room ≡ roll.old.room }
+    ensures chained { AreChained chains.new roll.new.rows }
     ensures room { SameRoom chains.old chains.new }
 {
-    let seen = SeenList::of(views, observed[place].observer());
+    let key = roll.at(place);
+    let one = roll.one(key);
+    let peer = one.observer().peer;
+    let seen = SeenList::of(views, one.observer());
     if seen.is_empty() {
-        remove_at(observed, chains, place);
+        remove_key(roll, chains, peer, key);
         return;
     }
-    observed[place].tell(seen, id);
+    roll.tell(key, seen, id);
 }

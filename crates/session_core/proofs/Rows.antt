@@ -1,4 +1,4 @@
--- The row of a peer, and the rows that a heartbeat is looked for in.
+-- The rows that a heartbeat is looked for in.
 use Rattle.std.proofs.Common.{◌≡◌, ℕ, zero, suc, ◌+◌, ◌<◌, true, false, List, [], ◌∷◌, ◌++◌, length, map, take, drop, get_or, set, Option, Some, None, refl, sym, ap, ◌∙◌, arith}
 use Rattle.std.specs.Prelude.{is_some, ◌||◌}
 use Rattle.std.specs.List.{list_any}
@@ -9,7 +9,6 @@ use Rattle.std.proofs.lemmas.List.{map_more}
 use Rattle.std.proofs.lemmas.List.Folds.{list_any_more}
 use Rattle.session_core.specs.declared.contact.PeerContact.{PeerContact}
 use Rattle.session_core.specs.declared.contact.Beat.{Beat}
-use Rattle.session_core.specs.Contacts.{is_of, with_row}
 use Rattle.session_core.specs.Beating.{Beating, beat_of, row_after, turned, due_beat, has_due, IsNextBeat}
 
 -- the heartbeat and the turn of a row, by the interval and the number that were asked for
@@ -20,15 +19,6 @@ due_by beats now row by o due same is was = ap (λ x. beat_of x now row) (sym sa
 pub turned_by : (beats : Beating) (now : ℕ) (row : PeerContact) (by : ℕ × ℕ) (new : PeerContact) → by ≡ beats row.peer → new ≡ row_after by now row
     → new ≡ turned beats now row
 turned_by beats now row by new same is = is ∙ ap (λ x. row_after x now row) same
-
-pub with_here : (peer : ℕ) (becomes : PeerContact → PeerContact) (rows : List PeerContact) (i : ℕ) (d new : PeerContact) → i < length rows
-    → is_of peer (get_or rows i d) ≡ true → new ≡ becomes (get_or rows i d) → set rows i new ≡ take i rows ++ with_row peer becomes (drop i rows)
-with_here peer becomes [] i d new less is same = absurd (omega (arith, less))
-with_here peer becomes (r ∷ rows) zero d new less is same =
-    ap (λ x. x ∷ rows) same
-    ∙ sym (cond-true (is_of peer r) (becomes r ∷ rows) (r ∷ with_row peer becomes rows) is)
-with_here peer becomes (r ∷ rows) (suc i) d new less is same =
-    ap (λ rs. r ∷ rs) (with_here peer becomes rows i d new (omega (arith, less)) is same)
 
 -- the row at hand is as it was
 pub as_it_was : (f : PeerContact → PeerContact) (old rows : List PeerContact) (i : ℕ) (d : PeerContact) → i < length old

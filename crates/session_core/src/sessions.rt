@@ -1,31 +1,38 @@
 //! The sessions with all peers.
 
-ghost use Rattle.std.specs.Prelude.{◌≡◌, map, find, option_copied, is_some, true, Some, IfOk, MatchOption};
+ghost use Rattle.std.specs.Prelude.{◌≡◌, ◌<◌, length, map, position, slice_get, option_and_then, is_some, true, Some, IfOk, MatchOption};
 ghost use Rattle.std.specs.List.{list_any};
-ghost use Rattle.session_core.specs.Contacts.{is_of, unheard, heard_from, number_of, numbered};
+ghost use Rattle.session_core.specs.Contacts.{is_of, unheard, row_heard, heard_from, number_in, number_of, row_numbered, numbered};
 ghost use Rattle.session_core.specs.Beating.{NoneBeats, IsNextBeat};
+ghost use Rattle.session_core.specs.Places.{row_peer, AreFirsts, with_place};
 
 use crate::configs::Configs;
 use crate::contact::{Beat, PeerContact};
 use dots_lists::NoMemory;
 use dots_settings::Settings;
 use std::alloc::Global;
+use std::collections::HashMap;
 use std::marker::Model;
 
 /// The sessions with the peers of the settings, in their order (RFC 9132, sections 4.5 and 4.7), and the Message IDs of the messages to
-/// them that begin here.
+/// them that begin here. The row of a peer is found at once, by its hash.
 #[derive(Debug, Drop)]
 pub struct Sessions {
     rows: Vec<PeerContact>,
+    /// Where the row of each peer stands.
+    places: HashMap<u32, usize>,
 }
 
 impl Model for Sessions {
-    ghost use Rattle.std.specs.Prelude.{List};
+    ghost use Rattle.std.specs.Prelude.{List, map};
     ghost use Rattle.session_core.specs.declared.contact.PeerContact.{PeerContact};
+    ghost use Rattle.session_core.specs.Places.{row_peer, AreFirsts};
 
     ghost Value = { List PeerContact };
 
     ghost view = { λ sessions. sessions.rows.items };
+
+    ghost invariant = { λ sessions. AreFirsts 0 sessions.places.entries (map row_peer sessions.rows.items) };
 }
 
 impl Sessions {
@@ -33,26 +40,31 @@ impl Sessions {
     pub fn new(alloc: Global, settings: &Settings) -> Result<Self, NoMemory>
         ensures { IfOk result (λ made. made ≡ map unheard settings.now.peers) }
     {
-        let mut rows = Vec::new(alloc);
-        for row in settings.peers() {
-            rows.push(PeerContact::unheard(row.peer))?;
-        }
-        Ok(Sessions { rows })
+        let rows = unheard_rows(alloc, settings)?;
+        let places = places_of(alloc, rows.as_slice())?;
+        Ok(Sessions { rows, places })
+    }
+
+    /// Where the row of this peer stands.
+    fn place(&self, peer: u32) -> Option<usize>
+        ensures { result ≡ position (is_of peer) self.now }
+    {
+        self.places.get(&peer).copied()
     }
 
     /// Whether there may be a session with this peer: it is a client or a gateway of the settings.
     pub fn holds(&self, peer: u32) -> bool
         ensures { result ≡ list_any (is_of peer) self.now }
     {
-        self.rows.iter().any(|row| row.is_of(peer))
+        self.place(peer).is_some()
     }
 
     /// Whether a session with this peer has begun, be it forgotten or not.
     pub fn has_begun(&self, peer: u32) -> bool
         ensures { result ≡ is_some (number_of peer self.now) }
     {
-        match row_of(self.rows.as_slice(), peer) {
-            Some(row) => row.has_begun(),
+        match self.place(peer) {
+            Some(at) => self.rows[at].has_begun(),
             None => false,
         }
     }
@@ -62,7 +74,9 @@ impl Sessions {
         requires { list_any (is_of peer) self.old ≡ true }
         ensures { self.new ≡ heard_from peer now self.old }
     {
-        hear(self.rows.as_mut_slice(), peer, now);
+        if let Some(at) = self.place(peer) {
+            hear_at(&mut self.rows, at, now);
+        }
     }
 
     /// The Message ID of the next message that begins here, to a peer with which a session has begun, be it forgotten or not. They rise
@@ -72,7 +86,10 @@ impl Sessions {
         ensures number { Some result ≡ number_of peer self.old }
         ensures after { self.new ≡ numbered peer self.old }
     {
-        take_number(self.rows.as_mut_slice(), peer)
+        match self.place(peer) {
+            Some(at) => number_at(&mut self.rows, at),
+            None => unreachable!(),
+        }
     }
 
     /// The next heartbeat that is due at the time `now`, in seconds, in the order of the settings (RFC 9132, section 4.7); the peer was
@@ -83,39 +100,57 @@ impl Sessions {
         ensures { MatchOption result (NoneBeats (C.beats configs.now) now self.old self.new)
             (λ beat. IsNextBeat (C.beats configs.now) now self.old self.new beat) }
     {
-        next_beat(self.rows.as_mut_slice(), configs, now)
+        beat_among(&mut self.rows, configs, now)
     }
 }
 
-/// The row of this peer.
-fn row_of(rows: &[PeerContact], peer: u32) -> Option<&PeerContact>
-    ensures { option_copied result ≡ find (is_of peer) rows.now }
+/// A row for each peer of the settings, none of which was heard.
+fn unheard_rows(alloc: Global, settings: &Settings) -> Result<Vec<PeerContact>, NoMemory>
+    ensures { IfOk result (λ rows. rows.items ≡ map unheard settings.now.peers) }
 {
-    rows.iter().find(|row| row.is_of(peer))
+    let mut rows = Vec::new(alloc);
+    for row in settings.peers() {
+        rows.push(PeerContact::unheard(row.peer))?;
+    }
+    Ok(rows)
 }
 
-fn hear(rows: &mut [PeerContact], peer: u32, now: u64)
-    ensures { rows.new ≡ heard_from peer now rows.old }
+/// The first place of each peer. They are entered from the last to the first.
+fn places_of(alloc: Global, rows: &[PeerContact]) -> Result<HashMap<u32, usize>, NoMemory>
+    ensures { IfOk result (λ places. AreFirsts 0 places.entries (map row_peer rows.now)) }
 {
-    for row in rows.iter_mut() {
-        if row.is_of(peer) {
-            row.hear(now);
-            return;
-        }
+    let mut places = HashMap::new(alloc);
+    let mut at = rows.len();
+    while at > 0 {
+        at -= 1;
+        places.insert(rows[at].peer, at)?;
     }
+    Ok(places)
 }
 
-fn take_number(rows: &mut [PeerContact], peer: u32) -> u16
-    requires { is_some (number_of peer rows.old) ≡ true }
-    ensures number { Some result ≡ number_of peer rows.old }
-    ensures after { rows.new ≡ numbered peer rows.old }
+/// The peer at this place is heard.
+fn hear_at(rows: &mut Vec<PeerContact>, at: usize, now: u64)
+    requires { at < length rows.old.items }
+    ensures { rows.new.items ≡ with_place at (row_heard now) rows.old.items }
 {
-    for row in rows.iter_mut() {
-        if row.is_of(peer) {
-            return row.take_number();
-        }
-    }
-    unreachable!()
+    rows[at].hear(now);
+}
+
+/// The Message ID of the next message to the peer at this place; the one behind it is the next then.
+fn number_at(rows: &mut Vec<PeerContact>, at: usize) -> u16
+    requires at { at < length rows.old.items }
+    requires begun { is_some (option_and_then number_in (slice_get rows.old.items at)) ≡ true }
+    ensures number { Some result ≡ option_and_then number_in (slice_get rows.old.items at) }
+    ensures after { rows.new.items ≡ with_place at row_numbered rows.old.items }
+{
+    rows[at].take_number()
+}
+
+fn beat_among<C: Configs>(rows: &mut Vec<PeerContact>, configs: &C, now: u64) -> Option<Beat>
+    ensures { MatchOption result (NoneBeats (C.beats configs.now) now rows.old.items rows.new.items)
+        (λ beat. IsNextBeat (C.beats configs.now) now rows.old.items rows.new.items beat) }
+{
+    next_beat(rows.as_mut_slice(), configs, now)
 }
 
 fn next_beat<C: Configs>(rows: &mut [PeerContact], configs: &C, now: u64) -> Option<Beat>

@@ -274,3 +274,33 @@ fn the_others_move_down(rt: HostRuntime) -> Result<(), Fail> {
     }
     Ok(())
 }
+
+/// One that registers after another has gone is the last, and one that registers again keeps its place.
+#[test]
+fn a_new_one_is_the_last(rt: HostRuntime) -> Result<(), Fail> {
+    let steps = [
+        Step::See(&[(1, 2)]),
+        Step::Register(0, 0, 1),
+        Step::Register(1, 0, 2),
+        Step::Deregister(0, 1),
+        Step::Register(3, 0, 3),
+        Step::Register(0, 0, 4),
+        Step::Register(1, 0, 2),
+        Step::See(&[(1, 5)]),
+        Step::Notify(7),
+        Step::Notify(8),
+        Step::Notify(9),
+        Step::Notify(10),
+    ];
+    for (count, want) in [
+        (9, Shown::Notice(2, 3)),
+        (10, Shown::Notice(3, 2)),
+        (11, Shown::Notice(4, 2)),
+        (12, Shown::Nothing),
+    ] {
+        if count <= steps.len() {
+            assert_eq!(rt; last_shown(rt.alloc(), &steps[..count])?, want);
+        }
+    }
+    Ok(())
+}

@@ -13,6 +13,6 @@ pub returns : goal.returns
 returns c =
     let chains = c.args.chains.now.items in
     let chain = c.index_mut.result.now in
-    set_at (λ (r : ChainValue). chained c.args.place r ∷ []) chains c.args.at chain c.push.new.self
+    set_at (λ (r : ChainValue). chained c.args.key r ∷ []) chains c.args.at chain c.push.new.self
     (there_is chains c.args.at chain c.requires.at c.index_mut.ensures.value)
     (ap (λ r. r ∷ []) (sym c.push.ensures))

@@ -1,33 +1,47 @@
-use Rattle.std.proofs.Common.{filter, ap, sym, ◌∙◌}
-use Rattle.std.specs.Prelude.{not, position}
-use Rattle.coap_observe.specs.Chains.{places_of}
+use Rattle.std.proofs.Common.{◌<◌, filter, length, Some, ap, sym, subst, ◌∙◌}
+use Rattle.std.specs.Prelude.{not, option_map, ◌==◌, bytes_eq}
+use Rattle.std.proofs.lemmas.Bool.{and_parts, eqb-true}
 use Rattle.coap_observe.specs.Observed.{is_token}
-use Rattle.coap_observe.proofs.Leaving.{is_there, others_same, all_stay}
-use Rattle.coap_exchange.proofs.Firsts.{none_passes}
+use Rattle.coap_observe.specs.Rolls.{observed_of, peer_of}
+use Rattle.coap_observe.proofs.Keying.{is_first, none_first, others_same, shorter}
+use Rattle.coap_observe.proofs.Leaving.{all_stay}
 use Rattle.coap_observe.proofs.observers.leave_others.Goals as goal
 
-pub place_of-requires : goal.place_of-requires
-place_of-requires c = c.places.ensures ∙ c.loop-place.invariant.chained c.args.peer ∙ ap (places_of c.args.peer) (sym c.as_slice.ensures.value)
+pub token_key-requires : goal.token_key-requires
+token_key-requires c = record { apart = c.loop-key.invariant.chained.apart; own = c.keys.ensures ∙ c.loop-key.invariant.chained.own c.args.peer }
 
-pub remove_at-requires : goal.remove_at-requires
-remove_at-requires c =
-    let test = is_token c.args.peer c.args.token.now in
-    let found = ap (position test) (sym c.as_slice.ensures.value) ∙ sym c.in-Some.ensures in
-    record { at = (is_there test c.loop-place.observed.items c.in-Some.place found).within; chained = c.loop-place.invariant.chained }
-
-pub loop-place-preserved : goal.loop-place-preserved
-loop-place-preserved c =
-    let test = is_token c.args.peer c.args.token.now in
-    let found = ap (position test) (sym c.as_slice.ensures.value) ∙ sym c.in-Some.ensures in
+pub remove_key-requires : goal.remove_key-requires
+remove_key-requires c =
+    let first = is_first (is_token c.args.peer c.args.token.now) c.loop-key.roll.rows c.in-Some.key c.loop-key.invariant.chained.apart (sym c.in-Some.ensures) in
     record {
-      stay = ap (filter (λ o. not (test o))) c.remove_at.ensures.items ∙ others_same test c.loop-place.observed.items c.in-Some.place found ∙ c.loop-place.invariant.stay;
-      capacity = c.remove_at.ensures.capacity ∙ c.loop-place.invariant.capacity;
-      chained = c.remove_at.ensures.chained;
-      room = λ peer. c.remove_at.ensures.room peer ∙ c.loop-place.invariant.room peer;
+      own = ap (option_map peer_of) first.there ∙ ap Some (eqb-true first.one.observer.peer c.args.peer (and_parts (first.one.observer.peer == c.args.peer) (bytes_eq first.one.observer.token c.args.token.now) first.passes).0);
+      chained = c.loop-key.invariant.chained;
     }
+
+pub loop-key-preserved : goal.loop-key-preserved
+loop-key-preserved c =
+    let test = is_token c.args.peer c.args.token.now in
+    let rows = c.loop-key.roll.rows in
+    let first = is_first test rows c.in-Some.key c.loop-key.invariant.chained.apart (sym c.in-Some.ensures) in
+    record {
+      stay =
+          ap (λ rs. filter (λ o. not (test o)) (observed_of rs)) c.remove_key.ensures.rows
+          ∙ others_same (λ o. not (test o)) rows c.in-Some.key first.one c.loop-key.invariant.chained.apart first.there (ap not first.passes)
+          ∙ c.loop-key.invariant.stay;
+      capacity = c.remove_key.ensures.capacity ∙ c.loop-key.invariant.capacity;
+      chained = c.remove_key.ensures.chained;
+      room = λ peer. c.remove_key.ensures.room peer ∙ c.loop-key.invariant.room peer;
+    }
+
+pub loop-key-smaller : goal.loop-key-smaller
+loop-key-smaller c =
+    let rows = c.loop-key.roll.rows in
+    let first = is_first (is_token c.args.peer c.args.token.now) rows c.in-Some.key c.loop-key.invariant.chained.apart (sym c.in-Some.ensures) in
+    subst (λ rs. length rs < length rows) (sym c.remove_key.ensures.rows) (shorter c.in-Some.key rows first.has)
 
 pub returns-clause-items : goal.returns-clause-items
 returns-clause-items c =
     let test = is_token c.args.peer c.args.token.now in
-    let none = none_passes test c.loop-place.observed.items (ap (position test) (sym c.as_slice.ensures.value) ∙ sym c.place_of.ensures ∙ c.in_default.is) in
-    sym (all_stay test c.loop-place.observed.items none) ∙ c.loop-place.invariant.stay
+    let rows = c.loop-key.roll.rows in
+    let none = none_first test rows (sym c.token_key.ensures ∙ c.in_default.is) in
+    sym (all_stay test (observed_of rows) none) ∙ c.loop-key.invariant.stay

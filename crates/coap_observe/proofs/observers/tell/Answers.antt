@@ -1,33 +1,53 @@
-use Rattle.std.proofs.Common.{refl, ap, sym, ◌∙◌}
+use Rattle.std.proofs.Common.{◌≡◌, true, Some, refl, ap, sym, subst, ◌∙◌}
+use Rattle.std.specs.Prelude.{option_map}
+use Rattle.coap_observe.specs.declared.observer.Observer.{Observer}
 use Rattle.coap_observe.specs.Seen.{list_for}
-use Rattle.coap_exchange.proofs.Firsts.{there_is, one_there}
-use Rattle.coap_observe.proofs.Chaining.{chained_same}
-use Rattle.coap_observe.proofs.Telling.{gone_at, told_at, peers_told}
+use Rattle.coap_observe.specs.Chains.{AreChained}
+use Rattle.coap_observe.specs.Observed.{told}
+use Rattle.coap_observe.specs.Rolls.{RollValue, observed_of, has_key, one_at, without_key, with_key, peer_of}
+use Rattle.coap_observe.proofs.Chaining.{chained_with}
+use Rattle.coap_observe.proofs.Keying.{one_placed, has_placed, removed_placed, changed_placed}
+use Rattle.coap_observe.proofs.Telling.{gone_at, told_at}
 use Rattle.coap_observe.proofs.observers.tell.Goals as goal
+
+pub one-one-requires : goal.one-one-requires
+one-one-requires g c = subst (λ k. has_key k c.args.roll.now.rows ≡ true) (sym c.at-key.ensures) (has_placed c.args.roll.now.rows c.args.place c.requires.at)
+
+pub remove_key-requires : goal.remove_key-requires
+remove_key-requires g c = record {
+  own = ap (option_map peer_of) c.one-one.ensures ∙ ap (λ (o : Observer). Some o.peer) (sym c.observer.ensures);
+  chained = c.requires.chained;
+}
+
+pub tell-requires : goal.tell-requires
+tell-requires g c = subst (λ k. has_key k c.args.roll.now.rows ≡ true) (sym c.at-key.ensures) (has_placed c.args.roll.now.rows c.args.place c.requires.at)
 
 pub returns-then-is_empty-clause-items : goal.returns-then-is_empty-clause-items
 returns-then-is_empty-clause-items g c =
     let lists = g.V.Views.lists c.args.views.now in
-    let there = there_is c.args.observed.now.items c.args.place c.index.result.now c.requires.at c.index.ensures in
-    c.remove_at.ensures.items
-    ∙ gone_at lists c.args.id c.args.observed.now.items c.args.place c.index.result.now c.of-seen.result there
-    (c.of-seen.ensures ∙ ap (list_for lists) c.observer.ensures) (sym c.is_empty.ensures ∙ c.if-is_empty.true)
+    let rows = c.args.roll.now.rows in
+    let there = sym (one_placed rows c.args.place c.requires.at c.requires.chained.apart) ∙ ap (λ k. one_at k rows) (sym c.at-key.ensures) ∙ c.one-one.ensures in
+    ap observed_of c.remove_key.ensures.rows
+    ∙ ap (λ k. observed_of (without_key k rows)) c.at-key.ensures
+    ∙ removed_placed rows c.args.place c.requires.at c.requires.chained.apart
+    ∙ gone_at lists c.args.id (observed_of rows) c.args.place c.one-one.result.now c.of-seen.result there
+    (c.of-seen.ensures ∙ ap (list_for lists) c.observer-2.ensures) (sym c.is_empty.ensures ∙ c.if-is_empty.true)
 
 pub returns-clause-items : goal.returns-clause-items
 returns-clause-items g c =
     let lists = g.V.Views.lists c.args.views.now in
-    let there = there_is c.args.observed.now.items c.args.place c.index.result.now c.requires.at c.index.ensures in
-    let second = there_is c.args.observed.now.items c.args.place c.index_mut.result.now c.requires.at c.index_mut.ensures.value in
-    let own = one_there c.index.result.now c.index_mut.result.now (sym there ∙ second) in
-    told_at lists c.args.id c.args.observed.now.items c.args.place c.index_mut.result.now c.tell.new.self c.of-seen.result second
-    (c.of-seen.ensures ∙ ap (list_for lists) c.observer.ensures ∙ ap (λ x. list_for lists x.observer) own) (sym c.is_empty.ensures ∙ c.if-is_empty.false) c.tell.ensures
+    let rows = c.args.roll.now.rows in
+    let there = sym (one_placed rows c.args.place c.requires.at c.requires.chained.apart) ∙ ap (λ k. one_at k rows) (sym c.at-key.ensures) ∙ c.one-one.ensures in
+    ap (λ (r : RollValue). observed_of r.rows) c.tell.ensures
+    ∙ ap (λ k. observed_of (with_key k (told c.args.id c.of-seen.result) rows)) c.at-key.ensures
+    ∙ changed_placed (told c.args.id c.of-seen.result) rows c.args.place c.requires.at c.requires.chained.apart
+    ∙ told_at lists c.args.id (observed_of rows) c.args.place c.one-one.result.now c.of-seen.result there
+    (c.of-seen.ensures ∙ ap (list_for lists) c.observer-2.ensures) (sym c.is_empty.ensures ∙ c.if-is_empty.false)
 
 pub returns-clause-chained : goal.returns-clause-chained
 returns-clause-chained g c =
-    let second = there_is c.args.observed.now.items c.args.place c.index_mut.result.now c.requires.at c.index_mut.ensures.value in
-    chained_same c.args.chains.now c.args.observed.now.items _
-    (peers_told c.args.id c.args.observed.now.items c.args.place c.index_mut.result.now c.tell.new.self c.of-seen.result second c.tell.ensures)
-    c.requires.chained
+    subst (λ (r : RollValue). AreChained c.args.chains.now r.rows) (sym c.tell.ensures)
+    (chained_with c.args.chains.now c.args.roll.now.rows c.at-key.result (told c.args.id c.of-seen.result) c.one-one.result.now c.one-one.ensures refl c.requires.chained)
 
 pub returns-clause-room : goal.returns-clause-room
 returns-clause-room g c = λ peer. refl

@@ -1,22 +1,23 @@
 use Rattle.std.proofs.Common.{ap, sym, subst, ◌∙◌, arith}
 use Rattle.std.specs.List.{list_any}
 use Rattle.coap_exchange.specs.Pairs.{is_pair}
-use Rattle.coap_observe.specs.Chains.{places_of}
-use Rattle.coap_observe.specs.Observing.{ObserversValue, has_room, entered, AreBounded}
+use Rattle.coap_observe.specs.Observing.{ObserversValue, entered, AreBounded}
+use Rattle.coap_observe.specs.Rolls.{observed_of}
 use Rattle.coap_observe.proofs.Chaining.{rooms_stay}
 use Rattle.coap_observe.proofs.Counting.{bounded_entered, bounded_length, few_of_peer}
 use Rattle.coap_observe.proofs.observers.Observers.register.Goals as goal
 
 pub has_room-requires : goal.has_room-requires
-has_room-requires g c = c.places-places.ensures ∙ c.self.invariant.chained c.args.observer.peer ∙ ap (places_of c.args.observer.peer) (sym c.as_slice.ensures.value)
+has_room-requires g c = record { apart = c.self.invariant.chained.apart; own = c.keys-keys.ensures ∙ c.self.invariant.chained.own c.args.observer.peer }
 
 pub enter-requires : goal.enter-requires
 enter-requires g c =
-    let has = ap (has_room c.self.inside.room c.args.observer) (sym c.as_slice.ensures.value) ∙ sym c.has_room.ensures ∙ c.if-has_room.true in
+    let observed = observed_of c.self.inside.roll.rows in
+    let has = sym c.has_room.ensures ∙ c.if-has_room.true in
     let pair = ap (λ (v : ObserversValue). list_any (is_pair c.args.observer.peer c.args.observer.domain) v.pairs) c.self.view_is ∙ c.requires in
-    let bounded = bounded_entered c.self.inside.pairs c.self.inside.room c.args.observer c.of-seen.result c.self.inside.observed.items has pair c.self.invariant.bounded in
-    let fits = bounded_length c.self.inside.pairs c.self.inside.room _ bounded in
-    let few = few_of_peer c.self.inside.pairs c.self.inside.room c.args.observer.peer (entered c.args.observer c.of-seen.result c.self.inside.observed.items) bounded in
+    let bounded = bounded_entered c.self.inside.pairs c.self.inside.room c.args.observer c.of-seen.result observed has pair c.self.invariant.bounded in
+    let fits = bounded_length c.self.inside.pairs c.self.inside.room (entered c.args.observer c.of-seen.result observed) bounded in
+    let few = few_of_peer c.self.inside.pairs c.self.inside.room c.args.observer.peer (entered c.args.observer c.of-seen.result observed) bounded in
     let room = c.self.invariant.rooms c.args.observer.peer in
     record {
       fits = omega (arith, fits, c.self.invariant.reserved);
@@ -26,9 +27,10 @@ enter-requires g c =
 
 pub invariant_of-self : goal.invariant_of-self
 invariant_of-self g c =
-    let has = ap (has_room c.self.inside.room c.args.observer) (sym c.as_slice.ensures.value) ∙ sym c.has_room.ensures ∙ c.if-has_room.true in
+    let observed = observed_of c.self.inside.roll.rows in
+    let has = sym c.has_room.ensures ∙ c.if-has_room.true in
     let pair = ap (λ (v : ObserversValue). list_any (is_pair c.args.observer.peer c.args.observer.domain) v.pairs) c.self.view_is ∙ c.requires in
-    let bounded = bounded_entered c.self.inside.pairs c.self.inside.room c.args.observer c.of-seen.result c.self.inside.observed.items has pair c.self.invariant.bounded in
+    let bounded = bounded_entered c.self.inside.pairs c.self.inside.room c.args.observer c.of-seen.result observed has pair c.self.invariant.bounded in
     record {
       bounded = subst (AreBounded c.self.inside.pairs c.self.inside.room) (sym c.enter.ensures.list) bounded;
       reserved = omega (arith, c.self.invariant.reserved, c.enter.ensures.capacity);

@@ -1,0 +1,51 @@
+use Rattle.std.proofs.Common.{◌≡◌, ◌<◌, ◌∷◌, true, length, get_or, add-one, ap, sym, subst, ◌∙◌, arith}
+use Rattle.std.specs.Prelude.{slice_get, is_none, nat_le}
+use Rattle.std.proofs.lemmas.Bool.{and_parts, leb-true}
+use Rattle.coap_observe.specs.Observed.{is_due}
+use Rattle.coap_observe.specs.Seen.{list_for}
+use Rattle.coap_observe.specs.Rolls.{observed_of, keys_of, has_key, one_at}
+use Rattle.coap_observe.proofs.Keying.{one_placed, has_placed, length_observed}
+use Rattle.coap_observe.proofs.Seeing.{nil_none}
+use Rattle.coap_observe.proofs.Telling.{none_more}
+use Rattle.coap_observe.proofs.observers.next_due.Goals as goal
+
+pub behind-key-requires : goal.behind-key-requires
+behind-key-requires g c = record { there = omega (arith, c.loop-place-test.true, c.len-place-end.ensures); before = c.loop-place.invariant.key }
+
+pub one-one-requires : goal.one-one-requires
+one-one-requires g c =
+    let rows = c.args.roll.now.rows in
+    subst (λ k. has_key k rows ≡ true) (sym c.behind-key.ensures) (has_placed rows c.loop-place.place (omega (arith, c.loop-place-test.true, c.len-place-end.ensures)))
+
+pub loop-place-preserved : goal.loop-place-preserved
+loop-place-preserved g c =
+    let rows = c.args.roll.now.rows in
+    let place = c.loop-place.place in
+    let less : place < length rows = omega (arith, c.loop-place-test.true, c.len-place-end.ensures) in
+    let there = sym (one_placed rows place less c.requires) ∙ ap (λ k. one_at k rows) (sym c.behind-key.ensures) ∙ c.one-one.ensures in
+    record {
+      none = none_more (g.V.Views.lists c.args.views.now) c.args.from place (observed_of rows) c.one-one.result.now there (sym c.is_next.ensures ∙ c.if-is_next.false) c.loop-place.invariant.none;
+      key = c.behind-key.ensures ∙ ap (λ k. get_or (c.args.roll.now.room ∷ keys_of rows) k 0) (sym (add-one place));
+    }
+
+pub returns-then-is_next : goal.returns-then-is_next
+returns-then-is_next g c =
+    let lists = g.V.Views.lists c.args.views.now in
+    let rows = c.args.roll.now.rows in
+    let place = c.loop-place.place in
+    let one = c.one-one.result.now in
+    let less : place < length rows = omega (arith, c.loop-place-test.true, c.len-place-end.ensures) in
+    let there = sym (one_placed rows place less c.requires) ∙ ap (λ k. one_at k rows) (sym c.behind-key.ensures) ∙ c.one-one.ensures in
+    let both = and_parts (nat_le c.args.from place) (is_due lists one) (sym c.is_next.ensures ∙ c.if-is_next.true) in
+    let long = length_observed rows in
+    record {
+      one = one;
+      there = there;
+      within = omega (arith, less, long);
+      later = leb-true c.args.from place both.0;
+      due = both.1;
+      first = c.loop-place.invariant.none;
+      observer_is = c.observer.ensures;
+      number_is = c.number.ensures;
+      gone_is = c.ends_at.ensures ∙ ap (λ o. is_none (slice_get (list_for lists o) 0)) c.observer-then-is_next.ensures ∙ nil_none (list_for lists one.observer);
+    }

@@ -1,0 +1,64 @@
+use Rattle.std.proofs.Common.{◌<◌, ◌∷◌, [], ◌++◌, length, ap, sym, subst, ◌∙◌, arith}
+use Rattle.slab.specs.Slab.{get}
+use Rattle.slot_order.specs.Orders.{OrderValue}
+use Rattle.coap_observe.specs.Rolls.{RollValue, has_key, rows_of, AreKept}
+use Rattle.coap_observe.proofs.Entering.{length_more}
+use Rattle.coap_observe.proofs.Rolling.{length_rows, has_rows, off_keys, none_has, rows_last, kept_last}
+use Rattle.coap_observe.proofs.roll.Roll.push.Goals as goal
+
+pub insert_reserved-key-requires : goal.insert_reserved-key-requires
+insert_reserved-key-requires c =
+    let few = subst (λ (r : RollValue). length r.rows < r.room) (sym c.self.view_is) c.requires in
+    let long = length_rows (get c.self.inside.ones) c.self.inside.order.slots c.self.invariant.kept.there in
+    omega (arith, few, long, c.self.invariant.count, c.self.invariant.room)
+
+pub push-requires : goal.push-requires
+push-requires c =
+    let at = get c.self.inside.ones in
+    let slots = c.self.inside.order.slots in
+    let key = c.insert_reserved-key.result in
+    let few = subst (λ (r : RollValue). length r.rows < r.room) (sym c.self.view_is) c.requires in
+    let long = length_rows at slots c.self.invariant.kept.there in
+    record {
+      below = omega (arith, c.insert_reserved-key.ensures.key_in_range, c.insert_reserved-key.ensures.capacity, c.self.invariant.room);
+      few = omega (arith, few, long);
+      new = none_has key slots (off_keys at key slots c.self.invariant.kept.there c.insert_reserved-key.ensures.was_vacant);
+    }
+
+pub returns-clause-new : goal.returns-clause-new
+returns-clause-new c =
+    let at = get c.self.inside.ones in
+    let slots = c.self.inside.order.slots in
+    let key = c.insert_reserved-key.result in
+    ap (λ (r : RollValue). has_key key r.rows) (sym c.self.view_is)
+    ∙ has_rows at key slots c.self.invariant.kept.there
+    ∙ none_has key slots (off_keys at key slots c.self.invariant.kept.there c.insert_reserved-key.ensures.was_vacant)
+
+pub returns-clause-last : goal.returns-clause-last
+returns-clause-last c =
+    let at = get c.self.inside.ones in
+    let new = get c.insert_reserved-key.new.self in
+    let slots = c.self.inside.order.slots in
+    let key = c.insert_reserved-key.result in
+    let apart = off_keys at key slots c.self.invariant.kept.there c.insert_reserved-key.ensures.was_vacant in
+    ap (λ (o : OrderValue). record { room = o.room; rows = rows_of new o.slots }) c.push.ensures
+    ∙ ap (λ rows. record { room = c.self.inside.order.room; rows = rows })
+    (rows_last at new key c.args.one slots apart c.insert_reserved-key.ensures.updates.changed c.insert_reserved-key.ensures.updates.others)
+    ∙ ap (λ (r : RollValue). record { room = r.room; rows = r.rows ++ (key, c.args.one) ∷ [] }) c.self.view_is
+
+pub invariant_of-self : goal.invariant_of-self
+invariant_of-self c =
+    let at = get c.self.inside.ones in
+    let new = get c.insert_reserved-key.new.self in
+    let slots = c.self.inside.order.slots in
+    let key = c.insert_reserved-key.result in
+    let more = length_more key slots in
+    let long = ap (λ (o : OrderValue). length o.slots) c.push.ensures in
+    let wide = ap (λ (o : OrderValue). o.room) c.push.ensures in
+    record {
+      kept =
+          subst (λ (o : OrderValue). AreKept new o.slots) (sym c.push.ensures)
+          (kept_last at new key c.args.one slots c.self.invariant.kept c.insert_reserved-key.ensures.was_vacant c.insert_reserved-key.ensures.updates.changed c.insert_reserved-key.ensures.updates.others);
+      count = omega (arith, more, long, c.self.invariant.count, c.insert_reserved-key.ensures.len);
+      room = wide ∙ c.self.invariant.room ∙ sym c.insert_reserved-key.ensures.capacity;
+    }

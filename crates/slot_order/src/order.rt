@@ -1,0 +1,130 @@
+ghost use Rattle.std.specs.Prelude.{◌≡◌, ◌+◌, ◌<◌, ◌≤◌, ◌∷◌, [], ◌++◌, true, false, length, Some, IfOk, slice_get, slice_set, slice_index_or, replicate};
+ghost use Rattle.slot_order.specs.Orders.{OrderValue, has_slot, without};
+
+use dots_lists::NoMemory;
+use std::alloc::Global;
+use std::marker::Model;
+
+/// Slots below a room, each once at most, in an order.
+#[derive(Debug, Drop)]
+pub struct Order {
+    /// The slot behind each; behind the room is the first one, and behind the last one is the room.
+    behind: Vec<usize>,
+    /// The slot before each; before the room is the last one, and before the first one is the room.
+    before: Vec<usize>,
+    count: usize,
+    room: usize,
+}
+
+impl Model for Order {
+    ghost use Rattle.slot_order.specs.Links.{walk, IsRing};
+    ghost use Rattle.slot_order.specs.Orders.{OrderValue};
+
+    ghost Value = { OrderValue };
+
+    ghost view = { λ o. record { room = o.room; slots = walk o.count o.behind.items o.room } };
+
+    ghost invariant = { λ o. IsRing o.behind.items o.before.items o.count o.room };
+}
+
+impl Order {
+    /// No slots, and room for those below `room`. This is the only call that takes memory.
+    pub fn new(alloc: Global, room: usize) -> Result<Self, NoMemory>
+        ensures { IfOk result (λ made. made ≡ record { room = room; slots = [] }) }
+    {
+        let behind = links_to(alloc, room)?;
+        let before = links_to(alloc, room)?;
+        Ok(Order {
+            behind,
+            before,
+            count: 0,
+            room,
+        })
+    }
+
+    /// How many slots there are.
+    pub fn len(&self) -> usize
+        ensures { result ≡ length self.now.slots }
+    {
+        self.count
+    }
+
+    /// Where the order begins: the one behind it is the first slot.
+    pub fn start(&self) -> usize
+        ensures { result ≡ self.now.room }
+    {
+        self.room
+    }
+
+    /// The slot at this place, which stands behind the one before it, or behind the start.
+    pub fn behind(&self, slot: usize, place: usize) -> usize
+        requires there { place < length self.now.slots }
+        requires before { slot ≡ slice_index_or (self.now.room ∷ self.now.slots) place 0 }
+        ensures value { result ≡ slice_index_or self.now.slots place 0 }
+        ensures below { result < self.now.room }
+    {
+        self.behind[slot]
+    }
+
+    /// The slot at this place.
+    pub fn at(&self, place: usize) -> usize
+        requires { place < length self.now.slots }
+        ensures value { result ≡ slice_index_or self.now.slots place 0 }
+        ensures below { result < self.now.room }
+    {
+        let mut slot = self.behind(self.start(), 0);
+        for passed in 0..place {
+            slot = self.behind(slot, passed + 1);
+        }
+        slot
+    }
+
+    /// One more slot, which is the last.
+    pub fn push(&mut self, slot: usize)
+        requires below { slot < self.old.room }
+        requires few { length self.old.slots < self.old.room }
+        requires new { has_slot slot self.old.slots ≡ false }
+        ensures { self.new ≡ record { room = self.old.room; slots = self.old.slots ++ slot ∷ [] } }
+    {
+        let last = self.before[self.room];
+        link(&mut self.behind, &mut self.before, last, slot);
+        link(&mut self.behind, &mut self.before, slot, self.room);
+        self.count += 1;
+    }
+
+    /// This slot goes.
+    pub fn leave(&mut self, slot: usize)
+        requires { has_slot slot self.old.slots ≡ true }
+        ensures { self.new ≡ record { room = self.old.room; slots = without slot self.old.slots } }
+    {
+        let before = self.before[slot];
+        let behind = self.behind[slot];
+        link(&mut self.behind, &mut self.before, before, behind);
+        self.count -= 1;
+    }
+}
+
+/// Links of the room and of each slot below it to the room.
+fn links_to(alloc: Global, room: usize) -> Result<Vec<usize>, NoMemory>
+    ensures { IfOk result (λ links. links.items ≡ replicate (room + 1) room) }
+{
+    let Some(count) = room.checked_add(1) else {
+        return Err(NoMemory);
+    };
+    let mut links = Vec::with_capacity(alloc, count)?;
+    for _ in 0..count {
+        links.push_reserved(room);
+    }
+    Ok(links)
+}
+
+/// The second stands behind the first.
+fn link(behind: &mut Vec<usize>, before: &mut Vec<usize>, first: usize, second: usize)
+    requires first { first < length behind.old.items }
+    requires second { second < length before.old.items }
+    ensures behind { behind.new.items ≡ slice_set behind.old.items first second }
+    ensures before { before.new.items ≡ slice_set before.old.items second first }
+{
+    behind[first] = second;
+    before[second] = first;
+}
