@@ -1,0 +1,4 @@
+pub mod Endpoints
+pub mod Numbers
+pub mod ReadTo
+pub mod Views

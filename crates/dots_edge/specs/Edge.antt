@@ -1,0 +1,40 @@
+-- What contracts see of a host of real sockets and a real file.
+use Rattle.std.specs.Prelude.{◌≡◌, ℕ, ◌-◌, Bool, List, Option, Some, None}
+use Rattle.line_fields.specs.Lines.{lines_of}
+use Rattle.dots_edge.specs.HostLine.{LineValue}
+use Rattle.dots_edge.specs.HostFile.{Stand}
+use Rattle.dots_edge.specs.Found.{events_in, has_journal}
+
+-- Whether it is open: a host whose file has a fault, or whose sockets or journal can't be opened, isn't. Whether it has a journal;
+-- how many events are still to come, where that is said; the last time beside an event; and how often wire and disk failed.
+pub record Edge : Type 0 where
+  pub opened : Bool
+  pub journaled : Bool
+  pub left : Option ℕ
+  pub last : ℕ
+  pub wire : ℕ
+  pub disk : ℕ
+
+-- how many bytes its disk has
+abbrev pub disk_bytes : ℕ
+disk_bytes = 1073741824
+
+-- one event fewer is to come
+abbrev pub one_fewer : Option ℕ → Option ℕ
+one_fewer None = None
+one_fewer (Some left) = Some (left - 1)
+
+-- a call of the disk changes the count of the disk's faults alone
+pub record KeepsWire (old new : Edge) : Type 0 where
+  pub kept : new ≡ record old { disk = new.disk }
+
+-- a call of the wire keeps the count of the disk's faults
+pub record KeepsDisk (old new : Edge) : Type 0 where
+  pub disk : new.disk ≡ old.disk
+
+-- the host file stands, and the host has a journal and counts its events as the file says
+pub record IsAsSaid (file : List ℕ) (host : Edge) : Type 0 where
+  pub values : List LineValue
+  pub stand : Stand (lines_of file) values
+  pub left : host.left ≡ events_in values
+  pub journaled : host.journaled ≡ has_journal values

@@ -1,0 +1,53 @@
+-- What a host file says, or the fault of its first line that has one.
+use Rattle.std.specs.Prelude.{◌≡◌, ℕ, ◌+◌, true, false, List, [], ◌∷◌, ◌++◌, length, ⊤}
+use Rattle.std.specs.Bool.{MatchBool}
+use Rattle.std.specs.List.{list_any}
+use Rattle.line_fields.specs.Lines.{lines_of, is_skipped}
+use Rattle.dots_edge.specs.HostLine.{LineValue, Says, same_thing}
+use Rattle.dots_edge.specs.declared.host_fault.HostFault.{HostFault}
+use Rattle.dots_edge.specs.declared.host_fault.HostFault.TheVariants as fault
+
+-- each of the lines is skipped or says something, and this is what they say, in order
+abbrev pub AreSaid : List (List ℕ) → List LineValue → Type 0
+AreSaid [] values = values ≡ []
+AreSaid (line ∷ lines) values = MatchBool (is_skipped line)
+    (AreSaid lines values)
+    ((value : LineValue) × (later : List LineValue) × Says line value × (values ≡ value ∷ later) × AreSaid lines later)
+
+-- none of them says what stands before it already
+abbrev pub AreOnce : List LineValue → List LineValue → Type 0
+AreOnce before [] = ⊤
+AreOnce before (value ∷ later) = (list_any (λ other. same_thing other value) before ≡ false) × AreOnce (before ++ value ∷ []) later
+
+-- the lines say this, and nothing twice
+pub record Stand (lines : List (List ℕ)) (values : List LineValue) : Type 0 where
+  pub said : AreSaid lines values
+  pub once : AreOnce [] values
+
+-- what is wrong with a line of this number that follows these: it says nothing, or what stands already
+abbrev pub HasFault : List LineValue → ℕ → List ℕ → HostFault → Type 0
+HasFault before number line (fault.Line n) = (n ≡ number) × (is_skipped line ≡ false) × ((value : LineValue) → ¬ (Says line value))
+HasFault before number line (fault.Twice n) =
+    (n ≡ number) × (is_skipped line ≡ false) × (value : LineValue) × Says line value × (list_any (λ other. same_thing other value) before ≡ true)
+HasFault before number line fault.NoMemory = ⊤
+
+-- one more line: it is skipped, or says something more
+abbrev pub Takes : List ℕ → List LineValue → List LineValue → Type 0
+Takes line old new = MatchBool (is_skipped line)
+    (new ≡ old)
+    ((value : LineValue) × Says line value × (list_any (λ other. same_thing other value) old ≡ false) × (new ≡ old ++ value ∷ []))
+
+-- the lines before this one stand, and it has the fault
+pub record FileFails (file : List ℕ) (told : HostFault) : Type 0 where
+  pub before : List (List ℕ)
+  pub line : List ℕ
+  pub behind : List (List ℕ)
+  pub split : lines_of file ≡ before ++ line ∷ behind
+  pub values : List LineValue
+  pub stand : Stand before values
+  pub at_fault : HasFault values (length before + 1) line told
+
+-- the first line at fault has that fault; want of memory is no fault of a line
+abbrev pub IsRefused : List ℕ → HostFault → Type 0
+IsRefused file fault.NoMemory = ⊤
+IsRefused file line_fault = FileFails file line_fault

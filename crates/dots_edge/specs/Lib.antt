@@ -1,0 +1,11 @@
+pub mod HostLine
+pub mod HostFile
+pub mod FaultText
+pub mod Passing
+pub mod Events
+pub mod Found
+pub mod Address
+pub mod Peers
+pub mod Drained
+pub mod Edge
+pub mod EdgeLaws

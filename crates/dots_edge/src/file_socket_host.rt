@@ -1,0 +1,333 @@
+ghost use Rattle.std.specs.Prelude.{◌≡◌, ◌+◌, ◌≤◌, ◌<◌, ◌^◌, map, length, true, false, None, Some, is_some, IfOk, OnOk, OnErr, IfSome, ⊤};
+ghost use Rattle.dots_host.specs.Causes.{Rose, HasCause};
+ghost use Rattle.dots_host.specs.Acts.{IsWithin, OnFailed, OnEvent};
+ghost use Rattle.dots_host.specs.declared.TheConstants.{MAX_EVENT_BYTES};
+ghost use Rattle.dots_edge.specs.Edge.{disk_bytes, one_fewer, KeepsWire, KeepsDisk, IsAsSaid};
+ghost use Rattle.dots_edge.specs.HostLine.{line_value};
+ghost use Rattle.dots_edge.specs.Found.{has_journal};
+ghost use Rattle.std.proofs.Common.{ap, refl};
+ghost use Rattle.dots_edge.specs.EdgeLaws.{keeps_wire_same, keeps_wire_then, keeps_disk_same, keeps_disk_then};
+
+use crate::ends::{Ends, Rooms};
+use crate::found::{events_in, journal_in};
+use crate::host_fault::HostFault;
+use crate::host_file::read_host_file;
+use crate::host_line::HostLine;
+use crate::journal::{DISK_BYTES, Journal};
+use crate::seconds::Seconds;
+use crate::sockets::Sockets;
+use dots_disk::{Disk, Host};
+use dots_host::{Failed, Got, NoMemory, Out, Sent, What, Wire};
+use std::alloc::Global;
+use std::fs::{File, Files};
+use std::io;
+use std::marker::Model;
+use std::net::Net;
+use std::time::Clock;
+
+/// A host of real sockets, a real journal file and the clock.
+///
+/// It tells nothing of what it hands in and of what its file holds: what a file, a socket or a clock does isn't proved.
+#[derive(Drop)]
+pub struct FileSocketHost<R> {
+    rt: R,
+    ends: Option<Ends>,
+    journal: Option<Journal>,
+    seconds: Seconds,
+    left: Option<u64>,
+    wire_faults: u64,
+    disk_faults: u64,
+}
+
+impl<R> Model for FileSocketHost<R> {
+    ghost use Rattle.std.specs.Prelude.{is_some};
+    ghost use Rattle.dots_edge.specs.Edge.{Edge};
+
+    ghost Value = { Edge };
+
+    ghost view = { λ host. record { opened = is_some host.ends; journaled = is_some host.journal; left = host.left; last = host.seconds.last; wire = host.wire_faults; disk = host.disk_faults } };
+}
+
+impl<R: Files<File = File> + Net + Clock + Drop> FileSocketHost<R> {
+    /// Opens the sockets and the journal that the text of a host file names.
+    ///
+    /// Where the file has a fault, a socket can't be bound, or the journal can't be opened or locked, every call of the
+    /// host fails.
+    pub fn open(alloc: Global, rt: R, text: &[u8]) -> Result<FileSocketHost<R>, NoMemory>
+        ensures said { IfOk result (λ host. host.opened ≡ true → IsAsSaid text.now host) }
+        ensures shut { IfOk result (λ host. host.opened ≡ false → host.journaled ≡ false) }
+        ensures faults { IfOk result (λ host. (host.wire ≡ 0) × (host.disk ≡ 0)) }
+    {
+        let lines = match read_host_file(alloc, text) {
+            Ok(lines) => lines,
+            Err(HostFault::NoMemory) => return Err(NoMemory),
+            Err(_) => return Ok(FileSocketHost::closed(rt)),
+        };
+        let rooms = Rooms::new(alloc, lines.as_slice())?;
+        let (ends, journal) = match open_all(&rt, lines.as_slice(), rooms) {
+            Ok((ends, journal)) => (Some(ends), journal),
+            Err(_) => (None, None),
+        };
+        Ok(FileSocketHost {
+            rt,
+            ends,
+            journal,
+            seconds: Seconds::new(),
+            left: events_in(lines.as_slice()),
+            wire_faults: 0,
+            disk_faults: 0,
+        })
+    }
+
+    /// A host of which every call fails.
+    fn closed(rt: R) -> FileSocketHost<R>
+        ensures shut { (result.opened ≡ false) × (result.journaled ≡ false) }
+        ensures faults { (result.wire ≡ 0) × (result.disk ≡ 0) }
+    {
+        FileSocketHost {
+            rt,
+            ends: None,
+            journal: None,
+            seconds: Seconds::new(),
+            left: None,
+            wire_faults: 0,
+            disk_faults: 0,
+        }
+    }
+
+    /// The port on which datagrams are received, or 0 where there is none.
+    pub fn signal_port(&self) -> u16 {
+        match &self.ends {
+            Some(ends) => ends.sockets().signal_port(),
+            None => 0,
+        }
+    }
+
+    /// The port on which connections are accepted, or 0 where there is none.
+    pub fn http_port(&self) -> u16 {
+        match &self.ends {
+            Some(ends) => ends.sockets().http_port(),
+            None => 0,
+        }
+    }
+
+    /// The next event, or None where the wire failed.
+    fn next_event(&mut self, into: &mut [u8]) -> Option<What>
+        requires { length into.old ≡ MAX_EVENT_BYTES }
+        ensures within { IfSome result (λ what. IsWithin what MAX_EVENT_BYTES) }
+        ensures event { IfSome result (λ what. OnFailed what ⊥) }
+        ensures kept { self.new ≡ record self.old { left = self.new.left } }
+        ensures shut { self.old.opened ≡ false → result ≡ None }
+        ensures ends { self.old.opened ≡ true → self.old.left ≡ Some 0 → result ≡ Some What.End }
+        ensures counted { IfSome result (λ _. self.new.left ≡ one_fewer self.old.left) }
+        ensures failed { result ≡ None → self.new.left ≡ self.old.left }
+    {
+        let Some(ends) = &mut self.ends else {
+            return None;
+        };
+        if self.left == Some(0) {
+            return Some(What::End);
+        }
+        match ends.next(&self.rt, into) {
+            Ok(what) => {
+                self.left = one_fewer(self.left);
+                Some(what)
+            }
+            Err(_) => None,
+        }
+    }
+
+    /// Counts a fault of the disk where a call wasn't done.
+    fn settle(&mut self, done: bool) -> Result<(), Failed>
+        ensures told { OnOk result (done ≡ true) }
+        ensures cause { HasCause self.old.disk self.new.disk result }
+        ensures kept { self.new ≡ record self.old { disk = self.new.disk } }
+    {
+        if done {
+            return Ok(());
+        }
+        self.disk_faults = self.disk_faults.saturating_add(1);
+        Err(Failed)
+    }
+}
+
+/// Binds the sockets and opens the journal that the lines name.
+fn open_all<R: Files<File = File> + Net>(
+    rt: &R,
+    lines: &[HostLine<'_>],
+    rooms: Rooms,
+) -> io::Result<(Ends, Option<Journal>)>
+    ensures { IfOk result (λ all. is_some all.1 ≡ has_journal (map line_value lines.now)) }
+{
+    let sockets = Sockets::bind(rt, lines)?;
+    let journal = open_journal(rt, journal_in(lines))?;
+    Ok((Ends::new(sockets, rooms), journal))
+}
+
+fn open_journal<R: Files<File = File>>(rt: &R, path: Option<&str>) -> io::Result<Option<Journal>>
+    ensures { IfOk result (λ journal. is_some journal ≡ is_some path.entry) }
+{
+    match path {
+        Some(path) => Ok(Some(Journal::open(rt, path)?)),
+        None => Ok(None),
+    }
+}
+
+/// One event fewer, where they are counted.
+fn one_fewer(left: Option<u64>) -> Option<u64>
+    ensures { result ≡ one_fewer left }
+{
+    left.map(|left| left.saturating_sub(1))
+}
+
+impl<R: Files<File = File> + Net + Clock + Drop> Wire for FileSocketHost<R> {
+    ghost acts = { λ _. None };
+
+    ghost moment = { λ _. 0 };
+
+    ghost faults = { λ host. host.wire };
+
+    ghost beside = { KeepsDisk };
+
+    ghost beside_same = { keeps_disk_same };
+
+    ghost beside_then = { keeps_disk_then };
+
+    ghost leads = { λ _ _. Unit {0} };
+
+    ghost leads_same = { λ _. tt };
+
+    ghost leads_then = { λ _ _ _ _ _. tt };
+
+    fn next(&mut self, into: &mut [u8]) -> Got
+        requires { length into.old ≡ MAX_EVENT_BYTES }
+        ensures at { result.at < 2 ^ 48 }
+        ensures within { IsWithin result.what MAX_EVENT_BYTES }
+        ensures acts { ⊤ }
+        ensures later { self.old.wire ≤ self.new.wire }
+        ensures cause { OnFailed result.what (Rose self.old.wire self.new.wire) }
+        ensures beside { KeepsDisk self.old self.new }
+        ensures leads { Unit {0} }
+
+        // A host that isn't open fails, and one to which no event is to come any more ends.
+        ensures shut { self.old.opened ≡ false → result.what ≡ What.Failed }
+        ensures ends { self.old.opened ≡ true → self.old.left ≡ Some 0 → result.what ≡ What.End }
+        // Where events are counted, each that is handed in is one fewer to come.
+        ensures counted { OnEvent result.what (self.new.left ≡ one_fewer self.old.left) }
+        ensures kept { OnFailed result.what (self.new.left ≡ self.old.left) }
+        ensures stays { (self.new.opened ≡ self.old.opened) × (self.new.journaled ≡ self.old.journaled) }
+        // A fault is counted where it failed alone.
+        ensures no_fault { OnEvent result.what (self.new.wire ≡ self.old.wire) }
+        // A time is never below the one before.
+        ensures time { (self.new.last ≡ result.at) × (self.old.last ≤ result.at) }
+    {
+        let what = self.next_event(into);
+        let at = self.seconds.read(&self.rt);
+        match what {
+            Some(what) => Got { what, at },
+            None => {
+                self.wire_faults = self.wire_faults.saturating_add(1);
+                Got {
+                    what: What::Failed,
+                    at,
+                }
+            }
+        }
+    }
+
+    fn send(&mut self, out: &Out) -> Sent
+        ensures acts { ⊤ }
+        ensures faults { self.new.wire ≡ self.old.wire }
+        ensures beside { KeepsDisk self.old self.new }
+        ensures leads { Unit {0} }
+
+        // A host that isn't open loses each send.
+        ensures closed { self.old.opened ≡ false → result ≡ Sent.Lost }
+        ensures kept { self.new ≡ self.old }
+    {
+        match &mut self.ends {
+            Some(ends) => ends.send(out),
+            None => Sent::Lost,
+        }
+    }
+}
+
+impl<R: Files<File = File> + Net + Clock + Drop> Disk for FileSocketHost<R> {
+    ghost media = { λ _. None };
+
+    ghost extent = { λ _. disk_bytes };
+
+    ghost faults = { λ host. host.disk };
+
+    ghost beside = { KeepsWire };
+
+    ghost beside_same = { keeps_wire_same };
+
+    ghost beside_then = { keeps_wire_then };
+
+    fn size(&self) -> u64 {
+        DISK_BYTES
+    }
+
+    fn read(&mut self, at: u64, into: &mut [u8]) -> Result<(), Failed>
+        requires { at + length into.old ≤ disk_bytes }
+        ensures bytes { OnOk result ⊤ }
+        ensures ok { OnOk result ⊤ }
+        ensures err { OnErr result ⊤ }
+        ensures extent { disk_bytes ≡ disk_bytes }
+        ensures cause { HasCause self.old.disk self.new.disk result }
+        ensures beside { KeepsWire self.old self.new }
+
+        // Without a journal it fails.
+        ensures no_journal { self.old.journaled ≡ false → OnOk result ⊥ }
+    {
+        let done = match &self.journal {
+            Some(journal) => journal.read(at, into).is_ok(),
+            None => false,
+        };
+        self.settle(done)
+    }
+
+    fn write_at(&mut self, at: u64, bytes: &[u8]) -> Result<(), Failed>
+        requires { at + length bytes.now ≤ disk_bytes }
+        ensures ok { OnOk result ⊤ }
+        ensures err { OnErr result ⊤ }
+        ensures extent { disk_bytes ≡ disk_bytes }
+        ensures cause { HasCause self.old.disk self.new.disk result }
+        ensures beside { KeepsWire self.old self.new }
+
+        // Without a journal it fails.
+        ensures no_journal { self.old.journaled ≡ false → OnOk result ⊥ }
+    {
+        let done = match &mut self.journal {
+            Some(journal) => journal.write(at, bytes).is_ok(),
+            None => false,
+        };
+        self.settle(done)
+    }
+
+    fn sync(&mut self) -> Result<(), Failed>
+        ensures ok { OnOk result ⊤ }
+        ensures err { OnErr result ⊤ }
+        ensures extent { disk_bytes ≡ disk_bytes }
+        ensures cause { HasCause self.old.disk self.new.disk result }
+        ensures beside { KeepsWire self.old self.new }
+
+        // Without a journal it fails.
+        ensures no_journal { self.old.journaled ≡ false → OnOk result ⊥ }
+    {
+        let done = match &self.journal {
+            Some(journal) => journal.sync().is_ok(),
+            None => false,
+        };
+        self.settle(done)
+    }
+}
+
+impl<R: Files<File = File> + Net + Clock + Drop> Host for FileSocketHost<R> {
+    ghost one_moment = { λ _. tt };
+
+    ghost disk_keeps = { λ _ _ keeps. (tt, ap (λ host. host.wire) keeps.kept, tt) };
+
+    ghost wire_keeps = { λ _ _ keeps. (tt, refl, keeps.disk) };
+}

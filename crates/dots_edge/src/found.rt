@@ -1,0 +1,51 @@
+//! The lines of which a host file has one.
+
+ghost use Rattle.std.specs.Prelude.{◌≡◌, map, is_some};
+ghost use Rattle.dots_edge.specs.HostLine.{line_value};
+ghost use Rattle.dots_edge.specs.Found.{events_in, has_journal};
+
+use crate::host_line::{Endpoint, HostLine};
+
+/// How many events the lines let come, where one says it.
+pub fn events_in(lines: &[HostLine<'_>]) -> Option<u64>
+    ensures { result ≡ events_in (map line_value lines.now) }
+{
+    for line in lines {
+        if let HostLine::Events { count } = line {
+            return Some(*count);
+        }
+    }
+    None
+}
+
+/// The path of the journal, where a line has one.
+pub fn journal_in<'a>(lines: &[HostLine<'a>]) -> Option<&'a str>
+    ensures { is_some result ≡ has_journal (map line_value lines.now) }
+{
+    for line in lines {
+        if let HostLine::Journal { path } = line {
+            return Some(*path);
+        }
+    }
+    None
+}
+
+/// Where datagrams come.
+pub fn signal_in(lines: &[HostLine<'_>]) -> Option<Endpoint> {
+    for line in lines {
+        if let HostLine::Signal { at } = line {
+            return Some(*at);
+        }
+    }
+    None
+}
+
+/// Where connections come.
+pub fn http_in(lines: &[HostLine<'_>]) -> Option<Endpoint> {
+    for line in lines {
+        if let HostLine::Http { at } = line {
+            return Some(*at);
+        }
+    }
+    None
+}

@@ -1,0 +1,50 @@
+ghost use Rattle.std.specs.Prelude.{◌≡◌};
+ghost use Rattle.dots_edge.specs.declared.host_fault.HostFault.TheVariants as fault;
+
+use std::alloc::{AllocError, AllocFailed};
+use std::error::Error;
+use std::fmt;
+
+/// Why a host file can't be used. Lines are counted from 1 on, those that are skipped too.
+#[derive(Clone, Copy, Debug, PartialEq, Eq)]
+pub enum HostFault {
+    /// The line has none of the forms.
+    Line { n: u64 },
+    /// What the line gives stands already: the journal, an endpoint, the number of events, or whose an address is.
+    Twice { n: u64 },
+    /// Memory ran out.
+    NoMemory,
+}
+
+impl fmt::Display for HostFault {
+    ghost use Rattle.std.specs.Prelude.{Some};
+    ghost use Rattle.dots_edge.specs.FaultText.{fault_text};
+
+    ghost output = { λ fault. Some (fault_text fault) };
+
+    fn fmt<W: fmt::Write>(&self, f: &mut fmt::Formatter<W>) -> fmt::Result {
+        match self {
+            HostFault::Line { n } => write!(f, "host file line {n}"),
+            HostFault::Twice { n } => write!(f, "host file twice {n}"),
+            HostFault::NoMemory => f.write_str("out of memory"),
+        }
+    }
+}
+
+impl Error for HostFault {}
+
+impl From<AllocError> for HostFault {
+    ghost from_gives = { λ _ made. made ≡ fault.NoMemory };
+
+    fn from(_: AllocError) -> Self {
+        HostFault::NoMemory
+    }
+}
+
+impl<T: Drop> From<AllocFailed<T>> for HostFault {
+    ghost from_gives = { λ _ made. made ≡ fault.NoMemory };
+
+    fn from(_: AllocFailed<T>) -> Self {
+        HostFault::NoMemory
+    }
+}

@@ -1,0 +1,62 @@
+//! From the bytes of a host file to what its lines say.
+
+ghost use Rattle.std.specs.Prelude.{◌≡◌, map, IfOk, IfErr, OnOk};
+ghost use Rattle.std.specs.List.{list_any};
+ghost use Rattle.line_fields.specs.Lines.{lines_of};
+ghost use Rattle.dots_edge.specs.HostLine.{line_value, same_thing};
+ghost use Rattle.dots_edge.specs.HostFile.{Stand, HasFault, IsRefused, Takes};
+
+use crate::host_fault::HostFault;
+use crate::host_line::{HostLine, same_thing};
+use crate::host_lines::parse_line;
+use line_fields::{is_skipped, split_line};
+use std::alloc::Global;
+
+/// What the lines of a host file say, in order, or the fault of the first line that has one. Empty lines and lines
+/// that begin with `#` are skipped.
+pub fn read_host_file(alloc: Global, file: &[u8]) -> Result<Vec<HostLine<'_>>, HostFault>
+    ensures ok { IfOk result (λ said. Stand (lines_of file.now) (map line_value said.items)) }
+    ensures refused { IfErr result (IsRefused file.now) }
+{
+    let mut said = Vec::new(alloc);
+    let mut number = 0;
+    let mut rest = file;
+    while let Some((line, behind)) = split_line(rest) {
+        number += 1;
+        if let Err(fault) = take_line(&mut said, number, line) {
+            return Err(fault);
+        }
+        rest = behind;
+    }
+    Ok(said)
+}
+
+/// Adds what the line of this number says to what the lines before it said.
+fn take_line<'a>(said: &mut Vec<HostLine<'a>>, number: u64, text: &'a [u8]) -> Result<(), HostFault>
+    ensures ok { OnOk result (Takes text.now (map line_value said.old.items) (map line_value said.new.items)) }
+    ensures refused { IfErr result (HasFault (map line_value said.old.items) number text.now) }
+{
+    if is_skipped(text) {
+        return Ok(());
+    }
+    let Some(line) = parse_line(text) else {
+        return Err(HostFault::Line { n: number });
+    };
+    if is_said(said.as_slice(), &line) {
+        return Err(HostFault::Twice { n: number });
+    }
+    said.push(line)?;
+    Ok(())
+}
+
+/// Whether one of the lines says the same thing.
+fn is_said(said: &[HostLine<'_>], line: &HostLine<'_>) -> bool
+    ensures { result ≡ list_any (λ other. same_thing other (line_value line.now)) (map line_value said.now) }
+{
+    for other in said {
+        if same_thing(other, line) {
+            return true;
+        }
+    }
+    false
+}
