@@ -1,0 +1,102 @@
+use Rattle.std.proofs.Common.{◌≡◌, ℕ, true, [], ◌∷◌, ◌++◌, sym, subst}
+use Rattle.dots_disk.specs.Becoming.{Leaves}
+use Rattle.dots_registry.specs.Standing.{time_of, number_remembered}
+use Rattle.slot_store.proofs.Steps.{leaves_then}
+use Rattle.dots_ledger.specs.Standing.{LedgerValue, StandsFor, joins_at}
+use Rattle.dots_ledger.specs.Crashes.{HoldsEither}
+use Rattle.dots_ledger.proofs.Answering.{ok_as, err_as, err_of}
+use Rattle.dots_ledger.proofs.Images.{leaves_compacting, leaves_appending}
+use Rattle.dots_ledger.proofs.ledger.Ledger.accept.Goals as goal
+
+pub returns-in_err-make_room-clause-moments : goal.returns-in_err-make_room-clause-moments
+returns-in_err-make_room-clause-moments g c = λ settings history entries stands joins rests.
+    leaves_compacting
+    (g.D.Disk.media c.args.disk.now)
+    (g.D.Disk.media c.make_room.new.disk)
+    c.args.self.now
+    settings
+    history
+    entries
+    c.args.staged
+    stands
+    (c.make_room.ensures.moments settings history entries stands rests)
+
+pub returns-in_err-make_room-clause-refused : goal.returns-in_err-make_room-clause-refused
+returns-in_err-make_room-clause-refused g c =
+    err_of
+    c.from_residual.result
+    _
+    (λ settings history entries stands. (entries, subst (λ (l : LedgerValue). StandsFor l settings history entries) (sym c.in_err-make_room.ensures.same) stands))
+
+pub append-requires-clause-can : goal.append-requires-clause-can
+append-requires-clause-can g c =
+    let can = c.requires.can in
+    let made = c.in_ok-make_room.ensures.compacted can.settings can.history can.entries can.stands in
+    record {
+      settings = can.settings;
+      history = can.history;
+      entries = made.0;
+      stands = made.1;
+      joins = subst (λ (t : ℕ). joins_at can.settings t can.history c.args.staged ≡ true) (sym c.make_room.ensures.time) can.joins;
+    }
+
+pub returns-clause-moments : goal.returns-clause-moments
+returns-clause-moments g c = λ settings history entries stands joins rests.
+    let start = g.D.Disk.media c.args.disk.now in
+    let mid = g.D.Disk.media c.make_room.new.disk in
+    let end = g.D.Disk.media c.append.new.disk in
+    let n = number_remembered c.args.self.now.registry in
+    let t = time_of c.args.self.now.registry in
+    let later = time_of c.make_room.new.self.registry in
+    let made = c.in_ok-make_room.ensures.compacted settings history entries stands in
+    leaves_then
+    start
+    mid
+    end
+    (HoldsEither settings n t history c.args.staged)
+    (leaves_compacting start mid c.args.self.now settings history entries c.args.staged stands (c.make_room.ensures.moments settings history entries stands rests))
+    (subst
+    (λ (u : ℕ). Leaves mid end (HoldsEither settings n u history c.args.staged))
+    c.make_room.ensures.time
+    (subst
+    (λ (k : ℕ). Leaves mid end (HoldsEither settings k later history c.args.staged))
+    c.make_room.ensures.number
+    (leaves_appending
+    mid
+    end
+    c.make_room.new.self
+    settings
+    history
+    made.0
+    c.args.staged
+    made.1
+    (subst (λ (u : ℕ). joins_at settings u history c.args.staged ≡ true) (sym c.make_room.ensures.time) joins)
+    (c.append.ensures.moments settings history made.0 made.1 (made.2 rests)))))
+
+pub returns-clause-accepted : goal.returns-clause-accepted
+returns-clause-accepted g c =
+    ok_as
+    c.append.result
+    _
+    _
+    (λ goes settings history entries stands joins.
+    let made = c.in_ok-make_room.ensures.compacted settings history entries stands in
+    let end = goes
+    settings
+    history
+    made.0
+    made.1
+    (subst (λ (u : ℕ). joins_at settings u history c.args.staged ≡ true) (sym c.make_room.ensures.time) joins) in
+    (made.0 ++ c.args.staged ∷ [], end.0, λ rests. end.1 (made.2 rests)))
+    c.append.ensures.appended
+
+pub returns-clause-refused : goal.returns-clause-refused
+returns-clause-refused g c =
+    err_as
+    c.append.result
+    _
+    _
+    (λ same settings history entries stands.
+    let made = c.in_ok-make_room.ensures.compacted settings history entries stands in
+    (made.0, subst (λ (l : LedgerValue). StandsFor l settings history made.0) (sym same) made.1))
+    c.append.ensures.same

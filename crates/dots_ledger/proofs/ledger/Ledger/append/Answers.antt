@@ -1,0 +1,80 @@
+use Rattle.std.proofs.Common.{◌≡◌, ℕ, List, [], ◌∷◌, ◌++◌, true, sym, ap, subst, ◌∙◌, arith}
+use Rattle.dots_disk.specs.Becoming.{Leaves, RestsWith}
+use Rattle.dots_history.specs.declared.entry.Entry.{Entry}
+use Rattle.dots_registry.specs.Standing.{time_of}
+use Rattle.slot_store.specs.Standing.{JournalValue}
+use Rattle.slot_journal.specs.Held as journal
+use Rattle.dots_ledger.specs.Standing.{LedgerValue, StandsFor, CanAccept, joins_at}
+use Rattle.dots_ledger.specs.Crashes.{HoldsOne}
+use Rattle.dots_ledger.proofs.Standing.{most_same, fits_in, stands_more}
+use Rattle.dots_ledger.proofs.ledger.Ledger.append.Goals as goal
+
+pub apply-requires : goal.apply-requires
+apply-requires g c =
+    let can = subst (λ (l : LedgerValue). CanAccept l c.args.staged) (sym c.self.view_is) c.requires.can in
+    fits_in (record { registry = c.self.inside.registry; journal = c.self.inside.journal }) can.settings can.history can.entries c.args.staged can.stands can.joins
+
+pub returns-clause-moments : goal.returns-clause-moments
+returns-clause-moments g c = λ settings history entries stands rests.
+    subst
+    (λ (e : Entry). Leaves (g.D.Disk.media c.args.disk.now) (g.D.Disk.media c.append.new.disk) (HoldsOne settings entries (entries ++ e ∷ [])))
+    c.entry.ensures
+    (c.append.ensures.moments settings entries
+    (subst (λ (l : LedgerValue). RestsWith (g.D.Disk.media c.args.disk.now) (journal.StandsFor l.journal settings entries)) (sym c.self.view_is) rests))
+
+pub invariant_of-self-2 : goal.invariant_of-self-2
+invariant_of-self-2 g c =
+    let can = subst (λ (l : LedgerValue). CanAccept l c.args.staged) (sym c.self.view_is) c.requires.can in
+    let most = most_same can.settings c.self.inside.registry c.apply.new.self can.stands.is_of (c.apply.ensures.settings can.settings can.stands.is_of) in
+    let room = c.self.invariant.1 in (
+      record {
+        settings = can.settings;
+        history = can.history ++ c.args.staged ∷ [];
+        entries = can.entries ++ c.args.staged ∷ [];
+        stands = stands_more
+            c.in_ok-slot.slot
+            c.args.staged
+            (record { registry = c.self.inside.registry; journal = c.self.inside.journal })
+            (record { registry = c.apply.new.self; journal = c.append.new.self })
+            (ap (λ (j : JournalValue). j.used) c.in_ok-slot.ensures.next)
+            (ap (λ (j : JournalValue). j.slots) c.in_ok-slot.ensures.next)
+            c.in_ok-slot.ensures.slot
+            c.apply.ensures.time
+            c.apply.ensures.stands
+            c.apply.ensures.filed
+            c.apply.ensures.settings
+            can.settings
+            can.history
+            can.entries
+            can.stands
+            can.joins;
+      },
+      omega (arith, most, room),
+    )
+
+pub returns-clause-appended : goal.returns-clause-appended
+returns-clause-appended g c = λ settings history entries stands joins. (
+  stands_more
+      c.in_ok-slot.slot
+      c.args.staged
+      (record { registry = c.self.inside.registry; journal = c.self.inside.journal })
+      (record { registry = c.apply.new.self; journal = c.append.new.self })
+      (ap (λ (j : JournalValue). j.used) c.in_ok-slot.ensures.next)
+      (ap (λ (j : JournalValue). j.slots) c.in_ok-slot.ensures.next)
+      c.in_ok-slot.ensures.slot
+      c.apply.ensures.time
+      c.apply.ensures.stands
+      c.apply.ensures.filed
+      c.apply.ensures.settings
+      settings
+      history
+      entries
+      (subst (λ (l : LedgerValue). StandsFor l settings history entries) (sym c.self.view_is) stands)
+      (subst (λ (l : LedgerValue). joins_at settings (time_of l.registry) history c.args.staged ≡ true) (sym c.self.view_is) joins),
+  λ rests.
+      subst
+      (λ (e : Entry). RestsWith (g.D.Disk.media c.append.new.disk) (journal.StandsFor c.append.new.self settings (entries ++ e ∷ [])))
+      c.entry.ensures
+      (c.in_ok-slot.ensures.rests settings entries
+      (subst (λ (l : LedgerValue). RestsWith (g.D.Disk.media c.args.disk.now) (journal.StandsFor l.journal settings entries)) (sym c.self.view_is) rests)),
+)

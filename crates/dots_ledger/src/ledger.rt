@@ -1,0 +1,174 @@
+//! The journal and the registry, side by side.
+
+ghost use Rattle.std.specs.Prelude.{◌≡◌, ◌<◌, ◌≤◌, ◌++◌, ◌∷◌, [], true, List, OnOk, OnErr};
+ghost use Rattle.dots_disk.specs.Becoming.{Leaves, RestsWith};
+ghost use Rattle.dots_host.specs.Causes.{HasCause};
+ghost use Rattle.dots_history.specs.declared.entry.Entry.{Entry};
+ghost use Rattle.dots_history.specs.Keeping.{kept};
+ghost use Rattle.dots_settings.specs.Settings.{SettingsValue};
+ghost use Rattle.live_mitigations.specs.Ends.{never};
+ghost use Rattle.dots_registry.specs.Standing.{time_of, number_remembered};
+ghost use Rattle.slot_store.specs.Layout.{needed_of};
+ghost use Rattle.slot_journal.specs.Held as journal;
+ghost use Rattle.dots_ledger.specs.Standing.{StandsFor, CanAccept, joins_at};
+ghost use Rattle.dots_ledger.specs.Crashes.{HoldsEither, HoldsOne};
+
+use dots_disk::Disk;
+use dots_history::SlotList;
+use dots_registry::Registry;
+use installed_filters::Staged;
+use slot_journal::{DiskFault, Journal};
+use std::marker::Model;
+
+/// The journal of what was accepted, and its tables.
+#[derive(Drop)]
+pub struct Ledger {
+    registry: Registry,
+    journal: Journal,
+    keep: SlotList,
+}
+
+impl Model for Ledger {
+    ghost use Rattle.std.specs.Prelude.{◌≤◌};
+    ghost use Rattle.dots_registry.specs.Filed.{most_kept};
+    ghost use Rattle.dots_ledger.specs.Standing.{LedgerValue, IsStanding};
+
+    ghost Value = { LedgerValue };
+
+    ghost view = { λ ledger. record { registry = ledger.registry; journal = ledger.journal } };
+
+    ghost invariant = { λ ledger. IsStanding (record { registry = ledger.registry; journal = ledger.journal }) × (most_kept ledger.registry ≤ ledger.keep.room) };
+}
+
+impl Ledger {
+    /// The tables.
+    pub fn registry(&self) -> &Registry
+        ensures { result.now ≡ self.now.registry }
+    {
+        &self.registry
+    }
+
+    /// Moves the time, in seconds, below 2^64 - 1, and takes out of the tables what is over then. The disk stays as it is.
+    pub fn tick(&mut self, now: u64)
+        requires later { time_of self.old.registry ≤ now }
+        requires bounded { now < never }
+        ensures stands { (settings : SettingsValue) (history entries : List Entry) → StandsFor self.old settings history entries
+            → StandsFor self.new settings history entries }
+        ensures time { time_of self.new.registry ≡ now }
+        ensures journal { self.new.journal ≡ self.old.journal }
+    {
+        self.registry.tick(now);
+    }
+
+    /// Accepts an entry that keeps the history calm: it is appended to the journal, and then it is in the tables. Where no slot is free,
+    /// the journal is compacted before. It takes no memory.
+    ///
+    /// # Errors
+    ///
+    /// `DiskFault` where the disk's count of faults rose. The tables don't have the entry then. The ledger isn't used again after
+    /// it, and the disk is recovered.
+    pub fn accept<D: Disk>(&mut self, disk: &mut D, staged: Staged) -> Result<(), DiskFault>
+        requires size { needed_of self.old.journal.slots ≤ D.extent disk.old }
+        requires can { CanAccept self.old staged }
+
+        // At each moment each image holds what has the view of the history, or of the history with the entry.
+        ensures moments { (settings : SettingsValue) (history entries : List Entry) → StandsFor self.old settings history entries
+            → joins_at settings (time_of self.old.registry) history staged ≡ true
+            → RestsWith (D.media disk.old) (journal.StandsFor self.old.journal settings entries)
+            → Leaves (D.media disk.old) (D.media disk.new) (HoldsEither settings (number_remembered self.old.registry) (time_of self.old.registry) history staged) }
+
+        // In the end it stands for the history with the entry, and the disk rests with what it then stands for.
+        ensures accepted { OnOk result ((settings : SettingsValue) (history entries : List Entry) → StandsFor self.old settings history entries
+            → joins_at settings (time_of self.old.registry) history staged ≡ true
+            → (few : List Entry) × StandsFor self.new settings (history ++ staged ∷ []) few
+            × (RestsWith (D.media disk.old) (journal.StandsFor self.old.journal settings entries)
+            → RestsWith (D.media disk.new) (journal.StandsFor self.new.journal settings few))) }
+        ensures refused { OnErr result ((settings : SettingsValue) (history entries : List Entry) → StandsFor self.old settings history entries
+            → (few : List Entry) × StandsFor self.new settings history few) }
+
+        ensures time { OnOk result (time_of self.new.registry ≡ staged.time) }
+        ensures slots { self.new.journal.slots ≡ self.old.journal.slots }
+        ensures extent { D.extent disk.new ≡ D.extent disk.old }
+        ensures cause { HasCause (D.faults disk.old) (D.faults disk.new) result }
+        ensures beside { D.beside disk.old disk.new }
+    {
+        self.make_room(disk)?;
+        self.append(disk, staged)
+    }
+
+    /// Compacts the journal where no slot is free.
+    fn make_room<D: Disk>(&mut self, disk: &mut D) -> Result<(), DiskFault>
+        requires size { needed_of self.old.journal.slots ≤ D.extent disk.old }
+        ensures moments { (settings : SettingsValue) (history entries : List Entry) → StandsFor self.old settings history entries
+            → RestsWith (D.media disk.old) (journal.StandsFor self.old.journal settings entries)
+            → Leaves (D.media disk.old) (D.media disk.new) (HoldsOne settings entries (kept (number_remembered self.old.registry) (time_of self.old.registry) entries)) }
+        ensures compacted { OnOk result ((settings : SettingsValue) (history entries : List Entry) → StandsFor self.old settings history entries
+            → (few : List Entry) × StandsFor self.new settings history few
+            × (RestsWith (D.media disk.old) (journal.StandsFor self.old.journal settings entries)
+            → RestsWith (D.media disk.new) (journal.StandsFor self.new.journal settings few))) }
+        ensures room { OnOk result (self.new.journal.used < self.new.journal.slots) }
+        ensures same { OnErr result (self.new ≡ self.old) }
+        ensures time { time_of self.new.registry ≡ time_of self.old.registry }
+        ensures number { number_remembered self.new.registry ≡ number_remembered self.old.registry }
+        ensures slots { self.new.journal.slots ≡ self.old.journal.slots }
+        ensures extent { D.extent disk.new ≡ D.extent disk.old }
+        ensures cause { HasCause (D.faults disk.old) (D.faults disk.new) result }
+        ensures beside { D.beside disk.old disk.new }
+    {
+        if self.journal.used() < self.journal.slots() {
+            return Ok(());
+        }
+        self.compact(disk)
+    }
+
+    /// Keeps in the journal what the view names alone.
+    fn compact<D: Disk>(&mut self, disk: &mut D) -> Result<(), DiskFault>
+        requires size { needed_of self.old.journal.slots ≤ D.extent disk.old }
+        ensures moments { (settings : SettingsValue) (history entries : List Entry) → StandsFor self.old settings history entries
+            → RestsWith (D.media disk.old) (journal.StandsFor self.old.journal settings entries)
+            → Leaves (D.media disk.old) (D.media disk.new) (HoldsOne settings entries (kept (number_remembered self.old.registry) (time_of self.old.registry) entries)) }
+        ensures compacted { OnOk result ((settings : SettingsValue) (history entries : List Entry) → StandsFor self.old settings history entries
+            → StandsFor self.new settings history (kept (number_remembered self.old.registry) (time_of self.old.registry) entries)
+            × (RestsWith (D.media disk.old) (journal.StandsFor self.old.journal settings entries)
+            → RestsWith (D.media disk.new) (journal.StandsFor self.new.journal settings (kept (number_remembered self.old.registry) (time_of self.old.registry) entries)))) }
+        ensures room { OnOk result (self.new.journal.used < self.new.journal.slots) }
+        ensures same { OnErr result (self.new ≡ self.old) }
+        ensures time { time_of self.new.registry ≡ time_of self.old.registry }
+        ensures number { number_remembered self.new.registry ≡ number_remembered self.old.registry }
+        ensures slots { self.new.journal.slots ≡ self.old.journal.slots }
+        ensures extent { D.extent disk.new ≡ D.extent disk.old }
+        ensures cause { HasCause (D.faults disk.old) (D.faults disk.new) result }
+        ensures beside { D.beside disk.old disk.new }
+    {
+        self.keep.clear();
+        self.registry.kept(&mut self.keep);
+        self.journal.compact(disk, self.keep.items())?;
+        self.registry.moved(self.keep.items());
+        Ok(())
+    }
+
+    /// Appends the entry, for which a slot is free, and takes it into the tables.
+    fn append<D: Disk>(&mut self, disk: &mut D, staged: Staged) -> Result<(), DiskFault>
+        requires size { needed_of self.old.journal.slots ≤ D.extent disk.old }
+        requires room { self.old.journal.used < self.old.journal.slots }
+        requires can { CanAccept self.old staged }
+        ensures moments { (settings : SettingsValue) (history entries : List Entry) → StandsFor self.old settings history entries
+            → RestsWith (D.media disk.old) (journal.StandsFor self.old.journal settings entries)
+            → Leaves (D.media disk.old) (D.media disk.new) (HoldsOne settings entries (entries ++ staged ∷ [])) }
+        ensures appended { OnOk result ((settings : SettingsValue) (history entries : List Entry) → StandsFor self.old settings history entries
+            → joins_at settings (time_of self.old.registry) history staged ≡ true
+            → StandsFor self.new settings (history ++ staged ∷ []) (entries ++ staged ∷ [])
+            × (RestsWith (D.media disk.old) (journal.StandsFor self.old.journal settings entries)
+            → RestsWith (D.media disk.new) (journal.StandsFor self.new.journal settings (entries ++ staged ∷ [])))) }
+        ensures same { OnErr result (self.new ≡ self.old) }
+        ensures time { OnOk result (time_of self.new.registry ≡ staged.time) }
+        ensures slots { self.new.journal.slots ≡ self.old.journal.slots }
+        ensures extent { D.extent disk.new ≡ D.extent disk.old }
+        ensures cause { HasCause (D.faults disk.old) (D.faults disk.new) result }
+        ensures beside { D.beside disk.old disk.new }
+    {
+        let slot = self.journal.append(disk, staged.entry())?;
+        self.registry.apply(staged, slot);
+        Ok(())
+    }
+}
