@@ -1,5 +1,5 @@
 -- What becomes of a domain depends on its own entries alone.
-use Rattle.std.proofs.Common.{◌≡◌, ◌≢◌, ◌⊎◌, ◌==◌, ℕ, Bool, true, false, cond, List, [], ◌∷◌, ◌++◌, filter, max, Option, Some, None, inl, inr, refl, sym, ap, ◌∙◌, subst, arith, append-nil}
+use Rattle.std.proofs.Common.{◌≡◌, ◌≢◌, ◌⊎◌, ◌==◌, ℕ, Bool, true, false, cond, List, [], ◌∷◌, ◌++◌, max, Option, Some, None, inl, inr, refl, sym, ap, ◌∙◌, subst, arith, append-nil}
 use Rattle.std.proofs.lemmas.Bool.Decides.{nat_tests}
 use Rattle.std.specs.List.{list_any}
 use Rattle.std.proofs.lemmas.List.Elements.{filter-append}
@@ -10,7 +10,6 @@ use Rattle.dots_host.specs.Runs.{outs_of, each_telling}
 use Rattle.dots_host.proofs.RunLemmas.{outs_back}
 use Rattle.dots_settings.specs.Settings.{SettingsValue}
 use Rattle.dots_settings.specs.Lookups.{role_of, prefixes_of}
-use Rattle.dots_history.specs.declared.entry.Entry.{Entry}
 use Rattle.dots_history.specs.Histories.{alone}
 use Rattle.dots_heads.specs.declared.request.Content.{Content}
 use Rattle.dots_heads.specs.declared.request.MitigationPath.{MitigationPath}
@@ -19,18 +18,18 @@ use Rattle.dots_keys.specs.declared.request.Request.TheVariants as request
 use Rattle.dots_keys.specs.declared.request.MitigationBody.{MitigationBody}
 use Rattle.judged_entries.proofs.Alone.{judged_apart, collides_apart, shown_apart}
 use Rattle.dots_machine.specs.declared.exchange.Exchange.{Exchange}
-use Rattle.dots_machine.specs.declared.received.Received.{Received}
 use Rattle.dots_machine.specs.declared.received.Received.TheVariants as received
 use Rattle.dots_machine.specs.declared.client_request.ClientRequest.{ClientRequest}
 use Rattle.dots_machine.specs.declared.mitigation_request.MitigationRequest.{MitigationRequest}
 use Rattle.dots_machine.specs.declared.verdict.Verdict.{Verdict}
 use Rattle.dots_machine.specs.declared.verdict.Verdict.TheVariants as verdict
-use Rattle.dots_machine.specs.Domains.{is_gateway, domain_for}
+use Rattle.dots_machine.specs.Domains.{domain_for}
 use Rattle.dots_machine.specs.Targets.{scope_fault}
-use Rattle.dots_machine.specs.Requests.{IsReceived}
-use Rattle.dots_machine.specs.Mitigations.{request_of, judged, unless_faulty, put_verdict, is_taken, lives, stands_as, delete_by, delete_verdict, get_by, get_verdict}
-use Rattle.dots_machine.specs.Machine.{State, later, in_domain, asks_for, with_mid, put_in, put_for, delete_for, get_for, asked_verdict, verdict_on, LacksMemory, Decides, by_silence, by_rules, for_want_of_memory, sends_of, after, Answers, Step}
+use Rattle.dots_machine.specs.Mitigations.{request_of, judged, lives}
+use Rattle.dots_machine.specs.Machine.{State, later, asks_for, DecidesRequest, Rules, Decides, by_silence, by_rules, for_want_of_memory, sends_of, after, Answers, Step}
+use Rattle.dots_machine.specs.Verdicts.{unless_faulty, put_verdict, is_taken, stands_as, delete_by, delete_verdict, get_by, get_verdict, in_domain, with_mid, put_in, put_for, delete_for, get_for, asked_verdict}
 use Rattle.dots_machine.specs.Apart.{SameFor, path_of, AsksFor, by_datagram, StaysApart, elsewhere, same_step}
+use Rattle.dots_machine.proofs.Verdicts.{request_valued, request_there}
 use Rattle.dots_machine.proofs.Outcomes.{AcceptsWell, puts_accept, deletes_accept, gets_accept}
 
 module _ (settings : SettingsValue) where
@@ -47,10 +46,10 @@ module _ (settings : SettingsValue) where
     }
 
     -- the verdict leaves the entries of the domain as they were
-    abbrev Untouched : Verdict → Type 0
+    abbrev pub Untouched : Verdict → Type 0
     Untouched v = alone domain (after v one).history ≡ alone domain one.history
 
-    untouched : (another : ℕ) (v : Verdict) → another ≢ domain → AcceptsWell another v → Untouched v
+    pub untouched : (another : ℕ) (v : Verdict) → another ≢ domain → AcceptsWell another v → Untouched v
     untouched another verdict.Silent there well = refl
     untouched another (verdict.Reply reply) there well = refl
     untouched another (verdict.Told reply) there well = refl
@@ -99,7 +98,7 @@ module _ (settings : SettingsValue) where
 
     -- ---- of two requests
 
-    abbrev Elsewhere : Request → ℕ → Verdict → Type 0
+    abbrev pub Elsewhere : Request → ℕ → Verdict → Type 0
     Elsewhere r peer v =
         (another : ℕ) × (another ≢ domain)
         × ((path : MitigationPath) × (path_of r ≡ Some path) × (domain_for settings (role_of settings peer) path.cdid ≡ Some another)) × Untouched v
@@ -117,7 +116,7 @@ module _ (settings : SettingsValue) where
             let apart : d ≢ domain = grind (arith, nat_tests, there) in
             inl (d, apart, (path, asks, is), untouched d (f d) apart (well d))
 
-    asked_apart : (peer : ℕ) (x : Exchange) (r : Request) → Elsewhere r peer (asked_verdict settings one peer x r) ⊎ (asked_verdict settings one peer x r ≡ asked_verdict settings other peer x r)
+    pub asked_apart : (peer : ℕ) (x : Exchange) (r : Request) → Elsewhere r peer (asked_verdict settings one peer x r) ⊎ (asked_verdict settings one peer x r ≡ asked_verdict settings other peer x r)
     asked_apart peer x (request.PutMitigation path body) =
         in_domain_apart peer x (request.PutMitigation path body) path (domain_for settings (role_of settings peer) path.cdid)
         (put_for settings one peer x path body) (put_for settings other peer x path body) refl refl (puts_accept settings one peer x path body)
@@ -156,10 +155,13 @@ module _ (settings : SettingsValue) where
           by_decision (by_rules n (received.Refused x e) got is) = inr (also_there a.0 a.2 a.3 (by_rules n (received.Refused x e) got is))
           by_decision (by_rules n (received.Asked x r) got is) = joined (asked_apart peer x r)
             where
+              there : asked_verdict settings one peer x r ≡ asked_verdict settings other peer x r → Rules settings other peer (received.Asked x r) a.0
+              there alike = subst (DecidesRequest settings other peer x r) (sym (request_valued settings one peer x r a.0 is ∙ alike)) (request_there settings other peer x r)
+
               joined : Elsewhere r peer (asked_verdict settings one peer x r) ⊎ (asked_verdict settings one peer x r ≡ asked_verdict settings other peer x r) → ForAnother ⊎ AlsoThere
               joined (inl (another, there, (path, asks, found), none)) =
-                  inl (another, there, by_datagram peer datagram x r path refl got asks found, ap (λ state. alone domain state.history) (a.3 ∙ ap (λ v. after v one) is) ∙ none)
-              joined (inr alike) = inr (also_there a.0 a.2 a.3 (by_rules n (received.Asked x r) got (is ∙ alike)))
+                  inl (another, there, by_datagram peer datagram x r path refl got asks found, ap (λ state. alone domain state.history) (a.3 ∙ ap (λ v. after v one) (request_valued settings one peer x r a.0 is)) ∙ none)
+              joined (inr alike) = inr (also_there a.0 a.2 a.3 (by_rules n (received.Asked x r) got (there alike)))
 
   module _ (domain : ℕ) (old other : State) (same : SameFor domain old other) (at : ℕ) (new : State) where
     moved : SameFor domain (later old at) (later other at)

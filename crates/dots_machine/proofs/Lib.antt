@@ -3,3 +3,11 @@ pub mod OneAnswer
 pub mod OneRequest
 pub mod OneState
 pub mod Outcomes
+pub mod Verdicts
+pub mod Turns
+pub mod Adding
+pub mod Isolation
+pub mod Meeting
+pub mod Orderly
+pub mod Ordering
+pub mod Laws

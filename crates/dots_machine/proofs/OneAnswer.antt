@@ -1,5 +1,5 @@
 -- Any two steps of one state on one event are one, but for want of memory.
-use Rattle.std.proofs.Common.{◌≡◌, ◌⊎◌, inl, inr, ℕ, ◌+◌, ◌<◌, ◌^◌, Bool, true, false, List, [], ◌∷◌, ◌++◌, length, get_or, refl, sym, ◌∙◌, ap, subst, arith}
+use Rattle.std.proofs.Common.{◌≡◌, ◌⊎◌, inl, inr, ℕ, ◌+◌, ◌<◌, Bool, true, false, List, [], ◌∷◌, ◌++◌, length, sym, ◌∙◌, ap, subst, arith}
 use Rattle.std.proofs.lemmas.List.{get_or-append-add, length-append}
 use Rattle.std.proofs.lemmas.Bool.{false≢true}
 use Rattle.dots_host.specs.declared.event.Event.{Event}
@@ -14,9 +14,11 @@ use Rattle.dots_settings.specs.Settings.{SettingsValue}
 use Rattle.dots_machine.specs.declared.verdict.Verdict.{Verdict}
 use Rattle.dots_settings.specs.Lookups.{role_of}
 use Rattle.dots_machine.specs.Domains.{is_gateway}
-use Rattle.dots_machine.specs.Machine.{State, later, is_stranger, verdict_on, LacksMemory, Decides, by_silence, by_rules, for_want_of_memory, sends_of, after, Answers, Step}
+use Rattle.dots_machine.specs.Machine.{State, later, is_stranger, LacksMemory, Decides, by_silence, by_rules, for_want_of_memory, sends_of, after, Answers, Step}
 use Rattle.dots_machine.specs.Answering.{AreBytes, IsHandedIn, SaysUnavailable, IsUnavailable}
+use Rattle.dots_machine.specs.Verdicts.{verdict_on}
 use Rattle.dots_machine.proofs.OneRequest.{one_received}
+use Rattle.dots_machine.proofs.Verdicts.{valued}
 
 -- ---- the payload is a part of the datagram
 
@@ -54,7 +56,7 @@ module _ (settings : SettingsValue) (state : State) (peer : ℕ) (datagram : Lis
   abbrev gateway : Bool
   gateway = is_gateway (role_of settings peer)
 
-  one_verdict : (v w : Verdict) → Decides settings state peer datagram v → Decides settings state peer datagram w
+  pub one_verdict : (v w : Verdict) → Decides settings state peer datagram v → Decides settings state peer datagram w
       → (v ≡ w) ⊎ (LacksMemory datagram gateway v ⊎ LacksMemory datagram gateway w)
   one_verdict v w (for_want_of_memory n lacks) e = inr (inl lacks)
   one_verdict v w (by_silence n is) (for_want_of_memory m lacks) = inr (inr lacks)
@@ -63,9 +65,10 @@ module _ (settings : SettingsValue) (state : State) (peer : ℕ) (datagram : Lis
   one_verdict v w (by_silence n is) (by_rules m got received at) = absurd (true_false (is_stranger (role_of settings peer)) n m)
   one_verdict v w (by_rules n got received is) (by_silence m at) = absurd (true_false (is_stranger (role_of settings peer)) m n)
   one_verdict v w (by_rules n got received is) (by_rules m other also at) =
-      inl (is ∙ ap (verdict_on settings state peer) (one_received datagram gateway got other (λ message spelled. reads_once message.payload (payload_are_bytes datagram message spelled are)) received also) ∙ sym at)
+      inl (valued settings state peer got v is ∙ ap (verdict_on settings state peer) (one_received datagram gateway got other (λ message spelled. reads_once message.payload (payload_are_bytes datagram message spelled are)) received also)
+      ∙ sym (valued settings state peer other w at))
 
-  says : (v : Verdict) (sends : List OwnedOut) → sends ≡ sends_of v peer → LacksMemory datagram gateway v → SaysUnavailable peer datagram sends
+  pub says : (v : Verdict) (sends : List OwnedOut) → sends ≡ sends_of v peer → LacksMemory datagram gateway v → SaysUnavailable peer datagram sends
   says v sends is lacks = record { message = lacks.message; spelled = lacks.spelled; sent = is ∙ ap (λ v. sends_of v peer) lacks.answer }
 
   pub answered : (sends others : List OwnedOut) (new last : State) → Answers settings state peer datagram sends new → Answers settings state peer datagram others last

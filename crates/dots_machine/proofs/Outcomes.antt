@@ -1,5 +1,5 @@
 -- Of what is accepted the client is told with a success, 2.01, 2.02 or 2.04; of what is refused, or can't be served, never.
-use Rattle.std.proofs.Common.{◌≡◌, ℕ, ◌==◌, Bool, true, false, ◌||◌, List, [], ◌∷◌, Option, Some, None, Result, Ok, Err, refl}
+use Rattle.std.proofs.Common.{◌≡◌, ℕ, ◌==◌, Bool, true, false, ◌||◌, List, [], ◌∷◌, Option, Some, None, Result, Ok, Err, refl, sym, ap, ◌∙◌, subst}
 use Rattle.std.specs.List.{list_any}
 use Rattle.coap_message.specs.declared.kind.Kind.{Kind}
 use Rattle.coap_message.specs.declared.kind.Kind.TheVariants.{Con, Non, Ack, Rst}
@@ -30,8 +30,10 @@ use Rattle.dots_machine.specs.declared.verdict.Verdict.TheVariants as verdict
 use Rattle.dots_machine.specs.Domains.{domain_for}
 use Rattle.dots_machine.specs.Targets.{scope_fault}
 use Rattle.dots_machine.specs.Replies.{grant_code, rejection}
-use Rattle.dots_machine.specs.Mitigations.{request_of, refusal, judged, unless_faulty, put_verdict, is_taken, lives, stands_as, delete_by, delete_verdict, tell, get_by, get_verdict}
-use Rattle.dots_machine.specs.Machine.{State, in_domain, asks_for, with_mid, put_in, put_for, delete_for, get_for, asked_verdict, option_verdict, reject_verdict, dismissal_verdict, verdict_on}
+use Rattle.dots_machine.specs.Mitigations.{request_of, refusal, judged, lives, tell}
+use Rattle.dots_machine.specs.Machine.{State, asks_for, option_verdict, reject_verdict, dismissal_verdict}
+use Rattle.dots_machine.specs.Apart.{path_of}
+use Rattle.dots_machine.specs.Verdicts.{unless_faulty, put_verdict, is_taken, stands_as, delete_by, delete_verdict, get_by, get_verdict, in_domain, with_mid, put_in, put_for, delete_for, get_for, asked_verdict, verdict_on}
 
 abbrev pub code_of : List ℕ → ℕ
 code_of (first ∷ code ∷ bytes) = code
@@ -136,6 +138,29 @@ module _ (settings : SettingsValue) (state : State) where
 
     pub gets_accept : (path : MitigationPath) (content : Content) (domain : ℕ) → AcceptsWell domain (get_for state peer x path content domain)
     gets_accept path content domain = get_accepts (asks_for peer x path domain) path.mid content
+
+  same_path : (p path : MitigationPath) → Some p ≡ Some path → p ≡ path
+  same_path p path e = cc
+
+  -- on a request for a domain
+  in_domain_accepts : (x : Exchange) (found : Option ℕ) (domain : ℕ) (f : ℕ → Verdict) → ((d : ℕ) → AcceptsWell d (f d)) → found ≡ Some domain → AcceptsWell domain (in_domain x found f)
+  in_domain_accepts x found domain f each is = subst (λ found. AcceptsWell domain (in_domain x found f)) (sym is) (each domain)
+
+  pub request_accepts : (peer : ℕ) (x : Exchange) (r : Request) (domain : ℕ) (path : MitigationPath) → path_of r ≡ Some path → domain_for settings (role_of settings peer) path.cdid ≡ Some domain
+      → AcceptsWell domain (asked_verdict settings state peer x r)
+  request_accepts peer x (request.PutMitigation p body) domain path asks found =
+      in_domain_accepts x (domain_for settings (role_of settings peer) p.cdid) domain (put_for settings state peer x p body) (puts_accept peer x p body)
+      (ap (λ (p : MitigationPath). domain_for settings (role_of settings peer) p.cdid) (same_path p path asks) ∙ found)
+  request_accepts peer x (request.GetMitigation p content observe) domain path asks found =
+      in_domain_accepts x (domain_for settings (role_of settings peer) p.cdid) domain (get_for state peer x p content) (gets_accept peer x p content)
+      (ap (λ (p : MitigationPath). domain_for settings (role_of settings peer) p.cdid) (same_path p path asks) ∙ found)
+  request_accepts peer x (request.DeleteMitigation p) domain path asks found =
+      in_domain_accepts x (domain_for settings (role_of settings peer) p.cdid) domain (delete_for state peer x p) (deletes_accept peer x p)
+      (ap (λ (p : MitigationPath). domain_for settings (role_of settings peer) p.cdid) (same_path p path asks) ∙ found)
+  request_accepts peer x (request.PutConfig sid body) domain path asks found = tt
+  request_accepts peer x (request.GetConfig sid) domain path asks found = tt
+  request_accepts peer x (request.DeleteConfig sid) domain path asks found = tt
+  request_accepts peer x (request.PutHeartbeat heard) domain path asks found = tt
 
   -- where it accepts it tells a success
   abbrev pub SucceedsWell : Verdict → Type 0

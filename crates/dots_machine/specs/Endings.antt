@@ -21,6 +21,10 @@ use Rattle.dots_machine.specs.declared.ending.Stop.{Stop}
 use Rattle.dots_machine.specs.declared.ending.Stop.TheVariants as stop
 use Rattle.dots_machine.specs.Commands.{is_replay, is_show, is_command, second_of}
 use Rattle.dots_machine.specs.Machine.{State, begun, Step}
+use Rattle.dots_machine.specs.Turns.{Turn, EachTurn, turns_of}
+use Rattle.dots_machine.specs.Adding.{AddsExactly}
+use Rattle.dots_machine.specs.Isolation.{IsIsolated}
+use Rattle.dots_machine.specs.Orderly.{IsOrderly}
 use Rattle.dots_machine.specs.Outside.{Outside, SourceFailed, WireFailed, ReportFailed}
 use Rattle.dots_machine.specs.Report.{report_of, Contained}
 
@@ -58,13 +62,22 @@ pub record Ran (settings : SettingsValue) (start : State) (trace : List State) (
   pub run : Trace (Step settings) (resting start) acts trace end
   pub stops : Stops how acts
 
+-- What holds of a run from the one state to the other, by its turns: each adds an entry exactly where the rules accept what came; each domain
+-- is isolated; and the mitigations that stand in the end stand apart, where they did at the start.
+pub record KeepsLaws (settings : SettingsValue) (start : State) (turns : List Turn) (end : State) : Type 0 where
+  pub adding : EachTurn (AddsExactly settings) start turns end
+  pub isolated : (domain : ℕ) → IsIsolated settings start turns end domain
+  pub orderly : IsOrderly start → IsOrderly end
+
 -- A server with these settings has served from a state on: its acts, where they are told, are a run of the machine, which owes nothing in
--- the end; each filter of its last state lies inside the domain of the request that made it; and it wrote of this state what it says.
+-- the end, and keep the laws; each filter of its last state lies inside the domain of the request that made it; and it wrote of this state
+-- what it says.
 pub record Serves (settings : SettingsValue) (start : State) (how : Stop) (before now : Option (List Timed)) (wrote : State → Type 0) : Type 0 where
   pub end : Owing State
   pub settled : end.owed ≡ []
   pub trace : List State
   pub ran : Added before now (Ran settings start trace end how)
+  pub laws : Added before now (λ acts. KeepsLaws settings start (turns_of acts) end.last)
   pub contained : Contained settings end.last
   pub reports : wrote end.last
 

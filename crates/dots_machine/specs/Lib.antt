@@ -5,8 +5,13 @@ pub mod Requests
 pub mod Replies
 pub mod Mitigations
 pub mod Machine
+pub mod Verdicts
 pub mod Apart
 pub mod Answering
+pub mod Turns
+pub mod Adding
+pub mod Isolation
+pub mod Orderly
 pub mod Report
 pub mod Commands
 pub mod Outside

@@ -33,7 +33,7 @@ use Rattle.dots_machine.specs.Domains.{is_gateway, domain_for}
 use Rattle.dots_machine.specs.Exchanges.{exchange_in, dismissed}
 use Rattle.dots_machine.specs.Requests.{IsReceived}
 use Rattle.dots_machine.specs.Replies.{not_implemented, unavailable, reset_message, rejection, bad_parameter}
-use Rattle.dots_machine.specs.Mitigations.{put_verdict, delete_verdict, get_verdict}
+use Rattle.dots_machine.specs.Mitigations.{DecidesPut, DecidesDelete, DecidesGet}
 
 -- the history, and the time of the last event
 pub record State : Type 0 where
@@ -54,45 +54,45 @@ later state at = record state { time = max at state.time }
 abbrev pub with_entry : State → Entry → State
 with_entry state entry = record state { history = state.history ++ entry ∷ [] }
 
--- for a domain that there is, or none
-abbrev pub in_domain : Exchange → Option ℕ → (ℕ → Verdict) → Verdict
-in_domain exchange None decided = verdict.Reply (bad_parameter exchange)
-in_domain exchange (Some domain) decided = decided domain
+-- for a domain that there is, or a parameter is wrong
+abbrev pub InDomain : Exchange → Option ℕ → (ℕ → Verdict → Type 0) → Verdict → Type 0
+InDomain exchange None Decided decided = decided ≡ verdict.Reply (bad_parameter exchange)
+InDomain exchange (Some domain) Decided decided = Decided domain decided
 
 -- who asks, for which domain, with the path of the request
 abbrev pub asks_for : ℕ → Exchange → MitigationPath → ℕ → ClientRequest
 asks_for peer exchange path domain = record { peer = peer; domain = domain; exchange = exchange; cuid = path.cuid }
 
 -- with a mid, or a parameter is missing
-abbrev pub with_mid : Exchange → Option ℕ → (ℕ → Verdict) → Verdict
-with_mid exchange None decided = verdict.Reply (bad_parameter exchange)
-with_mid exchange (Some mid) decided = decided mid
+abbrev pub WithMid : Exchange → Option ℕ → (ℕ → Verdict → Type 0) → Verdict → Type 0
+WithMid exchange None Decided decided = decided ≡ verdict.Reply (bad_parameter exchange)
+WithMid exchange (Some mid) Decided decided = Decided mid decided
 
-abbrev pub put_in : SettingsValue → State → ClientRequest → MitigationBody → ℕ → Verdict
-put_in settings state from body mid = put_verdict settings state.time state.history (record { from = from; mid = mid; body = body })
+abbrev pub PutIn : SettingsValue → State → ClientRequest → MitigationBody → ℕ → Verdict → Type 0
+PutIn settings state from body mid decided = DecidesPut settings state.time state.history (record { from = from; mid = mid; body = body }) decided
 
 -- what is asked of the mitigations of a client in a domain
-abbrev pub put_for : SettingsValue → State → ℕ → Exchange → MitigationPath → MitigationBody → ℕ → Verdict
-put_for settings state peer exchange path body domain =
-    with_mid exchange path.mid (put_in settings state (asks_for peer exchange path domain) body)
+abbrev pub PutFor : SettingsValue → State → ℕ → Exchange → MitigationPath → MitigationBody → ℕ → Verdict → Type 0
+PutFor settings state peer exchange path body domain decided =
+    WithMid exchange path.mid (PutIn settings state (asks_for peer exchange path domain) body) decided
 
-abbrev pub delete_for : State → ℕ → Exchange → MitigationPath → ℕ → Verdict
-delete_for state peer exchange path domain =
-    with_mid exchange path.mid (delete_verdict state.time state.history (asks_for peer exchange path domain))
+abbrev pub DeleteFor : State → ℕ → Exchange → MitigationPath → ℕ → Verdict → Type 0
+DeleteFor state peer exchange path domain decided =
+    WithMid exchange path.mid (DecidesDelete state.time state.history (asks_for peer exchange path domain)) decided
 
-abbrev pub get_for : State → ℕ → Exchange → MitigationPath → Content → ℕ → Verdict
-get_for state peer exchange path content domain =
-    get_verdict state.time state.history (asks_for peer exchange path domain) path.mid content
+abbrev pub GetFor : State → ℕ → Exchange → MitigationPath → Content → ℕ → Verdict → Type 0
+GetFor state peer exchange path content domain decided =
+    DecidesGet state.time state.history (asks_for peer exchange path domain) path.mid content decided
 
--- what is asked
-abbrev pub asked_verdict : SettingsValue → State → ℕ → Exchange → Request → Verdict
-asked_verdict settings state peer exchange (request.PutMitigation path body) =
-    in_domain exchange (domain_for settings (role_of settings peer) path.cdid) (put_for settings state peer exchange path body)
-asked_verdict settings state peer exchange (request.GetMitigation path content observe) =
-    in_domain exchange (domain_for settings (role_of settings peer) path.cdid) (get_for state peer exchange path content)
-asked_verdict settings state peer exchange (request.DeleteMitigation path) =
-    in_domain exchange (domain_for settings (role_of settings peer) path.cdid) (delete_for state peer exchange path)
-asked_verdict settings state peer exchange _ = verdict.Reply (not_implemented exchange)
+-- what is decided on a request
+abbrev pub DecidesRequest : SettingsValue → State → ℕ → Exchange → Request → Verdict → Type 0
+DecidesRequest settings state peer exchange (request.PutMitigation path body) decided =
+    InDomain exchange (domain_for settings (role_of settings peer) path.cdid) (PutFor settings state peer exchange path body) decided
+DecidesRequest settings state peer exchange (request.GetMitigation path content observe) decided =
+    InDomain exchange (domain_for settings (role_of settings peer) path.cdid) (GetFor state peer exchange path content) decided
+DecidesRequest settings state peer exchange (request.DeleteMitigation path) decided =
+    InDomain exchange (domain_for settings (role_of settings peer) path.cdid) (DeleteFor state peer exchange path) decided
+DecidesRequest settings state peer exchange _ decided = decided ≡ verdict.Reply (not_implemented exchange)
 
 -- A message with a critical option that isn't recognised is answered where it is confirmable (RFC 7252, section 5.4.1); any other
 -- that is refused is answered.
@@ -108,11 +108,11 @@ abbrev pub dismissal_verdict : Dismissal → Verdict
 dismissal_verdict dismissal.Ignored = verdict.Silent
 dismissal_verdict (dismissal.Reset id) = verdict.Reply (reset_message id)
 
--- on what a client or a gateway sent
-abbrev pub verdict_on : SettingsValue → State → ℕ → Received → Verdict
-verdict_on settings state peer (received.Dismissed answer) = dismissal_verdict answer
-verdict_on settings state peer (received.Refused exchange reject) = reject_verdict exchange reject
-verdict_on settings state peer (received.Asked exchange request) = asked_verdict settings state peer exchange request
+-- what the rules say of what a client or a gateway sent
+abbrev pub Rules : SettingsValue → State → ℕ → Received → Verdict → Type 0
+Rules settings state peer (received.Dismissed answer) decided = decided ≡ dismissal_verdict answer
+Rules settings state peer (received.Refused exchange reject) decided = decided ≡ reject_verdict exchange reject
+Rules settings state peer (received.Asked exchange request) decided = DecidesRequest settings state peer exchange request decided
 
 abbrev pub is_stranger : Role → Bool
 is_stranger role.Stranger = true
@@ -132,7 +132,7 @@ pub record LacksMemory (datagram : List ℕ) (gateway : Bool) (decided : Verdict
 pub data Decides (settings : SettingsValue) (state : State) (peer : ℕ) (datagram : List ℕ) (decided : Verdict) : Type 0 where
   by_silence : is_stranger (role_of settings peer) ≡ true → decided ≡ verdict.Silent → Decides settings state peer datagram decided
   by_rules : is_stranger (role_of settings peer) ≡ false → (got : Received) → IsReceived datagram (is_gateway (role_of settings peer)) got
-      → decided ≡ verdict_on settings state peer got → Decides settings state peer datagram decided
+      → Rules settings state peer got decided → Decides settings state peer datagram decided
   for_want_of_memory : is_stranger (role_of settings peer) ≡ false → LacksMemory datagram (is_gateway (role_of settings peer)) decided
       → Decides settings state peer datagram decided
 

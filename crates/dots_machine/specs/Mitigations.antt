@@ -1,6 +1,6 @@
--- What is decided on a request of a client for its mitigations, by the history and the time (RFC 9132, section 4.4).
-use Rattle.std.specs.Prelude.{ℕ, Bool, true, false, ◌&&◌, ◌==◌, List, [], ◌∷◌, codes, filter, Option, Some, None, Result, Ok, Err}
-use Rattle.std.specs.List.{list_any}
+-- What is decided on a request of a client for its mitigations, by the places of the history's entries and the time (RFC 9132, section
+-- 4.4).
+use Rattle.std.specs.Prelude.{◌≡◌, ℕ, Bool, true, ◌==◌, List, [], ◌∷◌, codes, filter, Option, Some, None, Result, Ok, Err}
 use Rattle.coap_message.specs.declared.kind.Kind.{Kind}
 use Rattle.coap_message.specs.declared.kind.Kind.TheVariants.{Con}
 use Rattle.dots_settings.specs.Settings.{SettingsValue}
@@ -10,6 +10,8 @@ use Rattle.dots_history.specs.declared.entry.MessageKey.{MessageKey}
 use Rattle.dots_history.specs.declared.entry.MessageKey.TheVariants as key
 use Rattle.dots_history.specs.declared.change.Change.{Change}
 use Rattle.dots_history.specs.declared.change.Change.TheVariants as change
+use Rattle.dots_history.specs.declared.put.Put.{Put}
+use Rattle.dots_laws.specs.Tables.{Client}
 use Rattle.dots_heads.specs.declared.request.Content.{Content}
 use Rattle.live_mitigations.specs.Reading.{Shown, shown_in}
 use Rattle.reply_bodies.specs.declared.conflict.ConflictCause.TheVariants as cause
@@ -17,8 +19,7 @@ use Rattle.put_judging.specs.declared.fault.PutFault.{PutFault}
 use Rattle.put_judging.specs.declared.fault.PutFault.TheVariants as faults
 use Rattle.put_judging.specs.declared.judging.Judged.{Judged}
 use Rattle.put_judging.specs.Requests.{Request}
-use Rattle.dots_registry.specs.Judging.{collides, judge_request}
-use Rattle.dots_registry.specs.Viewing.{is_wanted}
+use Rattle.judged_entries.specs.Judgements.{IsTaken, HasMid, IsJudged}
 use Rattle.dots_machine.specs.declared.target.TargetFault.{TargetFault}
 use Rattle.dots_machine.specs.declared.exchange.Exchange.{Exchange}
 use Rattle.dots_machine.specs.declared.mitigation_request.MitigationRequest.{MitigationRequest}
@@ -73,50 +74,61 @@ judged time asked (Ok put) = grant time asked.from put
 judged time asked (Err fault) = refusal asked.from.exchange asked.mid fault
 
 -- one for what may not be asked for is refused before the rules are looked at
-abbrev pub unless_faulty : Exchange → Option TargetFault → Verdict → Verdict
-unless_faulty exchange (Some fault) otherwise = verdict.Reply (bad_target exchange fault)
-unless_faulty exchange None otherwise = otherwise
+abbrev pub UnlessFaulty : Exchange → Option TargetFault → (Verdict → Type 0) → Verdict → Type 0
+UnlessFaulty exchange (Some fault) Otherwise decided = decided ≡ verdict.Reply (bad_target exchange fault)
+UnlessFaulty exchange None Otherwise decided = Otherwise decided
 
-abbrev pub put_verdict : SettingsValue → ℕ → List Entry → MitigationRequest → Verdict
-put_verdict settings time history asked =
-    unless_faulty asked.from.exchange (scope_fault settings (prefixes_of settings asked.from.domain) asked.body.asked)
-    (judged time asked (judge_request settings time history asked.from.domain (request_of asked)))
+-- the client that is asked for
+abbrev pub client_for : ClientRequest → Client
+client_for from = record { domain = from.domain; cuid = from.cuid }
+
+-- the first rule that applies by the places of the entries, and what is done by it
+abbrev pub ByRules : SettingsValue → ℕ → List Entry → MitigationRequest → Verdict → Type 0
+ByRules settings time history asked decided =
+    (result : Result Judged PutFault) × IsJudged settings time history (client_for asked.from) (request_of asked) result × (decided ≡ judged time asked result)
+
+abbrev pub DecidesPut : SettingsValue → ℕ → List Entry → MitigationRequest → Verdict → Type 0
+DecidesPut settings time history asked decided =
+    UnlessFaulty asked.from.exchange (scope_fault settings (prefixes_of settings asked.from.domain) asked.body.asked)
+    (ByRules settings time history asked) decided
 
 -- ---- a mitigation is withdrawn (section 4.4.4)
 
 -- the client's name is in use by another peer
-abbrev pub is_taken : ℕ → List Entry → ClientRequest → Bool
-is_taken time history from = collides time history from.peer (record { domain = from.domain; cuid = from.cuid })
+abbrev pub IsInUse : ℕ → List Entry → ClientRequest → Type 0
+IsInUse time history from = IsTaken time history (client_for from) from.peer
+
+abbrev pub withdrawal : ℕ → ClientRequest → ℕ → Verdict
+withdrawal time from mid =
+    verdict.Accept (deleted from.exchange) (entry_of time from (deleted from.exchange) (change.Withdraw mid))
+
+-- The name is taken; or a mitigation of the mid stands, and is withdrawn; or none does: any other is gone already, or about to go.
+pub data DecidesDelete (time : ℕ) (history : List Entry) (from : ClientRequest) (mid : ℕ) (decided : Verdict) : Type 0 where
+  name_taken : IsInUse time history from → decided ≡ verdict.Told (conflicting from.exchange (Some mid) cause.Collision)
+      → DecidesDelete time history from mid decided
+  withdraws : (put : Put) → ¬ (IsInUse time history from) → HasMid time history (client_for from) mid put
+      → decided ≡ withdrawal time from mid → DecidesDelete time history from mid decided
+  gone : ¬ (IsInUse time history from) → ((put : Put) → ¬ (HasMid time history (client_for from) mid put))
+      → decided ≡ verdict.Reply (deleted from.exchange) → DecidesDelete time history from mid decided
+
+-- ---- mitigations are read (section 4.4.2)
 
 -- the client's live mitigations, in order of their entries
 abbrev pub lives : ℕ → List Entry → ClientRequest → List Shown
 lives time history from = shown_in from.domain from.cuid time history
 
--- it stands, and has this mid
-abbrev pub stands_as : ℕ → Shown → Bool
-stands_as mid m = (m.put.mid == mid) && (m.status == 2)
-
--- By whether the name is taken, and whether one of the mid stands: it is withdrawn; any other is gone already, or about to go.
-abbrev pub delete_by : ℕ → ClientRequest → ℕ → Bool → Bool → Verdict
-delete_by time from mid true stands = verdict.Told (conflicting from.exchange (Some mid) cause.Collision)
-delete_by time from mid false true = verdict.Accept (deleted from.exchange) (entry_of time from (deleted from.exchange) (change.Withdraw mid))
-delete_by time from mid false false = verdict.Reply (deleted from.exchange)
-
-abbrev pub delete_verdict : ℕ → List Entry → ClientRequest → ℕ → Verdict
-delete_verdict time history from mid =
-    delete_by time from mid (is_taken time history from) (list_any (stands_as mid) (lives time history from))
-
--- ---- mitigations are read (section 4.4.2)
+-- any is wanted, or that of the one mid
+abbrev pub is_wanted : Option ℕ → Shown → Bool
+is_wanted None m = true
+is_wanted (Some mid) m = m.put.mid == mid
 
 abbrev pub tell : Exchange → Content → List Shown → Verdict
 tell exchange content [] = verdict.Reply (absent exchange)
 tell exchange content (m ∷ ms) = verdict.Told (telling exchange content (m ∷ ms))
 
--- by whether the name is taken, and the client's live mitigations: those, or the one of a mid
-abbrev pub get_by : Exchange → Option ℕ → Content → Bool → List Shown → Verdict
-get_by exchange mid content true ms = verdict.Told (conflicting exchange mid cause.Collision)
-get_by exchange mid content false ms = tell exchange content (filter (is_wanted mid) ms)
-
-abbrev pub get_verdict : ℕ → List Entry → ClientRequest → Option ℕ → Content → Verdict
-get_verdict time history from mid content =
-    get_by from.exchange mid content (is_taken time history from) (lives time history from)
+-- the name is taken; or the client's live mitigations are told, or the one of a mid
+pub data DecidesGet (time : ℕ) (history : List Entry) (from : ClientRequest) (mid : Option ℕ) (content : Content) (decided : Verdict) : Type 0 where
+  name_in_use : IsInUse time history from → decided ≡ verdict.Told (conflicting from.exchange mid cause.Collision)
+      → DecidesGet time history from mid content decided
+  tells : ¬ (IsInUse time history from) → decided ≡ tell from.exchange content (filter (is_wanted mid) (lives time history from))
+      → DecidesGet time history from mid content decided

@@ -10,7 +10,7 @@ use Rattle.coap_message.specs.Message.{CoapOption, spelling}
 use Rattle.dots_heads.specs.declared.reject.Reject.{Reject}
 use Rattle.dots_heads.specs.declared.reject.Reject.TheVariants as reject
 use Rattle.dots_heads.specs.declared.request.Content.{Content}
-use Rattle.dots_heads.specs.declared.request.Content.TheVariants.{All, Config, State}
+use Rattle.dots_heads.specs.declared.request.Content.TheVariants.{Config, State}
 use Rattle.dots_heads.specs.RejectText.{reject_text, reject_code}
 use Rattle.reply_bodies.specs.declared.conflict.ConflictCause.{ConflictCause}
 use Rattle.reply_bodies.specs.declared.keys.TheConstants.{MID, LIFETIME, MITIGATION_START, STATUS}

@@ -9,7 +9,14 @@ ghost use Rattle.dots_history.specs.Rows.{plain_rows};
 ghost use Rattle.dots_settings.specs.Settings.{SettingsValue};
 ghost use Rattle.dots_machine.specs.Apart.{SameFor, StaysApart};
 ghost use Rattle.dots_machine.specs.Answering.{IsHandedIn, IsUnavailable};
-ghost use Rattle.dots_machine.specs.Machine.{State, Step};
+ghost use Rattle.dots_machine.specs.Machine.{State, begun_at, Rules, Step};
+ghost use Rattle.dots_machine.specs.Verdicts.{verdict_on};
+ghost use Rattle.dots_machine.specs.Turns.{Turn, IsTurn, EachTurn, turns_of};
+ghost use Rattle.dots_machine.specs.Adding.{AddsExactly};
+ghost use Rattle.dots_machine.specs.Isolation.{IsIsolated};
+ghost use Rattle.dots_machine.specs.Orderly.{IsOrderly};
+ghost use Rattle.dots_machine.specs.declared.received.Received.{Received};
+ghost use Rattle.dots_machine.specs.declared.verdict.Verdict.{Verdict};
 
 /// A list of acts fixes one state: whatever was free to choose shows in the sends.
 pub fn one_state()
@@ -35,4 +42,37 @@ pub fn domains_stay_apart()
         → SameFor domain old other → Step settings old event at owed new → StaysApart settings domain old other event at (outs_of owed) new }
     ensures rows { (domain : ℕ) (one other : State) → SameFor domain one other
         → filter (λ row. row.domain == domain) (plain_rows one.time one.history) ≡ filter (λ row. row.domain == domain) (plain_rows other.time other.history) }
+{}
+
+/// What was received has one verdict: the rules, by the places of the entries, give the value that is reckoned with what a registry keeps,
+/// and no other.
+pub fn one_verdict()
+    ensures there { (settings : SettingsValue) (state : State) (peer : ℕ) (got : Received) → Rules settings state peer got (verdict_on settings state peer got) }
+    ensures one { (settings : SettingsValue) (state : State) (peer : ℕ) (got : Received) (decided : Verdict)
+        → Rules settings state peer got decided → decided ≡ verdict_on settings state peer got }
+{}
+
+/// An entry is added to the history exactly where the rules accept what came, at its time, with that entry; or 5.00 was answered, for
+/// want of memory. It holds of each turn, and so of each turn of a run.
+pub fn entries_are_accepted()
+    ensures turn { (settings : SettingsValue) (old : State) (turn : Turn) (new : State) → IsTurn settings old turn new → AddsExactly settings old turn new }
+    ensures run { (settings : SettingsValue) (from : State) (acts : List Timed) (trace : List State) (new : State)
+        → Trace (Step settings) (resting from) acts trace (resting new) → EachTurn (AddsExactly settings) from (turns_of acts) new }
+{}
+
+/// Over a whole run the entries of a domain are what its own requests make, each with the time that the whole run gave it, and each of these
+/// is answered by the domain's entries alone.
+pub fn domains_are_isolated()
+    ensures { (settings : SettingsValue) (domain : ℕ) (from : State) (acts : List Timed) (trace : List State) (new : State)
+        → Trace (Step settings) (resting from) acts trace (resting new) → IsIsolated settings from (turns_of acts) new domain }
+{}
+
+/// No two mitigations of a domain that stand have an address in common, and of two of one client that overlap the one with the higher mid
+/// stands: so it is at the beginning, and so it stays over each step and each run.
+pub fn mitigations_stand_apart()
+    ensures begun { (t : ℕ) → IsOrderly (begun_at t) }
+    ensures step { (settings : SettingsValue) (old : State) (event : Event) (at : ℕ) (owed : List (State × OwnedOut)) (new : State)
+        → IsOrderly old → Step settings old event at owed new → IsOrderly new }
+    ensures run { (settings : SettingsValue) (from : State) (acts : List Timed) (trace : List State) (new : State)
+        → IsOrderly from → Trace (Step settings) (resting from) acts trace (resting new) → IsOrderly new }
 {}

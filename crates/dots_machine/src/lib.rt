@@ -2,11 +2,14 @@
 //! reported, what the words of the command line ask for, and how a run ends.
 //!
 //! The definitions are in `specs/`, one file for each: `Domains`, `Targets`, `Exchanges` (what is dismissed at once),
-//! `Requests` (what a datagram is), `Replies`, `Mitigations` (what is decided on requests for them), `Machine` (the state, verdicts
-//! and a step), `Apart` (how domains stay apart), `Report`, `Commands`, `Outside` (what stood before and after) and `Endings` (statuses).
-//! A run of the machine over the acts of a host is that of `dots_host`. The words are those of RFC 7252, RFC 8949 and
-//! RFC 9132. The code here is the types that the definitions speak of, and the laws [`one_state`], [`one_answer`] and
-//! [`domains_stay_apart`]. Read [`Received`] and [`Verdict`] first.
+//! `Requests` (what a datagram is), `Replies`, `Mitigations` (what is decided on requests for them, by the places of the entries),
+//! `Machine` (the state, verdicts and a step), `Verdicts` (the same verdict as a value, by which a server is proved), `Apart` (how
+//! domains stay apart), `Turns` (a run by turns), `Adding` (when an entry is added), `Isolation` (what becomes of a domain over a run),
+//! `Orderly` (which mitigations stand beside each other), `Report`, `Commands`, `Outside` (what stood before and after) and `Endings`
+//! (statuses). A run of the machine over the acts of a host is that of `dots_host`. The words are those of RFC 7252, RFC 8949 and
+//! RFC 9132. The code here is the types that the definitions speak of, and the laws [`one_verdict`], [`one_state`], [`one_answer`],
+//! [`domains_stay_apart`], [`entries_are_accepted`], [`domains_are_isolated`] and [`mitigations_stand_apart`]. Read [`Received`] and
+//! [`Verdict`] first.
 #![tactic(auto)]
 
 mod client_request;
@@ -24,7 +27,10 @@ pub use client_request::ClientRequest;
 pub use dismissal::Dismissal;
 pub use ending::{Ending, Showing, Stop};
 pub use exchange::Exchange;
-pub use law::{domains_stay_apart, one_answer, one_state};
+pub use law::{
+    domains_are_isolated, domains_stay_apart, entries_are_accepted, mitigations_stand_apart,
+    one_answer, one_state, one_verdict,
+};
 pub use mitigation_request::MitigationRequest;
 pub use received::Received;
 pub use short_message::{MAX_SHORT, ShortMessage};

@@ -2,10 +2,13 @@
 use Rattle.std.proofs.Common.{◌≡◌, ℕ, List, [], Option, refl}
 use Rattle.dots_host.specs.Acts.{Timed}
 use Rattle.dots_host.specs.Runs.{Added, resting}
+use Rattle.dots_host.proofs.RunLemmas.{added_weaker}
 use Rattle.dots_settings.specs.Settings.{SettingsValue}
 use Rattle.dots_machine.specs.declared.ending.Stop.{Stop}
 use Rattle.dots_machine.specs.Machine.{State, begun}
-use Rattle.dots_machine.specs.Endings.{Ran, Serves}
+use Rattle.dots_machine.specs.Turns.{turns_of}
+use Rattle.dots_machine.specs.Endings.{Ran, KeepsLaws, Serves}
+use Rattle.dots_machine.proofs.Laws.{keeps_laws}
 use Rattle.dots_laws.proofs.Containing.{scrub_rows_inside, acl_rows_inside}
 use Rattle.dots_server.specs.Standing.{ServerValue, StandsFor}
 
@@ -21,6 +24,8 @@ serves settings server before now how wrote ran reports = record {
   settled = refl;
   trace = ran.2;
   ran = ran.3;
+  laws = added_weaker before now (Ran settings begun ran.2 (resting ran.0) how) (λ acts. KeepsLaws settings begun (turns_of acts) ran.0) ran.3
+      (λ acts r. keeps_laws settings begun acts ran.2 ran.0 r.run);
   contained = record { scrubs = scrub_rows_inside settings ran.0.time ran.0.history ran.1.own; lists = acl_rows_inside settings ran.0.time ran.0.history ran.1.own };
   reports = reports;
 }

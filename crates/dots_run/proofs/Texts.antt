@@ -16,7 +16,8 @@ use Rattle.dots_machine.specs.declared.ending.Stop.{Stop}
 use Rattle.dots_machine.specs.declared.ending.Stop.TheVariants as stop
 use Rattle.dots_machine.specs.Machine.{State, begun}
 use Rattle.dots_machine.specs.Outside.{Outside}
-use Rattle.dots_machine.specs.Endings.{Ran, Serves, Reports, ServesTo, Behaves, has_served}
+use Rattle.dots_machine.specs.Endings.{Ran, KeepsLaws, Serves, Reports, ServesTo, Behaves, has_served}
+use Rattle.dots_machine.specs.Turns.{turns_of}
 use Rattle.dots_machine.specs.Report.{report_of}
 use Rattle.dots_run.specs.Scripted.{Replays, JoinsTexts}
 
@@ -34,6 +35,7 @@ replays settings how acts start now wrote serves accounts = record {
   settled = serves.settled;
   trace = serves.trace;
   ran = all_added acts (Ran settings begun serves.trace serves.end how) serves.ran;
+  laws = all_added acts (λ acts. KeepsLaws settings begun (turns_of acts) serves.end.last) serves.laws;
   accounts = accounts;
   reports = serves.reports;
 }

@@ -62,13 +62,13 @@ pub fn run_program<
         (record {
           left = ⟦<StdSource<F> as Source>⟧.left result.settings;
           source_faults = ⟦<StdSource<F> as Source>⟧.faults result.settings;
-          acts = told host.whole host.acts;
+          acts = told host.disk.whole host.disk.acts;
           wire_faults = host.faults;
           held = ⟦<StdSink<R> as Sink>⟧.holds result.report;
           report_faults = ⟦<StdSink<R> as Sink>⟧.faults result.report;
         })
         (record { script = I.remaining input; held = O.contents sends; failures = 0 })
-        (standing ⟦<StdSource<I> as Source>⟧.left ⟦<StdSource<I> as Source>⟧.faults ⟦<StdSink<O> as Sink>⟧.holds host) host.whole)) }
+        (standing ⟦<StdSource<I> as Source>⟧.left ⟦<StdSource<I> as Source>⟧.faults ⟦<StdSink<O> as Sink>⟧.holds host) host.disk.whole)) }
     // With `check-script` the script stands in the place of the settings, no file is opened, and no script is left to be served.
     ensures checked { IfOk words.now (λ list. is_check_script (map string_bytes list.items) ≡ true → MatchOption result.checked ⊥ (λ script.
         MatchOption result.host ((result.status ≡ 4) × (⟦<StdSource<I> as Source>⟧.left script ≡ I.remaining input) × (⟦<StdSink<R> as Sink>⟧.holds result.report ≡ R.contents report))
@@ -77,13 +77,13 @@ pub fn run_program<
         (record {
           left = ⟦<StdSource<I> as Source>⟧.left script;
           source_faults = ⟦<StdSource<I> as Source>⟧.faults script;
-          acts = told host.whole host.acts;
+          acts = told host.disk.whole host.disk.acts;
           wire_faults = host.faults;
           held = ⟦<StdSink<R> as Sink>⟧.holds result.report;
           report_faults = ⟦<StdSink<R> as Sink>⟧.faults result.report;
         })
         (record { script = None; held = O.contents sends; failures = 0 })
-        (standing ⟦<StdSource<I> as Source>⟧.left ⟦<StdSource<I> as Source>⟧.faults ⟦<StdSink<O> as Sink>⟧.holds host) host.whole))) }
+        (standing ⟦<StdSource<I> as Source>⟧.left ⟦<StdSource<I> as Source>⟧.faults ⟦<StdSink<O> as Sink>⟧.holds host) host.disk.whole))) }
 {
     let mut report = StdSink::new(report);
     let words = match words {
@@ -139,13 +139,13 @@ fn check_input<F: Read + Drop, I: Read + Drop, O: Write + Drop, R: Write + Drop>
         (record {
           left = ⟦<StdSource<I> as Source>⟧.left script;
           source_faults = ⟦<StdSource<I> as Source>⟧.faults script;
-          acts = told host.whole host.acts;
+          acts = told host.disk.whole host.disk.acts;
           wire_faults = host.faults;
           held = ⟦<StdSink<R> as Sink>⟧.holds result.report;
           report_faults = ⟦<StdSink<R> as Sink>⟧.faults result.report;
         })
         (record { script = None; held = O.contents sends; failures = 0 })
-        (standing ⟦<StdSource<I> as Source>⟧.left ⟦<StdSource<I> as Source>⟧.faults ⟦<StdSink<O> as Sink>⟧.holds host) host.whole)) }
+        (standing ⟦<StdSource<I> as Source>⟧.left ⟦<StdSource<I> as Source>⟧.faults ⟦<StdSink<O> as Sink>⟧.holds host) host.disk.whole)) }
 {
     let mut report = report;
     let mut script = StdSource::new(Some(input));

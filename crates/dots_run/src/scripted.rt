@@ -37,9 +37,9 @@ pub fn run_script<P: Source + Drop, K: Sink + Drop, S: Source, R: Sink>(
     // With one: what the run has done.
     ensures runs { IfSome result.host (λ host. Runs (map string_bytes words.now) result.status
         (record { left = S.left settings.old; source_faults = S.faults settings.old; acts = Some []; wire_faults = 0; held = R.holds report.old; report_faults = R.faults report.old })
-        (record { left = S.left settings.new; source_faults = S.faults settings.new; acts = told host.whole host.acts; wire_faults = host.faults; held = R.holds report.new; report_faults = R.faults report.new })
+        (record { left = S.left settings.new; source_faults = S.faults settings.new; acts = told host.disk.whole host.disk.acts; wire_faults = host.faults; held = R.holds report.new; report_faults = R.faults report.new })
         (record { script = P.left script; held = K.holds sends; failures = P.faults script })
-        (standing P.left P.faults K.holds host) host.whole) }
+        (standing P.left P.faults K.holds host) host.disk.whole) }
 {
     match ScriptHost::new(alloc, script, sends) {
         Ok(mut host) => {

@@ -23,6 +23,7 @@ use Rattle.dots_machine.specs.Exchanges.{exchange_in, may_ask, rejected, dismiss
 use Rattle.dots_machine.specs.Requests.{received_as, IsReceived, unread, asks_nothing, meant}
 use Rattle.dots_machine.specs.Replies.{unavailable}
 use Rattle.dots_machine.specs.Machine.{State, is_stranger, LacksMemory, Decides, by_rules, for_want_of_memory}
+use Rattle.dots_machine.proofs.Verdicts.{ruled}
 use Rattle.dots_server.specs.Receiving.{Lacks}
 use Rattle.dots_server.specs.Asking.{IsUnavailable, DecidesOn}
 
@@ -81,7 +82,7 @@ module _ (settings : SettingsValue) (state : State) (peer : ℕ) (datagram : Lis
   unavailable_decided (received.Dismissed d) v got lacks = absurd lacks
 
   pub decided : (got : Received) (v : Verdict) → IsReceived datagram gateway got → DecidesOn settings state peer got v → Decides settings state peer datagram v
-  decided got v is (inl rules) = by_rules known got is rules
+  decided got v is (inl rules) = by_rules known got is (ruled settings state peer got v rules)
   decided got v is (inr lacks) = unavailable_decided got v is lacks
 
   pub lacking : (x : Exchange) (v : Verdict) → Lacks datagram gateway x → v ≡ verdict.Reply (unavailable x) → Decides settings state peer datagram v

@@ -5,14 +5,13 @@ use Rattle.cbor_profile.specs.Tree.{Tree}
 use Rattle.coap_message.specs.declared.codes.TheConstants.{CONTENT}
 use Rattle.dots_heads.specs.declared.request.Content.{Content}
 use Rattle.live_mitigations.specs.Reading.{Shown}
-use Rattle.dots_registry.specs.Viewing.{is_wanted}
 use Rattle.reply_bodies.specs.declared.scope.MitigationView.{MitigationView}
 use Rattle.reply_bodies.specs.Mitigations.{scope_of, mitigations_with}
 use Rattle.dots_machine.specs.declared.exchange.Exchange.{Exchange}
 use Rattle.dots_machine.specs.declared.verdict.Verdict.{Verdict}
 use Rattle.dots_machine.specs.declared.verdict.Verdict.TheVariants as verdict
 use Rattle.dots_machine.specs.Replies.{told, with_body, absent}
-use Rattle.dots_machine.specs.Mitigations.{tell}
+use Rattle.dots_machine.specs.Mitigations.{is_wanted, tell}
 
 module _ (content : Content) (wanted : Option ℕ) where
   abbrev told_of : List Shown → List Tree

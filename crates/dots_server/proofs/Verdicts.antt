@@ -26,8 +26,9 @@ use Rattle.dots_machine.specs.declared.verdict.Verdict.TheVariants as verdict
 use Rattle.dots_machine.specs.Domains.{is_gateway, domain_for}
 use Rattle.dots_machine.specs.Targets.{scope_fault}
 use Rattle.dots_machine.specs.Replies.{bad_target, bad_parameter}
-use Rattle.dots_machine.specs.Mitigations.{request_of, judged, unless_faulty, put_verdict, delete_verdict, get_verdict}
-use Rattle.dots_machine.specs.Machine.{State, is_stranger, in_domain, asks_for, with_mid, put_in, put_for, delete_for, get_for, asked_verdict}
+use Rattle.dots_machine.specs.Mitigations.{request_of, judged}
+use Rattle.dots_machine.specs.Machine.{State, is_stranger, asks_for}
+use Rattle.dots_machine.specs.Verdicts.{unless_faulty, put_verdict, delete_verdict, get_verdict, in_domain, with_mid, put_in, put_for, delete_for, get_for, asked_verdict}
 use Rattle.dots_server.specs.Asking.{role_with, domain_asked}
 use Rattle.dots_server.specs.Standing.{ServerValue, StandsFor}
 

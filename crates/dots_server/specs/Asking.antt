@@ -10,7 +10,8 @@ use Rattle.dots_machine.specs.declared.verdict.Verdict.{Verdict}
 use Rattle.dots_machine.specs.declared.verdict.Verdict.TheVariants as verdict
 use Rattle.dots_settings.specs.Lookups.{role_of}
 use Rattle.dots_machine.specs.Replies.{unavailable}
-use Rattle.dots_machine.specs.Machine.{State, verdict_on}
+use Rattle.dots_machine.specs.Machine.{State}
+use Rattle.dots_machine.specs.Verdicts.{verdict_on}
 
 -- a client has a domain of its own, and a gateway none
 abbrev pub role_with : Option ℕ → Role

@@ -12,14 +12,14 @@ ghost use Rattle.put_judging.specs.declared.fault.PutFault.TheVariants as faults
 ghost use Rattle.dots_registry.specs.Standing.{time_of};
 ghost use Rattle.dots_registry.specs.Standing as registry;
 ghost use Rattle.dots_registry.specs.Judging.{judge_request};
-ghost use Rattle.dots_registry.specs.Viewing.{is_wanted};
 ghost use Rattle.reply_bodies.specs.Mitigations.{scope_of};
 ghost use Rattle.dots_machine.specs.Machine.{State};
 ghost use Rattle.dots_lists.specs.Name.{is_name};
 ghost use Rattle.dots_machine.specs.Replies.{conflicting, deleted, granting, told};
 ghost use Rattle.dots_machine.specs.Targets.{scope_fault};
 ghost use Rattle.dots_machine.specs.declared.verdict.Verdict.TheVariants as verdicts;
-ghost use Rattle.dots_machine.specs.Mitigations.{grant, refusal, request_of, put_verdict, is_taken, lives, stands_as, delete_by, delete_verdict, get_verdict};
+ghost use Rattle.dots_machine.specs.Mitigations.{grant, refusal, request_of, lives, is_wanted};
+ghost use Rattle.dots_machine.specs.Verdicts.{put_verdict, is_taken, stands_as, delete_by, delete_verdict, get_verdict};
 ghost use Rattle.reply_bodies.specs.declared.conflict.ConflictCause.TheVariants as cause;
 ghost use Rattle.live_mitigations.specs.Reading.{Shown, row_view};
 ghost use Rattle.dots_server.specs.Standing.{StandsFor, CanCarryOut};

@@ -22,7 +22,7 @@ returns-in-Ok-clause-runs g c =
     let after : Outside = record {
       left = g.S.Source.left c.run-status.new.settings;
       source_faults = g.S.Source.faults c.run-status.new.settings;
-      acts = told host.whole host.acts;
+      acts = told host.disk.whole host.disk.acts;
       wire_faults = host.faults;
       held = g.R.Sink.holds c.run-status.new.report;
       report_faults = g.R.Sink.faults c.run-status.new.report;
@@ -30,7 +30,7 @@ returns-in-Ok-clause-runs g c =
     let before : (h : Scripting _ _) → Outside = λ h. record {
       left = g.S.Source.left c.args.settings.now;
       source_faults = g.S.Source.faults c.args.settings.now;
-      acts = told h.whole h.acts;
+      acts = told h.disk.whole h.disk.acts;
       wire_faults = h.faults;
       held = g.R.Sink.holds c.args.report.now;
       report_faults = g.R.Sink.faults c.args.report.now;
@@ -56,10 +56,10 @@ returns-in-Ok-clause-runs g c =
       texts = λ none whole.
           let (ending, status_is, behaves, uncalled) = said.machine none in
           let did = subst (λ h. Behaves ending words (before h) after) first behaves in
-          let accounts = known start (standing left faults holds host) host.whole host.acts whole (said.leads start c.in-Ok.ensures.accounts) in (
+          let accounts = known start (standing left faults holds host) host.disk.whole host.disk.acts whole (said.leads start c.in-Ok.ensures.accounts) in (
             ending,
             status_is,
-            joins words _ after (wire_acts 0 host.acts) refl (told_whole host.whole host.acts whole) start (standing left faults holds host) accounts ending did (λ idle. stands (uncalled idle)),
+            joins words _ after (wire_acts 0 host.disk.acts) refl (told_whole host.disk.whole host.disk.acts whole) start (standing left faults holds host) accounts ending did (λ idle. stands (uncalled idle)),
           );
       told = λ topic is.
           let (how, status_is, tells) = said.told topic is in
@@ -68,7 +68,7 @@ returns-in-Ok-clause-runs g c =
             how = how;
             status_is = status_is;
             tells = tells;
-            no_acts = ap (λ (h : Scripting _ _). told h.whole h.acts) (kept ∙ first);
+            no_acts = ap (λ (h : Scripting _ _). told h.disk.whole h.disk.acts) (kept ∙ first);
             stands = stands kept;
           };
       outcome = subst (λ h. Outcome words status (before h) after) first outcome;

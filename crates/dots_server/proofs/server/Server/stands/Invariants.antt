@@ -3,7 +3,8 @@ use Rattle.std.specs.List.{list_any}
 use Rattle.live_mitigations.specs.Reading.{Shown}
 use Rattle.dots_settings.specs.Settings.{SettingsValue}
 use Rattle.dots_machine.specs.Machine.{State}
-use Rattle.dots_machine.specs.Mitigations.{lives, stands_as}
+use Rattle.dots_machine.specs.Mitigations.{lives}
+use Rattle.dots_machine.specs.Verdicts.{stands_as}
 use Rattle.dots_server.specs.Standing.{StandsFor}
 use Rattle.dots_server.proofs.server.Server.stands.Given as goal
 

@@ -1,10 +1,9 @@
 use Rattle.std.proofs.Common.{◌≡◌, ◌++◌, map, filter}
 use Rattle.reply_bodies.specs.Mitigations.{scope_of}
 use Rattle.dots_settings.specs.Settings.{SettingsValue}
-use Rattle.dots_registry.specs.Viewing.{is_wanted}
 use Rattle.dots_machine.specs.Machine.{State}
 use Rattle.dots_machine.specs.Replies.{told}
-use Rattle.dots_machine.specs.Mitigations.{lives}
+use Rattle.dots_machine.specs.Mitigations.{lives, is_wanted}
 use Rattle.dots_server.specs.Standing.{StandsFor}
 use Rattle.dots_server.proofs.server.Server.views.Given as goal
 

@@ -1,0 +1,90 @@
+-- An entry is added exactly where the rules accept.
+use Rattle.std.proofs.Common.{◌≡◌, ◌⊎◌, inl, inr, ℕ, List, [], ◌∷◌, ◌++◌, refl, sym, ap, ◌∙◌, subst}
+use Rattle.dots_host.specs.declared.event.Event.{Event}
+use Rattle.dots_host.specs.declared.event.Event.TheVariants as event
+use Rattle.dots_host.specs.declared.out.OwnedOut.{OwnedOut}
+use Rattle.dots_host.specs.Acts.{Timed}
+use Rattle.dots_host.specs.Runs.{resting, outs_of, Trace}
+use Rattle.dots_host.proofs.RunLemmas.{outs_back}
+use Rattle.dots_settings.specs.Settings.{SettingsValue}
+use Rattle.dots_settings.specs.Lookups.{role_of}
+use Rattle.dots_history.specs.declared.entry.Entry.{Entry}
+use Rattle.dots_machine.specs.declared.verdict.Verdict.{Verdict}
+use Rattle.dots_machine.specs.declared.verdict.Verdict.TheVariants as verdict
+use Rattle.dots_machine.specs.Domains.{is_gateway}
+use Rattle.dots_machine.specs.Machine.{State, later, LacksMemory, Decides, by_silence, by_rules, for_want_of_memory, after, Answers, Step}
+use Rattle.dots_machine.specs.Answering.{AreBytes, IsHandedIn, SaysUnavailable, IsUnavailable}
+use Rattle.dots_machine.specs.Turns.{Turn, IsTurn, EachTurn, turns_of}
+use Rattle.dots_machine.specs.Adding.{AcceptsDatagram, Accepts, AddsExactly}
+use Rattle.dots_machine.proofs.OneAnswer.{one_verdict, says}
+use Rattle.dots_machine.proofs.Turns.{by_turns, each_weaker}
+
+module _ (settings : SettingsValue) (old : State) (peer : ℕ) (datagram : List ℕ) where
+  abbrev Adds : State → Type 0
+  Adds new = (new.history ≡ old.history) ⊎ ((entry : Entry) × (new.history ≡ old.history ++ entry ∷ []) × AcceptsDatagram settings old peer datagram entry)
+
+  accepts_so : (reply : List ℕ) (entry : Entry) → Decides settings old peer datagram (verdict.Accept reply entry) → AcceptsDatagram settings old peer datagram entry
+  accepts_so reply entry (by_silence n is) = absurd (cc is)
+  accepts_so reply entry (for_want_of_memory n lacks) = absurd (cc lacks.answer)
+  accepts_so reply entry (by_rules n got received rules) = record { known = n; got = got; received = received; reply = reply; accepted = rules }
+
+  adds_so : (v : Verdict) → Decides settings old peer datagram v → Adds (after v old)
+  adds_so verdict.Silent decides = inl refl
+  adds_so (verdict.Reply reply) decides = inl refl
+  adds_so (verdict.Told reply) decides = inl refl
+  adds_so (verdict.Accept reply entry) decides = inr (entry, refl, accepts_so reply entry decides)
+
+  module _ (are : AreBytes datagram) (sends : List OwnedOut) (new : State) where
+    accepted_so : (entry : Entry) → AcceptsDatagram settings old peer datagram entry → Answers settings old peer datagram sends new
+        → (new.history ≡ old.history ++ entry ∷ []) ⊎ SaysUnavailable peer datagram sends
+    accepted_so entry accepts a =
+        by_verdicts (one_verdict settings old peer datagram are a.0 (verdict.Accept accepts.reply entry) a.1 (by_rules accepts.known accepts.got accepts.received accepts.accepted))
+      where
+        by_verdicts : (a.0 ≡ verdict.Accept accepts.reply entry)
+            ⊎ (LacksMemory datagram (is_gateway (role_of settings peer)) a.0 ⊎ LacksMemory datagram (is_gateway (role_of settings peer)) (verdict.Accept accepts.reply entry))
+            → (new.history ≡ old.history ++ entry ∷ []) ⊎ SaysUnavailable peer datagram sends
+        by_verdicts (inl same) = inl (ap (λ state. state.history) (a.3 ∙ ap (λ v. after v old) same))
+        by_verdicts (inr (inl lacks)) = inr (says settings old peer datagram are a.0 sends a.2 lacks)
+        by_verdicts (inr (inr lacks)) = absurd (cc lacks.answer)
+
+module _ (settings : SettingsValue) (old : State) (at : ℕ) (new : State) where
+  abbrev AddsOne : Event → Type 0
+  AddsOne what = (new.history ≡ old.history) ⊎ ((entry : Entry) × (new.history ≡ old.history ++ entry ∷ []) × Accepts settings (later old at) what entry)
+
+  added_by : (what : Event) (owed : List (State × OwnedOut)) → Step settings old what at owed new → AddsOne what
+  added_by (event.Datagram peer datagram) owed step =
+      let a = step.2 in subst (λ state. Adds settings (later old at) peer datagram state) (sym a.3) (adds_so settings (later old at) peer datagram a.0 a.1)
+  added_by event.End owed step = inl (ap (λ state. state.history) step.1)
+  added_by event.Failed owed step = inl (ap (λ state. state.history) step.1)
+  added_by (event.Opened c p) owed step = inl (ap (λ state. state.history) step.1)
+  added_by (event.Piece c p) owed step = inl (ap (λ state. state.history) step.1)
+  added_by (event.Closed c) owed step = inl (ap (λ state. state.history) step.1)
+  added_by event.Tick owed step = inl (ap (λ state. state.history) step.1)
+  added_by event.Restart owed step = inl (ap (λ state. state.history) step.1)
+
+  accepted_by : (what : Event) (owed : List (State × OwnedOut)) → Step settings old what at owed new → IsHandedIn what → (entry : Entry) → Accepts settings (later old at) what entry
+      → (new.history ≡ old.history ++ entry ∷ []) ⊎ IsUnavailable what owed
+  accepted_by (event.Datagram peer datagram) owed step are entry accepts = joined (accepted_so settings (later old at) peer datagram are step.0 new entry accepts step.2)
+    where
+      joined : (new.history ≡ old.history ++ entry ∷ []) ⊎ SaysUnavailable peer datagram step.0 → (new.history ≡ old.history ++ entry ∷ []) ⊎ SaysUnavailable peer datagram (outs_of owed)
+      joined (inl is) = inl is
+      joined (inr says) = inr (subst (SaysUnavailable peer datagram) (sym (ap outs_of step.1 ∙ outs_back new step.0)) says)
+  accepted_by event.End owed step are entry accepts = absurd accepts
+  accepted_by event.Failed owed step are entry accepts = absurd accepts
+  accepted_by (event.Opened c p) owed step are entry accepts = absurd accepts
+  accepted_by (event.Piece c p) owed step are entry accepts = absurd accepts
+  accepted_by (event.Closed c) owed step are entry accepts = absurd accepts
+  accepted_by event.Tick owed step are entry accepts = absurd accepts
+  accepted_by event.Restart owed step are entry accepts = absurd accepts
+
+pub turn_adds : (settings : SettingsValue) (old : State) (turn : Turn) (new : State) → IsTurn settings old turn new → AddsExactly settings old turn new
+turn_adds settings old turn new is = record {
+  turns = is;
+  added = added_by settings old turn.at new turn.what is.owed is.step;
+  accepted = accepted_by settings old turn.at new turn.what is.owed is.step;
+}
+
+pub run_adds : (settings : SettingsValue) (from : State) (acts : List Timed) (trace : List State) (new : State) → Trace (Step settings) (resting from) acts trace (resting new)
+    → EachTurn (AddsExactly settings) from (turns_of acts) new
+run_adds settings from acts trace new run =
+    each_weaker (IsTurn settings) (AddsExactly settings) (turn_adds settings) from (turns_of acts) new (by_turns settings (resting from) acts trace new run)

@@ -1,0 +1,295 @@
+-- Over a whole run a domain's entries are what its own requests make.
+use Rattle.std.proofs.Common.{◌≡◌, ◌⊎◌, ◌==◌, inl, inr, ℕ, Bool, true, false, List, [], ◌∷◌, ◌++◌, Option, Some, None, refl, sym, ap, ◌∙◌, subst, arith, append-nil}
+use Rattle.std.proofs.lemmas.Bool.{cond_both, both_ways, cond-true}
+use Rattle.std.proofs.lemmas.Bool.Decides.{nat_tests}
+use Rattle.std.proofs.lemmas.List.Elements.{filter-append}
+use Rattle.dots_host.specs.declared.event.Event.{Event}
+use Rattle.dots_host.specs.declared.event.Event.TheVariants as event
+use Rattle.dots_host.specs.declared.out.OwnedOut.{OwnedOut}
+use Rattle.dots_host.specs.Acts.{Timed}
+use Rattle.dots_host.specs.Runs.{resting, outs_of, Trace}
+use Rattle.dots_host.proofs.RunLemmas.{outs_back}
+use Rattle.dots_settings.specs.declared.peer.Role.{Role}
+use Rattle.dots_settings.specs.declared.peer.Role.TheVariants as role
+use Rattle.dots_settings.specs.Settings.{SettingsValue}
+use Rattle.dots_settings.specs.Lookups.{role_of}
+use Rattle.dots_history.specs.declared.entry.Entry.{Entry}
+use Rattle.dots_history.specs.Histories.{alone}
+use Rattle.dots_heads.specs.declared.request.MitigationPath.{MitigationPath}
+use Rattle.dots_keys.specs.declared.request.Request.{Request}
+use Rattle.dots_keys.specs.declared.request.Request.TheVariants as request
+use Rattle.dots_machine.specs.declared.exchange.Exchange.{Exchange}
+use Rattle.dots_machine.specs.declared.dismissal.Dismissal.{Dismissal}
+use Rattle.dots_machine.specs.declared.dismissal.Dismissal.TheVariants as dismissal
+use Rattle.dots_machine.specs.declared.received.Received.{Received}
+use Rattle.dots_machine.specs.declared.received.Received.TheVariants as received
+use Rattle.dots_machine.specs.declared.verdict.Verdict.{Verdict}
+use Rattle.dots_machine.specs.declared.verdict.Verdict.TheVariants as verdict
+use Rattle.dots_machine.specs.Domains.{is_gateway, domain_for}
+use Rattle.dots_machine.specs.Requests.{IsReceived}
+use Rattle.dots_machine.specs.Machine.{State, later, is_stranger, DecidesRequest, Rules, dismissal_verdict, reject_verdict, Decides, by_silence, by_rules, for_want_of_memory, sends_of, after, Step}
+use Rattle.dots_machine.specs.Verdicts.{in_domain, put_for, delete_for, get_for, asked_verdict}
+use Rattle.dots_machine.specs.Apart.{SameFor, path_of, AsksFor, by_datagram}
+use Rattle.dots_machine.specs.Turns.{Turn, IsTurn, EachTurn, turns_of}
+use Rattle.dots_machine.specs.Isolation.{TakenUp, TakesUp, PassesBy, none_came, was_refused, lacked_memory, entries_of, Make, IsIsolated}
+use Rattle.dots_machine.proofs.OneRequest.{Same, one, first_refused, second_refused, same_received}
+use Rattle.dots_machine.proofs.Outcomes.{AcceptsWell, IsRefusal, reject_refuses, puts_accept, deletes_accept, gets_accept, request_accepts}
+use Rattle.dots_machine.proofs.Verdicts.{request_valued, request_there}
+use Rattle.dots_machine.proofs.Apart.{untouched, Elsewhere, asked_apart}
+use Rattle.dots_machine.proofs.Turns.{by_turns}
+
+-- ---- small steps
+some_same : {X : Type 0} (x y : X) → Some x ≡ Some y → x ≡ y
+some_same x y e = cc
+
+some_or_none : {X : Type 0} (x : X) → Some x ≡ None → ⊥
+some_or_none x e = cc
+
+alone_twice : (domain : ℕ) (entries : List Entry) → alone domain entries ≡ alone domain (alone domain entries)
+alone_twice domain [] = refl
+alone_twice domain (e ∷ later) =
+    cond_both
+    (e.domain == domain)
+    (e ∷ alone domain later)
+    (alone domain later)
+    (λ es. es ≡ alone domain es)
+    (λ here. ap (λ es. e ∷ es) (alone_twice domain later) ∙ sym (cond-true (e.domain == domain) (e ∷ alone domain (alone domain later)) (alone domain (alone domain later)) here))
+    (λ out. alone_twice domain later)
+
+stranger_nowhere : (settings : SettingsValue) (who : Role) (cdid : Option (List ℕ)) (domain : ℕ) → is_stranger who ≡ true → domain_for settings who cdid ≡ Some domain → ⊥
+stranger_nowhere settings role.Stranger cdid domain is found = some_or_none domain (sym found)
+stranger_nowhere settings (role.Client d) cdid domain is found = absurd (cc is)
+stranger_nowhere settings role.Gateway cdid domain is found = absurd (cc is)
+
+-- who refuses adds nothing
+refusal_adds_nothing : (v : Verdict) (state : State) → IsRefusal v → after v state ≡ state
+refusal_adds_nothing verdict.Silent state none = refl
+refusal_adds_nothing (verdict.Reply reply) state none = refl
+refusal_adds_nothing (verdict.Told reply) state none = absurd none
+refusal_adds_nothing (verdict.Accept reply entry) state none = absurd none
+
+dismissal_adds_nothing : (d : Dismissal) (state : State) → after (dismissal_verdict d) state ≡ state
+dismissal_adds_nothing dismissal.Ignored state = refl
+dismissal_adds_nothing (dismissal.Reset id) state = refl
+
+module _ (settings : SettingsValue) (domain : ℕ) (old : State) (turn : Turn) (new : State) where
+  abbrev now : State
+  now = later old turn.at
+
+  -- the state that has the domain's entries alone
+  abbrev own : State
+  own = record { history = alone domain old.history; time = new.time }
+
+  -- a request for the domain was taken up, and its verdict goes by the domain's entries alone
+  abbrev Taken : Type 0
+  Taken =
+      (taken : TakenUp) × TakesUp settings domain turn new taken × (decided : Verdict)
+      × DecidesRequest settings (record { history = alone domain old.history; time = taken.time }) taken.peer taken.exchange taken.request decided
+      × (taken.sends ≡ sends_of decided taken.peer)
+      × (alone domain new.history ≡ alone domain old.history ++ entries_of decided)
+
+  abbrev Passed : Type 0
+  Passed = PassesBy settings domain turn × (alone domain new.history ≡ alone domain old.history)
+
+  module _ (peer : ℕ) (datagram : List ℕ) (came : turn.what ≡ event.Datagram peer datagram) where
+    abbrev who : Role
+    who = role_of settings peer
+
+    -- what a request for the domain is
+    abbrev IsAsked : Request → Type 0
+    IsAsked r = (path : MitigationPath) × (path_of r ≡ Some path) × (domain_for settings who path.cdid ≡ Some domain)
+
+    abbrev Asks : Type 0
+    Asks = (x : Exchange) × (r : Request) × IsReceived datagram (is_gateway who) (received.Asked x r) × IsAsked r
+
+    same_datagram : (p : ℕ) (bytes : List ℕ) → event.Datagram peer datagram ≡ event.Datagram p bytes → (p ≡ peer) × (bytes ≡ datagram)
+    same_datagram p bytes e = (cc e, cc e)
+
+    asks_here : (what : Event) → what ≡ event.Datagram peer datagram → AsksFor settings domain what → Asks
+    asks_here what is (by_datagram p bytes x r path e got asks found) =
+        let same = same_datagram p bytes (sym is ∙ e) in (
+          x,
+          r,
+          subst (λ p. IsReceived datagram (is_gateway (role_of settings p)) (received.Asked x r)) same.0
+              (subst (λ bytes. IsReceived bytes (is_gateway (role_of settings p)) (received.Asked x r)) same.1 got),
+          (path, asks, subst (λ p. domain_for settings (role_of settings p) path.cdid ≡ Some domain) same.0 found),
+        )
+
+    none_by : (Asks → ⊥) → PassesBy settings domain turn
+    none_by never = none_came (λ asks. never (asks_here turn.what came asks))
+
+    -- whether a request is for the domain
+    is_asked : (r : Request) → IsAsked r ⊎ (IsAsked r → ⊥)
+    is_asked r = by_path (path_of r) refl
+      where
+        by_path : (path : Option MitigationPath) → path_of r ≡ path → IsAsked r ⊎ (IsAsked r → ⊥)
+        by_path None none = inr (λ asked. some_or_none asked.0 (sym asked.1 ∙ none))
+        by_path (Some path) is = by_domain (domain_for settings who path.cdid) refl
+          where
+            there : (found : Option ℕ) → domain_for settings who path.cdid ≡ found → IsAsked r → found ≡ Some domain
+            there found at asked = sym at ∙ ap (λ (p : MitigationPath). domain_for settings who p.cdid) (some_same path asked.0 (sym is ∙ asked.1)) ∙ asked.2
+
+            by_domain : (found : Option ℕ) → domain_for settings who path.cdid ≡ found → IsAsked r ⊎ (IsAsked r → ⊥)
+            by_domain None at = inr (λ asked. some_or_none domain (sym (there None at asked)))
+            by_domain (Some d) at = by_test (d == domain) refl
+              where
+                by_test : (b : Bool) → (d == domain) ≡ b → IsAsked r ⊎ (IsAsked r → ⊥)
+                by_test true here = let same : d ≡ domain = grind (arith, nat_tests, here) in inl (path, is, at ∙ ap Some same)
+                by_test false out = inr (λ asked. let same : d ≡ domain = some_same d domain (there (Some d) at asked) in both_ways (d == domain) out (grind (arith, nat_tests, same)))
+
+    module _ (sends : List OwnedOut) (sent : sends ≡ turn.sends) (decided : Verdict) (told : sends ≡ sends_of decided peer) (is_after : new ≡ after decided now) where
+      unchanged : after decided now ≡ now → alone domain new.history ≡ alone domain old.history
+      unchanged same = ap (λ (state : State). alone domain state.history) (is_after ∙ same)
+
+      -- the verdict leaves the domain's entries as they were
+      abbrev Left : Verdict → Type 0
+      Left v = alone domain (after v now).history ≡ alone domain old.history
+
+      -- not for the domain
+      not_taken : (x : Exchange) (r : Request) → (IsAsked r → ⊥) → decided ≡ asked_verdict settings now peer x r → alone domain new.history ≡ alone domain old.history
+      not_taken x r never is = ap (λ (state : State). alone domain state.history) (is_after ∙ ap (λ v. after v now) is) ∙ left r never
+        where
+          same_now : SameFor domain now now
+          same_now = record { time = refl; entries = refl }
+
+          in_domain_left : (found : Option ℕ) (f : ℕ → Verdict) → ((d : ℕ) → AcceptsWell d (f d)) → (found ≡ Some domain → ⊥) → Left (in_domain x found f)
+          in_domain_left None f well out = refl
+          in_domain_left (Some d) f well out = untouched settings domain now now same_now d (f d) (λ same. out (ap Some same)) (well d)
+
+          left : (r : Request) → (IsAsked r → ⊥) → Left (asked_verdict settings now peer x r)
+          left (request.PutMitigation path body) never =
+              in_domain_left (domain_for settings who path.cdid) (put_for settings now peer x path body) (puts_accept settings now peer x path body) (λ found. never (path, refl, found))
+          left (request.GetMitigation path content observe) never =
+              in_domain_left (domain_for settings who path.cdid) (get_for now peer x path content) (gets_accept settings now peer x path content) (λ found. never (path, refl, found))
+          left (request.DeleteMitigation path) never =
+              in_domain_left (domain_for settings who path.cdid) (delete_for now peer x path) (deletes_accept settings now peer x path) (λ found. never (path, refl, found))
+          left (request.PutConfig sid body) never = refl
+          left (request.GetConfig sid) never = refl
+          left (request.DeleteConfig sid) never = refl
+          left (request.PutHeartbeat heard) never = refl
+
+      time_kept : (v : Verdict) → (after v now).time ≡ now.time
+      time_kept verdict.Silent = refl
+      time_kept (verdict.Reply reply) = refl
+      time_kept (verdict.Told reply) = refl
+      time_kept (verdict.Accept reply entry) = refl
+
+      -- for the domain
+      taken_up : (x : Exchange) (r : Request) → IsReceived datagram (is_gateway who) (received.Asked x r) → IsAsked r → decided ≡ asked_verdict settings now peer x r → Taken
+      taken_up x r got asked is = (
+        record { time = new.time; peer = peer; exchange = x; request = r; sends = turn.sends },
+        record { datagram = datagram; path = asked.0; came = came; is_received = got; asks = asked.1; for_domain = asked.2; time_is = refl; sends_are = refl },
+        decided,
+        subst (DecidesRequest settings own peer x r) (sym (is ∙ alike)) (request_there settings own peer x r),
+        sym sent ∙ told,
+        ap (λ (state : State). alone domain state.history) is_after ∙ added decided (well_so is),
+      )
+        where
+          same : SameFor domain now own
+          same = record { time = sym (ap (λ (state : State). state.time) is_after ∙ time_kept decided); entries = alone_twice domain old.history }
+
+          here : (found : MitigationPath) → path_of r ≡ Some found → (another : ℕ) → domain_for settings who found.cdid ≡ Some another → another ≡ domain
+          here found asks another at =
+              some_same another domain (sym at ∙ ap (λ (p : MitigationPath). domain_for settings who p.cdid) (some_same found asked.0 (sym asks ∙ asked.1)) ∙ asked.2)
+
+          alike : asked_verdict settings now peer x r ≡ asked_verdict settings own peer x r
+          alike = by_apart (asked_apart settings domain now own same peer x r)
+            where
+              by_apart : Elsewhere settings domain now own same r peer (asked_verdict settings now peer x r) ⊎ (asked_verdict settings now peer x r ≡ asked_verdict settings own peer x r)
+                  → asked_verdict settings now peer x r ≡ asked_verdict settings own peer x r
+              by_apart (inl (another, apart, (path, asks, at), none)) = absurd (apart (here path asks another at))
+              by_apart (inr same) = same
+
+          well_so : decided ≡ asked_verdict settings now peer x r → AcceptsWell domain decided
+          well_so is = subst (AcceptsWell domain) (sym is) (request_accepts settings now peer x r domain asked.0 asked.1 asked.2)
+
+          added : (v : Verdict) → AcceptsWell domain v → alone domain (after v now).history ≡ alone domain old.history ++ entries_of v
+          added verdict.Silent well = sym (append-nil (alone domain old.history))
+          added (verdict.Reply reply) well = sym (append-nil (alone domain old.history))
+          added (verdict.Told reply) well = sym (append-nil (alone domain old.history))
+          added (verdict.Accept reply entry) well =
+              filter-append (λ e. e.domain == domain) old.history (entry ∷ [])
+              ∙ ap (λ es. alone domain old.history ++ es) (cond-true (entry.domain == domain) (entry ∷ []) [] (grind (arith, nat_tests, well.1)))
+
+      -- ---- what was received
+      never_asked : (got : Received) → ((x : Exchange) (r : Request) → IsAsked r → Same got (received.Asked x r) → ⊥) → IsReceived datagram (is_gateway who) got → PassesBy settings domain turn
+      never_asked got out is = none_by (λ asks. out asks.0 asks.1 asks.3 (same_received datagram (is_gateway who) got (received.Asked asks.0 asks.1) is asks.2))
+
+      dismissed_never : (d : Dismissal) (x : Exchange) (r : Request) → IsAsked r → Same (received.Dismissed d) (received.Asked x r) → ⊥
+      dismissed_never d x r asked (one e) = cc e
+      dismissed_never d x r asked (first_refused m e is) = cc is
+      dismissed_never d x r asked (second_refused m e is) = cc is
+
+      same_request : (x y : Exchange) (r q : Request) → received.Asked x r ≡ received.Asked y q → r ≡ q
+      same_request x y r q e = cc e
+
+      another_never : (y : Exchange) (q : Request) → (IsAsked q → ⊥) → (x : Exchange) (r : Request) → IsAsked r → Same (received.Asked y q) (received.Asked x r) → ⊥
+      another_never y q out x r asked (one e) = out (subst IsAsked (sym (same_request y x q r e)) asked)
+      another_never y q out x r asked (first_refused m e is) = cc is
+      another_never y q out x r asked (second_refused m e is) = cc is
+
+      by_received : (got : Received) → IsReceived datagram (is_gateway who) got → Rules settings now peer got decided → Taken ⊎ Passed
+      by_received (received.Dismissed d) got is =
+          inr (never_asked (received.Dismissed d) (dismissed_never d) got, unchanged (ap (λ v. after v now) is ∙ dismissal_adds_nothing d now))
+      by_received (received.Refused x e) got is =
+          inr (was_refused peer datagram x e came got, unchanged (ap (λ v. after v now) is ∙ refusal_adds_nothing (reject_verdict x e) now (reject_refuses x e)))
+      by_received (received.Asked x r) got is = by_asked (is_asked r)
+        where
+          valued : decided ≡ asked_verdict settings now peer x r
+          valued = request_valued settings now peer x r decided is
+
+          by_asked : IsAsked r ⊎ (IsAsked r → ⊥) → Taken ⊎ Passed
+          by_asked (inl asked) = inl (taken_up x r got asked valued)
+          by_asked (inr out) = inr (never_asked (received.Asked x r) (another_never x r out) got, not_taken x r out valued)
+
+      by_decision : Decides settings now peer datagram decided → Taken ⊎ Passed
+      by_decision (by_silence stranger is) =
+          inr (none_by (λ asks. stranger_nowhere settings who asks.3.0.cdid domain stranger asks.3.2), unchanged (ap (λ v. after v now) is))
+      by_decision (for_want_of_memory n lacks) =
+          inr (lacked_memory peer datagram came (record { message = lacks.message; spelled = lacks.spelled; sent = sym sent ∙ told ∙ ap (λ v. sends_of v peer) lacks.answer }), unchanged (ap (λ v. after v now) lacks.answer))
+      by_decision (by_rules n got received rules) = by_received got received rules
+
+  -- nothing was asked
+  nothing_asked : (what : Event) → turn.what ≡ what → ((peer : ℕ) (datagram : List ℕ) → what ≡ event.Datagram peer datagram → ⊥) → new.history ≡ old.history → Taken ⊎ Passed
+  nothing_asked what is never same = inr (none_came out, ap (alone domain) same)
+    where
+      out : AsksFor settings domain turn.what → ⊥
+      out (by_datagram p bytes x r path e got asks found) = never p bytes (sym is ∙ e)
+
+  by_event : (what : Event) (owed : List (State × OwnedOut)) → turn.what ≡ what → outs_of owed ≡ turn.sends → Step settings old what turn.at owed new → Taken ⊎ Passed
+  by_event (event.Datagram peer datagram) owed is sent step =
+      let a = step.2 in
+      by_decision peer datagram is step.0 (sym (ap outs_of step.1 ∙ outs_back new step.0) ∙ sent) a.0 a.2 a.3 a.1
+  by_event event.End owed is sent step = nothing_asked event.End is (λ p d e. cc e) (ap (λ (state : State). state.history) step.1)
+  by_event event.Failed owed is sent step = nothing_asked event.Failed is (λ p d e. cc e) (ap (λ (state : State). state.history) step.1)
+  by_event (event.Opened c p) owed is sent step = nothing_asked (event.Opened c p) is (λ p d e. cc e) (ap (λ (state : State). state.history) step.1)
+  by_event (event.Piece c p) owed is sent step = nothing_asked (event.Piece c p) is (λ p d e. cc e) (ap (λ (state : State). state.history) step.1)
+  by_event (event.Closed c) owed is sent step = nothing_asked (event.Closed c) is (λ p d e. cc e) (ap (λ (state : State). state.history) step.1)
+  by_event event.Tick owed is sent step = nothing_asked event.Tick is (λ p d e. cc e) (ap (λ (state : State). state.history) step.1)
+  by_event event.Restart owed is sent step = nothing_asked event.Restart is (λ p d e. cc e) (ap (λ (state : State). state.history) step.1)
+
+  pub one_turn_isolated : IsTurn settings old turn new → Taken ⊎ Passed
+  one_turn_isolated is = by_event turn.what is.owed refl is.sent is.step
+
+module _ (settings : SettingsValue) (domain : ℕ) where
+  isolated_then : (old : State) (turn : Turn) (mid : State) (turns : List Turn) (new : State) → IsTurn settings old turn mid → IsIsolated settings mid turns new domain
+      → Taken settings domain old turn mid ⊎ Passed settings domain old turn mid → IsIsolated settings old (turn ∷ turns) new domain
+  isolated_then old turn mid turns new is rest (inl (taken, takes, decided, decides, told, entries)) = record {
+    requests = taken ∷ rest.requests;
+    are = (mid, is, inl (taken, rest.requests, refl, takes, rest.are));
+    make = (decided, decides, told, subst (λ es. Make settings es rest.requests (alone domain new.history)) entries rest.make);
+  }
+  isolated_then old turn mid turns new is rest (inr (passes, entries)) = record {
+    requests = rest.requests;
+    are = (mid, is, inr (passes, rest.are));
+    make = subst (λ es. Make settings es rest.requests (alone domain new.history)) entries rest.make;
+  }
+
+  turns_isolated : (old : State) (turns : List Turn) (new : State) → EachTurn (IsTurn settings) old turns new → IsIsolated settings old turns new domain
+  turns_isolated old [] new is = record { requests = []; are = (refl, is); make = ap (λ (state : State). alone domain state.history) is }
+  turns_isolated old (turn ∷ turns) new each =
+      isolated_then old turn each.0 turns new each.1 (turns_isolated each.0 turns new each.2) (one_turn_isolated settings domain old turn each.0 each.1)
+
+pub run_isolated : (settings : SettingsValue) (domain : ℕ) (from : State) (acts : List Timed) (trace : List State) (new : State) → Trace (Step settings) (resting from) acts trace (resting new)
+    → IsIsolated settings from (turns_of acts) new domain
+run_isolated settings domain from acts trace new run = turns_isolated settings domain from (turns_of acts) new (by_turns settings (resting from) acts trace new run)

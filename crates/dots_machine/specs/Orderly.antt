@@ -1,0 +1,25 @@
+-- Which mitigations stand beside each other: what an operator may rely on.
+use Rattle.std.specs.Prelude.{◌≡◌, ◌≢◌, ℕ, ◌<◌, ◌≤◌, true, false, List, take, Some, slice_get}
+use Rattle.dots_history.specs.declared.entry.Entry.{Entry}
+use Rattle.dots_history.specs.declared.put.Put.{Put}
+use Rattle.dots_history.specs.declared.change.Change.TheVariants as change
+use Rattle.dots_history.specs.Entries.{ends, targets_meet}
+use Rattle.judged_entries.specs.Judgements.{StandsIn}
+use Rattle.dots_machine.specs.Machine.{State}
+
+-- No two mitigations of a domain that stand at the time have an address in common, of whichever clients they are.
+abbrev pub ShareNone : ℕ → List Entry → Type 0
+ShareNone t entries =
+    (domain i j : ℕ) (a b : Entry) (one other : Put) → i ≢ j → StandsIn domain t entries i a one → StandsIn domain t entries j b other
+    → targets_meet one other ≡ false
+
+-- Of two of one client the one with the higher mid stands: where a mitigation ended one that stood when it came, by overlapping with it or by
+-- having its mid, its mid isn't the lower one.
+abbrev pub HigherStays : List Entry → Type 0
+HigherStays entries =
+    (domain i j : ℕ) (a b : Entry) (one other : Put) → i < j → slice_get entries j ≡ Some b → b.change ≡ change.Put other
+    → StandsIn domain b.time (take j entries) i a one → ends a b ≡ true → one.mid ≤ other.mid
+
+pub record IsOrderly (state : State) : Type 0 where
+  pub share_none : ShareNone state.time state.history
+  pub higher_stays : HigherStays state.history
