@@ -79,9 +79,20 @@ one_datagram words peer from bytes others h g =
     let read : decode_of h.digits ≡ Ok others = ap decode_of peers.1 ∙ g.read.bytes_are in
     (peers.0, decode_of-same h.digits bytes others h.read.bytes_are read)
 
-not_both : (words : List ℕ) (peer : ℕ) (bytes : List ℕ) → IsDatagram words peer bytes → words ≡ codes "tick" → ⊥
-not_both words peer bytes h tick =
+-- no two forms begin with the same letter
+from_or_tick : (words : List ℕ) (peer : ℕ) (bytes : List ℕ) → IsDatagram words peer bytes → words ≡ codes "tick" → ⊥
+from_or_tick words peer bytes h tick =
     let first : 102 ≡ 116 = ap (λ text. get_or text 0 0) (sym h.spelled ∙ tick) in
+    absurd (omega (arith, first))
+
+from_or_restart : (words : List ℕ) (peer : ℕ) (bytes : List ℕ) → IsDatagram words peer bytes → words ≡ codes "restart" → ⊥
+from_or_restart words peer bytes h restart =
+    let first : 102 ≡ 114 = ap (λ text. get_or text 0 0) (sym h.spelled ∙ restart) in
+    absurd (omega (arith, first))
+
+tick_or_restart : (words : List ℕ) → words ≡ codes "tick" → words ≡ codes "restart" → ⊥
+tick_or_restart words tick restart =
+    let first : 116 ≡ 114 = ap (λ text. get_or text 0 0) (sym tick ∙ restart) in
     absurd (omega (arith, first))
 
 one_saying : (words : List ℕ) (event other : Event) → SaysEvent words event → SaysEvent words other → event ≡ other
@@ -91,22 +102,29 @@ one_saying words (event.Datagram peer bytes) (event.Datagram from others) h g =
 one_saying words (event.Datagram peer bytes) (event.Opened a b) h g = absurd g
 one_saying words (event.Datagram peer bytes) (event.Piece a b) h g = absurd g
 one_saying words (event.Datagram peer bytes) (event.Closed a) h g = absurd g
-one_saying words (event.Datagram peer bytes) event.Tick h g = absurd (not_both words peer bytes h g)
-one_saying words (event.Datagram peer bytes) event.Restart h g = absurd g
+one_saying words (event.Datagram peer bytes) event.Tick h g = absurd (from_or_tick words peer bytes h g)
+one_saying words (event.Datagram peer bytes) event.Restart h g = absurd (from_or_restart words peer bytes h g)
 one_saying words (event.Datagram peer bytes) event.End h g = absurd g
 one_saying words (event.Datagram peer bytes) event.Failed h g = absurd g
 one_saying words (event.Opened a b) other h g = absurd h
 one_saying words (event.Piece a b) other h g = absurd h
 one_saying words (event.Closed a) other h g = absurd h
-one_saying words event.Tick (event.Datagram peer bytes) h g = absurd (not_both words peer bytes g h)
+one_saying words event.Tick (event.Datagram peer bytes) h g = absurd (from_or_tick words peer bytes g h)
 one_saying words event.Tick (event.Opened a b) h g = absurd g
 one_saying words event.Tick (event.Piece a b) h g = absurd g
 one_saying words event.Tick (event.Closed a) h g = absurd g
 one_saying words event.Tick event.Tick h g = refl
-one_saying words event.Tick event.Restart h g = absurd g
+one_saying words event.Tick event.Restart h g = absurd (tick_or_restart words h g)
 one_saying words event.Tick event.End h g = absurd g
 one_saying words event.Tick event.Failed h g = absurd g
-one_saying words event.Restart other h g = absurd h
+one_saying words event.Restart (event.Datagram peer bytes) h g = absurd (from_or_restart words peer bytes g h)
+one_saying words event.Restart (event.Opened a b) h g = absurd g
+one_saying words event.Restart (event.Piece a b) h g = absurd g
+one_saying words event.Restart (event.Closed a) h g = absurd g
+one_saying words event.Restart event.Tick h g = absurd (tick_or_restart words g h)
+one_saying words event.Restart event.Restart h g = refl
+one_saying words event.Restart event.End h g = absurd g
+one_saying words event.Restart event.Failed h g = absurd g
 one_saying words event.End other h g = absurd h
 one_saying words event.Failed other h g = absurd h
 

@@ -28,7 +28,7 @@ abbrev pub AreSkipped : List (List ℕ) → Type 0
 AreSkipped [] = Unit {0}
 AreSkipped (line ∷ lines) = IsLine line × IsSkipped line × AreSkipped lines
 
--- the text begins with a line of neither form
+-- the text begins with a line of none of these forms
 pub record HasOtherForm (text : List ℕ) : Type 0 where
   pub line : List ℕ
   pub rest : List ℕ

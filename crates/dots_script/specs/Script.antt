@@ -16,10 +16,11 @@ pub record IsDatagram (words : List ℕ) (peer : ℕ) (bytes : List ℕ) : Type 
   pub small : peer < 2 ^ 32
   pub read : IsHex digits bytes
 
--- the words say the event: a datagram, or `tick`, that the time has come
+-- the words say the event: a datagram; `tick`, that the time has come; or `restart`, that the server lost all but its disk and begins again
 abbrev pub SaysEvent : List ℕ → Event → Type 0
 SaysEvent words (event.Datagram peer bytes) = IsDatagram words peer bytes
 SaysEvent words event.Tick = words ≡ codes "tick"
+SaysEvent words event.Restart = words ≡ codes "restart"
 SaysEvent words _ = ⊥
 
 -- `at T` and the words of an event: it comes at this time

@@ -45,6 +45,9 @@ fn parse_words(words: &[u8], into: &mut [u8]) -> Option<What>
     if words == b"tick".as_slice() {
         return Some(What::Tick);
     }
+    if words == b"restart".as_slice() {
+        return Some(What::Restart);
+    }
     if let Some(rest) = after(words, b"from ") {
         return parse_datagram(rest, into);
     }

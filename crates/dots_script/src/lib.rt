@@ -2,8 +2,8 @@
 //! memory.
 //!
 //! A script has one event a line, as `at 1000 from 0 50030002`: at second 1000 a datagram of these bytes comes
-//! from peer 0; or `at 1001 tick`: second 1001 has come. Blank lines and lines that begin with `#` are skipped, and
-//! any other line is a fault. A send is written as `to 0 60450002`, one line each.
+//! from peer 0; `at 1001 tick`: second 1001 has come; or `at 1002 restart`: at second 1002 the server lost all but its disk
+//! and begins again. Blank lines and lines that begin with `#` are skipped, and any other line is a fault. A send is written as `to 0 60450002`, one line each.
 //!
 //! Read [`ScriptHost`] first, then `specs/Script.antt` (the lines of a script), `specs/Lines.antt` (what a call
 //! answers) and `specs/Sends.antt` (the line of a send).

@@ -68,8 +68,24 @@ fn ticks_are_read(rt: HostRuntime) -> Result<(), Fail> {
     Ok(())
 }
 
-/// A line that lacks its line feed, a number with leading zeros, half a byte, no byte, a time of 49 bits, a tick with no
-/// time, in capitals or with something around it, and other words. `;` stands for a line feed.
+#[test]
+fn restarts_are_read(rt: HostRuntime) -> Result<(), Fail> {
+    let script = b"at 1000 from 0 aaff\n# comment\nat 1001 restart\n";
+    let want = [datagram(0, 2, 1000), got(What::Restart, 1001)];
+    assert!(rt; are_events(rt.alloc(), script, &want, b"")?);
+    let script = b"at 0 restart\nat 281474976710655 restart\n";
+    let want = [
+        got(What::Restart, 0),
+        got(What::Restart, 281_474_976_710_655),
+    ];
+    assert!(rt; are_events(rt.alloc(), script, &want, b"")?);
+    let want = [got(What::Restart, 7), got(What::Failed, 0)];
+    assert!(rt; are_events(rt.alloc(), b"at 7 restart\nat 8 restart x\n", &want, b"")?);
+    Ok(())
+}
+
+/// A line that lacks its line feed, a number with leading zeros, half a byte, no byte, a time of 49 bits, a tick or a restart
+/// with no time, in capitals or with something around it, and other words. `;` stands for a line feed.
 const FAULTS: &str = "\
 at 1 from 0 00
 # comment
@@ -91,7 +107,15 @@ at 1 tickfrom 0 00;
 at 1 ;
 at 1;
 at 1 tock;
-at 1 restart;
+at 1 restart
+at 281474976710656 restart;
+at restart;
+at 1 restart ;
+at 1  restart;
+at 1 restart x;
+at 1 restarts;
+at 1 restar;
+at 1 RESTART;
 at 1 open 5 0;
 at 1 piece 5 00;
 at 1 close 5;";
