@@ -16,11 +16,17 @@ abbrev pub tick_complaint : List (List ℕ) → Option Complaint
 tick_complaint [] = None
 tick_complaint _ = Some (of_line reason.TickFields)
 
+-- the fields behind `restart`: none
+abbrev pub restart_complaint : List (List ℕ) → Option Complaint
+restart_complaint [] = None
+restart_complaint _ = Some (of_line reason.RestartFields)
+
 -- an event, by its first word and the fields behind it
 unfoldable pub complaint_by_word : List ℕ → List (List ℕ) → Option Complaint
 complaint_by_word word fields =
     if bytes_eq word (codes "from") then datagram_complaint fields
     else if bytes_eq word (codes "tick") then tick_complaint fields
+    else if bytes_eq word (codes "restart") then restart_complaint fields
     else Some (of_field reason.EventWord 2)
 
 -- `at SECONDS`, and an event

@@ -93,17 +93,19 @@ pub enum Reason {
     LineTooLong,
     /// The last line of a script has no line feed.
     Unended,
-    /// A line of a script is neither `at SECONDS from PEER HEX` nor `at SECONDS tick`.
+    /// A line of a script is none of `at SECONDS from PEER HEX`, `at SECONDS tick` and `at SECONDS restart`.
     EventFields,
     /// One with `from` has other fields than `at SECONDS from PEER HEX`.
     DatagramFields,
     /// One with `tick` has more fields than `at SECONDS tick`.
     TickFields,
+    /// One with `restart` has more fields than `at SECONDS restart`.
+    RestartFields,
     /// It doesn't begin with `at`.
     At,
     /// The time is none.
     Seconds,
-    /// The third word is neither `from` nor `tick`.
+    /// The third word is none of `from`, `tick` and `restart`.
     EventWord,
     /// The bytes are none.
     Datagram,
@@ -181,15 +183,17 @@ impl Reason {
             Reason::LineTooLong => b"a line has at most 8400 bytes",
             Reason::Unended => b"the last line does not end with a line feed",
             Reason::EventFields =>
-                b"a line is: at SECONDS from PEER HEX, or: at SECONDS tick, with one space between two fields",
+                b"a line is: at SECONDS from PEER HEX, or: at SECONDS tick, or: at SECONDS restart, with one space between two fields",
             Reason::DatagramFields =>
                 b"a from line is: at SECONDS from PEER HEX, with one space between two fields",
             Reason::TickFields =>
                 b"a tick line is: at SECONDS tick, with one space between two fields",
+            Reason::RestartFields =>
+                b"a restart line is: at SECONDS restart, with one space between two fields",
             Reason::At => b"the first word of a line is at",
             Reason::Seconds =>
                 b"the time is a number of seconds below 281474976710656, without leading zeros",
-            Reason::EventWord => b"the third word of a line is from or tick",
+            Reason::EventWord => b"the third word of a line is from, tick or restart",
             Reason::Datagram => b"a datagram is 1 to 4096 bytes in hexadecimal, two digits each",
             Reason::OutOfRange { .. } => b"the limit of this capacity is a number from 1 to ",
             Reason::Overlap { .. } =>

@@ -2,7 +2,7 @@
 
 ghost use Rattle.std.specs.Prelude.{◌≡◌, map};
 ghost use Rattle.dots_settings.specs.Lines.{fields_of};
-ghost use Rattle.file_checks.specs.ScriptComplaints.{datagram_complaint, tick_complaint, complaint_by_word, event_complaint, script_complaint};
+ghost use Rattle.file_checks.specs.ScriptComplaints.{datagram_complaint, tick_complaint, restart_complaint, complaint_by_word, event_complaint, script_complaint};
 
 use crate::complaint::Complaint;
 use crate::kinds::{is_datagram, is_decimal_up_to};
@@ -58,6 +58,9 @@ fn complaint_by_word(word: &[u8], fields: &[&[u8]]) -> Option<Complaint>
     if word == b"tick".as_slice() {
         return tick_complaint(fields);
     }
+    if word == b"restart".as_slice() {
+        return restart_complaint(fields);
+    }
     Some(Complaint::of_field(Reason::EventWord, 2))
 }
 
@@ -83,6 +86,16 @@ fn tick_complaint(fields: &[&[u8]]) -> Option<Complaint>
 {
     let [] = fields else {
         return Some(Complaint::of_line(Reason::TickFields));
+    };
+    None
+}
+
+/// The complaint of the fields behind `restart`.
+fn restart_complaint(fields: &[&[u8]]) -> Option<Complaint>
+    ensures { result ≡ restart_complaint (map (λ field. field.now) fields.now) }
+{
+    let [] = fields else {
+        return Some(Complaint::of_line(Reason::RestartFields));
     };
     None
 }
