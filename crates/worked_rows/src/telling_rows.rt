@@ -80,7 +80,7 @@ at 1001 from 0 50030002
 ";
 
 const BROKEN_TOLD: &str = r#"script line 2: "at 1000 frm 0 5003"
-line 2: the third word of a line is from or tick: "frm"
+line 2: the third word of a line is from, tick or restart: "frm"
 "#;
 
 /// Whether a run with these words, of whose source this is the text, ends so. The script of the host is never looked at.
