@@ -2,3 +2,4 @@ pub mod Standing
 pub mod Slots
 pub mod Images
 pub mod Answering
+pub mod Wholes

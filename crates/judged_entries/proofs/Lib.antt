@@ -9,3 +9,5 @@ pub mod Places
 pub mod HeldPlaces
 pub mod Rules
 pub mod Judging
+pub mod OnePeer
+pub mod CalmLimits
