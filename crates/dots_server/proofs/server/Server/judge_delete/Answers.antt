@@ -3,7 +3,7 @@ use Rattle.dots_machine.specs.Replies.{deleted}
 use Rattle.dots_server.specs.Standing.{CanCarryOut}
 use Rattle.dots_server.proofs.Verdicts.{if_both}
 use Rattle.dots_server.proofs.Accepting.{withdrawal_acceptable}
-use Rattle.dots_server.proofs.server.Server.decide_delete.Goals as goal
+use Rattle.dots_server.proofs.server.Server.judge_delete.Goals as goal
 
 pub returns-clause-ready : goal.returns-clause-ready
 returns-clause-ready c =
