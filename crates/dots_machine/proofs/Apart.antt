@@ -11,11 +11,12 @@ use Rattle.dots_host.proofs.RunLemmas.{outs_back}
 use Rattle.dots_settings.specs.Settings.{SettingsValue}
 use Rattle.dots_settings.specs.Lookups.{role_of, prefixes_of}
 use Rattle.dots_history.specs.Histories.{alone}
+use Rattle.dots_laws.proofs.Alone.{replies_alone}
 use Rattle.dots_heads.specs.declared.request.Content.{Content}
-use Rattle.dots_heads.specs.declared.request.MitigationPath.{MitigationPath}
 use Rattle.dots_keys.specs.declared.request.Request.{Request}
 use Rattle.dots_keys.specs.declared.request.Request.TheVariants as request
 use Rattle.dots_keys.specs.declared.request.MitigationBody.{MitigationBody}
+use Rattle.dots_registry.specs.Judging.{judge_request}
 use Rattle.judged_entries.proofs.Alone.{judged_apart, collides_apart, shown_apart}
 use Rattle.dots_machine.specs.declared.exchange.Exchange.{Exchange}
 use Rattle.dots_machine.specs.declared.received.Received.TheVariants as received
@@ -23,14 +24,16 @@ use Rattle.dots_machine.specs.declared.client_request.ClientRequest.{ClientReque
 use Rattle.dots_machine.specs.declared.mitigation_request.MitigationRequest.{MitigationRequest}
 use Rattle.dots_machine.specs.declared.verdict.Verdict.{Verdict}
 use Rattle.dots_machine.specs.declared.verdict.Verdict.TheVariants as verdict
-use Rattle.dots_machine.specs.Domains.{domain_for}
+use Rattle.dots_machine.specs.Domains.{domain_for, session_domain}
 use Rattle.dots_machine.specs.Targets.{scope_fault}
-use Rattle.dots_machine.specs.Mitigations.{request_of, judged, lives}
+use Rattle.dots_machine.specs.Replies.{not_implemented}
+use Rattle.dots_machine.specs.Repeats.{Sent, sent_for}
+use Rattle.dots_machine.specs.Mitigations.{sent_by, request_of, judged, lives}
 use Rattle.dots_machine.specs.Machine.{State, later, asks_for, DecidesRequest, Rules, Decides, by_silence, by_rules, for_want_of_memory, sends_of, after, Answers, Step}
-use Rattle.dots_machine.specs.Verdicts.{unless_faulty, put_verdict, is_taken, stands_as, delete_by, delete_verdict, get_by, get_verdict, in_domain, with_mid, put_in, put_for, delete_for, get_for, asked_verdict}
-use Rattle.dots_machine.specs.Apart.{SameFor, path_of, AsksFor, by_datagram, StaysApart, elsewhere, same_step}
+use Rattle.dots_machine.specs.Verdicts.{repeated, unless_repeated, unless_faulty, put_verdict, is_taken, stands_as, delete_by, delete_verdict, get_by, get_verdict, in_domain, with_mid, put_in, put_for, delete_in, delete_for, get_for, config_for, asked_verdict}
+use Rattle.dots_machine.specs.Apart.{SameFor, domain_of, AsksFor, by_datagram, StaysApart, elsewhere, same_step}
 use Rattle.dots_machine.proofs.Verdicts.{request_valued, request_there}
-use Rattle.dots_machine.proofs.Outcomes.{AcceptsWell, puts_accept, deletes_accept, gets_accept}
+use Rattle.dots_machine.proofs.Outcomes.{AcceptsWell, puts_accept, deletes_accept, gets_accept, configs_accept}
 
 module _ (settings : SettingsValue) where
   module _ (domain : ℕ) (one other : State) (same : SameFor domain one other) where
@@ -66,6 +69,19 @@ module _ (settings : SettingsValue) where
     with_mid_same x None f g each = refl
     with_mid_same x (Some mid) f g each = each mid
 
+    -- the entry that is remembered is one of the domain
+    repeated_there : (sent : Sent) → sent.domain ≡ domain → repeated settings other.time one.history sent ≡ repeated settings other.time other.history sent
+    repeated_there sent here =
+        sym (replies_alone settings.limits.remembered other.time sent.peer sent.domain sent.id one.history)
+        ∙ ap (λ es. repeated settings other.time es sent) (subst (λ d. alone d one.history ≡ alone d other.history) (sym here) same.entries)
+        ∙ replies_alone settings.limits.remembered other.time sent.peer sent.domain sent.id other.history
+
+    repeated_same : (sent : Sent) → sent.domain ≡ domain → repeated settings one.time one.history sent ≡ repeated settings other.time other.history sent
+    repeated_same sent here = ap (λ t. repeated settings t one.history sent) same.time ∙ repeated_there sent here
+
+    config_same : (peer : ℕ) (x : Exchange) → config_for settings one peer x domain ≡ config_for settings other peer x domain
+    config_same peer x = ap (λ o. unless_repeated o (verdict.Reply (not_implemented x))) (repeated_same (sent_for peer x domain) refl)
+
     module _ (from : ClientRequest) (here : from.domain ≡ domain) where
       own : alone from.domain one.history ≡ alone from.domain other.history
       own = subst (λ d. alone d one.history ≡ alone d other.history) (sym here) same.entries
@@ -73,8 +89,11 @@ module _ (settings : SettingsValue) where
       put_same : (mid : ℕ) (body : MitigationBody) → put_in settings one from body mid ≡ put_in settings other from body mid
       put_same mid body =
           let a : MitigationRequest = record { from = from; mid = mid; body = body } in
+          let fault = scope_fault settings (prefixes_of settings from.domain) body.asked in
           ap (λ t. put_verdict settings t one.history a) same.time
-          ∙ ap (λ r. unless_faulty from.exchange (scope_fault settings (prefixes_of settings from.domain) body.asked) (judged other.time a r))
+          ∙ ap (λ o. unless_faulty from.exchange fault (unless_repeated o (judged other.time a (judge_request settings other.time one.history from.domain (request_of a)))))
+          (repeated_there (sent_by from) here)
+          ∙ ap (λ r. unless_faulty from.exchange fault (unless_repeated (repeated settings other.time other.history (sent_by from)) (judged other.time a r)))
           (judged_apart settings other.time one.history other.history from.domain (request_of a) own)
 
       taken_same : is_taken one.time one.history from ≡ is_taken other.time other.history from
@@ -91,6 +110,11 @@ module _ (settings : SettingsValue) where
           ∙ ap (λ ms. delete_by one.time from mid (is_taken other.time other.history from) (list_any (stands_as mid) ms)) lives_same
           ∙ ap (λ t. delete_by t from mid (is_taken other.time other.history from) (list_any (stands_as mid) (lives other.time other.history from))) same.time
 
+      delete_in_same : (mid : ℕ) → delete_in settings one from mid ≡ delete_in settings other from mid
+      delete_in_same mid =
+          ap (λ o. unless_repeated o (delete_verdict one.time one.history from mid)) (repeated_same (sent_by from) here)
+          ∙ ap (unless_repeated (repeated settings other.time other.history (sent_by from))) (delete_same mid)
+
       get_same : (mid : Option ℕ) (content : Content) → get_verdict one.time one.history from mid content ≡ get_verdict other.time other.history from mid content
       get_same mid content =
           ap (λ b. get_by from.exchange mid content b (lives one.time one.history from)) taken_same
@@ -100,38 +124,41 @@ module _ (settings : SettingsValue) where
 
     abbrev pub Elsewhere : Request → ℕ → Verdict → Type 0
     Elsewhere r peer v =
-        (another : ℕ) × (another ≢ domain)
-        × ((path : MitigationPath) × (path_of r ≡ Some path) × (domain_for settings (role_of settings peer) path.cdid ≡ Some another)) × Untouched v
+        (another : ℕ) × (another ≢ domain) × (domain_of settings (role_of settings peer) r ≡ Some another) × Untouched v
 
     -- for another domain, which leaves this one; or decided alike
-    in_domain_apart : (peer : ℕ) (x : Exchange) (r : Request) (path : MitigationPath) (found : Option ℕ) (f g : ℕ → Verdict) → path_of r ≡ Some path
-        → domain_for settings (role_of settings peer) path.cdid ≡ found → ((d : ℕ) → AcceptsWell d (f d)) → f domain ≡ g domain
+    in_domain_apart : (peer : ℕ) (x : Exchange) (r : Request) (found : Option ℕ) (f g : ℕ → Verdict)
+        → domain_of settings (role_of settings peer) r ≡ found → ((d : ℕ) → AcceptsWell d (f d)) → f domain ≡ g domain
         → Elsewhere r peer (in_domain x found f) ⊎ (in_domain x found f ≡ in_domain x found g)
-    in_domain_apart peer x r path None f g asks is well alike = inr refl
-    in_domain_apart peer x r path (Some d) f g asks is well alike = by_test (d == domain) refl
+    in_domain_apart peer x r None f g is well alike = inr refl
+    in_domain_apart peer x r (Some d) f g is well alike = by_test (d == domain) refl
       where
         by_test : (here : Bool) → (d == domain) ≡ here → Elsewhere r peer (f d) ⊎ (f d ≡ g d)
         by_test true here = inr (subst (λ n. f n ≡ g n) (grind (arith, nat_tests, here)) alike)
         by_test false there =
             let apart : d ≢ domain = grind (arith, nat_tests, there) in
-            inl (d, apart, (path, asks, is), untouched d (f d) apart (well d))
+            inl (d, apart, is, untouched d (f d) apart (well d))
 
     pub asked_apart : (peer : ℕ) (x : Exchange) (r : Request) → Elsewhere r peer (asked_verdict settings one peer x r) ⊎ (asked_verdict settings one peer x r ≡ asked_verdict settings other peer x r)
     asked_apart peer x (request.PutMitigation path body) =
-        in_domain_apart peer x (request.PutMitigation path body) path (domain_for settings (role_of settings peer) path.cdid)
-        (put_for settings one peer x path body) (put_for settings other peer x path body) refl refl (puts_accept settings one peer x path body)
+        in_domain_apart peer x (request.PutMitigation path body) (domain_for settings (role_of settings peer) path.cdid)
+        (put_for settings one peer x path body) (put_for settings other peer x path body) refl (puts_accept settings one peer x path body)
         (with_mid_same x path.mid _ _ (λ mid. put_same (asks_for peer x path domain) refl mid body))
     asked_apart peer x (request.GetMitigation path content observe) =
-        in_domain_apart peer x (request.GetMitigation path content observe) path (domain_for settings (role_of settings peer) path.cdid)
-        (get_for one peer x path content) (get_for other peer x path content) refl refl (gets_accept settings one peer x path content)
+        in_domain_apart peer x (request.GetMitigation path content observe) (domain_for settings (role_of settings peer) path.cdid)
+        (get_for one peer x path content) (get_for other peer x path content) refl (gets_accept settings one peer x path content)
         (get_same (asks_for peer x path domain) refl path.mid content)
     asked_apart peer x (request.DeleteMitigation path) =
-        in_domain_apart peer x (request.DeleteMitigation path) path (domain_for settings (role_of settings peer) path.cdid)
-        (delete_for one peer x path) (delete_for other peer x path) refl refl (deletes_accept settings one peer x path)
-        (with_mid_same x path.mid _ _ (λ mid. delete_same (asks_for peer x path domain) refl mid))
-    asked_apart peer x (request.PutConfig sid body) = inr refl
+        in_domain_apart peer x (request.DeleteMitigation path) (domain_for settings (role_of settings peer) path.cdid)
+        (delete_for settings one peer x path) (delete_for settings other peer x path) refl (deletes_accept settings one peer x path)
+        (with_mid_same x path.mid _ _ (λ mid. delete_in_same (asks_for peer x path domain) refl mid))
+    asked_apart peer x (request.PutConfig sid body) =
+        in_domain_apart peer x (request.PutConfig sid body) (session_domain (role_of settings peer)) (config_for settings one peer x) (config_for settings other peer x) refl
+        (configs_accept settings one peer x) (config_same peer x)
     asked_apart peer x (request.GetConfig sid) = inr refl
-    asked_apart peer x (request.DeleteConfig sid) = inr refl
+    asked_apart peer x (request.DeleteConfig sid) =
+        in_domain_apart peer x (request.DeleteConfig sid) (session_domain (role_of settings peer)) (config_for settings one peer x) (config_for settings other peer x) refl
+        (configs_accept settings one peer x) (config_same peer x)
     asked_apart peer x (request.PutHeartbeat heard) = inr refl
 
     module _ (peer : ℕ) (datagram : List ℕ) (sends : List OwnedOut) (new : State) where
@@ -159,8 +186,8 @@ module _ (settings : SettingsValue) where
               there alike = subst (DecidesRequest settings other peer x r) (sym (request_valued settings one peer x r a.0 is ∙ alike)) (request_there settings other peer x r)
 
               joined : Elsewhere r peer (asked_verdict settings one peer x r) ⊎ (asked_verdict settings one peer x r ≡ asked_verdict settings other peer x r) → ForAnother ⊎ AlsoThere
-              joined (inl (another, there, (path, asks, found), none)) =
-                  inl (another, there, by_datagram peer datagram x r path refl got asks found, ap (λ state. alone domain state.history) (a.3 ∙ ap (λ v. after v one) (request_valued settings one peer x r a.0 is)) ∙ none)
+              joined (inl (another, there, found, none)) =
+                  inl (another, there, by_datagram peer datagram x r refl got found, ap (λ state. alone domain state.history) (a.3 ∙ ap (λ v. after v one) (request_valued settings one peer x r a.0 is)) ∙ none)
               joined (inr alike) = inr (also_there a.0 a.2 a.3 (by_rules n (received.Asked x r) got (there alike)))
 
   module _ (domain : ℕ) (old other : State) (same : SameFor domain old other) (at : ℕ) (new : State) where

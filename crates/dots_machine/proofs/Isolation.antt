@@ -15,7 +15,6 @@ use Rattle.dots_settings.specs.Settings.{SettingsValue}
 use Rattle.dots_settings.specs.Lookups.{role_of}
 use Rattle.dots_history.specs.declared.entry.Entry.{Entry}
 use Rattle.dots_history.specs.Histories.{alone}
-use Rattle.dots_heads.specs.declared.request.MitigationPath.{MitigationPath}
 use Rattle.dots_keys.specs.declared.request.Request.{Request}
 use Rattle.dots_keys.specs.declared.request.Request.TheVariants as request
 use Rattle.dots_machine.specs.declared.exchange.Exchange.{Exchange}
@@ -25,15 +24,15 @@ use Rattle.dots_machine.specs.declared.received.Received.{Received}
 use Rattle.dots_machine.specs.declared.received.Received.TheVariants as received
 use Rattle.dots_machine.specs.declared.verdict.Verdict.{Verdict}
 use Rattle.dots_machine.specs.declared.verdict.Verdict.TheVariants as verdict
-use Rattle.dots_machine.specs.Domains.{is_gateway, domain_for}
+use Rattle.dots_machine.specs.Domains.{is_gateway, domain_for, session_domain}
 use Rattle.dots_machine.specs.Requests.{IsReceived}
 use Rattle.dots_machine.specs.Machine.{State, later, is_stranger, DecidesRequest, Rules, dismissal_verdict, reject_verdict, Decides, by_silence, by_rules, for_want_of_memory, sends_of, after, Step}
-use Rattle.dots_machine.specs.Verdicts.{in_domain, put_for, delete_for, get_for, asked_verdict}
-use Rattle.dots_machine.specs.Apart.{SameFor, path_of, AsksFor, by_datagram}
+use Rattle.dots_machine.specs.Verdicts.{in_domain, put_for, delete_for, get_for, config_for, asked_verdict}
+use Rattle.dots_machine.specs.Apart.{SameFor, domain_of, AsksFor, by_datagram}
 use Rattle.dots_machine.specs.Turns.{Turn, IsTurn, EachTurn, turns_of}
 use Rattle.dots_machine.specs.Isolation.{TakenUp, TakesUp, PassesBy, none_came, was_refused, lacked_memory, entries_of, Make, IsIsolated}
 use Rattle.dots_machine.proofs.OneRequest.{Same, one, first_refused, second_refused, same_received}
-use Rattle.dots_machine.proofs.Outcomes.{AcceptsWell, IsRefusal, reject_refuses, puts_accept, deletes_accept, gets_accept, request_accepts}
+use Rattle.dots_machine.proofs.Outcomes.{AcceptsWell, IsRefusal, reject_refuses, puts_accept, deletes_accept, gets_accept, configs_accept, request_accepts}
 use Rattle.dots_machine.proofs.Verdicts.{request_valued, request_there}
 use Rattle.dots_machine.proofs.Apart.{untouched, Elsewhere, asked_apart}
 use Rattle.dots_machine.proofs.Turns.{by_turns}
@@ -56,10 +55,23 @@ alone_twice domain (e ∷ later) =
     (λ here. ap (λ es. e ∷ es) (alone_twice domain later) ∙ sym (cond-true (e.domain == domain) (e ∷ alone domain (alone domain later)) (alone domain (alone domain later)) here))
     (λ out. alone_twice domain later)
 
-stranger_nowhere : (settings : SettingsValue) (who : Role) (cdid : Option (List ℕ)) (domain : ℕ) → is_stranger who ≡ true → domain_for settings who cdid ≡ Some domain → ⊥
-stranger_nowhere settings role.Stranger cdid domain is found = some_or_none domain (sym found)
-stranger_nowhere settings (role.Client d) cdid domain is found = absurd (cc is)
-stranger_nowhere settings role.Gateway cdid domain is found = absurd (cc is)
+stranger_is : (who : Role) → is_stranger who ≡ true → who ≡ role.Stranger
+stranger_is role.Stranger is = refl
+stranger_is (role.Client d) is = absurd (cc is)
+stranger_is role.Gateway is = absurd (cc is)
+
+stranger_asks : (settings : SettingsValue) (r : Request) → domain_of settings role.Stranger r ≡ None
+stranger_asks settings (request.PutMitigation path body) = refl
+stranger_asks settings (request.GetMitigation path content observe) = refl
+stranger_asks settings (request.DeleteMitigation path) = refl
+stranger_asks settings (request.PutConfig sid body) = refl
+stranger_asks settings (request.GetConfig sid) = refl
+stranger_asks settings (request.DeleteConfig sid) = refl
+stranger_asks settings (request.PutHeartbeat heard) = refl
+
+stranger_nowhere : (settings : SettingsValue) (who : Role) (r : Request) (domain : ℕ) → is_stranger who ≡ true → domain_of settings who r ≡ Some domain → ⊥
+stranger_nowhere settings who r domain is found =
+    some_or_none domain (sym found ∙ ap (λ who. domain_of settings who r) (stranger_is who is) ∙ stranger_asks settings r)
 
 -- who refuses adds nothing
 refusal_adds_nothing : (v : Verdict) (state : State) → IsRefusal v → after v state ≡ state
@@ -97,7 +109,7 @@ module _ (settings : SettingsValue) (domain : ℕ) (old : State) (turn : Turn) (
 
     -- what a request for the domain is
     abbrev IsAsked : Request → Type 0
-    IsAsked r = (path : MitigationPath) × (path_of r ≡ Some path) × (domain_for settings who path.cdid ≡ Some domain)
+    IsAsked r = domain_of settings who r ≡ Some domain
 
     abbrev Asks : Type 0
     Asks = (x : Exchange) × (r : Request) × IsReceived datagram (is_gateway who) (received.Asked x r) × IsAsked r
@@ -106,13 +118,13 @@ module _ (settings : SettingsValue) (domain : ℕ) (old : State) (turn : Turn) (
     same_datagram p bytes e = (cc e, cc e)
 
     asks_here : (what : Event) → what ≡ event.Datagram peer datagram → AsksFor settings domain what → Asks
-    asks_here what is (by_datagram p bytes x r path e got asks found) =
+    asks_here what is (by_datagram p bytes x r e got found) =
         let same = same_datagram p bytes (sym is ∙ e) in (
           x,
           r,
           subst (λ p. IsReceived datagram (is_gateway (role_of settings p)) (received.Asked x r)) same.0
               (subst (λ bytes. IsReceived bytes (is_gateway (role_of settings p)) (received.Asked x r)) same.1 got),
-          (path, asks, subst (λ p. domain_for settings (role_of settings p) path.cdid ≡ Some domain) same.0 found),
+          subst (λ p. domain_of settings (role_of settings p) r ≡ Some domain) same.0 found,
         )
 
     none_by : (Asks → ⊥) → PassesBy settings domain turn
@@ -120,22 +132,15 @@ module _ (settings : SettingsValue) (domain : ℕ) (old : State) (turn : Turn) (
 
     -- whether a request is for the domain
     is_asked : (r : Request) → IsAsked r ⊎ (IsAsked r → ⊥)
-    is_asked r = by_path (path_of r) refl
+    is_asked r = by_domain (domain_of settings who r) refl
       where
-        by_path : (path : Option MitigationPath) → path_of r ≡ path → IsAsked r ⊎ (IsAsked r → ⊥)
-        by_path None none = inr (λ asked. some_or_none asked.0 (sym asked.1 ∙ none))
-        by_path (Some path) is = by_domain (domain_for settings who path.cdid) refl
+        by_domain : (found : Option ℕ) → domain_of settings who r ≡ found → IsAsked r ⊎ (IsAsked r → ⊥)
+        by_domain None at = inr (λ asked. some_or_none domain (sym asked ∙ at))
+        by_domain (Some d) at = by_test (d == domain) refl
           where
-            there : (found : Option ℕ) → domain_for settings who path.cdid ≡ found → IsAsked r → found ≡ Some domain
-            there found at asked = sym at ∙ ap (λ (p : MitigationPath). domain_for settings who p.cdid) (some_same path asked.0 (sym is ∙ asked.1)) ∙ asked.2
-
-            by_domain : (found : Option ℕ) → domain_for settings who path.cdid ≡ found → IsAsked r ⊎ (IsAsked r → ⊥)
-            by_domain None at = inr (λ asked. some_or_none domain (sym (there None at asked)))
-            by_domain (Some d) at = by_test (d == domain) refl
-              where
-                by_test : (b : Bool) → (d == domain) ≡ b → IsAsked r ⊎ (IsAsked r → ⊥)
-                by_test true here = let same : d ≡ domain = grind (arith, nat_tests, here) in inl (path, is, at ∙ ap Some same)
-                by_test false out = inr (λ asked. let same : d ≡ domain = some_same d domain (there (Some d) at asked) in both_ways (d == domain) out (grind (arith, nat_tests, same)))
+            by_test : (b : Bool) → (d == domain) ≡ b → IsAsked r ⊎ (IsAsked r → ⊥)
+            by_test true here = let same : d ≡ domain = grind (arith, nat_tests, here) in inl (at ∙ ap Some same)
+            by_test false out = inr (λ asked. let same : d ≡ domain = some_same d domain (sym at ∙ asked) in both_ways (d == domain) out (grind (arith, nat_tests, same)))
 
     module _ (sends : List OwnedOut) (sent : sends ≡ turn.sends) (decided : Verdict) (told : sends ≡ sends_of decided peer) (is_after : new ≡ after decided now) where
       unchanged : after decided now ≡ now → alone domain new.history ≡ alone domain old.history
@@ -158,14 +163,14 @@ module _ (settings : SettingsValue) (domain : ℕ) (old : State) (turn : Turn) (
 
           left : (r : Request) → (IsAsked r → ⊥) → Left (asked_verdict settings now peer x r)
           left (request.PutMitigation path body) never =
-              in_domain_left (domain_for settings who path.cdid) (put_for settings now peer x path body) (puts_accept settings now peer x path body) (λ found. never (path, refl, found))
+              in_domain_left (domain_for settings who path.cdid) (put_for settings now peer x path body) (puts_accept settings now peer x path body) never
           left (request.GetMitigation path content observe) never =
-              in_domain_left (domain_for settings who path.cdid) (get_for now peer x path content) (gets_accept settings now peer x path content) (λ found. never (path, refl, found))
+              in_domain_left (domain_for settings who path.cdid) (get_for now peer x path content) (gets_accept settings now peer x path content) never
           left (request.DeleteMitigation path) never =
-              in_domain_left (domain_for settings who path.cdid) (delete_for now peer x path) (deletes_accept settings now peer x path) (λ found. never (path, refl, found))
-          left (request.PutConfig sid body) never = refl
+              in_domain_left (domain_for settings who path.cdid) (delete_for settings now peer x path) (deletes_accept settings now peer x path) never
+          left (request.PutConfig sid body) never = in_domain_left (session_domain who) (config_for settings now peer x) (configs_accept settings now peer x) never
           left (request.GetConfig sid) never = refl
-          left (request.DeleteConfig sid) never = refl
+          left (request.DeleteConfig sid) never = in_domain_left (session_domain who) (config_for settings now peer x) (configs_accept settings now peer x) never
           left (request.PutHeartbeat heard) never = refl
 
       time_kept : (v : Verdict) → (after v now).time ≡ now.time
@@ -178,7 +183,7 @@ module _ (settings : SettingsValue) (domain : ℕ) (old : State) (turn : Turn) (
       taken_up : (x : Exchange) (r : Request) → IsReceived datagram (is_gateway who) (received.Asked x r) → IsAsked r → decided ≡ asked_verdict settings now peer x r → Taken
       taken_up x r got asked is = (
         record { time = new.time; peer = peer; exchange = x; request = r; sends = turn.sends },
-        record { datagram = datagram; path = asked.0; came = came; is_received = got; asks = asked.1; for_domain = asked.2; time_is = refl; sends_are = refl },
+        record { datagram = datagram; came = came; is_received = got; for_domain = asked; time_is = refl; sends_are = refl },
         decided,
         subst (DecidesRequest settings own peer x r) (sym (is ∙ alike)) (request_there settings own peer x r),
         sym sent ∙ told,
@@ -188,20 +193,16 @@ module _ (settings : SettingsValue) (domain : ℕ) (old : State) (turn : Turn) (
           same : SameFor domain now own
           same = record { time = sym (ap (λ (state : State). state.time) is_after ∙ time_kept decided); entries = alone_twice domain old.history }
 
-          here : (found : MitigationPath) → path_of r ≡ Some found → (another : ℕ) → domain_for settings who found.cdid ≡ Some another → another ≡ domain
-          here found asks another at =
-              some_same another domain (sym at ∙ ap (λ (p : MitigationPath). domain_for settings who p.cdid) (some_same found asked.0 (sym asks ∙ asked.1)) ∙ asked.2)
-
           alike : asked_verdict settings now peer x r ≡ asked_verdict settings own peer x r
           alike = by_apart (asked_apart settings domain now own same peer x r)
             where
               by_apart : Elsewhere settings domain now own same r peer (asked_verdict settings now peer x r) ⊎ (asked_verdict settings now peer x r ≡ asked_verdict settings own peer x r)
                   → asked_verdict settings now peer x r ≡ asked_verdict settings own peer x r
-              by_apart (inl (another, apart, (path, asks, at), none)) = absurd (apart (here path asks another at))
+              by_apart (inl (another, apart, at, none)) = absurd (apart (some_same another domain (sym at ∙ asked)))
               by_apart (inr same) = same
 
           well_so : decided ≡ asked_verdict settings now peer x r → AcceptsWell domain decided
-          well_so is = subst (AcceptsWell domain) (sym is) (request_accepts settings now peer x r domain asked.0 asked.1 asked.2)
+          well_so is = subst (AcceptsWell domain) (sym is) (request_accepts settings now peer x r domain asked)
 
           added : (v : Verdict) → AcceptsWell domain v → alone domain (after v now).history ≡ alone domain old.history ++ entries_of v
           added verdict.Silent well = sym (append-nil (alone domain old.history))
@@ -244,7 +245,7 @@ module _ (settings : SettingsValue) (domain : ℕ) (old : State) (turn : Turn) (
 
       by_decision : Decides settings now peer datagram decided → Taken ⊎ Passed
       by_decision (by_silence stranger is) =
-          inr (none_by (λ asks. stranger_nowhere settings who asks.3.0.cdid domain stranger asks.3.2), unchanged (ap (λ v. after v now) is))
+          inr (none_by (λ asks. stranger_nowhere settings who asks.1 domain stranger asks.3), unchanged (ap (λ v. after v now) is))
       by_decision (for_want_of_memory n lacks) =
           inr (lacked_memory peer datagram came (record { message = lacks.message; spelled = lacks.spelled; sent = sym sent ∙ told ∙ ap (λ v. sends_of v peer) lacks.answer }), unchanged (ap (λ v. after v now) lacks.answer))
       by_decision (by_rules n got received rules) = by_received got received rules
@@ -254,7 +255,7 @@ module _ (settings : SettingsValue) (domain : ℕ) (old : State) (turn : Turn) (
   nothing_asked what is never same = inr (none_came out, ap (alone domain) same)
     where
       out : AsksFor settings domain turn.what → ⊥
-      out (by_datagram p bytes x r path e got asks found) = never p bytes (sym is ∙ e)
+      out (by_datagram p bytes x r e got found) = never p bytes (sym is ∙ e)
 
   by_event : (what : Event) (owed : List (State × OwnedOut)) → turn.what ≡ what → outs_of owed ≡ turn.sends → Step settings old what turn.at owed new → Taken ⊎ Passed
   by_event (event.Datagram peer datagram) owed is sent step =

@@ -1,7 +1,9 @@
 pub mod Apart
+pub mod Repeats
 pub mod OneAnswer
 pub mod OneRequest
 pub mod OneState
+pub mod Repeating
 pub mod Outcomes
 pub mod Verdicts
 pub mod Turns
@@ -11,3 +13,4 @@ pub mod Meeting
 pub mod Orderly
 pub mod Ordering
 pub mod Laws
+pub mod Kept

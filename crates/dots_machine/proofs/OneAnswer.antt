@@ -11,9 +11,11 @@ use Rattle.cbor_profile.proofs.Readings.{held, same_reading, same_front, one_fau
 use Rattle.coap_message.specs.Message.{CoapMessage, header, options_bytes, payload_bytes, spelling}
 use Rattle.dots_keys.proofs.OneMeaning.{OneReading}
 use Rattle.dots_settings.specs.Settings.{SettingsValue}
+use Rattle.dots_machine.specs.declared.received.Received.{Received}
 use Rattle.dots_machine.specs.declared.verdict.Verdict.{Verdict}
 use Rattle.dots_settings.specs.Lookups.{role_of}
 use Rattle.dots_machine.specs.Domains.{is_gateway}
+use Rattle.dots_machine.specs.Requests.{IsReceived}
 use Rattle.dots_machine.specs.Machine.{State, later, is_stranger, LacksMemory, Decides, by_silence, by_rules, for_want_of_memory, sends_of, after, Answers, Step}
 use Rattle.dots_machine.specs.Answering.{AreBytes, IsHandedIn, SaysUnavailable, IsUnavailable}
 use Rattle.dots_machine.specs.Verdicts.{verdict_on}
@@ -56,6 +58,10 @@ module _ (settings : SettingsValue) (state : State) (peer : ℕ) (datagram : Lis
   abbrev gateway : Bool
   gateway = is_gateway (role_of settings peer)
 
+  pub one_thing : (got other : Received) → IsReceived datagram gateway got → IsReceived datagram gateway other → got ≡ other
+  one_thing got other is also =
+      one_received datagram gateway got other (λ message spelled. reads_once message.payload (payload_are_bytes datagram message spelled are)) is also
+
   pub one_verdict : (v w : Verdict) → Decides settings state peer datagram v → Decides settings state peer datagram w
       → (v ≡ w) ⊎ (LacksMemory datagram gateway v ⊎ LacksMemory datagram gateway w)
   one_verdict v w (for_want_of_memory n lacks) e = inr (inl lacks)
@@ -65,7 +71,7 @@ module _ (settings : SettingsValue) (state : State) (peer : ℕ) (datagram : Lis
   one_verdict v w (by_silence n is) (by_rules m got received at) = absurd (true_false (is_stranger (role_of settings peer)) n m)
   one_verdict v w (by_rules n got received is) (by_silence m at) = absurd (true_false (is_stranger (role_of settings peer)) m n)
   one_verdict v w (by_rules n got received is) (by_rules m other also at) =
-      inl (valued settings state peer got v is ∙ ap (verdict_on settings state peer) (one_received datagram gateway got other (λ message spelled. reads_once message.payload (payload_are_bytes datagram message spelled are)) received also)
+      inl (valued settings state peer got v is ∙ ap (verdict_on settings state peer) (one_thing got other received also)
       ∙ sym (valued settings state peer other w at))
 
   pub says : (v : Verdict) (sends : List OwnedOut) → sends ≡ sends_of v peer → LacksMemory datagram gateway v → SaysUnavailable peer datagram sends

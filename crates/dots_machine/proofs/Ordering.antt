@@ -33,10 +33,12 @@ use Rattle.dots_machine.specs.declared.client_request.ClientRequest.{ClientReque
 use Rattle.dots_machine.specs.declared.mitigation_request.MitigationRequest.{MitigationRequest}
 use Rattle.dots_machine.specs.declared.verdict.Verdict.{Verdict}
 use Rattle.dots_machine.specs.declared.verdict.Verdict.TheVariants as verdict
-use Rattle.dots_machine.specs.Domains.{domain_for}
+use Rattle.dots_machine.specs.Domains.{domain_for, session_domain}
 use Rattle.dots_machine.specs.Targets.{scope_fault}
-use Rattle.dots_machine.specs.Mitigations.{entry_of, request_of, refusal, judged, UnlessFaulty, client_for, ByRules, DecidesPut, DecidesDelete, name_taken, withdraws, gone, tell, DecidesGet, name_in_use, tells}
-use Rattle.dots_machine.specs.Machine.{State, begun_at, later, with_entry, asks_for, InDomain, WithMid, PutIn, PutFor, DeleteFor, GetFor, DecidesRequest, option_verdict, reject_verdict, dismissal_verdict, Rules, Decides, by_silence, by_rules, for_want_of_memory, after, Step}
+use Rattle.dots_machine.specs.Replies.{not_implemented}
+use Rattle.dots_machine.specs.Repeats.{Sent, sent_for, UnlessRepeated, repeats, is_new}
+use Rattle.dots_machine.specs.Mitigations.{entry_of, sent_by, request_of, refusal, judged, UnlessFaulty, client_for, ByRules, DecidesPut, DecidesDelete, name_taken, withdraws, gone, tell, DecidesGet, name_in_use, tells}
+use Rattle.dots_machine.specs.Machine.{State, begun_at, later, with_entry, asks_for, InDomain, WithMid, PutIn, PutFor, DeleteIn, DeleteFor, GetFor, ConfigFor, DecidesRequest, option_verdict, reject_verdict, dismissal_verdict, Rules, Decides, by_silence, by_rules, for_want_of_memory, after, Step}
 use Rattle.dots_machine.specs.Orderly.{IsOrderly}
 use Rattle.dots_machine.specs.Turns.{Turn, IsTurn, EachTurn, turns_of}
 use Rattle.dots_machine.proofs.Orderly.{share_later, share_without, share_with, higher_more, higher_with}
@@ -71,12 +73,20 @@ module _ (settings : SettingsValue) (state : State) where
   of_judged a (Ok given) is = inl (a, given, _, is, refl)
   of_judged a (Err fault) is = of_refusal a.from.exchange a.mid fault
 
+  of_repeat : (sent : Sent) (P : Verdict → Type 0) (v : Verdict) → (P v → AcceptsAs v) → UnlessRepeated settings state.time state.history sent P v → AcceptsAs v
+  of_repeat sent P v otherwise (repeats entry is same) = subst AcceptsAs (sym same) tt
+  of_repeat sent P v otherwise (is_new never p) = otherwise p
+
   of_put : (a : MitigationRequest) (v : Verdict) → DecidesPut settings state.time state.history a v → AcceptsAs v
   of_put a v is = by_fault (scope_fault settings (prefixes_of settings a.from.domain) a.body.asked) is
     where
-      by_fault : (fault : Option TargetFault) → UnlessFaulty a.from.exchange fault (ByRules settings state.time state.history a) v → AcceptsAs v
+      by_rules_alone : ByRules settings state.time state.history a v → AcceptsAs v
+      by_rules_alone by = subst AcceptsAs (sym by.2) (of_judged a by.0 by.1)
+
+      by_fault : (fault : Option TargetFault)
+          → UnlessFaulty a.from.exchange fault (UnlessRepeated settings state.time state.history (sent_by a.from) (ByRules settings state.time state.history a)) v → AcceptsAs v
       by_fault (Some fault) is = subst AcceptsAs (sym is) tt
-      by_fault None by = subst AcceptsAs (sym by.2) (of_judged a by.0 by.1)
+      by_fault None by = of_repeat (sent_by a.from) (ByRules settings state.time state.history a) v by_rules_alone by
 
   of_delete : (from : ClientRequest) (mid : ℕ) (v : Verdict) → DecidesDelete state.time state.history from mid v → AcceptsAs v
   of_delete from mid v (name_taken in_use is) = subst AcceptsAs (sym is) tt
@@ -100,6 +110,11 @@ module _ (settings : SettingsValue) (state : State) where
   of_mid x (Some m) P v each is = each m is
 
   module _ (peer : ℕ) where
+    of_config : (x : Exchange) (v : Verdict) → InDomain x (session_domain (role_of settings peer)) (ConfigFor settings state peer x) v → AcceptsAs v
+    of_config x v is =
+        of_domain x (session_domain (role_of settings peer)) (ConfigFor settings state peer x) v
+        (λ d. of_repeat (sent_for peer x d) (λ v. v ≡ verdict.Reply (not_implemented x)) v (λ same. subst AcceptsAs (sym same) tt)) is
+
     of_request : (x : Exchange) (r : Request) (v : Verdict) → DecidesRequest settings state peer x r v → AcceptsAs v
     of_request x (request.PutMitigation path body) v is =
         of_domain x (domain_for settings (role_of settings peer) path.cdid) (PutFor settings state peer x path body) v
@@ -107,11 +122,13 @@ module _ (settings : SettingsValue) (state : State) where
     of_request x (request.GetMitigation path content observe) v is =
         of_domain x (domain_for settings (role_of settings peer) path.cdid) (GetFor state peer x path content) v (λ d. of_get (asks_for peer x path d) path.mid content v) is
     of_request x (request.DeleteMitigation path) v is =
-        of_domain x (domain_for settings (role_of settings peer) path.cdid) (DeleteFor state peer x path) v
-        (λ d. of_mid x path.mid (DecidesDelete state.time state.history (asks_for peer x path d)) v (λ mid. of_delete (asks_for peer x path d) mid v)) is
-    of_request x (request.PutConfig sid body) v is = subst AcceptsAs (sym is) tt
+        of_domain x (domain_for settings (role_of settings peer) path.cdid) (DeleteFor settings state peer x path) v
+        (λ d.
+        of_mid x path.mid (DeleteIn settings state (asks_for peer x path d)) v
+        (λ mid. of_repeat (sent_by (asks_for peer x path d)) (DecidesDelete state.time state.history (asks_for peer x path d) mid) v (of_delete (asks_for peer x path d) mid v))) is
+    of_request x (request.PutConfig sid body) v is = of_config x v is
     of_request x (request.GetConfig sid) v is = subst AcceptsAs (sym is) tt
-    of_request x (request.DeleteConfig sid) v is = subst AcceptsAs (sym is) tt
+    of_request x (request.DeleteConfig sid) v is = of_config x v is
     of_request x (request.PutHeartbeat heard) v is = subst AcceptsAs (sym is) tt
 
     of_option : (kind : Kind) (reply : List ℕ) → AcceptsAs (option_verdict kind reply)

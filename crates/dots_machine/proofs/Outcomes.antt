@@ -1,5 +1,5 @@
 -- Of what is accepted the client is told with a success, 2.01, 2.02 or 2.04; of what is refused, or can't be served, never.
-use Rattle.std.proofs.Common.{◌≡◌, ℕ, ◌==◌, Bool, true, false, ◌||◌, List, [], ◌∷◌, Option, Some, None, Result, Ok, Err, refl, sym, ap, ◌∙◌, subst}
+use Rattle.std.proofs.Common.{◌≡◌, ℕ, ◌==◌, Bool, true, false, ◌||◌, List, [], ◌∷◌, Option, Some, None, Result, Ok, Err, refl, sym, subst}
 use Rattle.std.specs.List.{list_any}
 use Rattle.coap_message.specs.declared.kind.Kind.{Kind}
 use Rattle.coap_message.specs.declared.kind.Kind.TheVariants.{Con, Non, Ack, Rst}
@@ -8,6 +8,7 @@ use Rattle.dots_settings.specs.Lookups.{role_of, prefixes_of}
 use Rattle.dots_heads.specs.declared.reject.Reject.{Reject}
 use Rattle.dots_heads.specs.declared.reject.Reject.TheVariants as reject
 use Rattle.dots_heads.specs.declared.request.Content.{Content}
+use Rattle.dots_history.specs.declared.entry.Entry.{Entry}
 use Rattle.dots_heads.specs.declared.request.MitigationPath.{MitigationPath}
 use Rattle.dots_keys.specs.declared.request.Request.{Request}
 use Rattle.dots_keys.specs.declared.request.Request.TheVariants as request
@@ -27,13 +28,14 @@ use Rattle.dots_machine.specs.declared.client_request.ClientRequest.{ClientReque
 use Rattle.dots_machine.specs.declared.mitigation_request.MitigationRequest.{MitigationRequest}
 use Rattle.dots_machine.specs.declared.verdict.Verdict.{Verdict}
 use Rattle.dots_machine.specs.declared.verdict.Verdict.TheVariants as verdict
-use Rattle.dots_machine.specs.Domains.{domain_for}
+use Rattle.dots_machine.specs.Domains.{domain_for, session_domain}
 use Rattle.dots_machine.specs.Targets.{scope_fault}
-use Rattle.dots_machine.specs.Replies.{grant_code, rejection}
-use Rattle.dots_machine.specs.Mitigations.{request_of, refusal, judged, lives, tell}
+use Rattle.dots_machine.specs.Replies.{grant_code, rejection, not_implemented}
+use Rattle.dots_machine.specs.Repeats.{sent_for}
+use Rattle.dots_machine.specs.Mitigations.{sent_by, request_of, refusal, judged, lives, tell}
 use Rattle.dots_machine.specs.Machine.{State, asks_for, option_verdict, reject_verdict, dismissal_verdict}
-use Rattle.dots_machine.specs.Apart.{path_of}
-use Rattle.dots_machine.specs.Verdicts.{unless_faulty, put_verdict, is_taken, stands_as, delete_by, delete_verdict, get_by, get_verdict, in_domain, with_mid, put_in, put_for, delete_for, get_for, asked_verdict, verdict_on}
+use Rattle.dots_machine.specs.Apart.{domain_of}
+use Rattle.dots_machine.specs.Verdicts.{repeated, unless_repeated, unless_faulty, put_verdict, is_taken, stands_as, delete_by, delete_verdict, get_by, get_verdict, in_domain, with_mid, put_in, put_for, delete_in, delete_for, get_for, config_for, asked_verdict, verdict_on}
 
 abbrev pub code_of : List ℕ → ℕ
 code_of (first ∷ code ∷ bytes) = code
@@ -95,6 +97,11 @@ module _ (settings : SettingsValue) (state : State) where
   judged_accepts a (Ok j) = (grant_succeeds j.refreshed, refl)
   judged_accepts a (Err fault) = refusal_accepts a.from.exchange a.mid a.from.domain fault
 
+  -- the answer to a repeat accepts nothing
+  repeat_accepts : (domain : ℕ) (entry : Option Entry) (v : Verdict) → AcceptsWell domain v → AcceptsWell domain (unless_repeated entry v)
+  repeat_accepts domain (Some entry) v well = tt
+  repeat_accepts domain None v well = well
+
   unless_accepts : (x : Exchange) (domain : ℕ) (fault : Option TargetFault) (v : Verdict) → AcceptsWell domain v → AcceptsWell domain (unless_faulty x fault v)
   unless_accepts x domain (Some fault) v well = tt
   unless_accepts x domain None v well = well
@@ -102,7 +109,8 @@ module _ (settings : SettingsValue) (state : State) where
   put_accepts : (a : MitigationRequest) → AcceptsWell a.from.domain (put_verdict settings state.time state.history a)
   put_accepts a =
       unless_accepts a.from.exchange a.from.domain (scope_fault settings (prefixes_of settings a.from.domain) a.body.asked) _
-      (judged_accepts a (judge_request settings state.time state.history a.from.domain (request_of a)))
+      (repeat_accepts a.from.domain (repeated settings state.time state.history (sent_by a.from)) _
+      (judged_accepts a (judge_request settings state.time state.history a.from.domain (request_of a))))
 
   delete_accepts : (from : ClientRequest) (mid : ℕ) → AcceptsWell from.domain (delete_verdict state.time state.history from mid)
   delete_accepts from mid = by_test (is_taken state.time state.history from) (list_any (stands_as mid) (lives state.time state.history from))
@@ -133,34 +141,38 @@ module _ (settings : SettingsValue) (state : State) where
         with_mid_accepts x domain path.mid (put_in settings state (asks_for peer x path domain) body)
         (λ mid. put_accepts (record { from = asks_for peer x path domain; mid = mid; body = body }))
 
-    pub deletes_accept : (path : MitigationPath) (domain : ℕ) → AcceptsWell domain (delete_for state peer x path domain)
-    deletes_accept path domain = with_mid_accepts x domain path.mid _ (delete_accepts (asks_for peer x path domain))
+    pub deletes_accept : (path : MitigationPath) (domain : ℕ) → AcceptsWell domain (delete_for settings state peer x path domain)
+    deletes_accept path domain =
+        with_mid_accepts x domain path.mid (delete_in settings state (asks_for peer x path domain))
+        (λ mid.
+        repeat_accepts domain (repeated settings state.time state.history (sent_by (asks_for peer x path domain))) _
+        (delete_accepts (asks_for peer x path domain) mid))
 
     pub gets_accept : (path : MitigationPath) (content : Content) (domain : ℕ) → AcceptsWell domain (get_for state peer x path content domain)
     gets_accept path content domain = get_accepts (asks_for peer x path domain) path.mid content
 
-  same_path : (p path : MitigationPath) → Some p ≡ Some path → p ≡ path
-  same_path p path e = cc
+    pub configs_accept : (domain : ℕ) → AcceptsWell domain (config_for settings state peer x domain)
+    configs_accept domain =
+        repeat_accepts domain (repeated settings state.time state.history (sent_for peer x domain)) (verdict.Reply (not_implemented x)) tt
 
   -- on a request for a domain
   in_domain_accepts : (x : Exchange) (found : Option ℕ) (domain : ℕ) (f : ℕ → Verdict) → ((d : ℕ) → AcceptsWell d (f d)) → found ≡ Some domain → AcceptsWell domain (in_domain x found f)
   in_domain_accepts x found domain f each is = subst (λ found. AcceptsWell domain (in_domain x found f)) (sym is) (each domain)
 
-  pub request_accepts : (peer : ℕ) (x : Exchange) (r : Request) (domain : ℕ) (path : MitigationPath) → path_of r ≡ Some path → domain_for settings (role_of settings peer) path.cdid ≡ Some domain
+  pub request_accepts : (peer : ℕ) (x : Exchange) (r : Request) (domain : ℕ) → domain_of settings (role_of settings peer) r ≡ Some domain
       → AcceptsWell domain (asked_verdict settings state peer x r)
-  request_accepts peer x (request.PutMitigation p body) domain path asks found =
-      in_domain_accepts x (domain_for settings (role_of settings peer) p.cdid) domain (put_for settings state peer x p body) (puts_accept peer x p body)
-      (ap (λ (p : MitigationPath). domain_for settings (role_of settings peer) p.cdid) (same_path p path asks) ∙ found)
-  request_accepts peer x (request.GetMitigation p content observe) domain path asks found =
-      in_domain_accepts x (domain_for settings (role_of settings peer) p.cdid) domain (get_for state peer x p content) (gets_accept peer x p content)
-      (ap (λ (p : MitigationPath). domain_for settings (role_of settings peer) p.cdid) (same_path p path asks) ∙ found)
-  request_accepts peer x (request.DeleteMitigation p) domain path asks found =
-      in_domain_accepts x (domain_for settings (role_of settings peer) p.cdid) domain (delete_for state peer x p) (deletes_accept peer x p)
-      (ap (λ (p : MitigationPath). domain_for settings (role_of settings peer) p.cdid) (same_path p path asks) ∙ found)
-  request_accepts peer x (request.PutConfig sid body) domain path asks found = tt
-  request_accepts peer x (request.GetConfig sid) domain path asks found = tt
-  request_accepts peer x (request.DeleteConfig sid) domain path asks found = tt
-  request_accepts peer x (request.PutHeartbeat heard) domain path asks found = tt
+  request_accepts peer x (request.PutMitigation path body) domain found =
+      in_domain_accepts x (domain_for settings (role_of settings peer) path.cdid) domain (put_for settings state peer x path body) (puts_accept peer x path body) found
+  request_accepts peer x (request.GetMitigation path content observe) domain found =
+      in_domain_accepts x (domain_for settings (role_of settings peer) path.cdid) domain (get_for state peer x path content) (gets_accept peer x path content) found
+  request_accepts peer x (request.DeleteMitigation path) domain found =
+      in_domain_accepts x (domain_for settings (role_of settings peer) path.cdid) domain (delete_for settings state peer x path) (deletes_accept peer x path) found
+  request_accepts peer x (request.PutConfig sid body) domain found =
+      in_domain_accepts x (session_domain (role_of settings peer)) domain (config_for settings state peer x) (configs_accept peer x) found
+  request_accepts peer x (request.GetConfig sid) domain found = tt
+  request_accepts peer x (request.DeleteConfig sid) domain found =
+      in_domain_accepts x (session_domain (role_of settings peer)) domain (config_for settings state peer x) (configs_accept peer x) found
+  request_accepts peer x (request.PutHeartbeat heard) domain found = tt
 
   -- where it accepts it tells a success
   abbrev pub SucceedsWell : Verdict → Type 0
@@ -181,9 +193,9 @@ module _ (settings : SettingsValue) (state : State) where
   asked_succeeds peer x (request.PutMitigation path body) = in_domain_succeeds x (domain_for settings (role_of settings peer) path.cdid) _ (puts_accept peer x path body)
   asked_succeeds peer x (request.GetMitigation path content observe) = in_domain_succeeds x (domain_for settings (role_of settings peer) path.cdid) _ (gets_accept peer x path content)
   asked_succeeds peer x (request.DeleteMitigation path) = in_domain_succeeds x (domain_for settings (role_of settings peer) path.cdid) _ (deletes_accept peer x path)
-  asked_succeeds peer x (request.PutConfig sid body) = tt
+  asked_succeeds peer x (request.PutConfig sid body) = in_domain_succeeds x (session_domain (role_of settings peer)) _ (configs_accept peer x)
   asked_succeeds peer x (request.GetConfig sid) = tt
-  asked_succeeds peer x (request.DeleteConfig sid) = tt
+  asked_succeeds peer x (request.DeleteConfig sid) = in_domain_succeeds x (session_domain (role_of settings peer)) _ (configs_accept peer x)
   asked_succeeds peer x (request.PutHeartbeat heard) = tt
 
   refusal_succeeds : (v : Verdict) → IsRefusal v → SucceedsWell v

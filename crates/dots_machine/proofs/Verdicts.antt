@@ -34,11 +34,15 @@ use Rattle.dots_machine.specs.declared.received.Received.TheVariants as received
 use Rattle.dots_machine.specs.declared.client_request.ClientRequest.{ClientRequest}
 use Rattle.dots_machine.specs.declared.mitigation_request.MitigationRequest.{MitigationRequest}
 use Rattle.dots_machine.specs.declared.verdict.Verdict.{Verdict}
-use Rattle.dots_machine.specs.Domains.{domain_for}
+use Rattle.dots_machine.specs.declared.verdict.Verdict.TheVariants as verdict
+use Rattle.dots_machine.specs.Domains.{domain_for, session_domain}
 use Rattle.dots_machine.specs.Targets.{scope_fault}
-use Rattle.dots_machine.specs.Mitigations.{request_of, judged, client_for, UnlessFaulty, ByRules, DecidesPut, IsInUse, DecidesDelete, name_taken, withdraws, gone, lives, DecidesGet, name_in_use, tells}
-use Rattle.dots_machine.specs.Machine.{State, asks_for, InDomain, WithMid, PutIn, PutFor, DeleteFor, GetFor, DecidesRequest, Rules}
-use Rattle.dots_machine.specs.Verdicts.{unless_faulty, put_verdict, is_taken, stands_as, delete_by, delete_verdict, get_by, get_verdict, in_domain, with_mid, put_in, put_for, delete_for, get_for, asked_verdict, verdict_on}
+use Rattle.dots_machine.specs.Replies.{not_implemented}
+use Rattle.dots_machine.specs.Repeats.{Sent, sent_for, UnlessRepeated, repeats, is_new}
+use Rattle.dots_machine.specs.Mitigations.{sent_by, request_of, judged, client_for, UnlessFaulty, ByRules, DecidesPut, IsInUse, DecidesDelete, name_taken, withdraws, gone, lives, DecidesGet, name_in_use, tells}
+use Rattle.dots_machine.specs.Machine.{State, asks_for, InDomain, WithMid, PutIn, PutFor, DeleteIn, DeleteFor, GetFor, ConfigFor, DecidesRequest, Rules}
+use Rattle.dots_machine.specs.Verdicts.{repeated, unless_repeated, unless_faulty, put_verdict, is_taken, stands_as, delete_by, delete_verdict, get_by, get_verdict, in_domain, with_mid, put_in, put_for, delete_in, delete_for, get_for, config_for, asked_verdict, verdict_on}
+use Rattle.dots_machine.proofs.Repeats.{is_repeated, is_remembered, none_remembered, never_repeated}
 
 -- ---- what stands, as it is shown and as the rules see it
 two_is_open : (s : Status) → (status_number s == 2) ≡ is_open s
@@ -134,6 +138,21 @@ module _ (time : ℕ) (history : List Entry) (from : ClientRequest) where
         by_test true is = name_in_use (taken_so is) refl
         by_test false is = tells (free_so is) refl
 
+-- ---- on a message that may be a repeat
+module _ (settings : SettingsValue) (t : ℕ) (history : List Entry) (sent : Sent) (P : Verdict → Type 0) (w : Verdict) where
+  repeat_valued : (v : Verdict) → (P v → v ≡ w) → UnlessRepeated settings t history sent P v → v ≡ unless_repeated (repeated settings t history sent) w
+  repeat_valued v valued (repeats entry is same) =
+      same ∙ sym (ap (λ o. unless_repeated o w) (is_remembered settings.limits.remembered t sent history entry is))
+  repeat_valued v valued (is_new never p) =
+      valued p ∙ sym (ap (λ o. unless_repeated o w) (none_remembered settings.limits.remembered t sent history never))
+
+  repeat_there : P w → UnlessRepeated settings t history sent P (unless_repeated (repeated settings t history sent) w)
+  repeat_there p = by_found (repeated settings t history sent) refl
+    where
+      by_found : (o : Option Entry) → repeated settings t history sent ≡ o → UnlessRepeated settings t history sent P (unless_repeated o w)
+      by_found (Some entry) at = repeats entry (is_repeated settings.limits.remembered t sent history entry at) refl
+      by_found None at = is_new (never_repeated settings.limits.remembered t sent history at) p
+
 -- ---- on a request for a mitigation
 unless_valued : (x : Exchange) (fault : Option TargetFault) (P : Verdict → Type 0) (w v : Verdict) → (P v → v ≡ w) → UnlessFaulty x fault P v → v ≡ unless_faulty x fault w
 unless_valued x (Some fault) P w v valued is = is
@@ -153,13 +172,22 @@ module _ (settings : SettingsValue) (time : ℕ) (history : List Entry) (a : Mit
   rules_valued : (v : Verdict) → ByRules settings time history a v → v ≡ judged time a result
   rules_valued v by = by.2 ∙ ap (judged time a) (sym (places_judge settings time history a.from.domain (request_of a) by.0 by.1))
 
+  abbrev Unrepeated : Verdict → Type 0
+  Unrepeated v = UnlessRepeated settings time history (sent_by a.from) (ByRules settings time history a) v
+
+  abbrev by_judgement : Verdict
+  by_judgement = unless_repeated (repeated settings time history (sent_by a.from)) (judged time a result)
+
   put_valued : (v : Verdict) → DecidesPut settings time history a v → v ≡ put_verdict settings time history a
-  put_valued v is = unless_valued a.from.exchange fault_there (ByRules settings time history a) (judged time a result) v (rules_valued v) is
+  put_valued v is =
+      unless_valued a.from.exchange fault_there Unrepeated by_judgement v
+      (repeat_valued settings time history (sent_by a.from) (ByRules settings time history a) (judged time a result) v (rules_valued v)) is
 
   put_there : DecidesPut settings time history a (put_verdict settings time history a)
   put_there =
-      unless_there a.from.exchange fault_there (ByRules settings time history a) (judged time a result)
-      (result, judged_by_places settings time history a.from.domain (request_of a) result refl, refl)
+      unless_there a.from.exchange fault_there Unrepeated by_judgement
+      (repeat_there settings time history (sent_by a.from) (ByRules settings time history a) (judged time a result)
+      (result, judged_by_places settings time history a.from.domain (request_of a) result refl, refl))
 
 -- ---- on what was received
 in_domain_valued : (x : Exchange) (found : Option ℕ) (P : ℕ → Verdict → Type 0) (f : ℕ → Verdict) (v : Verdict) → ((d : ℕ) → P d v → v ≡ f d) → InDomain x found P v → v ≡ in_domain x found f
@@ -196,15 +224,34 @@ module _ (settings : SettingsValue) (state : State) (peer : ℕ) where
         with_mid_there x path.mid (PutIn settings state asking body) (put_in settings state asking body)
         (λ mid. put_there settings state.time state.history (asked_with body mid))
 
-    delete_for_valued : (v : Verdict) → DeleteFor state peer x path d v → v ≡ delete_for state peer x path d
+    delete_for_valued : (v : Verdict) → DeleteFor settings state peer x path d v → v ≡ delete_for settings state peer x path d
     delete_for_valued v is =
-        with_mid_valued x path.mid (DecidesDelete state.time state.history asking) (delete_verdict state.time state.history asking) v
-        (λ mid. delete_valued state.time state.history asking mid v) is
+        with_mid_valued x path.mid (DeleteIn settings state asking) (delete_in settings state asking) v
+        (λ mid.
+        repeat_valued settings state.time state.history (sent_by asking) (DecidesDelete state.time state.history asking mid) (delete_verdict state.time state.history asking mid) v
+        (delete_valued state.time state.history asking mid v)) is
 
-    delete_for_there : DeleteFor state peer x path d (delete_for state peer x path d)
+    delete_for_there : DeleteFor settings state peer x path d (delete_for settings state peer x path d)
     delete_for_there =
-        with_mid_there x path.mid (DecidesDelete state.time state.history asking) (delete_verdict state.time state.history asking)
-        (delete_there state.time state.history asking)
+        with_mid_there x path.mid (DeleteIn settings state asking) (delete_in settings state asking)
+        (λ mid.
+        repeat_there settings state.time state.history (sent_by asking) (DecidesDelete state.time state.history asking mid) (delete_verdict state.time state.history asking mid)
+        (delete_there state.time state.history asking mid))
+
+  abbrev unserved : Exchange → Verdict → Type 0
+  unserved x v = v ≡ verdict.Reply (not_implemented x)
+
+  config_valued : (x : Exchange) (v : Verdict) → InDomain x (session_domain (role_of settings peer)) (ConfigFor settings state peer x) v
+      → v ≡ in_domain x (session_domain (role_of settings peer)) (config_for settings state peer x)
+  config_valued x v is =
+      in_domain_valued x (session_domain (role_of settings peer)) (ConfigFor settings state peer x) (config_for settings state peer x) v
+      (λ d. repeat_valued settings state.time state.history (sent_for peer x d) (unserved x) (verdict.Reply (not_implemented x)) v (λ same. same)) is
+
+  config_there : (x : Exchange)
+      → InDomain x (session_domain (role_of settings peer)) (ConfigFor settings state peer x) (in_domain x (session_domain (role_of settings peer)) (config_for settings state peer x))
+  config_there x =
+      in_domain_there x (session_domain (role_of settings peer)) (ConfigFor settings state peer x) (config_for settings state peer x)
+      (λ d. repeat_there settings state.time state.history (sent_for peer x d) (unserved x) (verdict.Reply (not_implemented x)) refl)
 
   abbrev found : MitigationPath → Option ℕ
   found path = domain_for settings (role_of settings peer) path.cdid
@@ -216,10 +263,10 @@ module _ (settings : SettingsValue) (state : State) (peer : ℕ) where
       in_domain_valued x (found path) (GetFor state peer x path content) (get_for state peer x path content) v
       (λ d. get_valued state.time state.history (asking x path d) path.mid content v) is
   request_valued x (request.DeleteMitigation path) v is =
-      in_domain_valued x (found path) (DeleteFor state peer x path) (delete_for state peer x path) v (λ d. delete_for_valued x path d v) is
-  request_valued x (request.PutConfig sid body) v is = is
+      in_domain_valued x (found path) (DeleteFor settings state peer x path) (delete_for settings state peer x path) v (λ d. delete_for_valued x path d v) is
+  request_valued x (request.PutConfig sid body) v is = config_valued x v is
   request_valued x (request.GetConfig sid) v is = is
-  request_valued x (request.DeleteConfig sid) v is = is
+  request_valued x (request.DeleteConfig sid) v is = config_valued x v is
   request_valued x (request.PutHeartbeat heard) v is = is
 
   pub request_there : (x : Exchange) (r : Request) → DecidesRequest settings state peer x r (asked_verdict settings state peer x r)
@@ -229,10 +276,10 @@ module _ (settings : SettingsValue) (state : State) (peer : ℕ) where
       in_domain_there x (found path) (GetFor state peer x path content) (get_for state peer x path content)
       (λ d. get_there state.time state.history (asking x path d) path.mid content)
   request_there x (request.DeleteMitigation path) =
-      in_domain_there x (found path) (DeleteFor state peer x path) (delete_for state peer x path) (λ d. delete_for_there x path d)
-  request_there x (request.PutConfig sid body) = refl
+      in_domain_there x (found path) (DeleteFor settings state peer x path) (delete_for settings state peer x path) (λ d. delete_for_there x path d)
+  request_there x (request.PutConfig sid body) = config_there x
   request_there x (request.GetConfig sid) = refl
-  request_there x (request.DeleteConfig sid) = refl
+  request_there x (request.DeleteConfig sid) = config_there x
   request_there x (request.PutHeartbeat heard) = refl
 
   pub valued : (got : Received) (v : Verdict) → Rules settings state peer got v → v ≡ verdict_on settings state peer got

@@ -4,13 +4,13 @@ use Rattle.dots_host.specs.declared.event.Event.{Event}
 use Rattle.dots_host.specs.declared.event.Event.TheVariants as event
 use Rattle.dots_host.specs.declared.out.OwnedOut.{OwnedOut}
 use Rattle.dots_host.specs.Runs.{outs_of}
-use Rattle.dots_heads.specs.declared.request.MitigationPath.{MitigationPath}
 use Rattle.dots_keys.specs.declared.request.Request.{Request}
 use Rattle.dots_keys.specs.declared.request.Request.TheVariants as request
+use Rattle.dots_settings.specs.declared.peer.Role.{Role}
 use Rattle.dots_settings.specs.Settings.{SettingsValue}
 use Rattle.dots_history.specs.Histories.{alone}
 use Rattle.dots_settings.specs.Lookups.{role_of}
-use Rattle.dots_machine.specs.Domains.{is_gateway, domain_for}
+use Rattle.dots_machine.specs.Domains.{is_gateway, domain_for, session_domain}
 use Rattle.dots_machine.specs.declared.exchange.Exchange.{Exchange}
 use Rattle.dots_machine.specs.Requests.{IsReceived}
 use Rattle.dots_machine.specs.Machine.{State, Step}
@@ -21,18 +21,21 @@ pub record SameFor (domain : ℕ) (one other : State) : Type 0 where
   pub time : one.time ≡ other.time
   pub entries : alone domain one.history ≡ alone domain other.history
 
--- the path of a request for mitigations
-abbrev pub path_of : Request → Option MitigationPath
-path_of (request.PutMitigation path body) = Some path
-path_of (request.GetMitigation path content observe) = Some path
-path_of (request.DeleteMitigation path) = Some path
-path_of _ = None
+-- for which domain a peer of this role makes a request: for mitigations, or for its session
+abbrev pub domain_of : SettingsValue → Role → Request → Option ℕ
+domain_of settings who (request.PutMitigation path body) = domain_for settings who path.cdid
+domain_of settings who (request.GetMitigation path content observe) = domain_for settings who path.cdid
+domain_of settings who (request.DeleteMitigation path) = domain_for settings who path.cdid
+domain_of settings who (request.PutConfig sid body) = session_domain who
+domain_of settings who (request.GetConfig sid) = session_domain who
+domain_of settings who (request.DeleteConfig sid) = session_domain who
+domain_of settings who (request.PutHeartbeat heard) = None
 
--- the event is a request for mitigations of this domain
+-- the event is a request for this domain
 pub data AsksFor (settings : SettingsValue) (domain : ℕ) (what : Event) : Type 0 where
-  by_datagram : (peer : ℕ) (datagram : List ℕ) (exchange : Exchange) (asked : Request) (path : MitigationPath) → what ≡ event.Datagram peer datagram
-      → IsReceived datagram (is_gateway (role_of settings peer)) (received.Asked exchange asked) → path_of asked ≡ Some path
-      → domain_for settings (role_of settings peer) path.cdid ≡ Some domain → AsksFor settings domain what
+  by_datagram : (peer : ℕ) (datagram : List ℕ) (exchange : Exchange) (asked : Request) → what ≡ event.Datagram peer datagram
+      → IsReceived datagram (is_gateway (role_of settings peer)) (received.Asked exchange asked)
+      → domain_of settings (role_of settings peer) asked ≡ Some domain → AsksFor settings domain what
 
 -- A step from one state is for another domain, and leaves the entries of this one as they were; or it can be made from the other
 -- state too, with the same sends, and both leave this domain the same.

@@ -3,6 +3,7 @@ use Rattle.std.specs.Prelude.{ℕ, Bool, true, false, List, position, bytes_eq, 
 use Rattle.dots_settings.specs.declared.peer.Role.{Role}
 use Rattle.dots_settings.specs.declared.peer.Role.TheVariants as role
 use Rattle.dots_settings.specs.Settings.{SettingsValue}
+use Rattle.dots_settings.specs.Lookups.{no_domain}
 
 abbrev pub is_gateway : Role → Bool
 is_gateway role.Gateway = true
@@ -14,3 +15,9 @@ domain_for settings role.Stranger cdid = None
 domain_for settings (role.Client domain) cdid = Some domain
 domain_for settings role.Gateway None = None
 domain_for settings role.Gateway (Some name) = position (λ domain. bytes_eq name domain.name) settings.domains
+
+-- For which domain a peer configures its session (section 4.5): a client for its own, and a gateway for none of the settings.
+abbrev pub session_domain : Role → Option ℕ
+session_domain role.Stranger = None
+session_domain (role.Client domain) = Some domain
+session_domain role.Gateway = Some no_domain

@@ -7,20 +7,19 @@ use Rattle.dots_settings.specs.Lookups.{role_of}
 use Rattle.dots_history.specs.declared.entry.Entry.{Entry}
 use Rattle.dots_history.specs.Histories.{alone}
 use Rattle.dots_heads.specs.declared.reject.Reject.{Reject}
-use Rattle.dots_heads.specs.declared.request.MitigationPath.{MitigationPath}
 use Rattle.dots_keys.specs.declared.request.Request.{Request}
 use Rattle.dots_machine.specs.declared.exchange.Exchange.{Exchange}
 use Rattle.dots_machine.specs.declared.received.Received.TheVariants as received
 use Rattle.dots_machine.specs.declared.verdict.Verdict.{Verdict}
 use Rattle.dots_machine.specs.declared.verdict.Verdict.TheVariants as verdict
-use Rattle.dots_machine.specs.Domains.{is_gateway, domain_for}
+use Rattle.dots_machine.specs.Domains.{is_gateway}
 use Rattle.dots_machine.specs.Requests.{IsReceived}
 use Rattle.dots_machine.specs.Machine.{State, DecidesRequest, sends_of}
-use Rattle.dots_machine.specs.Apart.{path_of, AsksFor}
+use Rattle.dots_machine.specs.Apart.{domain_of, AsksFor}
 use Rattle.dots_machine.specs.Answering.{SaysUnavailable}
 use Rattle.dots_machine.specs.Turns.{Turn, IsTurn}
 
--- A request for mitigations that was taken up: the time that the run then had, who sent it, what a reply takes from it, what it asks, and the
+-- A request that was taken up: the time that the run then had, who sent it, what a reply takes from it, what it asks, and the
 -- sends that answered it.
 pub record TakenUp : Type 0 where
   pub time : ℕ
@@ -32,11 +31,9 @@ pub record TakenUp : Type 0 where
 -- the turn takes this request up, which is for the domain, and leaves the state
 pub record TakesUp (settings : SettingsValue) (domain : ℕ) (turn : Turn) (new : State) (taken : TakenUp) : Type 0 where
   pub datagram : List ℕ
-  pub path : MitigationPath
   pub came : turn.what ≡ event.Datagram taken.peer datagram
   pub is_received : IsReceived datagram (is_gateway (role_of settings taken.peer)) (received.Asked taken.exchange taken.request)
-  pub asks : path_of taken.request ≡ Some path
-  pub for_domain : domain_for settings (role_of settings taken.peer) path.cdid ≡ Some domain
+  pub for_domain : domain_of settings (role_of settings taken.peer) taken.request ≡ Some domain
   pub time_is : taken.time ≡ new.time
   pub sends_are : taken.sends ≡ turn.sends
 

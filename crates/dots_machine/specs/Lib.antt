@@ -3,8 +3,10 @@ pub mod Domains
 pub mod Exchanges
 pub mod Requests
 pub mod Replies
+pub mod Repeats
 pub mod Mitigations
 pub mod Machine
+pub mod Repeating
 pub mod Verdicts
 pub mod Apart
 pub mod Answering

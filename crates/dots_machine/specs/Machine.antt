@@ -29,11 +29,12 @@ use Rattle.dots_machine.specs.declared.received.Received.TheVariants as received
 use Rattle.dots_machine.specs.declared.client_request.ClientRequest.{ClientRequest}
 use Rattle.dots_machine.specs.declared.verdict.Verdict.{Verdict}
 use Rattle.dots_machine.specs.declared.verdict.Verdict.TheVariants as verdict
-use Rattle.dots_machine.specs.Domains.{is_gateway, domain_for}
+use Rattle.dots_machine.specs.Domains.{is_gateway, domain_for, session_domain}
 use Rattle.dots_machine.specs.Exchanges.{exchange_in, dismissed}
 use Rattle.dots_machine.specs.Requests.{IsReceived}
 use Rattle.dots_machine.specs.Replies.{not_implemented, unavailable, reset_message, rejection, bad_parameter}
-use Rattle.dots_machine.specs.Mitigations.{DecidesPut, DecidesDelete, DecidesGet}
+use Rattle.dots_machine.specs.Repeats.{sent_for, UnlessRepeated}
+use Rattle.dots_machine.specs.Mitigations.{sent_by, DecidesPut, DecidesDelete, DecidesGet}
 
 -- the history, and the time of the last event
 pub record State : Type 0 where
@@ -76,13 +77,22 @@ abbrev pub PutFor : SettingsValue → State → ℕ → Exchange → MitigationP
 PutFor settings state peer exchange path body domain decided =
     WithMid exchange path.mid (PutIn settings state (asks_for peer exchange path domain) body) decided
 
-abbrev pub DeleteFor : State → ℕ → Exchange → MitigationPath → ℕ → Verdict → Type 0
-DeleteFor state peer exchange path domain decided =
-    WithMid exchange path.mid (DecidesDelete state.time state.history (asks_for peer exchange path domain)) decided
+abbrev pub DeleteIn : SettingsValue → State → ClientRequest → ℕ → Verdict → Type 0
+DeleteIn settings state from mid decided =
+    UnlessRepeated settings state.time state.history (sent_by from) (DecidesDelete state.time state.history from mid) decided
+
+abbrev pub DeleteFor : SettingsValue → State → ℕ → Exchange → MitigationPath → ℕ → Verdict → Type 0
+DeleteFor settings state peer exchange path domain decided =
+    WithMid exchange path.mid (DeleteIn settings state (asks_for peer exchange path domain)) decided
 
 abbrev pub GetFor : State → ℕ → Exchange → MitigationPath → Content → ℕ → Verdict → Type 0
 GetFor state peer exchange path content domain decided =
     DecidesGet state.time state.history (asks_for peer exchange path domain) path.mid content decided
+
+-- what is asked of the configuration of a session, for the domain in which the peer has it
+abbrev pub ConfigFor : SettingsValue → State → ℕ → Exchange → ℕ → Verdict → Type 0
+ConfigFor settings state peer exchange domain decided =
+    UnlessRepeated settings state.time state.history (sent_for peer exchange domain) (λ v. v ≡ verdict.Reply (not_implemented exchange)) decided
 
 -- what is decided on a request
 abbrev pub DecidesRequest : SettingsValue → State → ℕ → Exchange → Request → Verdict → Type 0
@@ -91,7 +101,11 @@ DecidesRequest settings state peer exchange (request.PutMitigation path body) de
 DecidesRequest settings state peer exchange (request.GetMitigation path content observe) decided =
     InDomain exchange (domain_for settings (role_of settings peer) path.cdid) (GetFor state peer exchange path content) decided
 DecidesRequest settings state peer exchange (request.DeleteMitigation path) decided =
-    InDomain exchange (domain_for settings (role_of settings peer) path.cdid) (DeleteFor state peer exchange path) decided
+    InDomain exchange (domain_for settings (role_of settings peer) path.cdid) (DeleteFor settings state peer exchange path) decided
+DecidesRequest settings state peer exchange (request.PutConfig sid body) decided =
+    InDomain exchange (session_domain (role_of settings peer)) (ConfigFor settings state peer exchange) decided
+DecidesRequest settings state peer exchange (request.DeleteConfig sid) decided =
+    InDomain exchange (session_domain (role_of settings peer)) (ConfigFor settings state peer exchange) decided
 DecidesRequest settings state peer exchange _ decided = decided ≡ verdict.Reply (not_implemented exchange)
 
 -- A message with a critical option that isn't recognised is answered where it is confirmable (RFC 7252, section 5.4.1); any other

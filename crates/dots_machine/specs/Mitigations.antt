@@ -27,6 +27,7 @@ use Rattle.dots_machine.specs.declared.client_request.ClientRequest.{ClientReque
 use Rattle.dots_machine.specs.declared.verdict.Verdict.{Verdict}
 use Rattle.dots_machine.specs.declared.verdict.Verdict.TheVariants as verdict
 use Rattle.dots_machine.specs.Targets.{scope_fault}
+use Rattle.dots_machine.specs.Repeats.{Sent, sent_for, UnlessRepeated}
 use Rattle.dots_machine.specs.Replies.{granting, conflicting, deleted, telling, absent, bad_target, bad_request, at_capacity, unavailable}
 
 -- the message by which its repeats are known
@@ -45,6 +46,10 @@ entry_of time from reply change = record {
   reply = reply;
   change = change;
 }
+
+-- by which a repeat of the request is known
+abbrev pub sent_by : ClientRequest → Sent
+sent_by from = sent_for from.peer from.exchange from.domain
 
 -- ---- a mitigation is asked for (section 4.4.1)
 
@@ -90,7 +95,7 @@ ByRules settings time history asked decided =
 abbrev pub DecidesPut : SettingsValue → ℕ → List Entry → MitigationRequest → Verdict → Type 0
 DecidesPut settings time history asked decided =
     UnlessFaulty asked.from.exchange (scope_fault settings (prefixes_of settings asked.from.domain) asked.body.asked)
-    (ByRules settings time history asked) decided
+    (UnlessRepeated settings time history (sent_by asked.from) (ByRules settings time history asked)) decided
 
 -- ---- a mitigation is withdrawn (section 4.4.4)
 

@@ -5,6 +5,7 @@ use Rattle.std.specs.List.{list_any}
 use Rattle.dots_settings.specs.Settings.{SettingsValue}
 use Rattle.dots_settings.specs.Lookups.{role_of, prefixes_of}
 use Rattle.dots_history.specs.declared.entry.Entry.{Entry}
+use Rattle.dots_history.specs.Histories.{remembered}
 use Rattle.dots_heads.specs.declared.request.Content.{Content}
 use Rattle.dots_heads.specs.declared.request.MitigationPath.{MitigationPath}
 use Rattle.dots_keys.specs.declared.request.Request.{Request}
@@ -21,11 +22,22 @@ use Rattle.dots_machine.specs.declared.received.Received.{Received}
 use Rattle.dots_machine.specs.declared.received.Received.TheVariants as received
 use Rattle.dots_machine.specs.declared.verdict.Verdict.{Verdict}
 use Rattle.dots_machine.specs.declared.verdict.Verdict.TheVariants as verdict
-use Rattle.dots_machine.specs.Domains.{domain_for}
+use Rattle.dots_machine.specs.Domains.{domain_for, session_domain}
 use Rattle.dots_machine.specs.Targets.{scope_fault}
 use Rattle.dots_machine.specs.Replies.{conflicting, deleted, bad_target, bad_parameter, not_implemented}
-use Rattle.dots_machine.specs.Mitigations.{request_of, judged, client_for, withdrawal, lives, is_wanted, tell}
+use Rattle.dots_machine.specs.Repeats.{Sent, sent_for}
+use Rattle.dots_machine.specs.Mitigations.{sent_by, request_of, judged, client_for, withdrawal, lives, is_wanted, tell}
 use Rattle.dots_machine.specs.Machine.{State, asks_for, reject_verdict, dismissal_verdict}
+
+-- ---- a message that came before
+
+-- the entry whose message is repeated
+abbrev pub repeated : SettingsValue → ℕ → List Entry → Sent → Option Entry
+repeated settings time history sent = remembered settings.limits.remembered time sent.peer sent.domain sent.id history
+
+abbrev pub unless_repeated : Option Entry → Verdict → Verdict
+unless_repeated (Some entry) otherwise = verdict.Reply entry.reply
+unless_repeated None otherwise = otherwise
 
 -- ---- a mitigation is asked for
 
@@ -36,7 +48,8 @@ unless_faulty exchange None otherwise = otherwise
 abbrev pub put_verdict : SettingsValue → ℕ → List Entry → MitigationRequest → Verdict
 put_verdict settings time history asked =
     unless_faulty asked.from.exchange (scope_fault settings (prefixes_of settings asked.from.domain) asked.body.asked)
-    (judged time asked (judge_request settings time history asked.from.domain (request_of asked)))
+    (unless_repeated (repeated settings time history (sent_by asked.from))
+    (judged time asked (judge_request settings time history asked.from.domain (request_of asked))))
 
 -- ---- a mitigation is withdrawn
 
@@ -86,13 +99,20 @@ abbrev pub put_for : SettingsValue → State → ℕ → Exchange → Mitigation
 put_for settings state peer exchange path body domain =
     with_mid exchange path.mid (put_in settings state (asks_for peer exchange path domain) body)
 
-abbrev pub delete_for : State → ℕ → Exchange → MitigationPath → ℕ → Verdict
-delete_for state peer exchange path domain =
-    with_mid exchange path.mid (delete_verdict state.time state.history (asks_for peer exchange path domain))
+abbrev pub delete_in : SettingsValue → State → ClientRequest → ℕ → Verdict
+delete_in settings state from mid =
+    unless_repeated (repeated settings state.time state.history (sent_by from)) (delete_verdict state.time state.history from mid)
+
+abbrev pub delete_for : SettingsValue → State → ℕ → Exchange → MitigationPath → ℕ → Verdict
+delete_for settings state peer exchange path domain = with_mid exchange path.mid (delete_in settings state (asks_for peer exchange path domain))
 
 abbrev pub get_for : State → ℕ → Exchange → MitigationPath → Content → ℕ → Verdict
 get_for state peer exchange path content domain =
     get_verdict state.time state.history (asks_for peer exchange path domain) path.mid content
+
+abbrev pub config_for : SettingsValue → State → ℕ → Exchange → ℕ → Verdict
+config_for settings state peer exchange domain =
+    unless_repeated (repeated settings state.time state.history (sent_for peer exchange domain)) (verdict.Reply (not_implemented exchange))
 
 abbrev pub asked_verdict : SettingsValue → State → ℕ → Exchange → Request → Verdict
 asked_verdict settings state peer exchange (request.PutMitigation path body) =
@@ -100,7 +120,11 @@ asked_verdict settings state peer exchange (request.PutMitigation path body) =
 asked_verdict settings state peer exchange (request.GetMitigation path content observe) =
     in_domain exchange (domain_for settings (role_of settings peer) path.cdid) (get_for state peer exchange path content)
 asked_verdict settings state peer exchange (request.DeleteMitigation path) =
-    in_domain exchange (domain_for settings (role_of settings peer) path.cdid) (delete_for state peer exchange path)
+    in_domain exchange (domain_for settings (role_of settings peer) path.cdid) (delete_for settings state peer exchange path)
+asked_verdict settings state peer exchange (request.PutConfig sid body) =
+    in_domain exchange (session_domain (role_of settings peer)) (config_for settings state peer exchange)
+asked_verdict settings state peer exchange (request.DeleteConfig sid) =
+    in_domain exchange (session_domain (role_of settings peer)) (config_for settings state peer exchange)
 asked_verdict settings state peer exchange _ = verdict.Reply (not_implemented exchange)
 
 -- ---- on what a client or a gateway sent

@@ -1,22 +1,37 @@
 //! Laws of runs.
 
-ghost use Rattle.std.specs.Prelude.{◌≡◌, ◌⊎◌, ◌==◌, ℕ, List, filter};
+ghost use Rattle.std.specs.Prelude.{◌≡◌, ◌⊎◌, ◌==◌, ℕ, ◌+◌, ◌<◌, ◌≤◌, false, ◌&&◌, List, [], ◌∷◌, ◌++◌, filter, Some};
+ghost use Rattle.std.specs.List.{list_any};
 ghost use Rattle.dots_host.specs.Acts.{Timed};
 ghost use Rattle.dots_host.specs.Runs.{resting, outs_of, Trace};
 ghost use Rattle.dots_host.specs.declared.event.Event.{Event};
+ghost use Rattle.dots_host.specs.declared.event.Event.TheVariants as event;
 ghost use Rattle.dots_host.specs.declared.out.OwnedOut.{OwnedOut};
+ghost use Rattle.dots_host.specs.declared.out.OwnedOut.TheVariants as owned;
+ghost use Rattle.dots_history.specs.declared.entry.Entry.{Entry};
+ghost use Rattle.dots_history.specs.Entries.{signals, may_repeat};
+ghost use Rattle.dots_history.specs.Histories.{tally};
 ghost use Rattle.dots_history.specs.Rows.{plain_rows};
+ghost use Rattle.dots_keys.specs.declared.request.Request.{Request};
 ghost use Rattle.dots_settings.specs.Settings.{SettingsValue};
-ghost use Rattle.dots_machine.specs.Apart.{SameFor, StaysApart};
-ghost use Rattle.dots_machine.specs.Answering.{IsHandedIn, IsUnavailable};
-ghost use Rattle.dots_machine.specs.Machine.{State, begun_at, Rules, Step};
+ghost use Rattle.dots_settings.specs.Lookups.{role_of};
+ghost use Rattle.dots_machine.specs.Apart.{domain_of, SameFor, StaysApart};
+ghost use Rattle.dots_machine.specs.Answering.{AreBytes, IsHandedIn, IsUnavailable};
+ghost use Rattle.dots_machine.specs.Domains.{is_gateway};
+ghost use Rattle.dots_machine.specs.Requests.{IsReceived};
+ghost use Rattle.dots_machine.specs.Repeats.{sent_for, IsRepeatOf};
+ghost use Rattle.dots_machine.specs.Repeating.{heard_for, AsksToChange};
+ghost use Rattle.dots_machine.specs.Machine.{State, begun_at, later, is_stranger, DecidesRequest, Rules, Step};
 ghost use Rattle.dots_machine.specs.Verdicts.{verdict_on};
 ghost use Rattle.dots_machine.specs.Turns.{Turn, IsTurn, EachTurn, turns_of};
 ghost use Rattle.dots_machine.specs.Adding.{AddsExactly};
 ghost use Rattle.dots_machine.specs.Isolation.{IsIsolated};
 ghost use Rattle.dots_machine.specs.Orderly.{IsOrderly};
+ghost use Rattle.dots_machine.specs.declared.exchange.Exchange.{Exchange};
 ghost use Rattle.dots_machine.specs.declared.received.Received.{Received};
+ghost use Rattle.dots_machine.specs.declared.received.Received.TheVariants as received;
 ghost use Rattle.dots_machine.specs.declared.verdict.Verdict.{Verdict};
+ghost use Rattle.dots_machine.specs.declared.verdict.Verdict.TheVariants as verdict;
 
 /// A list of acts fixes one state: whatever was free to choose shows in the sends.
 pub fn one_state()
@@ -50,6 +65,30 @@ pub fn one_verdict()
     ensures there { (settings : SettingsValue) (state : State) (peer : ℕ) (got : Received) → Rules settings state peer got (verdict_on settings state peer got) }
     ensures one { (settings : SettingsValue) (state : State) (peer : ℕ) (got : Received) (decided : Verdict)
         → Rules settings state peer got decided → decided ≡ verdict_on settings state peer got }
+{}
+
+/// A message that is accepted is repeated by each message of its peer for its domain with its Message ID, for 247 seconds if it was confirmable
+/// and for 145 if it wasn't, as long as fewer accepted ones of that peer and domain come after it than are remembered, and none of these
+/// with that Message ID. And a repeat, whatever it asks to change, is answered with the bytes that answered the message, by the rules and over
+/// each step, and nothing is added to the history; or 5.00 is answered, for want of memory.
+pub fn repeats_are_answered()
+    ensures accepted { (settings : SettingsValue) (state : State) (peer : ℕ) (exchange : Exchange) (asked : Request) (reply : List ℕ) (entry : Entry)
+        → DecidesRequest settings state peer exchange asked (verdict.Accept reply entry)
+        → (domain : ℕ) × (domain_of settings (role_of settings peer) asked ≡ Some domain) × (entry.reply ≡ reply)
+        × ((t : ℕ) (since : List Entry) → t ≤ state.time + heard_for exchange.kind → tally (signals peer domain) since < settings.limits.remembered
+        → list_any (λ (e : Entry). signals peer domain e && may_repeat t exchange.id e.time e.key) since ≡ false
+        → IsRepeatOf settings.limits.remembered t (state.history ++ entry ∷ since) (sent_for peer exchange domain) entry) }
+    ensures rules { (settings : SettingsValue) (state : State) (peer : ℕ) (exchange : Exchange) (asked : Request) (domain : ℕ) (entry : Entry) (decided : Verdict)
+        → AsksToChange settings (role_of settings peer) domain asked
+        → IsRepeatOf settings.limits.remembered state.time state.history (sent_for peer exchange domain) entry
+        → DecidesRequest settings state peer exchange asked decided → decided ≡ verdict.Reply entry.reply }
+    ensures step { (settings : SettingsValue) (old : State) (peer : ℕ) (datagram : List ℕ) (at : ℕ) (owed : List (State × OwnedOut)) (new : State)
+        (exchange : Exchange) (asked : Request) (domain : ℕ) (entry : Entry) → AreBytes datagram → is_stranger (role_of settings peer) ≡ false
+        → IsReceived datagram (is_gateway (role_of settings peer)) (received.Asked exchange asked)
+        → AsksToChange settings (role_of settings peer) domain asked
+        → IsRepeatOf settings.limits.remembered (later old at).time old.history (sent_for peer exchange domain) entry
+        → Step settings old (event.Datagram peer datagram) at owed new
+        → ((outs_of owed ≡ owned.To peer entry.reply ∷ []) × (new ≡ later old at)) ⊎ IsUnavailable (event.Datagram peer datagram) owed }
 {}
 
 /// An entry is added to the history exactly where the rules accept what came, at its time, with that entry; or 5.00 was answered, for

@@ -38,6 +38,17 @@ impl ShortMessage {
         ShortMessage { bytes, size }
     }
 
+    /// The message with these bytes.
+    pub fn copy_of(message: &[u8]) -> Self
+        requires short { length message.now ≤ MAX_SHORT }
+        ensures { result ≡ message.now }
+    {
+        let mut bytes = [0; MAX_SHORT];
+        let size = message.len();
+        bytes[..size].copy_from_slice(message);
+        ShortMessage { bytes, size }
+    }
+
     pub fn bytes(&self) -> &[u8]
         ensures value { result.now ≡ self.now }
         ensures short { length self.now ≤ MAX_SHORT }

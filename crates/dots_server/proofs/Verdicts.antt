@@ -1,36 +1,38 @@
 -- What is decided on a request.
-use Rattle.std.proofs.Common.{◌≡◌, ◌≢◌, ℕ, Bool, Option, true, false, List, Some, None, refl, sym, ap, ◌∙◌, subst}
-use Rattle.std.specs.Prelude.{not, Result, Ok, Err, IfOk, OnOk}
+use Rattle.std.proofs.Common.{◌≡◌, ◌≢◌, ℕ, ◌≤◌, Bool, Option, true, false, cond, ◌&&◌, List, [], ◌∷◌, length, Some, None, refl, sym, ap, ◌∙◌, subst}
+use Rattle.std.specs.Prelude.{not, nat_le, option_map, Result, Ok, Err, IfOk, OnOk}
+use Rattle.std.specs.List.{list_all}
 use Rattle.std.specs.Option.{is_some}
-use Rattle.std.proofs.lemmas.Bool.{false≢true}
+use Rattle.std.proofs.lemmas.Bool.{false≢true, and_parts, leb-true}
+use Rattle.std.proofs.lemmas.Option.{none-some, same_Some}
 use Rattle.dots_history.specs.declared.entry.Entry.{Entry}
-use Rattle.dots_heads.specs.declared.request.Content.{Content}
-use Rattle.dots_heads.specs.declared.request.Observe.{Observe}
-use Rattle.dots_heads.specs.declared.request.MitigationPath.{MitigationPath}
-use Rattle.dots_keys.specs.declared.request.Request.{Request}
-use Rattle.dots_keys.specs.declared.request.Request.TheVariants as request
-use Rattle.dots_keys.specs.declared.request.MitigationBody.{MitigationBody}
+use Rattle.dots_history.specs.Entries.{signals, may_repeat}
+use Rattle.dots_history.specs.Histories.{is_recent, or_else, remembered}
+use Rattle.dots_history.specs.Bounds.{change_within, within_bounds}
+use Rattle.dots_settings.specs.declared.limits.Limits.{Limits}
 use Rattle.dots_settings.specs.Settings.{SettingsValue}
 use Rattle.dots_settings.specs.Lookups.{role_of, prefixes_of}
 use Rattle.put_judging.specs.declared.fault.PutFault.{PutFault}
 use Rattle.put_judging.specs.declared.fault.PutFault.TheVariants as faults
 use Rattle.put_judging.specs.declared.judging.Judged.{Judged}
 use Rattle.put_judging.specs.Results.{Fails}
-use Rattle.dots_registry.specs.Standing.{time_of}
+use Rattle.dots_registry.specs.Standing.{time_of, number_remembered}
+use Rattle.dots_registry.specs.Standing as registry
 use Rattle.dots_registry.specs.Judging.{judge_request}
 use Rattle.dots_machine.specs.declared.target.TargetFault.{TargetFault}
 use Rattle.dots_machine.specs.declared.exchange.Exchange.{Exchange}
 use Rattle.dots_machine.specs.declared.mitigation_request.MitigationRequest.{MitigationRequest}
 use Rattle.dots_machine.specs.declared.verdict.Verdict.{Verdict}
 use Rattle.dots_machine.specs.declared.verdict.Verdict.TheVariants as verdict
-use Rattle.dots_machine.specs.Domains.{is_gateway, domain_for}
+use Rattle.dots_machine.specs.Domains.{is_gateway, session_domain}
 use Rattle.dots_machine.specs.Targets.{scope_fault}
-use Rattle.dots_machine.specs.Replies.{bad_target, bad_parameter}
-use Rattle.dots_machine.specs.Mitigations.{request_of, judged}
-use Rattle.dots_machine.specs.Machine.{State, is_stranger, asks_for}
-use Rattle.dots_machine.specs.Verdicts.{unless_faulty, put_verdict, delete_verdict, get_verdict, in_domain, with_mid, put_in, put_for, delete_for, get_for, asked_verdict}
-use Rattle.dots_server.specs.Asking.{role_with, domain_asked}
-use Rattle.dots_server.specs.Standing.{ServerValue, StandsFor}
+use Rattle.dots_machine.specs.Replies.{bad_target, not_implemented}
+use Rattle.dots_machine.specs.Repeats.{Sent, sent_for}
+use Rattle.dots_machine.specs.Mitigations.{sent_by, request_of, judged}
+use Rattle.dots_machine.specs.Machine.{State, is_stranger}
+use Rattle.dots_machine.specs.Verdicts.{repeated, unless_repeated, unless_faulty, put_verdict, in_domain, config_for}
+use Rattle.dots_server.specs.Asking.{role_with}
+use Rattle.dots_server.specs.Standing.{ServerValue, StandsFor, IsLiving}
 
 pub if_ok : {A E : Type 0} (r : Result A E) (P Q : A → Type 0) → ((x : A) → P x → Q x) → IfOk r P → IfOk r Q
 if_ok (Ok x) P Q f p = f x p
@@ -55,11 +57,6 @@ fails_known (faults.Other prefixes) judged known is = is
 fails_known (faults.Capacity which number) judged known is = is
 fails_known faults.NoMemory judged known is = absurd (known refl)
 
--- what a server finds by its settings
-pub domain_of : (server : ServerValue) (settings : SettingsValue) (state : State) (own : Option ℕ) (cdid : Option (List ℕ)) (found : Option ℕ) → StandsFor server settings state
-    → domain_asked server.settings own cdid ≡ found → domain_asked settings own cdid ≡ found
-domain_of server settings state own cdid found stands is = subst (λ s. domain_asked s own cdid ≡ found) stands.settings_are is
-
 -- who has a domain of its own, or is a gateway, is no stranger
 pub known_is : (own : Option ℕ) → is_stranger (role_with own) ≡ false
 known_is None = refl
@@ -71,30 +68,85 @@ gateway_is None false is = absurd (false≢true is)
 gateway_is (Some domain) true is = absurd (false≢true (sym is))
 gateway_is (Some domain) false is = refl
 
--- on a request for a mitigation
+-- ---- on a message that may be a repeat
+abbrev pub reply_in : Option Entry → Option (List ℕ)
+reply_in entry = option_map (λ (e : Entry). e.reply) entry
+
+pub repeat_found : (entry : Option Entry) (otherwise : Verdict) (reply : List ℕ) → Some reply ≡ reply_in entry → verdict.Reply reply ≡ unless_repeated entry otherwise
+repeat_found (Some e) otherwise reply is = ap verdict.Reply (same_Some reply e.reply is)
+repeat_found None otherwise reply is = absurd (none-some reply (sym is))
+
+pub repeat_none : (entry : Option Entry) (otherwise : Verdict) → None ≡ reply_in entry → otherwise ≡ unless_repeated entry otherwise
+repeat_none (Some e) otherwise is = absurd (none-some e.reply is)
+repeat_none None otherwise is = refl
+
+-- the registry remembers by the settings, at the state's time
+pub remembered_here : (server : ServerValue) (settings : SettingsValue) (state : State) (sent : Sent) → StandsFor server settings state
+    → remembered (number_remembered server.registry) (time_of server.registry) sent.peer sent.domain sent.id state.history ≡ repeated settings state.time state.history sent
+remembered_here server settings state sent stands =
+    ap (λ (l : Limits). remembered l.remembered (time_of server.registry) sent.peer sent.domain sent.id state.history) stands.is_of.limits
+    ∙ ap (λ t. remembered settings.limits.remembered t sent.peer sent.domain sent.id state.history) stands.time_is
+
+reply_within : (e : Entry) → within_bounds e ≡ true → length e.reply ≤ 64
+reply_within e is =
+    let front = and_parts _ (change_within e.change) is in
+    let short = and_parts _ (nat_le (length e.reply) 64) front.0 in
+    leb-true (length e.reply) 64 short.1
+
+remembered_within : (n t peer domain id : ℕ) (entries : List Entry) (e : Entry) → list_all within_bounds entries ≡ true → remembered n t peer domain id entries ≡ Some e → length e.reply ≤ 64
+remembered_within n t peer domain id [] e all is = absurd (none-some e is)
+remembered_within n t peer domain id (x ∷ later) e all is =
+    let both = and_parts (within_bounds x) (list_all within_bounds later) all in
+    by_rest (remembered_within n t peer domain id later e both.1) (remembered n t peer domain id later) refl is (reply_within x both.0)
+  where
+    by_rest : (remembered n t peer domain id later ≡ Some e → length e.reply ≤ 64) → (o : Option Entry) → remembered n t peer domain id later ≡ o
+        → or_else o (cond (signals peer domain x && (is_recent n x later && may_repeat t id x.time x.key)) (Some x) None) ≡ Some e → length x.reply ≤ 64 → length e.reply ≤ 64
+    by_rest deeper (Some y) at same short = deeper (at ∙ same)
+    by_rest deeper None at same short = by_test (signals peer domain x && (is_recent n x later && may_repeat t id x.time x.key)) same
+      where
+        by_test : (b : Bool) → cond b (Some x) None ≡ Some e → length e.reply ≤ 64
+        by_test true here = subst (λ (y : Entry). length y.reply ≤ 64) (same_Some x e here) short
+        by_test false here = absurd (none-some e here)
+
+-- what a registry remembers fits a short message
+pub reply_is_short : (server : ServerValue) (peer domain id : ℕ) (reply : List ℕ) → IsLiving server
+    → ((entries : List Entry) → registry.StandsFor server.registry entries
+    → Some reply ≡ reply_in (remembered (number_remembered server.registry) (time_of server.registry) peer domain id entries))
+    → length reply ≤ 64
+reply_is_short server peer domain id reply living is = by_found found refl (is living.state.history living.stands.registry)
+  where
+    found : Option Entry
+    found = remembered (number_remembered server.registry) (time_of server.registry) peer domain id living.state.history
+
+    by_found : (o : Option Entry) → found ≡ o → Some reply ≡ reply_in o → length reply ≤ 64
+    by_found None at same = absurd (none-some reply (sym same))
+    by_found (Some e) at same =
+        subst (λ reply. length reply ≤ 64) (sym (same_Some reply e.reply same))
+        (remembered_within (number_remembered server.registry) (time_of server.registry) peer domain id living.state.history e living.stands.bounded at)
+
+-- ---- on a request for a mitigation
 module _ (server : ServerValue) (settings : SettingsValue) (state : State) (a : MitigationRequest) (stands : StandsFor server settings state) where
   abbrev fault : SettingsValue → Option TargetFault
   fault s = scope_fault s (prefixes_of s a.from.domain) a.body.asked
 
-  abbrev decided : SettingsValue → ℕ → Verdict
-  decided s t = put_verdict s t state.history a
+  abbrev known : Option Entry
+  known = repeated settings state.time state.history (sent_by a.from)
 
-  now_here : decided server.settings (time_of server.registry) ≡ put_verdict settings state.time state.history a
-  now_here = ap (λ s. decided s (time_of server.registry)) stands.settings_are ∙ ap (decided settings) stands.time_is
+  abbrev by_rules : Verdict
+  by_rules = judged state.time a (judge_request settings state.time state.history a.from.domain (request_of a))
+
+  -- by the faults that the server finds
+  decided_by : (f : Option TargetFault) → fault server.settings ≡ f → unless_faulty a.from.exchange f (unless_repeated known by_rules) ≡ put_verdict settings state.time state.history a
+  decided_by f is = ap (λ f. unless_faulty a.from.exchange f (unless_repeated known by_rules)) (sym is ∙ ap fault stands.settings_are)
 
   pub server_finds_fault : (f : TargetFault) → fault server.settings ≡ Some f → verdict.Reply (bad_target a.from.exchange f) ≡ put_verdict settings state.time state.history a
-  server_finds_fault f is =
-      sym (ap (λ f. unless_faulty a.from.exchange f (judged (time_of server.registry) a (judge_request server.settings (time_of server.registry) state.history a.from.domain (request_of a)))) is)
-      ∙ now_here
+  server_finds_fault f is = decided_by (Some f) is
 
-  pub server_judges : (r : Result Judged PutFault) → fault server.settings ≡ None
-      → judge_request server.settings (time_of server.registry) state.history a.from.domain (request_of a) ≡ r
-      → judged (time_of server.registry) a r ≡ put_verdict settings state.time state.history a
-  server_judges r none is =
-      sym
-      (ap (λ f. unless_faulty a.from.exchange f (judged (time_of server.registry) a (judge_request server.settings (time_of server.registry) state.history a.from.domain (request_of a)))) none
-      ∙ ap (judged (time_of server.registry) a) is)
-      ∙ now_here
+  pub server_repeats : (reply : List ℕ) → fault server.settings ≡ None → Some reply ≡ reply_in known → verdict.Reply reply ≡ put_verdict settings state.time state.history a
+  server_repeats reply none is = repeat_found known by_rules reply is ∙ decided_by None none
+
+  pub server_goes_by_rules : fault server.settings ≡ None → None ≡ reply_in known → by_rules ≡ put_verdict settings state.time state.history a
+  server_goes_by_rules none new = repeat_none known by_rules new ∙ decided_by None none
 
   -- the same at the state's time and by its settings
   pub judged_here : (r : Result Judged PutFault) → judge_request server.settings (time_of server.registry) state.history a.from.domain (request_of a) ≡ r
@@ -104,55 +156,24 @@ module _ (server : ServerValue) (settings : SettingsValue) (state : State) (a : 
       ∙ ap (λ t. judge_request settings t state.history a.from.domain (request_of a)) stands.time_is)
       ∙ is
 
--- the domain that is asked for
-pub domain_is : (settings : SettingsValue) (own : Option ℕ) (cdid : Option (List ℕ)) → domain_for settings (role_with own) cdid ≡ domain_asked settings own cdid
-domain_is settings (Some domain) cdid = refl
-domain_is settings None None = refl
-domain_is settings None (Some name) = refl
+  pub server_judges : (r : Result Judged PutFault) → judge_request server.settings (time_of server.registry) state.history a.from.domain (request_of a) ≡ r
+      → judged (time_of server.registry) a r ≡ by_rules
+  server_judges r is = ap (λ t. judged t a r) stands.time_is ∙ ap (judged state.time a) (sym (judged_here r is))
 
-module _ (settings : SettingsValue) (state : State) (peer : ℕ) (x : Exchange) (own : Option ℕ) (own_is : role_of settings peer ≡ role_with own) where
-  found : (cdid : Option (List ℕ)) → domain_for settings (role_of settings peer) cdid ≡ domain_asked settings own cdid
-  found cdid = ap (λ role. domain_for settings role cdid) own_is ∙ domain_is settings own cdid
+-- ---- on a request to change the configuration of a session
+module _ (settings : SettingsValue) (state : State) (peer : ℕ) (x : Exchange) (own : Option ℕ) (own_is : role_of settings peer ≡ role_with own) (domain : ℕ)
+    (there : session_domain (role_with own) ≡ Some domain) where
+  abbrev recalled : Option Entry
+  recalled = repeated settings state.time state.history (sent_for peer x domain)
 
-  -- for no domain, or for one
-  nowhere : (cdid : Option (List ℕ)) (f : ℕ → Verdict) → domain_asked settings own cdid ≡ None → verdict.Reply (bad_parameter x) ≡ in_domain x (domain_for settings (role_of settings peer) cdid) f
-  nowhere cdid f none = sym (ap (λ d. in_domain x d f) (found cdid ∙ none))
+  abbrev decided : Verdict
+  decided = in_domain x (session_domain (role_of settings peer)) (config_for settings state peer x)
 
-  somewhere : (cdid : Option (List ℕ)) (f : ℕ → Verdict) (domain : ℕ) → domain_asked settings own cdid ≡ Some domain → f domain ≡ in_domain x (domain_for settings (role_of settings peer) cdid) f
-  somewhere cdid f domain there = sym (ap (λ d. in_domain x d f) (found cdid ∙ there))
+  found_there : config_for settings state peer x domain ≡ decided
+  found_there = sym (ap (λ d. in_domain x d (config_for settings state peer x)) (ap session_domain own_is ∙ there))
 
-  module _ (path : MitigationPath) (body : MitigationBody) where
-    pub puts_nowhere : domain_asked settings own path.cdid ≡ None → verdict.Reply (bad_parameter x) ≡ asked_verdict settings state peer x (request.PutMitigation path body)
-    puts_nowhere none = nowhere path.cdid (put_for settings state peer x path body) none
+  pub config_repeats : (reply : List ℕ) → Some reply ≡ reply_in recalled → verdict.Reply reply ≡ decided
+  config_repeats reply is = repeat_found recalled (verdict.Reply (not_implemented x)) reply is ∙ found_there
 
-    pub puts_without_mid : (domain : ℕ) → domain_asked settings own path.cdid ≡ Some domain → path.mid ≡ None
-        → verdict.Reply (bad_parameter x) ≡ asked_verdict settings state peer x (request.PutMitigation path body)
-    puts_without_mid domain there none =
-        sym (ap (λ mid. with_mid x mid (put_in settings state (asks_for peer x path domain) body)) none) ∙ somewhere path.cdid (put_for settings state peer x path body) domain there
-
-    pub puts_in : (domain mid : ℕ) → domain_asked settings own path.cdid ≡ Some domain → path.mid ≡ Some mid
-        → put_in settings state (asks_for peer x path domain) body mid ≡ asked_verdict settings state peer x (request.PutMitigation path body)
-    puts_in domain mid there is =
-        sym (ap (λ mid. with_mid x mid (put_in settings state (asks_for peer x path domain) body)) is) ∙ somewhere path.cdid (put_for settings state peer x path body) domain there
-
-  module _ (path : MitigationPath) where
-    pub deletes_nowhere : domain_asked settings own path.cdid ≡ None → verdict.Reply (bad_parameter x) ≡ asked_verdict settings state peer x (request.DeleteMitigation path)
-    deletes_nowhere none = nowhere path.cdid (delete_for state peer x path) none
-
-    pub deletes_without_mid : (domain : ℕ) → domain_asked settings own path.cdid ≡ Some domain → path.mid ≡ None
-        → verdict.Reply (bad_parameter x) ≡ asked_verdict settings state peer x (request.DeleteMitigation path)
-    deletes_without_mid domain there none =
-        sym (ap (λ mid. with_mid x mid (delete_verdict state.time state.history (asks_for peer x path domain))) none) ∙ somewhere path.cdid (delete_for state peer x path) domain there
-
-    pub deletes_in : (domain mid : ℕ) → domain_asked settings own path.cdid ≡ Some domain → path.mid ≡ Some mid
-        → delete_verdict state.time state.history (asks_for peer x path domain) mid ≡ asked_verdict settings state peer x (request.DeleteMitigation path)
-    deletes_in domain mid there is =
-        sym (ap (λ mid. with_mid x mid (delete_verdict state.time state.history (asks_for peer x path domain))) is) ∙ somewhere path.cdid (delete_for state peer x path) domain there
-
-  module _ (path : MitigationPath) (content : Content) (observe : Observe) where
-    pub gets_nowhere : domain_asked settings own path.cdid ≡ None → verdict.Reply (bad_parameter x) ≡ asked_verdict settings state peer x (request.GetMitigation path content observe)
-    gets_nowhere none = nowhere path.cdid (get_for state peer x path content) none
-
-    pub gets_in : (domain : ℕ) → domain_asked settings own path.cdid ≡ Some domain
-        → get_verdict state.time state.history (asks_for peer x path domain) path.mid content ≡ asked_verdict settings state peer x (request.GetMitigation path content observe)
-    gets_in domain there = somewhere path.cdid (get_for state peer x path content) domain there
+  pub config_new : None ≡ reply_in recalled → verdict.Reply (not_implemented x) ≡ decided
+  config_new new = repeat_none recalled (verdict.Reply (not_implemented x)) new ∙ found_there

@@ -107,10 +107,12 @@ impl Server {
                 };
                 self.decide_delete(from, mid)
             }
-            Request::PutConfig { .. }
-            | Request::GetConfig { .. }
-            | Request::DeleteConfig { .. }
-            | Request::PutHeartbeat { .. } => Ok(Verdict::Reply(not_implemented(&exchange))),
+            Request::PutConfig { .. } | Request::DeleteConfig { .. } => {
+                Ok(self.decide_config(peer, own, &exchange))
+            }
+            Request::GetConfig { .. } | Request::PutHeartbeat { .. } => {
+                Ok(Verdict::Reply(not_implemented(&exchange)))
+            }
         }
     }
 

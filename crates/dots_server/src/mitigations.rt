@@ -18,8 +18,8 @@ ghost use Rattle.dots_lists.specs.Name.{is_name};
 ghost use Rattle.dots_machine.specs.Replies.{conflicting, deleted, granting, told};
 ghost use Rattle.dots_machine.specs.Targets.{scope_fault};
 ghost use Rattle.dots_machine.specs.declared.verdict.Verdict.TheVariants as verdicts;
-ghost use Rattle.dots_machine.specs.Mitigations.{grant, refusal, request_of, lives, is_wanted};
-ghost use Rattle.dots_machine.specs.Verdicts.{put_verdict, is_taken, stands_as, delete_by, delete_verdict, get_verdict};
+ghost use Rattle.dots_machine.specs.Mitigations.{grant, refusal, judged, request_of, lives, is_wanted};
+ghost use Rattle.dots_machine.specs.Verdicts.{put_verdict, is_taken, stands_as, delete_by, delete_verdict, delete_in, get_verdict};
 ghost use Rattle.reply_bodies.specs.declared.conflict.ConflictCause.TheVariants as cause;
 ghost use Rattle.live_mitigations.specs.Reading.{Shown, row_view};
 ghost use Rattle.dots_server.specs.Standing.{StandsFor, CanCarryOut};
@@ -54,6 +54,10 @@ impl Server {
         if let Some(fault) = scope_fault(&self.settings, domain, &asked.body.asked) {
             return Ok(Verdict::Reply(bad_target(&asked.from.exchange, fault)));
         }
+        let known = self.remembered(asked.from.peer, asked.from.domain, &asked.from.exchange);
+        if let Some(reply) = known {
+            return Ok(Verdict::Reply(reply));
+        }
         self.judge(asked)
     }
 
@@ -63,7 +67,7 @@ impl Server {
         requires acts { may_act self.now.settings (role_of self.now.settings asked.from.peer) asked.from.domain ≡ true }
         requires clear { scope_fault self.now.settings (prefixes_of self.now.settings asked.from.domain) asked.body.asked ≡ None }
         ensures decides { (settings : SettingsValue) (state : State) → StandsFor self.now settings state
-            → IfOk result (λ verdict. verdict ≡ put_verdict settings state.time state.history asked) }
+            → IfOk result (λ verdict. verdict ≡ judged state.time asked (judge_request settings state.time state.history asked.from.domain (request_of asked))) }
         ensures ready { IfOk result (λ verdict. CanCarryOut verdict self.now) }
     {
         match self.judged(&asked) {
@@ -126,6 +130,20 @@ impl Server {
 
     /// What is decided on a request to withdraw the mitigation of a mid (RFC 9132, section 4.4.4).
     pub(crate) fn decide_delete(&self, from: ClientRequest, mid: u32) -> Result<Verdict, NoMemory>
+        requires acts { may_act self.now.settings (role_of self.now.settings from.peer) from.domain ≡ true }
+        ensures decides { (settings : SettingsValue) (state : State) → StandsFor self.now settings state
+            → IfOk result (λ verdict. verdict ≡ delete_in settings state from mid) }
+        ensures ready { IfOk result (λ verdict. CanCarryOut verdict self.now) }
+    {
+        let known = self.remembered(from.peer, from.domain, &from.exchange);
+        if let Some(reply) = known {
+            return Ok(Verdict::Reply(reply));
+        }
+        self.judge_delete(from, mid)
+    }
+
+    /// What the rules say of a request to withdraw.
+    fn judge_delete(&self, from: ClientRequest, mid: u32) -> Result<Verdict, NoMemory>
         requires acts { may_act self.now.settings (role_of self.now.settings from.peer) from.domain ≡ true }
         ensures decides { (settings : SettingsValue) (state : State) → StandsFor self.now settings state
             → IfOk result (λ verdict. verdict ≡ delete_verdict state.time state.history from mid) }

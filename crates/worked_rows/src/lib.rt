@@ -21,6 +21,8 @@ mod option_rows;
 #[cfg(test)]
 mod refusal_rows;
 #[cfg(test)]
+mod repeat_rows;
+#[cfg(test)]
 mod runs;
 #[cfg(test)]
 mod script_rows;

@@ -42,12 +42,13 @@ const PREFIXES: &str = "\
 < at 1000 from 0 HEAD+MID_123+BODY+90+INSIDE+INSIDE+INSIDE+INSIDE+INSIDE+INSIDE+INSIDE+INSIDE+INSIDE+INSIDE+INSIDE+INSIDE+INSIDE+INSIDE+INSIDE+OUTSIDE+LIFETIME
 > to 0 OUTSIDE_DOMAIN";
 
-/// The same request again, up to the last second of the first, refreshes it; at its end it is a new one.
+/// The same request again, in a message of its own or where the message isn't remembered any more, refreshes it up to the last second of
+/// the first; at its end it is a new one.
 const AGAIN: &str = "\
 < at 1000 from 0 REQUEST
-< at 1000 from 0 REQUEST
+< at 1000 from 0 51030002+MITIGATE+CUID+MID_123+NET1
 > to 0 REPLY
-> to 0 REFRESHED
+> to 0 51440002+CBOR+a101a10281a205187b0e190e10
 = ROW
 
 < at 1000 from 0 REQUEST
@@ -72,16 +73,16 @@ const AGAIN: &str = "\
 /// A second request that meets the first in no prefix stands beside the first; with its mid it would change it.
 const BESIDE: &str = "\
 < at 1000 from 0 HEAD+MID_123+BODY+816c3139322e302e322e302f3235+LIFETIME
-< at 1000 from 0 HEAD+MID_124+BODY+816e3139322e302e322e3132382f3235+LIFETIME
+< at 1000 from 0 51030002+MITIGATE+CUID+MID_124+BODY+816e3139322e302e322e3132382f3235+LIFETIME
 > to 0 REPLY
-> to 0 514100014ac2010fffa101a10281a205187c0e190e10
+> to 0 51410002+CBOR+a101a10281a205187c0e190e10
 = scrub net1 dz6pHjaADkaFTbjr0JGBpw 123 192.0.2.0/25 any any
 = scrub net1 dz6pHjaADkaFTbjr0JGBpw 124 192.0.2.128/25 any any
 
 < at 1000 from 0 HEAD+MID_123+BODY+816c3139322e302e322e302f3235+LIFETIME
-< at 1000 from 0 HEAD+MID_123+BODY+816e3139322e302e322e3132382f3235+LIFETIME
+< at 1000 from 0 51030002+MITIGATE+CUID+MID_123+BODY+816e3139322e302e322e3132382f3235+LIFETIME
 > to 0 REPLY
-> to 0 CHANGED
+> to 0 518000024aff6368616e676564
 = scrub net1 dz6pHjaADkaFTbjr0JGBpw 123 192.0.2.0/25 any any";
 
 #[test]

@@ -1,14 +1,19 @@
-use Rattle.std.proofs.Common.{sym, subst}
-use Rattle.dots_machine.specs.Replies.{deleted}
-use Rattle.dots_server.specs.Standing.{CanCarryOut}
-use Rattle.dots_server.proofs.Verdicts.{if_both}
-use Rattle.dots_server.proofs.Accepting.{withdrawal_acceptable}
+use Rattle.std.proofs.Common.{◌∙◌}
+use Rattle.dots_machine.specs.Mitigations.{sent_by}
+use Rattle.dots_machine.specs.Verdicts.{repeated, delete_verdict}
+use Rattle.dots_server.proofs.Verdicts.{if_ok, repeat_found, repeat_none}
 use Rattle.dots_server.proofs.server.Server.decide_delete.Goals as goal
 
-pub returns-clause-ready : goal.returns-clause-ready
-returns-clause-ready c =
-    if_both c.withdraw.result _ _ _ _
-    (λ v is named short.
-    subst (λ v. CanCarryOut v c.args.self.now) (sym is)
-    (withdrawal_acceptable c.args.self.now c.args.from c.args.mid (deleted c.args.from.exchange) c.requires.acts named short))
-    c.withdraw.ensures.verdict c.withdraw.ensures.cuid c.withdraw.ensures.reply
+pub returns-in-Some-clause-decides : goal.returns-in-Some-clause-decides
+returns-in-Some-clause-decides c = λ settings state stands.
+    repeat_found (repeated settings state.time state.history (sent_by c.args.from)) (delete_verdict state.time state.history c.args.from c.args.mid) c.in-Some.reply
+    (c.in-Some.ensures settings state stands)
+
+pub returns-clause-decides : goal.returns-clause-decides
+returns-clause-decides c = λ settings state stands.
+    if_ok c.judge_delete.result _ _
+    (λ v is.
+    is
+    ∙ repeat_none (repeated settings state.time state.history (sent_by c.args.from)) (delete_verdict state.time state.history c.args.from c.args.mid)
+    (c.in_default.ensures settings state stands))
+    (c.judge_delete.ensures.decides settings state stands)

@@ -8,7 +8,7 @@ use Rattle.dots_server.proofs.server.Server.judge.Goals as goal
 pub returns-in-Ok-clause-decides : goal.returns-in-Ok-clause-decides
 returns-in-Ok-clause-decides c = λ settings state stands.
     if_ok c.grant.result _ _
-    (λ v is. is ∙ server_judges c.args.self.now settings state c.args.asked stands (Ok c.in-Ok.judged) c.requires.clear (c.in-Ok.ensures state.history stands.registry))
+    (λ v is. is ∙ server_judges c.args.self.now settings state c.args.asked stands (Ok c.in-Ok.judged) (c.in-Ok.ensures state.history stands.registry))
     c.grant.ensures.verdict
 
 pub returns-in-Ok-clause-ready : goal.returns-in-Ok-clause-ready
@@ -25,5 +25,5 @@ pub returns-clause-decides : goal.returns-clause-decides
 returns-clause-decides c = λ settings state stands.
     if_one c.refuse.result _ _ _
     (λ v is known.
-    is ∙ server_judges c.args.self.now settings state c.args.asked stands (Err c.in-Err.fault) c.requires.clear (fails_known c.in-Err.fault _ known (c.in-Err.ensures state.history stands.registry)))
+    is ∙ server_judges c.args.self.now settings state c.args.asked stands (Err c.in-Err.fault) (fails_known c.in-Err.fault _ known (c.in-Err.ensures state.history stands.registry)))
     c.refuse.ensures.verdict c.refuse.ensures.known

@@ -1,0 +1,14 @@
+use Rattle.std.proofs.Common.{sym, subst}
+use Rattle.dots_machine.specs.Replies.{deleted}
+use Rattle.dots_server.specs.Standing.{CanCarryOut}
+use Rattle.dots_server.proofs.Verdicts.{if_both}
+use Rattle.dots_server.proofs.Accepting.{withdrawal_acceptable}
+use Rattle.dots_server.proofs.server.Server.judge_delete.Goals as goal
+
+pub returns-clause-ready : goal.returns-clause-ready
+returns-clause-ready c =
+    if_both c.withdraw.result _ _ _ _
+    (λ v is named short.
+    subst (λ v. CanCarryOut v c.args.self.now) (sym is)
+    (withdrawal_acceptable c.args.self.now c.args.from c.args.mid (deleted c.args.from.exchange) c.requires.acts named short))
+    c.withdraw.ensures.verdict c.withdraw.ensures.cuid c.withdraw.ensures.reply
