@@ -2,4 +2,6 @@ pub mod Standing
 pub mod Slots
 pub mod Images
 pub mod Answering
+pub mod Sizing
+pub mod Recovering
 pub mod Wholes

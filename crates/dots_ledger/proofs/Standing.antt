@@ -31,10 +31,10 @@ use Rattle.dots_ledger.specs.Standing.{LedgerValue, StandsFor, IsStanding, CanAc
 
 -- ---- how many slots a compaction keeps is by the settings
 
-abbrev pair_actor : Pair → ℕ × ℕ
+abbrev pub pair_actor : Pair → ℕ × ℕ
 pair_actor pair = (pair.peer, pair.domain)
 
-abbrev capacities : List (ℕ × ℕ) → Sizes → Limits → Capacities
+abbrev pub capacities : List (ℕ × ℕ) → Sizes → Limits → Capacities
 capacities actors sizes limits = record {
   actors = actors;
   peers = sizes.peers;
@@ -45,14 +45,14 @@ capacities actors sizes limits = record {
   acls = limits.acls;
 }
 
-abbrev most_by : SettingsValue → ℕ
+abbrev pub most_by : SettingsValue → ℕ
 most_by settings = most_named (capacities (map pair_actor (pairs_of settings)) (sizes_of settings) settings.limits) settings.limits.remembered
 
 actors_are : (rings : List RingValue) → map actor_of rings ≡ map pair_actor (map pair_of rings)
 actors_are [] = refl
 actors_are (ring ∷ rings) = ap (λ (actors : List (ℕ × ℕ)). (ring.pair.peer, ring.pair.domain) ∷ actors) (actors_are rings)
 
-most_is : (settings : SettingsValue) (r : RegistryValue) → IsOf settings r → most_kept r ≡ most_by settings
+pub most_is : (settings : SettingsValue) (r : RegistryValue) → IsOf settings r → most_kept r ≡ most_by settings
 most_is settings r is_of =
     ap (λ (actors : List (ℕ × ℕ)). most_named (capacities actors r.held.sizes r.live.limits) r.live.limits.remembered) (actors_are r.rings ∙ ap (map pair_actor) is_of.pairs)
     ∙ ap (λ (s : Sizes). most_named (capacities (map pair_actor (pairs_of settings)) s r.live.limits) r.live.limits.remembered) is_of.sizes

@@ -23,9 +23,9 @@ use std::marker::Model;
 /// The journal of what was accepted, and its tables.
 #[derive(Drop)]
 pub struct Ledger {
-    registry: Registry,
-    journal: Journal,
-    keep: SlotList,
+    pub(crate) registry: Registry,
+    pub(crate) journal: Journal,
+    pub(crate) keep: SlotList,
 }
 
 impl Model for Ledger {
@@ -87,6 +87,7 @@ impl Ledger {
             → (few : List Entry) × StandsFor self.new settings history few) }
 
         ensures time { OnOk result (time_of self.new.registry ≡ staged.time) }
+        ensures still { OnErr result (time_of self.new.registry ≡ time_of self.old.registry) }
         ensures slots { self.new.journal.slots ≡ self.old.journal.slots }
         ensures extent { D.extent disk.new ≡ D.extent disk.old }
         ensures cause { HasCause (D.faults disk.old) (D.faults disk.new) result }

@@ -34,14 +34,14 @@ none_there : (o : Option Put) → option_any (λ (put : Put). true) o ≡ false 
 none_there None is = refl
 none_there (Some put) is = absurd (false≢true (sym is))
 
-never_live : (t : ℕ) (e : Entry) (s : Status) → puts e ≡ false → live t e s ≡ false
+pub never_live : (t : ℕ) (e : Entry) (s : Status) → puts e ≡ false → live t e s ≡ false
 unfolding runs lasts
 never_live t e Ended quiet = refl
 never_live t e Open quiet = ap (λ b. b || false) (ap (option_any (λ (put : Put). granted_at t e.time put.granted)) (none_there (put_of e.change) quiet))
 never_live t e (Withdrawn at) quiet =
     ap (λ b. b && nat_lt t (at + 120)) (ap (option_any (λ (put : Put). granted_at at e.time put.granted)) (none_there (put_of e.change) quiet))
 
-inside_or_quiet : (domains : ℕ) (e : Entry) → is_inside domains e ≡ true → puts e ≡ true → e.domain < domains
+pub inside_or_quiet : (domains : ℕ) (e : Entry) → is_inside domains e ≡ true → puts e ≡ true → e.domain < domains
 inside_or_quiet domains e inside put = ltb-true e.domain domains (sym (ap (λ b. not b || nat_lt e.domain domains) put) ∙ inside)
 
 none_counts : (test : Entry → Bool) (t domains : ℕ) (entries : List Entry) → ((x : Entry) → x.domain < domains → test x ≡ false)
@@ -63,7 +63,7 @@ none_counts test t domains (e ∷ later) out all =
           | inr quiet ↦ absurd (false≢true (sym (never_live t e (status e Open later) quiet) ∙ alive))
         ]
 
-out_of_client : (e x : Entry) → (e.domain == x.domain) ≡ false → same_client e x ≡ false
+pub out_of_client : (e x : Entry) → (e.domain == x.domain) ≡ false → same_client e x ≡ false
 unfolding same_client
 out_of_client e x out = ap (λ b. b && bytes_eq e.cuid x.cuid) out
 
@@ -176,7 +176,7 @@ asked_first true false true true d leads = refl
 asked_first true false true false d leads = refl
 asked_first true a false c d leads = absurd (false≢true (leads refl))
 
-timed_within : (e : Entry) → within_bounds e ≡ true → nat_lt e.time 281474976710656 ≡ true
+pub timed_within : (e : Entry) → within_bounds e ≡ true → nat_lt e.time 281474976710656 ≡ true
 timed_within e is =
     let first = and_parts
     ((nat_lt e.time (2 ^ 48) && ((length e.cuid == 0) || is_name e.cuid)) && nat_le (length e.reply) 64)

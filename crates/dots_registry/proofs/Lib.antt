@@ -8,3 +8,4 @@ mod Seeing
 pub mod Bared
 pub mod Filed
 pub mod Shrinking
+pub mod Peers

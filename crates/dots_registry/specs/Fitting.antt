@@ -1,8 +1,10 @@
 -- Which entries a registry can take.
-use Rattle.std.specs.Prelude.{◌≡◌, Bool, true, ◌&&◌, nat_le, List}
+use Rattle.std.specs.Prelude.{◌≡◌, Bool, true, not, ◌&&◌, ◌||◌, ◌==◌, nat_le, List}
 use Rattle.dots_settings.specs.Settings.{SettingsValue}
 use Rattle.dots_history.specs.declared.entry.Entry.{Entry}
 use Rattle.dots_history.specs.Bounds.{within_bounds}
+use Rattle.dots_history.specs.Entries.{same_client}
+use Rattle.dots_history.specs.Histories.{Mitigation}
 use Rattle.dots_laws.specs.Fits as laws
 use Rattle.live_mitigations.specs.Standing.{has_live_room}
 use Rattle.held_things.specs.Accepting.{accepts}
@@ -29,3 +31,7 @@ pub record FitsIn (registry : RegistryValue) (e : Entry) : Type 0 where
   pub is_of : IsOf settings registry
   pub stands : StandsFor registry entries
   pub fits : fits_now settings registry entries e ≡ true
+
+-- a mitigation is of another client than the entry, or has its peer
+abbrev pub has_peer : Entry → Mitigation → Bool
+has_peer e m = not (same_client m.put e) || (e.peer == m.put.peer)

@@ -1,15 +1,18 @@
 //! Which entries a registry can take.
 
 ghost use Rattle.std.specs.Prelude.{◌≡◌, ◌≤◌, ◌<◌, ◌&&◌, true, List};
+ghost use Rattle.std.specs.List.{list_all};
 ghost use Rattle.dots_history.specs.Bounds.{within_bounds};
+ghost use Rattle.dots_history.specs.Histories.{mitigations};
 ghost use Rattle.dots_laws.specs.Calm.{is_of_settings};
+ghost use Rattle.dots_laws.specs.Fits.{is_of_mitigations, has_one_peer};
 ghost use Rattle.dots_history.specs.declared.entry.Entry.{Entry};
 ghost use Rattle.live_mitigations.specs.Standing.{puts, has_live_room};
 ghost use Rattle.dots_registry.specs.Standing.{StandsFor, IsOf, time_of, domains_of, limits_of};
-ghost use Rattle.dots_registry.specs.Fitting.{fits_now, fits_tables};
+ghost use Rattle.dots_registry.specs.Fitting.{fits_now, fits_tables, has_peer};
 
 use crate::registry::Registry;
-use dots_history::{Entry, is_within_bounds};
+use dots_history::{Change, Entry, is_within_bounds};
 use dots_laws::is_of_settings;
 use dots_settings::Settings;
 
@@ -43,6 +46,43 @@ impl Registry {
             return self.live.has_room(entry);
         }
         true
+    }
+
+    /// Whether an entry that puts or withdraws a mitigation has the peer of each live mitigation of its client.
+    pub fn has_one_peer(&self, entry: &Entry) -> bool
+        ensures { (entries : List Entry) → StandsFor self.now entries → result ≡ has_one_peer entry.now (mitigations (time_of self.now) entries) }
+    {
+        !is_of_mitigations(&entry.change) || self.are_of_peer(entry)
+    }
+
+    /// Whether each live mitigation of the entry's client has the entry's peer.
+    fn are_of_peer(&self, entry: &Entry) -> bool
+        ensures { (entries : List Entry) → StandsFor self.now entries → result ≡ list_all (has_peer entry.now) (mitigations (time_of self.now) entries) }
+    {
+        if entry.domain < self.live.domains() {
+            return !self
+                .live
+                .collides(entry.domain, entry.cuid.bytes(), entry.peer);
+        }
+        true
+    }
+}
+
+/// Whether a mitigation is put or withdrawn.
+#[tactic(auto, unfolding(dots_laws::specs::Fits::is_of_mitigations))]
+fn is_of_mitigations(change: &Change) -> bool
+    ensures { result ≡ is_of_mitigations change.now }
+{
+    match change {
+        Change::Put(_) | Change::Withdraw { .. } => true,
+        Change::SetAlias(_)
+        | Change::DropAlias { .. }
+        | Change::SetAcl(_)
+        | Change::DropAcl { .. }
+        | Change::Register
+        | Change::Deregister
+        | Change::SetConfig { .. }
+        | Change::ClearConfig => false,
     }
 }
 

@@ -1,0 +1,239 @@
+-- How a ledger begins by what a disk holds.
+use Rattle.std.proofs.Common.{◌≡◌, ◌≢◌, ℕ, zero, suc, ◌+◌, ◌%◌, ◌<◌, ◌≤◌, Bool, true, false, ◌&&◌, List, [], ◌∷◌, ◌++◌, length, take, drop, get_or, map, Option, Some, None, inl, inr, Result, Ok, Err, refl, sym, ap, subst, ◌∙◌, arith}
+use Rattle.std.specs.Prelude.{nat_le, nat_lt, ◌^◌, max}
+use Rattle.std.specs.List.{AllByRecursion}
+use Rattle.std.proofs.lemmas.Bool.{false≢true, true≢false, and_parts, and_from, leb-true, le-leb, ltb-true, false_from_ne_true}
+use Rattle.std.proofs.Math.Nat.{max-le}
+use Rattle.std.proofs.lemmas.List.{length-map}
+use Rattle.dots_disk.specs.Media.{Media}
+use Rattle.dots_disk.specs.Becoming.{RestsWith}
+use Rattle.dots_settings.specs.Settings.{SettingsValue}
+use Rattle.dots_history.specs.declared.entry.Entry.{Entry}
+use Rattle.dots_history.specs.Bounds.{within_bounds}
+use Rattle.dots_history.specs.Histories.{mitigations}
+use Rattle.live_mitigations.specs.Ends.{never}
+use Rattle.dots_laws.specs.Calm.{came_rightly}
+use Rattle.dots_laws.specs.Fits.{last_or, last_time, fits, joins, is_calm, has_one_peer}
+use Rattle.dots_laws.proofs.CalmCuts.{calm_more, calm_parts}
+use Rattle.dots_laws.proofs.Composing.{kept_refl}
+use Rattle.entry_records.specs.Layout.{record_bytes}
+use Rattle.kept_slots.specs.Kept.{filed}
+use Rattle.kept_slots.proofs.Numbering.{filed_entries, filed_more}
+use Rattle.mitigation_slots.specs.Slots.{Filed}
+use Rattle.slot_store.specs.Layout.{place_of, needed_of}
+use Rattle.slot_store.proofs.Steps.{rests_as}
+use Rattle.slot_store.specs.Standing.{JournalValue}
+use Rattle.slot_journal.specs.declared.fault.JournalFault.{JournalFault}
+use Rattle.slot_journal.specs.declared.fault.JournalFault.TheVariants as fault
+use Rattle.slot_journal.specs.Sizes.{slots_of}
+use Rattle.slot_journal.specs.Held.{HasRecord, Holds}
+use Rattle.slot_journal.specs.Held as journal
+use Rattle.slot_journal.specs.Refused.{Refuses, Caused}
+use Rattle.slot_journal.proofs.Crashing.{held_not_refused, one_history}
+use Rattle.dots_registry.specs.Standing.{RegistryValue, IsOf, time_of, number_remembered}
+use Rattle.dots_registry.specs.Standing as registry
+use Rattle.dots_registry.specs.Filed.{StandsIn, most_kept}
+use Rattle.dots_registry.specs.Fitting.{FitsIn, fits_now}
+use Rattle.dots_registry.proofs.Conditions.{timed_within}
+use Rattle.dots_ledger.specs.Standing.{LedgerValue, StandsFor}
+use Rattle.dots_ledger.specs.Beginning.{HasTaken, IsApart, joins_now, RefusesEntries, RefusesLedger, IsFailure}
+
+-- ---- one entry
+
+-- the tables stand for the entries that were taken
+pub taken_stand : (settings : SettingsValue) (entries : List Entry) (r : RegistryValue) → HasTaken settings entries r → registry.StandsFor r entries
+taken_stand settings entries r taken = subst (registry.StandsFor r) (filed_entries entries) taken.stands_in.stands
+
+last_more : (t : ℕ) (entries : List Entry) (e : Entry) → last_or t (entries ++ e ∷ []) ≡ e.time
+last_more t [] e = refl
+last_more t (x ∷ entries) e = last_more x.time entries e
+
+-- what the tables say of an entry at their time is whether it joins
+pub joined : (settings : SettingsValue) (r : RegistryValue) (before : List Entry) (e : Entry) → time_of r ≡ e.time → within_bounds e ≡ true
+    → joins_now settings r before e ≡ joins settings before e
+joined settings r before e at within =
+    ap (λ b. b && (came_rightly e && has_one_peer e (mitigations (time_of r) before))) now
+    ∙ ap (λ t. fits settings before e && (came_rightly e && has_one_peer e (mitigations t before))) at
+  where
+    now : fits_now settings r before e ≡ fits settings before e
+    now =
+        ap (λ b. b && (nat_le (time_of r) e.time && fits settings before e)) within
+        ∙ ap (λ b. b && fits settings before e) (le-leb (time_of r) e.time (omega (arith, at)))
+
+pub time_within : (e : Entry) → within_bounds e ≡ true → e.time < never
+time_within e within = let less = ltb-true e.time 281474976710656 (timed_within e within) in omega (arith, less)
+
+-- an entry before the time doesn't join
+pub early_apart : (settings : SettingsValue) (before : List Entry) (e : Entry) (r : RegistryValue) → HasTaken settings before r → e.time < time_of r
+    → joins settings before e ≡ false
+early_apart settings before e r taken early = false_from_ne_true (joins settings before e) (λ is. by_time (fits_parts is))
+  where
+    fits_parts : joins settings before e ≡ true → last_time before ≤ e.time
+    fits_parts is =
+        let fit = and_parts (fits settings before e) (came_rightly e && has_one_peer e (mitigations e.time before)) is in
+        let front = and_parts _ _ fit.0 in
+        let times = and_parts _ _ front.0 in
+        let first = and_parts (nat_le (last_time before) e.time) (nat_lt e.time (2 ^ 48)) times.0 in
+        leb-true (last_time before) e.time first.0
+
+    by_time : last_time before ≤ e.time → ⊥
+    by_time late = let same = taken.time in omega (arith, early, late, same)
+
+-- what joins can be applied
+pub fits_taken : (settings : SettingsValue) (r : RegistryValue) (before : List Entry) (e : Entry) → IsOf settings r → registry.StandsFor r before
+    → joins_now settings r before e ≡ true → FitsIn r e
+fits_taken settings r before e is_of stands is = record {
+  settings = settings;
+  entries = before;
+  is_of = is_of;
+  stands = stands;
+  fits = (and_parts (fits_now settings r before e) (came_rightly e && has_one_peer e (mitigations (time_of r) before)) is).0;
+}
+
+-- one entry more
+pub taken_more : (settings : SettingsValue) (before : List Entry) (slot : ℕ) (e staged : Entry) (old new : RegistryValue) → staged ≡ e
+    → (IsOf settings old → IsOf settings new)
+    → (StandsIn old (filed before) → StandsIn new (filed before ++ record { entry = staged; slot = slot } ∷ []))
+    → time_of new ≡ staged.time → slot ≡ length before → joins settings before e ≡ true → HasTaken settings before old
+    → HasTaken settings (before ++ e ∷ []) new
+taken_more settings before slot e staged old new same keep file time place is taken = record {
+  is_of = keep taken.is_of;
+  stands_in = subst
+      (StandsIn new)
+      (ap (λ (x : Entry). filed before ++ record { entry = x; slot = slot } ∷ []) same
+      ∙ ap (λ (k : ℕ). filed before ++ record { entry = e; slot = k } ∷ []) place
+      ∙ sym (filed_more before e))
+      (file taken.stands_in);
+  calm = calm_more settings before e taken.calm is;
+  time = time ∙ ap (λ (x : Entry). x.time) same ∙ sym (last_more 0 before e);
+}
+
+-- ---- all of them
+
+pub same_items : {A : Type 0} (xs : List A) → map (λ x. x) xs ≡ xs
+same_items [] = refl
+same_items (x ∷ xs) = ap (λ ys. x ∷ ys) (same_items xs)
+
+cut_at : {A : Type 0} (xs : List A) (n : ℕ) (x : A) → n < length xs → x ≡ get_or xs n x → xs ≡ take n xs ++ x ∷ drop (suc n) xs
+cut_at [] n x less is = absurd (omega (arith, less))
+cut_at (y ∷ xs) zero x less is = ap (λ z. z ∷ xs) (sym is)
+cut_at (y ∷ xs) (suc n) x less is = ap (λ ys. y ∷ ys) (cut_at xs n x (omega (arith, less)) is)
+
+pub is_apart : (settings : SettingsValue) (entries before : List Entry) (e : Entry) (slot : ℕ) (r : RegistryValue) → HasTaken settings before r
+    → map (λ x. x) before ≡ take (length before) entries → length before < length entries → e ≡ get_or entries (length before) e → slot ≡ length before
+    → joins settings before e ≡ false → IsApart settings entries slot
+is_apart settings entries before e slot r taken front less is place out = record {
+  before = before;
+  entry = e;
+  later = drop (suc (length before)) entries;
+  cut = cut_at entries (length before) e less is ∙ ap (λ xs. xs ++ e ∷ drop (suc (length before)) entries) (sym front ∙ same_items before);
+  calm = taken.calm;
+  apart = out;
+  there = place;
+}
+
+-- ---- the whole
+
+last_small : (t : ℕ) (entries : List Entry) → t < 281474976710656 → AllByRecursion HasRecord entries → last_or t entries < 281474976710656
+last_small t [] less each = less
+last_small t (e ∷ entries) less each = last_small e.time entries (ltb-true e.time 281474976710656 (timed_within e each.0.within)) each.1
+
+pub time_small : (settings : SettingsValue) (entries : List Entry) (r : RegistryValue) (at now : ℕ) → HasTaken settings entries r → AllByRecursion HasRecord entries
+    → at < 2 ^ 48 → now ≡ max at (time_of r) → now < never
+time_small settings entries r at now taken each early is =
+    let last = last_small 0 entries (omega arith) each in
+    let same = taken.time in
+    let most = max-le {a = at} {b = time_of r} {k = 281474976710656} (omega (arith, early)) (omega (arith, last, same)) in
+    omega (arith, is, most)
+
+pub stands_begun : (settings : SettingsValue) (entries : List Entry) (taken : RegistryValue) (ledger : LedgerValue) → HasTaken settings entries taken
+    → (IsOf settings taken → IsOf settings ledger.registry)
+    → ((es : List Entry) → registry.StandsFor taken es → registry.StandsFor ledger.registry es)
+    → ((all : List Filed) → StandsIn taken all → StandsIn ledger.registry all)
+    → ledger.journal.used ≡ length entries → ledger.journal.slots ≡ slots_of settings
+    → ((r : RegistryValue) → IsOf settings r → most_kept r < slots_of settings) → StandsFor ledger settings entries entries
+stands_begun settings entries taken ledger has keep stand file used slots few =
+    let less = few ledger.registry (keep has.is_of) in
+    record {
+      is_of = keep has.is_of;
+      registry = stand entries (taken_stand settings entries taken has);
+      stands_in = file (filed entries) has.stands_in;
+      calm = has.calm;
+      kept = kept_refl (number_remembered ledger.registry) (time_of ledger.registry) entries;
+      used = used;
+      free = omega (arith, less, slots);
+    }
+
+pub time_begun : (settings : SettingsValue) (entries : List Entry) (r : RegistryValue) (at time now : ℕ) → HasTaken settings entries r → time ≡ time_of r
+    → now ≡ max at time → now ≡ max at (last_time entries)
+time_begun settings entries r at time now taken is most = most ∙ ap (max at) (is ∙ taken.time)
+
+-- ---- why none begins
+
+-- as many slots are in use as there are entries
+pub used_many : (new : Option Media) (settings : SettingsValue) (j : JournalValue) (entries : List Entry) → RestsWith new (journal.StandsFor j settings entries)
+    → j.used ≡ length entries
+used_many None settings j entries rests = absurd rests
+used_many (Some media) settings j entries rests = rests.1.stands.used ∙ length-map entries record_bytes
+
+pub refuses_stray : (settings : SettingsValue) (extent : ℕ) (seen : ℕ → ℕ) (new : Option Media) (j : JournalValue) (entries : List Entry) (why : JournalFault)
+    → j.slots ≡ slots_of settings → Holds settings seen entries → RestsWith new (journal.StandsFor j settings entries) → RefusesEntries settings j entries why
+    → RefusesLedger settings extent seen new why
+refuses_stray settings extent seen new j entries (fault.NotOurs at) slots holds rests why =
+    inr (record {
+      entries = entries;
+      holds = holds;
+      slot = why.0;
+      apart = why.1;
+      there = rests_as
+          new
+          (journal.StandsFor j settings entries)
+          (λ image. at ≡ place_of (slots_of settings) (image 48 % 2) why.0)
+          (λ image stands.
+          why.2
+          ∙ ap (λ n. place_of n (j.selector % 2) why.0) slots
+          ∙ ap (λ n. place_of (slots_of settings) (n % 2) why.0) (sym stands.stands.selector))
+          rests;
+    })
+refuses_stray settings extent seen new j entries fault.NoMemory slots holds rests why = tt
+refuses_stray settings extent seen new j entries (fault.TooSmall needed found) slots holds rests why = absurd why
+refuses_stray settings extent seen new j entries (fault.SettingsChanged stored given) slots holds rests why = absurd why
+refuses_stray settings extent seen new j entries fault.DiskFault slots holds rests why = absurd why
+
+pub refuses_more : (settings : SettingsValue) (extent : ℕ) (seen : ℕ → ℕ) (new : Option Media) (why : JournalFault) → Refuses settings extent seen why
+    → RefusesLedger settings extent seen new why
+refuses_more settings extent seen new (fault.NotOurs at) why = inl why
+refuses_more settings extent seen new fault.NoMemory why = why
+refuses_more settings extent seen new (fault.TooSmall needed found) why = why
+refuses_more settings extent seen new (fault.SettingsChanged stored given) why = why
+refuses_more settings extent seen new fault.DiskFault why = why
+
+-- a disk that holds calm entries isn't refused
+pub fails_alone : (settings : SettingsValue) (extent : ℕ) (seen : ℕ → ℕ) (new : Option Media) (entries : List Entry) (why : JournalFault)
+    → RefusesLedger settings extent seen new why → Holds settings seen entries → is_calm settings entries ≡ true → needed_of (slots_of settings) ≤ extent
+    → IsFailure why
+fails_alone settings extent seen new entries (fault.NotOurs at) (inl refuses) holds calm size =
+    absurd (held_not_refused settings extent seen entries (fault.NotOurs at) holds refuses tt)
+fails_alone settings extent seen new entries (fault.NotOurs at) (inr stray) holds calm size =
+    let apart = stray.apart in
+    let same = one_history settings seen entries stray.entries holds stray.holds ∙ apart.cut in
+    let parts = calm_parts settings apart.before apart.entry apart.later (subst (λ es. is_calm settings es ≡ true) same calm) in
+    absurd (false≢true (sym apart.apart ∙ parts.1))
+fails_alone settings extent seen new entries (fault.TooSmall needed found) refuses holds calm size =
+    let small = refuses.2 in
+    let all = refuses.0 in
+    let is = refuses.1 in
+    absurd (omega (arith, small, all, is, size))
+fails_alone settings extent seen new entries (fault.SettingsChanged stored given) refuses holds calm size =
+    absurd (held_not_refused settings extent seen entries (fault.SettingsChanged stored given) holds refuses tt)
+fails_alone settings extent seen new entries fault.DiskFault refuses holds calm size = tt
+fails_alone settings extent seen new entries fault.NoMemory refuses holds calm size = tt
+
+-- entries that aren't taken are no fault of the disk
+pub caused_entries : (A : Type 0) (settings : SettingsValue) (j : JournalValue) (entries : List Entry) (why : JournalFault) (before now : ℕ)
+    → RefusesEntries settings j entries why → now ≡ before → Caused {A = A} before now (Err why)
+caused_entries A settings j entries (fault.NotOurs at) before now why same = same
+caused_entries A settings j entries fault.NoMemory before now why same = same
+caused_entries A settings j entries (fault.TooSmall needed found) before now why same = absurd why
+caused_entries A settings j entries (fault.SettingsChanged stored given) before now why same = absurd why
+caused_entries A settings j entries fault.DiskFault before now why same = absurd why

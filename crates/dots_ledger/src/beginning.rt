@@ -1,0 +1,94 @@
+//! How a ledger begins.
+
+ghost use Rattle.std.specs.Prelude.{◌≡◌, ◌≢◌, ℕ, ◌^◌, ◌<◌, ◌≤◌, ◌⊎◌, true, List, IfOk, IfErr};
+ghost use Rattle.dots_disk.specs.Becoming.{Leaves, RestsWith};
+ghost use Rattle.dots_settings.specs.Settings.{SettingsValue};
+ghost use Rattle.dots_history.specs.declared.entry.Entry.{Entry};
+ghost use Rattle.dots_laws.specs.Fits.{is_calm};
+ghost use Rattle.dots_registry.specs.Standing.{RegistryValue, IsOf};
+ghost use Rattle.dots_registry.specs.Filed.{most_kept};
+ghost use Rattle.slot_store.specs.Layout.{needed_of};
+ghost use Rattle.slot_store.specs.Opening.{Is};
+ghost use Rattle.slot_store.specs.Gates.{Sees};
+ghost use Rattle.slot_journal.specs.declared.fault.JournalFault.{JournalFault};
+ghost use Rattle.slot_journal.specs.Sizes.{slots_of};
+ghost use Rattle.slot_journal.specs.Held.{Holds};
+ghost use Rattle.slot_journal.specs.Refused.{Caused};
+ghost use Rattle.dots_ledger.specs.Beginning.{HasBegun, RefusesLedger, IsFailure};
+
+use crate::ledger::Ledger;
+use crate::taking::take_all;
+use dots_disk::Disk;
+use dots_history::SlotList;
+use dots_lists::NoMemory;
+use dots_registry::Registry;
+use dots_settings::Settings;
+use slot_journal::{EntryList, Journal, JournalFault, slots};
+use std::alloc::Global;
+
+impl Ledger {
+    /// Recovers what the disk holds, and makes the tables anew of it. The time is then the greater of this one, in seconds, below
+    /// 2^48, and that of the last entry. It takes the memory of all tables.
+    ///
+    /// # Errors
+    ///
+    /// Those of [`Journal::recover`], and `NotOurs` also with the slot of the first entry that doesn't join those before it.
+    pub fn begin<D: Disk>(
+        alloc: Global,
+        disk: &mut D,
+        settings: &Settings,
+        at: u64,
+    ) -> Result<Self, JournalFault>
+        requires early { at < 2 ^ 48 }
+
+        // A disk on which nothing was pending holds the same list at each moment.
+        ensures moments { (seen : ℕ → ℕ) (entries : List Entry) → RestsWith (D.media disk.old) (Is seen) → Holds settings.now seen entries
+            → Leaves (D.media disk.old) (D.media disk.new) (λ image. Holds settings.now image entries) }
+
+        // It stands for what the disk held, which is calm, and the disk rests with that.
+        ensures recovered { IfOk result (HasBegun settings.now at (D.media disk.old) (D.media disk.new)) }
+        ensures size { IfOk result (λ ledger. (ledger.journal.slots ≡ slots_of settings.now) × (needed_of (slots_of settings.now) ≤ D.extent disk.new)) }
+
+        // A disk is refused for a cause that it has, and one that holds calm entries isn't refused.
+        ensures refused { IfErr result (λ fault. (seen : ℕ → ℕ) → Sees (D.media disk.old) seen
+            → RefusesLedger settings.now (D.extent disk.old) seen (D.media disk.new) fault) }
+        ensures complete { IfErr result (λ fault. (seen : ℕ → ℕ) (entries : List Entry) → Sees (D.media disk.old) seen → Holds settings.now seen entries
+            → is_calm settings.now entries ≡ true → needed_of (slots_of settings.now) ≤ D.extent disk.old → IsFailure fault) }
+
+        // Where the disk is refused, and none of its calls failed, nothing was written; or it held a list, and holds it still.
+        ensures unwritten { IfErr result (λ fault. (seen : ℕ → ℕ) → fault ≢ JournalFault.DiskFault → RestsWith (D.media disk.old) (Is seen)
+            → RestsWith (D.media disk.new) (Is seen) ⊎ ((entries : List Entry) × Holds settings.now seen entries)) }
+
+        ensures extent { D.extent disk.new ≡ D.extent disk.old }
+        ensures cause { Caused (D.faults disk.old) (D.faults disk.new) result }
+        ensures beside { D.beside disk.old disk.new }
+    {
+        let mut registry = Registry::new(alloc, settings)?;
+        let keep = keep_list(alloc, settings)?;
+        let (journal, entries) = Journal::recover(alloc, disk, settings)?;
+        let many = entries.items().len();
+        let used = journal.used();
+        if many != used as usize {
+            return Err(JournalFault::NotOurs {
+                at: journal.place(0),
+            });
+        }
+        take_all(&mut registry, settings, &journal, entries)?;
+        let now = at.max(registry.time());
+        registry.tick(now);
+        Ok(Ledger {
+            registry,
+            journal,
+            keep,
+        })
+    }
+}
+
+/// An empty list with room for the slots that a compaction keeps under these settings, which are fewer than a half has.
+fn keep_list(alloc: Global, settings: &Settings) -> Result<SlotList, NoMemory>
+    ensures room { IfOk result (λ list. (registry : RegistryValue) → IsOf settings.now registry → most_kept registry ≤ list.room) }
+    ensures fewer { (registry : RegistryValue) → IsOf settings.now registry → most_kept registry < slots_of settings.now }
+{
+    let _limits = settings.limits();
+    SlotList::new(alloc, slots(settings) as usize)
+}
