@@ -31,7 +31,7 @@ use Rattle.dots_machine.specs.Repeats.{Sent, sent_for}
 use Rattle.dots_machine.specs.Mitigations.{sent_by, request_of, judged, lives}
 use Rattle.dots_machine.specs.Machine.{State, later, asks_for, DecidesRequest, Rules, Decides, by_silence, by_rules, for_want_of_memory, sends_of, after, Answers, Step}
 use Rattle.dots_machine.specs.Verdicts.{repeated, unless_repeated, unless_faulty, put_verdict, is_taken, stands_as, delete_by, delete_verdict, get_by, get_verdict, in_domain, with_mid, put_in, put_for, delete_in, delete_for, get_for, config_for, asked_verdict}
-use Rattle.dots_machine.specs.Apart.{SameFor, domain_of, AsksFor, by_datagram, StaysApart, elsewhere, same_step}
+use Rattle.dots_machine.specs.Apart.{SameFor, domain_of, AsksFor, by_datagram, StaysApart, elsewhere, same_step, restarts}
 use Rattle.dots_machine.proofs.Verdicts.{request_valued, request_there}
 use Rattle.dots_machine.proofs.Outcomes.{AcceptsWell, puts_accept, deletes_accept, gets_accept, configs_accept}
 
@@ -214,4 +214,4 @@ module _ (settings : SettingsValue) where
     step_apart (event.Piece c p) owed step = rests (event.Piece c p) owed (later other at) (step.0, refl) (subst (λ state. SameFor domain state (later other at)) (sym step.1) moved)
     step_apart (event.Closed c) owed step = rests (event.Closed c) owed (later other at) (step.0, refl) (subst (λ state. SameFor domain state (later other at)) (sym step.1) moved)
     step_apart event.Tick owed step = rests event.Tick owed (later other at) (step.0, refl) (subst (λ state. SameFor domain state (later other at)) (sym step.1) moved)
-    step_apart event.Restart owed step = rests event.Restart owed (later other at) (step.0, refl) (subst (λ state. SameFor domain state (later other at)) (sym step.1) moved)
+    step_apart event.Restart owed step = restarts refl (ap outs_of step.0) (ap (λ state. alone domain state.history) step.1)

@@ -9,11 +9,13 @@ use Rattle.dots_machine.specs.Endings.{KeepsLaws}
 use Rattle.dots_machine.proofs.Adding.{run_adds}
 use Rattle.dots_machine.proofs.Isolation.{run_isolated}
 use Rattle.dots_machine.proofs.Ordering.{run_orderly}
+use Rattle.dots_machine.proofs.Repeating.{run_repeats}
 
 pub keeps_laws : (settings : SettingsValue) (from : State) (acts : List Timed) (trace : List State) (new : State) → Trace (Step settings) (resting from) acts trace (resting new)
     → KeepsLaws settings from (turns_of acts) new
 keeps_laws settings from acts trace new run = record {
   adding = run_adds settings from acts trace new run;
+  repeating = run_repeats settings from acts trace new run;
   isolated = λ domain. run_isolated settings domain from acts trace new run;
   orderly = λ orderly. run_orderly settings from acts trace new orderly run;
 }

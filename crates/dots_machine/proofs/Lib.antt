@@ -13,4 +13,6 @@ pub mod Meeting
 pub mod Orderly
 pub mod Ordering
 pub mod Laws
+pub mod Surviving
+pub mod Going
 pub mod Kept

@@ -16,7 +16,7 @@ use Rattle.dots_machine.specs.declared.verdict.Verdict.{Verdict}
 use Rattle.dots_settings.specs.Lookups.{role_of}
 use Rattle.dots_machine.specs.Domains.{is_gateway}
 use Rattle.dots_machine.specs.Requests.{IsReceived}
-use Rattle.dots_machine.specs.Machine.{State, later, is_stranger, LacksMemory, Decides, by_silence, by_rules, for_want_of_memory, sends_of, after, Answers, Step}
+use Rattle.dots_machine.specs.Machine.{State, later, restarted, is_stranger, LacksMemory, Decides, by_silence, by_rules, for_want_of_memory, sends_of, after, Answers, Step}
 use Rattle.dots_machine.specs.Answering.{AreBytes, IsHandedIn, SaysUnavailable, IsUnavailable}
 use Rattle.dots_machine.specs.Verdicts.{verdict_on}
 use Rattle.dots_machine.proofs.OneRequest.{one_received}
@@ -108,4 +108,4 @@ one_answer settings old (event.Opened c p) at owed others new last are a b = res
 one_answer settings old (event.Piece c p) at owed others new last are a b = rests owed others new last (later old at) a b
 one_answer settings old (event.Closed c) at owed others new last are a b = rests owed others new last (later old at) a b
 one_answer settings old event.Tick at owed others new last are a b = rests owed others new last (later old at) a b
-one_answer settings old event.Restart at owed others new last are a b = rests owed others new last (later old at) a b
+one_answer settings old event.Restart at owed others new last are a b = rests owed others new last (restarted old at) a b

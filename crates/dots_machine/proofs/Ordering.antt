@@ -1,5 +1,5 @@
 -- A run keeps the mitigations that stand apart.
-use Rattle.std.proofs.Common.{◌≡◌, ◌⊎◌, inl, inr, ℕ, List, [], ◌∷◌, max, Option, Some, None, Result, Ok, Err, refl, sym, subst, arith}
+use Rattle.std.proofs.Common.{◌≡◌, ◌⊎◌, inl, inr, ℕ, List, [], ◌∷◌, ◌++◌, Option, Some, None, Result, Ok, Err, refl, sym, ◌∙◌, subst, arith}
 use Rattle.std.proofs.lemmas.Option.{none-some}
 use Rattle.coap_message.specs.declared.kind.Kind.{Kind}
 use Rattle.coap_message.specs.declared.kind.Kind.TheVariants.{Con, Non, Ack, Rst}
@@ -8,6 +8,8 @@ use Rattle.dots_host.specs.declared.event.Event.TheVariants as event
 use Rattle.dots_host.specs.declared.out.OwnedOut.{OwnedOut}
 use Rattle.dots_host.specs.Acts.{Timed}
 use Rattle.dots_host.specs.Runs.{resting, Trace}
+use Rattle.dots_laws.specs.Fits.{last_time}
+use Rattle.dots_laws.proofs.Joining.{last_of_push}
 use Rattle.dots_settings.specs.Settings.{SettingsValue}
 use Rattle.dots_settings.specs.Lookups.{role_of, prefixes_of}
 use Rattle.dots_history.specs.declared.entry.Entry.{Entry}
@@ -38,8 +40,8 @@ use Rattle.dots_machine.specs.Targets.{scope_fault}
 use Rattle.dots_machine.specs.Replies.{not_implemented}
 use Rattle.dots_machine.specs.Repeats.{Sent, sent_for, UnlessRepeated, repeats, is_new}
 use Rattle.dots_machine.specs.Mitigations.{entry_of, sent_by, request_of, refusal, judged, UnlessFaulty, client_for, ByRules, DecidesPut, DecidesDelete, name_taken, withdraws, gone, tell, DecidesGet, name_in_use, tells}
-use Rattle.dots_machine.specs.Machine.{State, begun_at, later, with_entry, asks_for, InDomain, WithMid, PutIn, PutFor, DeleteIn, DeleteFor, GetFor, ConfigFor, DecidesRequest, option_verdict, reject_verdict, dismissal_verdict, Rules, Decides, by_silence, by_rules, for_want_of_memory, after, Step}
-use Rattle.dots_machine.specs.Orderly.{IsOrderly}
+use Rattle.dots_machine.specs.Machine.{State, later, restarted, with_entry, asks_for, InDomain, WithMid, PutIn, PutFor, DeleteIn, DeleteFor, GetFor, ConfigFor, DecidesRequest, option_verdict, reject_verdict, dismissal_verdict, Rules, Decides, by_silence, by_rules, for_want_of_memory, after, Step}
+use Rattle.dots_machine.specs.Orderly.{ShareNone, HigherStays, IsOrderly}
 use Rattle.dots_machine.specs.Turns.{Turn, IsTurn, EachTurn, turns_of}
 use Rattle.dots_machine.proofs.Orderly.{share_later, share_without, share_with, higher_more, higher_with}
 use Rattle.dots_machine.proofs.Turns.{by_turns}
@@ -164,23 +166,32 @@ module _ (settings : SettingsValue) (state : State) where
     accepts_as datagram v (by_rules n got received rules) = of_received got v rules
 
   -- ---- what is accepted keeps them apart
+  -- an entry of the state's time was added, and they share none then
+  orderly_with : (e : Entry) → e.time ≡ state.time → ShareNone state.time (state.history ++ e ∷ []) → HigherStays (state.history ++ e ∷ []) → IsOrderly (with_entry state e)
+  orderly_with e now share stays =
+      let last : last_time (state.history ++ e ∷ []) ≡ state.time = last_of_push state.history e ∙ now in record {
+        timely = omega (arith, last);
+        share_none = λ t less. share_later state.time t (state.history ++ e ∷ []) (omega (arith, last, less)) share;
+        higher_stays = stays;
+      }
+
   granted_keeps : (entry : Entry) → Granted entry → IsOrderly state → IsOrderly (with_entry state entry)
-  granted_keeps entry (asked, given, reply, is, same) orderly = subst (λ e. IsOrderly (with_entry state e)) (sym same) (record {
-    share_none = share_with settings state.time state.history (client_for asked.from) (request_of asked) given orderly.share_none is
-        (entry_of state.time asked.from reply (change.Put given.put)) refl refl refl refl;
-    higher_stays = higher_with settings state.time state.history (client_for asked.from) (request_of asked) given orderly.share_none is
-        (entry_of state.time asked.from reply (change.Put given.put)) refl refl refl refl orderly.higher_stays;
-  })
+  granted_keeps entry (asked, given, reply, is, same) orderly =
+      let e = entry_of state.time asked.from reply (change.Put given.put) in
+      let share = orderly.share_none state.time orderly.timely in
+      subst (λ e. IsOrderly (with_entry state e)) (sym same) (orderly_with e refl
+      (share_with settings state.time state.history (client_for asked.from) (request_of asked) given share is e refl refl refl refl)
+      (higher_with settings state.time state.history (client_for asked.from) (request_of asked) given share is e refl refl refl refl orderly.higher_stays))
 
   no_put : (from : ClientRequest) (mid : ℕ) (reply : List ℕ) (put : Put) → (entry_of state.time from reply (change.Withdraw mid)).change ≡ change.Put put → ⊥
   no_put from mid reply put is = cc is
 
   withdrawn_keeps : (entry : Entry) → Withdrawn entry → IsOrderly state → IsOrderly (with_entry state entry)
-  withdrawn_keeps entry (from, mid, reply, same) orderly = subst (λ e. IsOrderly (with_entry state e)) (sym same) (record {
-    share_none = share_without state.time state.history (entry_of state.time from reply (change.Withdraw mid)) (no_put from mid reply) orderly.share_none;
-    higher_stays = higher_more state.history (entry_of state.time from reply (change.Withdraw mid)) orderly.higher_stays
-        (λ domain i a one put is st ended. absurd (no_put from mid reply put is));
-  })
+  withdrawn_keeps entry (from, mid, reply, same) orderly =
+      let e = entry_of state.time from reply (change.Withdraw mid) in
+      subst (λ e. IsOrderly (with_entry state e)) (sym same) (orderly_with e refl
+      (share_without state.time state.history e (no_put from mid reply) (orderly.share_none state.time orderly.timely))
+      (higher_more state.history e orderly.higher_stays (λ domain i a one put is st ended. absurd (no_put from mid reply put is))))
 
   verdict_keeps : (v : Verdict) → AcceptsAs v → IsOrderly state → IsOrderly (after v state)
   verdict_keeps verdict.Silent how orderly = orderly
@@ -191,10 +202,10 @@ module _ (settings : SettingsValue) (state : State) where
 
 -- ---- a step
 later_orderly : (state : State) (at : ℕ) → IsOrderly state → IsOrderly (later state at)
-later_orderly state at orderly = record {
-  share_none = share_later state.time (max at state.time) state.history (omega arith) orderly.share_none;
-  higher_stays = orderly.higher_stays;
-}
+later_orderly state at orderly = record { timely = omega (arith, orderly.timely); share_none = orderly.share_none; higher_stays = orderly.higher_stays }
+
+restarted_orderly : (state : State) (at : ℕ) → IsOrderly state → IsOrderly (restarted state at)
+restarted_orderly state at orderly = record { timely = omega arith; share_none = orderly.share_none; higher_stays = orderly.higher_stays }
 
 pub step_orderly : (settings : SettingsValue) (old : State) (event : Event) (at : ℕ) (owed : List (State × OwnedOut)) (new : State) → IsOrderly old → Step settings old event at owed new → IsOrderly new
 step_orderly settings old (event.Datagram peer datagram) at owed new orderly step =
@@ -206,7 +217,7 @@ step_orderly settings old (event.Opened c p) at owed new orderly step = subst Is
 step_orderly settings old (event.Piece c p) at owed new orderly step = subst IsOrderly (sym step.1) (later_orderly old at orderly)
 step_orderly settings old (event.Closed c) at owed new orderly step = subst IsOrderly (sym step.1) (later_orderly old at orderly)
 step_orderly settings old event.Tick at owed new orderly step = subst IsOrderly (sym step.1) (later_orderly old at orderly)
-step_orderly settings old event.Restart at owed new orderly step = subst IsOrderly (sym step.1) (later_orderly old at orderly)
+step_orderly settings old event.Restart at owed new orderly step = subst IsOrderly (sym step.1) (restarted_orderly old at orderly)
 
 turns_orderly : (settings : SettingsValue) (old : State) (turns : List Turn) (new : State) → IsOrderly old → EachTurn (IsTurn settings) old turns new → IsOrderly new
 turns_orderly settings old [] new orderly is = subst IsOrderly (sym is) orderly
@@ -216,8 +227,9 @@ turns_orderly settings old (turn ∷ turns) new orderly each =
 pub run_orderly : (settings : SettingsValue) (from : State) (acts : List Timed) (trace : List State) (new : State) → IsOrderly from → Trace (Step settings) (resting from) acts trace (resting new) → IsOrderly new
 run_orderly settings from acts trace new orderly run = turns_orderly settings from (turns_of acts) new orderly (by_turns settings (resting from) acts trace new run)
 
-pub begun_orderly : (t : ℕ) → IsOrderly (begun_at t)
+pub begun_orderly : (t : ℕ) → IsOrderly (record { history = []; time = t })
 begun_orderly t = record {
-  share_none = λ domain i j a b one put apart sa sb. absurd (none-some a sa.stands.there);
+  timely = omega arith;
+  share_none = λ u less domain i j a b one put apart sa sb. absurd (none-some a sa.stands.there);
   higher_stays = λ domain i j a b one put less found puts st ended. absurd (none-some b found);
 }

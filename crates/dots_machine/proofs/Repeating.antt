@@ -1,10 +1,11 @@
 -- A repeat of an accepted message is answered as the message was, and adds nothing.
-use Rattle.std.proofs.Common.{◌≡◌, ◌⊎◌, inl, inr, ℕ, false, List, [], ◌∷◌, Some, ap, ◌∙◌, subst}
+use Rattle.std.proofs.Common.{◌≡◌, ◌⊎◌, inl, inr, ℕ, false, List, [], ◌∷◌, Some, sym, ap, ◌∙◌, subst}
 use Rattle.std.proofs.lemmas.Bool.{both_ways}
 use Rattle.dots_host.specs.declared.event.Event.TheVariants as event
 use Rattle.dots_host.specs.declared.out.OwnedOut.{OwnedOut}
 use Rattle.dots_host.specs.declared.out.OwnedOut.TheVariants as owned
-use Rattle.dots_host.specs.Runs.{outs_of}
+use Rattle.dots_host.specs.Acts.{Timed}
+use Rattle.dots_host.specs.Runs.{resting, outs_of, Trace}
 use Rattle.dots_host.proofs.RunLemmas.{outs_back}
 use Rattle.dots_settings.specs.Settings.{SettingsValue}
 use Rattle.dots_settings.specs.Lookups.{role_of}
@@ -25,8 +26,11 @@ use Rattle.dots_machine.specs.Mitigations.{UnlessFaulty, ByRules, DecidesDelete}
 use Rattle.dots_machine.specs.Machine.{State, later, is_stranger, asks_for, InDomain, WithMid, PutIn, PutFor, DeleteIn, DeleteFor, ConfigFor, DecidesRequest, Rules, Decides, by_silence, by_rules, for_want_of_memory, sends_of, after, Answers, Step}
 use Rattle.dots_machine.specs.Answering.{AreBytes, IsUnavailable}
 use Rattle.dots_machine.specs.Repeating.{AsksToChange}
+use Rattle.dots_machine.specs.Turns.{Turn, IsTurn, EachTurn, turns_of}
+use Rattle.dots_machine.specs.Repeated.{AnswersRepeats}
 use Rattle.dots_machine.proofs.Repeats.{one_repeated}
 use Rattle.dots_machine.proofs.OneAnswer.{one_thing, says}
+use Rattle.dots_machine.proofs.Turns.{by_turns, each_weaker}
 
 module _ (settings : SettingsValue) (state : State) (peer : ℕ) (x : Exchange) (domain : ℕ) (entry : Entry)
     (is : IsRepeatOf settings.limits.remembered state.time state.history (sent_for peer x domain) entry) (v : Verdict) where
@@ -85,3 +89,17 @@ module _ (settings : SettingsValue) (old : State) (peer : ℕ) (datagram : List 
       by_decision (by_rules n other also rules) =
           inl (told (request_repeated settings (later old at) peer x domain entry is a.0 r asks
           (subst (λ got. Rules settings (later old at) peer got a.0) (one_thing settings (later old at) peer datagram are other (received.Asked x r) also got) rules)))
+
+pub turn_repeats : (settings : SettingsValue) (old : State) (turn : Turn) (new : State) → IsTurn settings old turn new → AnswersRepeats settings old turn new
+turn_repeats settings old turn new is = record {
+  turns = is;
+  repeated = λ peer datagram x r domain entry what are known got asks repeats.
+      subst (λ w. ((turn.sends ≡ owned.To peer entry.reply ∷ []) × (new ≡ later old turn.at)) ⊎ IsUnavailable w is.owed) (sym what)
+      (subst (λ sends. ((sends ≡ owned.To peer entry.reply ∷ []) × (new ≡ later old turn.at)) ⊎ IsUnavailable (event.Datagram peer datagram) is.owed) is.sent
+      (step_repeated settings old peer datagram turn.at is.owed new x r domain entry are known got asks repeats (subst (λ w. Step settings old w turn.at is.owed new) what is.step)));
+}
+
+pub run_repeats : (settings : SettingsValue) (from : State) (acts : List Timed) (trace : List State) (new : State) → Trace (Step settings) (resting from) acts trace (resting new)
+    → EachTurn (AnswersRepeats settings) from (turns_of acts) new
+run_repeats settings from acts trace new run =
+    each_weaker (IsTurn settings) (AnswersRepeats settings) (turn_repeats settings) from (turns_of acts) new (by_turns settings (resting from) acts trace new run)

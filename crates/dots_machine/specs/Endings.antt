@@ -1,14 +1,28 @@
 -- How a run ends, with which status, and what it has done then.
-use Rattle.std.specs.Prelude.{◌≡◌, ℕ, ◌^◌, List, [], ◌++◌, Bool, true, false, codes, IfSome, Option, Some}
+use Rattle.std.specs.Prelude.{◌≡◌, ◌≢◌, ℕ, ◌≤◌, ◌^◌, List, [], ◌++◌, Bool, true, false, codes, decimal, IfSome, Option, Some, ◌⊎◌, ⊤}
 use Rattle.std.specs.Io.KnownBytes.{Appends}
 use Rattle.dots_host.specs.declared.event.Event.TheVariants as event
 use Rattle.dots_host.specs.Acts.{Timed}
-use Rattle.dots_host.specs.Runs.{Owing, resting, Trace, Added, GoOn, EndsBy, events_in}
+use Rattle.dots_host.specs.Runs.{Owing, resting, Added, GoOn, EndsBy, events_in}
 use Rattle.dots_host.specs.Writing.{AppendsBeginning, Writes}
 use Rattle.dots_settings.specs.declared.fault.SettingsFault.{SettingsFault}
 use Rattle.dots_settings.specs.Settings.{SettingsValue}
 use Rattle.dots_settings.specs.File.{SettingsAre, SettingsFail, IsNoLineFault}
 use Rattle.dots_settings.specs.FaultText.{fault_text}
+use Rattle.dots_disk.specs.Media.{Media}
+use Rattle.dots_disk.specs.Becoming.{Leaves, RestsWith}
+use Rattle.dots_disk.specs.Beside.{KeepsActs}
+use Rattle.slot_store.specs.Opening.{Is}
+use Rattle.slot_store.specs.Gates.{Sees}
+use Rattle.slot_store.specs.Layout.{needed_of}
+use Rattle.slot_journal.specs.Sizes.{slots_of}
+use Rattle.slot_journal.specs.declared.fault.JournalFault.{JournalFault}
+use Rattle.slot_journal.specs.declared.fault.JournalFault.TheVariants as faults
+use Rattle.slot_journal.specs.Held.{Holds}
+use Rattle.dots_history.specs.declared.entry.Entry.{Entry}
+use Rattle.dots_laws.specs.Fits.{is_calm}
+use Rattle.dots_ledger.specs.Beginning.{RefusesLedger, IsFailure}
+use Rattle.hex.specs.Hex.{encode_lower}
 use Rattle.hex_text.specs.HexText.{IsHex}
 use Rattle.coap_message.specs.Message.{CoapMessage, IsMessage, spelling}
 use Rattle.message_text.specs.declared.showing.Shown.TheVariants as shown
@@ -20,13 +34,23 @@ use Rattle.dots_machine.specs.declared.ending.Showing.TheVariants as showing
 use Rattle.dots_machine.specs.declared.ending.Stop.{Stop}
 use Rattle.dots_machine.specs.declared.ending.Stop.TheVariants as stop
 use Rattle.dots_machine.specs.Commands.{is_replay, is_show, is_command, second_of}
-use Rattle.dots_machine.specs.Machine.{State, begun, Step}
+use Rattle.dots_machine.specs.Machine.{State, begun_from}
 use Rattle.dots_machine.specs.Turns.{Turn, EachTurn, turns_of}
 use Rattle.dots_machine.specs.Adding.{AddsExactly}
+use Rattle.dots_machine.specs.Repeated.{AnswersRepeats}
 use Rattle.dots_machine.specs.Isolation.{IsIsolated}
 use Rattle.dots_machine.specs.Orderly.{IsOrderly}
-use Rattle.dots_machine.specs.Outside.{Outside, SourceFailed, WireFailed, ReportFailed}
+use Rattle.dots_machine.specs.Surviving.{Story, Survives}
+use Rattle.dots_machine.specs.Outside.{Outside, SourceFailed, WireFailed, DiskFailed, ReportFailed}
 use Rattle.dots_machine.specs.Report.{report_of, Contained}
+
+-- that of a disk that isn't recovered
+abbrev pub recovery_status : JournalFault → ℕ
+recovery_status faults.NoMemory = 4
+recovery_status faults.DiskFault = 6
+recovery_status (faults.NotOurs at) = 7
+recovery_status (faults.SettingsChanged stored given) = 8
+recovery_status (faults.TooSmall needed found) = 10
 
 abbrev pub status_of : Ending → ℕ
 status_of (ending.Shown showing.Written) = 0
@@ -37,61 +61,130 @@ status_of (ending.Refused fault) = 3
 status_of ending.NoMemory = 4
 status_of ending.SettingsFailed = 5
 status_of (ending.Served stop.NextFailed) = 5
+status_of (ending.Served stop.DiskFailed) = 6
 status_of ending.ReportFailed = 9
 status_of (ending.Shown showing.Failed) = 9
 status_of (ending.Served stop.TooMany) = 11
+status_of (ending.Unrecovered fault) = recovery_status fault
+status_of (ending.Served (stop.Unrecovered fault)) = recovery_status fault
 
--- whether such a run came to serve, and so called its host
-abbrev pub has_served : Ending → Bool
-has_served (ending.Served how) = true
-has_served ending.ReportFailed = true
-has_served _ = false
+-- whether such a run came to its host: it served, or it asked the host's disk at least
+abbrev pub has_hosted : Ending → Bool
+has_hosted (ending.Unrecovered fault) = true
+has_hosted (ending.Served how) = true
+has_hosted ending.ReportFailed = true
+has_hosted _ = false
 
 -- the line that a refusal of the settings prints
 abbrev pub fault_line : SettingsFault → List ℕ
 fault_line fault = fault_text fault ++ codes "\n"
 
--- The events stop so: End was taken last and no other, or a failure of the host; or 2^40 were taken and none is either.
+-- the line that is printed of a disk that is refused for what it holds, and none where it failed or memory ran out
+abbrev pub recovery_line : JournalFault → List ℕ
+recovery_line (faults.TooSmall needed found) = codes "disk needed " ++ decimal needed ++ codes " found " ++ decimal found ++ codes "\n"
+recovery_line (faults.NotOurs at) = codes "not ours " ++ decimal at ++ codes "\n"
+recovery_line (faults.SettingsChanged stored given) = codes "settings changed " ++ encode_lower stored ++ codes " " ++ encode_lower given ++ codes "\n"
+recovery_line faults.DiskFault = []
+recovery_line faults.NoMemory = []
+
+-- The events stop so: End was taken last and no other, or a failure of the host, or a restart, after which the disk wasn't recovered; or 2^40
+-- were taken, or the disk failed, and none is End or a failure of the host.
 abbrev pub Stops : Stop → List Timed → Type 0
 Stops stop.Ended acts = EndsBy event.End acts
 Stops stop.NextFailed acts = EndsBy event.Failed acts
 Stops stop.TooMany acts = GoOn acts × (events_in acts ≡ 2 ^ 40)
+Stops stop.DiskFailed acts = GoOn acts
+Stops (stop.Unrecovered fault) acts = EndsBy event.Restart acts
 
 -- The acts are a run of the machine with these settings from a state on, which tells this trace, owes this in the end, and stops so.
 pub record Ran (settings : SettingsValue) (start : State) (trace : List State) (end : Owing State) (how : Stop) (acts : List Timed) : Type 0 where
-  pub run : Trace (Step settings) (resting start) acts trace end
+  pub run : Story settings (resting start) acts trace end
   pub stops : Stops how acts
 
--- What holds of a run from the one state to the other, by its turns: each adds an entry exactly where the rules accept what came; each domain
--- is isolated; and the mitigations that stand in the end stand apart, where they did at the start.
+-- What holds of a run from the one state to the other, by its turns: each adds an entry exactly where the rules accept what came; each answers a
+-- repeat as the message was answered; each domain is isolated; and the mitigations that stand in the end stand apart, where they did at the start.
 pub record KeepsLaws (settings : SettingsValue) (start : State) (turns : List Turn) (end : State) : Type 0 where
   pub adding : EachTurn (AddsExactly settings) start turns end
+  pub repeating : EachTurn (AnswersRepeats settings) start turns end
   pub isolated : (domain : ℕ) → IsIsolated settings start turns end domain
   pub orderly : IsOrderly start → IsOrderly end
 
--- A server with these settings has served from a state on: its acts, where they are told, are a run of the machine, which owes nothing in
--- the end, and keep the laws; each filter of its last state lies inside the domain of the request that made it; and it wrote of this state
--- what it says.
-pub record Serves (settings : SettingsValue) (start : State) (how : Stop) (before now : Option (List Timed)) (wrote : State → Type 0) : Type 0 where
+-- whether the disk failed in the middle of an event, which may then owe sends
+abbrev pub IsSettled : Stop → Owing State → Type 0
+IsSettled stop.DiskFailed end = ⊤
+IsSettled _ end = end.owed ≡ []
+
+-- a restart found what had been left: where it didn't, that was for want of memory or for a failure of the disk
+abbrev pub IsFound : Stop → Type 0
+IsFound (stop.Unrecovered fault) = IsFailure fault
+IsFound _ = ⊤
+
+-- What is said of the acts of a server with these settings that began from a state: they are a run of the machine, which owes nothing in the
+-- end, but where the disk failed in the middle of an event; it keeps the laws; and where nothing was pending on the disk at the start, a
+-- crash at any moment leaves a disk that means a front of the history, with all that was told before.
+pub record Lived (settings : SettingsValue) (start : State) (how : Stop) (before now : Outside) (trace : List State) (end : Owing State) (acts : List Timed) : Type 0 where
+  pub ran : Ran settings start trace end how acts
+  pub laws : end.owed ≡ [] → KeepsLaws settings start (turns_of acts) end.last
+  pub survives : (seen : ℕ → ℕ) → RestsWith before.media (Is seen) → Survives settings start before.media now.media acts trace end.last.history
+
+-- A run from what the disk held, where the disk is told: the acts are a run of the machine from there; at a restart the disk isn't refused; each
+-- filter of the last state lies inside the domain of the request that made it; and it wrote of this state what it says.
+pub record LivesFrom (settings : SettingsValue) (held : List Entry) (how : Stop) (before now : Outside) (wrote : State → Type 0) : Type 0 where
   pub end : Owing State
-  pub settled : end.owed ≡ []
+  pub settled : IsSettled how end
+  pub found : IsFound how
   pub trace : List State
-  pub ran : Added before now (Ran settings start trace end how)
-  pub laws : Added before now (λ acts. KeepsLaws settings start (turns_of acts) end.last)
+  pub lived : Added before.acts now.acts (Lived settings (begun_from held) how before now trace end)
   pub contained : Contained settings end.last
   pub reports : wrote end.last
 
--- what was written of the last state: the machine's report where End came, and else nothing; and what must have failed
+-- A server with these settings has served: it recovered calm entries, which are what the disk held, where it is told; and then its acts are a
+-- run from them. For every host it wrote of some state what it says, and each filter of that state lies inside the domain of its request.
+pub record Serves (settings : SettingsValue) (how : Stop) (before now : Outside) (wrote : State → Type 0) : Type 0 where
+  pub held : List Entry
+  pub calm : is_calm settings held ≡ true
+  pub was_held : (seen : ℕ → ℕ) → Sees before.media seen → Holds settings seen held
+  pub lives : (seen : ℕ → ℕ) → Sees before.media seen → LivesFrom settings held how before now wrote
+  pub any : (state : State) × Contained settings state × wrote state
+
+-- where a disk is refused for what it holds its line is written, the whole of it or, where the sink failed, a beginning; and nothing where the
+-- disk failed or memory ran out
+abbrev pub WritesRefusal : JournalFault → Option (List ℕ) → Option (List ℕ) → Type 0 → Type 0
+WritesRefusal faults.DiskFault old new failed = new ≡ old
+WritesRefusal faults.NoMemory old new failed = new ≡ old
+WritesRefusal refusal old new failed = Writes old new (recovery_line refusal) failed
+
+-- the disk failed, where that is the fault
+abbrev pub IsDiskFailure : JournalFault → Outside → Outside → Type 0
+IsDiskFailure faults.DiskFault before now = DiskFailed before now
+IsDiskFailure _ before now = ⊤
+
+-- what was written of the last state: the machine's report where End came, and else nothing but why a disk isn't recovered; and what must have
+-- failed
 abbrev pub Reports : Stop → SettingsValue → Outside → Outside → State → Type 0
 Reports stop.Ended settings before now state = Appends before.held now.held (report_of settings state)
 Reports stop.NextFailed settings before now state = (now.held ≡ before.held) × WireFailed before now
 Reports stop.TooMany settings before now state = now.held ≡ before.held
+Reports stop.DiskFailed settings before now state = (now.held ≡ before.held) × DiskFailed before now
+Reports (stop.Unrecovered fault) settings before now state = WritesRefusal fault before.held now.held (ReportFailed before now) × IsDiskFailure fault before now
 
--- How a run served: the whole report is written, or a beginning of it.
+-- The disk isn't recovered under the settings, and no event is taken: for this cause, by its size and what it held; where it held entries and
+-- nothing was pending, it holds them at each moment, and else it stays as it was, unless a call of it failed.
+pub record Unrecovers (settings : SettingsValue) (fault : JournalFault) (before now : Outside) : Type 0 where
+  pub silent : KeepsActs before.acts now.acts
+  pub cause : (seen : ℕ → ℕ) → Sees before.media seen → RefusesLedger settings before.extent seen now.media fault
+  pub moments : (seen : ℕ → ℕ) (entries : List Entry) → RestsWith before.media (Is seen) → Holds settings seen entries
+      → Leaves before.media now.media (λ image. Holds settings image entries)
+  pub unwritten : (seen : ℕ → ℕ) → fault ≢ faults.DiskFault → RestsWith before.media (Is seen) → RestsWith now.media (Is seen) ⊎ ((entries : List Entry) × Holds settings seen entries)
+  pub failed : IsDiskFailure fault before now
+  pub told : WritesRefusal fault before.held now.held (ReportFailed before now)
+
+-- How a run that came to its host served: the disk wasn't recovered; or the whole report is written, or a beginning of it.
 abbrev pub ServesTo : Ending → SettingsValue → Outside → Outside → Type 0
-ServesTo (ending.Served how) settings before now = Serves settings begun how before.acts now.acts (Reports how settings before now)
+ServesTo (ending.Served how) settings before now = Serves settings how before now (Reports how settings before now)
 ServesTo ending.ReportFailed settings before now =
-    Serves settings begun stop.Ended before.acts now.acts (λ state. AppendsBeginning before.held now.held (report_of settings state)) × ReportFailed before now
+    Serves settings stop.Ended before now (λ state. AppendsBeginning before.held now.held (report_of settings state)) × ReportFailed before now
+ServesTo (ending.Unrecovered fault) settings before now = Unrecovers settings fault before now
 ServesTo _ settings before now = ⊥
 
 -- what was written of a word that was to be shown
@@ -100,8 +193,8 @@ Shows showing.Written word old new failed = (text : List ℕ) × IsShown word (s
 Shows showing.Failed word old new failed = (text : List ℕ) × IsShown word (shown.Message text) × AppendsBeginning old new text × failed
 Shows showing.Unreadable word old new failed = (text : List ℕ) × IsShown word (shown.Fault text) × Writes old new text failed
 
--- What a run of this ending has done with these words. Where it didn't come to serve, the host told no act; where it did, its settings
--- are those of the file, where the source told its bytes.
+-- What a run of this ending has done with these words. Where it didn't come to serve, the host told no act; where it came to its host, its
+-- settings are those of the file, where the source told its bytes.
 abbrev pub Behaves : Ending → List (List ℕ) → Outside → Outside → Type 0
 Behaves ending.WrongWords words before now =
     (is_command words ≡ false) × (now.acts ≡ before.acts) × Writes before.held now.held (codes "words\n") (ReportFailed before now)
@@ -127,6 +220,16 @@ pub record GivesSettings (left : Option (List ℕ)) : Type 0 where
   pub told : left ≡ Some bytes
   pub settings : SettingsValue
   pub are : SettingsAre bytes settings
+
+-- the source gives settings; and the disk is told, has the size that they need, and holds calm entries under them
+pub record IsReady (left : Option (List ℕ)) (media : Option Media) (extent : ℕ) : Type 0 where
+  pub gives : GivesSettings left
+  pub seen : ℕ → ℕ
+  pub sees : Sees media seen
+  pub held : List Entry
+  pub holds : Holds gives.settings seen held
+  pub calm : is_calm gives.settings held ≡ true
+  pub large : needed_of (slots_of gives.settings) ≤ extent
 
 -- the source tells its bytes, and they are at fault
 pub record GivesFault (left : Option (List ℕ)) : Type 0 where

@@ -12,9 +12,11 @@ pub mod Apart
 pub mod Answering
 pub mod Turns
 pub mod Adding
+pub mod Repeated
 pub mod Isolation
 pub mod Orderly
 pub mod Report
 pub mod Commands
+pub mod Surviving
 pub mod Outside
 pub mod Endings

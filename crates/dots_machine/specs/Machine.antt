@@ -13,6 +13,7 @@ use Rattle.dots_settings.specs.declared.peer.Role.TheVariants as role
 use Rattle.dots_settings.specs.Settings.{SettingsValue}
 use Rattle.dots_settings.specs.Lookups.{role_of}
 use Rattle.dots_history.specs.declared.entry.Entry.{Entry}
+use Rattle.dots_laws.specs.Fits.{last_time}
 use Rattle.dots_heads.specs.declared.reject.Reject.{Reject}
 use Rattle.dots_heads.specs.declared.reject.Reject.TheVariants as reject
 use Rattle.dots_heads.specs.declared.request.Content.{Content}
@@ -41,16 +42,17 @@ pub record State : Type 0 where
   pub history : List Entry
   pub time : ℕ
 
--- nothing was accepted yet
-abbrev pub begun_at : ℕ → State
-begun_at time = record { history = []; time = time }
+-- what the disk held was accepted before, and it is the time of the last entry, or 0 where there is none
+abbrev pub begun_from : List Entry → State
+begun_from entries = record { history = entries; time = last_time entries }
 
-abbrev pub begun : State
-begun = begun_at 0
-
--- The time never falls: it is the greatest of the time handed in and the time before.
+-- Within a run the time doesn't fall: it is the greater of the time handed in and the time before.
 abbrev pub later : State → ℕ → State
 later state at = record state { time = max at state.time }
+
+-- The machine restarts: what was accepted stays, and the time is the greater of the time handed in and that of the last entry.
+abbrev pub restarted : State → ℕ → State
+restarted state at = record state { time = max at (last_time state.history) }
 
 abbrev pub with_entry : State → Entry → State
 with_entry state entry = record state { history = state.history ++ entry ∷ [] }
@@ -167,9 +169,10 @@ Answers settings state peer datagram sends new =
     (decided : Verdict) × Decides settings state peer datagram decided × (sends ≡ sends_of decided peer) × (new ≡ after decided state)
 
 -- One event: the sends that it owes, each beside the state that it tells, and the state after it. End and a failure of the host move no
--- time; what isn't served yet moves the time and no more.
+-- time; a restart keeps what was accepted alone; what isn't served yet moves the time and no more.
 abbrev pub Step : SettingsValue → State → Event → ℕ → List (State × OwnedOut) → State → Type 0
 Step settings old (event.Datagram peer datagram) at owed new = in_one_turn (λ sends. Answers settings (later old at) peer datagram sends new) owed new
 Step settings old event.End at owed new = (owed ≡ []) × (new ≡ old)
 Step settings old event.Failed at owed new = (owed ≡ []) × (new ≡ old)
+Step settings old event.Restart at owed new = (owed ≡ []) × (new ≡ restarted old at)
 Step settings old _ at owed new = (owed ≡ []) × (new ≡ later old at)

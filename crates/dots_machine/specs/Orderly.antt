@@ -4,6 +4,7 @@ use Rattle.dots_history.specs.declared.entry.Entry.{Entry}
 use Rattle.dots_history.specs.declared.put.Put.{Put}
 use Rattle.dots_history.specs.declared.change.Change.TheVariants as change
 use Rattle.dots_history.specs.Entries.{ends, targets_meet}
+use Rattle.dots_laws.specs.Fits.{last_time}
 use Rattle.judged_entries.specs.Judgements.{StandsIn}
 use Rattle.dots_machine.specs.Machine.{State}
 
@@ -20,6 +21,8 @@ HigherStays entries =
     (domain i j : ℕ) (a b : Entry) (one other : Put) → i < j → slice_get entries j ≡ Some b → b.change ≡ change.Put other
     → StandsIn domain b.time (take j entries) i a one → ends a b ≡ true → one.mid ≤ other.mid
 
+-- The time isn't before that of the last entry; at each time from that one on they share none; and the higher stays.
 pub record IsOrderly (state : State) : Type 0 where
-  pub share_none : ShareNone state.time state.history
+  pub timely : last_time state.history ≤ state.time
+  pub share_none : (t : ℕ) → last_time state.history ≤ t → ShareNone t state.history
   pub higher_stays : HigherStays state.history

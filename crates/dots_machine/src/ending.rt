@@ -1,7 +1,8 @@
 ghost use Rattle.std.specs.Prelude.{◌≡◌};
-ghost use Rattle.dots_machine.specs.Endings.{status_of};
+ghost use Rattle.dots_machine.specs.Endings.{status_of, recovery_status};
 
 use dots_settings::SettingsFault;
+use slot_journal::JournalFault;
 
 /// How a run ends.
 #[derive(Clone, Copy, Debug, PartialEq, Eq)]
@@ -14,8 +15,10 @@ pub enum Ending {
     Refused(SettingsFault),
     /// The settings couldn't be read.
     SettingsFailed,
-    /// Memory ran out before the first event, or for the lines of a message.
+    /// Memory ran out for the settings, or for the lines of a message.
     NoMemory,
+    /// The disk wasn't recovered at the opening.
+    Unrecovered(JournalFault),
     /// The events were served, and where End came the report is written.
     Served(Stop),
     /// End came, and the report couldn't be written.
@@ -42,6 +45,10 @@ pub enum Stop {
     NextFailed,
     /// 2^40 events came and none was End.
     TooMany,
+    /// The disk failed.
+    DiskFailed,
+    /// The disk wasn't recovered at a restart.
+    Unrecovered(JournalFault),
 }
 
 impl Ending {
@@ -57,7 +64,24 @@ impl Ending {
             Ending::NoMemory => 4,
             Ending::SettingsFailed | Ending::Served(Stop::NextFailed) => 5,
             Ending::ReportFailed | Ending::Shown(Showing::Failed) => 9,
+            Ending::Served(Stop::DiskFailed) => 6,
             Ending::Served(Stop::TooMany) => 11,
+            Ending::Unrecovered(fault) | Ending::Served(Stop::Unrecovered(fault)) => {
+                recovery_status(fault)
+            }
         }
+    }
+}
+
+/// The exit status of the program where the disk isn't recovered.
+fn recovery_status(fault: JournalFault) -> u8
+    ensures { result ≡ recovery_status fault }
+{
+    match fault {
+        JournalFault::NoMemory => 4,
+        JournalFault::DiskFault => 6,
+        JournalFault::NotOurs { .. } => 7,
+        JournalFault::SettingsChanged { .. } => 8,
+        JournalFault::TooSmall { .. } => 10,
     }
 }

@@ -1,6 +1,6 @@
 //! Laws of runs.
 
-ghost use Rattle.std.specs.Prelude.{◌≡◌, ◌⊎◌, ◌==◌, ℕ, ◌+◌, ◌<◌, ◌≤◌, false, ◌&&◌, List, [], ◌∷◌, ◌++◌, filter, Some};
+ghost use Rattle.std.specs.Prelude.{◌≡◌, ◌⊎◌, ◌==◌, ℕ, ◌+◌, ◌<◌, ◌≤◌, false, ◌&&◌, List, [], ◌∷◌, ◌++◌, length, take, filter, Option, Some};
 ghost use Rattle.std.specs.List.{list_any};
 ghost use Rattle.dots_host.specs.Acts.{Timed};
 ghost use Rattle.dots_host.specs.Runs.{resting, outs_of, Trace};
@@ -10,21 +10,29 @@ ghost use Rattle.dots_host.specs.declared.out.OwnedOut.{OwnedOut};
 ghost use Rattle.dots_host.specs.declared.out.OwnedOut.TheVariants as owned;
 ghost use Rattle.dots_history.specs.declared.entry.Entry.{Entry};
 ghost use Rattle.dots_history.specs.Entries.{signals, may_repeat};
-ghost use Rattle.dots_history.specs.Histories.{tally};
 ghost use Rattle.dots_history.specs.Rows.{plain_rows};
 ghost use Rattle.dots_keys.specs.declared.request.Request.{Request};
 ghost use Rattle.dots_settings.specs.Settings.{SettingsValue};
 ghost use Rattle.dots_settings.specs.Lookups.{role_of};
+ghost use Rattle.dots_disk.specs.Media.{Media};
+ghost use Rattle.slot_store.specs.Gates.{Sees};
+ghost use Rattle.slot_store.specs.Layout.{needed_of};
+ghost use Rattle.slot_journal.specs.Held.{Holds};
+ghost use Rattle.slot_journal.specs.Sizes.{slots_of};
+ghost use Rattle.dots_history.specs.Histories.{Kept, tally};
+ghost use Rattle.dots_machine.specs.Surviving.{StandsAt, shown, time_at};
+ghost use Rattle.dots_machine.specs.Endings.{GivesSettings, IsReady};
 ghost use Rattle.dots_machine.specs.Apart.{domain_of, SameFor, StaysApart};
 ghost use Rattle.dots_machine.specs.Answering.{AreBytes, IsHandedIn, IsUnavailable};
 ghost use Rattle.dots_machine.specs.Domains.{is_gateway};
 ghost use Rattle.dots_machine.specs.Requests.{IsReceived};
 ghost use Rattle.dots_machine.specs.Repeats.{sent_for, IsRepeatOf};
 ghost use Rattle.dots_machine.specs.Repeating.{heard_for, AsksToChange};
-ghost use Rattle.dots_machine.specs.Machine.{State, begun_at, later, is_stranger, DecidesRequest, Rules, Step};
+ghost use Rattle.dots_machine.specs.Machine.{State, later, is_stranger, DecidesRequest, Rules, Step};
 ghost use Rattle.dots_machine.specs.Verdicts.{verdict_on};
 ghost use Rattle.dots_machine.specs.Turns.{Turn, IsTurn, EachTurn, turns_of};
 ghost use Rattle.dots_machine.specs.Adding.{AddsExactly};
+ghost use Rattle.dots_machine.specs.Repeated.{AnswersRepeats};
 ghost use Rattle.dots_machine.specs.Isolation.{IsIsolated};
 ghost use Rattle.dots_machine.specs.Orderly.{IsOrderly};
 ghost use Rattle.dots_machine.specs.declared.exchange.Exchange.{Exchange};
@@ -69,8 +77,8 @@ pub fn one_verdict()
 
 /// A message that is accepted is repeated by each message of its peer for its domain with its Message ID, for 247 seconds if it was confirmable
 /// and for 145 if it wasn't, as long as fewer accepted ones of that peer and domain come after it than are remembered, and none of these
-/// with that Message ID. And a repeat, whatever it asks to change, is answered with the bytes that answered the message, by the rules and over
-/// each step, and nothing is added to the history; or 5.00 is answered, for want of memory.
+/// with that Message ID. And a repeat, whatever it asks to change, is answered with the bytes that answered the message, by the rules, over
+/// each step and over each turn of a run, and nothing is added to the history; or 5.00 is answered, for want of memory.
 pub fn repeats_are_answered()
     ensures accepted { (settings : SettingsValue) (state : State) (peer : ℕ) (exchange : Exchange) (asked : Request) (reply : List ℕ) (entry : Entry)
         → DecidesRequest settings state peer exchange asked (verdict.Accept reply entry)
@@ -89,6 +97,8 @@ pub fn repeats_are_answered()
         → IsRepeatOf settings.limits.remembered (later old at).time old.history (sent_for peer exchange domain) entry
         → Step settings old (event.Datagram peer datagram) at owed new
         → ((outs_of owed ≡ owned.To peer entry.reply ∷ []) × (new ≡ later old at)) ⊎ IsUnavailable (event.Datagram peer datagram) owed }
+    ensures run { (settings : SettingsValue) (from : State) (acts : List Timed) (trace : List State) (new : State)
+        → Trace (Step settings) (resting from) acts trace (resting new) → EachTurn (AnswersRepeats settings) from (turns_of acts) new }
 {}
 
 /// An entry is added to the history exactly where the rules accept what came, at its time, with that entry; or 5.00 was answered, for
@@ -109,9 +119,22 @@ pub fn domains_are_isolated()
 /// No two mitigations of a domain that stand have an address in common, and of two of one client that overlap the one with the higher mid
 /// stands: so it is at the beginning, and so it stays over each step and each run.
 pub fn mitigations_stand_apart()
-    ensures begun { (t : ℕ) → IsOrderly (begun_at t) }
+    ensures begun { (t : ℕ) → IsOrderly (record { history = []; time = t }) }
     ensures step { (settings : SettingsValue) (old : State) (event : Event) (at : ℕ) (owed : List (State × OwnedOut)) (new : State)
         → IsOrderly old → Step settings old event at owed new → IsOrderly new }
     ensures run { (settings : SettingsValue) (from : State) (acts : List Timed) (trace : List State) (new : State)
         → IsOrderly from → Trace (Step settings) (resting from) acts trace (resting new) → IsOrderly new }
+{}
+
+/// Runs go on from one another over a crash. Where an image stands for what a run had accepted and told at a moment, and a read of the disk of another run
+/// gives this image, then what that run recovered (the entries that its disk held, as `was_held` of `Serves` says) means a front of what the first one
+/// accepted, with all that was told before the moment (`found`). And the disk is ready for it, if it is large enough (`ready`), so it isn't refused.
+pub fn runs_go_on()
+    ensures found { (settings : SettingsValue) (start : State) (acts : List Timed) (trace : List State) (history : List Entry) (m : ℕ) (image : ℕ → ℕ) (media : Option Media) (held : List Entry)
+        → StandsAt settings start acts trace history m image → Sees media image → ((seen : ℕ → ℕ) → Sees media seen → Holds settings seen held)
+        → (count : ℕ) × (count ≤ length history) × (shown m acts trace (length start.history) ≤ count)
+        × Kept settings.limits.remembered (time_at m acts trace start.time) held (take count history) }
+    ensures ready { (start : State) (acts : List Timed) (trace : List State) (history : List Entry) (m : ℕ) (image : ℕ → ℕ) (left : Option (List ℕ)) (media : Option Media) (extent : ℕ)
+        → (gives : GivesSettings left) → StandsAt gives.settings start acts trace history m image → Sees media image → needed_of (slots_of gives.settings) ≤ extent
+        → IsReady left media extent }
 {}

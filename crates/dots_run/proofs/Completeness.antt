@@ -1,5 +1,5 @@
 -- Which endings are left, where the settings are at fault, where nothing is, and where a word is to be shown.
-use Rattle.std.proofs.Common.{◌≡◌, ◌≢◌, ℕ, ◌≤◌, Bool, true, false, ◌&&◌, ◌||◌, List, [], ◌∷◌, codes, Option, Result, Ok, ◌⊎◌, inl, inr, refl, sym, ◌∙◌, subst, arith}
+use Rattle.std.proofs.Common.{◌≡◌, ◌≢◌, ℕ, ◌≤◌, Bool, true, false, ◌&&◌, ◌||◌, List, [], ◌∷◌, codes, Result, Ok, ◌⊎◌, inl, inr, refl, sym, ◌∙◌, subst, arith}
 use Rattle.std.proofs.lemmas.Bool.{true≢false}
 use Rattle.std.proofs.lemmas.Bool.Decides.{nat_tests}
 use Rattle.std.specs.Prelude.{IfSome, bytes_eq}
@@ -11,14 +11,22 @@ use Rattle.dots_host.specs.Causes.{Rose}
 use Rattle.dots_settings.specs.declared.fault.SettingsFault.{SettingsFault}
 use Rattle.dots_settings.specs.File.{SettingsAre, SettingsFail}
 use Rattle.dots_settings.specs.Settings.{SettingsValue}
-use Rattle.dots_settings.proofs.OneFile.{no_settings_at_fault}
+use Rattle.dots_settings.proofs.OneFile.{no_settings_at_fault, one_settings}
+use Rattle.dots_laws.specs.Fits.{is_calm}
+use Rattle.slot_store.specs.Layout.{needed_of}
+use Rattle.slot_journal.specs.declared.fault.JournalFault.{JournalFault}
+use Rattle.slot_journal.specs.declared.fault.JournalFault.TheVariants as faults
+use Rattle.slot_journal.specs.Sizes.{slots_of}
+use Rattle.slot_journal.specs.Held.{Holds}
+use Rattle.dots_ledger.specs.Beginning.{IsFailure}
+use Rattle.dots_ledger.proofs.Recovering.{fails_alone}
 use Rattle.dots_machine.specs.declared.ending.Ending.{Ending}
 use Rattle.dots_machine.specs.declared.ending.Ending.TheVariants as ending
 use Rattle.dots_machine.specs.declared.ending.Showing.TheVariants as showing
 use Rattle.dots_machine.specs.declared.ending.Stop.TheVariants as stop
 use Rattle.dots_machine.specs.Commands.{is_word, is_replay, is_show, is_command, second_of}
-use Rattle.dots_machine.specs.Outside.{Outside, SourceFailed, WireFailed, ReportFailed}
-use Rattle.dots_machine.specs.Endings.{status_of, has_served, ServesTo, Behaves, GivesSettings, GivesFault, IsReadable}
+use Rattle.dots_machine.specs.Outside.{Outside, SourceFailed, WireFailed, DiskFailed, ReportFailed}
+use Rattle.dots_machine.specs.Endings.{recovery_status, status_of, has_hosted, IsDiskFailure, Unrecovers, Behaves, GivesSettings, GivesFault, IsReady, IsReadable}
 
 two_names : (name word : List ℕ) → (bytes_eq name (codes "replay") && is_word word) ≡ true → (bytes_eq name (codes "show") && is_word word) ≡ true → ⊥
 two_names [] word r s = absurd (cc r)
@@ -43,6 +51,28 @@ show_is_command words s c = or_true (is_replay words) (subst (λ b. (is_replay w
 
 one_text : {E : Type 0} (x y : List ℕ) (read : Result (List ℕ) E) → read ≡ Ok x → read ≡ Ok y → x ≡ y
 one_text x y read a b = cc (sym a ∙ b)
+
+-- the status of a disk that isn't recovered
+late_status : (fault : JournalFault) → 4 ≤ recovery_status fault
+late_status faults.NoMemory = omega arith
+late_status faults.DiskFault = omega arith
+late_status (faults.NotOurs at) = omega arith
+late_status (faults.SettingsChanged stored given) = omega arith
+late_status (faults.TooSmall needed found) = omega arith
+
+no_five : (fault : JournalFault) → recovery_status fault ≡ 5 → ⊥
+no_five faults.NoMemory is = omega (arith, is)
+no_five faults.DiskFault is = omega (arith, is)
+no_five (faults.NotOurs at) is = omega (arith, is)
+no_five (faults.SettingsChanged stored given) is = omega (arith, is)
+no_five (faults.TooSmall needed found) is = omega (arith, is)
+
+no_nine : (fault : JournalFault) → recovery_status fault ≡ 9 → ⊥
+no_nine faults.NoMemory is = omega (arith, is)
+no_nine faults.DiskFault is = omega (arith, is)
+no_nine (faults.NotOurs at) is = omega (arith, is)
+no_nine (faults.SettingsChanged stored given) is = omega (arith, is)
+no_nine (faults.TooSmall needed found) is = omega (arith, is)
 
 -- memory ran out, the settings couldn't be read, or no read of them failed
 abbrev pub HeardAll : ℕ → ℕ → Ending → Type 0
@@ -82,20 +112,45 @@ module _ (words : List (List ℕ)) (before now : Outside) where
   ends_refused (ending.Refused fault) replay given heard behaves = inl (refl, refused_heard fault heard)
   ends_refused ending.NoMemory replay given heard behaves = inr (inl refl)
   ends_refused ending.SettingsFailed replay given heard behaves = inr (inr (refl, behaves.3))
+  ends_refused (ending.Unrecovered fault) replay given heard behaves = absurd (never_served behaves.1 given behaves.2)
   ends_refused (ending.Served how) replay given heard behaves = absurd (never_served behaves.1 given behaves.2)
   ends_refused ending.ReportFailed replay given heard behaves = absurd (never_served behaves.1 given behaves.2)
 
-  pub ends_well : (how : Ending) → is_replay words ≡ true → (SourceFailed before now → ⊥) → (WireFailed before now → ⊥) → (ReportFailed before now → ⊥) → GivesSettings before.left
-      → Behaves how words before now → (status_of how ≡ 0) ⊎ (status_of how ≡ 4) ⊎ (status_of how ≡ 11)
-  ends_well ending.WrongWords replay read came written given behaves = absurd (replay_is_command words replay behaves.0)
-  ends_well (ending.Shown how) replay read came written given behaves = absurd (one_command words replay behaves.0)
-  ends_well (ending.Refused fault) replay read came written given behaves = absurd (never_refused fault given behaves.3)
-  ends_well ending.NoMemory replay read came written given behaves = inr (inl refl)
-  ends_well ending.SettingsFailed replay read came written given behaves = absurd (read behaves.3)
-  ends_well (ending.Served stop.Ended) replay read came written given behaves = inl refl
-  ends_well (ending.Served stop.NextFailed) replay read came written given behaves = absurd (came behaves.3.reports.1)
-  ends_well (ending.Served stop.TooMany) replay read came written given behaves = inr (inr refl)
-  ends_well ending.ReportFailed replay read came written given behaves = absurd (written behaves.3.1)
+  abbrev EndsWell : ℕ → Type 0
+  EndsWell status = (status ≡ 0) ⊎ (status ≡ 4) ⊎ (status ≡ 11)
+
+  module _ (ready : IsReady before.left before.media before.extent) (read : SourceFailed before now → ⊥) (came : WireFailed before now → ⊥) (kept : DiskFailed before now → ⊥) (written : ReportFailed before now → ⊥) where
+    same_settings : (settings : SettingsValue) → IfSome before.left (λ bytes. SettingsAre bytes settings) → ready.gives.settings ≡ settings
+    same_settings settings told =
+        one_settings ready.gives.bytes ready.gives.settings settings ready.gives.are (subst (λ left. IfSome left (λ bytes. SettingsAre bytes settings)) ready.gives.told told)
+
+    -- a disk that is ready isn't refused
+    no_refusal : (settings : SettingsValue) → IfSome before.left (λ bytes. SettingsAre bytes settings) → (fault : JournalFault) → Unrecovers settings fault before now → IsFailure fault
+    no_refusal settings told fault un =
+        let same = same_settings settings told in
+        fails_alone settings before.extent ready.seen now.media ready.held fault (un.cause ready.seen ready.sees) (subst (λ s. Holds s ready.seen ready.held) same ready.holds)
+        (subst (λ s. is_calm s ready.held ≡ true) same ready.calm) (subst (λ s. needed_of (slots_of s) ≤ before.extent) same ready.large)
+
+    wants_memory : (fault : JournalFault) → IsFailure fault → IsDiskFailure fault before now → EndsWell (recovery_status fault)
+    wants_memory faults.NoMemory is failed = inr (inl refl)
+    wants_memory faults.DiskFault is failed = absurd (kept failed)
+    wants_memory (faults.NotOurs at) is failed = absurd is
+    wants_memory (faults.SettingsChanged stored given) is failed = absurd is
+    wants_memory (faults.TooSmall needed found) is failed = absurd is
+
+    pub ends_well : (how : Ending) → is_replay words ≡ true → Behaves how words before now → EndsWell (status_of how)
+    ends_well ending.WrongWords replay behaves = absurd (replay_is_command words replay behaves.0)
+    ends_well (ending.Shown how) replay behaves = absurd (one_command words replay behaves.0)
+    ends_well (ending.Refused fault) replay behaves = absurd (never_refused fault ready.gives behaves.3)
+    ends_well ending.NoMemory replay behaves = inr (inl refl)
+    ends_well ending.SettingsFailed replay behaves = absurd (read behaves.3)
+    ends_well (ending.Unrecovered fault) replay behaves = wants_memory fault (no_refusal behaves.1 behaves.2 fault behaves.3) behaves.3.failed
+    ends_well (ending.Served stop.Ended) replay behaves = inl refl
+    ends_well (ending.Served stop.NextFailed) replay behaves = absurd (came behaves.3.any.2.1)
+    ends_well (ending.Served stop.TooMany) replay behaves = inr (inr refl)
+    ends_well (ending.Served stop.DiskFailed) replay behaves = absurd (kept behaves.3.any.2.1)
+    ends_well (ending.Served (stop.Unrecovered fault)) replay behaves = wants_memory fault (behaves.3.lives ready.seen ready.sees).found behaves.3.any.2.1
+    ends_well ending.ReportFailed replay behaves = absurd (written behaves.3.1)
 
   no_fault_shown : (word text : List ℕ) → IsReadable word → ShowsFault word text ⊎ ShowsNoHex word text → ⊥
   no_fault_shown word text readable (inl fault) =
@@ -114,6 +169,7 @@ module _ (words : List (List ℕ)) (before now : Outside) where
   ends_shown (ending.Refused fault) show readable written behaves = absurd (one_command words behaves.0 show)
   ends_shown ending.NoMemory show readable written behaves = inr refl
   ends_shown ending.SettingsFailed show readable written behaves = absurd (one_command words behaves.0 show)
+  ends_shown (ending.Unrecovered fault) show readable written behaves = absurd (one_command words behaves.0 show)
   ends_shown (ending.Served how) show readable written behaves = absurd (one_command words behaves.0 show)
   ends_shown ending.ReportFailed show readable written behaves = absurd (one_command words behaves.0 show)
 
@@ -125,6 +181,7 @@ module _ (words : List (List ℕ)) (before now : Outside) where
   ends_unreadable (ending.Refused fault) show none behaves = absurd (one_command words behaves.0 show)
   ends_unreadable ending.NoMemory show none behaves = inr refl
   ends_unreadable ending.SettingsFailed show none behaves = absurd (one_command words behaves.0 show)
+  ends_unreadable (ending.Unrecovered fault) show none behaves = absurd (one_command words behaves.0 show)
   ends_unreadable (ending.Served how) show none behaves = absurd (one_command words behaves.0 show)
   ends_unreadable ending.ReportFailed show none behaves = absurd (one_command words behaves.0 show)
 
@@ -140,6 +197,9 @@ module _ (words : List (List ℕ)) (before now : Outside) where
   wrong_words (ending.Served stop.Ended) is behaves = absurd (omega (arith, is))
   wrong_words (ending.Served stop.NextFailed) is behaves = absurd (omega (arith, is))
   wrong_words (ending.Served stop.TooMany) is behaves = absurd (omega (arith, is))
+  wrong_words (ending.Served stop.DiskFailed) is behaves = absurd (omega (arith, is))
+  wrong_words (ending.Served (stop.Unrecovered fault)) is behaves = let out = late_status fault in absurd (omega (arith, is, out))
+  wrong_words (ending.Unrecovered fault) is behaves = let out = late_status fault in absurd (omega (arith, is, out))
   wrong_words ending.ReportFailed is behaves = absurd (omega (arith, is))
 
   pub no_command : (how : Ending) → is_command words ≡ false → Behaves how words before now → status_of how ≡ 2
@@ -148,6 +208,7 @@ module _ (words : List (List ℕ)) (before now : Outside) where
   no_command (ending.Refused fault) none behaves = absurd (replay_is_command words behaves.0 none)
   no_command ending.NoMemory none behaves = absurd (true≢false (sym behaves.0 ∙ none))
   no_command ending.SettingsFailed none behaves = absurd (replay_is_command words behaves.0 none)
+  no_command (ending.Unrecovered fault) none behaves = absurd (replay_is_command words behaves.0 none)
   no_command (ending.Served how) none behaves = absurd (replay_is_command words behaves.0 none)
   no_command ending.ReportFailed none behaves = absurd (replay_is_command words behaves.0 none)
 
@@ -161,8 +222,11 @@ module _ (words : List (List ℕ)) (before now : Outside) where
   has_read ending.NoMemory is behaves = absurd (omega (arith, is))
   has_read ending.SettingsFailed is behaves = inl behaves.3
   has_read (ending.Served stop.Ended) is behaves = absurd (omega (arith, is))
-  has_read (ending.Served stop.NextFailed) is behaves = inr behaves.3.reports.1
+  has_read (ending.Served stop.NextFailed) is behaves = inr behaves.3.any.2.1
   has_read (ending.Served stop.TooMany) is behaves = absurd (omega (arith, is))
+  has_read (ending.Served stop.DiskFailed) is behaves = absurd (omega (arith, is))
+  has_read (ending.Served (stop.Unrecovered fault)) is behaves = absurd (no_five fault is)
+  has_read (ending.Unrecovered fault) is behaves = absurd (no_five fault is)
   has_read ending.ReportFailed is behaves = absurd (omega (arith, is))
 
   pub has_written : (how : Ending) → status_of how ≡ 9 → Behaves how words before now → ReportFailed before now
@@ -176,10 +240,37 @@ module _ (words : List (List ℕ)) (before now : Outside) where
   has_written (ending.Served stop.Ended) is behaves = absurd (omega (arith, is))
   has_written (ending.Served stop.NextFailed) is behaves = absurd (omega (arith, is))
   has_written (ending.Served stop.TooMany) is behaves = absurd (omega (arith, is))
+  has_written (ending.Served stop.DiskFailed) is behaves = absurd (omega (arith, is))
+  has_written (ending.Served (stop.Unrecovered fault)) is behaves = absurd (no_nine fault is)
+  has_written (ending.Unrecovered fault) is behaves = absurd (no_nine fault is)
   has_written ending.ReportFailed is behaves = behaves.3.1
 
+  -- the disk failed where the status is 6
+  six : (fault : JournalFault) → recovery_status fault ≡ 6 → IsDiskFailure fault before now → DiskFailed before now
+  six faults.DiskFault is failed = failed
+  six faults.NoMemory is failed = absurd (omega (arith, is))
+  six (faults.NotOurs at) is failed = absurd (omega (arith, is))
+  six (faults.SettingsChanged stored given) is failed = absurd (omega (arith, is))
+  six (faults.TooSmall needed found) is failed = absurd (omega (arith, is))
+
+  pub has_failed : (how : Ending) → status_of how ≡ 6 → Behaves how words before now → DiskFailed before now
+  has_failed ending.WrongWords is behaves = absurd (omega (arith, is))
+  has_failed (ending.Shown showing.Written) is behaves = absurd (omega (arith, is))
+  has_failed (ending.Shown showing.Failed) is behaves = absurd (omega (arith, is))
+  has_failed (ending.Shown showing.Unreadable) is behaves = absurd (omega (arith, is))
+  has_failed (ending.Refused fault) is behaves = absurd (omega (arith, is))
+  has_failed ending.NoMemory is behaves = absurd (omega (arith, is))
+  has_failed ending.SettingsFailed is behaves = absurd (omega (arith, is))
+  has_failed (ending.Unrecovered fault) is behaves = six fault is behaves.3.failed
+  has_failed (ending.Served stop.Ended) is behaves = absurd (omega (arith, is))
+  has_failed (ending.Served stop.NextFailed) is behaves = absurd (omega (arith, is))
+  has_failed (ending.Served stop.TooMany) is behaves = absurd (omega (arith, is))
+  has_failed (ending.Served stop.DiskFailed) is behaves = behaves.3.any.2.1
+  has_failed (ending.Served (stop.Unrecovered fault)) is behaves = six fault is behaves.3.any.2.1
+  has_failed ending.ReportFailed is behaves = absurd (omega (arith, is))
+
 -- a status of these is one of an ending before the host is called
-pub not_served : (how : Ending) → 1 ≤ status_of how → status_of how ≤ 3 → has_served how ≡ false
+pub not_served : (how : Ending) → 1 ≤ status_of how → status_of how ≤ 3 → has_hosted how ≡ false
 not_served ending.WrongWords low high = refl
 not_served (ending.Shown how) low high = refl
 not_served (ending.Refused fault) low high = refl
@@ -188,4 +279,7 @@ not_served ending.SettingsFailed low high = refl
 not_served (ending.Served stop.Ended) low high = absurd (omega (arith, low))
 not_served (ending.Served stop.NextFailed) low high = absurd (omega (arith, high))
 not_served (ending.Served stop.TooMany) low high = absurd (omega (arith, high))
+not_served (ending.Served stop.DiskFailed) low high = absurd (omega (arith, high))
+not_served (ending.Served (stop.Unrecovered fault)) low high = let out = late_status fault in absurd (omega (arith, high, out))
+not_served (ending.Unrecovered fault) low high = let out = late_status fault in absurd (omega (arith, high, out))
 not_served ending.ReportFailed low high = absurd (omega (arith, high))

@@ -1,5 +1,10 @@
 mod Completeness
+mod Keeping
+mod Turns
+mod Taking
+mod Blank
+mod Writing
 mod Serving
 mod Texts
 mod Asking
-mod Turns
+mod Leaving

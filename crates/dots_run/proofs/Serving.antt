@@ -1,31 +1,145 @@
--- What a server has done, by how its loop stopped.
-use Rattle.std.proofs.Common.{◌≡◌, ℕ, List, [], Option, refl}
+-- What a server has done, from what its disk held.
+use Rattle.std.proofs.Common.{◌≡◌, ℕ, true, max, List, [], ◌++◌, Option, Some, None, sym, ap, subst, arith}
+use Rattle.std.specs.Prelude.{IfSome}
+use Rattle.std.specs.List.{list_all}
+use Rattle.dots_host.specs.declared.out.OwnedOut.{OwnedOut}
 use Rattle.dots_host.specs.Acts.{Timed}
-use Rattle.dots_host.specs.Runs.{Added, resting}
-use Rattle.dots_host.proofs.RunLemmas.{added_weaker}
+use Rattle.dots_host.specs.Runs.{Owing, resting}
+use Rattle.dots_host.specs.Writing.{AppendsBeginning}
+use Rattle.dots_host.proofs.RunLemmas.{added_then}
+use Rattle.dots_disk.specs.Media.{Media}
+use Rattle.dots_disk.specs.Becoming.{Leaves, RestsWith}
+use Rattle.dots_disk.specs.Beside.{KeepsActs}
+use Rattle.slot_store.specs.Gates.{Sees}
+use Rattle.slot_store.specs.Opening.{Is}
+use Rattle.slot_store.proofs.Steps.{leaves_as}
 use Rattle.dots_settings.specs.Settings.{SettingsValue}
-use Rattle.dots_machine.specs.declared.ending.Stop.{Stop}
-use Rattle.dots_machine.specs.Machine.{State, begun}
-use Rattle.dots_machine.specs.Turns.{turns_of}
-use Rattle.dots_machine.specs.Endings.{Ran, KeepsLaws, Serves}
-use Rattle.dots_machine.proofs.Laws.{keeps_laws}
+use Rattle.dots_settings.specs.File.{SettingsAre}
+use Rattle.dots_history.specs.declared.entry.Entry.{Entry}
+use Rattle.dots_laws.specs.Calm.{is_own}
+use Rattle.dots_laws.specs.Fits.{is_calm, last_time}
+use Rattle.dots_laws.proofs.Composing.{kept_refl}
 use Rattle.dots_laws.proofs.Containing.{scrub_rows_inside, acl_rows_inside}
-use Rattle.dots_server.specs.Standing.{ServerValue, StandsFor}
+use Rattle.slot_journal.specs.Held.{Holds}
+use Rattle.dots_ledger.specs.Crashes.{HoldsKept}
+use Rattle.dots_machine.specs.declared.ending.Ending.{Ending}
+use Rattle.dots_machine.specs.declared.ending.Ending.TheVariants as ending
+use Rattle.dots_machine.specs.declared.ending.Stop.{Stop}
+use Rattle.dots_machine.specs.declared.ending.Stop.TheVariants as stop
+use Rattle.dots_machine.specs.Machine.{State, begun_from, restarted}
+use Rattle.dots_machine.specs.Outside.{Outside}
+use Rattle.dots_machine.specs.Report.{Contained, report_of}
+use Rattle.dots_machine.specs.Surviving.{Story, past_of, NoneBefore, Survives}
+use Rattle.dots_machine.specs.Commands.{is_replay}
+use Rattle.dots_machine.specs.Endings.{has_hosted, Ran, Lived, LivesFrom, Reports, ServesTo, Behaves}
+use Rattle.dots_machine.proofs.Laws.{keeps_laws}
+use Rattle.dots_machine.proofs.Surviving.{story_trace, survives_opening}
+use Rattle.dots_run.specs.Living.{Came}
+use Rattle.dots_run.specs.Refusals.{Wrote}
+use Rattle.dots_server.proofs.Turning.{none_added}
 
-abbrev pub HasRun : SettingsValue → ServerValue → Option (List Timed) → Option (List Timed) → Stop → Type 0
-HasRun settings server before now how =
-    (state : State) × StandsFor server settings state
-    × (trace : List State) × Added before now (Ran settings begun trace (resting state) how)
+contained_by : (settings : SettingsValue) (state : State) → list_all (is_own settings) state.history ≡ true → Contained settings state
+contained_by settings state own = record { scrubs = scrub_rows_inside settings state.time state.history own; lists = acl_rows_inside settings state.time state.history own }
 
-pub serves : (settings : SettingsValue) (server : ServerValue) (before now : Option (List Timed)) (how : Stop) (wrote : State → Type 0) (ran : HasRun settings server before now how) → wrote ran.0
-    → Serves settings begun how before now wrote
-serves settings server before now how wrote ran reports = record {
-  end = resting ran.0;
-  settled = refl;
-  trace = ran.2;
-  ran = ran.3;
-  laws = added_weaker before now (Ran settings begun ran.2 (resting ran.0) how) (λ acts. KeepsLaws settings begun (turns_of acts) ran.0) ran.3
-      (λ acts r. keeps_laws settings begun acts ran.2 ran.0 r.run);
-  contained = record { scrubs = scrub_rows_inside settings ran.0.time ran.0.history ran.1.own; lists = acl_rows_inside settings ran.0.time ran.0.history ran.1.own };
-  reports = reports;
-}
+-- an end that owes nothing is a state at rest
+resting_end : (end : Owing State) → end.owed ≡ [] → end ≡ resting end.last
+resting_end end none = ap (λ (owed : List (State × OwnedOut)). record { last = end.last; owed = owed }) none
+
+module _ (settings : SettingsValue) (held : List Entry) (how : Stop) (before mid now : Outside) (end : Owing State) (calm : is_calm settings held ≡ true)
+    (silent : KeepsActs before.acts mid.acts) (opened : (seen : ℕ → ℕ) → RestsWith before.media (Is seen) → Leaves before.media mid.media (λ image. Holds settings image held)) where
+  abbrev from : State
+  from = begun_from held
+
+  held_first : (image : ℕ → ℕ) → Holds settings image held → HoldsKept settings settings.limits.remembered from.time from.history image
+  held_first image holds = record { entries = held; holds = holds; calm = calm; kept = kept_refl settings.limits.remembered from.time held }
+
+  lived_by : (trace : List State) (acts : List Timed) → (grows : (extra : List Entry) × (end.last.history ≡ held ++ extra)) → Ran settings from trace end how acts → NoneBefore (past_of mid.media) acts
+      → Survives settings from mid.media now.media acts trace end.last.history → Lived settings from how before now trace end acts
+  lived_by trace acts grows ran late survives = record {
+    ran = ran;
+    laws = λ none. keeps_laws settings from acts trace end.last (story_trace settings (resting from) (resting end.last) acts trace (subst (λ e. Story settings (resting from) acts trace e) (resting_end end none) ran.run));
+    survives = λ seen rests.
+        survives_opening settings from before.media mid.media now.media acts trace end.last.history grows.0 grows.1 late (Is seen) rests
+        (leaves_as before.media mid.media (λ image. Holds settings image held) (HoldsKept settings settings.limits.remembered from.time from.history) held_first (opened seen rests)) survives;
+  }
+
+  pub lives_from : (wrote : State → Type 0) → Came settings from how mid.media now.media mid.acts now.acts end → wrote end.last → LivesFrom settings held how before now wrote
+  lives_from wrote came reports = record {
+    end = end;
+    settled = came.settled;
+    found = came.found;
+    trace = came.trace;
+    lived = added_then before.acts mid.acts now.acts (λ more. more ≡ []) _ (Lived settings from how before now came.trace end) (none_added before.acts mid.acts silent) came.told
+        (λ front back none told. subst (λ f. Lived settings from how before now came.trace end (f ++ back)) (sym none) (lived_by came.trace back came.grows told.0 told.1 told.2));
+    contained = contained_by settings end.last came.own;
+    reports = reports;
+  }
+
+module _ (settings : SettingsValue) (held : List Entry) (before mid now : Outside) (calm : is_calm settings held ≡ true)
+    (silent : KeepsActs before.acts mid.acts) (opened : (seen : ℕ → ℕ) → RestsWith before.media (Is seen) → Leaves before.media mid.media (λ image. Holds settings image held))
+    (was_held : (seen : ℕ → ℕ) → Sees before.media seen → Holds settings seen held) where
+  -- a run with this ending came there, where the disk is told
+  abbrev pub CameThere : Ending → Type 0
+  CameThere how =
+      (seen : ℕ → ℕ) → Sees before.media seen
+      → (stopped : Stop) × (end : Owing State) × Came settings (begun_from held) stopped mid.media now.media mid.acts now.acts end × Wrote how stopped settings end.last before now
+
+  abbrev pub WroteAny : Ending → Type 0
+  WroteAny how = (stopped : Stop) × (state : State) × (list_all (is_own settings) state.history ≡ true) × Wrote how stopped settings state before now
+
+  pub serves_to : (how : Ending) → CameThere how → WroteAny how → ServesTo how settings before now
+  serves_to (ending.Served how) came any = record {
+    held = held;
+    calm = calm;
+    was_held = was_held;
+    lives = λ seen sees.
+        let (stopped, end, there, wrote) = came seen sees in
+        lives_from settings held how before mid now end calm silent opened (Reports how settings before now)
+        (subst (λ h. Came settings (begun_from held) h mid.media now.media mid.acts now.acts end) (sym wrote.0) there) wrote.1;
+    any = (any.1, contained_by settings any.1 any.2, any.3.1);
+  }
+  serves_to ending.ReportFailed came any = (
+    record {
+      held = held;
+      calm = calm;
+      was_held = was_held;
+      lives = λ seen sees.
+          let (stopped, end, there, wrote) = came seen sees in
+          lives_from settings held stop.Ended before mid now end calm silent opened (λ state. AppendsBeginning before.held now.held (report_of settings state))
+          (subst (λ h. Came settings (begun_from held) h mid.media now.media mid.acts now.acts end) (sym wrote.0) there) wrote.1;
+      any = (any.1, contained_by settings any.1 any.2, any.3.1);
+    },
+    any.3.2,
+  )
+  serves_to ending.WrongWords came any = absurd any.3
+  serves_to (ending.Shown how) came any = absurd any.3
+  serves_to (ending.Refused fault) came any = absurd any.3
+  serves_to ending.SettingsFailed came any = absurd any.3
+  serves_to ending.NoMemory came any = absurd any.3
+  serves_to (ending.Unrecovered fault) came any = absurd any.3
+
+-- a run begins at the time of the last entry
+pub begun_zero : (held : List Entry) → restarted (begun_from held) 0 ≡ begun_from held
+begun_zero held = ap (λ t. at_time t) (no_later (last_time held))
+  where
+    at_time : ℕ → State
+    at_time t = record { history = held; time = t }
+
+    no_later : (t : ℕ) → max 0 t ≡ t
+    no_later t = omega arith
+
+pub sees_of : (media : Option Media) (seen : ℕ → ℕ) → RestsWith media (Is seen) → Sees media seen
+sees_of None seen rests = absurd rests
+sees_of (Some media) seen rests = rests.1
+
+-- a run that came to its host behaves as it served
+pub behaves_hosted : (words : List (List ℕ)) (before now : Outside) (how : Ending) → has_hosted how ≡ true → is_replay words ≡ true → (settings : SettingsValue)
+    → IfSome before.left (λ bytes. SettingsAre bytes settings) → ServesTo how settings before now → Behaves how words before now
+behaves_hosted words before now (ending.Served how) hosted replay settings are serves = (replay, settings, are, serves)
+behaves_hosted words before now ending.ReportFailed hosted replay settings are serves = (replay, settings, are, serves)
+behaves_hosted words before now (ending.Unrecovered fault) hosted replay settings are serves = (replay, settings, are, serves)
+behaves_hosted words before now ending.WrongWords hosted replay settings are serves = absurd (cc hosted)
+behaves_hosted words before now (ending.Shown how) hosted replay settings are serves = absurd (cc hosted)
+behaves_hosted words before now (ending.Refused fault) hosted replay settings are serves = absurd (cc hosted)
+behaves_hosted words before now ending.SettingsFailed hosted replay settings are serves = absurd (cc hosted)
+behaves_hosted words before now ending.NoMemory hosted replay settings are serves = absurd (cc hosted)

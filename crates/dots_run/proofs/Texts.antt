@@ -1,6 +1,5 @@
 -- A run over a script, from text to text.
-use Rattle.std.proofs.Common.{◌≡◌, List, ℕ, [], ◌++◌, Option, Some, None, Bool, true, false, refl, sym, ap, ◌∙◌, subst}
-use Rattle.std.specs.Prelude.{IfSome}
+use Rattle.std.proofs.Common.{◌≡◌, List, ℕ, [], Option, Some, None, Bool, true, false, refl, sym, ap, subst}
 use Rattle.std.proofs.lemmas.Bool.{true≢false}
 use Rattle.dots_host.specs.declared.act.Act.{Act}
 use Rattle.dots_host.specs.Acts.{Timed, wire_acts}
@@ -14,12 +13,16 @@ use Rattle.dots_machine.specs.declared.ending.Ending.{Ending}
 use Rattle.dots_machine.specs.declared.ending.Ending.TheVariants as ending
 use Rattle.dots_machine.specs.declared.ending.Stop.{Stop}
 use Rattle.dots_machine.specs.declared.ending.Stop.TheVariants as stop
-use Rattle.dots_machine.specs.Machine.{State, begun}
+use Rattle.dots_disk.specs.Media.{byte_of, blank}
+use Rattle.dots_disk.specs.Beside.{KeepsActs}
+use Rattle.slot_store.specs.Gates.{Sees}
+use Rattle.slot_journal.proofs.Crashing.{one_history}
+use Rattle.dots_machine.specs.Machine.{State, begun_from}
 use Rattle.dots_machine.specs.Outside.{Outside}
-use Rattle.dots_machine.specs.Endings.{Ran, KeepsLaws, Serves, Reports, ServesTo, Behaves, has_served}
-use Rattle.dots_machine.specs.Turns.{turns_of}
+use Rattle.dots_machine.specs.Endings.{Lived, LivesFrom, Serves, Reports, Behaves, has_hosted}
 use Rattle.dots_machine.specs.Report.{report_of}
 use Rattle.dots_run.specs.Scripted.{Replays, JoinsTexts}
+use Rattle.dots_run.proofs.Blank.{zeros_hold_nothing}
 
 abbrev pub standing_of : Option (List ℕ) → Option (List ℕ) → ℕ → Standing
 standing_of script held failures = record { script = script; held = held; failures = failures }
@@ -27,30 +30,42 @@ standing_of script held failures = record { script = script; held = held; failur
 all_added : (acts : List Timed) (P : List Timed → Type 0) → Added (Some []) (Some acts) P → P acts
 all_added acts P a = subst P (sym a.1) a.2
 
-replays : (settings : SettingsValue) (how : Stop) (acts : List Timed) (start now : Standing) (wrote : State → Type 0) → Serves settings begun how (Some []) (Some acts) wrote → Accounts start now acts
-    → Replays settings how start now wrote
-replays settings how acts start now wrote serves accounts = record {
-  acts = acts;
-  end = serves.end;
-  settled = serves.settled;
-  trace = serves.trace;
-  ran = all_added acts (Ran settings begun serves.trace serves.end how) serves.ran;
-  laws = all_added acts (λ acts. KeepsLaws settings begun (turns_of acts) serves.end.last) serves.laws;
-  accounts = accounts;
-  reports = serves.reports;
-}
+no_more : (acts : List Timed) → KeepsActs (Some []) (Some acts) → acts ≡ []
+no_more acts keeps = keeps
 
-module _ (words : List (List ℕ)) (before after : Outside) (acts : List Timed) (none : before.acts ≡ Some []) (some : after.acts ≡ Some acts) (start now : Standing) (accounts : Accounts start now acts) where
-  served : (settings : SettingsValue) (how : Stop) (wrote : State → Type 0) → Serves settings begun how before.acts after.acts wrote → Replays settings how start now wrote
+-- the disk of a script's host is told, and holds nothing before the first call
+module _ (words : List (List ℕ)) (before after : Outside) (acts : List Timed) (none : before.acts ≡ Some []) (some : after.acts ≡ Some acts) (empty : before.media ≡ Some (blank []))
+    (start now : Standing) (accounts : Accounts start now acts) where
+  sees_zeros : Sees before.media (byte_of [])
+  sees_zeros = subst (λ media. Sees media (byte_of [])) (sym empty) refl
+
+  held_nothing : (settings : SettingsValue) (how : Stop) (wrote : State → Type 0) (serves : Serves settings how before after wrote) → serves.held ≡ []
+  held_nothing settings how wrote serves = one_history settings (byte_of []) serves.held [] (serves.was_held (byte_of []) sees_zeros) (zeros_hold_nothing settings)
+
+  served : (settings : SettingsValue) (how : Stop) (wrote : State → Type 0) → Serves settings how before after wrote → Replays settings how before after start now wrote
   served settings how wrote serves =
-      replays settings how acts start now wrote (subst (λ old. Serves settings begun how old (Some acts) wrote) none (subst (λ new. Serves settings begun how before.acts new wrote) some serves)) accounts
+      let lives = subst (λ held. LivesFrom settings held how before after wrote) (held_nothing settings how wrote serves) (serves.lives (byte_of []) sees_zeros) in
+      let lived : Added (Some []) (Some acts) (Lived settings (begun_from []) how before after lives.trace lives.end) =
+      subst (λ old. Added old (Some acts) (Lived settings (begun_from []) how before after lives.trace lives.end)) none
+      (subst (λ new. Added before.acts new (Lived settings (begun_from []) how before after lives.trace lives.end)) some lives.lived) in
+      record {
+        acts = acts;
+        end = lives.end;
+        trace = lives.trace;
+        lived = all_added acts (Lived settings (begun_from []) how before after lives.trace lives.end) lived;
+        accounts = accounts;
+        reports = lives.reports;
+      }
 
-  pub joins : (how : Ending) → Behaves how words before after → (has_served how ≡ false → now ≡ start) → JoinsTexts how before after start now
+  pub joins : (how : Ending) → Behaves how words before after → (has_hosted how ≡ false → now ≡ start) → JoinsTexts how before after start now
   joins ending.WrongWords behaves same = same refl
   joins (ending.Shown showing) behaves same = same refl
   joins (ending.Refused fault) behaves same = same refl
   joins ending.SettingsFailed behaves same = same refl
   joins ending.NoMemory behaves same = same refl
+  joins (ending.Unrecovered fault) behaves same =
+      let silent : KeepsActs (Some []) (Some acts) = subst (λ old. KeepsActs old (Some acts)) none (subst (λ new. KeepsActs before.acts new) some behaves.3.silent) in
+      subst (λ acts. Accounts start now acts) (no_more acts silent) accounts
   joins (ending.Served how) behaves same = (behaves.1, behaves.2, served behaves.1 how (Reports how behaves.1 before after) behaves.3)
   joins ending.ReportFailed behaves same =
       (behaves.1, behaves.2, served behaves.1 stop.Ended (λ state. AppendsBeginning before.held after.held (report_of behaves.1 state)) behaves.3.0)

@@ -1,5 +1,8 @@
+pub mod Refusals
 pub mod Living
+pub mod Taking
 pub mod Outcomes
 pub mod Programs
 pub mod Scripted
 pub mod Topics
+pub mod Leaving

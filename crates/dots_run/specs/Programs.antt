@@ -3,7 +3,7 @@ use Rattle.std.specs.Prelude.{◌≡◌, ℕ, Bool, true, false, List, Option, S
 use Rattle.dots_script.specs.Accounts.{Standing}
 use Rattle.dots_machine.specs.declared.ending.Ending.{Ending}
 use Rattle.dots_machine.specs.Commands.{second_of}
-use Rattle.dots_machine.specs.Endings.{status_of, Behaves}
+use Rattle.dots_machine.specs.Endings.{status_of, Behaves, GivesSettings, IsReady}
 use Rattle.dots_machine.specs.Outside.{Outside, SourceFailed, ReportFailed}
 use Rattle.dots_tell.specs.declared.told.Told.{Told}
 use Rattle.dots_tell.specs.declared.topic.Topic.{Topic}
@@ -32,6 +32,8 @@ pub record Runs (words : List (List ℕ)) (status : ℕ) (before now : Outside) 
   pub told : (topic : Topic) → topic_of words ≡ Some topic → HasTold topic status before now start end
   -- what the status says of the words, of the settings and of what failed
   pub outcome : Outcome words status before now
+  -- the disk of a script's host holds nothing at first, and has the size that any settings need
+  pub ready : GivesSettings before.left → IsReady before.left before.media before.extent
 
 -- The file of the settings is what opening it by the second word gave, where that names one, and else there is none.
 pub record IsOpened {F : Type 0} (opening : List ℕ → Option F → Type 0) (words : List (List ℕ)) (file : Option F) : Type 0 where

@@ -1,37 +1,67 @@
 -- A run over a script, from text to text.
-use Rattle.std.specs.Prelude.{◌≡◌, List, ℕ, [], Option, Some, IfSome}
+use Rattle.std.specs.Prelude.{◌≡◌, ◌^◌, List, ℕ, [], Option, Some, IfSome}
 use Rattle.dots_host.specs.Acts.{Timed}
+use Rattle.dots_host.specs.Memory.{told}
 use Rattle.dots_host.specs.Runs.{Owing}
 use Rattle.dots_host.specs.Writing.{AppendsBeginning}
+use Rattle.dots_disk.specs.Media.{blank}
+use Rattle.dots_disk.specs.Stored.{media_of}
 use Rattle.dots_script.specs.Accounts.{Standing, Accounts}
+use Rattle.dots_script.specs.Scripting.{Scripting}
 use Rattle.dots_settings.specs.Settings.{SettingsValue}
 use Rattle.dots_settings.specs.File.{SettingsAre}
 use Rattle.dots_machine.specs.declared.ending.Ending.{Ending}
 use Rattle.dots_machine.specs.declared.ending.Ending.TheVariants as ending
 use Rattle.dots_machine.specs.declared.ending.Stop.{Stop}
 use Rattle.dots_machine.specs.declared.ending.Stop.TheVariants as stop
-use Rattle.dots_machine.specs.Machine.{State, begun}
+use Rattle.dots_machine.specs.Machine.{State, begun_from}
 use Rattle.dots_machine.specs.Outside.{Outside}
-use Rattle.dots_machine.specs.Turns.{turns_of}
-use Rattle.dots_machine.specs.Endings.{Ran, KeepsLaws, Reports}
+use Rattle.dots_machine.specs.Endings.{Lived, Reports}
 use Rattle.dots_machine.specs.Report.{report_of}
 
--- Some acts are a run of the machine with these settings that stops so, and keep the laws. Their events are, in order, those of the script's
--- lines, their sends are, line by line, what the sink of sends was written, and of the last state this was written.
-pub record Replays (settings : SettingsValue) (how : Stop) (start now : Standing) (wrote : State → Type 0) : Type 0 where
+-- What stands outside a run over a script: before its first call no act, and a disk of 2^30 zeros; and then what its host has done.
+abbrev pub outside_first : Option (List ℕ) → ℕ → Option (List ℕ) → ℕ → Outside
+outside_first left source_faults held report_faults = record {
+  left = left;
+  source_faults = source_faults;
+  acts = Some [];
+  wire_faults = 0;
+  media = Some (blank []);
+  extent = 2 ^ 30;
+  disk_faults = 0;
+  held = held;
+  report_faults = report_faults;
+}
+
+abbrev pub outside_with : {S K : Type 0} → Option (List ℕ) → ℕ → Scripting S K → Option (List ℕ) → ℕ → Outside
+outside_with left source_faults host held report_faults = record {
+  left = left;
+  source_faults = source_faults;
+  acts = told host.disk.whole host.disk.acts;
+  wire_faults = host.faults;
+  media = Some (media_of host.disk);
+  extent = host.disk.extent;
+  disk_faults = host.disk.faults;
+  held = held;
+  report_faults = report_faults;
+}
+
+-- Some acts are a run of the machine with these settings from an empty disk, which stops so, keeps the laws, and survives a crash at any moment.
+-- Their events are, in order, those of the script's lines, their sends are, line by line, what the sink of sends was written, and of the last
+-- state this was written.
+pub record Replays (settings : SettingsValue) (how : Stop) (before after : Outside) (start now : Standing) (wrote : State → Type 0) : Type 0 where
   pub acts : List Timed
   pub end : Owing State
-  pub settled : end.owed ≡ []
   pub trace : List State
-  pub ran : Ran settings begun trace end how acts
-  pub laws : KeepsLaws settings begun (turns_of acts) end.last
+  pub lived : Lived settings (begun_from []) how before after trace end acts
   pub accounts : Accounts start now acts
   pub reports : wrote end.last
 
 abbrev pub JoinsTexts : Ending → Outside → Outside → Standing → Standing → Type 0
 JoinsTexts (ending.Served how) before after start now =
-    (settings : SettingsValue) × IfSome before.left (λ bytes. SettingsAre bytes settings) × Replays settings how start now (Reports how settings before after)
+    (settings : SettingsValue) × IfSome before.left (λ bytes. SettingsAre bytes settings) × Replays settings how before after start now (Reports how settings before after)
 JoinsTexts ending.ReportFailed before after start now =
     (settings : SettingsValue) × IfSome before.left (λ bytes. SettingsAre bytes settings)
-    × Replays settings stop.Ended start now (λ state. AppendsBeginning before.held after.held (report_of settings state))
+    × Replays settings stop.Ended before after start now (λ state. AppendsBeginning before.held after.held (report_of settings state))
+JoinsTexts (ending.Unrecovered fault) before after start now = Accounts start now []
 JoinsTexts _ before after start now = now ≡ start

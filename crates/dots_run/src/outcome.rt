@@ -1,31 +1,41 @@
 //! The commands of the machine, `replay` and `show`.
 
-ghost use Rattle.std.specs.Prelude.{◌≡◌, ◌≢◌, ◌≤◌, ◌⊎◌, ◌↔◌, map, false, true, string_bytes, None, IfOk, OnErr};
+ghost use Rattle.std.specs.Prelude.{◌≡◌, ◌≢◌, ◌≤◌, ◌⊎◌, ◌↔◌, ℕ, List, Option, map, false, true, string_bytes, None, IfOk, OnErr};
+ghost use Rattle.std.specs.List.{list_all};
+ghost use Rattle.dots_disk.specs.Becoming.{RestsWith};
 ghost use Rattle.dots_host.specs.Causes.{Rose};
+ghost use Rattle.dots_host.specs.Runs.{Owing};
+ghost use Rattle.dots_settings.specs.Settings.{SettingsValue};
+ghost use Rattle.dots_history.specs.declared.entry.Entry.{Entry};
+ghost use Rattle.dots_laws.specs.Calm.{is_own};
+ghost use Rattle.slot_store.specs.Layout.{needed_of};
+ghost use Rattle.slot_journal.specs.Held as journal;
 ghost use Rattle.dots_machine.specs.declared.ending.Ending as endings;
 ghost use Rattle.dots_machine.specs.declared.ending.Ending.TheVariants as ending;
-ghost use Rattle.dots_machine.specs.declared.ending.Showing.TheVariants as showing;
-ghost use Rattle.dots_machine.specs.declared.ending.Stop.TheVariants as stop;
+ghost use Rattle.dots_machine.specs.declared.ending.Stop.{Stop};
 ghost use Rattle.dots_machine.specs.Commands.{is_replay, is_show, is_command, second_of};
-ghost use Rattle.dots_machine.specs.Endings.{status_of, has_served, Shows, ServesTo, Behaves, fault_line, GivesFault, GivesSettings, IsReadable};
-ghost use Rattle.dots_host.specs.Writing.{Writes};
-ghost use Rattle.dots_settings.specs.Settings.{SettingsValue};
-ghost use Rattle.dots_machine.specs.Machine.{begun};
-ghost use Rattle.dots_server.specs.Standing.{StandsFor};
+ghost use Rattle.dots_machine.specs.Endings.{status_of, has_hosted, Shows, ServesTo, Behaves, GivesFault, IsReady, IsReadable};
+ghost use Rattle.dots_machine.specs.Machine.{State};
+ghost use Rattle.dots_machine.specs.Outside.{Outside};
+ghost use Rattle.dots_server.specs.Standing.{IsKept};
+ghost use Rattle.dots_run.specs.Living.{Came};
+ghost use Rattle.dots_run.specs.Refusals.{Counts, Wrote, WritesStop};
 
 use crate::events::take_events;
+use crate::refusals::write_refusal;
 use crate::words::{is_replay, word_to_show};
-use dots_host::{Host, MAX_EVENT_BYTES, Sink, Source, write_all};
+use dots_disk::Host;
+use dots_host::{MAX_EVENT_BYTES, Sink, Source, write_all};
 use dots_lists::NoMemory;
 use dots_machine::{Ending, Showing, Stop};
 use dots_server::Server;
-use dots_settings::{SettingsFault, read_settings};
+use dots_settings::{Settings, SettingsFault, read_settings};
 use message_text::{Shown, show};
 use std::alloc::Global;
 
 /// Does what the words ask of the machine, and answers the exit status. With `replay SETTINGS` the settings are read
-/// from the source, the events are taken from the host, and at End the filters that stand are written to the
-/// report. With `show HEX` the lines of a message are written to the report, or that of its fault, and neither source
+/// from the source, what the host's disk holds is recovered, the events are taken from the host, and at End the filters that stand are written
+/// to the report. With `show HEX` the lines of a message are written to the report, or that of its fault, and neither source
 /// nor host is called. Other words are refused.
 pub fn run_machine<H: Host, S: Source, K: Sink>(
     alloc: Global,
@@ -34,29 +44,33 @@ pub fn run_machine<H: Host, S: Source, K: Sink>(
     host: &mut H,
     report: &mut K,
 ) -> u8
-    // What the run has done, by the ending that its status is of. Where it didn't come to serve, the host was not called.
+    // What the run has done, by the ending that its status is of. Where it didn't come to its host, that was not called.
     ensures machine { (ending : endings.Ending) × (result ≡ status_of ending)
         × Behaves ending (map string_bytes words.now)
-        (record { left = S.left settings.old; source_faults = S.faults settings.old; acts = H.acts host.old; wire_faults = H.faults host.old; held = K.holds report.old; report_faults = K.faults report.old })
-        (record { left = S.left settings.new; source_faults = S.faults settings.new; acts = H.acts host.new; wire_faults = H.faults host.new; held = K.holds report.new; report_faults = K.faults report.new })
-        × (has_served ending ≡ false → host.new ≡ host.old) }
+        (record { left = S.left settings.old; source_faults = S.faults settings.old; acts = H.acts host.old; wire_faults = H.Wire.faults host.old; media = H.media host.old; extent = H.extent host.old; disk_faults = H.Disk.faults host.old; held = K.holds report.old; report_faults = K.faults report.old })
+        (record { left = S.left settings.new; source_faults = S.faults settings.new; acts = H.acts host.new; wire_faults = H.Wire.faults host.new; media = H.media host.new; extent = H.extent host.new; disk_faults = H.Disk.faults host.new; held = K.holds report.new; report_faults = K.faults report.new })
+        × (has_hosted ending ≡ false → host.new ≡ host.old) }
     // What the host says of its own calls.
     ensures leads { H.leads host.old host.new }
     // When the words are no command; which faults there must have been, and where none was.
     ensures words { (result ≡ 2) ↔ (is_command (map string_bytes words.now) ≡ false) }
     ensures read { result ≡ 5 → Rose (S.faults settings.old) (S.faults settings.new)
-        ⊎ Rose (H.faults host.old) (H.faults host.new) }
+        ⊎ Rose (H.Wire.faults host.old) (H.Wire.faults host.new) }
     ensures heard { result ≢ 4 → result ≢ 5 → S.faults settings.new ≡ S.faults settings.old }
     ensures written { result ≡ 9 → Rose (K.faults report.old) (K.faults report.new) }
     // What isn't called: neither settings nor host for other words, nor the host where nothing was served.
     ensures unread { is_replay (map string_bytes words.now) ≡ false → (settings.new ≡ settings.old) × (host.new ≡ host.old) }
     ensures uncalled { 1 ≤ result → result ≤ 3 → host.new ≡ host.old }
-    // When the settings are refused, and when a run must go well, want of memory and 2^40 events without End aside.
+    // When there must have been a failure of the disk.
+    ensures disk { result ≡ 6 → Rose (H.Disk.faults host.old) (H.Disk.faults host.new) }
+    // When the settings are refused, and when a run must go well, want of memory and 2^40 events without End aside: where the disk holds what a
+    // server leaves there.
     ensures refused { is_replay (map string_bytes words.now) ≡ true → GivesFault (S.left settings.old)
         → ((result ≡ 3) × (S.faults settings.new ≡ S.faults settings.old)) ⊎ (result ≡ 4) ⊎ ((result ≡ 5) × Rose (S.faults settings.old) (S.faults settings.new)) }
-    ensures complete { is_replay (map string_bytes words.now) ≡ true → GivesSettings (S.left settings.old)
-        → ¬ (Rose (S.faults settings.old) (S.faults settings.new)) → ¬ (Rose (H.faults host.old) (H.faults host.new))
-        → ¬ (Rose (K.faults report.old) (K.faults report.new)) → (result ≡ 0) ⊎ (result ≡ 4) ⊎ (result ≡ 11) }
+    ensures complete { is_replay (map string_bytes words.now) ≡ true → IsReady (S.left settings.old) (H.media host.old) (H.extent host.old)
+        → ¬ (Rose (S.faults settings.old) (S.faults settings.new)) → ¬ (Rose (H.Wire.faults host.old) (H.Wire.faults host.new))
+        → ¬ (Rose (H.Disk.faults host.old) (H.Disk.faults host.new)) → ¬ (Rose (K.faults report.old) (K.faults report.new))
+        → (result ≡ 0) ⊎ (result ≡ 4) ⊎ (result ≡ 11) }
     // When a message is shown, and when a fault is, want of memory aside.
     ensures readable { is_show (map string_bytes words.now) ≡ true → IsReadable (second_of (map string_bytes words.now))
         → ¬ (Rose (K.faults report.old) (K.faults report.new)) → (result ≡ 0) ⊎ (result ≡ 4) }
@@ -75,12 +89,12 @@ fn ending_of<H: Host, S: Source, K: Sink>(
     report: &mut K,
 ) -> Ending
     ensures machine { Behaves result (map string_bytes words.now)
-        (record { left = S.left settings.old; source_faults = S.faults settings.old; acts = H.acts host.old; wire_faults = H.faults host.old; held = K.holds report.old; report_faults = K.faults report.old })
-        (record { left = S.left settings.new; source_faults = S.faults settings.new; acts = H.acts host.new; wire_faults = H.faults host.new; held = K.holds report.new; report_faults = K.faults report.new }) }
+        (record { left = S.left settings.old; source_faults = S.faults settings.old; acts = H.acts host.old; wire_faults = H.Wire.faults host.old; media = H.media host.old; extent = H.extent host.old; disk_faults = H.Disk.faults host.old; held = K.holds report.old; report_faults = K.faults report.old })
+        (record { left = S.left settings.new; source_faults = S.faults settings.new; acts = H.acts host.new; wire_faults = H.Wire.faults host.new; media = H.media host.new; extent = H.extent host.new; disk_faults = H.Disk.faults host.new; held = K.holds report.new; report_faults = K.faults report.new }) }
     ensures leads { H.leads host.old host.new }
     ensures heard { (result ≡ ending.NoMemory) ⊎ (result ≡ ending.SettingsFailed) ⊎ (S.faults settings.new ≡ S.faults settings.old) }
     ensures untouched { is_replay (map string_bytes words.now) ≡ false → (settings.new ≡ settings.old) × (host.new ≡ host.old) }
-    ensures uncalled { has_served result ≡ false → host.new ≡ host.old }
+    ensures uncalled { has_hosted result ≡ false → host.new ≡ host.old }
 {
     if let Some(word) = word_to_show(words) {
         match show_word(alloc, word, report) {
@@ -93,10 +107,7 @@ fn ending_of<H: Host, S: Source, K: Sink>(
         return Ending::WrongWords;
     }
     match read_settings(alloc, settings) {
-        Ok(settings) => match Server::begin(alloc, settings, 0) {
-            Ok(server) => return serve(server, host, report),
-            Err(_) => return Ending::NoMemory,
-        },
+        Ok(settings) => return host_events(alloc, settings, host, report),
         Err(SettingsFault::ReadFault) => return Ending::SettingsFailed,
         Err(SettingsFault::NoMemory) => return Ending::NoMemory,
         Err(fault) => {
@@ -124,21 +135,63 @@ fn show_word<K: Sink>(alloc: Global, word: &[u8], report: &mut K) -> Result<Show
     }
 }
 
+/// Recovers what the disk holds, and serves the events of the host from there.
+fn host_events<H: Host, K: Sink>(
+    alloc: Global,
+    settings: Settings,
+    host: &mut H,
+    report: &mut K,
+) -> Ending
+    ensures machine { (left left_now : Option (List ℕ)) (faults faults_now : ℕ) → ServesTo result settings
+        (record { left = left; source_faults = faults; acts = H.acts host.old; wire_faults = H.Wire.faults host.old; media = H.media host.old; extent = H.extent host.old; disk_faults = H.Disk.faults host.old; held = K.holds report.old; report_faults = K.faults report.old })
+        (record { left = left_now; source_faults = faults_now; acts = H.acts host.new; wire_faults = H.Wire.faults host.new; media = H.media host.new; extent = H.extent host.new; disk_faults = H.Disk.faults host.new; held = K.holds report.new; report_faults = K.faults report.new }) }
+    ensures hosted { has_hosted result ≡ true }
+    ensures leads { H.leads host.old host.new }
+{
+    match Server::begin(alloc, settings, host, 0) {
+        Ok(server) => return serve(server, host, report),
+        Err(fault) => {
+            write_refusal(&fault, report);
+            return Ending::Unrecovered(fault);
+        }
+    }
+}
+
 /// Serves the events of the host, and reports the filters that stand at End.
-fn serve<H: Host, K: Sink>(mut server: Server, host: &mut H, report: &mut K) -> Ending
-    ensures machine { (settings : SettingsValue) → StandsFor server settings begun → ServesTo result settings
-        (record { left = None; source_faults = 0; acts = H.acts host.old; wire_faults = H.faults host.old; held = K.holds report.old; report_faults = K.faults report.old })
-        (record { left = None; source_faults = 0; acts = H.acts host.new; wire_faults = H.faults host.new; held = K.holds report.new; report_faults = K.faults report.new }) }
-    ensures served { has_served result ≡ true }
+fn serve<H: Host, K: Sink>(server: Server, host: &mut H, report: &mut K) -> Ending
+    requires size { needed_of server.journal.slots ≤ H.extent host.old }
+    // Where the disk is told, the run from what it holds, and what was written of its last state.
+    ensures came { (settings : SettingsValue) (start : State) (held : List Entry) → IsKept server settings start held
+        → RestsWith (H.media host.old) (journal.StandsFor server.journal settings held)
+        → (how : Stop) × (end : Owing State) × Came settings start how (H.media host.old) (H.media host.new) (H.acts host.old) (H.acts host.new) end
+        × ((before now : Outside) → Counts before (K.holds report.old) (K.faults report.old) (H.Wire.faults host.old) (H.Disk.faults host.old)
+        → Counts now (K.holds report.new) (K.faults report.new) (H.Wire.faults host.new) (H.Disk.faults host.new) → Wrote result how settings end.last before now) }
+    // For every host, it is said of some state that has entries of the settings alone.
+    ensures any { (how : Stop) × (state : State) × (list_all (is_own server.settings) state.history ≡ true)
+        × ((before now : Outside) → Counts before (K.holds report.old) (K.faults report.old) (H.Wire.faults host.old) (H.Disk.faults host.old)
+        → Counts now (K.holds report.new) (K.faults report.new) (H.Wire.faults host.new) (H.Disk.faults host.new) → Wrote result how server.settings state before now) }
+    ensures hosted { has_hosted result ≡ true }
     ensures leads { H.leads host.old host.new }
 {
     let mut room = [0; MAX_EVENT_BYTES];
-    match take_events(&mut server, host, &mut room) {
-        Stop::Ended => match server.write_report(report) {
+    match take_events(server, host, &mut room) {
+        Ok(server) => match server.write_report(report) {
             Ok(()) => return Ending::Served(Stop::Ended),
             Err(_) => return Ending::ReportFailed,
         },
-        Stop::NextFailed => return Ending::Served(Stop::NextFailed),
-        Stop::TooMany => return Ending::Served(Stop::TooMany),
+        Err(how) => {
+            write_stop(how, report);
+            return Ending::Served(how);
+        }
+    }
+}
+
+/// Where the disk wasn't recovered at a restart, why not; and else nothing.
+fn write_stop<K: Sink>(how: Stop, report: &mut K)
+    ensures { WritesStop how (K.holds report.old) (K.holds report.new) (Rose (K.faults report.old) (K.faults report.new)) }
+{
+    match how {
+        Stop::Unrecovered(fault) => write_refusal(&fault, report),
+        Stop::Ended | Stop::NextFailed | Stop::TooMany | Stop::DiskFailed => {}
     }
 }

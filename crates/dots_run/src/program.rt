@@ -2,8 +2,8 @@
 
 ghost use Rattle.std.specs.Prelude.{◌≡◌, [], true, false, map, string_bytes, Option, Some, None, option_and_then, IfOk, OnErr, MatchOption};
 ghost use Rattle.std.specs.Fn.{FnOnceReturnsAt};
-ghost use Rattle.dots_host.specs.Memory.{told};
 ghost use Rattle.dots_script.specs.Accounts.{standing};
+ghost use Rattle.dots_run.specs.Scripted.{outside_first, outside_with};
 ghost use Rattle.dots_run.specs.Programs.{Runs, IsOpened};
 ghost use Rattle.dots_run.specs.Topics.{is_check_script};
 
@@ -58,30 +58,16 @@ pub fn run_program<
     ensures ran { IfOk words.now (λ list. is_check_script (map string_bytes list.items) ≡ false → (file : Option F) × IsOpened (FnOnceReturnsAt Open.FnOnce opening) (map string_bytes list.items) file
         × MatchOption result.host ((result.status ≡ 4) × (⟦<StdSource<F> as Source>⟧.left result.settings ≡ option_and_then F.remaining file) × (⟦<StdSink<R> as Sink>⟧.holds result.report ≡ R.contents report))
         (λ host. Runs (map string_bytes list.items) result.status
-        (record { left = option_and_then F.remaining file; source_faults = 0; acts = Some []; wire_faults = 0; held = R.contents report; report_faults = 0 })
-        (record {
-          left = ⟦<StdSource<F> as Source>⟧.left result.settings;
-          source_faults = ⟦<StdSource<F> as Source>⟧.faults result.settings;
-          acts = told host.disk.whole host.disk.acts;
-          wire_faults = host.faults;
-          held = ⟦<StdSink<R> as Sink>⟧.holds result.report;
-          report_faults = ⟦<StdSink<R> as Sink>⟧.faults result.report;
-        })
+        (outside_first (option_and_then F.remaining file) 0 (R.contents report) 0)
+        (outside_with (⟦<StdSource<F> as Source>⟧.left result.settings) (⟦<StdSource<F> as Source>⟧.faults result.settings) host (⟦<StdSink<R> as Sink>⟧.holds result.report) (⟦<StdSink<R> as Sink>⟧.faults result.report))
         (record { script = I.remaining input; held = O.contents sends; failures = 0 })
         (standing ⟦<StdSource<I> as Source>⟧.left ⟦<StdSource<I> as Source>⟧.faults ⟦<StdSink<O> as Sink>⟧.holds host) host.disk.whole)) }
     // With `check-script` the script stands in the place of the settings, no file is opened, and no script is left to be served.
     ensures checked { IfOk words.now (λ list. is_check_script (map string_bytes list.items) ≡ true → MatchOption result.checked ⊥ (λ script.
         MatchOption result.host ((result.status ≡ 4) × (⟦<StdSource<I> as Source>⟧.left script ≡ I.remaining input) × (⟦<StdSink<R> as Sink>⟧.holds result.report ≡ R.contents report))
         (λ host. Runs (map string_bytes list.items) result.status
-        (record { left = I.remaining input; source_faults = 0; acts = Some []; wire_faults = 0; held = R.contents report; report_faults = 0 })
-        (record {
-          left = ⟦<StdSource<I> as Source>⟧.left script;
-          source_faults = ⟦<StdSource<I> as Source>⟧.faults script;
-          acts = told host.disk.whole host.disk.acts;
-          wire_faults = host.faults;
-          held = ⟦<StdSink<R> as Sink>⟧.holds result.report;
-          report_faults = ⟦<StdSink<R> as Sink>⟧.faults result.report;
-        })
+        (outside_first (I.remaining input) 0 (R.contents report) 0)
+        (outside_with (⟦<StdSource<I> as Source>⟧.left script) (⟦<StdSource<I> as Source>⟧.faults script) host (⟦<StdSink<R> as Sink>⟧.holds result.report) (⟦<StdSink<R> as Sink>⟧.faults result.report))
         (record { script = None; held = O.contents sends; failures = 0 })
         (standing ⟦<StdSource<I> as Source>⟧.left ⟦<StdSource<I> as Source>⟧.faults ⟦<StdSink<O> as Sink>⟧.holds host) host.disk.whole))) }
 {
@@ -135,15 +121,8 @@ fn check_input<F: Read + Drop, I: Read + Drop, O: Write + Drop, R: Write + Drop>
     ensures { MatchOption result.checked ⊥ (λ script.
         MatchOption result.host ((result.status ≡ 4) × (⟦<StdSource<I> as Source>⟧.left script ≡ I.remaining input) × (result.report ≡ report))
         (λ host. Runs (map string_bytes words.now) result.status
-        (record { left = I.remaining input; source_faults = 0; acts = Some []; wire_faults = 0; held = ⟦<StdSink<R> as Sink>⟧.holds report; report_faults = ⟦<StdSink<R> as Sink>⟧.faults report })
-        (record {
-          left = ⟦<StdSource<I> as Source>⟧.left script;
-          source_faults = ⟦<StdSource<I> as Source>⟧.faults script;
-          acts = told host.disk.whole host.disk.acts;
-          wire_faults = host.faults;
-          held = ⟦<StdSink<R> as Sink>⟧.holds result.report;
-          report_faults = ⟦<StdSink<R> as Sink>⟧.faults result.report;
-        })
+        (outside_first (I.remaining input) 0 (⟦<StdSink<R> as Sink>⟧.holds report) (⟦<StdSink<R> as Sink>⟧.faults report))
+        (outside_with (⟦<StdSource<I> as Source>⟧.left script) (⟦<StdSource<I> as Source>⟧.faults script) host (⟦<StdSink<R> as Sink>⟧.holds result.report) (⟦<StdSink<R> as Sink>⟧.faults result.report))
         (record { script = None; held = O.contents sends; failures = 0 })
         (standing ⟦<StdSource<I> as Source>⟧.left ⟦<StdSource<I> as Source>⟧.faults ⟦<StdSink<O> as Sink>⟧.holds host) host.disk.whole)) }
 {

@@ -4,7 +4,7 @@ ghost use Rattle.std.specs.Prelude.{◌≡◌, ◌≢◌, ◌≤◌, ◌⊎◌, 
 ghost use Rattle.dots_host.specs.Causes.{Rose};
 ghost use Rattle.dots_machine.specs.declared.ending.Ending as endings;
 ghost use Rattle.dots_machine.specs.Commands.{is_replay, is_show, second_of};
-ghost use Rattle.dots_machine.specs.Endings.{status_of, has_served, Behaves, GivesFault, GivesSettings, IsReadable};
+ghost use Rattle.dots_machine.specs.Endings.{status_of, has_hosted, Behaves, GivesFault, IsReady, IsReadable};
 ghost use Rattle.dots_tell.specs.declared.topic.Topic as topics;
 ghost use Rattle.dots_tell.specs.declared.told.Told as tolds;
 ghost use Rattle.dots_tell.specs.Telling.{told_status, Tells, IsSound, IsAtFault};
@@ -12,15 +12,16 @@ ghost use Rattle.dots_run.specs.Topics.{is_check, is_check_script, topic_of, is_
 
 use crate::outcome::run_machine;
 use crate::topics::topic_of;
-use dots_host::{Host, Sink, Source};
+use dots_disk::Host;
+use dots_host::{Sink, Source};
 use dots_tell::tell;
 use std::alloc::Global;
 
 /// Does all that the program does, and answers its exit status.
 ///
 /// `words` are the command line's words without the program's name. With `replay SETTINGS` the settings are read
-/// from the source, the events are taken from the host, and at End the filters that stand are written to the
-/// report. With `show HEX` the lines of a message are written to the report, or that of its fault, and neither source
+/// from the source, what the host's disk holds is recovered, the events are taken from the host, and at End the filters that stand are written
+/// to the report. With `show HEX` the lines of a message are written to the report, or that of its fault, and neither source
 /// nor host is called. With `check SETTINGS` and `check-script` the source gives what is checked, and what it comes to, or its
 /// first fault and why it is one, is written to the report; with `help` and `version` the usage and the version are. None of these
 /// four calls the host.
@@ -31,12 +32,12 @@ pub fn run<H: Host, S: Source, K: Sink>(
     host: &mut H,
     report: &mut K,
 ) -> u8
-    // What the run has done, by the ending that its status is of. Where it didn't come to serve, the host was not called.
+    // What the run has done, by the ending that its status is of. Where it didn't come to its host, that was not called.
     ensures machine { topic_of (map string_bytes words.now) ≡ None → (ending : endings.Ending) × (result ≡ status_of ending)
         × Behaves ending (map string_bytes words.now)
-        (record { left = S.left settings.old; source_faults = S.faults settings.old; acts = H.acts host.old; wire_faults = H.faults host.old; held = K.holds report.old; report_faults = K.faults report.old })
-        (record { left = S.left settings.new; source_faults = S.faults settings.new; acts = H.acts host.new; wire_faults = H.faults host.new; held = K.holds report.new; report_faults = K.faults report.new })
-        × (has_served ending ≡ false → host.new ≡ host.old) }
+        (record { left = S.left settings.old; source_faults = S.faults settings.old; acts = H.acts host.old; wire_faults = H.Wire.faults host.old; media = H.media host.old; extent = H.extent host.old; disk_faults = H.Disk.faults host.old; held = K.holds report.old; report_faults = K.faults report.old })
+        (record { left = S.left settings.new; source_faults = S.faults settings.new; acts = H.acts host.new; wire_faults = H.Wire.faults host.new; media = H.media host.new; extent = H.extent host.new; disk_faults = H.Disk.faults host.new; held = K.holds report.new; report_faults = K.faults report.new })
+        × (has_hosted ending ≡ false → host.new ≡ host.old) }
     // What is told without serving, where the words ask for that: what was found in the source, and what of it was written.
     ensures told { (topic : topics.Topic) → topic_of (map string_bytes words.now) ≡ Some topic
         → (end : tolds.Told) × (result ≡ told_status end) × Tells topic end (S.left settings.old) (K.holds report.old) (K.holds report.new)
@@ -46,7 +47,7 @@ pub fn run<H: Host, S: Source, K: Sink>(
     // When the words are no line that the program knows; which faults there must have been, and where none was.
     ensures words { (result ≡ 2) ↔ (is_known (map string_bytes words.now) ≡ false) }
     ensures read { result ≡ 5 → Rose (S.faults settings.old) (S.faults settings.new)
-        ⊎ Rose (H.faults host.old) (H.faults host.new) }
+        ⊎ Rose (H.Wire.faults host.old) (H.Wire.faults host.new) }
     ensures heard { result ≢ 4 → result ≢ 5 → S.faults settings.new ≡ S.faults settings.old }
     ensures written { result ≡ 9 → Rose (K.faults report.old) (K.faults report.new) }
     // What isn't called: the source for words that name no file and check no script, nor the host where nothing was served.
@@ -54,12 +55,16 @@ pub fn run<H: Host, S: Source, K: Sink>(
         → is_check_script (map string_bytes words.now) ≡ false → settings.new ≡ settings.old }
     ensures unserved { is_replay (map string_bytes words.now) ≡ false → host.new ≡ host.old }
     ensures uncalled { 1 ≤ result → result ≤ 3 → host.new ≡ host.old }
-    // When the settings are refused, and when a run must go well, want of memory and 2^40 events without End aside.
+    // When there must have been a failure of the disk.
+    ensures disk { result ≡ 6 → Rose (H.Disk.faults host.old) (H.Disk.faults host.new) }
+    // When the settings are refused, and when a run must go well, want of memory and 2^40 events without End aside: where the disk holds what a
+    // server leaves there.
     ensures refused { is_replay (map string_bytes words.now) ≡ true → GivesFault (S.left settings.old)
         → ((result ≡ 3) × (S.faults settings.new ≡ S.faults settings.old)) ⊎ (result ≡ 4) ⊎ ((result ≡ 5) × Rose (S.faults settings.old) (S.faults settings.new)) }
-    ensures complete { is_replay (map string_bytes words.now) ≡ true → GivesSettings (S.left settings.old)
-        → ¬ (Rose (S.faults settings.old) (S.faults settings.new)) → ¬ (Rose (H.faults host.old) (H.faults host.new))
-        → ¬ (Rose (K.faults report.old) (K.faults report.new)) → (result ≡ 0) ⊎ (result ≡ 4) ⊎ (result ≡ 11) }
+    ensures complete { is_replay (map string_bytes words.now) ≡ true → IsReady (S.left settings.old) (H.media host.old) (H.extent host.old)
+        → ¬ (Rose (S.faults settings.old) (S.faults settings.new)) → ¬ (Rose (H.Wire.faults host.old) (H.Wire.faults host.new))
+        → ¬ (Rose (H.Disk.faults host.old) (H.Disk.faults host.new)) → ¬ (Rose (K.faults report.old) (K.faults report.new))
+        → (result ≡ 0) ⊎ (result ≡ 4) ⊎ (result ≡ 11) }
     // When a message is shown, and when a fault is, want of memory aside.
     ensures readable { is_show (map string_bytes words.now) ≡ true → IsReadable (second_of (map string_bytes words.now))
         → ¬ (Rose (K.faults report.old) (K.faults report.new)) → (result ≡ 0) ⊎ (result ≡ 4) }

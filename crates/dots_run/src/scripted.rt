@@ -1,8 +1,8 @@
 //! The top call over a script.
 
 ghost use Rattle.std.specs.Prelude.{◌≡◌, [], map, string_bytes, Some, None, IfSome};
-ghost use Rattle.dots_host.specs.Memory.{told};
 ghost use Rattle.dots_script.specs.Accounts.{standing};
+ghost use Rattle.dots_run.specs.Scripted.{outside_first, outside_with};
 ghost use Rattle.dots_run.specs.Programs.{Runs};
 
 use crate::running::run;
@@ -36,8 +36,8 @@ pub fn run_script<P: Source + Drop, K: Sink + Drop, S: Source, R: Sink>(
     ensures lacks { result.host ≡ None → (result.status ≡ 4) × (settings.new ≡ settings.old) × (report.new ≡ report.old) }
     // With one: what the run has done.
     ensures runs { IfSome result.host (λ host. Runs (map string_bytes words.now) result.status
-        (record { left = S.left settings.old; source_faults = S.faults settings.old; acts = Some []; wire_faults = 0; held = R.holds report.old; report_faults = R.faults report.old })
-        (record { left = S.left settings.new; source_faults = S.faults settings.new; acts = told host.disk.whole host.disk.acts; wire_faults = host.faults; held = R.holds report.new; report_faults = R.faults report.new })
+        (outside_first (S.left settings.old) (S.faults settings.old) (R.holds report.old) (R.faults report.old))
+        (outside_with (S.left settings.new) (S.faults settings.new) host (R.holds report.new) (R.faults report.new))
         (record { script = P.left script; held = K.holds sends; failures = P.faults script })
         (standing P.left P.faults K.holds host) host.disk.whole) }
 {

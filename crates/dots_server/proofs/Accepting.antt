@@ -1,5 +1,5 @@
 -- What is accepted can be taken.
-use Rattle.std.proofs.Common.{◌≡◌, ℕ, ◌≤◌, ◌<◌, ◌^◌, Bool, true, false, ◌&&◌, nat_le, List, length, Option, None, Result, Ok, Err, refl, sym, ap, ◌∙◌, subst, arith}
+use Rattle.std.proofs.Common.{◌≡◌, ℕ, ◌≤◌, ◌<◌, ◌^◌, true, false, nat_le, List, length, None, Ok, refl, sym, ap, ◌∙◌, subst, arith}
 use Rattle.std.proofs.lemmas.Bool.{and_from}
 use Rattle.std.proofs.lemmas.Bool.Decides.{nat_tests}
 use Rattle.dots_lists.specs.Name.{is_name}
@@ -8,8 +8,11 @@ use Rattle.dots_settings.specs.Settings.{SettingsValue}
 use Rattle.dots_settings.specs.Lookups.{role_of, prefixes_of}
 use Rattle.dots_history.specs.declared.entry.Entry.{Entry}
 use Rattle.dots_history.specs.declared.change.Change.TheVariants as change
-use Rattle.dots_history.specs.Bounds.{asked_within, within_bounds}
+use Rattle.dots_history.specs.Bounds.{asked_within}
+use Rattle.dots_history.specs.Histories.{mitigations}
 use Rattle.dots_laws.specs.Calm.{may_act, is_own}
+use Rattle.dots_laws.specs.Fits.{has_one_peer}
+use Rattle.dots_laws.specs.Tables.{Client}
 use Rattle.dots_keys.specs.Askable.{AreFew}
 use Rattle.put_judging.specs.declared.judging.Judged.{Judged}
 use Rattle.dots_registry.specs.Standing.{time_of}
@@ -18,11 +21,12 @@ use Rattle.judged_entries.specs.Limits.{ClientsKeepLimits}
 use Rattle.judged_entries.proofs.Inside.{own_granted, own_withdrawal}
 use Rattle.judged_entries.proofs.Bounded.{bounded_granted, bounded_withdrawal}
 use Rattle.judged_entries.proofs.Fitting.{fits_granted, fits_withdrawal}
+use Rattle.judged_entries.proofs.OnePeer.{free_is_one_peer, granted_is_free}
 use Rattle.dots_machine.specs.declared.client_request.ClientRequest.{ClientRequest}
 use Rattle.dots_machine.specs.declared.mitigation_request.MitigationRequest.{MitigationRequest}
 use Rattle.dots_machine.specs.Targets.{scope_fault}
-use Rattle.dots_machine.specs.Replies.{granting, deleted}
-use Rattle.dots_machine.specs.Mitigations.{request_of, entry_of}
+use Rattle.dots_machine.specs.Mitigations.{request_of, client_for, entry_of}
+use Rattle.dots_machine.specs.Verdicts.{is_taken}
 use Rattle.dots_machine.specs.Machine.{State}
 use Rattle.dots_server.specs.Standing.{ServerValue, StandsFor, IsAcceptable}
 use Rattle.dots_server.proofs.Insides.{lies_inside}
@@ -69,10 +73,16 @@ module _ (server : ServerValue) (asked : MitigationRequest) (judged : Judged) (r
         judged_so refl refl refl refl)
         refl here refl refl refl refl;
     own = owned;
+    one_peer = λ settings state stands.
+        let client : Client = record { domain = asked.from.domain; cuid = asked.from.cuid } in
+        subst (λ t. has_one_peer entry_put (mitigations t state.history) ≡ true) (sym stands.time_is)
+        (free_is_one_peer state.time state.history asked.from.peer client entry_put
+        (granted_is_free settings state.time state.history asked.from.domain (request_of asked) judged (is settings state stands)) refl refl refl);
   }
 
 module _ (server : ServerValue) (from : ClientRequest) (mid : ℕ) (reply : List ℕ) (may : may_act server.settings (role_of server.settings from.peer) from.domain ≡ true)
-    (named : is_name from.cuid ≡ true) (short : length reply ≤ 64) where
+    (named : is_name from.cuid ≡ true) (short : length reply ≤ 64)
+    (free : (settings : SettingsValue) (state : State) → StandsFor server settings state → is_taken state.time state.history from ≡ false) where
   abbrev entry_withdrawn : Entry
   entry_withdrawn = entry_of (time_of server.registry) from reply (change.Withdraw mid)
 
@@ -91,4 +101,7 @@ module _ (server : ServerValue) (from : ClientRequest) (mid : ℕ) (reply : List
         (bounded_withdrawal mid entry_withdrawn refl early named short)
         refl;
     own = withdrawn_owned;
+    one_peer = λ settings state stands.
+        subst (λ t. has_one_peer entry_withdrawn (mitigations t state.history) ≡ true) (sym stands.time_is)
+        (free_is_one_peer state.time state.history from.peer (client_for from) entry_withdrawn (free settings state stands) refl refl refl);
   }

@@ -1,5 +1,5 @@
 -- The body of a grant is short.
-use Rattle.std.proofs.Common.{◌≡◌, ℕ, ℤ, pos, negsuc, ◌+◌, ◌≤◌, ◌^◌, nat_lt, Bool, true, false, cond, List, [], ◌∷◌, ◌++◌, length, length-append, arith, refl}
+use Rattle.std.proofs.Common.{◌≡◌, ℕ, ℤ, pos, negsuc, ◌≤◌, ◌^◌, nat_lt, Bool, true, false, cond, [], ◌∷◌, length, length-append, arith, refl}
 use Rattle.std.proofs.lemmas.Bool.{false≢true}
 use Rattle.std.specs.Int.{w16, w32, w64, to_be_bytes}
 use Rattle.cbor_profile.specs.Head.{following, head}

@@ -8,7 +8,6 @@ use Rattle.dots_settings.specs.Settings.{SettingsValue}
 use Rattle.dots_settings.specs.Lookups.{addresses_of}
 use Rattle.dots_history.specs.Histories.{or_else}
 use Rattle.dots_laws.specs.Calm.{all_inside, name_inside}
-use Rattle.dots_machine.specs.declared.target.TargetFault.{TargetFault}
 use Rattle.dots_machine.specs.declared.target.TargetFault.TheVariants.{NotATarget, OutsideDomain}
 use Rattle.dots_machine.specs.Targets.{is_target, prefix_fault, first_fault, fault_of_addresses, name_fault, scope_fault}
 

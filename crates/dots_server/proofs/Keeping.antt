@@ -1,92 +1,155 @@
 -- What a server stands for, as it goes on.
-use Rattle.std.proofs.Common.{◌≡◌, ℕ, ◌<◌, ◌^◌, Bool, true, false, ◌&&◌, List, [], ◌∷◌, ◌++◌, max, refl, sym, ap, ◌∙◌, subst, arith, ◌⊎◌, inl, inr}
+use Rattle.std.proofs.Common.{◌≡◌, ℕ, ◌<◌, ◌^◌, Bool, true, ◌&&◌, nat_le, List, [], ◌∷◌, ◌++◌, max, refl, sym, ap, ◌∙◌, subst, arith, ◌⊎◌, inl, inr}
 use Rattle.std.specs.List.{list_all}
-use Rattle.std.proofs.lemmas.Bool.{and_parts}
+use Rattle.std.proofs.lemmas.Bool.{and_parts, and_from}
 use Rattle.std.proofs.lemmas.List.Folds.{list_all-append}
 use Rattle.dots_host.specs.declared.event.What.{What}
 use Rattle.dots_host.specs.declared.event.What.TheVariants as what_is
 use Rattle.dots_host.specs.Acts.{event_of}
+use Rattle.dots_settings.specs.declared.limits.Limits.{Limits}
 use Rattle.dots_settings.specs.Settings.{SettingsValue}
 use Rattle.dots_history.specs.declared.entry.Entry.{Entry}
 use Rattle.dots_history.specs.Bounds.{within_bounds}
-use Rattle.dots_laws.specs.Calm.{is_own}
-use Rattle.dots_registry.specs.Standing.{RegistryValue, IsOf, time_of}
-use Rattle.dots_registry.specs.Standing as registry
-use Rattle.dots_registry.specs.Fitting.{FitsIn}
+use Rattle.dots_history.specs.Histories.{Kept, mitigations}
+use Rattle.dots_laws.specs.Calm.{is_of_settings, came_rightly, is_own}
+use Rattle.dots_laws.specs.Fits.{last_time, has_one_peer, fits, joins}
+use Rattle.dots_laws.proofs.Joining.{last_of_push}
+use Rattle.dots_registry.specs.Standing.{time_of, number_remembered}
+use Rattle.slot_store.specs.Standing.{JournalValue}
+use Rattle.dots_ledger.specs.Standing.{CanAccept, joins_at}
+use Rattle.dots_ledger.specs.Standing as ledger
 use Rattle.judged_entries.specs.Limits.{ClientsKeepLimits}
-use Rattle.judged_entries.proofs.Fitting.{limits_empty, limits_later, limits_fitting}
-use Rattle.dots_machine.specs.Machine.{State, begun_at, later, with_entry, Step}
-use Rattle.dots_server.specs.Standing.{ServerValue, StandsFor, IsLiving, IsAcceptable}
+use Rattle.judged_entries.proofs.Fitting.{limits_later, limits_fitting}
+use Rattle.dots_machine.specs.Machine.{State, later, with_entry, Step}
+use Rattle.dots_server.specs.Standing.{ServerValue, ledger_of, StandsFor, StandsWith, IsKept, IsLiving, IsAcceptable}
 
--- a server that begins
-pub stands_first : (settings : SettingsValue) (at : ℕ) (r : RegistryValue) → at < 2 ^ 48 → IsOf settings r → registry.StandsFor r [] → time_of r ≡ at
-    → StandsFor (record { settings = settings; registry = r }) settings (begun_at at)
-stands_first settings at r early is_of stands time =
-    record { settings_are = refl; is_of = is_of; registry = stands; time_is = time; early = early; own = refl; bounded = refl; limits = limits_empty settings.limits at }
+-- ---- the time of the tables was moved
 
--- the time of the registry was moved
-module _ (at : ℕ) (old new : ServerValue) (early : at < 2 ^ 48) (same : new.settings ≡ old.settings) (time : time_of new.registry ≡ max at (time_of old.registry))
-    (goes : (entries : List Entry) → registry.StandsFor old.registry entries → registry.StandsFor new.registry entries)
-    (keeps : (s : SettingsValue) → IsOf s old.registry → IsOf s new.registry) where
-  pub stands_later : (settings : SettingsValue) (state : State) → StandsFor old settings state → StandsFor new settings (later state at)
-  stands_later settings state stands = record {
-    settings_are = same ∙ stands.settings_are;
-    is_of = keeps settings stands.is_of;
-    registry = goes state.history stands.registry;
-    time_is = time ∙ ap (max at) stands.time_is;
-    early = omega (arith, early, stands.early);
-    own = stands.own;
-    bounded = stands.bounded;
-    limits = limits_later settings.limits state.time (max at state.time) state.history (omega arith) stands.limits;
-  }
+module _ (at : ℕ) (old new : ServerValue) (early : at < 2 ^ 48) (same : new.settings ≡ old.settings) (journal : new.journal ≡ old.journal) (time : time_of new.registry ≡ max at (time_of old.registry))
+    (goes : (settings : SettingsValue) (history entries : List Entry) → ledger.StandsFor (ledger_of old) settings history entries → ledger.StandsFor (ledger_of new) settings history entries) where
+  with_later : (settings : SettingsValue) (state : State) (entries : List Entry) → StandsWith old settings state entries → StandsWith new settings (later state at) entries
+  with_later settings state entries stands =
+      let tables = goes settings state.history entries stands.ledger in
+      let young = stands.stands.early in record {
+        stands = record {
+          settings_are = same ∙ stands.stands.settings_are;
+          is_of = tables.is_of;
+          registry = tables.registry;
+          time_is = time ∙ ap (max at) stands.stands.time_is;
+          early = omega (arith, early, young);
+          own = stands.stands.own;
+          bounded = stands.stands.bounded;
+          limits = limits_later settings.limits state.time (max at state.time) state.history (omega arith) stands.stands.limits;
+        };
+        ledger = tables;
+        slots = ap (λ (j : JournalValue). j.slots) journal ∙ stands.slots;
+      }
+
+  pub kept_later : (settings : SettingsValue) (state : State) (entries : List Entry) → IsKept old settings state entries → IsKept new settings (later state at) entries
+  kept_later settings state entries kept = record { stands = with_later settings state entries kept.stands; rests = kept.rests }
 
   pub lives_later : IsLiving old → IsLiving new
   lives_later living = record {
     state = later living.state at;
-    stands = subst (λ s. StandsFor new s (later living.state at)) (sym same) (stands_later old.settings living.state living.stands);
+    entries = living.entries;
+    stands = subst (λ s. StandsWith new s (later living.state at) living.entries) (sym same) (with_later old.settings living.state living.entries living.stands);
   }
+
+-- ---- an entry is taken
 
 list_with : {A : Type 0} (test : A → Bool) (xs : List A) (x : A) → list_all test xs ≡ true → test x ≡ true → list_all test (xs ++ x ∷ []) ≡ true
 list_with test xs x all one = list_all-append test xs (x ∷ []) ∙ ap (λ b. b && (test x && true)) all ∙ ap (λ b. b && true) one
 
--- an entry that can be taken fits some history
-pub fits_in : (server : ServerValue) (entry : Entry) → IsLiving server → IsAcceptable server entry → FitsIn server.registry entry
-fits_in server entry living can = record {
+pub own_with : (settings : SettingsValue) (server : ServerValue) (state : State) (entry : Entry) → StandsFor server settings state → IsAcceptable server entry
+    → list_all (is_own settings) (with_entry state entry).history ≡ true
+own_with settings server state entry stands can = list_with (is_own settings) state.history entry stands.own (can.own settings state stands)
+
+-- an entry that can be taken joins each history for which the server stands
+pub joins_there : (server : ServerValue) (settings : SettingsValue) (state : State) (entry : Entry) → StandsFor server settings state → IsAcceptable server entry
+    → joins_at settings (time_of server.registry) state.history entry ≡ true
+joins_there server settings state entry stands can =
+    let t = time_of server.registry in
+    let bounded = and_parts (within_bounds entry) (nat_le t entry.time && fits settings state.history entry) (can.fits settings state stands) in
+    let timed = and_parts (nat_le t entry.time) (fits settings state.history entry) bounded.1 in
+    let own = and_parts (is_of_settings settings entry) (came_rightly entry) (can.own settings state stands) in
+    and_from (within_bounds entry) (nat_le t entry.time && joins settings state.history entry) bounded.0
+    (and_from (nat_le t entry.time) (joins settings state.history entry) timed.0
+    (and_from (fits settings state.history entry) (came_rightly entry && has_one_peer entry (mitigations entry.time state.history)) timed.1
+    (and_from (came_rightly entry) (has_one_peer entry (mitigations entry.time state.history)) own.1 (can.one_peer settings state stands))))
+
+pub can_accept : (server : ServerValue) (entry : Entry) → IsLiving server → IsAcceptable server entry → CanAccept (ledger_of server) entry
+can_accept server entry living can = record {
   settings = server.settings;
-  entries = living.state.history;
-  is_of = living.stands.is_of;
-  stands = living.stands.registry;
-  fits = can.fits server.settings living.state living.stands;
+  history = living.state.history;
+  entries = living.entries;
+  stands = living.stands.ledger;
+  joins = joins_there server server.settings living.state entry living.stands.stands can;
 }
 
--- an entry was taken
-module _ (entry : Entry) (old new : ServerValue) (can : IsAcceptable old entry) (same : new.settings ≡ old.settings) (time : time_of new.registry ≡ entry.time)
-    (goes : (entries : List Entry) → registry.StandsFor old.registry entries → registry.StandsFor new.registry (entries ++ entry ∷ []))
-    (keeps : (s : SettingsValue) → IsOf s old.registry → IsOf s new.registry) where
-  pub stands_with : (settings : SettingsValue) (state : State) → StandsFor old settings state → StandsFor new settings (with_entry state entry)
-  stands_with settings state stands =
-      let fits = and_parts _ _ (can.fits settings state stands) in
-      let at : entry.time ≡ state.time = can.now ∙ stands.time_is in record {
-        settings_are = same ∙ stands.settings_are;
-        is_of = keeps settings stands.is_of;
-        registry = goes state.history stands.registry;
-        time_is = time ∙ at;
-        early = stands.early;
-        own = list_with (is_own settings) state.history entry stands.own (can.own settings state stands);
-        bounded = list_with within_bounds state.history entry stands.bounded fits.0;
-        limits = subst (λ t. ClientsKeepLimits settings.limits t (state.history ++ entry ∷ [])) at
-            (limits_fitting settings state.time state.history entry stands.limits (omega (arith, at)) (and_parts _ _ fits.1).1);
+module _ (entry : Entry) (old new : ServerValue) (can : IsAcceptable old entry) (same : new.settings ≡ old.settings) (slots : new.journal.slots ≡ old.journal.slots) (time : time_of new.registry ≡ entry.time) where
+  -- it is in the tables and on the disk
+  with_entry_kept : (settings : SettingsValue) (state : State) (entries few : List Entry) → StandsWith old settings state entries → ledger.StandsFor (ledger_of new) settings (state.history ++ entry ∷ []) few
+      → StandsWith new settings (with_entry state entry) few
+  with_entry_kept settings state entries few stands tables =
+      let fits = and_parts _ _ (can.fits settings state stands.stands) in
+      let at : entry.time ≡ state.time = can.now ∙ stands.stands.time_is in record {
+        stands = record {
+          settings_are = same ∙ stands.stands.settings_are;
+          is_of = tables.is_of;
+          registry = tables.registry;
+          time_is = time ∙ at;
+          early = stands.stands.early;
+          own = own_with settings old state entry stands.stands can;
+          bounded = list_with within_bounds state.history entry stands.stands.bounded fits.0;
+          limits = subst (λ t. ClientsKeepLimits settings.limits t (state.history ++ entry ∷ [])) at
+              (limits_fitting settings state.time state.history entry stands.stands.limits (omega (arith, at)) (and_parts _ _ fits.1).1);
+        };
+        ledger = tables;
+        slots = slots ∙ stands.slots;
       }
 
-  pub lives_with : IsLiving old → IsLiving new
-  lives_with living = record {
-    state = with_entry living.state entry;
-    stands = subst (λ s. StandsFor new s (with_entry living.state entry)) (sym same) (stands_with old.settings living.state living.stands);
+  -- the entries have the view of the history at the entry's time, which is that of the last entry
+  pub kept_with : (settings : SettingsValue) (state : State) (entries few : List Entry) → StandsWith old settings state entries → ledger.StandsFor (ledger_of new) settings (state.history ++ entry ∷ []) few
+      → IsKept new settings (with_entry state entry) few
+  kept_with settings state entries few stands tables = record {
+    stands = with_entry_kept settings state entries few stands tables;
+    rests = subst (λ n. Kept n (last_time (state.history ++ entry ∷ [])) few (state.history ++ entry ∷ [])) (ap (λ (limits : Limits). limits.remembered) tables.is_of.limits)
+        (subst (λ t. Kept (number_remembered new.registry) t few (state.history ++ entry ∷ [])) (time ∙ sym (last_of_push state.history entry)) tables.kept);
   }
+
+  pub lives_with : (few : List Entry) → (living : IsLiving old) → ledger.StandsFor (ledger_of new) old.settings (living.state.history ++ entry ∷ []) few → IsLiving new
+  lives_with few living tables = record {
+    state = with_entry living.state entry;
+    entries = few;
+    stands = subst (λ s. StandsWith new s (with_entry living.state entry) few) (sym same) (with_entry_kept old.settings living.state living.entries few living.stands tables);
+  }
+
+-- the disk failed, and the tables are as they were
+pub lives_still : (old new : ServerValue) (few : List Entry) (living : IsLiving old) → new.settings ≡ old.settings → new.journal.slots ≡ old.journal.slots → time_of new.registry ≡ time_of old.registry
+    → ledger.StandsFor (ledger_of new) old.settings living.state.history few → IsLiving new
+lives_still old new few living same slots time tables =
+    let stands = living.stands in record {
+      state = living.state;
+      entries = few;
+      stands = subst (λ s. StandsWith new s living.state few) (sym same) (record {
+        stands = record {
+          settings_are = same;
+          is_of = tables.is_of;
+          registry = tables.registry;
+          time_is = time ∙ stands.stands.time_is;
+          early = stands.stands.early;
+          own = stands.stands.own;
+          bounded = stands.stands.bounded;
+          limits = stands.stands.limits;
+        };
+        ledger = tables;
+        slots = slots ∙ stands.slots;
+      });
+    }
 
 abbrev pub MovesAlone : What → Type 0
 MovesAlone what =
-    ((c : ℕ) × (p : ℕ) × (what ≡ what_is.Opened c p)) ⊎ ((c : ℕ) × (n : ℕ) × (what ≡ what_is.Piece c n)) ⊎ ((c : ℕ) × (what ≡ what_is.Closed c)) ⊎ (what ≡ what_is.Tick) ⊎ (what ≡ what_is.Restart)
+    ((c : ℕ) × (p : ℕ) × (what ≡ what_is.Opened c p)) ⊎ ((c : ℕ) × (n : ℕ) × (what ≡ what_is.Piece c n)) ⊎ ((c : ℕ) × (what ≡ what_is.Closed c)) ⊎ (what ≡ what_is.Tick)
 
 -- an event that isn't served yet moves the time and no more
 pub moves_alone : (settings : SettingsValue) (what : What) (room : List ℕ) (at : ℕ) (state : State) → MovesAlone what → Step settings state (event_of what room) at [] (later state at)
@@ -99,10 +162,4 @@ moves_alone settings what room at state is = by_case is
     by_case (inl (c, p, e)) = so (what_is.Opened c p) e (refl, refl)
     by_case (inr (inl (c, n, e))) = so (what_is.Piece c n) e (refl, refl)
     by_case (inr (inr (inl (c, e)))) = so (what_is.Closed c) e (refl, refl)
-    by_case (inr (inr (inr (inl e)))) = so what_is.Tick e (refl, refl)
-    by_case (inr (inr (inr (inr e)))) = so what_is.Restart e (refl, refl)
-
--- the end and a failure of the host leave all as it is
-pub rests : (settings : SettingsValue) (what : What) (room : List ℕ) (at : ℕ) (state : State) → ((what ≡ what_is.End) ⊎ (what ≡ what_is.Failed)) → Step settings state (event_of what room) at [] state
-rests settings what room at state (inl e) = subst (λ w. Step settings state (event_of w room) at [] state) (sym e) (refl, refl)
-rests settings what room at state (inr e) = subst (λ w. Step settings state (event_of w room) at [] state) (sym e) (refl, refl)
+    by_case (inr (inr (inr e))) = so what_is.Tick e (refl, refl)

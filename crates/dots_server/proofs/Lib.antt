@@ -3,6 +3,8 @@ pub mod Accepting
 pub mod Bodies
 pub mod CommaTexts
 pub mod Keeping
+pub mod Beginning
+pub mod Turning
 pub mod Puts
 pub mod Received
 pub mod Reports

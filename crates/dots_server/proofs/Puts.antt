@@ -1,7 +1,7 @@
 -- Texts that are put one after the other.
-use Rattle.std.proofs.Common.{◌≡◌, ℕ, ◌<◌, ◌≤◌, Bool, true, false, zero, suc, List, [], ◌∷◌, ◌++◌, length, get_or, take, drop, flat_map, Option, Result, Ok, Err, OnOk, OnErr, inl, inr, ◌⊎◌, sym, ap, ◌∙◌, subst, refl, arith, append_assoc, append-nil}
+use Rattle.std.proofs.Common.{◌≡◌, ℕ, ◌<◌, ◌≤◌, Bool, true, false, zero, suc, List, [], ◌∷◌, ◌++◌, length, get_or, take, flat_map, Option, sym, ap, ◌∙◌, subst, arith, append_assoc, append-nil}
 use Rattle.std.specs.Io.KnownBytes.{Appends}
-use Rattle.dots_host.specs.Causes.{Rose, HasCause}
+use Rattle.dots_host.specs.Causes.{Rose}
 use Rattle.dots_host.specs.Writing.{Owes, AppendsBeginning}
 use Rattle.dots_host.proofs.WriteLemmas.{owes_less, owes_none, owes_lost, begun_longer}
 use Rattle.dots_server.specs.Gathering.{Gathered, Sunk, HasWritten, Puts}

@@ -1,5 +1,5 @@
 -- What is received, and what is decided on it.
-use Rattle.std.proofs.Common.{◌≡◌, ◌≢◌, ◌/◌, ◌==◌, ℕ, Bool, true, false, not, cond, List, [], ◌∷◌, Option, Some, None, Result, Ok, Err, inl, inr, refl, sym, ap, ◌∙◌, subst, arith}
+use Rattle.std.proofs.Common.{◌≡◌, ◌≢◌, ◌/◌, ◌==◌, ℕ, Bool, true, false, not, cond, List, Some, None, Result, Ok, Err, inl, inr, refl, ap, ◌∙◌, subst, arith}
 use Rattle.std.specs.Prelude.{IsOk}
 use Rattle.std.proofs.lemmas.Bool.Decides.{nat_tests}
 use Rattle.coap_message.specs.Message.{CoapMessage}
@@ -22,7 +22,7 @@ use Rattle.dots_machine.specs.Domains.{is_gateway}
 use Rattle.dots_machine.specs.Exchanges.{exchange_in, may_ask, rejected, dismissed}
 use Rattle.dots_machine.specs.Requests.{received_as, IsReceived, unread, asks_nothing, meant}
 use Rattle.dots_machine.specs.Replies.{unavailable}
-use Rattle.dots_machine.specs.Machine.{State, is_stranger, LacksMemory, Decides, by_rules, for_want_of_memory}
+use Rattle.dots_machine.specs.Machine.{State, is_stranger, Decides, by_rules, for_want_of_memory}
 use Rattle.dots_machine.proofs.Verdicts.{ruled}
 use Rattle.dots_server.specs.Receiving.{Lacks}
 use Rattle.dots_server.specs.Asking.{IsUnavailable, DecidesOn}

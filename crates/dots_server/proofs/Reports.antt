@@ -1,5 +1,5 @@
 -- The report of a server is the machine's.
-use Rattle.std.proofs.Common.{◌≡◌, ℕ, ◌+◌, ◌<◌, zero, suc, List, [], ◌∷◌, ◌++◌, length, take, get_or, map, filter, flat_map, codes, decimal, false, true, refl, sym, ap, ◌∙◌, arith, append_assoc, append-nil}
+use Rattle.std.proofs.Common.{◌≡◌, ℕ, ◌+◌, ◌<◌, zero, suc, List, [], ◌∷◌, ◌++◌, length, take, get_or, map, filter, flat_map, codes, decimal, false, refl, sym, ap, ◌∙◌, arith, append_assoc, append-nil}
 use Rattle.dots_host.proofs.WriteLemmas.{owes_all}
 use Rattle.filter_rows.specs.declared.rows.ScrubRow.{ScrubRow}
 use Rattle.acl_lists.specs.declared.packet.Packet.{Packet}

@@ -113,7 +113,7 @@ pub reply_is_short : (server : ServerValue) (peer domain id : ℕ) (reply : List
     → ((entries : List Entry) → registry.StandsFor server.registry entries
     → Some reply ≡ reply_in (remembered (number_remembered server.registry) (time_of server.registry) peer domain id entries))
     → length reply ≤ 64
-reply_is_short server peer domain id reply living is = by_found found refl (is living.state.history living.stands.registry)
+reply_is_short server peer domain id reply living is = by_found found refl (is living.state.history living.stands.stands.registry)
   where
     found : Option Entry
     found = remembered (number_remembered server.registry) (time_of server.registry) peer domain id living.state.history
@@ -122,7 +122,7 @@ reply_is_short server peer domain id reply living is = by_found found refl (is l
     by_found None at same = absurd (none-some reply (sym same))
     by_found (Some e) at same =
         subst (λ reply. length reply ≤ 64) (sym (same_Some reply e.reply same))
-        (remembered_within (number_remembered server.registry) (time_of server.registry) peer domain id living.state.history e living.stands.bounded at)
+        (remembered_within (number_remembered server.registry) (time_of server.registry) peer domain id living.state.history e living.stands.stands.bounded at)
 
 -- ---- on a request for a mitigation
 module _ (server : ServerValue) (settings : SettingsValue) (state : State) (a : MitigationRequest) (stands : StandsFor server settings state) where

@@ -1,9 +1,8 @@
 -- For which domain is asked, and what is decided on what was received.
-use Rattle.std.specs.Prelude.{◌≡◌, ◌⊎◌, ℕ, false, bytes_eq, List, length, position, Option, Some, None}
+use Rattle.std.specs.Prelude.{◌≡◌, ◌⊎◌, ℕ, bytes_eq, List, length, position, Option, Some, None}
 use Rattle.dots_settings.specs.declared.peer.Role.{Role}
 use Rattle.dots_settings.specs.declared.peer.Role.TheVariants as role
 use Rattle.dots_settings.specs.Settings.{SettingsValue, IsKnown}
-use Rattle.dots_machine.specs.declared.exchange.Exchange.{Exchange}
 use Rattle.dots_machine.specs.declared.received.Received.{Received}
 use Rattle.dots_machine.specs.declared.received.Received.TheVariants as received
 use Rattle.dots_machine.specs.declared.verdict.Verdict.{Verdict}

@@ -1,4 +1,5 @@
 pub mod Standing
+pub mod Turning
 pub mod Receiving
 pub mod Asking
 pub mod Gathering

@@ -1,6 +1,6 @@
 //! What a server decides on requests for mitigations.
 
-ghost use Rattle.std.specs.Prelude.{◌≡◌, ◌≢◌, ◌≤◌, List, ◌++◌, ◌∷◌, [], map, filter, length, true, false, IfOk, OnOk, None};
+ghost use Rattle.std.specs.Prelude.{◌≡◌, ◌≢◌, ◌≤◌, ◌<◌, List, ◌++◌, ◌∷◌, [], map, filter, length, true, false, IfOk, OnOk, None};
 ghost use Rattle.std.specs.List.{list_any};
 ghost use Rattle.dots_keys.specs.Askable.{IsAskableBody};
 ghost use Rattle.dots_settings.specs.Settings.{SettingsValue};
@@ -9,7 +9,7 @@ ghost use Rattle.dots_laws.specs.Calm.{may_act};
 ghost use Rattle.dots_history.specs.declared.entry.Entry.{Entry};
 ghost use Rattle.put_judging.specs.Results.{Gives};
 ghost use Rattle.put_judging.specs.declared.fault.PutFault.TheVariants as faults;
-ghost use Rattle.dots_registry.specs.Standing.{time_of};
+ghost use Rattle.dots_registry.specs.Standing.{time_of, domains_of};
 ghost use Rattle.dots_registry.specs.Standing as registry;
 ghost use Rattle.dots_registry.specs.Judging.{judge_request};
 ghost use Rattle.reply_bodies.specs.Mitigations.{scope_of};
@@ -34,6 +34,8 @@ use crate::telling::{conflicting, telling};
 use dots_history::Change;
 use dots_lists::{List, NoMemory};
 use dots_machine::{ClientRequest, Exchange, MitigationRequest, Verdict};
+use dots_registry::Registry;
+use dots_settings::Settings;
 use live_mitigations::MitigationRow;
 use put_judging::{Judged, PutFault, PutRequest};
 use reply_bodies::{ConflictCause, Content, MitigationView, ViewList};
@@ -83,15 +85,7 @@ impl Server {
         ensures { (entries : List Entry) → registry.StandsFor self.now.registry entries
             → Gives result (judge_request self.now.settings (time_of self.now.registry) entries asked.now.from.domain (request_of asked.now)) }
     {
-        let request = PutRequest {
-            peer: asked.from.peer,
-            cuid: asked.from.cuid.bytes(),
-            mid: asked.mid,
-            asked: &asked.body.asked,
-            lifetime: asked.body.lifetime,
-        };
-        self.registry
-            .judge_request(&self.settings, asked.from.domain, &request)
+        judged_by(self.ledger.registry(), &self.settings, asked)
     }
 
     /// What is granted is kept, and its client is told.
@@ -101,9 +95,9 @@ impl Server {
         ensures reply { OnOk result (length (granting from.now.exchange judged) ≤ 64) }
     {
         let reply = granting(self.alloc, &from.exchange, &judged)?;
-        let time = self.registry.time();
+        let time = self.ledger.registry().time();
         let entry = entry_of(self.alloc, time, from, &reply, Change::Put(judged.put))?;
-        let entry = self.registry.stage(entry)?;
+        let entry = self.ledger.registry().stage(entry)?;
         Ok(Verdict::Accept { reply, entry })
     }
 
@@ -165,9 +159,9 @@ impl Server {
         ensures reply { OnOk result (length (deleted from.now.exchange) ≤ 64) }
     {
         let reply = deleted(&from.exchange);
-        let time = self.registry.time();
+        let time = self.ledger.registry().time();
         let entry = entry_of(self.alloc, time, from, &reply, Change::Withdraw { mid })?;
-        let entry = self.registry.stage(entry)?;
+        let entry = self.ledger.registry().stage(entry)?;
         Ok(Verdict::Accept { reply, entry })
     }
 
@@ -207,7 +201,8 @@ impl Server {
         requires acts { may_act self.now.settings (role_of self.now.settings from.now.peer) from.now.domain ≡ true }
         ensures { (settings : SettingsValue) (state : State) → StandsFor self.now settings state → result ≡ is_taken state.time state.history from.now }
     {
-        self.registry
+        self.ledger
+            .registry()
             .collides(from.domain, from.cuid.bytes(), from.peer)
     }
 
@@ -217,7 +212,11 @@ impl Server {
         ensures { (settings : SettingsValue) (state : State) → StandsFor self.now settings state
             → result ≡ list_any (stands_as mid) (lives state.time state.history from.now) }
     {
-        for row in self.registry.mitigations(from.domain, from.cuid.bytes()) {
+        for row in self
+            .ledger
+            .registry()
+            .mitigations(from.domain, from.cuid.bytes())
+        {
             if row.put.mid == mid && row.status == STANDS {
                 return true;
             }
@@ -237,7 +236,11 @@ impl Server {
             → IfOk result (λ views. map scope_of views ≡ map (told content) (filter (is_wanted mid) (lives state.time state.history from.now))) }
     {
         let mut views = List::new(self.alloc);
-        for row in self.registry.mitigations(from.domain, from.cuid.bytes()) {
+        for row in self
+            .ledger
+            .registry()
+            .mitigations(from.domain, from.cuid.bytes())
+        {
             push_wanted(&mut views, &row, mid, content)?;
         }
         Ok(views)
@@ -274,4 +277,25 @@ fn is_wanted(wanted: Option<u32>, mid: u32) -> bool
         Some(wanted) => mid == wanted,
         None => true,
     }
+}
+
+/// The judgement of a request by the rules, over what these tables have.
+fn judged_by(
+    tables: &Registry,
+    settings: &Settings,
+    asked: &MitigationRequest,
+) -> Result<Judged, PutFault>
+    requires askable { IsAskableBody asked.now.body }
+    requires within { asked.now.from.domain < domains_of tables.now }
+    ensures { (entries : List Entry) → registry.StandsFor tables.now entries
+        → Gives result (judge_request settings.now (time_of tables.now) entries asked.now.from.domain (request_of asked.now)) }
+{
+    let request = PutRequest {
+        peer: asked.from.peer,
+        cuid: asked.from.cuid.bytes(),
+        mid: asked.mid,
+        asked: &asked.body.asked,
+        lifetime: asked.body.lifetime,
+    };
+    tables.judge_request(settings, asked.from.domain, &request)
 }

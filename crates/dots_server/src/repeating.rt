@@ -27,7 +27,7 @@ impl Server {
         ensures { (settings : SettingsValue) (state : State) → StandsFor self.now settings state
             → result ≡ option_map (λ entry. entry.reply) (repeated settings state.time state.history (sent_for peer exchange.now domain)) }
     {
-        let reply = self.registry.repeat(peer, domain, exchange.id)?;
+        let reply = self.ledger.registry().repeat(peer, domain, exchange.id)?;
         Some(ShortMessage::copy_of(reply))
     }
 

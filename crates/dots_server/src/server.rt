@@ -1,7 +1,9 @@
-//! The server: the settings, and the registry.
+//! The server: the settings, and what was accepted, in its tables and on the disk.
 
-ghost use Rattle.std.specs.Prelude.{◌≡◌, ◌<◌, ◌^◌, [], ◌∷◌, length, List, IfOk, OnOk, OnErr};
+ghost use Rattle.std.specs.Prelude.{◌≡◌, ◌≢◌, ℕ, ◌<◌, ◌≤◌, ◌⊎◌, ◌^◌, [], ◌∷◌, length, true, List, IfOk, IfErr, OnOk, OnErr};
 ghost use Rattle.std.specs.Io.KnownBytes.{Appends};
+ghost use Rattle.dots_disk.specs.Becoming.{Leaves, RestsWith, KeepsMedia};
+ghost use Rattle.dots_disk.specs.Beside.{KeepsActs};
 ghost use Rattle.dots_host.specs.Acts.{IsWithin, event_of};
 ghost use Rattle.dots_host.specs.Causes.{HasCause};
 ghost use Rattle.dots_host.specs.Runs.{Added, Gives, outs_of};
@@ -9,29 +11,40 @@ ghost use Rattle.dots_host.specs.Writing.{AppendsBeginning};
 ghost use Rattle.dots_host.specs.declared.out.OwnedOut.{OwnedOut};
 ghost use Rattle.dots_host.specs.declared.out.OwnedOut.TheVariants as owned;
 ghost use Rattle.dots_settings.specs.Settings.{SettingsValue};
-ghost use Rattle.dots_machine.specs.Machine.{State, begun_at, later, sends_of, after, Step};
+ghost use Rattle.dots_history.specs.declared.entry.Entry.{Entry};
+ghost use Rattle.dots_laws.specs.Fits.{is_calm};
+ghost use Rattle.slot_store.specs.Layout.{needed_of};
+ghost use Rattle.slot_store.specs.Opening.{Is};
+ghost use Rattle.slot_store.specs.Gates.{Sees};
+ghost use Rattle.slot_journal.specs.Sizes.{slots_of};
+ghost use Rattle.slot_journal.specs.Held.{Holds};
+ghost use Rattle.slot_journal.specs.Held as journal;
+ghost use Rattle.slot_journal.specs.Refused.{Caused};
+ghost use Rattle.slot_journal.specs.declared.fault.JournalFault.TheVariants as faults;
+ghost use Rattle.dots_ledger.specs.Beginning.{RefusesLedger, IsFailure};
+ghost use Rattle.dots_machine.specs.Machine.{State, begun_from, later, restarted, sends_of, after, Step};
 ghost use Rattle.dots_machine.specs.Report.{report_of};
-ghost use Rattle.dots_server.specs.Standing.{StandsFor, CanCarryOut};
+ghost use Rattle.dots_server.specs.Standing.{StandsFor, IsKept, CanCarryOut};
+ghost use Rattle.dots_server.specs.Turning.{IsServed, Turned, Broke};
 
 use crate::gathering::Gatherer;
 use crate::report::{put_packets, put_rows};
-use dots_host::{Got, Host, Out, Sink, What};
-use dots_lists::NoMemory;
+use dots_disk::Host;
+use dots_host::{Got, Out, Sink, What};
+use dots_ledger::Ledger;
 use dots_machine::Verdict;
 use dots_registry::Registry;
 use dots_settings::Settings;
+use slot_journal::{DiskFault, JournalFault};
 use std::alloc::Global;
 use std::marker::Model;
 
-/// Without a journal no entry stands in a slot, and nothing reads this number.
-const NO_SLOT: u32 = 0;
-
-/// A server: its settings, and the registry of what it has accepted.
+/// A server: its settings, and what it has accepted.
 #[derive(Drop)]
 pub struct Server {
     pub(crate) alloc: Global,
     pub(crate) settings: Settings,
-    pub(crate) registry: Registry,
+    pub(crate) ledger: Ledger,
 }
 
 impl Model for Server {
@@ -39,9 +52,9 @@ impl Model for Server {
 
     ghost Value = { ServerValue };
 
-    ghost view = { λ server. record { settings = server.settings; registry = server.registry } };
+    ghost view = { λ server. record { settings = server.settings; registry = server.ledger.registry; journal = server.ledger.journal } };
 
-    ghost invariant = { λ server. IsLiving (record { settings = server.settings; registry = server.registry }) };
+    ghost invariant = { λ server. IsLiving (record { settings = server.settings; registry = server.ledger.registry; journal = server.ledger.journal }) };
 }
 
 /// The report couldn't be written.
@@ -52,18 +65,68 @@ pub enum ReportFault {
 }
 
 impl Server {
-    /// A server that has accepted nothing yet, at a time in seconds, below 2^48, with the memory of all its tables.
-    pub fn begin(alloc: Global, settings: Settings, at: u64) -> Result<Self, NoMemory>
+    /// A server with what its disk holds, which it recovers, and with the memory of all its tables. Its time is the greater of the time
+    /// handed in, in seconds, below 2^48, and that of the last entry.
+    ///
+    /// # Errors
+    ///
+    /// `TooSmall`, `NotOurs` and `SettingsChanged` where the disk is refused for what it is, `DiskFault` where the disk's count of faults rose,
+    /// and `NoMemory`.
+    pub fn begin<H: Host>(
+        alloc: Global,
+        settings: Settings,
+        host: &mut H,
+        at: u64,
+    ) -> Result<Self, JournalFault>
         requires early { at < 2 ^ 48 }
-        ensures stands { IfOk result (λ server. StandsFor server settings (begun_at at)) }
+        // It stands for calm entries, which are what the disk held, and the disk rests with them.
+        ensures begun { IfOk result (λ server. (held : List Entry) × IsKept server settings (restarted (begun_from held) at) held × (is_calm settings held ≡ true)
+            × ((seen : ℕ → ℕ) → Sees (H.media host.old) seen → Holds settings seen held × RestsWith (H.media host.new) (journal.StandsFor server.journal settings held))) }
+        ensures settings { IfOk result (λ server. server.settings ≡ settings) }
+        ensures size { OnOk result (needed_of (slots_of settings) ≤ H.extent host.new) }
+        ensures refused { IfErr result (λ fault. (seen : ℕ → ℕ) → Sees (H.media host.old) seen → RefusesLedger settings (H.extent host.old) seen (H.media host.new) fault) }
+        // A disk that held entries, with nothing pending, holds them at each moment; another stays as it was, where no call of it failed.
+        ensures moments { (seen : ℕ → ℕ) (entries : List Entry) → RestsWith (H.media host.old) (Is seen) → Holds settings seen entries
+            → Leaves (H.media host.old) (H.media host.new) (λ image. Holds settings image entries) }
+        ensures unwritten { IfErr result (λ fault. (seen : ℕ → ℕ) → fault ≢ faults.DiskFault → RestsWith (H.media host.old) (Is seen)
+            → RestsWith (H.media host.new) (Is seen) ⊎ ((entries : List Entry) × Holds settings seen entries)) }
+        ensures extent { H.extent host.new ≡ H.extent host.old }
+        ensures cause { Caused (H.Disk.faults host.old) (H.Disk.faults host.new) result }
+        ensures beside { H.Disk.beside host.old host.new }
     {
-        let mut registry = Registry::new(alloc, &settings)?;
-        registry.tick(at);
+        let ledger = Ledger::begin(alloc, host, &settings, at)?;
         Ok(Server {
             alloc,
             settings,
-            registry,
+            ledger,
         })
+    }
+
+    /// The server that begins anew after a restart of its machine, with what is on the disk alone.
+    ///
+    /// # Errors
+    ///
+    /// Those of [`Server::begin`].
+    pub fn restart<H: Host>(self, host: &mut H, at: u64) -> Result<Self, JournalFault>
+        requires early { at < 2 ^ 48 }
+        ensures restarted { IfOk result (λ server. (settings : SettingsValue) (state : State) (entries : List Entry) → IsKept self settings state entries
+            → RestsWith (H.media host.old) (journal.StandsFor self.journal settings entries)
+            → IsKept server settings (restarted state at) entries × RestsWith (H.media host.new) (journal.StandsFor server.journal settings entries)) }
+        ensures settings { IfOk result (λ server. server.settings ≡ self.settings) }
+        ensures slots { IfOk result (λ server. server.journal.slots ≡ slots_of self.settings) }
+        ensures size { OnOk result (needed_of (slots_of self.settings) ≤ H.extent host.new) }
+        ensures moments { (settings : SettingsValue) (state : State) (entries : List Entry) → IsKept self settings state entries
+            → RestsWith (H.media host.old) (journal.StandsFor self.journal settings entries)
+            → Leaves (H.media host.old) (H.media host.new) (λ image. Holds settings image entries) }
+        // What a server left is found again: there may be no memory, or the disk may fail, and else nothing is refused.
+        ensures found { IfErr result (λ fault. (settings : SettingsValue) (state : State) (entries : List Entry) → IsKept self settings state entries
+            → RestsWith (H.media host.old) (journal.StandsFor self.journal settings entries) → needed_of (slots_of settings) ≤ H.extent host.old → IsFailure fault) }
+        ensures extent { H.extent host.new ≡ H.extent host.old }
+        ensures cause { Caused (H.Disk.faults host.old) (H.Disk.faults host.new) result }
+        ensures beside { H.Disk.beside host.old host.new }
+    {
+        let alloc = self.alloc;
+        Server::begin(alloc, self.into_settings(), host, at)
     }
 
     /// The settings again. Takes no memory.
@@ -73,17 +136,38 @@ impl Server {
         self.settings
     }
 
-    /// Takes one event, its bytes at the front of the room: one step of the machine. Its sends are handed to the host, and
-    /// nothing else is.
-    pub fn handle<H: Host>(&mut self, host: &mut H, got: &Got, room: &[u8])
+    /// The tables of what was accepted.
+    pub fn registry(&self) -> &Registry
+        ensures { result.now ≡ self.now.registry }
+    {
+        self.ledger.registry()
+    }
+
+    /// Takes one event, its bytes at the front of the room: one step of the machine. What is accepted is on the disk and in the tables before
+    /// the first of its sends is handed to the host, and nothing else is sent.
+    ///
+    /// # Errors
+    ///
+    /// `DiskFault` where the disk's count of faults rose. Then nothing was sent, and the server isn't used again.
+    pub fn handle<H: Host>(&mut self, host: &mut H, got: &Got, room: &[u8]) -> Result<(), DiskFault>
         requires within { IsWithin got.now.what (length room.now) }
         requires early { got.now.at < 2 ^ 48 }
+        requires served { IsServed got.now.what }
+        requires size { needed_of self.old.journal.slots ≤ H.extent host.old }
+        ensures done { OnOk result ((settings : SettingsValue) (state : State) (entries : List Entry) → IsKept self.old settings state entries
+            → (owed : List (State × OwnedOut)) × (new : State) × (few : List Entry)
+            × Step settings state (event_of got.now.what room.now) got.now.at owed new × IsKept self.new settings new few
+            × Turned settings state new (outs_of owed) (journal.StandsFor self.old.journal settings entries) (journal.StandsFor self.new.journal settings few)
+            (H.media host.old) (H.media host.new) (H.acts host.old) (H.acts host.new)) }
+        ensures failed { OnErr result ((settings : SettingsValue) (state : State) (entries : List Entry) → IsKept self.old settings state entries
+            → (owed : List (State × OwnedOut)) × (new : State) × Step settings state (event_of got.now.what room.now) got.now.at owed new
+            × Broke settings state new (journal.StandsFor self.old.journal settings entries) (H.media host.old) (H.media host.new) (H.acts host.old) (H.acts host.new)) }
         ensures settings { self.new.settings ≡ self.old.settings }
-        ensures faults { H.faults host.new ≡ H.faults host.old }
+        ensures slots { self.new.journal.slots ≡ self.old.journal.slots }
+        ensures extent { H.extent host.new ≡ H.extent host.old }
+        ensures cause { HasCause (H.Disk.faults host.old) (H.Disk.faults host.new) result }
+        ensures wire { H.Wire.faults host.new ≡ H.Wire.faults host.old }
         ensures leads { H.leads host.old host.new }
-        ensures step { (settings : SettingsValue) (state : State) → StandsFor self.old settings state → (owed : List (State × OwnedOut)) × (new : State)
-            × Step settings state (event_of got.now.what room.now) got.now.at owed new
-            × StandsFor self.new settings new × Added (H.acts host.old) (H.acts host.new) (Gives (H.moment host.old) (outs_of owed)) }
     {
         match got.what {
             What::Datagram { from, len } => {
@@ -91,12 +175,11 @@ impl Server {
                 let verdict = self.decide(from, &room[..len]);
                 return self.carry_out(host, from, verdict);
             }
-            What::End | What::Failed => {}
-            What::Opened { .. }
-            | What::Piece { .. }
-            | What::Closed { .. }
-            | What::Tick
-            | What::Restart => return self.move_time(got.at),
+            What::End | What::Failed | What::Restart => return Ok(()),
+            What::Opened { .. } | What::Piece { .. } | What::Closed { .. } | What::Tick => {
+                self.move_time(got.at);
+                return Ok(());
+            }
         }
     }
 
@@ -104,28 +187,49 @@ impl Server {
     fn move_time(&mut self, at: u64)
         requires early { at < 2 ^ 48 }
         ensures settings { self.new.settings ≡ self.old.settings }
-        ensures stands { (settings : SettingsValue) (state : State) → StandsFor self.old settings state → StandsFor self.new settings (later state at) }
+        ensures journal { self.new.journal ≡ self.old.journal }
+        ensures kept { (settings : SettingsValue) (state : State) (entries : List Entry) → IsKept self.old settings state entries → IsKept self.new settings (later state at) entries }
     {
-        let time = at.max(self.registry.time());
-        self.registry.tick(time);
+        let time = at.max(self.ledger.registry().time());
+        self.ledger.tick(time);
     }
 
-    /// Carries a verdict on a peer's datagram out: what is accepted is kept, and then the reply is sent.
-    fn carry_out<H: Host>(&mut self, host: &mut H, peer: u32, verdict: Verdict)
+    /// Carries a verdict on a peer's datagram out: what is accepted is kept, on the disk and then in the tables, and then the reply is sent.
+    fn carry_out<H: Host>(
+        &mut self,
+        host: &mut H,
+        peer: u32,
+        verdict: Verdict,
+    ) -> Result<(), DiskFault>
         requires ready { CanCarryOut verdict self.old }
+        requires size { needed_of self.old.journal.slots ≤ H.extent host.old }
+        ensures done { OnOk result ((settings : SettingsValue) (state : State) (entries : List Entry) → IsKept self.old settings state entries
+            → (few : List Entry) × IsKept self.new settings (after verdict state) few
+            × Turned settings state (after verdict state) (sends_of verdict peer) (journal.StandsFor self.old.journal settings entries) (journal.StandsFor self.new.journal settings few)
+            (H.media host.old) (H.media host.new) (H.acts host.old) (H.acts host.new)) }
+        ensures failed { OnErr result ((settings : SettingsValue) (state : State) (entries : List Entry) → IsKept self.old settings state entries
+            → Broke settings state (after verdict state) (journal.StandsFor self.old.journal settings entries) (H.media host.old) (H.media host.new) (H.acts host.old) (H.acts host.new)) }
         ensures settings { self.new.settings ≡ self.old.settings }
-        ensures stands { (settings : SettingsValue) (state : State) → StandsFor self.old settings state → StandsFor self.new settings (after verdict state) }
-        ensures acts { Added (H.acts host.old) (H.acts host.new) (Gives (H.moment host.old) (sends_of verdict peer)) }
-        ensures faults { H.faults host.new ≡ H.faults host.old }
+        ensures slots { self.new.journal.slots ≡ self.old.journal.slots }
+        ensures extent { H.extent host.new ≡ H.extent host.old }
+        ensures cause { HasCause (H.Disk.faults host.old) (H.Disk.faults host.new) result }
+        ensures wire { H.Wire.faults host.new ≡ H.Wire.faults host.old }
         ensures leads { H.leads host.old host.new }
     {
         match verdict {
-            Verdict::Silent => {}
-            Verdict::Reply(reply) => return send_to(host, peer, reply.bytes()),
-            Verdict::Told(reply) => return send_to(host, peer, reply.items()),
+            Verdict::Silent => return Ok(()),
+            Verdict::Reply(reply) => {
+                send_to(host, peer, reply.bytes());
+                return Ok(());
+            }
+            Verdict::Told(reply) => {
+                send_to(host, peer, reply.items());
+                return Ok(());
+            }
             Verdict::Accept { reply, entry } => {
-                self.registry.apply(entry, NO_SLOT);
-                return send_to(host, peer, reply.bytes());
+                self.ledger.accept(host, entry)?;
+                send_to(host, peer, reply.bytes());
+                return Ok(());
             }
         }
     }
@@ -133,6 +237,8 @@ impl Server {
     /// Writes the report: a line for each row that mitigations install, in order of acceptance, and one for each sample packet.
     /// Takes no memory. Where the sink fails, a beginning was written.
     pub fn write_report<K: Sink>(&self, report: &mut K) -> Result<(), ReportFault>
+        // Whatever the host told, there is a state for which the server stands.
+        ensures any { (state : State) × StandsFor self.now self.now.settings state }
         ensures ok { (settings : SettingsValue) (state : State) → StandsFor self.now settings state
             → OnOk result (Appends (K.holds report.old) (K.holds report.new) (report_of settings state)) }
         ensures err { (settings : SettingsValue) (state : State) → StandsFor self.now settings state
@@ -140,7 +246,7 @@ impl Server {
         ensures cause { HasCause (K.faults report.old) (K.faults report.new) result }
     {
         let mut gatherer = Gatherer::new();
-        let table = self.registry.filters();
+        let table = self.ledger.registry().filters();
         put_rows(&self.settings, table, &mut gatherer, report);
         put_packets(&self.settings, table, &mut gatherer, report);
         match gatherer.finish(report) {
@@ -153,7 +259,10 @@ impl Server {
 /// Sends a datagram to a peer. Whether it left makes no difference.
 fn send_to<H: Host>(host: &mut H, peer: u32, bytes: &[u8])
     ensures acts { Added (H.acts host.old) (H.acts host.new) (Gives (H.moment host.old) (owned.To peer bytes.now ∷ [])) }
-    ensures faults { H.faults host.new ≡ H.faults host.old }
+    ensures media { KeepsMedia (H.media host.old) (H.media host.new) }
+    ensures extent { H.extent host.new ≡ H.extent host.old }
+    ensures disk { H.Disk.faults host.new ≡ H.Disk.faults host.old }
+    ensures wire { H.Wire.faults host.new ≡ H.Wire.faults host.old }
     ensures leads { H.leads host.old host.new }
 {
     let _ = host.send(&Out::To { peer, bytes });

@@ -25,7 +25,11 @@ usage_text =
     ++ codes "      why it is one\n"
     ++ codes "  4   no memory was found: free some, and begin again\n"
     ++ codes "  5   the settings or the script can't be read, or a line is no script line: dots check-script says which, and why\n"
+    ++ codes "  6   a call of the disk failed. What was answered is on it: see what it lacks, and begin again\n"
+    ++ codes "  7   the disk holds something that isn't a journal of this program. What is printed is the first such place\n"
+    ++ codes "  8   the journal was written under other settings, and the digests of both are printed: take those again\n"
     ++ codes "  9   standard output can't be written: look where it goes\n"
+    ++ codes "  10  the disk is smaller than the settings need. What is printed has both sizes, in bytes\n"
     ++ codes "  11  the script has no end within 2^40 lines: cut it\n"
     ++ codes "  70  the program isn't built yet, and can't be built: what stands above says why\n"
 

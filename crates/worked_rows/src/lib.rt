@@ -9,6 +9,8 @@
 #[cfg(test)]
 mod datagram_rows;
 #[cfg(test)]
+mod disk_rows;
+#[cfg(test)]
 mod domain_rows;
 #[cfg(test)]
 mod memory_rows;
@@ -22,6 +24,8 @@ mod option_rows;
 mod refusal_rows;
 #[cfg(test)]
 mod repeat_rows;
+#[cfg(test)]
+mod restart_rows;
 #[cfg(test)]
 mod runs;
 #[cfg(test)]

@@ -1,12 +1,14 @@
 //! Runs over a host in memory.
 
-use crate::runs::words_of;
-use crate::tables::COMMAND;
+use crate::runs::run_over;
 use crate::texts::{REPLY, REQUEST, ROW, SETTINGS};
-use dots_host::{Act, Bytes, Event, MemoryHost, MemorySink, MemorySource, OwnedOut};
-use dots_run::run;
+use dots_disk::MemoryHost;
+use dots_host::{Act, Bytes, Event, MemorySink, OwnedOut};
 use std::alloc::Global;
 use std::test::Fail;
+
+/// The bytes of the disk, more than the settings need.
+const DISK_BYTES: u64 = 1_073_741_824;
 
 /// What a host hands in.
 #[derive(Clone, Copy, Debug)]
@@ -25,12 +27,23 @@ enum Step {
     Nothing,
 }
 
-/// What a host hands in, each at its second, and which of its calls fails, or from which on all do.
+/// Which call of a host fails.
+#[derive(Clone, Copy, Debug)]
+enum Failing {
+    Nothing,
+    /// The first call, with which the disk is recovered.
+    First,
+    /// The first that asks for an event.
+    Next,
+    /// The first that sends.
+    Send,
+}
+
+/// What a host hands in, each at its second, and which of its calls fails.
 #[derive(Clone, Copy)]
 struct Case {
     steps: [(Step, u64); 2],
-    failing: Option<u64>,
-    stopping: Option<u64>,
+    failing: Failing,
 }
 
 /// What a run is to leave: its status and its report, how many sends there are among the acts, and how many of these are the
@@ -83,14 +96,38 @@ fn push(alloc: Global, host: &mut MemoryHost, step: Step, at: u64) -> bool {
     }
 }
 
-/// Prepares the host for the case, and answers whether that could be done.
-fn prepare(alloc: Global, host: &mut MemoryHost, case: &Case) -> bool {
-    let [(first, at), (second, later)] = case.steps;
-    let pushed = push(alloc, host, first, at) && push(alloc, host, second, later);
-    if let Some(call) = case.stopping {
-        host.stop_at(call);
+fn push_both(alloc: Global, host: &mut MemoryHost, steps: [(Step, u64); 2]) -> bool {
+    let [(first, at), (second, later)] = steps;
+    push(alloc, host, first, at) && push(alloc, host, second, later)
+}
+
+fn is_of(act: &Act, failing: Failing) -> bool {
+    match failing {
+        Failing::Nothing => false,
+        Failing::First => true,
+        Failing::Next => matches!(act, Act::Took { .. }),
+        Failing::Send => is_send(act),
     }
-    match case.failing {
+}
+
+/// The number of the call that is to fail, as a run of the case tells it in which none does.
+fn failing_call(alloc: Global, case: &Case) -> Result<Option<u64>, Fail> {
+    let mut host = MemoryHost::new(alloc, DISK_BYTES)?;
+    let _pushed = push_both(alloc, &mut host, case.steps);
+    let mut sink = MemorySink::new(alloc);
+    run_over(alloc, SETTINGS, &mut host, &mut sink)?;
+    for (index, act) in host.acts().iter().enumerate() {
+        if is_of(act, case.failing) {
+            return Ok(Some((index as u64).saturating_add(1)));
+        }
+    }
+    Ok(None)
+}
+
+/// Prepares the host for the case, and answers whether that could be done.
+fn prepare(alloc: Global, host: &mut MemoryHost, case: &Case, failing: Option<u64>) -> bool {
+    let pushed = push_both(alloc, host, case.steps);
+    match failing {
         Some(call) => pushed && host.fail_at(call).is_ok(),
         None => pushed,
     }
@@ -118,13 +155,12 @@ fn has_acts(acts: &[Act], want: &Want, reply: &[u8]) -> bool {
 
 /// Whether a run of the case leaves what is wanted, and the host still tells its acts.
 fn leaves(alloc: Global, case: &Case, want: &Want) -> Result<bool, Fail> {
-    let words = words_of(alloc, &COMMAND)?;
+    let failing = failing_call(alloc, case)?;
     let reply = hex::decode(alloc, REPLY)?;
-    let mut settings = MemorySource::new(alloc, SETTINGS.as_bytes())?;
     let mut sink = MemorySink::new(alloc);
-    let mut host = MemoryHost::new(alloc)?;
-    let made = prepare(alloc, &mut host, case);
-    let status = run(alloc, words.as_slice(), &mut settings, &mut host, &mut sink);
+    let mut host = MemoryHost::new(alloc, DISK_BYTES)?;
+    let made = prepare(alloc, &mut host, case, failing);
+    let status = run_over(alloc, SETTINGS, &mut host, &mut sink)?;
     Ok(
         made && status == want.status
             && sink.bytes() == want.report.as_bytes()
@@ -137,14 +173,13 @@ fn leaves(alloc: Global, case: &Case, want: &Want) -> Result<bool, Fail> {
 fn is_answered(
     alloc: Global,
     step: (Step, u64),
-    failing: Option<u64>,
+    failing: Failing,
     report: &str,
     replies: usize,
 ) -> Result<bool, Fail> {
     let case = Case {
         steps: [(Step::Request, 1000), step],
         failing,
-        stopping: None,
     };
     let want = Want {
         status: 0,
@@ -156,13 +191,13 @@ fn is_answered(
 }
 
 /// The request is answered once. End has a time beside it, and moves none, so the mitigation stands in the report; a stranger
-/// moves the time, and so do events that aren't served yet. A reply that is lost is no fault.
+/// moves the time, and so do a restart and events that aren't served yet. A reply that is lost is no fault.
 #[test]
 fn runs_over_a_host_in_memory(rt: HostRuntime) -> Result<(), Fail> {
     let end = (Step::End, 9999);
-    assert!(rt; is_answered(rt.alloc(), end, None, ROW, 1)?);
-    // the second call is the send
-    assert!(rt; is_answered(rt.alloc(), (Step::Nothing, 0), Some(2), ROW, 0)?);
+    assert!(rt; is_answered(rt.alloc(), end, Failing::Nothing, ROW, 1)?);
+    let nothing = (Step::Nothing, 0);
+    assert!(rt; is_answered(rt.alloc(), nothing, Failing::Send, ROW, 0)?);
     for (step, at) in [
         (Step::Stranger, 5000),
         (Step::Opened, 4600),
@@ -172,26 +207,32 @@ fn runs_over_a_host_in_memory(rt: HostRuntime) -> Result<(), Fail> {
         (Step::Restart, 4600),
     ] {
         assert!(rt;
-            is_answered(rt.alloc(), (step, at), None, "", 1)?,
+            is_answered(rt.alloc(), (step, at), Failing::Nothing, "", 1)?,
             "at {step:?}"
         );
     }
     Ok(())
 }
 
-#[test]
-fn a_failing_host(rt: HostRuntime) -> Result<(), Fail> {
+/// Whether a run without events ends with this status, and reports and sends nothing.
+fn is_silent(alloc: Global, failing: Failing, status: u8) -> Result<bool, Fail> {
     let case = Case {
         steps: [(Step::Nothing, 0); 2],
-        failing: None,
-        stopping: Some(1),
+        failing,
     };
     let want = Want {
-        status: 5,
+        status,
         report: "",
         sends: 0,
         replies: 0,
     };
-    assert!(rt; leaves(rt.alloc(), &case, &want)?);
+    leaves(alloc, &case, &want)
+}
+
+#[test]
+fn a_failing_host(rt: HostRuntime) -> Result<(), Fail> {
+    for (failing, status) in [(Failing::First, 6), (Failing::Next, 5)] {
+        assert!(rt; is_silent(rt.alloc(), failing, status)?, "at {failing:?}");
+    }
     Ok(())
 }

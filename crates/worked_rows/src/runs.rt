@@ -1,5 +1,7 @@
-//! Runs over scripts.
+//! Runs over scripts, and over hosts in memory.
 
+use crate::tables::COMMAND;
+use dots_disk::MemoryHost;
 use dots_host::{MemorySink, MemorySource, NoMemory};
 use dots_run::{ScriptHost, run};
 use std::alloc::Global;
@@ -74,4 +76,16 @@ pub fn leaves(
     let mut host = host_of(alloc, case.script)?;
     let ended = run(alloc, words.as_slice(), &mut settings, &mut host, &mut sink);
     Ok(ended == status && host.whole() && host.sink().bytes() == sends && sink.bytes() == report)
+}
+
+/// The status of a run over a host in memory. What it reports is in the sink.
+pub fn run_over(
+    alloc: Global,
+    settings: &str,
+    host: &mut MemoryHost,
+    sink: &mut MemorySink,
+) -> Result<u8, NoMemory> {
+    let words = words_of(alloc, &COMMAND)?;
+    let mut settings = MemorySource::new(alloc, settings.as_bytes())?;
+    Ok(run(alloc, words.as_slice(), &mut settings, host, sink))
 }

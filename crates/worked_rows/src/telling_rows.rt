@@ -48,7 +48,11 @@ The exit status, and what to do:
       why it is one
   4   no memory was found: free some, and begin again
   5   the settings or the script can't be read, or a line is no script line: dots check-script says which, and why
+  6   a call of the disk failed. What was answered is on it: see what it lacks, and begin again
+  7   the disk holds something that isn't a journal of this program. What is printed is the first such place
+  8   the journal was written under other settings, and the digests of both are printed: take those again
   9   standard output can't be written: look where it goes
+  10  the disk is smaller than the settings need. What is printed has both sizes, in bytes
   11  the script has no end within 2^40 lines: cut it
   70  the program isn't built yet, and can't be built: what stands above says why
 ";

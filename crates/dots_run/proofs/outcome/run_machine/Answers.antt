@@ -1,5 +1,5 @@
 use Rattle.std.proofs.Common.{◌∙◌}
-use Rattle.dots_run.proofs.Completeness.{ends_refused, ends_well, ends_shown, ends_unreadable, wrong_words, no_command, has_read, has_written, has_heard, not_served}
+use Rattle.dots_run.proofs.Completeness.{ends_refused, ends_well, ends_shown, ends_unreadable, wrong_words, no_command, has_read, has_written, has_failed, has_heard, not_served}
 use Rattle.dots_run.proofs.outcome.run_machine.Goals as goal
 
 pub returns-clause-words : goal.returns-clause-words
@@ -21,8 +21,11 @@ pub returns-clause-refused : goal.returns-clause-refused
 returns-clause-refused g c = λ replay given. rw c.status.ensures (ends_refused _ _ _ c.ending_of.result replay given c.ending_of.ensures.heard c.ending_of.ensures.machine)
 
 pub returns-clause-complete : goal.returns-clause-complete
-returns-clause-complete g c = λ replay given read failed written.
-    rw c.status.ensures (ends_well _ _ _ c.ending_of.result replay read failed written given c.ending_of.ensures.machine)
+returns-clause-complete g c = λ replay ready read came kept written.
+    rw c.status.ensures (ends_well _ _ _ ready read came kept written c.ending_of.result replay c.ending_of.ensures.machine)
+
+pub returns-clause-disk : goal.returns-clause-disk
+returns-clause-disk g c = λ is. has_failed _ _ _ c.ending_of.result (rw c.status.ensures at is) c.ending_of.ensures.machine
 
 pub returns-clause-readable : goal.returns-clause-readable
 returns-clause-readable g c = λ show readable written. rw c.status.ensures (ends_shown _ _ _ c.ending_of.result show readable written c.ending_of.ensures.machine)

@@ -1,25 +1,75 @@
-use Rattle.std.proofs.Common.{refl}
+use Rattle.std.proofs.Common.{[], refl, subst}
 use Rattle.dots_machine.specs.declared.ending.Stop.TheVariants as stop
-use Rattle.dots_machine.specs.Machine.{begun}
-use Rattle.dots_run.proofs.Serving.{serves}
+use Rattle.dots_machine.specs.Machine.{State}
+use Rattle.dots_server.specs.Standing.{StandsFor}
+use Rattle.dots_run.proofs.Writing.{wrote_all, wrote_some, wrote_stop}
 use Rattle.dots_run.proofs.outcome.serve.Goals as goal
 
-pub returns-in-Ok-clause-machine : goal.returns-in-Ok-clause-machine
-returns-in-Ok-clause-machine g c = λ settings stands.
-    let ran = rw c.in-Ended.is at (c.take_events.ensures.ran settings begun stands) in
-    serves settings _ _ _ stop.Ended _ ran (c.in-Ok.ensures.ok settings ran.0 ran.1)
+-- nothing was accepted, and no time has gone by
+abbrev nothing : State
+nothing = record { history = []; time = 0 }
 
-pub returns-in-Err-clause-machine : goal.returns-in-Err-clause-machine
-returns-in-Err-clause-machine g c = λ settings stands.
-    let ran = rw c.in-Ended.is at (c.take_events.ensures.ran settings begun stands) in
-    (serves settings _ _ _ stop.Ended _ ran (c.in-Err.ensures.err settings ran.0 ran.1), c.in-Err.ensures.cause.rose)
+-- ---- End came
 
-pub returns-in-NextFailed-clause-machine : goal.returns-in-NextFailed-clause-machine
-returns-in-NextFailed-clause-machine g c = λ settings stands.
-    let ran = rw c.in-NextFailed.is at (c.take_events.ensures.ran settings begun stands) in
-    serves settings _ _ _ stop.NextFailed _ ran (refl, c.take_events.ensures.cause c.in-NextFailed.is)
+pub returns-in-Ok-write_report-clause-came : goal.returns-in-Ok-write_report-clause-came
+returns-in-Ok-write_report-clause-came g c = λ settings start held kept rests.
+    let got = rw c.in-Ok.is at (c.take_events.ensures.came settings start held kept rests) in (
+      stop.Ended,
+      got.0,
+      got.1,
+      λ before now counted counts. wrote_all settings got.0.last _ _ _ _ _ _ _ _ before now counted counts (c.in-Ok-write_report.ensures.ok settings got.0.last got.2),
+    )
 
-pub returns-in-TooMany-clause-machine : goal.returns-in-TooMany-clause-machine
-returns-in-TooMany-clause-machine g c = λ settings stands.
-    let ran = rw c.in-TooMany.is at (c.take_events.ensures.ran settings begun stands) in
-    serves settings _ _ _ stop.TooMany _ ran refl
+pub returns-in-Ok-write_report-clause-any : goal.returns-in-Ok-write_report-clause-any
+returns-in-Ok-write_report-clause-any g c =
+    let settings = c.args.server.settings in
+    let any = c.in-Ok-write_report.ensures.any in
+    let stands = subst (λ s. StandsFor c.in-Ok.server s any.0) c.in-Ok.ensures.settings any.1 in (
+      stop.Ended,
+      any.0,
+      stands.own,
+      λ before now counted counts. wrote_all settings any.0 _ _ _ _ _ _ _ _ before now counted counts (c.in-Ok-write_report.ensures.ok settings any.0 stands),
+    )
+
+-- ---- and the report couldn't be written
+
+pub returns-in-Err-write_report-clause-came : goal.returns-in-Err-write_report-clause-came
+returns-in-Err-write_report-clause-came g c = λ settings start held kept rests.
+    let got = rw c.in-Ok.is at (c.take_events.ensures.came settings start held kept rests) in (
+      stop.Ended,
+      got.0,
+      got.1,
+      λ before now counted counts.
+          wrote_some settings got.0.last _ _ _ _ _ _ _ _ before now counted counts (c.in-Err-write_report.ensures.err settings got.0.last got.2) c.in-Err-write_report.ensures.cause.rose,
+    )
+
+pub returns-in-Err-write_report-clause-any : goal.returns-in-Err-write_report-clause-any
+returns-in-Err-write_report-clause-any g c =
+    let settings = c.args.server.settings in
+    let any = c.in-Err-write_report.ensures.any in
+    let stands = subst (λ s. StandsFor c.in-Ok.server s any.0) c.in-Ok.ensures.settings any.1 in (
+      stop.Ended,
+      any.0,
+      stands.own,
+      λ before now counted counts.
+          wrote_some settings any.0 _ _ _ _ _ _ _ _ before now counted counts (c.in-Err-write_report.ensures.err settings any.0 stands) c.in-Err-write_report.ensures.cause.rose,
+    )
+
+-- ---- the events stopped otherwise
+
+pub returns-in-Err-clause-came : goal.returns-in-Err-clause-came
+returns-in-Err-clause-came g c = λ settings start held kept rests.
+    let got = rw c.in-Err.is at (c.take_events.ensures.came settings start held kept rests) in (
+      c.in-Err.how,
+      got.0,
+      got.1,
+      λ before now counted counts. wrote_stop settings got.0.last _ _ _ _ _ _ _ _ before now counted counts c.in-Err.how c.in-Err.ensures.stopped c.write_stop.ensures,
+    )
+
+pub returns-in-Err-clause-any : goal.returns-in-Err-clause-any
+returns-in-Err-clause-any g c = (
+  c.in-Err.how,
+  nothing,
+  refl,
+  λ before now counted counts. wrote_stop c.args.server.settings nothing _ _ _ _ _ _ _ _ before now counted counts c.in-Err.how c.in-Err.ensures.stopped c.write_stop.ensures,
+)

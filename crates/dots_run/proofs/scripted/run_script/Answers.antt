@@ -6,6 +6,8 @@ use Rattle.dots_machine.specs.Endings.{Behaves}
 use Rattle.dots_script.specs.Accounts.{Standing, standing}
 use Rattle.dots_script.specs.Scripting.{Scripting}
 use Rattle.dots_run.specs.Outcomes.{Outcome}
+use Rattle.dots_run.specs.Scripted.{outside_first, outside_with}
+use Rattle.dots_run.proofs.Blank.{ready_blank}
 use Rattle.dots_run.proofs.Texts.{standing_of, known, told_whole, joins, stands_at_first}
 use Rattle.dots_run.proofs.Asking.{not_served}
 use Rattle.dots_run.proofs.scripted.run_script.Goals as goal
@@ -19,22 +21,12 @@ returns-in-Ok-clause-runs g c =
     let status = c.run-status.result in
     let host = c.run-status.new.host in
     let start : Standing = standing_of (left c.args.script) (holds c.args.sends) (faults c.args.script) in
-    let after : Outside = record {
-      left = g.S.Source.left c.run-status.new.settings;
-      source_faults = g.S.Source.faults c.run-status.new.settings;
-      acts = told host.disk.whole host.disk.acts;
-      wire_faults = host.faults;
-      held = g.R.Sink.holds c.run-status.new.report;
-      report_faults = g.R.Sink.faults c.run-status.new.report;
-    } in
-    let before : (h : Scripting _ _) → Outside = λ h. record {
-      left = g.S.Source.left c.args.settings.now;
-      source_faults = g.S.Source.faults c.args.settings.now;
-      acts = told h.disk.whole h.disk.acts;
-      wire_faults = h.faults;
-      held = g.R.Sink.holds c.args.report.now;
-      report_faults = g.R.Sink.faults c.args.report.now;
-    } in
+    let given = g.S.Source.left c.args.settings.now in
+    let after : Outside =
+    outside_with (g.S.Source.left c.run-status.new.settings) (g.S.Source.faults c.run-status.new.settings) host (g.R.Sink.holds c.run-status.new.report) (g.R.Sink.faults c.run-status.new.report) in
+    let before : (h : Scripting _ _) → Outside =
+    λ h. outside_with given (g.S.Source.faults c.args.settings.now) h (g.R.Sink.holds c.args.report.now) (g.R.Sink.faults c.args.report.now) in
+    let empty : Outside = outside_first given (g.S.Source.faults c.args.settings.now) (g.R.Sink.holds c.args.report.now) (g.R.Sink.faults c.args.report.now) in
     let first = c.in-Ok.ensures.host in
     let stands : host ≡ c.in-Ok.host → standing left faults holds host ≡ start =
     λ kept. ap (standing left faults holds) (kept ∙ first) ∙ stands_at_first (left c.args.script) (holds c.args.sends) (faults c.args.script) in
@@ -43,6 +35,7 @@ returns-in-Ok-clause-runs g c =
       commands = said.words;
       read = said.read;
       heard = said.heard;
+      disk = said.disk;
       written = said.written;
       refused = said.refused;
       complete = said.complete;
@@ -59,7 +52,7 @@ returns-in-Ok-clause-runs g c =
           let accounts = known start (standing left faults holds host) host.disk.whole host.disk.acts whole (said.leads start c.in-Ok.ensures.accounts) in (
             ending,
             status_is,
-            joins words _ after (wire_acts 0 host.disk.acts) refl (told_whole host.disk.whole host.disk.acts whole) start (standing left faults holds host) accounts ending did (λ idle. stands (uncalled idle)),
+            joins words empty after (wire_acts 0 host.disk.acts) refl (told_whole host.disk.whole host.disk.acts whole) refl start (standing left faults holds host) accounts ending did (λ idle. stands (uncalled idle)),
           );
       told = λ topic is.
           let (how, status_is, tells) = said.told topic is in
@@ -72,4 +65,5 @@ returns-in-Ok-clause-runs g c =
             stands = stands kept;
           };
       outcome = subst (λ h. Outcome words status (before h) after) first outcome;
+      ready = λ gives. ready_blank given gives;
     }

@@ -1,5 +1,5 @@
-use Rattle.std.proofs.Common.{◌≡◌, ◌++◌, codes, decimal, ap, ◌∙◌}
-use Rattle.dots_machine.specs.Report.{fate_text, packet_line}
+use Rattle.std.proofs.Common.{ap, ◌∙◌}
+use Rattle.dots_machine.specs.Report.{packet_line}
 use Rattle.dots_server.proofs.Puts.{puts_then, puts_same}
 use Rattle.dots_server.proofs.Reports.{packet_in_parts}
 use Rattle.dots_server.proofs.report.put_packet.Goals as goal

@@ -1,4 +1,4 @@
-use Rattle.std.proofs.Common.{[], ap, sym, refl, get_or, decimal, add-one, take_all, append-nil}
+use Rattle.std.proofs.Common.{[], sym, refl, get_or, decimal, add-one, take_all, append-nil}
 use Rattle.dots_server.proofs.CommaTexts.{behind_comma, first_and_others}
 use Rattle.dots_server.proofs.Puts.{puts_same, puts_more}
 use Rattle.dots_server.proofs.report.put_protocols.Goals as goal

@@ -1,4 +1,4 @@
-use Rattle.std.proofs.Common.{◌≡◌, ◌++◌, flat_map, sym, ap, ◌∙◌, append_assoc}
+use Rattle.std.proofs.Common.{◌++◌, ◌∙◌}
 use Rattle.dots_machine.specs.Report.{scrub_line}
 use Rattle.dots_server.proofs.Puts.{puts_then}
 use Rattle.dots_server.proofs.Reports.{row_more, puts_line}

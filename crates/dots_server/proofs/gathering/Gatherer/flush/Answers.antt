@@ -1,1 +1,0 @@
-use Rattle.dots_server.proofs.gathering.Gatherer.flush.Goals as goal

@@ -1,4 +1,4 @@
-use Rattle.std.proofs.Common.{◌≡◌, ◌++◌, take, flat_map}
+use Rattle.std.proofs.Common.{take, flat_map}
 use Rattle.dots_server.specs.Gathering.{sunk, Puts}
 use Rattle.dots_server.proofs.gathering.Gatherer.put_all.Given as goal
 

@@ -1,4 +1,4 @@
-use Rattle.std.proofs.Common.{sym, ◌∙◌}
+use Rattle.std.proofs.Common.{sym}
 use Rattle.dots_server.proofs.Acting.{may_act_for}
 use Rattle.dots_server.proofs.server.Server.asks_for.Goals as goal
 

@@ -1,17 +1,16 @@
-use Rattle.std.proofs.Common.{refl}
-use Rattle.dots_machine.specs.Machine.{begun_at}
-use Rattle.dots_server.proofs.Keeping.{stands_first}
+use Rattle.dots_server.proofs.Beginning.{begun_kept, begun_lives}
 use Rattle.dots_server.proofs.server.Server.begin.Goals as goal
 
 pub invariant_of-result : goal.invariant_of-result
-invariant_of-result c = record {
-  state = begun_at c.args.at;
-  stands = stands_first c.args.settings c.args.at c.tick.new.self c.requires.early (c.tick.ensures.settings c.args.settings c.in_ok-registry.ensures.settings)
-      (c.tick.ensures.stands _ c.in_ok-registry.ensures.stands) c.tick.ensures.time;
-}
+invariant_of-result g c =
+    let begun = c.in_ok-ledger.ensures.recovered in
+    begun_lives c.args.settings c.args.at c.in_ok-ledger.ledger begun.entries c.requires.early begun.stands begun.time c.in_ok-ledger.ensures.size.0 begun.each
 
-pub returns : goal.returns
-returns c = record {
-  stands = stands_first c.args.settings c.args.at c.tick.new.self c.requires.early (c.tick.ensures.settings c.args.settings c.in_ok-registry.ensures.settings)
-      (c.tick.ensures.stands _ c.in_ok-registry.ensures.stands) c.tick.ensures.time;
-}
+pub returns-clause-begun : goal.returns-clause-begun
+returns-clause-begun g c =
+    let begun = c.in_ok-ledger.ensures.recovered in (
+      begun.entries,
+      begun_kept c.args.settings c.args.at c.in_ok-ledger.ledger begun.entries c.requires.early begun.stands begun.time c.in_ok-ledger.ensures.size.0 begun.each,
+      begun.stands.calm,
+      λ seen sees. (begun.held seen sees, begun.rests seen sees),
+    )

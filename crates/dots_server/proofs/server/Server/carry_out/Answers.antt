@@ -1,19 +1,137 @@
-use Rattle.std.proofs.Common.{refl, sym, subst}
-use Rattle.dots_server.specs.Standing.{ServerValue, StandsFor, IsAcceptable, CanCarryOut}
-use Rattle.dots_server.proofs.Keeping.{stands_with, lives_with}
+use Rattle.std.proofs.Common.{[], ◌∷◌, refl, sym, ap, ◌∙◌, subst}
+use Rattle.dots_host.specs.declared.out.OwnedOut.TheVariants as owned
+use Rattle.dots_host.specs.Runs.{Added, Gives}
+use Rattle.dots_settings.specs.declared.limits.Limits.{Limits}
+use Rattle.dots_disk.specs.Becoming.{RestsWith, Leaves}
+use Rattle.slot_journal.specs.Held as journal
+use Rattle.dots_registry.specs.Standing.{time_of, number_remembered}
+use Rattle.dots_ledger.proofs.Answering.{err_of}
+use Rattle.dots_machine.specs.Machine.{with_entry}
+use Rattle.dots_server.specs.Standing.{ServerValue, IsKept, IsAcceptable, CanCarryOut}
+use Rattle.dots_server.specs.Turning.{HoldsTurn, Turned}
+use Rattle.dots_server.proofs.Keeping.{can_accept, joins_there, own_with, kept_with, lives_with, lives_still}
+use Rattle.dots_server.proofs.Turning.{silent, unwritten, added_behind, accepting}
 use Rattle.dots_server.proofs.server.Server.carry_out.Goals as goal
 
+-- ---- nothing is accepted
+
+pub returns-in-Silent-clause-done : goal.returns-in-Silent-clause-done
+returns-in-Silent-clause-done g c = λ settings state entries kept.
+    let host = c.args.host.now in
+    rw c.in-Silent.is (
+      entries,
+      kept,
+      silent settings state state (journal.StandsFor c.args.self.now.journal settings entries) (g.H.Disk.media host) (g.H.Wire.moment host) (g.H.Wire.acts host) (g.met.H.Host.one_moment host),
+    )
+
+pub returns-in-Reply-clause-done : goal.returns-in-Reply-clause-done
+returns-in-Reply-clause-done g c = λ settings state entries kept.
+    let host = c.args.host.now in
+    let new = c.send_to.new.host in
+    let gives = subst (λ reply. Added (g.H.Wire.acts host) (g.H.Wire.acts new) (Gives (g.H.Wire.moment host) (owned.To c.args.peer reply ∷ []))) c.bytes.ensures.value c.send_to.ensures.acts in
+    rw c.in-Reply.is (
+      entries,
+      kept,
+      unwritten settings state state (owned.To c.args.peer c.in-Reply.reply ∷ []) (journal.StandsFor c.args.self.now.journal settings entries) (g.H.Disk.media host) (g.H.Disk.media new) (g.H.Wire.moment host)
+          (g.H.Wire.acts host) (g.H.Wire.acts new) (g.met.H.Host.one_moment host) gives c.send_to.ensures.media,
+    )
+
+pub returns-in-Told-clause-done : goal.returns-in-Told-clause-done
+returns-in-Told-clause-done g c = λ settings state entries kept.
+    let host = c.args.host.now in
+    let new = c.send_to-in-Told.new.host in
+    let gives = subst (λ reply. Added (g.H.Wire.acts host) (g.H.Wire.acts new) (Gives (g.H.Wire.moment host) (owned.To c.args.peer reply ∷ []))) c.items.ensures c.send_to-in-Told.ensures.acts in
+    rw c.in-Told.is (
+      entries,
+      kept,
+      unwritten settings state state (owned.To c.args.peer c.in-Told.reply ∷ []) (journal.StandsFor c.args.self.now.journal settings entries) (g.H.Disk.media host) (g.H.Disk.media new) (g.H.Wire.moment host)
+          (g.H.Wire.acts host) (g.H.Wire.acts new) (g.met.H.Host.one_moment host) gives c.send_to-in-Told.ensures.media,
+    )
+
+-- ---- an entry is accepted
+
+pub accept-requires-clause-can : goal.accept-requires-clause-can
+accept-requires-clause-can g c =
+    let can = subst (λ v. CanCarryOut v c.args.self.now) c.in-Accept.is c.requires.ready in
+    can_accept (record { settings = c.self.inside.settings; registry = c.self.inside.ledger.registry; journal = c.self.inside.ledger.journal }) c.in-Accept.entry c.self.invariant
+    (subst (λ server. IsAcceptable server c.in-Accept.entry) (sym c.self.view_is) can)
+
+-- the disk failed
 pub invariant_of-self : goal.invariant_of-self
 invariant_of-self g c =
-    let can = subst (λ v. CanCarryOut v c.args.self.now) c.in-Accept.is c.requires.ready in
-    lives_with c.in-Accept.entry (record { settings = c.self.inside.settings; registry = c.self.inside.registry }) (record { settings = c.self.inside.settings; registry = c.apply.new.self })
-    (subst (λ server. IsAcceptable server c.in-Accept.entry) (sym c.self.view_is) can) refl c.apply.ensures.time c.apply.ensures.stands c.apply.ensures.settings c.self.invariant
+    let old : ServerValue = record { settings = c.self.inside.settings; registry = c.self.inside.ledger.registry; journal = c.self.inside.ledger.journal } in
+    let new : ServerValue = record { settings = c.self.inside.settings; registry = c.accept.new.self.registry; journal = c.accept.new.self.journal } in
+    let living = c.self.invariant in
+    let made = c.in_err-accept-in-Accept.ensures.refused c.self.inside.settings living.state.history living.entries living.stands.ledger in
+    lives_still old new made.0 living refl c.accept.ensures.slots c.in_err-accept-in-Accept.ensures.still made.1
 
-pub returns-in-Accept-clause-stands : goal.returns-in-Accept-clause-stands
-returns-in-Accept-clause-stands g c = λ settings state stands.
-    let can = subst (λ v. CanCarryOut v c.args.self.now) c.in-Accept.is c.requires.ready in
+pub returns-in_err-accept-in-Accept-clause-failed : goal.returns-in_err-accept-in-Accept-clause-failed
+returns-in_err-accept-in-Accept-clause-failed g c =
+    err_of c.from_residual.result _ (λ settings state entries kept.
+    let old : ServerValue = record { settings = c.self.inside.settings; registry = c.self.inside.ledger.registry; journal = c.self.inside.ledger.journal } in
+    let entry = c.in-Accept.entry in
+    let host = c.args.host.now in
+    let left = c.accept.new.disk in
+    let can = subst (λ server. IsAcceptable server entry) (sym c.self.view_is) (subst (λ v. CanCarryOut v c.args.self.now) c.in-Accept.is c.requires.ready) in
+    let here = subst (λ server. IsKept server settings state entries) (sym c.self.view_is) kept in
+    let of = here.stands.stands in
+    let joins = joins_there old settings state entry of can in
+    let writes : RestsWith (g.H.Disk.media host) (journal.StandsFor old.journal settings entries) → Leaves (g.H.Disk.media host) (g.H.Disk.media left) (HoldsTurn settings state (with_entry state entry)) = λ rests.
+    accepting settings (number_remembered old.registry) (time_of old.registry) state entry (g.H.Disk.media host) (g.H.Disk.media left) (ap (λ (limits : Limits). limits.remembered) of.is_of.limits) of.time_is
+    (can.now ∙ of.time_is) (c.accept.ensures.moments settings state.history entries here.stands.ledger joins rests) in
     rw c.in-Accept.is (
-    stands_with c.in-Accept.entry (record { settings = c.self.inside.settings; registry = c.self.inside.registry }) (record { settings = c.self.inside.settings; registry = c.apply.new.self })
-    (subst (λ server. IsAcceptable server c.in-Accept.entry) (sym c.self.view_is) can) refl c.apply.ensures.time c.apply.ensures.stands c.apply.ensures.settings settings state
-    (subst (λ server. StandsFor server settings state) (sym c.self.view_is) stands)
+    record {
+      silent = (g.met.H.Host.disk_keeps host left c.accept.ensures.beside).0;
+      writes = subst (λ (server : ServerValue). RestsWith (g.H.Disk.media host) (journal.StandsFor server.journal settings entries) → Leaves (g.H.Disk.media host) (g.H.Disk.media left) (HoldsTurn settings state (with_entry state entry)))
+          c.self.view_is writes;
+      own = own_with settings old state entry of can;
+    }))
+
+-- it is on the disk and in the tables
+pub invariant_of-self-in-Accept : goal.invariant_of-self-in-Accept
+invariant_of-self-in-Accept g c =
+    let old : ServerValue = record { settings = c.self.inside.settings; registry = c.self.inside.ledger.registry; journal = c.self.inside.ledger.journal } in
+    let new : ServerValue = record { settings = c.self.inside.settings; registry = c.accept.new.self.registry; journal = c.accept.new.self.journal } in
+    let entry = c.in-Accept.entry in
+    let can = subst (λ server. IsAcceptable server entry) (sym c.self.view_is) (subst (λ v. CanCarryOut v c.args.self.now) c.in-Accept.is c.requires.ready) in
+    let living = c.self.invariant in
+    let made = c.in_ok-accept-in-Accept.ensures.accepted c.self.inside.settings living.state.history living.entries living.stands.ledger
+    (joins_there old c.self.inside.settings living.state entry living.stands.stands can) in
+    lives_with entry old new can refl c.accept.ensures.slots c.in_ok-accept-in-Accept.ensures.time made.0 living made.1
+
+pub returns-in-Accept-clause-done : goal.returns-in-Accept-clause-done
+returns-in-Accept-clause-done g c = λ settings state entries kept.
+    let old : ServerValue = record { settings = c.self.inside.settings; registry = c.self.inside.ledger.registry; journal = c.self.inside.ledger.journal } in
+    let new : ServerValue = record { settings = c.self.inside.settings; registry = c.accept.new.self.registry; journal = c.accept.new.self.journal } in
+    let entry = c.in-Accept.entry in
+    let host = c.args.host.now in
+    let mid = c.accept.new.disk in
+    let left = c.send_to-in-Accept.new.host in
+    let can = subst (λ server. IsAcceptable server entry) (sym c.self.view_is) (subst (λ v. CanCarryOut v c.args.self.now) c.in-Accept.is c.requires.ready) in
+    let here = subst (λ server. IsKept server settings state entries) (sym c.self.view_is) kept in
+    let of = here.stands.stands in
+    let joins = joins_there old settings state entry of can in
+    let made = c.in_ok-accept-in-Accept.ensures.accepted settings state.history entries here.stands.ledger joins in
+    let writes : RestsWith (g.H.Disk.media host) (journal.StandsFor old.journal settings entries) → Leaves (g.H.Disk.media host) (g.H.Disk.media mid) (HoldsTurn settings state (with_entry state entry)) = λ rests.
+    accepting settings (number_remembered old.registry) (time_of old.registry) state entry (g.H.Disk.media host) (g.H.Disk.media mid) (ap (λ (limits : Limits). limits.remembered) of.is_of.limits) of.time_is
+    (can.now ∙ of.time_is) (c.accept.ensures.moments settings state.history entries here.stands.ledger joins rests) in
+    let gives =
+    subst (λ reply. Added (g.H.Wire.acts mid) (g.H.Wire.acts left) (Gives (g.H.Wire.moment mid) (owned.To c.args.peer reply ∷ []))) c.bytes-in-Accept.ensures.value c.send_to-in-Accept.ensures.acts in
+    rw c.in-Accept.is (
+      made.0,
+      kept_with entry old new can refl c.accept.ensures.slots c.in_ok-accept-in-Accept.ensures.time settings state entries made.0 here.stands made.1,
+      subst
+          (λ (server : ServerValue). Turned settings state (with_entry state entry) (owned.To c.args.peer c.in-Accept.reply ∷ []) (journal.StandsFor server.journal settings entries)
+          (journal.StandsFor c.accept.new.self.journal settings made.0) (g.H.Disk.media host) (g.H.Disk.media left) (g.H.Wire.acts host) (g.H.Wire.acts left))
+          c.self.view_is
+          (record {
+            mid = g.H.Disk.media mid;
+            moment = g.H.Wire.moment mid;
+            is_moment = g.met.H.Host.one_moment mid;
+            gives = added_behind (g.H.Wire.acts host) (g.H.Wire.acts mid) (g.H.Wire.acts left) (Gives (g.H.Wire.moment mid) (owned.To c.args.peer c.in-Accept.reply ∷ []))
+                (g.met.H.Host.disk_keeps host mid c.accept.ensures.beside).0 gives;
+            writes = writes;
+            rests = made.2;
+            sends = c.send_to-in-Accept.ensures.media;
+          }),
     )

@@ -1,4 +1,3 @@
-use Rattle.std.proofs.Common.{◌<◌, length}
 use Rattle.dots_server.proofs.server.Server.domain_for.Goals as goal
 
 pub returns-in-None-Some-clause-domain : goal.returns-in-None-Some-clause-domain

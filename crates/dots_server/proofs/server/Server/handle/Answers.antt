@@ -1,39 +1,78 @@
 use Rattle.std.proofs.Common.{refl, sym, [], subst}
-use Rattle.dots_host.specs.Runs.{Added, Gives, each_telling}
-use Rattle.dots_host.proofs.RunLemmas.{added_none, outs_back}
+use Rattle.dots_host.specs.Runs.{each_telling}
+use Rattle.dots_host.proofs.RunLemmas.{outs_back}
+use Rattle.slot_store.specs.Standing.{JournalValue}
+use Rattle.slot_journal.specs.Held as journal
+use Rattle.dots_ledger.proofs.Answering.{ok_as, err_as}
 use Rattle.dots_machine.specs.Machine.{later, sends_of, after}
-use Rattle.dots_server.proofs.Keeping.{moves_alone, rests}
+use Rattle.dots_server.specs.Turning.{Turned, Broke}
+use Rattle.dots_server.proofs.Keeping.{moves_alone}
+use Rattle.dots_server.proofs.Turning.{silent, turned_from, broke_from}
 use Rattle.dots_server.proofs.server.Server.handle.Goals as goal
 
-pub returns-in-Datagram-clause-step : goal.returns-in-Datagram-clause-step
-returns-in-Datagram-clause-step g c = λ settings state stands.
+pub returns-in-Datagram-clause-done : goal.returns-in-Datagram-clause-done
+returns-in-Datagram-clause-done g c =
+    ok_as c.carry_out.result _ _ (λ goes settings state entries kept.
     let at = c.args.got.now.at in
-    let moved = c.move_time.ensures.stands settings state stands in
     let decided = c.decide-verdict.result in
     let sends = sends_of decided c.in-Datagram.from in
-    let new = after decided (later state at) in (
+    let new = after decided (later state at) in
+    let host = c.args.host.now in
+    let left = c.carry_out.new.host in
+    let moved = c.move_time.ensures.kept settings state entries kept in
+    let done = goes settings (later state at) entries moved in (
       each_telling new sends,
       new,
-      rw c.in-Datagram.is (sends, refl, (decided, c.decide-verdict.ensures.decides settings (later state at) moved, refl, refl)),
-      c.carry_out.ensures.stands settings (later state at) moved,
-      subst (λ outs. Added (g.H.Wire.acts c.args.host.now) (g.H.Wire.acts c.carry_out.new.host) (Gives (g.H.Wire.moment c.args.host.now) outs)) (sym (outs_back new sends)) c.carry_out.ensures.acts,
+      done.0,
+      rw c.in-Datagram.is (sends, refl, (decided, c.decide-verdict.ensures.decides settings (later state at) moved.stands.stands, refl, refl)),
+      done.1,
+      subst
+          (λ outs. Turned settings state new outs (journal.StandsFor c.args.self.now.journal settings entries) (journal.StandsFor c.carry_out.new.self.journal settings done.0) (g.H.Disk.media host) (g.H.Disk.media left)
+          (g.H.Wire.acts host) (g.H.Wire.acts left))
+          (sym (outs_back new sends))
+          (turned_from settings state new at (journal.StandsFor c.args.self.now.journal settings entries) (g.H.Disk.media host) (g.H.Disk.media left) (g.H.Wire.acts host) (g.H.Wire.acts left) sends
+          (journal.StandsFor c.carry_out.new.self.journal settings done.0)
+          (subst
+          (λ (j : JournalValue). Turned settings (later state at) new sends (journal.StandsFor j settings entries) (journal.StandsFor c.carry_out.new.self.journal settings done.0) (g.H.Disk.media host) (g.H.Disk.media left)
+          (g.H.Wire.acts host) (g.H.Wire.acts left))
+          c.move_time.ensures.journal
+          done.2)),
+    ))
+    c.carry_out.ensures.done
+
+pub returns-in-Datagram-clause-failed : goal.returns-in-Datagram-clause-failed
+returns-in-Datagram-clause-failed g c =
+    err_as c.carry_out.result _ _ (λ goes settings state entries kept.
+    let at = c.args.got.now.at in
+    let decided = c.decide-verdict.result in
+    let sends = sends_of decided c.in-Datagram.from in
+    let new = after decided (later state at) in
+    let host = c.args.host.now in
+    let left = c.carry_out.new.host in
+    let moved = c.move_time.ensures.kept settings state entries kept in (
+      each_telling new sends,
+      new,
+      rw c.in-Datagram.is (sends, refl, (decided, c.decide-verdict.ensures.decides settings (later state at) moved.stands.stands, refl, refl)),
+      broke_from settings state new at (journal.StandsFor c.args.self.now.journal settings entries) (g.H.Disk.media host) (g.H.Disk.media left) (g.H.Wire.acts host) (g.H.Wire.acts left)
+          (subst
+          (λ (j : JournalValue). Broke settings (later state at) new (journal.StandsFor j settings entries) (g.H.Disk.media host) (g.H.Disk.media left) (g.H.Wire.acts host) (g.H.Wire.acts left))
+          c.move_time.ensures.journal
+          (goes settings (later state at) entries moved)),
+    ))
+    c.carry_out.ensures.failed
+
+pub returns-in-Opened-clause-done : goal.returns-in-Opened-clause-done
+returns-in-Opened-clause-done g c = λ settings state entries kept.
+    let at = c.args.got.now.at in
+    let host = c.args.host.now in (
+      [],
+      later state at,
+      entries,
+      moves_alone settings c.args.got.now.what c.args.room.now at state c.in-Opened.is,
+      c.move_time-in-Opened.ensures.kept settings state entries kept,
+      subst
+          (λ (j : JournalValue). Turned settings state (later state at) [] (journal.StandsFor c.args.self.now.journal settings entries) (journal.StandsFor j settings entries) (g.H.Disk.media host) (g.H.Disk.media host)
+          (g.H.Wire.acts host) (g.H.Wire.acts host))
+          (sym c.move_time-in-Opened.ensures.journal)
+          (silent settings state (later state at) (journal.StandsFor c.args.self.now.journal settings entries) (g.H.Disk.media host) (g.H.Wire.moment host) (g.H.Wire.acts host) (g.met.H.Host.one_moment host)),
     )
-
-pub returns-in-Opened : goal.returns-in-Opened
-returns-in-Opened g c =
-    let at = c.args.got.now.at in record {
-      settings = c.move_time-in-Opened.ensures.settings;
-      faults = refl;
-      leads = g.met.H.Wire.leads_same c.args.host.now;
-      step = λ settings state stands. (
-        [],
-        later state at,
-        moves_alone settings c.args.got.now.what c.args.room.now at state c.in-Opened.is,
-        c.move_time-in-Opened.ensures.stands settings state stands,
-        added_none _ (Gives (g.H.Wire.moment c.args.host.now) []) tt,
-      );
-    }
-
-pub returns-clause-step : goal.returns-clause-step
-returns-clause-step g c = λ settings state stands.
-    ([], state, rests settings c.args.got.now.what c.args.room.now c.args.got.now.at state c.in-End.is, stands, added_none _ (Gives (g.H.Wire.moment c.args.host.now) []) tt)

@@ -1,4 +1,4 @@
-use Rattle.std.proofs.Common.{sym, subst}
+use Rattle.std.proofs.Common.{sym, ◌∙◌, subst}
 use Rattle.dots_machine.specs.Replies.{deleted}
 use Rattle.dots_server.specs.Standing.{CanCarryOut}
 use Rattle.dots_server.proofs.Verdicts.{if_both}
@@ -10,5 +10,6 @@ returns-clause-ready c =
     if_both c.withdraw.result _ _ _ _
     (λ v is named short.
     subst (λ v. CanCarryOut v c.args.self.now) (sym is)
-    (withdrawal_acceptable c.args.self.now c.args.from c.args.mid (deleted c.args.from.exchange) c.requires.acts named short))
+    (withdrawal_acceptable c.args.self.now c.args.from c.args.mid (deleted c.args.from.exchange) c.requires.acts named short
+    (λ settings state stands. sym (c.is_taken.ensures settings state stands) ∙ c.if-is_taken.false)))
     c.withdraw.ensures.verdict c.withdraw.ensures.cuid c.withdraw.ensures.reply

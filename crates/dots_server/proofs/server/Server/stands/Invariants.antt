@@ -1,6 +1,5 @@
 use Rattle.std.proofs.Common.{◌≡◌}
 use Rattle.std.specs.List.{list_any}
-use Rattle.live_mitigations.specs.Reading.{Shown}
 use Rattle.dots_settings.specs.Settings.{SettingsValue}
 use Rattle.dots_machine.specs.Machine.{State}
 use Rattle.dots_machine.specs.Mitigations.{lives}

@@ -1,4 +1,4 @@
-use Rattle.std.proofs.Common.{◌∙◌, ap, map}
+use Rattle.std.proofs.Common.{◌∙◌, map}
 use Rattle.reply_bodies.specs.Mitigations.{scope_of}
 use Rattle.live_mitigations.specs.Reading.{row_view}
 use Rattle.dots_server.proofs.Told.{told_more}

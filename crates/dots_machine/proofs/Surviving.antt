@@ -1,0 +1,458 @@
+-- What a crash leaves, one part of a run after the other.
+use Rattle.std.proofs.Common.{◌≡◌, ℕ, ◌+◌, ◌<◌, ◌≤◌, ◌⊎◌, inl, inr, Bool, true, false, zero, suc, if◌then◌else◌, max, List, [], ◌∷◌, ◌++◌, length, take, map, Option, Some, None, refl, sym, ap, ◌∙◌, subst, arith, append_assoc, append-nil, length-append, le_refl}
+use Rattle.std.specs.Prelude.{nat_lt}
+use Rattle.std.proofs.Math.Path.{fun_ext}
+use Rattle.std.proofs.lemmas.Bool.Decides.{nat_tests}
+use Rattle.dots_host.specs.declared.event.Event.{Event}
+use Rattle.dots_host.specs.declared.event.Event.TheVariants as event
+use Rattle.dots_host.specs.declared.out.OwnedOut.{OwnedOut}
+use Rattle.dots_host.specs.Acts.{WireAct, took, gave, Timed}
+use Rattle.dots_host.specs.Runs.{Owing, Trace, each_telling, IsSend, outs_of, Gives}
+use Rattle.dots_disk.specs.Media.{Medium, Media, IsImage, all_media}
+use Rattle.dots_disk.specs.Becoming.{EachMedium, KeepsMedia, Leaves, RestsWith}
+use Rattle.slot_store.proofs.Steps.{image_at_rest}
+use Rattle.dots_settings.specs.Settings.{SettingsValue}
+use Rattle.dots_history.specs.declared.entry.Entry.{Entry}
+use Rattle.dots_history.specs.Histories.{Within}
+use Rattle.dots_laws.specs.Fits.{last_or, last_time}
+use Rattle.dots_laws.proofs.Composing.{kept_later}
+use Rattle.dots_ledger.specs.Crashes.{HoldsKept}
+use Rattle.dots_machine.specs.declared.verdict.Verdict.{Verdict}
+use Rattle.dots_machine.specs.declared.verdict.Verdict.TheVariants as verdict
+use Rattle.dots_machine.specs.Machine.{State, later, after, Step}
+use Rattle.dots_machine.specs.Surviving.{Story, entries_told, shown, time_told, time_at, past_of, NoneBefore, StandsAt, EachFrom, LeavesAt}
+
+-- ---- runs with all that they tell
+
+module _ (settings : SettingsValue) where
+  pub story_length : (old new : Owing State) (acts : List Timed) (trace : List State) → Story settings old acts trace new → length acts ≡ length trace
+  story_length old new [] [] s = refl
+  story_length old new [] (told ∷ trace) s = absurd s
+  story_length old new (timed ∷ acts) [] s = absurd s
+  story_length old new (timed ∷ acts) (told ∷ trace) s = let same = story_length s.0 new acts trace s.3 in omega (arith, same)
+
+  pub story_then : (old mid new : Owing State) (front back : List Timed) (told later : List State) → Story settings old front told mid → Story settings mid back later new
+      → Story settings old (front ++ back) (told ++ later) new
+  story_then old mid new [] back [] later a b = subst (λ start. Story settings start back later new) a b
+  story_then old mid new (timed ∷ front) back (state ∷ told) later a b = (a.0, a.1, a.2, story_then a.0 mid new front back told later a.3 b)
+  story_then old mid new [] back (state ∷ told) later a b = absurd a
+  story_then old mid new (timed ∷ front) back [] later a b = absurd a
+
+  pub story_trace : (old new : Owing State) (acts : List Timed) (trace : List State) → Story settings old acts trace new → Trace (Step settings) old acts trace new
+  story_trace old new [] [] s = s
+  story_trace old new [] (told ∷ trace) s = absurd s
+  story_trace old new (timed ∷ acts) [] s = absurd s
+  story_trace old new (timed ∷ acts) (told ∷ trace) s = (s.0, s.1, story_trace s.0 new acts trace s.3)
+
+-- ---- before and after a moment
+
+no_earlier : (a b : ℕ) → b ≤ a → nat_lt a b ≡ false
+no_earlier a b le = grind (arith, nat_tests, le)
+
+earlier : (a b : ℕ) → a < b → nat_lt a b ≡ true
+earlier a b less = grind (arith, nat_tests, less)
+
+pub gives_late : (m moment : ℕ) (outs : List OwnedOut) (acts : List Timed) → m ≤ moment → Gives moment outs acts → NoneBefore m acts
+gives_late m moment [] [] le g = tt
+gives_late m moment [] (timed ∷ acts) le g = absurd g
+gives_late m moment (out ∷ outs) [] le g = absurd g
+gives_late m moment (out ∷ outs) (timed ∷ acts) le g = let at = g.0 in (omega (arith, at, le), gives_late m (moment + 1) outs acts (omega (arith, le)) g.2)
+
+pub none_then : (m : ℕ) (front back : List Timed) → NoneBefore m front → NoneBefore m back → NoneBefore m (front ++ back)
+none_then m [] back a b = b
+none_then m (timed ∷ front) back a b = (a.0, none_then m front back a.1 b)
+
+shown_then : (m : ℕ) (front back : List Timed) (told later : List State) (n : ℕ) → length front ≡ length told → shown m (front ++ back) (told ++ later) n ≡ shown m back later (shown m front told n)
+shown_then m [] back [] later n same = refl
+shown_then m [] back (state ∷ told) later n same = absurd (omega (arith, same))
+shown_then m (timed ∷ front) back [] later n same = absurd (omega (arith, same))
+shown_then m (timed ∷ front) back (state ∷ told) later n same =
+    shown_then m front back told later (if nat_lt timed.moment m then entries_told timed.act state n else n) (omega (arith, same))
+
+time_then : (m : ℕ) (front back : List Timed) (told later : List State) (t : ℕ) → length front ≡ length told → time_at m (front ++ back) (told ++ later) t ≡ time_at m back later (time_at m front told t)
+time_then m [] back [] later t same = refl
+time_then m [] back (state ∷ told) later t same = absurd (omega (arith, same))
+time_then m (timed ∷ front) back [] later t same = absurd (omega (arith, same))
+time_then m (timed ∷ front) back (state ∷ told) later t same =
+    time_then m front back told later (if nat_lt timed.moment m then time_told timed.act state t else t) (omega (arith, same))
+
+pub none_earlier : (m n : ℕ) (acts : List Timed) → m ≤ n → NoneBefore n acts → NoneBefore m acts
+none_earlier m n [] le late = tt
+none_earlier m n (timed ∷ acts) le late = let at = late.0 in (omega (arith, at, le), none_earlier m n acts le late.1)
+
+shown_late : (m : ℕ) (acts : List Timed) (trace : List State) (n : ℕ) → NoneBefore m acts → shown m acts trace n ≡ n
+shown_late m [] trace n late = refl
+shown_late m (timed ∷ acts) [] n late = refl
+shown_late m (timed ∷ acts) (told ∷ trace) n late =
+    ap (λ b. shown m acts trace (if b then entries_told timed.act told n else n)) (no_earlier timed.moment m late.0) ∙ shown_late m acts trace n late.1
+
+time_late : (m : ℕ) (acts : List Timed) (trace : List State) (t : ℕ) → NoneBefore m acts → time_at m acts trace t ≡ t
+time_late m [] trace t late = refl
+time_late m (timed ∷ acts) [] t late = refl
+time_late m (timed ∷ acts) (told ∷ trace) t late =
+    ap (λ b. time_at m acts trace (if b then time_told timed.act told t else t)) (no_earlier timed.moment m late.0) ∙ time_late m acts trace t late.1
+
+-- ---- sends
+
+-- the states that sends tell
+abbrev pub told_by : List (State × OwnedOut) → List State
+told_by owed = map (λ send. send.0) owed
+
+-- none of the sends tells more entries
+abbrev pub TellFew : ℕ → List (State × OwnedOut) → Type 0
+TellFew most [] = Unit {0}
+TellFew most (send ∷ owed) = (length send.0.history ≤ most) × TellFew most owed
+
+few_told : (act : WireAct) (out : OwnedOut) (told : State) (b : Bool) (n most : ℕ) → IsSend out act → n ≤ most → length told.history ≤ most → (if b then entries_told act told n else n) ≤ most
+few_told (took e at) out told b n most s less few = absurd s
+few_told (gave o d) out told true n most s less few = few
+few_told (gave o d) out told false n most s less few = less
+
+shown_sends : (m moment : ℕ) (owed : List (State × OwnedOut)) (acts : List Timed) (n most : ℕ) → Gives moment (outs_of owed) acts → n ≤ most → TellFew most owed → shown m acts (told_by owed) n ≤ most
+shown_sends m moment [] [] n most g less few = less
+shown_sends m moment [] (timed ∷ acts) n most g less few = absurd g
+shown_sends m moment (send ∷ owed) [] n most g less few = absurd g
+shown_sends m moment (send ∷ owed) (timed ∷ acts) n most g less few =
+    shown_sends m (moment + 1) owed acts (if nat_lt timed.moment m then entries_told timed.act send.0 n else n) most g.2
+    (few_told timed.act send.1 send.0 (nat_lt timed.moment m) n most g.1 less few.0) few.1
+
+no_time_told : (act : WireAct) (out : OwnedOut) (told : State) (b : Bool) (t : ℕ) → IsSend out act → (if b then time_told act told t else t) ≡ t
+no_time_told (took e at) out told b t s = absurd s
+no_time_told (gave o d) out told true t s = refl
+no_time_told (gave o d) out told false t s = refl
+
+time_sends : (m moment : ℕ) (owed : List (State × OwnedOut)) (acts : List Timed) (t : ℕ) → Gives moment (outs_of owed) acts → time_at m acts (told_by owed) t ≡ t
+time_sends m moment [] [] t g = refl
+time_sends m moment [] (timed ∷ acts) t g = absurd g
+time_sends m moment (send ∷ owed) [] t g = absurd g
+time_sends m moment (send ∷ owed) (timed ∷ acts) t g =
+    ap (λ u. time_at m acts (told_by owed) u) (no_time_told timed.act send.1 send.0 (nat_lt timed.moment m) t g.1) ∙ time_sends m (moment + 1) owed acts t g.2
+
+-- ---- a step
+
+tell_each : (new : State) (outs : List OwnedOut) → TellFew (length new.history) (each_telling new outs)
+tell_each new [] = tt
+tell_each new (out ∷ outs) = (le_refl (length new.history), tell_each new outs)
+
+none_owed : (most : ℕ) (owed : List (State × OwnedOut)) → owed ≡ [] → TellFew most owed
+none_owed most owed is = subst (TellFew most) (sym is) tt
+
+-- the sends of a step tell no more than the history after it has
+pub step_tells : (settings : SettingsValue) (old : State) (what : Event) (at : ℕ) (owed : List (State × OwnedOut)) (new : State) → Step settings old what at owed new → TellFew (length new.history) owed
+step_tells settings old (event.Datagram peer datagram) at owed new step = subst (TellFew (length new.history)) (sym step.1) (tell_each new step.0)
+step_tells settings old event.End at owed new step = none_owed _ owed step.0
+step_tells settings old event.Failed at owed new step = none_owed _ owed step.0
+step_tells settings old (event.Opened c p) at owed new step = none_owed _ owed step.0
+step_tells settings old (event.Piece c p) at owed new step = none_owed _ owed step.0
+step_tells settings old (event.Closed c) at owed new step = none_owed _ owed step.0
+step_tells settings old event.Tick at owed new step = none_owed _ owed step.0
+step_tells settings old event.Restart at owed new step = none_owed _ owed step.0
+
+abbrev Grows : State → State → Type 0
+Grows old new = (extra : List Entry) × (new.history ≡ old.history ++ extra)
+
+same_grows : (old new : State) → new.history ≡ old.history → Grows old new
+same_grows old new is = ([], is ∙ sym (append-nil old.history))
+
+verdict_grows : (v : Verdict) (state : State) → Grows state (after v state)
+verdict_grows verdict.Silent state = same_grows state state refl
+verdict_grows (verdict.Reply reply) state = same_grows state state refl
+verdict_grows (verdict.Told reply) state = same_grows state state refl
+verdict_grows (verdict.Accept reply entry) state = (entry ∷ [], refl)
+
+-- a step adds to the history, or leaves it
+pub step_grows : (settings : SettingsValue) (old : State) (what : Event) (at : ℕ) (owed : List (State × OwnedOut)) (new : State) → Step settings old what at owed new → (extra : List Entry) × (new.history ≡ old.history ++ extra)
+step_grows settings old (event.Datagram peer datagram) at owed new step =
+    let grown = verdict_grows step.2.0 (later old at) in (grown.0, ap (λ (state : State). state.history) step.2.3 ∙ grown.1)
+step_grows settings old event.End at owed new step = same_grows old new (ap (λ (state : State). state.history) step.1)
+step_grows settings old event.Failed at owed new step = same_grows old new (ap (λ (state : State). state.history) step.1)
+step_grows settings old (event.Opened c p) at owed new step = same_grows old new (ap (λ (state : State). state.history) step.1)
+step_grows settings old (event.Piece c p) at owed new step = same_grows old new (ap (λ (state : State). state.history) step.1)
+step_grows settings old (event.Closed c) at owed new step = same_grows old new (ap (λ (state : State). state.history) step.1)
+step_grows settings old event.Tick at owed new step = same_grows old new (ap (λ (state : State). state.history) step.1)
+step_grows settings old event.Restart at owed new step = same_grows old new (ap (λ (state : State). state.history) step.1)
+
+after_time : (v : Verdict) (state : State) → (after v state).time ≡ state.time
+after_time verdict.Silent state = refl
+after_time (verdict.Reply reply) state = refl
+after_time (verdict.Told reply) state = refl
+after_time (verdict.Accept reply entry) state = refl
+
+moved_on : (old new : State) (at : ℕ) → last_time old.history ≤ old.time → new.time ≡ max at old.time → last_time old.history ≤ new.time
+moved_on old new at timely is = omega (arith, timely, is)
+
+-- and its time isn't before that of the last entry
+pub step_timely : (settings : SettingsValue) (old : State) (what : Event) (at : ℕ) (owed : List (State × OwnedOut)) (new : State) → last_time old.history ≤ old.time → Step settings old what at owed new
+    → last_time old.history ≤ new.time
+step_timely settings old (event.Datagram peer datagram) at owed new timely step =
+    moved_on old new at timely (ap (λ (state : State). state.time) step.2.3 ∙ after_time step.2.0 (later old at))
+step_timely settings old event.End at owed new timely step = subst (λ (state : State). last_time old.history ≤ state.time) (sym step.1) timely
+step_timely settings old event.Failed at owed new timely step = subst (λ (state : State). last_time old.history ≤ state.time) (sym step.1) timely
+step_timely settings old (event.Opened c p) at owed new timely step = moved_on old new at timely (ap (λ (state : State). state.time) step.1)
+step_timely settings old (event.Piece c p) at owed new timely step = moved_on old new at timely (ap (λ (state : State). state.time) step.1)
+step_timely settings old (event.Closed c) at owed new timely step = moved_on old new at timely (ap (λ (state : State). state.time) step.1)
+step_timely settings old event.Tick at owed new timely step = moved_on old new at timely (ap (λ (state : State). state.time) step.1)
+step_timely settings old event.Restart at owed new timely step =
+    let is = ap (λ (state : State). state.time) step.1 in omega (arith, is)
+
+-- ---- the disk, part by part
+
+each_so : (m : ℕ) (media : List Medium) (P R : ℕ → (ℕ → ℕ) → Type 0) → ((k : ℕ) → m ≤ k → k < m + length media → (image : ℕ → ℕ) → P k image → R k image) → EachFrom m media P → EachFrom m media R
+each_so m [] P R goes each = tt
+each_so m (medium ∷ media) P R goes each =
+    ((λ image is. goes m (le_refl m) (omega arith) image (each.0 image is)), each_so (m + 1) media P R (λ k low high. goes k (omega (arith, low)) (omega (arith, high))) each.1)
+
+each_then : (m : ℕ) (front back : List Medium) (P : ℕ → (ℕ → ℕ) → Type 0) → EachFrom m front P → EachFrom (m + length front) back P → EachFrom m (front ++ back) P
+each_then m [] back P a b = subst (λ k. EachFrom k back P) (omega arith) b
+each_then m (medium ∷ front) back P a b = (a.0, each_then (m + 1) front back P a.1 (subst (λ k. EachFrom k back P) (omega arith) b))
+
+-- how many moments came
+many : (old new : Media) (added : List Medium) → all_media new ≡ all_media old ++ added → length new.past ≡ length old.past + length added
+many old new added is =
+    let count = ap length is in
+    let before = length-append old.past (old.now ∷ []) in
+    let after_it = length-append new.past (new.now ∷ []) in
+    let both = length-append (all_media old) added in
+    omega (arith, count, before, after_it, both)
+
+module _ (P : ℕ → (ℕ → ℕ) → Type 0) where
+  pub leaves_at_then : (old mid new : Option Media) → LeavesAt old mid P → LeavesAt mid new P → LeavesAt old new P
+  leaves_at_then None mid new a b = absurd a
+  leaves_at_then (Some old) None new a b = absurd a
+  leaves_at_then (Some old) (Some mid) None a b = absurd b
+  leaves_at_then (Some old) (Some mid) (Some new) a b = (
+    a.0 ++ b.0,
+    b.1 ∙ ap (λ media. media ++ b.0) a.1 ∙ append_assoc (all_media old) a.0 b.0,
+    each_then (length old.past + 1) a.0 b.0 P a.2 (subst (λ k. EachFrom k b.0 P) (let count = many old mid a.0 a.1 in omega (arith, count)) b.2),
+  )
+
+  pub leaves_at_none : (media : Option Media) (Any : (ℕ → ℕ) → Type 0) → RestsWith media Any → LeavesAt media media P
+  leaves_at_none None Any rests = absurd rests
+  leaves_at_none (Some media) Any rests = ([], sym (append-nil (all_media media)), tt)
+
+  each_at : (m : ℕ) (media : List Medium) (R : (ℕ → ℕ) → Type 0) → ((k : ℕ) → m ≤ k → k < m + length media → (image : ℕ → ℕ) → R image → P k image)
+      → EachMedium media (λ medium. (image : ℕ → ℕ) → IsImage medium image → R image) → EachFrom m media P
+  each_at m [] R goes each = tt
+  each_at m (medium ∷ media) R goes each =
+      ((λ image is. goes m (le_refl m) (omega arith) image (each.0 image is)), each_at (m + 1) media R (λ k low high. goes k (omega (arith, low)) (omega (arith, high))) each.1)
+
+  -- what holds at each moment of a part holds there at its moment
+  pub leaves_there : (old new : Option Media) (Any R : (ℕ → ℕ) → Type 0) → RestsWith old Any → ((k : ℕ) → past_of old < k → k ≤ past_of new → (image : ℕ → ℕ) → R image → P k image)
+      → Leaves old new R → LeavesAt old new P
+  leaves_there None new Any R rests goes leaves = absurd rests
+  leaves_there (Some old) None Any R rests goes leaves = absurd leaves
+  leaves_there (Some old) (Some new) Any R rests goes leaves = (
+    leaves.0,
+    leaves.1,
+    each_at (length old.past + 1) leaves.0 R (λ k low high. goes k (omega (arith, low)) (let count = many old new leaves.0 leaves.1 in omega (arith, high, count))) leaves.2,
+  )
+
+pub leaves_at_so : (old new : Option Media) (P R : ℕ → (ℕ → ℕ) → Type 0) → ((k : ℕ) → k ≤ past_of new → (image : ℕ → ℕ) → P k image → R k image) → LeavesAt old new P → LeavesAt old new R
+leaves_at_so None new P R goes leaves = absurd leaves
+leaves_at_so (Some old) None P R goes leaves = absurd leaves
+leaves_at_so (Some old) (Some new) P R goes leaves = (
+  leaves.0,
+  leaves.1,
+  each_so (length old.past + 1) leaves.0 P R (λ k low high. goes k (let count = many old new leaves.0 leaves.1 in omega (arith, high, count))) leaves.2,
+)
+
+-- an image of a disk at rest has what a read gives
+pub image_rests : (medium : Medium) (image : ℕ → ℕ) (R : (ℕ → ℕ) → Type 0) → medium.pending ≡ [] → R medium.seen → IsImage medium image → R image
+image_rests medium image R none holds is = subst R (sym (fun_ext (image_at_rest medium image none is))) holds
+
+-- a disk that rests, and on which nothing is written, has the same at each moment
+pub rests_on : (old new : Option Media) (R : (ℕ → ℕ) → Type 0) → RestsWith old R → KeepsMedia old new → Leaves old new R
+rests_on None new R rests keeps = absurd rests
+rests_on (Some old) None R rests keeps = absurd keeps
+rests_on (Some old) (Some new) R rests keeps = (keeps.0, keeps.1, each keeps.0 keeps.2)
+  where
+    each : (media : List Medium) → EachMedium media (λ medium. medium ≡ old.now) → EachMedium media (λ medium. (image : ℕ → ℕ) → IsImage medium image → R image)
+    each [] are = tt
+    each (medium ∷ media) are =
+        ((λ image is. image_rests old.now image R rests.0 rests.1 (subst (λ medium. IsImage medium image) are.0 is)), each media are.1)
+
+pub rests_still : (old new : Option Media) (R : (ℕ → ℕ) → Type 0) → RestsWith old R → KeepsMedia old new → RestsWith new R
+rests_still None new R rests keeps = absurd rests
+rests_still (Some old) None R rests keeps = absurd keeps
+rests_still (Some old) (Some new) R rests keeps = (ap (λ (medium : Medium). medium.pending) keeps.3 ∙ rests.0, subst (λ (medium : Medium). R medium.seen) (sym keeps.3) rests.1)
+
+keeps_past : (old new : Option Media) (Any : (ℕ → ℕ) → Type 0) → RestsWith old Any → KeepsMedia old new → past_of old ≤ past_of new
+keeps_past None new Any rests keeps = absurd rests
+keeps_past (Some old) None Any rests keeps = absurd keeps
+keeps_past (Some old) (Some new) Any rests keeps = let count = many old new keeps.0 keeps.1 in omega (arith, count)
+
+leaves_past : (old new : Option Media) (Any R : (ℕ → ℕ) → Type 0) → RestsWith old Any → Leaves old new R → past_of old ≤ past_of new
+leaves_past None new Any R rests leaves = absurd rests
+leaves_past (Some old) None Any R rests leaves = absurd leaves
+leaves_past (Some old) (Some new) Any R rests leaves = let count = many old new leaves.0 leaves.1 in omega (arith, count)
+
+pub leaves_at_past : (old new : Option Media) (P : ℕ → (ℕ → ℕ) → Type 0) → LeavesAt old new P → past_of old ≤ past_of new
+leaves_at_past None new P leaves = absurd leaves
+leaves_at_past (Some old) None P leaves = absurd leaves
+leaves_at_past (Some old) (Some new) P leaves = let count = many old new leaves.0 leaves.1 in omega (arith, count)
+
+pub later_past : (a b c : Option Media) (Before Either : (ℕ → ℕ) → Type 0) → RestsWith a Before → KeepsMedia a b → Leaves b c Either → past_of a ≤ past_of c
+later_past a b c Before Either rests keeps writes =
+    let later_b = keeps_past a b Before rests keeps in
+    let later_c = leaves_past b c Before Either (rests_still a b Before rests keeps) writes in
+    omega (arith, later_b, later_c)
+
+-- ---- one turn
+
+take_front : (n : ℕ) (xs ys : List Entry) → n ≤ length xs → take n (xs ++ ys) ≡ take n xs
+take_front zero xs ys le = refl
+take_front (suc n) [] ys le = absurd (omega (arith, le))
+take_front (suc n) (x ∷ xs) ys le = ap (λ zs. x ∷ zs) (take_front n xs ys (omega (arith, le)))
+
+take_all : (xs : List Entry) → take (length xs) xs ≡ xs
+take_all [] = refl
+take_all (x ∷ xs) = ap (λ zs. x ∷ zs) (take_all xs)
+
+either_way : (b : Bool) (n : ℕ) → (if b then n else n) ≡ n
+either_way true n = refl
+either_way false n = refl
+
+module _ (settings : SettingsValue) (start : State) where
+  abbrev Held : ℕ → List Entry → (ℕ → ℕ) → Type 0
+  Held t history image = HoldsKept settings settings.limits.remembered t history image
+
+  abbrev first_entries : ℕ
+  first_entries = length start.history
+
+  -- the moments before the turn
+  older : (acts more : List Timed) (trace told : List State) (history extra : List Entry) (m : ℕ) (image : ℕ → ℕ) → length acts ≡ length trace → NoneBefore m more
+      → StandsAt settings start acts trace history m image → StandsAt settings start (acts ++ more) (trace ++ told) (history ++ extra) m image
+  older acts more trace told history extra m image same late stands = record {
+    count = stands.count;
+    within = let within = stands.within in let longer = length-append history extra in omega (arith, within, longer);
+    told = subst (λ n. n ≤ stands.count) (sym (shown_then m acts more trace told first_entries same ∙ shown_late m more told (shown m acts trace first_entries) late)) stands.told;
+    holds = subst (λ t. Held t (take stands.count (history ++ extra)) image) (sym (time_then m acts more trace told start.time same ∙ time_late m more told (time_at m acts trace start.time) late))
+        (subst (λ es. Held (time_at m acts trace start.time) es image) (sym (take_front stands.count history extra stands.within)) stands.holds);
+  }
+
+  -- the moments of the turn: behind the event, the sends say what was told
+  module _ (acts : List Timed) (trace : List State) (same : length acts ≡ length trace) (moment at : ℕ) (what : Event) (new : State) (more : List Timed) (owed : List (State × OwnedOut)) where
+    abbrev event_taken : Timed
+    event_taken = record { moment = moment; act = took what at }
+
+    shown_here : (m : ℕ) → shown m (acts ++ event_taken ∷ more) (trace ++ new ∷ told_by owed) first_entries ≡ shown m more (told_by owed) (shown m acts trace first_entries)
+    shown_here m =
+        shown_then m acts (event_taken ∷ more) trace (new ∷ told_by owed) first_entries same
+        ∙ ap (λ n. shown m more (told_by owed) n) (either_way (nat_lt moment m) (shown m acts trace first_entries))
+
+    time_here : (m next : ℕ) → moment < m → Gives next (outs_of owed) more → time_at m (acts ++ event_taken ∷ more) (trace ++ new ∷ told_by owed) start.time ≡ new.time
+    time_here m next less gives =
+        time_then m acts (event_taken ∷ more) trace (new ∷ told_by owed) start.time same
+        ∙ ap (λ b. time_at m more (told_by owed) (if b then new.time else time_at m acts trace start.time)) (earlier moment m less)
+        ∙ time_sends m next owed more new.time gives
+
+    newer : (m next : ℕ) (image : ℕ → ℕ) (count : ℕ) → moment < m → Gives next (outs_of owed) more → count ≤ length new.history
+        → shown m more (told_by owed) (shown m acts trace first_entries) ≤ count → Held new.time (take count new.history) image
+        → StandsAt settings start (acts ++ event_taken ∷ more) (trace ++ new ∷ told_by owed) new.history m image
+    newer m next image count less gives within told holds = record {
+      count = count;
+      within = within;
+      told = subst (λ n. n ≤ count) (sym (shown_here m)) told;
+      holds = subst (λ t. Held t (take count new.history) image) (sym (time_here m next less gives)) holds;
+    }
+
+    module _ (old : State) (grown : (extra : List Entry) × (new.history ≡ old.history ++ extra)) (few : TellFew (length new.history) owed)
+        (bounded : (m : ℕ) → shown m acts trace first_entries ≤ length old.history) where
+      abbrev Whole : ℕ → (ℕ → ℕ) → Type 0
+      Whole m image = StandsAt settings start (acts ++ event_taken ∷ more) (trace ++ new ∷ told_by owed) new.history m image
+
+      grown_length : length old.history ≤ length new.history
+      grown_length = let is = ap length grown.1 ∙ length-append old.history grown.0 in omega (arith, is)
+
+      before_front : take (length old.history) new.history ≡ old.history
+      before_front = ap (take (length old.history)) grown.1 ∙ take_front (length old.history) old.history grown.0 (le_refl (length old.history)) ∙ take_all old.history
+
+      -- before the first send the disk has the old entries or the new ones
+      unsent : (m next : ℕ) (image : ℕ → ℕ) → moment < m → m ≤ next → Gives next (outs_of owed) more → Held new.time old.history image ⊎ Held new.time new.history image → Whole m image
+      unsent m next image less le gives (inl holds) =
+          newer m next image (length old.history) less gives grown_length
+          (subst (λ n. n ≤ length old.history) (sym (shown_late m more (told_by owed) (shown m acts trace first_entries) (gives_late m next (outs_of owed) more le gives))) (bounded m))
+          (subst (λ es. Held new.time es image) (sym before_front) holds)
+      unsent m next image less le gives (inr holds) =
+          let told = bounded m in
+          let longer = grown_length in
+          newer m next image (length new.history) less gives (le_refl (length new.history))
+          (subst (λ n. n ≤ length new.history) (sym (shown_late m more (told_by owed) (shown m acts trace first_entries) (gives_late m next (outs_of owed) more le gives))) (omega (arith, told, longer)))
+          (subst (λ es. Held new.time es image) (sym (take_all new.history)) holds)
+
+      -- and then the new ones alone
+      sent : (m next : ℕ) (image : ℕ → ℕ) → moment < m → Gives next (outs_of owed) more → Held new.time new.history image → Whole m image
+      sent m next image less gives holds =
+          let told = bounded m in
+          let longer = grown_length in
+          newer m next image (length new.history) less gives (le_refl (length new.history))
+          (shown_sends m next owed more (shown m acts trace first_entries) (length new.history) gives (omega (arith, told, longer)) few)
+          (subst (λ es. Held new.time es image) (sym (take_all new.history)) holds)
+
+      pub bounded_still : (next : ℕ) → Gives next (outs_of owed) more → (m : ℕ) → shown m (acts ++ event_taken ∷ more) (trace ++ new ∷ told_by owed) first_entries ≤ length new.history
+      bounded_still next gives m =
+          let told = bounded m in
+          let longer = grown_length in
+          subst (λ n. n ≤ length new.history) (sym (shown_here m)) (shown_sends m next owed more (shown m acts trace first_entries) (length new.history) gives (omega (arith, told, longer)) few)
+
+      -- the event is taken, and then it is written
+      pub survives_writing : (first a b c : Option Media) (next : ℕ) → past_of a ≡ moment → past_of c ≤ next → Gives next (outs_of owed) more
+          → LeavesAt first a (StandsAt settings start acts trace old.history) → RestsWith a (Held new.time old.history) → KeepsMedia a b
+          → Leaves b c (λ image. Held new.time old.history image ⊎ Held new.time new.history image) → LeavesAt first c Whole
+      survives_writing first a b c next here le gives leaves rests keeps writes =
+          let Before : (ℕ → ℕ) → Type 0 = λ image. Held new.time old.history image in
+          let Either : (ℕ → ℕ) → Type 0 = λ image. Held new.time old.history image ⊎ Held new.time new.history image in
+          let rests_b = rests_still a b Before rests keeps in
+          let later_b = keeps_past a b Before rests keeps in
+          let later_c = leaves_past b c Before Either rests_b writes in
+          let front : LeavesAt first a Whole = leaves_at_so first a (StandsAt settings start acts trace old.history) Whole (λ k under image stands.
+          subst (λ es. StandsAt settings start (acts ++ event_taken ∷ more) (trace ++ new ∷ told_by owed) es k image) (sym grown.1)
+          (older acts (event_taken ∷ more) trace (new ∷ told_by owed) old.history grown.0 k image same
+          (omega (arith, under, here), gives_late k next (outs_of owed) more (omega (arith, under, later_b, later_c, le)) gives) stands)) leaves in
+          let taken : LeavesAt a b Whole = leaves_there Whole a b Before Before rests (λ k low high image holds.
+          unsent k next image (omega (arith, low, here)) (omega (arith, high, later_c, le)) gives (inl holds)) (rests_on a b Before rests keeps) in
+          let written : LeavesAt b c Whole = leaves_there Whole b c Before Either rests_b (λ k low high image holds.
+          unsent k next image (omega (arith, low, later_b, here)) (omega (arith, high, le)) gives holds) writes in
+          leaves_at_then Whole first b c (leaves_at_then Whole first a b front taken) written
+
+      -- and then all is sent
+      pub survives_sending : (first c d : Option Media) (next : ℕ) → moment ≤ past_of c → Gives next (outs_of owed) more → LeavesAt first c Whole
+          → RestsWith c (Held new.time new.history) → KeepsMedia c d → LeavesAt first d Whole
+      survives_sending first c d next here gives leaves rests keeps =
+          let After : (ℕ → ℕ) → Type 0 = λ image. Held new.time new.history image in
+          leaves_at_then Whole first c d leaves (leaves_there Whole c d After After rests (λ k low high image holds. sent k next image (omega (arith, low, here)) gives holds) (rests_on c d After rests keeps))
+
+-- ---- the opening, before the first event
+
+pub survives_opening : (settings : SettingsValue) (start : State) (first a b : Option Media) (acts : List Timed) (trace : List State) (history extra : List Entry) → history ≡ start.history ++ extra → NoneBefore (past_of a) acts
+    → (Any : (ℕ → ℕ) → Type 0) → RestsWith first Any → Leaves first a (HoldsKept settings settings.limits.remembered start.time start.history)
+    → LeavesAt a b (StandsAt settings start acts trace history) → LeavesAt first b (StandsAt settings start acts trace history)
+survives_opening settings start first a b acts trace history extra grown late Any rests leaves rest =
+    let Whole : ℕ → (ℕ → ℕ) → Type 0 = λ m image. StandsAt settings start acts trace history m image in
+    let Before : (ℕ → ℕ) → Type 0 = λ image. HoldsKept settings settings.limits.remembered start.time start.history image in
+    leaves_at_then Whole first a b (leaves_there Whole first a Any Before rests opened leaves) rest
+  where
+    opened : (k : ℕ) → past_of first < k → k ≤ past_of a → (image : ℕ → ℕ) → HoldsKept settings settings.limits.remembered start.time start.history image → StandsAt settings start acts trace history k image
+    opened k low high image holds =
+        let none = none_earlier k (past_of a) acts high late in record {
+          count = length start.history;
+          within = let longer = ap length grown ∙ length-append start.history extra in omega (arith, longer);
+          told = subst (λ n. n ≤ length start.history) (sym (shown_late k acts trace (length start.history) none)) (le_refl (length start.history));
+          holds = subst (λ t. HoldsKept settings settings.limits.remembered t (take (length start.history) history) image) (sym (time_late k acts trace start.time none))
+              (subst (λ es. HoldsKept settings settings.limits.remembered start.time es image)
+              (sym (ap (take (length start.history)) grown ∙ take_front (length start.history) start.history extra (le_refl (length start.history)) ∙ take_all start.history)) holds);
+        }
+
+-- ---- time
+
+within_or : (t low high : ℕ) (xs : List Entry) → t ≤ low → Within low xs high → last_or t xs ≤ high
+within_or t low high [] less within = omega (arith, less, within)
+within_or t low high (x ∷ xs) less within = within_or x.time x.time high xs (le_refl x.time) within.1
+
+pub within_last : (high : ℕ) (xs : List Entry) → Within 0 xs high → last_time xs ≤ high
+within_last high xs within = within_or 0 0 high xs (le_refl 0) within
+
+-- entries that a disk holds with the view of a history have it later too
+pub held_later : (settings : SettingsValue) (t u : ℕ) (history : List Entry) (image : ℕ → ℕ) → t ≤ u → HoldsKept settings settings.limits.remembered t history image → HoldsKept settings settings.limits.remembered u history image
+held_later settings t u history image le held =
+    record { entries = held.entries; holds = held.holds; calm = held.calm; kept = kept_later settings.limits.remembered t u held.entries history le held.kept }

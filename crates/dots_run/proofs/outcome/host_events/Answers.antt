@@ -1,0 +1,68 @@
+use Rattle.std.specs.List.{list_all}
+use Rattle.std.proofs.Common.{◌≡◌, true, refl, sym, subst}
+use Rattle.dots_machine.specs.Machine.{begun_from}
+use Rattle.dots_machine.specs.Outside.{Outside}
+use Rattle.dots_laws.specs.Calm.{is_own}
+use Rattle.dots_server.specs.Standing.{IsKept}
+use Rattle.dots_run.specs.Refusals.{Counts, Wrote}
+use Rattle.dots_run.proofs.Serving.{begun_zero, sees_of, serves_to}
+use Rattle.dots_run.proofs.outcome.host_events.Goals as goal
+
+pub returns-in-Ok-clause-machine : goal.returns-in-Ok-clause-machine
+returns-in-Ok-clause-machine g c = λ left left_now faults faults_now.
+    let old = c.args.host.now in
+    let mid = c.begin.new.host in
+    let new = c.serve.new.host in
+    let report = c.args.report.now in
+    let written = c.serve.new.report in
+    let (held, kept, calm, disk) = c.in-Ok.ensures.begun in
+    let keeps = g.met.H.Host.disk_keeps old mid c.begin.ensures.beside in
+    let before : Outside = record {
+      left = left;
+      source_faults = faults;
+      acts = g.H.Wire.acts old;
+      wire_faults = g.H.Wire.faults old;
+      media = g.H.Disk.media old;
+      extent = g.H.Disk.extent old;
+      disk_faults = g.H.Disk.faults old;
+      held = g.K.Sink.holds report;
+      report_faults = g.K.Sink.faults report;
+    } in
+    let between : Outside = record {
+      left = left;
+      source_faults = faults;
+      acts = g.H.Wire.acts mid;
+      wire_faults = g.H.Wire.faults mid;
+      media = g.H.Disk.media mid;
+      extent = g.H.Disk.extent mid;
+      disk_faults = g.H.Disk.faults mid;
+      held = g.K.Sink.holds report;
+      report_faults = g.K.Sink.faults report;
+    } in
+    let after : Outside = record {
+      left = left_now;
+      source_faults = faults_now;
+      acts = g.H.Wire.acts new;
+      wire_faults = g.H.Wire.faults new;
+      media = g.H.Disk.media new;
+      extent = g.H.Disk.extent new;
+      disk_faults = g.H.Disk.faults new;
+      held = g.K.Sink.holds written;
+      report_faults = g.K.Sink.faults written;
+    } in
+    let counted : Counts before (g.K.Sink.holds report) (g.K.Sink.faults report) (g.H.Wire.faults mid) (g.H.Disk.faults mid) = record { held = refl; report = refl; wire = sym keeps.1; disk = sym c.in-Ok.ensures.cause } in
+    let counts : Counts after (g.K.Sink.holds written) (g.K.Sink.faults written) (g.H.Wire.faults new) (g.H.Disk.faults new) = record { held = refl; report = refl; wire = refl; disk = refl } in
+    serves_to c.args.settings held before between after calm keeps.0
+    (λ seen rests. c.begin.ensures.moments seen held rests (disk seen (sees_of (g.H.Disk.media old) seen rests)).0)
+    (λ seen sees. (disk seen sees).0)
+    c.serve.result
+    (λ seen sees.
+    let (how, end, came, wrote) = c.serve.ensures.came c.args.settings (begun_from held) held
+    (subst (λ state. IsKept c.in-Ok.server c.args.settings state held) (begun_zero held) kept) (disk seen sees).1 in
+    (how, end, came, wrote before after counted counts))
+    (let (how, state, own, wrote) = c.serve.ensures.any in (
+      how,
+      state,
+      subst (λ s. list_all (is_own s) state.history ≡ true) c.in-Ok.ensures.settings own,
+      subst (λ s. Wrote c.serve.result how s state before after) c.in-Ok.ensures.settings (wrote before after counted counts),
+    ))

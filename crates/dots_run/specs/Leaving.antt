@@ -1,0 +1,33 @@
+-- A run over what a crash of another left.
+use Rattle.std.specs.Prelude.{◌≡◌, ℕ, ◌+◌, ◌≤◌, List, ◌∷◌, ◌++◌, length, take, Option, Some}
+use Rattle.dots_host.specs.Acts.{Timed}
+use Rattle.dots_disk.specs.Media.{Medium, Media, IsImage, all_media}
+use Rattle.dots_settings.specs.Settings.{SettingsValue}
+use Rattle.dots_history.specs.declared.entry.Entry.{Entry}
+use Rattle.dots_history.specs.Histories.{Kept}
+use Rattle.dots_machine.specs.Machine.{State}
+use Rattle.dots_machine.specs.Surviving.{shown, time_at}
+
+-- From the one state of a disk to the other moments came, and a crash at this one of them leaves the image.
+pub record IsLeftAt (m : ℕ) (old new : Media) (image : ℕ → ℕ) : Type 0 where
+  pub added : List Medium
+  pub grown : all_media new ≡ all_media old ++ added
+  pub earlier : List Medium
+  pub medium : Medium
+  pub later : List Medium
+  pub split : added ≡ earlier ++ medium ∷ later
+  pub moment : m ≡ length old.past + 1 + length earlier
+  pub is : IsImage medium image
+
+-- where the disk is told
+abbrev pub CrashLeaves : ℕ → Option Media → Option Media → (ℕ → ℕ) → Type 0
+CrashLeaves m (Some old) (Some new) image = IsLeftAt m old new image
+CrashLeaves m _ _ image = ⊥
+
+-- These entries mean a front of the history to which a run came: they have its view at the machine's time at the moment, and it has at least the
+-- entries that were told before.
+pub record GoesOn (settings : SettingsValue) (start : State) (acts : List Timed) (trace : List State) (history : List Entry) (m : ℕ) (held : List Entry) : Type 0 where
+  pub count : ℕ
+  pub within : count ≤ length history
+  pub told : shown m acts trace (length start.history) ≤ count
+  pub kept : Kept settings.limits.remembered (time_at m acts trace start.time) held (take count history)

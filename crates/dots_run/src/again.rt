@@ -1,0 +1,70 @@
+//! A run, and another one over what a crash of it left.
+
+ghost use Rattle.std.specs.Prelude.{◌≡◌, ◌≤◌, ◌++◌, ◌⊎◌, ℕ, List, map, string_bytes, true, Some, None};
+ghost use Rattle.dots_host.specs.Acts.{Timed};
+ghost use Rattle.dots_host.specs.Causes.{Rose};
+ghost use Rattle.dots_disk.specs.Becoming.{RestsWith};
+ghost use Rattle.slot_store.specs.Gates.{Sees};
+ghost use Rattle.slot_store.specs.Opening.{Is};
+ghost use Rattle.slot_store.specs.Layout.{needed_of};
+ghost use Rattle.slot_journal.specs.Sizes.{slots_of};
+ghost use Rattle.dots_settings.specs.Settings.{SettingsValue};
+ghost use Rattle.dots_machine.specs.declared.ending.Ending as endings;
+ghost use Rattle.dots_machine.specs.declared.ending.Stop.{Stop};
+ghost use Rattle.dots_machine.specs.Commands.{is_replay};
+ghost use Rattle.dots_machine.specs.Endings.{status_of, Behaves, Serves, Reports, GivesSettings, IsReady};
+ghost use Rattle.dots_machine.specs.Machine.{begun_from};
+ghost use Rattle.dots_machine.specs.Outside.{Outside};
+ghost use Rattle.dots_run.specs.Leaving.{CrashLeaves, GoesOn};
+ghost use Rattle.dots_run.specs.Topics.{topic_of};
+
+use crate::running::run;
+use dots_disk::Host;
+use dots_host::{Sink, Source};
+use std::alloc::Global;
+
+/// Runs over a host, and then over another one, on whose disk a crash at any moment of the first run left an image. Answers both exit statuses.
+/// The second run has a source of the settings and a report of its own.
+pub fn run_again<H: Host, S: Source, K: Sink, G: Host, T: Source, L: Sink>(
+    alloc: Global,
+    words: &[String],
+    settings: &mut S,
+    host: &mut H,
+    report: &mut K,
+    again: &mut T,
+    other: &mut G,
+    last: &mut L,
+) -> (u8, u8)
+    // What each run has done is what `run` says of it.
+    ensures first { topic_of (map string_bytes words.now) ≡ None → (ending : endings.Ending) × (result.0 ≡ status_of ending) × Behaves ending (map string_bytes words.now)
+        (record { left = S.left settings.old; source_faults = S.faults settings.old; acts = H.acts host.old; wire_faults = H.Wire.faults host.old; media = H.media host.old; extent = H.extent host.old; disk_faults = H.Disk.faults host.old; held = K.holds report.old; report_faults = K.faults report.old })
+        (record { left = S.left settings.new; source_faults = S.faults settings.new; acts = H.acts host.new; wire_faults = H.Wire.faults host.new; media = H.media host.new; extent = H.extent host.new; disk_faults = H.Disk.faults host.new; held = K.holds report.new; report_faults = K.faults report.new }) }
+    ensures second { topic_of (map string_bytes words.now) ≡ None → (ending : endings.Ending) × (result.1 ≡ status_of ending) × Behaves ending (map string_bytes words.now)
+        (record { left = T.left again.old; source_faults = T.faults again.old; acts = G.acts other.old; wire_faults = G.Wire.faults other.old; media = G.media other.old; extent = G.extent other.old; disk_faults = G.Disk.faults other.old; held = L.holds last.old; report_faults = L.faults last.old })
+        (record { left = T.left again.new; source_faults = T.faults again.new; acts = G.acts other.new; wire_faults = G.Wire.faults other.new; media = G.media other.new; extent = G.extent other.new; disk_faults = G.Disk.faults other.new; held = L.holds last.new; report_faults = L.faults last.new }) }
+
+    // What the second run begins from is what the first one's clause says of the crash: a front of what that accepted, with all that it had told
+    // before. So it is at each moment, whatever the crash leaves, where the first disk had nothing pending at the start and both tell.
+    ensures goes_on { (settings_of : SettingsValue) (how : Stop) (before now : Outside) (first : Serves settings_of how before now (Reports how settings_of before now))
+        → before.media ≡ H.media host.old → now.media ≡ H.media host.new
+        → (seen : ℕ → ℕ) (sees : Sees before.media seen) → RestsWith before.media (Is seen) → (xs ys : List Timed) → before.acts ≡ Some xs → now.acts ≡ Some ys
+        → (m : ℕ) (image : ℕ → ℕ) → CrashLeaves m (H.media host.old) (H.media host.new) image → Sees (G.media other.old) image
+        → (how_then : Stop) (then after : Outside) (second : Serves settings_of how_then then after (Reports how_then settings_of then after)) → then.media ≡ G.media other.old
+        → (acts : List Timed) × (ys ≡ xs ++ acts) × GoesOn settings_of (begun_from first.held) acts (first.lives seen sees).trace (first.lives seen sees).end.last.history m second.held }
+
+    // And that disk isn't refused: where it is large enough and nothing fails, the second run goes well, want of memory and 2^40 events without End
+    // aside.
+    ensures well { (settings_of : SettingsValue) (how : Stop) (before now : Outside) (first : Serves settings_of how before now (Reports how settings_of before now))
+        → before.media ≡ H.media host.old → now.media ≡ H.media host.new
+        → (seen : ℕ → ℕ) (sees : Sees before.media seen) → RestsWith before.media (Is seen) → (xs ys : List Timed) → before.acts ≡ Some xs → now.acts ≡ Some ys
+        → (m : ℕ) (image : ℕ → ℕ) → CrashLeaves m (H.media host.old) (H.media host.new) image → Sees (G.media other.old) image
+        → (gives : GivesSettings (T.left again.old)) → gives.settings ≡ settings_of → needed_of (slots_of settings_of) ≤ G.extent other.old
+        → is_replay (map string_bytes words.now) ≡ true
+        → ¬ (Rose (T.faults again.old) (T.faults again.new)) → ¬ (Rose (G.Wire.faults other.old) (G.Wire.faults other.new))
+        → ¬ (Rose (G.Disk.faults other.old) (G.Disk.faults other.new)) → ¬ (Rose (L.faults last.old) (L.faults last.new))
+        → (result.1 ≡ 0) ⊎ (result.1 ≡ 4) ⊎ (result.1 ≡ 11) }
+{
+    let status = run(alloc, words, settings, host, report);
+    let second = run(alloc, words, again, other, last);
+    (status, second)
+}
