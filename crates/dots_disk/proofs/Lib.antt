@@ -1,3 +1,4 @@
 pub mod ContentLemmas
 pub mod DiskLemmas
 pub mod WrittenLemmas
+pub mod LoggedLemmas

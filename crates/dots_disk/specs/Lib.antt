@@ -6,3 +6,5 @@ pub mod Stored
 pub mod StoredLaws
 pub mod Hosted
 pub mod HostedLaws
+pub mod Logged
+pub mod LoggedLaws

@@ -84,7 +84,7 @@ disk_acts moment (act.Read o ∷ acts) are = disk_acts (moment + 1) acts are.1
 disk_acts moment (act.Wrote a b o ∷ acts) are = disk_acts (moment + 1) acts are.1
 disk_acts moment (act.Synced o ∷ acts) are = disk_acts (moment + 1) acts are.1
 
-same_acts : (moment : ℕ) (acts more : List Act) → AreOfDisk more → wire_acts moment (acts ++ more) ≡ wire_acts moment acts
+pub same_acts : (moment : ℕ) (acts more : List Act) → AreOfDisk more → wire_acts moment (acts ++ more) ≡ wire_acts moment acts
 same_acts moment [] more are = disk_acts moment more are
 same_acts moment (act.Took e t ∷ acts) more are = ap (λ later. (record { moment = moment; act = took e t }) ∷ later) (same_acts (moment + 1) acts more are)
 same_acts moment (act.Gave o d ∷ acts) more are = ap (λ later. (record { moment = moment; act = gave o d }) ∷ later) (same_acts (moment + 1) acts more are)

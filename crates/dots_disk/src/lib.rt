@@ -12,10 +12,12 @@ mod content;
 mod disk;
 mod handing;
 mod host;
+mod logged_disk;
 mod memory_disk;
 mod memory_host;
 
 pub use disk::Disk;
 pub use host::Host;
+pub use logged_disk::LoggedDisk;
 pub use memory_disk::MemoryDisk;
 pub use memory_host::MemoryHost;

@@ -1,13 +1,10 @@
 -- A run over a script, from text to text.
-use Rattle.std.proofs.Common.{◌≡◌, List, ℕ, [], Option, Some, None, Bool, true, false, refl, sym, ap, subst}
-use Rattle.std.proofs.lemmas.Bool.{true≢false}
-use Rattle.dots_host.specs.declared.act.Act.{Act}
-use Rattle.dots_host.specs.Acts.{Timed, wire_acts}
-use Rattle.dots_host.specs.Memory.{told}
+use Rattle.std.proofs.Common.{◌≡◌, List, ℕ, [], Option, Some, None, false, refl, sym, ap, subst}
+use Rattle.dots_host.specs.Acts.{Timed}
 use Rattle.dots_host.specs.Runs.{Added}
 use Rattle.dots_host.specs.Writing.{AppendsBeginning}
 use Rattle.dots_script.specs.Lines.{to_come}
-use Rattle.dots_script.specs.Accounts.{Standing, Accounts, AccountsKnown}
+use Rattle.dots_script.specs.Accounts.{Standing, Accounts}
 use Rattle.dots_settings.specs.Settings.{SettingsValue}
 use Rattle.dots_machine.specs.declared.ending.Ending.{Ending}
 use Rattle.dots_machine.specs.declared.ending.Ending.TheVariants as ending
@@ -69,14 +66,6 @@ module _ (words : List (List ℕ)) (before after : Outside) (acts : List Timed) 
   joins (ending.Served how) behaves same = (behaves.1, behaves.2, served behaves.1 how (Reports how behaves.1 before after) behaves.3)
   joins ending.ReportFailed behaves same =
       (behaves.1, behaves.2, served behaves.1 stop.Ended (λ state. AppendsBeginning before.held after.held (report_of behaves.1 state)) behaves.3.0)
-
-pub known : (start now : Standing) (whole : Bool) (acts : List Act) → whole ≡ true → AccountsKnown start now (told whole acts) → Accounts start now (wire_acts 0 acts)
-known start now true acts is accounts = accounts
-known start now false acts is accounts = absurd (true≢false (sym is))
-
-pub told_whole : (whole : Bool) (acts : List Act) → whole ≡ true → told whole acts ≡ Some (wire_acts 0 acts)
-told_whole true acts is = refl
-told_whole false acts is = absurd (true≢false (sym is))
 
 nothing_ahead : (left : Option (List ℕ)) → to_come [] left ≡ left
 nothing_ahead None = refl

@@ -1,5 +1,5 @@
 -- What a run over a script has done, and over which file.
-use Rattle.std.specs.Prelude.{◌≡◌, ℕ, Bool, true, false, List, Option, Some, None}
+use Rattle.std.specs.Prelude.{◌≡◌, ℕ, true, false, List, Option, Some, None}
 use Rattle.dots_script.specs.Accounts.{Standing}
 use Rattle.dots_machine.specs.declared.ending.Ending.{Ending}
 use Rattle.dots_machine.specs.Commands.{second_of}
@@ -21,13 +21,11 @@ pub record HasTold (topic : Topic) (status : ℕ) (before now : Outside) (start 
   pub stands : end ≡ start
 
 -- A run of these words with this status, from what stood outside before to what stands there now, and from where the script and the
--- sink of its sends stood to where they stand. Whole says whether the host could record each call.
-pub record Runs (words : List (List ℕ)) (status : ℕ) (before now : Outside) (start end : Standing) (whole : Bool) : Type 0 where
-  -- what it has done, by the ending that its status is of
-  pub machine : topic_of words ≡ None → (ending : Ending) × (status ≡ status_of ending) × Behaves ending words before now
-  -- From text to text: what the machine sends on the events of the script's lines stands line by line in the sink, and the
-  -- machine's report in the report.
-  pub texts : topic_of words ≡ None → whole ≡ true → (ending : Ending) × (status ≡ status_of ending) × JoinsTexts ending before now start end
+-- sink of its sends stood to where they stand.
+pub record Runs (words : List (List ℕ)) (status : ℕ) (before now : Outside) (start end : Standing) : Type 0 where
+  -- What it has done, by the ending that its status is of. From text to text: what the machine sends on the events of the script's lines
+  -- stands line by line in the sink, and the machine's report in the report.
+  pub machine : topic_of words ≡ None → (ending : Ending) × (status ≡ status_of ending) × Behaves ending words before now × JoinsTexts ending before now start end
   -- what is told without serving
   pub told : (topic : Topic) → topic_of words ≡ Some topic → HasTold topic status before now start end
   -- what the status says of the words, of the settings and of what failed

@@ -1,11 +1,10 @@
 -- A run over a script, from text to text.
 use Rattle.std.specs.Prelude.{◌≡◌, ◌^◌, List, ℕ, [], Option, Some, IfSome}
 use Rattle.dots_host.specs.Acts.{Timed}
-use Rattle.dots_host.specs.Memory.{told}
 use Rattle.dots_host.specs.Runs.{Owing}
 use Rattle.dots_host.specs.Writing.{AppendsBeginning}
 use Rattle.dots_disk.specs.Media.{blank}
-use Rattle.dots_disk.specs.Stored.{media_of}
+use Rattle.dots_disk.specs.Logged.{media_since, acts_told}
 use Rattle.dots_script.specs.Accounts.{Standing, Accounts}
 use Rattle.dots_script.specs.Scripting.{Scripting}
 use Rattle.dots_settings.specs.Settings.{SettingsValue}
@@ -37,9 +36,9 @@ abbrev pub outside_with : {S K : Type 0} → Option (List ℕ) → ℕ → Scrip
 outside_with left source_faults host held report_faults = record {
   left = left;
   source_faults = source_faults;
-  acts = told host.disk.whole host.disk.acts;
+  acts = acts_told host.disk;
   wire_faults = host.faults;
-  media = Some (media_of host.disk);
+  media = Some (media_since host.disk.acts);
   extent = host.disk.extent;
   disk_faults = host.disk.faults;
   held = held;

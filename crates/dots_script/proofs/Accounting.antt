@@ -8,14 +8,14 @@ use Rattle.dots_host.specs.declared.event.Event.TheVariants as event
 use Rattle.dots_host.specs.declared.out.OwnedOut.{OwnedOut}
 use Rattle.dots_host.specs.declared.out.Sent.{Sent}
 use Rattle.dots_host.specs.declared.out.Sent.TheVariants as sent
-use Rattle.dots_host.specs.Acts.{Timed, took, gave, Adds, is_done}
+use Rattle.dots_host.specs.Acts.{wire_acts, Timed, took, gave, Adds, is_done}
 use Rattle.dots_host.specs.Causes.{Rose}
 use Rattle.dots_host.specs.declared.act.Act.{Act}
-use Rattle.dots_host.specs.Memory.{Coming, told}
+use Rattle.dots_host.specs.Memory.{Coming}
 use Rattle.dots_host.specs.Writing.{AppendsBeginning}
 use Rattle.dots_script.specs.Lines.{to_come, with_feed, with_feeds, AreSkipped, IsFault, Takes, Fails, Ends, NextIs}
 use Rattle.dots_script.specs.Sends.{line_of}
-use Rattle.dots_script.specs.Accounts.{AreMade, LineSays, event_in, events_among, IsTaken, HasRead, HasReadKnown, WireWrites, ActWrites, HasWritten, Standing, Accounts, AccountsKnown}
+use Rattle.dots_script.specs.Accounts.{AreMade, LineSays, event_in, events_among, IsTaken, HasRead, HasReadKnown, WireWrites, ActWrites, HasWritten, Standing, Accounts}
 use Rattle.dots_script.proofs.OneAnswer.{stops_at_fault, no_fault_at_end, no_fault_at_event}
 use Rattle.dots_script.proofs.Making.{made_then, made_one, feeds_append, skipped_say, few_said, events_push, took_back, nil_back}
 
@@ -204,11 +204,9 @@ appends_none (Some xs) (Some ys) is = ap (λ known. known_or known) is ∙ sym (
 
 -- ---- a call of next, and a call of send
 
-pub accounts_taken : (start old new : Standing) (before after : Option (List Timed)) (moment now : ℕ) (got : Event) (at : ℕ) → Adds before moment after now (took got at)
-    → NextIs old.script new.script got at (Rose old.failures new.failures) → old.failures ≤ new.failures → new.held ≡ old.held → AccountsKnown start old before → AccountsKnown start new after
-accounts_taken start old new before None moment now got at adds a later held h = tt
-accounts_taken start old new None (Some after) moment now got at adds a later held h = absurd adds
-accounts_taken start old new (Some before) (Some after) moment now got at adds a later held h =
+pub accounts_taken : (start old new : Standing) (before after : List Timed) (moment now : ℕ) (got : Event) (at : ℕ) → Adds (Some before) moment (Some after) now (took got at)
+    → NextIs old.script new.script got at (Rose old.failures new.failures) → old.failures ≤ new.failures → new.held ≡ old.held → Accounts start old before → Accounts start new after
+accounts_taken start old new before after moment now got at adds a later held h =
     let timed : Timed = record { moment = moment; act = took got at } in
     let all : Accounts start new (before ++ timed ∷ []) = record {
       later = omega (arith, later, h.later);
@@ -249,11 +247,9 @@ piece_done old new out result is appends = record { text = line_of out; writes =
 pub piece_lost : (old new : Option (List ℕ)) (out : OwnedOut) (result : Sent) → result ≡ sent.Lost → AppendsBeginning old new (line_of out) → Piece old new out result
 piece_lost old new out result is part = record { text = part.front; writes = subst (λ (r : Sent). WireWrites (gave out (is_done r)) part.front) (sym is) (part.rest, part.split); appends = part.appends }
 
-pub accounts_given : (start old new : Standing) (before after : Option (List Timed)) (moment now : ℕ) (out : OwnedOut) (result : Sent) → Adds before moment after now (gave out (is_done result))
-    → new.script ≡ old.script → new.failures ≡ old.failures → Piece old.held new.held out result → AccountsKnown start old before → AccountsKnown start new after
-accounts_given start old new before None moment now out result adds script failures one h = tt
-accounts_given start old new None (Some after) moment now out result adds script failures one h = absurd adds
-accounts_given start old new (Some before) (Some after) moment now out result adds script failures one h =
+pub accounts_given : (start old new : Standing) (before after : List Timed) (moment now : ℕ) (out : OwnedOut) (result : Sent) → Adds (Some before) moment (Some after) now (gave out (is_done result))
+    → new.script ≡ old.script → new.failures ≡ old.failures → Piece old.held new.held out result → Accounts start old before → Accounts start new after
+accounts_given start old new before after moment now out result adds script failures one h =
     let timed : Timed = record { moment = moment; act = gave out (is_done result) } in
     let read = read_kept start.script old.script (Rose start.failures old.failures) before timed out (is_done result) refl h.read in
     let all : Accounts start new (before ++ timed ∷ []) = record {
@@ -266,17 +262,17 @@ accounts_given start old new (Some before) (Some after) moment now out result ad
 
 -- ---- nothing was called yet
 
-pub accounts_none : (start : Standing) → AccountsKnown start start (Some [])
+pub accounts_none : (start : Standing) → Accounts start start []
 accounts_none start = record { later = omega arith; read = read_none start.script; written = record { text = []; made = refl; appends = Appends-nil start.held } }
   where
     read_none : (script : Option (List ℕ)) → HasReadKnown script script (Rose start.failures start.failures) []
     read_none None = tt
     read_none (Some script) = record { lines = []; split = refl; said = refl; ended = λ none. absurd none; failed = λ none. absurd none }
 
-begun : (left held : Option (List ℕ)) (failures : ℕ) → AccountsKnown (record { script = left; held = held; failures = failures }) (record { script = to_come [] left; held = held; failures = failures }) (Some [])
+begun : (left held : Option (List ℕ)) (failures : ℕ) → Accounts (record { script = left; held = held; failures = failures }) (record { script = to_come [] left; held = held; failures = failures }) []
 begun None held failures = accounts_none (record { script = None; held = held; failures = failures })
 begun (Some script) held failures = accounts_none (record { script = Some script; held = held; failures = failures })
 
-pub accounts_begun : (left held : Option (List ℕ)) (failures : ℕ) (ahead : List ℕ) (whole : Bool) (acts : List Act) → ahead ≡ [] → acts ≡ [] → whole ≡ true
-    → AccountsKnown (record { script = left; held = held; failures = failures }) (record { script = to_come ahead left; held = held; failures = failures }) (told whole acts)
-accounts_begun left held failures ahead whole acts none no_acts is = rw (none, no_acts, is) (begun left held failures)
+pub accounts_begun : (left held : Option (List ℕ)) (failures : ℕ) (ahead : List ℕ) (acts : List Act) → ahead ≡ [] → acts ≡ []
+    → Accounts (record { script = left; held = held; failures = failures }) (record { script = to_come ahead left; held = held; failures = failures }) (wire_acts 0 acts)
+accounts_begun left held failures ahead acts none no_acts = rw (none, no_acts) (begun left held failures)

@@ -3,9 +3,9 @@ use Rattle.std.specs.Prelude.{◌≡◌, ℕ, ◌+◌, ◌^◌, ◌≤◌, ◌�
 use Rattle.std.specs.Io.KnownBytes.{Appends}
 use Rattle.dots_host.specs.declared.event.Event.{Event}
 use Rattle.dots_host.specs.declared.event.Event.TheVariants as event
-use Rattle.dots_host.specs.Acts.{Timed, WireAct, took, gave}
+use Rattle.dots_host.specs.Acts.{Timed, WireAct, took, gave, wire_acts}
 use Rattle.dots_host.specs.Causes.{Rose}
-use Rattle.dots_host.specs.Memory.{Coming, told}
+use Rattle.dots_host.specs.Memory.{Coming}
 use Rattle.dots_script.specs.Script.{IsSkipped, IsEventLine}
 use Rattle.dots_script.specs.Lines.{IsLine, with_feeds, IsFault, to_come}
 use Rattle.dots_script.specs.Scripting.{Scripting}
@@ -89,15 +89,10 @@ pub record Accounts (start now : Standing) (acts : List Timed) : Type 0 where
   pub read : HasReadKnown start.script now.script (Rose start.failures now.failures) acts
   pub written : HasWritten start.held now.held acts
 
--- where acts are told
-abbrev pub AccountsKnown : Standing → Standing → Option (List Timed) → Type 0
-AccountsKnown start now None = ⊤
-AccountsKnown start now (Some acts) = Accounts start now acts
-
 -- how a host stands, by what its source and its sink tell
 abbrev pub standing : {S K : Type 0} → (S → Option (List ℕ)) → (S → ℕ) → (K → Option (List ℕ)) → Scripting S K → Standing
 standing left failures holds host = record { script = to_come host.ahead (left host.source); held = holds host.sink; failures = failures host.source }
 
--- the acts that a host tells are all that was read and written since that start
+-- the acts of a host are all that was read and written since that start
 abbrev pub AccountsSince : {S K : Type 0} → (S → Option (List ℕ)) → (S → ℕ) → (K → Option (List ℕ)) → Standing → Scripting S K → Type 0
-AccountsSince left failures holds start host = AccountsKnown start (standing left failures holds host) (told host.disk.whole host.disk.acts)
+AccountsSince left failures holds start host = Accounts start (standing left failures holds host) (wire_acts 0 host.disk.acts)

@@ -1,19 +1,17 @@
 -- Calls of the disk of a host of a script go on from none, and one after the other, and keep what its wire has read and written.
-use Rattle.std.proofs.Common.{◌≡◌, ℕ, List, Option, Some, None, refl, sym, ap, subst, ◌∙◌}
-use Rattle.dots_host.specs.Acts.{Timed}
-use Rattle.dots_host.specs.Memory.{told}
-use Rattle.dots_disk.specs.Beside.{KeepsActs}
-use Rattle.dots_disk.specs.StoredLaws.{goes_on_same, goes_on_then, keeps_acts}
+use Rattle.std.proofs.Common.{◌≡◌, ℕ, List, Option, refl, sym, ap, subst, ◌∙◌}
+use Rattle.dots_host.specs.Acts.{wire_acts}
+use Rattle.dots_disk.specs.LoggedLaws.{adds_calls_same, adds_calls_then, keeps_acts_logged}
 use Rattle.dots_script.specs.Lines.{to_come}
 use Rattle.dots_script.specs.Scripting.{Scripting, KeepsScript}
-use Rattle.dots_script.specs.Accounts.{Standing, Accounts, AccountsKnown, AccountsSince, standing}
+use Rattle.dots_script.specs.Accounts.{Standing, Accounts, AccountsSince, standing}
 
 pub keeps_script_same : {S K : Type 0} (host : Scripting S K) → KeepsScript host host
-keeps_script_same host = record { disk = goes_on_same host.disk; source = refl; ahead = refl; sink = refl; faults = refl }
+keeps_script_same host = record { disk = adds_calls_same host.disk; source = refl; ahead = refl; sink = refl; faults = refl }
 
 pub keeps_script_then : {S K : Type 0} (old mid new : Scripting S K) → KeepsScript old mid → KeepsScript mid new → KeepsScript old new
 keeps_script_then old mid new a b = record {
-  disk = goes_on_then old.disk mid.disk new.disk a.disk b.disk;
+  disk = adds_calls_then old.disk mid.disk new.disk a.disk b.disk;
   source = b.source ∙ a.source;
   ahead = b.ahead ∙ a.ahead;
   sink = b.sink ∙ a.sink;
@@ -31,13 +29,7 @@ module _ {S K : Type 0} (left : S → Option (List ℕ)) (failures : S → ℕ) 
       ∙ ap (λ source. stands old.ahead source new.sink) keeps.source
       ∙ ap (λ sink. stands old.ahead old.source sink) keeps.sink
 
-  kept : (start now : Standing) (before after : Option (List Timed)) → KeepsActs before after → AccountsKnown start now before → AccountsKnown start now after
-  kept start now before None keeps accounts = tt
-  kept start now None (Some after) keeps accounts = absurd keeps
-  kept start now (Some before) (Some after) keeps accounts = subst (Accounts start now) (sym keeps) accounts
-
   pub script_leads : (old new : Scripting S K) → KeepsScript old new → (start : Standing) → AccountsSince left failures holds start old → AccountsSince left failures holds start new
   script_leads old new keeps start accounts =
-      let same = stands_still old new keeps in
-      subst (λ now. AccountsKnown start now (told new.disk.whole new.disk.acts)) (sym same)
-      (kept start (standing left failures holds old) (told old.disk.whole old.disk.acts) (told new.disk.whole new.disk.acts) (keeps_acts old.disk new.disk keeps.disk) accounts)
+      subst (λ now. Accounts start now (wire_acts 0 new.disk.acts)) (sym (stands_still old new keeps))
+      (subst (Accounts start (standing left failures holds old)) (sym (keeps_acts_logged old.disk new.disk keeps.disk)) accounts)

@@ -1,25 +1,24 @@
-ghost use Rattle.std.specs.Prelude.{◌≡◌, ◌+◌, ◌≤◌, ◌<◌, ◌^◌, [], length, false, Some, IfOk, OnOk, OnErr};
+ghost use Rattle.std.specs.Prelude.{◌≡◌, ◌+◌, ◌≤◌, ◌<◌, ◌^◌, [], length, true, Some, IfOk, OnOk, OnErr};
 ghost use Rattle.std.specs.Io.KnownBytes.{Appends};
 ghost use Rattle.dots_host.specs.Causes.{Rose, HasCause};
 ghost use Rattle.dots_host.specs.Acts.{IsWithin, OnFailed, OnEvent, Adds, taken, given, event_of, owned_of};
-ghost use Rattle.dots_host.specs.Memory.{told};
 ghost use Rattle.dots_host.specs.Writing.{AppendsBeginning};
 ghost use Rattle.dots_host.specs.declared.TheConstants.{MAX_EVENT_BYTES};
 ghost use Rattle.dots_disk.specs.Media.{bytes_at, written, IsTorn, settled};
 ghost use Rattle.dots_disk.specs.Becoming.{Becomes, MayBecome, Stays};
-ghost use Rattle.dots_disk.specs.Stored.{media_of, KeepsDisk};
-ghost use Rattle.dots_disk.specs.StoredLaws.{keeps_disk_same, keeps_disk_then, one_moment, keeps_acts};
+ghost use Rattle.dots_disk.specs.Logged.{zeros, with_call, media_since, acts_told, KeepsLogged};
+ghost use Rattle.dots_disk.specs.LoggedLaws.{keeps_logged_same, keeps_logged_then, one_moment_logged, keeps_acts_logged};
 ghost use Rattle.dots_script.specs.Lines.{to_come, NextIs};
 ghost use Rattle.dots_script.specs.Sends.{line_of};
 ghost use Rattle.dots_script.specs.Accounts.{Standing, AccountsSince};
-ghost use Rattle.dots_script.specs.Scripting.{zeros, KeepsScript};
+ghost use Rattle.dots_script.specs.Scripting.{KeepsScript};
 ghost use Rattle.dots_script.specs.ScriptingLaws.{keeps_script_same, keeps_script_then, script_leads};
 
 use crate::block::Block;
 use crate::event_line::parse_event;
 use crate::lines::{Found, find_unskipped};
 use crate::send_line::{SEND_ROOM, write_line};
-use dots_disk::{Disk, MemoryDisk};
+use dots_disk::{Disk, LoggedDisk};
 use dots_host::{
     Failed, Got, Host, MAX_EVENT_BYTES, NoMemory, Out, Sent, Sink, Source, What, Wire,
 };
@@ -30,18 +29,17 @@ use std::marker::Model;
 pub const DISK_BYTES: u64 = 1_073_741_824;
 
 /// A host whose events are the lines of a script and whose sends are written as lines. Its disk is in memory, of
-/// [`DISK_BYTES`] zeros at first, and takes memory for what is written to it alone. It records its calls.
+/// [`DISK_BYTES`] zeros at first, and takes memory for what is written to it alone. It tells its acts: they stand in a log
+/// that exists in proofs alone.
 ///
-/// A call of the wire that can't be recorded for want of memory goes on, and one of the disk fails; from then on the acts
-/// are no longer told. A call of the disk fails for no other reason.
+/// A write to the disk fails where no memory is found for it. No other call of the disk fails.
 #[derive(Debug, Drop)]
 pub struct ScriptHost<S, K> {
-    alloc: Global,
     source: S,
     block: Block,
     sink: K,
     room: Vec<u8>,
-    disk: MemoryDisk,
+    disk: LoggedDisk,
     faults: u64,
 }
 
@@ -65,7 +63,7 @@ impl<S: Source + Drop, K: Sink + Drop> ScriptHost<S, K> {
     /// A host over the script that the source gives, whose sends go to the sink. Takes the room for lines.
     pub fn new(alloc: Global, source: S, sink: K) -> Result<Self, NoMemory>
         ensures host { IfOk result (λ host. host ≡
-            record { source = source; ahead = []; sink = sink; disk = zeros host.disk.room; faults = 0 }) }
+            record { source = source; ahead = []; sink = sink; disk = zeros (2 ^ 30); faults = 0 }) }
         // It has read and written nothing yet.
         ensures accounts { IfOk result (λ host. AccountsSince S.left S.faults K.holds
             (record { script = S.left source; held = K.holds sink; failures = S.faults source }) host) }
@@ -73,12 +71,11 @@ impl<S: Source + Drop, K: Sink + Drop> ScriptHost<S, K> {
         let block = Block::new(alloc)?;
         let room = vec![in alloc; 0u8; SEND_ROOM]?;
         Ok(ScriptHost {
-            alloc,
             source,
             block,
             sink,
             room,
-            disk: MemoryDisk::new(alloc, DISK_BYTES),
+            disk: LoggedDisk::new(alloc, DISK_BYTES),
             faults: 0,
         })
     }
@@ -90,13 +87,6 @@ impl<S: Source, K: Sink> ScriptHost<S, K> {
         ensures { result.now ≡ self.now.sink }
     {
         &self.sink
-    }
-
-    /// Whether it tells its acts: each call so far was recorded.
-    pub fn whole(&self) -> bool
-        ensures { result ≡ self.now.disk.whole }
-    {
-        self.disk.is_whole()
     }
 }
 
@@ -142,17 +132,17 @@ fn count_fault(faults: u64, what: What) -> u64
 }
 
 impl<S: Source, K: Sink> Wire for ScriptHost<S, K> {
-    ghost acts = { λ host. told host.disk.whole host.disk.acts };
+    ghost acts = { λ host. acts_told host.disk };
 
     ghost moment = { λ host. length host.disk.acts };
 
     ghost faults = { λ host. host.faults };
 
-    ghost beside = { λ old new. KeepsDisk old.disk new.disk };
+    ghost beside = { λ old new. KeepsLogged old.disk new.disk };
 
-    ghost beside_same = { λ host. keeps_disk_same host.disk };
+    ghost beside_same = { λ host. keeps_logged_same host.disk };
 
-    ghost beside_then = { λ old mid new. keeps_disk_then old.disk mid.disk new.disk };
+    ghost beside_then = { λ old mid new. keeps_logged_then old.disk mid.disk new.disk };
 
     // Whatever the start, the acts that it tells still are all that was read and written since.
     ghost leads = { λ old new. (start : Standing) → AccountsSince S.left S.faults K.holds start old →
@@ -166,11 +156,11 @@ impl<S: Source, K: Sink> Wire for ScriptHost<S, K> {
         requires { length into.old ≡ MAX_EVENT_BYTES }
         ensures at { result.at < 2 ^ 48 }
         ensures within { IsWithin result.what MAX_EVENT_BYTES }
-        ensures acts { Adds (told self.old.disk.whole self.old.disk.acts) (length self.old.disk.acts)
-            (told self.new.disk.whole self.new.disk.acts) (length self.new.disk.acts) (taken result into.new) }
+        ensures acts { Adds (acts_told self.old.disk) (length self.old.disk.acts)
+            (acts_told self.new.disk) (length self.new.disk.acts) (taken result into.new) }
         ensures later { self.old.faults ≤ self.new.faults }
         ensures cause { OnFailed result.what (Rose self.old.faults self.new.faults) }
-        ensures beside { KeepsDisk self.old.disk self.new.disk }
+        ensures beside { KeepsLogged self.old.disk self.new.disk }
         ensures leads { (start : Standing) → AccountsSince S.left S.faults K.holds start self.old →
             AccountsSince S.left S.faults K.holds start self.new }
 
@@ -184,15 +174,15 @@ impl<S: Source, K: Sink> Wire for ScriptHost<S, K> {
     {
         let got = next_event(&mut self.block, &mut self.source, into);
         self.faults = count_fault(self.faults, got.what);
-        self.disk.record_taken(self.alloc, got, into);
+        self.disk.note_taken(got, into);
         got
     }
 
     fn send(&mut self, out: &Out) -> Sent
-        ensures acts { Adds (told self.old.disk.whole self.old.disk.acts) (length self.old.disk.acts)
-            (told self.new.disk.whole self.new.disk.acts) (length self.new.disk.acts) (given out.now result) }
+        ensures acts { Adds (acts_told self.old.disk) (length self.old.disk.acts)
+            (acts_told self.new.disk) (length self.new.disk.acts) (given out.now result) }
         ensures faults { self.new.faults ≡ self.old.faults }
-        ensures beside { KeepsDisk self.old.disk self.new.disk }
+        ensures beside { KeepsLogged self.old.disk self.new.disk }
         ensures leads { (start : Standing) → AccountsSince S.left S.faults K.holds start self.old →
             AccountsSince S.left S.faults K.holds start self.new }
 
@@ -210,13 +200,13 @@ impl<S: Source, K: Sink> Wire for ScriptHost<S, K> {
             Ok(()) => Sent::Done,
             Err(Failed) => Sent::Lost,
         };
-        self.disk.record_given(self.alloc, out, sent);
+        self.disk.note_given(out, sent);
         sent
     }
 }
 
 impl<S: Source, K: Sink> Disk for ScriptHost<S, K> {
-    ghost media = { λ host. Some (media_of host.disk) };
+    ghost media = { λ host. Some (media_since host.disk.acts) };
 
     ghost extent = { λ host. host.disk.extent };
 
@@ -236,47 +226,44 @@ impl<S: Source, K: Sink> Disk for ScriptHost<S, K> {
 
     fn read(&mut self, at: u64, into: &mut [u8]) -> Result<(), Failed>
         requires { at + length into.old ≤ self.old.disk.extent }
-        ensures bytes { OnOk result (into.new ≡ bytes_at (media_of self.old.disk).now.seen at (length into.old)) }
-        ensures ok { OnOk result (Becomes (Some (media_of self.old.disk)) (Some (media_of self.new.disk)) Stays) }
-        ensures err { OnErr result (MayBecome (Some (media_of self.old.disk)) (Some (media_of self.new.disk)) Stays) }
+        ensures bytes { OnOk result (into.new ≡ bytes_at (media_since self.old.disk.acts).now.seen at (length into.old)) }
+        ensures ok { OnOk result (Becomes (Some (media_since self.old.disk.acts)) (Some (media_since self.new.disk.acts)) Stays) }
+        ensures err { OnErr result (MayBecome (Some (media_since self.old.disk.acts)) (Some (media_since self.new.disk.acts)) Stays) }
         ensures extent { self.new.disk.extent ≡ self.old.disk.extent }
         ensures cause { HasCause self.old.disk.faults self.new.disk.faults result }
         ensures beside { KeepsScript self.old self.new }
 
-        // It fails for want of memory alone.
-        ensures memory { OnErr result (self.new.disk.whole ≡ false) }
-        ensures whole { OnOk result (self.new.disk.whole ≡ self.old.disk.whole) }
+        // It never fails.
+        ensures never { OnErr result ⊥ }
     {
         self.disk.read(at, into)
     }
 
     fn write_at(&mut self, at: u64, bytes: &[u8]) -> Result<(), Failed>
         requires { at + length bytes.now ≤ self.old.disk.extent }
-        ensures ok { OnOk result (Becomes (Some (media_of self.old.disk)) (Some (media_of self.new.disk)) (λ old new.
+        ensures ok { OnOk result (Becomes (Some (media_since self.old.disk.acts)) (Some (media_since self.new.disk.acts)) (λ old new.
             new ≡ written old at bytes.now)) }
-        ensures err { OnErr result (MayBecome (Some (media_of self.old.disk)) (Some (media_of self.new.disk))
+        ensures err { OnErr result (MayBecome (Some (media_since self.old.disk.acts)) (Some (media_since self.new.disk.acts))
             (IsTorn at (length bytes.now))) }
         ensures extent { self.new.disk.extent ≡ self.old.disk.extent }
         ensures cause { HasCause self.old.disk.faults self.new.disk.faults result }
         ensures beside { KeepsScript self.old self.new }
 
-        // It fails for want of memory alone.
-        ensures memory { OnErr result (self.new.disk.whole ≡ false) }
-        ensures whole { OnOk result (self.new.disk.whole ≡ self.old.disk.whole) }
+        // Where it fails, which it does for want of memory alone, a read gives what it gave before.
+        ensures unwritten { OnErr result ((media_since self.new.disk.acts).now.seen ≡ (media_since self.old.disk.acts).now.seen) }
     {
         self.disk.write_at(at, bytes)
     }
 
     fn sync(&mut self) -> Result<(), Failed>
-        ensures ok { OnOk result (Becomes (Some (media_of self.old.disk)) (Some (media_of self.new.disk)) (λ old new. new ≡ settled old)) }
-        ensures err { OnErr result (MayBecome (Some (media_of self.old.disk)) (Some (media_of self.new.disk)) Stays) }
+        ensures ok { OnOk result (Becomes (Some (media_since self.old.disk.acts)) (Some (media_since self.new.disk.acts)) (λ old new. new ≡ settled old)) }
+        ensures err { OnErr result (MayBecome (Some (media_since self.old.disk.acts)) (Some (media_since self.new.disk.acts)) Stays) }
         ensures extent { self.new.disk.extent ≡ self.old.disk.extent }
         ensures cause { HasCause self.old.disk.faults self.new.disk.faults result }
         ensures beside { KeepsScript self.old self.new }
 
-        // It fails for want of memory alone.
-        ensures memory { OnErr result (self.new.disk.whole ≡ false) }
-        ensures whole { OnOk result (self.new.disk.whole ≡ self.old.disk.whole) }
+        // It never fails.
+        ensures never { OnErr result ⊥ }
     {
         self.disk.sync()
     }
@@ -285,9 +272,9 @@ impl<S: Source, K: Sink> Disk for ScriptHost<S, K> {
 impl<S: Source, K: Sink> Host for ScriptHost<S, K> {}
 
 impl<S: Source, K: Sink> dots_disk::Host for ScriptHost<S, K> {
-    ghost one_moment = { λ host. one_moment host.disk };
+    ghost one_moment = { λ host. one_moment_logged host.disk };
 
-    ghost disk_keeps = { λ old new keeps. (keeps_acts old.disk new.disk keeps.disk, keeps.faults, script_leads S.left S.faults K.holds old new keeps) };
+    ghost disk_keeps = { λ old new keeps. (keeps_acts_logged old.disk new.disk keeps.disk, keeps.faults, script_leads S.left S.faults K.holds old new keeps) };
 
     ghost wire_keeps = { λ old new keeps. (keeps.media, keeps.extent, keeps.faults) };
 }

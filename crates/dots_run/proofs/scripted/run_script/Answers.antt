@@ -1,6 +1,6 @@
 use Rattle.std.proofs.Common.{◌≡◌, ◌∙◌, map, string_bytes, refl, ap, subst}
 use Rattle.dots_host.specs.Acts.{wire_acts}
-use Rattle.dots_host.specs.Memory.{told}
+use Rattle.dots_disk.specs.Logged.{acts_told}
 use Rattle.dots_machine.specs.Outside.{Outside}
 use Rattle.dots_machine.specs.Endings.{Behaves}
 use Rattle.dots_script.specs.Accounts.{Standing, standing}
@@ -8,7 +8,7 @@ use Rattle.dots_script.specs.Scripting.{Scripting}
 use Rattle.dots_run.specs.Outcomes.{Outcome}
 use Rattle.dots_run.specs.Scripted.{outside_first, outside_with}
 use Rattle.dots_run.proofs.Blank.{ready_blank}
-use Rattle.dots_run.proofs.Texts.{standing_of, known, told_whole, joins, stands_at_first}
+use Rattle.dots_run.proofs.Texts.{standing_of, joins, stands_at_first}
 use Rattle.dots_run.proofs.Asking.{not_served}
 use Rattle.dots_run.proofs.scripted.run_script.Goals as goal
 
@@ -45,14 +45,14 @@ returns-in-Ok-clause-runs g c =
       at_fault = said.at_fault;
     } in
     record {
-      machine = λ none. let (ending, status_is, behaves, uncalled) = said.machine none in (ending, status_is, subst (λ h. Behaves ending words (before h) after) first behaves);
-      texts = λ none whole.
+      machine = λ none.
           let (ending, status_is, behaves, uncalled) = said.machine none in
           let did = subst (λ h. Behaves ending words (before h) after) first behaves in
-          let accounts = known start (standing left faults holds host) host.disk.whole host.disk.acts whole (said.leads start c.in-Ok.ensures.accounts) in (
+          let accounts = said.leads start c.in-Ok.ensures.accounts in (
             ending,
             status_is,
-            joins words empty after (wire_acts 0 host.disk.acts) refl (told_whole host.disk.whole host.disk.acts whole) refl start (standing left faults holds host) accounts ending did (λ idle. stands (uncalled idle)),
+            did,
+            joins words empty after (wire_acts 0 host.disk.acts) refl refl refl start (standing left faults holds host) accounts ending did (λ idle. stands (uncalled idle)),
           );
       told = λ topic is.
           let (how, status_is, tells) = said.told topic is in
@@ -61,7 +61,7 @@ returns-in-Ok-clause-runs g c =
             how = how;
             status_is = status_is;
             tells = tells;
-            no_acts = ap (λ (h : Scripting _ _). told h.disk.whole h.disk.acts) (kept ∙ first);
+            no_acts = ap (λ (h : Scripting _ _). acts_told h.disk) (kept ∙ first);
             stands = stands kept;
           };
       outcome = subst (λ h. Outcome words status (before h) after) first outcome;
