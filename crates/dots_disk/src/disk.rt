@@ -1,4 +1,4 @@
-ghost use Rattle.std.specs.Prelude.{◌≡◌, ◌+◌, ◌≤◌, ℕ, List, Option, length, OnOk, OnErr, IfSome};
+ghost use Rattle.std.specs.Prelude.{◌≡◌, ◌+◌, ◌≤◌, ℕ, Option, length, OnOk, OnErr, IfSome};
 ghost use Rattle.dots_host.specs.Causes.{HasCause};
 ghost use Rattle.dots_disk.specs.Media.{Media, bytes_at, written, IsTorn, settled};
 ghost use Rattle.dots_disk.specs.Becoming.{Becomes, MayBecome, Stays};

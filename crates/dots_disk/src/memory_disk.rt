@@ -1,4 +1,4 @@
-ghost use Rattle.std.specs.Prelude.{◌≡◌, ◌⊎◌, ◌+◌, ◌≤◌, ◌<◌, [], ◌∷◌, ◌++◌, length, true, false, Some, IfOk, OnOk, OnErr, MatchBool, IfSome};
+ghost use Rattle.std.specs.Prelude.{◌≡◌, ◌⊎◌, ◌+◌, ◌≤◌, ◌<◌, [], length, true, false, Some, OnOk, OnErr, MatchBool};
 ghost use Rattle.dots_host.specs.declared.act.Act.TheVariants as act;
 ghost use Rattle.dots_host.specs.Causes.{HasCause};
 ghost use Rattle.dots_host.specs.Acts.{IsWithin, Adds, event_of, owned_of, is_done, taken, given};

@@ -59,7 +59,7 @@ pub fn one_answer()
 
 /// The domains stay apart: of two states of one time that have the same entries of a domain, a step from the one is for another
 /// domain, and leaves the entries of this one as they were, or it can be made from the other too, with the same sends, and both
-/// leave this domain the same. And the same rows of mitigations filter for it in both.
+/// leave this domain the same. Or it is a restart, which sends nothing and leaves the entries of this one as they were. And the same rows of mitigations filter for it in both.
 pub fn domains_stay_apart()
     ensures step { (settings : SettingsValue) (domain : ℕ) (old other : State) (event : Event) (at : ℕ) (owed : List (State × OwnedOut)) (new : State)
         → SameFor domain old other → Step settings old event at owed new → StaysApart settings domain old other event at (outs_of owed) new }

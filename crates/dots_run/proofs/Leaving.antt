@@ -4,19 +4,22 @@ use Rattle.std.proofs.lemmas.List.{append_cancel_left}
 use Rattle.dots_host.specs.Acts.{Timed}
 use Rattle.dots_host.specs.Runs.{Added}
 use Rattle.dots_disk.specs.Media.{Medium, Media, IsImage, all_media}
-use Rattle.dots_disk.specs.Becoming.{RestsWith}
+use Rattle.dots_disk.specs.Becoming.{EachMedium, Leaves, RestsWith}
 use Rattle.slot_store.specs.Gates.{Sees}
 use Rattle.slot_store.specs.Opening.{Is}
 use Rattle.slot_store.specs.Layout.{needed_of}
 use Rattle.slot_journal.specs.Sizes.{slots_of}
+use Rattle.slot_journal.specs.declared.fault.JournalFault.{JournalFault}
+use Rattle.slot_journal.specs.Held.{Holds}
+use Rattle.slot_journal.proofs.Crashing.{one_history}
+use Rattle.dots_history.specs.declared.entry.Entry.{Entry}
 use Rattle.dots_settings.specs.Settings.{SettingsValue}
-use Rattle.dots_machine.specs.declared.ending.Stop.{Stop}
 use Rattle.dots_machine.specs.Machine.{begun_from}
 use Rattle.dots_machine.specs.Outside.{Outside}
 use Rattle.dots_machine.specs.Surviving.{StandsAt, EachFrom, LeavesAt}
-use Rattle.dots_machine.specs.Endings.{Lived, Serves, Reports, GivesSettings, IsReady}
+use Rattle.dots_machine.specs.Endings.{Lived, Unrecovers, GivesSettings, IsReady}
 use Rattle.dots_machine.proofs.Going.{found_again, ready_again}
-use Rattle.dots_run.specs.Leaving.{CrashLeaves, GoesOn}
+use Rattle.dots_run.specs.Leaving.{CrashLeaves, HasLived, GoesOn}
 
 each_split : (n : ℕ) (earlier : List Medium) (medium : Medium) (later : List Medium) (P : ℕ → (ℕ → ℕ) → Type 0) (image : ℕ → ℕ) → EachFrom n (earlier ++ medium ∷ later) P → IsImage medium image
     → P (n + length earlier) image
@@ -32,23 +35,44 @@ leaves_there m (Some old) (Some new) P image leaves left =
     let each = subst (λ media. EachFrom (length old.past + 1) media P) same leaves.2 in
     subst (λ k. P k image) (sym left.moment) (each_split (length old.past + 1) left.earlier left.medium left.later P image each left.is)
 
-module _ (settings : SettingsValue) (how : Stop) (before now : Outside) (first : Serves settings how before now (Reports how settings before now))
+-- the same of images of which no moment is spoken
+leaves_each : (earlier : List Medium) (medium : Medium) (later : List Medium) (P : (ℕ → ℕ) → Type 0) (image : ℕ → ℕ) → EachMedium (earlier ++ medium ∷ later) (λ medium. (image : ℕ → ℕ) → IsImage medium image → P image)
+    → IsImage medium image → P image
+leaves_each [] medium later P image each is = each.0 image is
+leaves_each (first ∷ earlier) medium later P image each is = leaves_each earlier medium later P image each.1 is
+
+leaves_any : (m : ℕ) (old new : Option Media) (P : (ℕ → ℕ) → Type 0) (image : ℕ → ℕ) → Leaves old new P → CrashLeaves m old new image → P image
+leaves_any m None new P image leaves left = absurd left
+leaves_any m (Some old) None P image leaves left = absurd left
+leaves_any m (Some old) (Some new) P image leaves left =
+    let same = append_cancel_left (all_media old) leaves.0 left.added (sym leaves.1 ∙ left.grown) ∙ left.split in
+    let each = subst (λ media. EachMedium media (λ medium. (image : ℕ → ℕ) → IsImage medium image → P image)) same leaves.2 in
+    leaves_each left.earlier left.medium left.later P image each left.is
+
+-- a run over what a crash left of one that recovered nothing finds what that could have found
+pub opens : (settings : SettingsValue) (fault : JournalFault) (before now : Outside) (first : Unrecovers settings fault before now) (seen : ℕ → ℕ) (entries : List Entry) → RestsWith before.media (Is seen)
+    → Holds settings seen entries → (m : ℕ) (image : ℕ → ℕ) → CrashLeaves m before.media now.media image → (then after : Outside) (second : HasLived settings then after) → Sees then.media image → second.held ≡ entries
+opens settings fault before now first seen entries rests holds m image left then after second there =
+    let held = leaves_any m before.media now.media (λ image. Holds settings image entries) image (first.moments seen entries rests holds) left in
+    one_history settings image second.held entries (second.was_held image there) held
+
+module _ (settings : SettingsValue) (before now : Outside) (first : HasLived settings before now)
     (seen : ℕ → ℕ) (sees : Sees before.media seen) (rests : RestsWith before.media (Is seen)) (xs ys : List Timed) (old : before.acts ≡ Some xs) (new : now.acts ≡ Some ys)
     (m : ℕ) (image : ℕ → ℕ) (left : CrashLeaves m before.media now.media image) where
-  lived : Added (Some xs) (Some ys) (Lived settings (begun_from first.held) how before now (first.lives seen sees).trace (first.lives seen sees).end)
+  lived : Added (Some xs) (Some ys) (Lived settings (begun_from first.held) (first.lives seen sees).how before now (first.lives seen sees).trace (first.lives seen sees).end)
   lived =
-      subst (λ acts. Added acts (Some ys) (Lived settings (begun_from first.held) how before now (first.lives seen sees).trace (first.lives seen sees).end)) old
-      (subst (λ acts. Added before.acts acts (Lived settings (begun_from first.held) how before now (first.lives seen sees).trace (first.lives seen sees).end)) new (first.lives seen sees).lived)
+      subst (λ acts. Added acts (Some ys) (Lived settings (begun_from first.held) (first.lives seen sees).how before now (first.lives seen sees).trace (first.lives seen sees).end)) old
+      (subst (λ acts. Added before.acts acts (Lived settings (begun_from first.held) (first.lives seen sees).how before now (first.lives seen sees).trace (first.lives seen sees).end)) new (first.lives seen sees).lived)
 
   stands : StandsAt settings (begun_from first.held) lived.0 (first.lives seen sees).trace (first.lives seen sees).end.last.history m image
   stands =
       leaves_there m before.media now.media (StandsAt settings (begun_from first.held) lived.0 (first.lives seen sees).trace (first.lives seen sees).end.last.history) image
       (lived.2.survives seen rests) left
 
-  pub goes_on : (how_then : Stop) (then after : Outside) (second : Serves settings how_then then after (Reports how_then settings then after)) → Sees then.media image
+  pub goes_on : (then after : Outside) (second : HasLived settings then after) → Sees then.media image
       → (acts : List Timed) × (ys ≡ xs ++ acts)
       × GoesOn settings (begun_from first.held) acts (first.lives seen sees).trace (first.lives seen sees).end.last.history m second.held
-  goes_on how_then then after second there =
+  goes_on then after second there =
       let found = found_again settings (begun_from first.held) lived.0 (first.lives seen sees).trace (first.lives seen sees).end.last.history m image then.media second.held stands there second.was_held in
       (lived.0, lived.1, record { count = found.0; within = found.1; told = found.2; kept = found.3 })
 

@@ -108,13 +108,10 @@ stops_settled settings state stop.Ended what at owed new step may = absurd may
 stops_settled settings state stop.NextFailed what at owed new step may = absurd may
 stops_settled settings state stop.TooMany what at owed new step may = absurd may
 
-go_on_push : (front : List Timed) (timed : Timed) → GoOn front → IsNoEnd timed.act → GoOn (front ++ timed ∷ [])
-go_on_push [] timed goes one = (one, tt)
-go_on_push (first ∷ front) timed goes one = (goes.0, go_on_push front timed goes.1 one)
 
 pub stops_at : (how : Stop) (what : Event) (at moment : ℕ) (front : List Timed) → IsNoEnd (took what at) → GoOn front → MayStop how what
     → Stops how (front ++ (record { moment = moment; act = took what at }) ∷ [])
-stops_at stop.DiskFailed what at moment front one goes may = go_on_push front (record { moment = moment; act = took what at }) goes one
+stops_at stop.DiskFailed what at moment front one goes may = go_on_then front ((record { moment = moment; act = took what at }) ∷ []) goes (one, tt)
 stops_at (stop.Unrecovered fault) what at moment front one goes may = (front, record { moment = moment; act = took what at }, at, ap (λ w. took w at) may, refl, goes)
 stops_at stop.Ended what at moment front one goes may = absurd may
 stops_at stop.NextFailed what at moment front one goes may = absurd may

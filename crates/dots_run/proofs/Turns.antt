@@ -23,7 +23,7 @@ use Rattle.dots_server.specs.Turning.{HoldsTurn, Turned}
 use Rattle.dots_server.proofs.Turning.{none_added}
 use Rattle.dots_run.specs.Living.{Lives}
 
-go_on_then : (front back : List Timed) → GoOn front → GoOn back → GoOn (front ++ back)
+pub go_on_then : (front back : List Timed) → GoOn front → GoOn back → GoOn (front ++ back)
 go_on_then [] back f b = b
 go_on_then (timed ∷ front) back f b = (f.0, go_on_then front back f.1 b)
 

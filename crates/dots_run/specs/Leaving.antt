@@ -1,11 +1,17 @@
 -- A run over what a crash of another left.
 use Rattle.std.specs.Prelude.{◌≡◌, ℕ, ◌+◌, ◌≤◌, List, ◌∷◌, ◌++◌, length, take, Option, Some}
 use Rattle.dots_host.specs.Acts.{Timed}
+use Rattle.dots_host.specs.Runs.{Owing, Added}
 use Rattle.dots_disk.specs.Media.{Medium, Media, IsImage, all_media}
 use Rattle.dots_settings.specs.Settings.{SettingsValue}
 use Rattle.dots_history.specs.declared.entry.Entry.{Entry}
 use Rattle.dots_history.specs.Histories.{Kept}
-use Rattle.dots_machine.specs.Machine.{State}
+use Rattle.slot_store.specs.Gates.{Sees}
+use Rattle.slot_journal.specs.Held.{Holds}
+use Rattle.dots_machine.specs.declared.ending.Stop.{Stop}
+use Rattle.dots_machine.specs.Machine.{State, begun_from}
+use Rattle.dots_machine.specs.Outside.{Outside}
+use Rattle.dots_machine.specs.Endings.{Lived, Serves}
 use Rattle.dots_machine.specs.Surviving.{shown, time_at}
 
 -- From the one state of a disk to the other moments came, and a crash at this one of them leaves the image.
@@ -23,6 +29,27 @@ pub record IsLeftAt (m : ℕ) (old new : Media) (image : ℕ → ℕ) : Type 0 w
 abbrev pub CrashLeaves : ℕ → Option Media → Option Media → (ℕ → ℕ) → Type 0
 CrashLeaves m (Some old) (Some new) image = IsLeftAt m old new image
 CrashLeaves m _ _ image = ⊥
+
+-- A run from these entries, whatever it wrote in the end: how it stopped, what it tells, and that its acts are a run of the machine.
+pub record LivesSo (settings : SettingsValue) (held : List Entry) (before now : Outside) : Type 0 where
+  pub how : Stop
+  pub end : Owing State
+  pub trace : List State
+  pub lived : Added before.acts now.acts (Lived settings (begun_from held) how before now trace end)
+
+-- A run that came to serve, however it ended: it recovered entries, which are what the disk held, where it is told, and is a run from them.
+pub record HasLived (settings : SettingsValue) (before now : Outside) : Type 0 where
+  pub held : List Entry
+  pub was_held : (seen : ℕ → ℕ) → Sees before.media seen → Holds settings seen held
+  pub lives : (seen : ℕ → ℕ) → Sees before.media seen → LivesSo settings held before now
+
+-- each run that served has lived, whatever it wrote
+abbrev pub has_lived : {settings : SettingsValue} {how : Stop} {before now : Outside} {wrote : State → Type 0} → Serves settings how before now wrote → HasLived settings before now
+has_lived serves = record {
+  held = serves.held;
+  was_held = serves.was_held;
+  lives = λ seen sees. record { how = _; end = (serves.lives seen sees).end; trace = (serves.lives seen sees).trace; lived = (serves.lives seen sees).lived };
+}
 
 -- These entries mean a front of the history to which a run came: they have its view at the machine's time at the moment, and it has at least the
 -- entries that were told before.

@@ -8,14 +8,16 @@ ghost use Rattle.slot_store.specs.Gates.{Sees};
 ghost use Rattle.slot_store.specs.Opening.{Is};
 ghost use Rattle.slot_store.specs.Layout.{needed_of};
 ghost use Rattle.slot_journal.specs.Sizes.{slots_of};
+ghost use Rattle.slot_journal.specs.Held.{Holds};
+ghost use Rattle.slot_journal.specs.declared.fault.JournalFault.{JournalFault};
+ghost use Rattle.dots_history.specs.declared.entry.Entry.{Entry};
 ghost use Rattle.dots_settings.specs.Settings.{SettingsValue};
 ghost use Rattle.dots_machine.specs.declared.ending.Ending as endings;
-ghost use Rattle.dots_machine.specs.declared.ending.Stop.{Stop};
 ghost use Rattle.dots_machine.specs.Commands.{is_replay};
-ghost use Rattle.dots_machine.specs.Endings.{status_of, Behaves, Serves, Reports, GivesSettings, IsReady};
+ghost use Rattle.dots_machine.specs.Endings.{status_of, Behaves, Unrecovers, GivesSettings};
 ghost use Rattle.dots_machine.specs.Machine.{begun_from};
 ghost use Rattle.dots_machine.specs.Outside.{Outside};
-ghost use Rattle.dots_run.specs.Leaving.{CrashLeaves, GoesOn};
+ghost use Rattle.dots_run.specs.Leaving.{CrashLeaves, HasLived, GoesOn};
 ghost use Rattle.dots_run.specs.Topics.{topic_of};
 
 use crate::running::run;
@@ -44,17 +46,25 @@ pub fn run_again<H: Host, S: Source, K: Sink, G: Host, T: Source, L: Sink>(
         (record { left = T.left again.new; source_faults = T.faults again.new; acts = G.acts other.new; wire_faults = G.Wire.faults other.new; media = G.media other.new; extent = G.extent other.new; disk_faults = G.Disk.faults other.new; held = L.holds last.new; report_faults = L.faults last.new }) }
 
     // What the second run begins from is what the first one's clause says of the crash: a front of what that accepted, with all that it had told
-    // before. So it is at each moment, whatever the crash leaves, where the first disk had nothing pending at the start and both tell.
-    ensures goes_on { (settings_of : SettingsValue) (how : Stop) (before now : Outside) (first : Serves settings_of how before now (Reports how settings_of before now))
+    // before. So it is at each moment, whatever the crash leaves and however the two ended, where the first disk had nothing pending at the start and
+    // both tell.
+    ensures goes_on { (settings_of : SettingsValue) (before now : Outside) (first : HasLived settings_of before now)
         → before.media ≡ H.media host.old → now.media ≡ H.media host.new
         → (seen : ℕ → ℕ) (sees : Sees before.media seen) → RestsWith before.media (Is seen) → (xs ys : List Timed) → before.acts ≡ Some xs → now.acts ≡ Some ys
         → (m : ℕ) (image : ℕ → ℕ) → CrashLeaves m (H.media host.old) (H.media host.new) image → Sees (G.media other.old) image
-        → (how_then : Stop) (then after : Outside) (second : Serves settings_of how_then then after (Reports how_then settings_of then after)) → then.media ≡ G.media other.old
+        → (then after : Outside) (second : HasLived settings_of then after) → then.media ≡ G.media other.old
         → (acts : List Timed) × (ys ≡ xs ++ acts) × GoesOn settings_of (begun_from first.held) acts (first.lives seen sees).trace (first.lives seen sees).end.last.history m second.held }
+
+    // Where the first run recovered nothing, the second one recovers what the disk had held.
+    ensures opens { (settings_of : SettingsValue) (fault : JournalFault) (before now : Outside) (first : Unrecovers settings_of fault before now)
+        → before.media ≡ H.media host.old → now.media ≡ H.media host.new
+        → (seen : ℕ → ℕ) (entries : List Entry) → RestsWith before.media (Is seen) → Holds settings_of seen entries
+        → (m : ℕ) (image : ℕ → ℕ) → CrashLeaves m (H.media host.old) (H.media host.new) image → Sees (G.media other.old) image
+        → (then after : Outside) (second : HasLived settings_of then after) → then.media ≡ G.media other.old → second.held ≡ entries }
 
     // And that disk isn't refused: where it is large enough and nothing fails, the second run goes well, want of memory and 2^40 events without End
     // aside.
-    ensures well { (settings_of : SettingsValue) (how : Stop) (before now : Outside) (first : Serves settings_of how before now (Reports how settings_of before now))
+    ensures well { (settings_of : SettingsValue) (before now : Outside) (first : HasLived settings_of before now)
         → before.media ≡ H.media host.old → now.media ≡ H.media host.new
         → (seen : ℕ → ℕ) (sees : Sees before.media seen) → RestsWith before.media (Is seen) → (xs ys : List Timed) → before.acts ≡ Some xs → now.acts ≡ Some ys
         → (m : ℕ) (image : ℕ → ℕ) → CrashLeaves m (H.media host.old) (H.media host.new) image → Sees (G.media other.old) image

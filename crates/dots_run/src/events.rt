@@ -2,16 +2,16 @@
 
 ghost use Rattle.std.specs.Prelude.{◌≡◌, ◌≤◌, ◌<◌, ◌^◌, List, length, IfOk, IfErr, OnOk};
 ghost use Rattle.dots_disk.specs.Becoming.{RestsWith};
-ghost use Rattle.dots_host.specs.Acts.{IsWithin, event_of, took};
+ghost use Rattle.dots_host.specs.Acts.{IsWithin, event_of};
 ghost use Rattle.dots_host.specs.Causes.{Rose};
 ghost use Rattle.dots_host.specs.Runs.{Owing};
 ghost use Rattle.dots_host.specs.declared.TheConstants.{MAX_EVENT_BYTES};
-ghost use Rattle.dots_host.specs.declared.out.OwnedOut.{OwnedOut};
+
 ghost use Rattle.dots_settings.specs.Settings.{SettingsValue};
 ghost use Rattle.dots_history.specs.declared.entry.Entry.{Entry};
 ghost use Rattle.slot_store.specs.Layout.{needed_of};
 ghost use Rattle.slot_journal.specs.Held as journal;
-ghost use Rattle.dots_machine.specs.Machine.{State, Step};
+ghost use Rattle.dots_machine.specs.Machine.{State};
 ghost use Rattle.dots_server.specs.Standing.{StandsFor, IsKept};
 ghost use Rattle.dots_run.specs.Living.{Came, StopsFor, stop_of};
 ghost use Rattle.dots_run.specs.Taking.{IsTaken, Took, StoppedAt};

@@ -1,6 +1,6 @@
 //! The commands of the machine, `replay` and `show`.
 
-ghost use Rattle.std.specs.Prelude.{◌≡◌, ◌≢◌, ◌≤◌, ◌⊎◌, ◌↔◌, ℕ, List, Option, map, false, true, string_bytes, None, IfOk, OnErr};
+ghost use Rattle.std.specs.Prelude.{◌≡◌, ◌≢◌, ◌≤◌, ◌⊎◌, ◌↔◌, ℕ, List, Option, map, false, true, string_bytes, IfOk, OnErr};
 ghost use Rattle.std.specs.List.{list_all};
 ghost use Rattle.dots_disk.specs.Becoming.{RestsWith};
 ghost use Rattle.dots_host.specs.Causes.{Rose};

@@ -1,6 +1,6 @@
 //! The whole program over the streams that it is handed.
 
-ghost use Rattle.std.specs.Prelude.{◌≡◌, [], true, false, map, string_bytes, Option, Some, None, option_and_then, IfOk, OnErr, MatchOption};
+ghost use Rattle.std.specs.Prelude.{◌≡◌, true, false, map, string_bytes, Option, Some, None, option_and_then, IfOk, OnErr, MatchOption};
 ghost use Rattle.std.specs.Fn.{FnOnceReturnsAt};
 ghost use Rattle.dots_script.specs.Accounts.{standing};
 ghost use Rattle.dots_run.specs.Scripted.{outside_first, outside_with};

@@ -1,6 +1,6 @@
 //! The top call over a script.
 
-ghost use Rattle.std.specs.Prelude.{◌≡◌, [], map, string_bytes, Some, None, IfSome};
+ghost use Rattle.std.specs.Prelude.{◌≡◌, map, string_bytes, Some, None, IfSome};
 ghost use Rattle.dots_script.specs.Accounts.{standing};
 ghost use Rattle.dots_run.specs.Scripted.{outside_first, outside_with};
 ghost use Rattle.dots_run.specs.Programs.{Runs};

@@ -1,4 +1,4 @@
-ghost use Rattle.std.specs.Prelude.{◌≡◌, ◌≢◌, ℕ, List, ◌∷◌, ◌++◌, ◌^◌, ◌<◌, ◌≤◌, length, take, IfSome, IfNone, MatchOption, codes, decimal};
+ghost use Rattle.std.specs.Prelude.{◌≡◌, ◌≢◌, ℕ, List, ◌∷◌, ◌++◌, ◌^◌, ◌<◌, length, IfSome, IfNone, MatchOption, codes};
 ghost use Rattle.dots_host.specs.Acts.{IsWithin, OnFailed, event_of};
 ghost use Rattle.dots_host.specs.declared.event.Event.{Event};
 ghost use Rattle.dots_host.specs.declared.TheConstants.{MAX_EVENT_BYTES};

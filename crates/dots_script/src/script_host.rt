@@ -1,4 +1,4 @@
-ghost use Rattle.std.specs.Prelude.{◌≡◌, ◌+◌, ◌≤◌, ◌<◌, ◌^◌, [], length, true, Some, IfOk, OnOk, OnErr};
+ghost use Rattle.std.specs.Prelude.{◌≡◌, ◌+◌, ◌≤◌, ◌<◌, ◌^◌, [], length, Some, IfOk, OnOk, OnErr};
 ghost use Rattle.std.specs.Io.KnownBytes.{Appends};
 ghost use Rattle.dots_host.specs.Causes.{Rose, HasCause};
 ghost use Rattle.dots_host.specs.Acts.{IsWithin, OnFailed, OnEvent, Adds, taken, given, event_of, owned_of};
@@ -6,7 +6,7 @@ ghost use Rattle.dots_host.specs.Writing.{AppendsBeginning};
 ghost use Rattle.dots_host.specs.declared.TheConstants.{MAX_EVENT_BYTES};
 ghost use Rattle.dots_disk.specs.Media.{bytes_at, written, IsTorn, settled};
 ghost use Rattle.dots_disk.specs.Becoming.{Becomes, MayBecome, Stays};
-ghost use Rattle.dots_disk.specs.Logged.{zeros, with_call, media_since, acts_told, KeepsLogged};
+ghost use Rattle.dots_disk.specs.Logged.{zeros, media_since, acts_told, KeepsLogged};
 ghost use Rattle.dots_disk.specs.LoggedLaws.{keeps_logged_same, keeps_logged_then, one_moment_logged, keeps_acts_logged};
 ghost use Rattle.dots_script.specs.Lines.{to_come, NextIs};
 ghost use Rattle.dots_script.specs.Sends.{line_of};

@@ -1,6 +1,6 @@
 //! The report: a line for each row of a mitigation, and one for each sample packet.
 
-ghost use Rattle.std.specs.Prelude.{◌≡◌, ◌++◌, flat_map, map, codes, decimal};
+ghost use Rattle.std.specs.Prelude.{◌++◌, flat_map, map, codes, decimal};
 ghost use Rattle.filter_rows.specs.Fates.{fate_by_rows};
 ghost use Rattle.filter_rows.specs.Told.{fate_of};
 ghost use Rattle.filter_table.specs.Held.{row_of_scrub, row_of_acl, active_rows};

@@ -19,4 +19,5 @@ mod written_lists;
 
 pub use fault::EntryFault;
 pub use reading::entry_of;
+pub use writer::MAX_RECORD;
 pub use writing::{record_into, record_len};

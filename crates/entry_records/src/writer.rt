@@ -12,8 +12,8 @@ use arrayvec::ArrayVec;
 use dots_lists::Name;
 use std::marker::Model;
 
-/// The greatest length of a record, in bytes.
-pub(crate) const MAX_RECORD: usize = 8_189;
+/// The greatest length of the record of an entry within bounds, in bytes.
+pub const MAX_RECORD: usize = 3_929;
 
 /// The bytes of a record as far as they are written.
 #[derive(Drop)]

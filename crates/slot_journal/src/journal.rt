@@ -20,8 +20,8 @@ use crate::reading::read_half;
 use dots_disk::Disk;
 use dots_history::Entry;
 use dots_settings::Settings;
-use entry_records::{record_into, record_len};
-use slot_store::{DiskFault, SLOT, SlotStore};
+use entry_records::{MAX_RECORD, record_into};
+use slot_store::{DiskFault, SlotStore};
 use std::alloc::Global;
 use std::marker::Model;
 
@@ -126,9 +126,8 @@ impl Journal {
         ensures cause { HasCause (D.faults disk.old) (D.faults disk.new) result }
         ensures beside { D.beside disk.old disk.new }
     {
-        let mut room = [0; SLOT];
-        let len = record_len(entry);
-        record_into(entry, &mut room);
+        let mut room = [0; MAX_RECORD];
+        let len = record_into(entry, &mut room);
         let slot = self.store.append(disk, &room[..len])?;
         Ok(slot)
     }

@@ -48,6 +48,6 @@ fn a_script_has_a_disk_beside_its_wire(rt: HostRuntime) -> Result<(), Fail> {
     let source = MemorySource::new(alloc, b"at 7 tick\n")?;
     let mut host = ScriptHost::new(alloc, source, MemorySink::new(alloc))?;
     assert_eq!(rt; keeps(&mut host, &mut room), Ok(true));
-    assert!(rt; host.sink().bytes() == b"close 1\n".as_slice() && host.whole());
+    assert!(rt; host.sink().bytes() == b"close 1\n".as_slice());
     Ok(())
 }

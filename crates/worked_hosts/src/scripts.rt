@@ -9,7 +9,7 @@ use std::test::Fail;
 
 type Room = [u8; MAX_EVENT_BYTES];
 
-/// Whether two calls answer this of a script, with these bytes of the second at the front of the room, and both were recorded.
+/// Whether two calls answer this of a script, with these bytes of the second at the front of the room.
 fn are_events(
     alloc: Global,
     script: &[u8],
@@ -23,8 +23,7 @@ fn are_events(
     Ok(
         host.next(&mut room) == *first
             && host.next(&mut room) == *second
-            && room.starts_with(front)
-            && host.whole(),
+            && room.starts_with(front),
     )
 }
 
@@ -138,11 +137,11 @@ fn other_lines_are_faults(rt: HostRuntime) -> Result<(), Fail> {
     Ok(())
 }
 
-/// Whether a send is done, the sink then holds this line alone, and the call was recorded.
+/// Whether a send is done, and the sink then holds this line alone.
 fn is_line(alloc: Global, out: &Out, line: &str) -> Result<bool, NoMemory> {
     let source = MemorySource::new(alloc, b"")?;
     let mut host = ScriptHost::new(alloc, source, MemorySink::new(alloc))?;
-    Ok(host.send(out) == Sent::Done && host.sink().bytes() == line.as_bytes() && host.whole())
+    Ok(host.send(out) == Sent::Done && host.sink().bytes() == line.as_bytes())
 }
 
 #[test]
@@ -161,11 +160,11 @@ fn a_send_is_a_line(rt: HostRuntime) -> Result<(), Fail> {
     Ok(())
 }
 
-/// Whether a send is lost where the sink has room for seven bytes, and the call was recorded.
+/// Whether a send is lost where the sink has room for seven bytes.
 fn is_cut(alloc: Global, room: &mut [u8; 7], out: &Out) -> Result<bool, NoMemory> {
     let source = MemorySource::new(alloc, b"")?;
     let mut host = ScriptHost::new(alloc, source, StdSink::new(room.as_mut_slice()))?;
-    Ok(host.send(out) == Sent::Lost && host.whole())
+    Ok(host.send(out) == Sent::Lost)
 }
 
 #[test]
@@ -180,14 +179,14 @@ fn a_line_that_is_cut_is_lost(rt: HostRuntime) -> Result<(), Fail> {
     Ok(())
 }
 
-/// Whether two sends of these bytes answer so where the second call of the sink fails, and both were recorded.
+/// Whether two sends of these bytes answer so where the second call of the sink fails.
 fn are_sent(alloc: Global, bytes: &[u8], first: Sent, second: Sent) -> Result<bool, NoMemory> {
     let mut sink = MemorySink::new(alloc);
     sink.fail_at(2)?;
     let source = MemorySource::new(alloc, b"")?;
     let mut host = ScriptHost::new(alloc, source, sink)?;
     let out = Out::Conn { conn: 1, bytes };
-    Ok(host.send(&out) == first && host.send(&out) == second && host.whole())
+    Ok(host.send(&out) == first && host.send(&out) == second)
 }
 
 /// The whole line goes to one call of the sink, and a send of more bytes than an event has takes two.

@@ -75,7 +75,7 @@ pub fn leaves(
     let mut sink = sink_of(alloc, case.failing_write)?;
     let mut host = host_of(alloc, case.script)?;
     let ended = run(alloc, words.as_slice(), &mut settings, &mut host, &mut sink);
-    Ok(ended == status && host.whole() && host.sink().bytes() == sends && sink.bytes() == report)
+    Ok(ended == status && host.sink().bytes() == sends && sink.bytes() == report)
 }
 
 /// The status of a run over a host in memory. What it reports is in the sink.
