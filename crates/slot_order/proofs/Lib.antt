@@ -1,2 +1,4 @@
+pub mod Filling
 pub mod Linking
+pub mod Placing
 pub mod Ringing
