@@ -1,3 +1,5 @@
+pub mod Beginning
+pub mod Circling
 pub mod Filling
 pub mod Linking
 pub mod Placing

@@ -4,3 +4,4 @@ pub mod Places
 pub mod Rooted
 pub mod Smaller
 pub mod Spots
+pub mod Rings

@@ -8,6 +8,8 @@
 
 mod order;
 mod places;
+mod rings;
 mod spots;
 
 pub use order::Order;
+pub use rings::Rings;

@@ -157,7 +157,7 @@ fn make_room(places: &mut Places, behind: &[usize], count: usize, room: usize)
 }
 
 /// The second stands behind the first.
-fn link(behind: &mut Vec<usize>, before: &mut Vec<usize>, first: usize, second: usize)
+pub(crate) fn link(behind: &mut Vec<usize>, before: &mut Vec<usize>, first: usize, second: usize)
     requires first { first < length behind.old.items }
     requires second { second < length before.old.items }
     ensures behind { behind.new.items ≡ slice_set behind.old.items first second }
