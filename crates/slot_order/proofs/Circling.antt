@@ -49,6 +49,13 @@ distinct_more slot less more has distinct apart =
 pub distinct_fewer : (slot : ℕ) (less more : List ℕ) → HasOneMore slot less more → Distinct more → Distinct less
 distinct_fewer slot less more has distinct = subst Distinct (sym has.less_is) (distinct_less slot has.front has.back (subst Distinct has.more_is distinct))
 
+gone_apart : (slot : ℕ) (front back : List ℕ) → Distinct (front ++ slot ∷ back) → Apart slot (front ++ back)
+gone_apart slot front back distinct =
+    each_both (λ x. x ≢ slot) front back (apart_front slot front back distinct) (apart_back slot front back distinct)
+
+pub apart_fewer : (slot : ℕ) (less more : List ℕ) → HasOneMore slot less more → Distinct more → Apart slot less
+apart_fewer slot less more has distinct = subst (Apart slot) (sym has.less_is) (gone_apart slot has.front has.back (subst Distinct has.more_is distinct))
+
 -- those behind are none of those in front
 crossing_back : (xs ys : List ℕ) → Distinct (xs ++ ys) → Each (λ y. Apart y xs) ys
 crossing_back [] ys distinct = each_none ys
@@ -346,6 +353,13 @@ outside_nodes behind (ring ∷ rings) room slot less starts outside = (
   each_both (λ x. x ≢ slot) (slots_of behind ring) (nodes behind rings) outside.0 (outside_nodes behind rings room slot less starts.1 outside.1),
 )
 
+nodes_outside : (behind : List ℕ) (rings : List Ring) (slot : ℕ) → Apart slot (nodes behind rings) → IsOutside slot (map (ring_of behind) rings)
+nodes_outside behind [] slot apart = record {}
+nodes_outside behind (ring ∷ rings) slot apart = (
+  each_front (λ x. x ≢ slot) (slots_of behind ring) (nodes behind rings) apart.1,
+  nodes_outside behind rings slot (each_back (λ x. x ≢ slot) (slots_of behind ring) (nodes behind rings) apart.1),
+)
+
 starts_stay : (becomes : Ring → Ring) → ((ring : Ring) → (becomes ring).start ≡ ring.start) → (room place : ℕ) (rings : List Ring) → StartBehind room rings → StartBehind room (with_ring place becomes rings)
 starts_stay becomes same room place [] starts = starts
 starts_stay becomes same room zero (ring ∷ rings) starts = (subst (λ n. room ≤ n) (sym (same ring)) starts.0, starts.1)
@@ -360,6 +374,11 @@ ring_set becomes (ring ∷ rings) (suc place) old new less is same = ap (λ rs. 
 pub record AreRingsOf (behind before : List ℕ) (rings : List Ring) (room : ℕ) (values : List RingValue) : Type 0 where
   pub values_are : map (ring_of behind) rings ≡ values
   pub are : AreRings behind before rings room
+
+-- and the slot is in none of them
+pub record AreLeftOf (behind before : List ℕ) (rings : List Ring) (room slot : ℕ) (values : List RingValue) : Type 0 where
+  pub of : AreRingsOf behind before rings room values
+  pub outside : IsOutside slot values
 
 apart_of : (behind before : List ℕ) (rings : List Ring) (room : ℕ) → AreRings behind before rings room → AreApart behind before rings
 apart_of behind before rings room are = record { linked = are.linked; distinct = are.distinct; below = are.below; size = are.size }
@@ -393,23 +412,27 @@ rings_more behind before rings room slot last place d all within below outside i
 
 rings_less : (behind before : List ℕ) (rings : List Ring) (room slot p q place : ℕ) (d : Ring) → AreRings behind before rings room → place < length rings
     → has_slot slot (slots_of behind (get_or rings place d)) ≡ true → p ≡ link before slot → q ≡ link behind slot
-    → AreRingsOf (set behind p q) (set before q p) (with_ring place discounted rings) room (with_ring place (one_less slot) (map (ring_of behind) rings))
+    → AreLeftOf (set behind p q) (set before q p) (with_ring place discounted rings) room slot (with_ring place (one_less slot) (map (ring_of behind) rings))
 rings_less behind before rings room slot p q place d all within there is_p is_q =
     let done = left behind before slot p q place rings d within (apart_of behind before rings room all) there is_p is_q in
     let less = nodes (set behind p q) (with_ring place discounted rings) in
     let one = length-set behind p q in
     let two = length-set before q p in
     record {
-      values_are = done.values_are;
-      are = record {
-        linked = done.linked;
-        distinct = distinct_fewer slot less (nodes behind rings) done.nodes_are all.distinct;
-        below = each_weaker (λ x. x < length behind) (λ x. x < length (set behind p q)) less (λ x low. omega (arith, low, one))
-        (each_fewer (λ x. x < length behind) slot less (nodes behind rings) done.nodes_are all.below);
-        starts = starts_stay discounted (λ ring. refl) room place rings all.starts;
-        size = omega (arith, one, two, all.size);
-        wide = omega (arith, one, all.wide);
+      of = record {
+        values_are = done.values_are;
+        are = record {
+          linked = done.linked;
+          distinct = distinct_fewer slot less (nodes behind rings) done.nodes_are all.distinct;
+          below = each_weaker (λ x. x < length behind) (λ x. x < length (set behind p q)) less (λ x low. omega (arith, low, one))
+          (each_fewer (λ x. x < length behind) slot less (nodes behind rings) done.nodes_are all.below);
+          starts = starts_stay discounted (λ ring. refl) room place rings all.starts;
+          size = omega (arith, one, two, all.size);
+          wide = omega (arith, one, all.wide);
+        };
       };
+      outside = subst (IsOutside slot) done.values_are
+      (nodes_outside (set behind p q) (with_ring place discounted rings) slot (apart_fewer slot less (nodes behind rings) done.nodes_are all.distinct));
     }
 
 -- ---- the ring at a place
@@ -508,11 +531,11 @@ after_push behind before rings room slot last place ring values new_behind new_b
 pub after_leave : (behind before : List ℕ) (rings : List Ring) (room slot p q place : ℕ) (values : List RingValue) (new_behind new_before : List ℕ) (new_rings : List Ring)
     → AreRings behind before rings room → map (ring_of behind) rings ≡ values → place < length values → has_slot slot (ring_at place values).slots ≡ true
     → p ≡ link before slot → q ≡ link behind slot → new_behind ≡ set behind p q → new_before ≡ set before q p → new_rings ≡ with_ring place discounted rings
-    → AreRingsOf new_behind new_before new_rings room (with_ring place (one_less slot) values)
+    → AreLeftOf new_behind new_before new_rings room slot (with_ring place (one_less slot) values)
 after_leave behind before rings room slot p q place values new_behind new_before new_rings all are less there is_p is_q is_behind is_before is_rings =
     let at = held behind before rings room place slot values all are less there in
     let done = rings_less behind before rings room slot p q place (record { start = 0; count = 0 }) all at.within at.there is_p is_q in
-    subst (λ vs. AreRingsOf new_behind new_before new_rings room (with_ring place (one_less slot) vs)) are
-    (subst (λ rs. AreRingsOf new_behind new_before rs room (with_ring place (one_less slot) (map (ring_of behind) rings))) (sym is_rings)
-    (subst (λ l. AreRingsOf new_behind l (with_ring place discounted rings) room (with_ring place (one_less slot) (map (ring_of behind) rings))) (sym is_before)
-    (subst (λ l. AreRingsOf l (set before q p) (with_ring place discounted rings) room (with_ring place (one_less slot) (map (ring_of behind) rings))) (sym is_behind) done)))
+    subst (λ vs. AreLeftOf new_behind new_before new_rings room slot (with_ring place (one_less slot) vs)) are
+    (subst (λ rs. AreLeftOf new_behind new_before rs room slot (with_ring place (one_less slot) (map (ring_of behind) rings))) (sym is_rings)
+    (subst (λ l. AreLeftOf new_behind l (with_ring place discounted rings) room slot (with_ring place (one_less slot) (map (ring_of behind) rings))) (sym is_before)
+    (subst (λ l. AreLeftOf l (set before q p) (with_ring place discounted rings) room slot (with_ring place (one_less slot) (map (ring_of behind) rings))) (sym is_behind) done)))

@@ -104,7 +104,8 @@ impl Rings {
     pub fn leave(&mut self, at: usize, slot: usize)
         requires at { at < length self.old.rings }
         requires there { has_slot slot (ring_at at self.old.rings).slots ≡ true }
-        ensures { self.new ≡ record { room = self.old.room; rings = with_ring at (one_less slot) self.old.rings } }
+        ensures others { self.new ≡ record { room = self.old.room; rings = with_ring at (one_less slot) self.old.rings } }
+        ensures outside { IsOutside slot self.new.rings }
     {
         let before = self.before[slot];
         let behind = self.behind[slot];

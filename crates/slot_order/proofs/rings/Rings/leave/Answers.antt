@@ -1,6 +1,6 @@
-use Rattle.std.proofs.Common.{◌≡◌, ap, ◌∙◌, arith}
+use Rattle.std.proofs.Common.{◌≡◌, ap, sym, subst, ◌∙◌, arith}
 use Rattle.std.proofs.lemmas.Grind.{get_or_default_zero}
-use Rattle.slot_order.specs.Rings.{RingsValue, with_ring, one_less}
+use Rattle.slot_order.specs.Rings.{RingsValue, with_ring, one_less, IsOutside}
 use Rattle.slot_order.proofs.Circling.{held, after_leave}
 use Rattle.slot_order.proofs.rings.Rings.leave.Goals as goal
 
@@ -36,15 +36,25 @@ invariant_of-self c =
     c.self.invariant (ap (λ (v : RingsValue). v.rings) c.self.view_is) c.requires.at c.requires.there
     (c.index-before.ensures ∙ get_or_default_zero c.self.inside.before.items c.args.slot c.index-before.result.now (omega (arith, at.lows.own, c.self.invariant.size)))
     (c.index-behind.ensures ∙ get_or_default_zero c.self.inside.behind.items c.args.slot c.index-behind.result.now at.lows.own)
-    c.link.ensures.behind c.link.ensures.before c.count_less.ensures).are
+    c.link.ensures.behind c.link.ensures.before c.count_less.ensures).of.are
 
-pub returns : goal.returns
-returns c =
+pub returns-clause-others : goal.returns-clause-others
+returns-clause-others c =
     let at = held c.self.inside.behind.items c.self.inside.before.items c.self.inside.rings.items c.self.inside.room c.args.at c.args.slot c.args.self.now.rings c.self.invariant (ap (λ (v : RingsValue). v.rings) c.self.view_is) c.requires.at c.requires.there in
     ap (λ rs. record { room = c.self.inside.room; rings = rs })
     (after_leave c.self.inside.behind.items c.self.inside.before.items c.self.inside.rings.items c.self.inside.room c.args.slot c.index-before.result.now c.index-behind.result.now c.args.at c.args.self.now.rings c.link.new.behind.items c.link.new.before.items c.count_less.new.rings.items
     c.self.invariant (ap (λ (v : RingsValue). v.rings) c.self.view_is) c.requires.at c.requires.there
     (c.index-before.ensures ∙ get_or_default_zero c.self.inside.before.items c.args.slot c.index-before.result.now (omega (arith, at.lows.own, c.self.invariant.size)))
     (c.index-behind.ensures ∙ get_or_default_zero c.self.inside.behind.items c.args.slot c.index-behind.result.now at.lows.own)
-    c.link.ensures.behind c.link.ensures.before c.count_less.ensures).values_are
+    c.link.ensures.behind c.link.ensures.before c.count_less.ensures).of.values_are
     ∙ ap (λ (v : RingsValue). record { room = v.room; rings = with_ring c.args.at (one_less c.args.slot) c.args.self.now.rings }) c.self.view_is
+
+pub returns-clause-outside : goal.returns-clause-outside
+returns-clause-outside c =
+    let at = held c.self.inside.behind.items c.self.inside.before.items c.self.inside.rings.items c.self.inside.room c.args.at c.args.slot c.args.self.now.rings c.self.invariant (ap (λ (v : RingsValue). v.rings) c.self.view_is) c.requires.at c.requires.there in
+    let after = (after_leave c.self.inside.behind.items c.self.inside.before.items c.self.inside.rings.items c.self.inside.room c.args.slot c.index-before.result.now c.index-behind.result.now c.args.at c.args.self.now.rings c.link.new.behind.items c.link.new.before.items c.count_less.new.rings.items
+    c.self.invariant (ap (λ (v : RingsValue). v.rings) c.self.view_is) c.requires.at c.requires.there
+    (c.index-before.ensures ∙ get_or_default_zero c.self.inside.before.items c.args.slot c.index-before.result.now (omega (arith, at.lows.own, c.self.invariant.size)))
+    (c.index-behind.ensures ∙ get_or_default_zero c.self.inside.behind.items c.args.slot c.index-behind.result.now at.lows.own)
+    c.link.ensures.behind c.link.ensures.before c.count_less.ensures) in
+    subst (IsOutside c.args.slot) (sym after.of.values_are) after.outside
