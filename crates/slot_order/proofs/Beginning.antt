@@ -1,7 +1,7 @@
 -- Rings without slots.
-use Rattle.std.proofs.Common.{◌≡◌, ◌≢◌, ℕ, zero, suc, ◌+◌, ◌<◌, ◌≤◌, List, [], ◌∷◌, ◌++◌, length, map, get_or, refl, sym, ap, subst, ◌∙◌, arith, add-one}
+use Rattle.std.proofs.Common.{◌≡◌, ◌≢◌, ℕ, zero, suc, ◌+◌, ◌<◌, ◌≤◌, List, [], ◌∷◌, ◌++◌, length, map, refl, sym, ap, subst, ◌∙◌, arith}
 use Rattle.slot_order.specs.declared.rings.Ring.{Ring}
-use Rattle.slot_order.specs.Links.{link, Each, Apart, Distinct}
+use Rattle.slot_order.specs.Links.{link, Each, Distinct}
 use Rattle.slot_order.specs.Rings.{begun, numbers_from, rings_from, ring_of, nodes, AreLinked, StartBehind, AreRings}
 
 pub numbers_last : (start count : ℕ) → numbers_from start (suc count) ≡ numbers_from start count ++ (start + count) ∷ []

@@ -403,7 +403,7 @@ rings_more behind before rings room slot last place d all within below outside i
         linked = done.linked;
         distinct = distinct_more slot (nodes behind rings) more done.nodes_are all.distinct out;
         below = each_weaker (λ x. x < length behind) (λ x. x < length (set (set behind last slot) slot start)) more (λ x less. omega (arith, less, one, two))
-        (each_more (λ x. x < length behind) slot (nodes behind rings) more done.nodes_are all.below low);
+            (each_more (λ x. x < length behind) slot (nodes behind rings) more done.nodes_are all.below low);
         starts = starts_stay counted (λ ring. refl) room place rings all.starts;
         size = omega (arith, one, two, three, four, all.size);
         wide = omega (arith, one, two, all.wide);
@@ -425,14 +425,14 @@ rings_less behind before rings room slot p q place d all within there is_p is_q 
           linked = done.linked;
           distinct = distinct_fewer slot less (nodes behind rings) done.nodes_are all.distinct;
           below = each_weaker (λ x. x < length behind) (λ x. x < length (set behind p q)) less (λ x low. omega (arith, low, one))
-          (each_fewer (λ x. x < length behind) slot less (nodes behind rings) done.nodes_are all.below);
+              (each_fewer (λ x. x < length behind) slot less (nodes behind rings) done.nodes_are all.below);
           starts = starts_stay discounted (λ ring. refl) room place rings all.starts;
           size = omega (arith, one, two, all.size);
           wide = omega (arith, one, all.wide);
         };
       };
       outside = subst (IsOutside slot) done.values_are
-      (nodes_outside (set behind p q) (with_ring place discounted rings) slot (apart_fewer slot less (nodes behind rings) done.nodes_are all.distinct));
+          (nodes_outside (set behind p q) (with_ring place discounted rings) slot (apart_fewer slot less (nodes behind rings) done.nodes_are all.distinct));
     }
 
 -- ---- the ring at a place

@@ -1,4 +1,4 @@
-use Rattle.std.proofs.Common.{◌≡◌, ◌∷◌, [], ◌++◌, length, ap, sym, ◌∙◌, add-one, arith}
+use Rattle.std.proofs.Common.{◌∷◌, [], ◌++◌, length, ap, sym, ◌∙◌, add-one, arith}
 use Rattle.slot_order.specs.Rings.{numbers_from}
 use Rattle.slot_order.proofs.Beginning.{length_numbers, numbers_last}
 use Rattle.slot_order.proofs.rings.numbers.Goals as goal

@@ -1,4 +1,4 @@
-use Rattle.std.proofs.Common.{◌≡◌, ◌+◌, ◌∷◌, [], ◌++◌, length, ap, sym, ◌∙◌, add-one, arith}
+use Rattle.std.proofs.Common.{◌+◌, ◌∷◌, [], ◌++◌, length, ap, sym, ◌∙◌, add-one, arith}
 use Rattle.slot_order.specs.Rings.{rings_from}
 use Rattle.slot_order.proofs.Beginning.{length_rings, rings_last}
 use Rattle.slot_order.proofs.rings.rings_from.Goals as goal

@@ -1,7 +1,7 @@
-use Rattle.std.proofs.Common.{◌≡◌, ◌<◌, length, map, get_or, ap, sym, subst, ◌∙◌, arith}
+use Rattle.std.proofs.Common.{ap, ◌∙◌, arith}
 use Rattle.std.proofs.lemmas.Grind.{get_or_default_zero}
-use Rattle.slot_order.specs.Rings.{RingsValue, ring_of}
-use Rattle.slot_order.proofs.Circling.{IsReached, reached}
+use Rattle.slot_order.specs.Rings.{RingsValue}
+use Rattle.slot_order.proofs.Circling.{reached}
 use Rattle.slot_order.proofs.rings.Rings.behind.Goals as goal
 
 pub index-requires : goal.index-requires

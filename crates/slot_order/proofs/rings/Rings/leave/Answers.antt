@@ -1,4 +1,4 @@
-use Rattle.std.proofs.Common.{◌≡◌, ap, sym, subst, ◌∙◌, arith}
+use Rattle.std.proofs.Common.{ap, sym, subst, ◌∙◌, arith}
 use Rattle.std.proofs.lemmas.Grind.{get_or_default_zero}
 use Rattle.slot_order.specs.Rings.{RingsValue, with_ring, one_less, IsOutside}
 use Rattle.slot_order.proofs.Circling.{held, after_leave}

@@ -1,6 +1,5 @@
-use Rattle.std.proofs.Common.{◌≡◌, ◌<◌, length, map, get_or, ap, sym, subst, ◌∙◌, arith}
+use Rattle.std.proofs.Common.{◌<◌, length, map, ap, sym, subst, ◌∙◌, arith}
 use Rattle.std.proofs.lemmas.List.{length-map}
-use Rattle.slot_order.specs.declared.rings.Ring.{Ring}
 use Rattle.slot_order.specs.Rings.{RingsValue, ring_at, ring_of, slots_of}
 use Rattle.slot_order.proofs.Linking.{walk_length}
 use Rattle.slot_order.proofs.Circling.{value_at}

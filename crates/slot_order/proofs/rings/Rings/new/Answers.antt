@@ -1,4 +1,4 @@
-use Rattle.std.proofs.Common.{◌≡◌, ◌+◌, map, ap, sym, ◌∙◌, rules, arith}
+use Rattle.std.proofs.Common.{◌≡◌, ◌+◌, map, ap, ◌∙◌, rules}
 use Rattle.slot_order.specs.Rings.{ring_of}
 use Rattle.slot_order.proofs.Beginning.{numbers_begin, values_begin}
 use Rattle.slot_order.proofs.rings.Rings.new.Goals as goal
