@@ -101,6 +101,7 @@ impl Chains {
     {
         match self.place(peer) {
             Some(at) => {
+                // There are fewer keys than this, so one more can be counted.
                 let _room = self.chains[at].room;
                 self.keys.push(at, key);
             }
