@@ -1,19 +1,20 @@
 -- The keys of each peer, and the observers that they are of.
-use Rattle.std.proofs.Common.{◌≡◌, ◌≢◌, ℕ, ◌+◌, ◌*◌, ◌<◌, Bool, true, false, cond, List, [], ◌∷◌, ◌++◌, length, filter, map, Some, None, refl, sym, ap, subst, ◌∙◌, inl, inr, arith}
-use Rattle.std.specs.Prelude.{◌||◌, ◌==◌, option_map, slice_get, position, unwrap_or}
+use Rattle.std.proofs.Common.{◌≡◌, ◌≢◌, ℕ, zero, suc, ◌+◌, ◌*◌, ◌<◌, Bool, true, false, cond, List, [], ◌∷◌, ◌++◌, length, filter, Some, None, refl, sym, ap, subst, ◌∙◌, inl, inr, arith}
+use Rattle.std.specs.Prelude.{not, ◌||◌, ◌==◌, option_map, slice_get, position, unwrap_or}
 use Rattle.std.specs.List.{find, list_any}
 use Rattle.std.proofs.lemmas.Bool.{cases_Bool, eqb-true, eq-eqb, ne_eqb, cond-true, cond-false, false≢true}
 use Rattle.std.proofs.lemmas.List.Quantifiers.{position-Some}
 use Rattle.dots_history.specs.Histories.{tally}
 use Rattle.coap_exchange.specs.declared.pair.Pair.{Pair}
 use Rattle.coap_exchange.specs.Firsts.{replace_at}
-use Rattle.coap_exchange.proofs.Firsts.{first_found, first_replaced, none_passes, found_none, replaced_none}
-use Rattle.slot_order.specs.Links.{Apart, Distinct}
-use Rattle.slot_order.specs.Orders.{without}
+use Rattle.coap_exchange.proofs.Firsts.{first_found, first_replaced, none_passes, found_none, replaced_none, one_there}
+use Rattle.slot_order.specs.Links.{Each, Apart, Distinct}
+use Rattle.slot_order.specs.Orders.{has_slot, without}
+use Rattle.slot_order.proofs.Linking.{each_both, each_two, each_weaker}
 use Rattle.slot_order.proofs.Ringing.{distinct_last}
-use Rattle.coap_observe.specs.Chains.{ChainValue, is_chain_of, keys_in, room_in, is_pair_of, room_for, empty_chain, chained, one_chained, chain_left, one_left, AreChained, HaveRoom, SameRoom}
+use Rattle.coap_observe.specs.Chains.{ChainValue, ChainsValue, no_chain, chain_at, is_chain_of, keys_in, room_in, is_pair_of, room_for, empty_chains, chained, one_chained, chain_left, one_left, IsNowhere, AreWithin, AreChained, HaveRoom, SameRoom}
 use Rattle.coap_observe.specs.Observed.{ObservedValue}
-use Rattle.coap_observe.specs.Rolls.{Row, keys_of, observed_of, has_key, one_at, without_key, with_key, peer_of, is_row_of, own_keys}
+use Rattle.coap_observe.specs.Rolls.{Row, one_of, is_key, keys_of, observed_of, has_key, one_at, without_key, with_key, peer_of, is_row_of, own_keys}
 use Rattle.coap_observe.proofs.Keying.{keys_last, keys_less, keys_with, own_last, own_less, own_other, own_with}
 use Rattle.coap_observe.proofs.Rolling.{distinct_kept}
 
@@ -75,7 +76,7 @@ room_either q c d cs ds peer room same =
     by_test true = room
     by_test false = same
 
-pub room_chained : (peer key : ℕ) (cs : List ChainValue) → SameRoom cs (one_chained peer key cs)
+pub room_chained : (peer key : ℕ) (cs : List ChainValue) (q : ℕ) → room_in q (one_chained peer key cs) ≡ room_in q cs
 room_chained peer key [] q = refl
 room_chained peer key (c ∷ cs) q = by_test (is_chain_of peer c) (room_chained peer key cs q)
   where
@@ -84,7 +85,7 @@ room_chained peer key (c ∷ cs) q = by_test (is_chain_of peer c) (room_chained 
     by_test true rest = room_either q (chained key c) c cs cs refl refl refl
     by_test false rest = room_either q c c (one_chained peer key cs) cs refl refl rest
 
-pub room_left : (peer key : ℕ) (cs : List ChainValue) → SameRoom cs (one_left peer key cs)
+pub room_left : (peer key : ℕ) (cs : List ChainValue) (q : ℕ) → room_in q (one_left peer key cs) ≡ room_in q cs
 room_left peer key [] q = refl
 room_left peer key (c ∷ cs) q = by_test (is_chain_of peer c) (room_left peer key cs q)
   where
@@ -137,11 +138,109 @@ off_keys key (r ∷ rows) none = by_test (r.0 == key) refl none (off_keys key ro
     by_test true is none rest = absurd (false≢true (sym none))
     by_test false is none rest = (λ same. absurd (false≢true (sym is ∙ eq-eqb r.0 key same)), rest none)
 
+-- ---- all keys are those of observers
+
+pub has_more : (k : ℕ) (rows more : List Row) → has_key k rows ≡ true → has_key k (rows ++ more) ≡ true
+has_more k [] more has = absurd (false≢true has)
+has_more k (r ∷ rows) more has = by_test (r.0 == k) has (has_more k rows more)
+  where
+    by_test : (b : Bool) → b || has_key k rows ≡ true → (has_key k rows ≡ true → has_key k (rows ++ more) ≡ true) → b || has_key k (rows ++ more) ≡ true
+    by_test true has rest = refl
+    by_test false has rest = rest has
+
+has_last : (key : ℕ) (o : ObservedValue) (rows : List Row) → has_key key (rows ++ (key, o) ∷ []) ≡ true
+has_last key o [] = ap (λ b. b || false) (eq-eqb key key refl)
+has_last key o (r ∷ rows) = by_test (r.0 == key) (has_last key o rows)
+  where
+    by_test : (b : Bool) → has_key key (rows ++ (key, o) ∷ []) ≡ true → b || has_key key (rows ++ (key, o) ∷ []) ≡ true
+    by_test true rest = refl
+    by_test false rest = rest
+
+has_with : (k key : ℕ) (becomes : ObservedValue → ObservedValue) (rows : List Row) → has_key k (with_key key becomes rows) ≡ has_key k rows
+has_with k key becomes [] = refl
+has_with k key becomes (r ∷ rows) = by_test (r.0 == key) ∙ ap (λ b. (r.0 == k) || b) (has_with k key becomes rows)
+  where
+    by_test : (b : Bool) → ((cond b (r.0, becomes r.1) r).0 == k) || has_key k (with_key key becomes rows) ≡ (r.0 == k) || has_key k (with_key key becomes rows)
+    by_test true = refl
+    by_test false = refl
+
+has_kept : (k key : ℕ) (rows : List Row) → k ≢ key → has_key k rows ≡ true → has_key k (without_key key rows) ≡ true
+has_kept k key [] apart has = absurd (false≢true has)
+has_kept k key (r ∷ rows) apart has = by_test (r.0 == key) refl (r.0 == k) refl has (has_kept k key rows apart)
+  where
+    by_test : (b : Bool) → (r.0 == key) ≡ b → (s : Bool) → (r.0 == k) ≡ s → s || has_key k rows ≡ true → (has_key k rows ≡ true → has_key k (without_key key rows) ≡ true)
+        → has_key k (cond (not b) (r ∷ without_key key rows) (without_key key rows)) ≡ true
+    by_test true is true same has rest = absurd (apart (sym (eqb-true r.0 k same) ∙ eqb-true r.0 key is))
+    by_test true is false same has rest = rest has
+    by_test false is true same has rest = ap (λ b. b || has_key k (without_key key rows)) same
+    by_test false is false same has rest = ap (λ b. b || has_key k (without_key key rows)) same ∙ rest has
+
+within_rows : (rows new : List Row) (cs : List ChainValue) → ((k : ℕ) → has_key k rows ≡ true → has_key k new ≡ true) → AreWithin rows cs → AreWithin new cs
+within_rows rows new [] more within = record {}
+within_rows rows new (c ∷ cs) more within = (
+  each_weaker (λ k. has_key k rows ≡ true) (λ k. has_key k new ≡ true) c.keys more within.0,
+  within_rows rows new cs more within.1,
+)
+
+within_chained : (rows : List Row) (peer key : ℕ) (cs : List ChainValue) → has_key key rows ≡ true → AreWithin rows cs → AreWithin rows (one_chained peer key cs)
+within_chained rows peer key [] has within = record {}
+within_chained rows peer key (c ∷ cs) has within = by_test (is_chain_of peer c) (within_chained rows peer key cs has within.1)
+  where
+    by_test : (b : Bool) → AreWithin rows (one_chained peer key cs) → AreWithin rows (cond b (chained key c ∷ cs) (c ∷ one_chained peer key cs))
+    by_test true rest = (each_both (λ k. has_key k rows ≡ true) c.keys (key ∷ []) within.0 (has, record {}), within.1)
+    by_test false rest = (within.0, rest)
+
+each_without : (P : ℕ → Type 0) (key : ℕ) (xs : List ℕ) → Each P xs → Each P (without key xs)
+each_without P key [] each = record {}
+each_without P key (x ∷ xs) each = by_test (x == key) (each_without P key xs each.1)
+  where
+    by_test : (b : Bool) → Each P (without key xs) → Each P (cond (not b) (x ∷ without key xs) (without key xs))
+    by_test true rest = rest
+    by_test false rest = (each.0, rest)
+
+within_left : (rows : List Row) (peer key : ℕ) (cs : List ChainValue) → AreWithin rows cs → AreWithin rows (one_left peer key cs)
+within_left rows peer key [] within = record {}
+within_left rows peer key (c ∷ cs) within = by_test (is_chain_of peer c) (within_left rows peer key cs within.1)
+  where
+    by_test : (b : Bool) → AreWithin rows (one_left peer key cs) → AreWithin rows (cond b (chain_left key c ∷ cs) (c ∷ one_left peer key cs))
+    by_test true rest = (each_without (λ k. has_key k rows ≡ true) key c.keys within.0, within.1)
+    by_test false rest = (within.0, rest)
+
+within_less : (key : ℕ) (rows : List Row) (cs : List ChainValue) → AreWithin rows cs → IsNowhere key cs → AreWithin (without_key key rows) cs
+within_less key rows [] within gone = record {}
+within_less key rows (c ∷ cs) within gone = (
+  each_two (λ k. has_key k rows ≡ true) (λ k. k ≢ key) (λ k. has_key k (without_key key rows) ≡ true) c.keys (λ k has apart. has_kept k key rows apart has) within.0 gone.0,
+  within_less key rows cs within.1 gone.1,
+)
+
+-- a key that no observer has is in no chain
+pub nowhere_new : (key : ℕ) (rows : List Row) (cs : List ChainValue) → has_key key rows ≡ false → AreWithin rows cs → IsNowhere key cs
+nowhere_new key rows [] none within = record {}
+nowhere_new key rows (c ∷ cs) none within = (
+  each_weaker (λ k. has_key k rows ≡ true) (λ k. k ≢ key) c.keys (λ k has same. false≢true (sym none ∙ ap (λ n. has_key n rows) (sym same) ∙ has)) within.0,
+  nowhere_new key rows cs none within.1,
+)
+
+-- the key of a peer's observer is one of its keys
+pub own_has : (peer key : ℕ) (one : ObservedValue) (rows : List Row) → one_at key rows ≡ Some one → (peer_of one == peer) ≡ true → has_slot key (own_keys peer rows) ≡ true
+own_has peer key one [] there of = cc there
+own_has peer key one (r ∷ rows) there of = by_test (r.0 == key) refl there (is_row_of peer r) refl (λ is. own_has peer key one rows is of)
+  where
+    by_test : (b : Bool) → (r.0 == key) ≡ b → option_map one_of (cond b (Some r) (find (is_key key) rows)) ≡ Some one → (s : Bool) → is_row_of peer r ≡ s
+        → (one_at key rows ≡ Some one → has_slot key (own_keys peer rows) ≡ true)
+        → has_slot key (keys_of (cond s (r ∷ filter (is_row_of peer) rows) (filter (is_row_of peer) rows))) ≡ true
+    by_test true is there true own rest = ap (λ b. b || has_slot key (own_keys peer rows)) is
+    by_test true is there false own rest = absurd (false≢true (sym own ∙ ap (λ o. peer_of o == peer) (one_there (one_of r) one there) ∙ of))
+    by_test false is there true own rest = ap (λ b. b || has_slot key (own_keys peer rows)) is ∙ rest there
+    by_test false is there false own rest = rest there
+
 pub chained_last : (chains : List ChainValue) (rows : List Row) (key : ℕ) (o : ObservedValue) → has_key key rows ≡ false → 0 < room_in (peer_of o) chains → AreChained chains rows
     → AreChained (one_chained (peer_of o) key chains) (rows ++ (key, o) ∷ [])
 chained_last chains rows key o new some are = record {
   apart = subst Distinct (sym (keys_last (key, o) rows)) (distinct_last key (keys_of rows) are.apart (off_keys key rows new));
   own = λ peer. own_is peer;
+  within = within_chained (rows ++ (key, o) ∷ []) (peer_of o) key chains (has_last key o rows)
+      (within_rows rows (rows ++ (key, o) ∷ []) chains (λ k has. has_more k rows ((key, o) ∷ []) has) are.within);
 }
   where
     own_is : (peer : ℕ) → keys_in peer (one_chained (peer_of o) key chains) ≡ own_keys peer (rows ++ (key, o) ∷ [])
@@ -164,10 +263,11 @@ chained_last chains rows key o new some are = record {
         ]
 
 pub chained_less : (chains : List ChainValue) (rows : List Row) (key : ℕ) (one : ObservedValue) → one_at key rows ≡ Some one → AreChained chains rows
-    → AreChained (one_left (peer_of one) key chains) (without_key key rows)
-chained_less chains rows key one there are = record {
+    → IsNowhere key (one_left (peer_of one) key chains) → AreChained (one_left (peer_of one) key chains) (without_key key rows)
+chained_less chains rows key one there are gone = record {
   apart = subst Distinct (sym (keys_less key rows)) (distinct_kept key (keys_of rows) are.apart);
   own = λ peer. own_is peer;
+  within = within_less key rows (one_left (peer_of one) key chains) (within_left rows (peer_of one) key chains are.within) gone;
 }
   where
     own_is : (peer : ℕ) → keys_in peer (one_left (peer_of one) key chains) ≡ own_keys peer (without_key key rows)
@@ -191,33 +291,38 @@ pub chained_with : (chains : List ChainValue) (rows : List Row) (key : ℕ) (bec
 chained_with chains rows key becomes one there same_peer are = record {
   apart = subst Distinct (sym (keys_with key becomes rows)) are.apart;
   own = λ peer. are.own peer ∙ sym (own_with peer key becomes one rows are.apart there same_peer);
+  within = within_rows rows (with_key key becomes rows) chains (λ k has. has_with k key becomes rows ∙ has) are.within;
 }
 
 -- ---- at the beginning
 
-no_keys : (all : List Pair) (room : ℕ) (pairs : List Pair) (peer : ℕ) → keys_in peer (map (empty_chain all room) pairs) ≡ []
-no_keys all room [] peer = refl
-no_keys all room (pair ∷ pairs) peer = by_test (pair.peer == peer) (no_keys all room pairs peer)
+no_keys : (all : List Pair) (room start : ℕ) (pairs : List Pair) (peer : ℕ) → keys_in peer (empty_chains all room start pairs) ≡ []
+no_keys all room start [] peer = refl
+no_keys all room start (pair ∷ pairs) peer = by_test (pair.peer == peer) (no_keys all room (suc start) pairs peer)
   where
-    by_test : (b : Bool) → keys_in peer (map (empty_chain all room) pairs) ≡ []
-        → unwrap_or (option_map (λ (y : ChainValue). y.keys) (cond b (Some (empty_chain all room pair)) (find (is_chain_of peer) (map (empty_chain all room) pairs)))) [] ≡ []
+    by_test : (b : Bool) → keys_in peer (empty_chains all room (suc start) pairs) ≡ []
+        → unwrap_or (option_map (λ (y : ChainValue). y.keys) (cond b (Some (record { peer = pair.peer; room = room_for all room pair.peer; start = start; keys = [] })) (find (is_chain_of peer) (empty_chains all room (suc start) pairs)))) [] ≡ []
     by_test true rest = refl
     by_test false rest = rest
 
-pub none_chained : (all : List Pair) (room : ℕ) (pairs : List Pair) → AreChained (map (empty_chain all room) pairs) []
-none_chained all room pairs = record { apart = record {}; own = λ peer. no_keys all room pairs peer }
+none_within : (all : List Pair) (room start : ℕ) (pairs : List Pair) → AreWithin [] (empty_chains all room start pairs)
+none_within all room start [] = record {}
+none_within all room start (pair ∷ pairs) = (record {}, none_within all room (suc start) pairs)
 
-room_among : (all : List Pair) (room peer : ℕ) (pairs : List Pair) → room_in peer (map (empty_chain all room) pairs) ≡ cond (list_any (is_pair_of peer) pairs) (room_for all room peer) 0
-room_among all room peer [] = refl
-room_among all room peer (pair ∷ pairs) =
+pub none_chained : (all : List Pair) (room start : ℕ) (pairs : List Pair) → AreChained (empty_chains all room start pairs) []
+none_chained all room start pairs = record { apart = record {}; own = λ peer. no_keys all room start pairs peer; within = none_within all room start pairs }
+
+room_among : (all : List Pair) (room peer start : ℕ) (pairs : List Pair) → room_in peer (empty_chains all room start pairs) ≡ cond (list_any (is_pair_of peer) pairs) (room_for all room peer) 0
+room_among all room peer start [] = refl
+room_among all room peer start (pair ∷ pairs) =
     elim (cases_Bool (pair.peer == peer)) [
       | inl is ↦
-          ap (λ b. unwrap_or (option_map (λ (y : ChainValue). y.room) (cond b (Some (empty_chain all room pair)) (find (is_chain_of peer) (map (empty_chain all room) pairs)))) 0) is
+          ap (λ b. unwrap_or (option_map (λ (y : ChainValue). y.room) (cond b (Some (record { peer = pair.peer; room = room_for all room pair.peer; start = start; keys = [] })) (find (is_chain_of peer) (empty_chains all room (suc start) pairs)))) 0) is
           ∙ ap (room_for all room) (eqb-true pair.peer peer is)
           ∙ ap (λ b. cond (b || list_any (is_pair_of peer) pairs) (room_for all room peer) 0) (sym is)
       | inr out ↦
-          ap (λ b. unwrap_or (option_map (λ (y : ChainValue). y.room) (cond b (Some (empty_chain all room pair)) (find (is_chain_of peer) (map (empty_chain all room) pairs)))) 0) out
-          ∙ room_among all room peer pairs
+          ap (λ b. unwrap_or (option_map (λ (y : ChainValue). y.room) (cond b (Some (record { peer = pair.peer; room = room_for all room pair.peer; start = start; keys = [] })) (find (is_chain_of peer) (empty_chains all room (suc start) pairs)))) 0) out
+          ∙ room_among all room peer (suc start) pairs
           ∙ ap (λ b. cond (b || list_any (is_pair_of peer) pairs) (room_for all room peer) 0) (sym out)
     ]
 
@@ -233,15 +338,21 @@ none_counted peer (pair ∷ pairs) none = by_test (is_pair_of peer pair) none (n
 no_room : (room : ℕ) → 0 ≡ 0 * room
 no_room room = omega arith
 
-pub rooms_begin : (room : ℕ) (pairs : List Pair) → HaveRoom pairs room (map (empty_chain pairs room) pairs)
-rooms_begin room pairs peer = room_among pairs room peer pairs ∙ by_test (list_any (is_pair_of peer) pairs) (none_counted peer pairs)
+pub rooms_begin : (room start : ℕ) (pairs : List Pair) → HaveRoom pairs room (empty_chains pairs room start pairs)
+rooms_begin room start pairs peer = room_among pairs room peer start pairs ∙ by_test (list_any (is_pair_of peer) pairs) (none_counted peer pairs)
   where
     by_test : (b : Bool) → (b ≡ false → tally (is_pair_of peer) pairs ≡ 0) → cond b (room_for pairs room peer) 0 ≡ room_for pairs room peer
     by_test true none = refl
     by_test false none = no_room room ∙ ap (λ n. n * room) (sym (none refl))
 
-pub rooms_stay : (pairs : List Pair) (room : ℕ) (old new : List ChainValue) → SameRoom old new → HaveRoom pairs room old → HaveRoom pairs room new
-rooms_stay pairs room old new same have peer = same peer ∙ have peer
+pub rooms_stay : (pairs : List Pair) (room : ℕ) (old new : ChainsValue) → SameRoom old new → HaveRoom pairs room old.chains → HaveRoom pairs room new.chains
+rooms_stay pairs room old new same have peer = same.room peer ∙ have peer
+
+pub same_room : (chains : ChainsValue) → SameRoom chains chains
+same_room chains = record { limit = refl; room = λ peer. refl }
+
+pub same_room_then : {old mid new : ChainsValue} → SameRoom mid new → SameRoom old mid → SameRoom old new
+same_room_then later first = record { limit = later.limit ∙ first.limit; room = λ peer. later.room peer ∙ first.room peer }
 
 -- ---- how many there are of a peer
 
@@ -277,14 +388,12 @@ room_at peer i cs c found there less =
 pub chained_at : (peer key i : ℕ) (cs : List ChainValue) → position (is_chain_of peer) cs ≡ Some i
     → replace_at i (λ c. chained key c ∷ []) cs ≡ one_chained peer key cs
 chained_at peer key i cs found =
-    let d : ChainValue = record { peer = 0; room = 0; keys = [] } in
-    let at = position-Some (is_chain_of peer) cs i d found in
-    first_replaced (is_chain_of peer) (λ c. chained key c ∷ []) cs i d at.0 at.1 at.2
+    let at = position-Some (is_chain_of peer) cs i no_chain found in
+    first_replaced (is_chain_of peer) (λ c. chained key c ∷ []) cs i no_chain at.0 at.1 at.2
 
 pub chain_within : (peer i : ℕ) (cs : List ChainValue) → position (is_chain_of peer) cs ≡ Some i → i < length cs
 chain_within peer i cs found =
-    let d : ChainValue = record { peer = 0; room = 0; keys = [] } in
-    (position-Some (is_chain_of peer) cs i d found).0
+    (position-Some (is_chain_of peer) cs i no_chain found).0
 
 pub chained_nowhere : (peer key : ℕ) (cs : List ChainValue) → position (is_chain_of peer) cs ≡ None → cs ≡ one_chained peer key cs
 chained_nowhere peer key cs none = sym (replaced_none (is_chain_of peer) (λ c. chained key c ∷ []) cs (none_passes (is_chain_of peer) cs none))
@@ -298,9 +407,22 @@ keys_nowhere peer cs none = ap (λ o. unwrap_or (option_map (λ (y : ChainValue)
 pub left_at : (peer key i : ℕ) (cs : List ChainValue) → position (is_chain_of peer) cs ≡ Some i
     → replace_at i (λ c. chain_left key c ∷ []) cs ≡ one_left peer key cs
 left_at peer key i cs found =
-    let d : ChainValue = record { peer = 0; room = 0; keys = [] } in
-    let at = position-Some (is_chain_of peer) cs i d found in
-    first_replaced (is_chain_of peer) (λ c. chain_left key c ∷ []) cs i d at.0 at.1 at.2
+    let at = position-Some (is_chain_of peer) cs i no_chain found in
+    first_replaced (is_chain_of peer) (λ c. chain_left key c ∷ []) cs i no_chain at.0 at.1 at.2
 
 pub left_nowhere : (peer key : ℕ) (cs : List ChainValue) → position (is_chain_of peer) cs ≡ None → cs ≡ one_left peer key cs
 left_nowhere peer key cs none = sym (replaced_none (is_chain_of peer) (λ c. chain_left key c ∷ []) cs (none_passes (is_chain_of peer) cs none))
+
+-- ---- by its place
+
+get_there : (i : ℕ) (cs : List ChainValue) → i < length cs → slice_get cs i ≡ Some (chain_at i cs)
+get_there i [] less = absurd (omega (arith, less))
+get_there zero (c ∷ cs) less = refl
+get_there (suc i) (c ∷ cs) less = get_there i cs (omega (arith, less))
+
+pub keys_placed : (peer i : ℕ) (cs : List ChainValue) → position (is_chain_of peer) cs ≡ Some i → (chain_at i cs).keys ≡ keys_in peer cs
+keys_placed peer i cs found = keys_at peer i cs (chain_at i cs) found (get_there i cs (chain_within peer i cs found))
+
+pub room_placed : (peer i : ℕ) (cs : List ChainValue) → position (is_chain_of peer) cs ≡ Some i → (chain_at i cs).room ≡ room_in peer cs
+room_placed peer i cs found =
+    sym (ap (λ o. unwrap_or (option_map (λ (y : ChainValue). y.room) o) 0) (chain_found peer i cs (chain_at i cs) found (get_there i cs (chain_within peer i cs found))))

@@ -1,11 +1,11 @@
 -- The first place of a peer, by its hash.
-use Rattle.std.proofs.Common.{◌≡◌, ℕ, zero, suc, ◌+◌, ◌<◌, Bool, true, false, cond, List, [], ◌∷◌, length, map, drop, get_or, drop-cons, add-one, Option, Some, refl, sym, ap, ◌∙◌, inl, inr}
+use Rattle.std.proofs.Common.{◌≡◌, ℕ, zero, suc, ◌+◌, ◌<◌, cond, List, [], ◌∷◌, length, map, drop, get_or, drop-cons, add-one, Option, Some, refl, sym, ap, ◌∙◌, inl, inr}
 use Rattle.std.specs.Prelude.{◌==◌, position}
 use Rattle.std.specs.List.{position_from}
 use Rattle.std.proofs.lemmas.Bool.{cases_eq, eq-eqb, ne_eqb}
 use Rattle.std.proofs.lemmas.Iterator.Adapters.{position_from-zero}
 use Rattle.coap_exchange.specs.declared.pair.Pair.{Pair}
-use Rattle.coap_observe.specs.Chains.{ChainValue, is_chain_of, empty_chain, chained, one_chained, chain_left, one_left, chain_peer, pair_peer}
+use Rattle.coap_observe.specs.Chains.{ChainValue, is_chain_of, chain_peer, peer_chain, peer_in, pair_peer}
 
 eq_turned : (a b : ℕ) → (a == b) ≡ (b == a)
 eq_turned a b =
@@ -43,25 +43,7 @@ one_entered pairs i d before found other less rest is =
     ∙ ap (λ k. cond (other == peer) (Some i) (position_from (λ p. other == p) (i + 1) (drop k peers))) (add-one i)
     ∙ sym (ap (position_from (λ p. other == p) i) (drop-cons peers i (pair_peer d) less))
 
--- the peers of chains stay
-pub peers_begin : (all : List Pair) (room : ℕ) (pairs : List Pair) → map chain_peer (map (empty_chain all room) pairs) ≡ map pair_peer pairs
+-- the peers of pairs
+pub peers_begin : (all : List Pair) (room : ℕ) (pairs : List Pair) → map peer_in (map (peer_chain all room) pairs) ≡ map pair_peer pairs
 peers_begin all room [] = refl
 peers_begin all room (pair ∷ pairs) = ap (λ ps. pair.peer ∷ ps) (peers_begin all room pairs)
-
-pub peers_chained : (peer place : ℕ) (cs : List ChainValue) → map chain_peer (one_chained peer place cs) ≡ map chain_peer cs
-peers_chained peer place [] = refl
-peers_chained peer place (c ∷ cs) = by_test (is_chain_of peer c) (peers_chained peer place cs)
-  where
-    by_test : (b : Bool) → map chain_peer (one_chained peer place cs) ≡ map chain_peer cs
-        → map chain_peer (cond b (chained place c ∷ cs) (c ∷ one_chained peer place cs)) ≡ map chain_peer (c ∷ cs)
-    by_test true rest = refl
-    by_test false rest = ap (λ ps. c.peer ∷ ps) rest
-
-pub peers_left : (peer key : ℕ) (cs : List ChainValue) → map chain_peer (one_left peer key cs) ≡ map chain_peer cs
-peers_left peer key [] = refl
-peers_left peer key (c ∷ cs) = by_test (is_chain_of peer c) (peers_left peer key cs)
-  where
-    by_test : (b : Bool) → map chain_peer (one_left peer key cs) ≡ map chain_peer cs
-        → map chain_peer (cond b (chain_left key c ∷ cs) (c ∷ one_left peer key cs)) ≡ map chain_peer (c ∷ cs)
-    by_test true rest = refl
-    by_test false rest = ap (λ ps. c.peer ∷ ps) rest

@@ -5,6 +5,8 @@ pub mod Firsts
 pub mod Keying
 pub mod Leaving
 pub mod Numbers
+pub mod Pairing
 pub mod Rolling
 pub mod Seeing
 pub mod Telling
+pub mod Walking

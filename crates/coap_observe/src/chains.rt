@@ -1,135 +1,122 @@
 //! The keys of each peer's observers.
 
-ghost use Rattle.std.specs.Prelude.{◌≡◌, ◌<◌, ◌∷◌, [], map, length, position, slice_get, Some, vec_capacity, IfOk};
+ghost use Rattle.std.specs.Prelude.{◌≡◌, ◌<◌, ◌∷◌, [], true, map, length, position, slice_index_or, IfOk};
 ghost use Rattle.dots_history.specs.Histories.{tally};
-ghost use Rattle.coap_exchange.specs.Firsts.{replace_at};
-ghost use Rattle.slot_order.specs.Orders.{without};
-ghost use Rattle.coap_observe.specs.Chains.{ChainValue, is_chain_of, keys_in, room_in, is_pair_of, room_for, empty_chain, chained, one_chained, chain_left, one_left, pair_peer, AreFirsts};
+ghost use Rattle.slot_order.specs.Orders.{has_slot};
+ghost use Rattle.coap_observe.specs.Chains.{ChainsValue, is_chain_of, chain_at, keys_in, room_in, is_pair_of, room_for, empty_chains, one_chained, one_left, pair_peer, IsNowhere, AreFirsts, peer_chain};
 
 use coap_exchange::Pair;
 use dots_lists::NoMemory;
+use slot_order::Rings;
 use std::alloc::Global;
 use std::collections::HashMap;
 use std::marker::Model;
 
-/// The keys of one peer's observers, in the order of registration.
-#[derive(Debug, Drop)]
+/// A peer, and how many observers it may have.
+#[derive(Clone, Copy, Debug)]
 struct Chain {
     peer: u32,
-    keys: Vec<usize>,
-    /// How many there may be.
     room: usize,
 }
 
-impl Model for Chain {
-    ghost use Rattle.std.specs.Prelude.{◌≤◌, vec_capacity};
-    ghost use Rattle.coap_observe.specs.Chains.{ChainValue};
-
-    ghost Value = { ChainValue };
-
-    ghost view = { λ chain. record { peer = chain.peer; room = chain.room; keys = chain.keys.items } };
-
-    ghost invariant = { λ chain. chain.room ≤ vec_capacity chain.keys };
-}
-
-impl Chain {
-    /// No keys, and room for so many.
-    fn new(alloc: Global, peer: u32, room: usize) -> Result<Self, NoMemory>
-        ensures { IfOk result (λ chain. chain ≡ record { peer = peer; room = room; keys = [] }) }
-    {
-        Ok(Chain {
-            peer,
-            keys: Vec::with_capacity(alloc, room)?,
-            room,
-        })
-    }
-
-    fn keys(&self) -> &[usize]
-        ensures { result.now ≡ self.now.keys }
-    {
-        self.keys.as_slice()
-    }
-
-    /// One more key, which is the last.
-    fn push(&mut self, key: usize)
-        requires { length self.old.keys < self.old.room }
-        ensures { self.new ≡ chained key self.old }
-    {
-        self.keys.push_reserved(key);
-    }
-
-    /// This key goes.
-    fn leave(&mut self, key: usize)
-        ensures { self.new ≡ chain_left key self.old }
-    {
-        keep_others(&mut self.keys, key);
-    }
-}
-
 /// The keys of each peer's observers, in the order of registration. The chain of a peer is found at once, by its hash, so those of a
-/// peer are found without passing over the others.
+/// peer are found without passing over the others, and one goes without passing over the others of its peer.
 #[derive(Debug, Drop)]
 pub struct Chains {
     chains: Vec<Chain>,
+    /// The keys of each chain.
+    keys: Rings,
     /// Where the chain of each peer stands.
     firsts: HashMap<u32, usize>,
 }
 
 impl Model for Chains {
-    ghost use Rattle.std.specs.Prelude.{List, map};
-    ghost use Rattle.coap_observe.specs.Chains.{ChainValue, chain_peer, AreFirsts};
+    ghost use Rattle.std.specs.Prelude.{◌≡◌, length, map};
+    ghost use Rattle.coap_observe.specs.Chains.{ChainsValue, chains_of, peer_in, AreFirsts};
 
-    ghost Value = { List ChainValue };
+    ghost Value = { ChainsValue };
 
-    ghost view = { λ chains. chains.chains.items };
+    ghost view = { λ c. record { limit = c.keys.room; chains = chains_of c.chains.items c.keys.rings } };
 
-    ghost invariant = { λ chains. AreFirsts 0 chains.firsts.entries (map chain_peer chains.chains.items) };
+    ghost invariant = { λ c. record {
+      firsts : AreFirsts 0 c.firsts.entries (map peer_in c.chains.items);
+      paired : length c.chains.items ≡ length c.keys.rings;
+    } };
 }
 
 impl Chains {
-    /// No keys, and room for so many of each of these pairs. This is the only call that takes memory.
-    pub fn new(alloc: Global, pairs: &[Pair], room: usize) -> Result<Self, NoMemory>
-        ensures { IfOk result (λ made. made ≡ map (empty_chain pairs.now room) pairs.now) }
+    /// No keys, and room for so many of each of these pairs, which are numbers below the limit. This is the only call that takes memory.
+    pub fn new(alloc: Global, pairs: &[Pair], room: usize, limit: usize) -> Result<Self, NoMemory>
+        ensures { IfOk result (λ made. made ≡ record { limit = limit; chains = empty_chains pairs.now room limit pairs.now }) }
     {
         let chains = chains_for(alloc, pairs, room)?;
+        let keys = Rings::new(alloc, limit, pairs.len())?;
         let firsts = firsts_of(alloc, pairs)?;
-        Ok(Chains { chains, firsts })
+        Ok(Chains {
+            chains,
+            keys,
+            firsts,
+        })
     }
 
     /// Where the chain of this peer stands.
-    fn place(&self, peer: u32) -> Option<usize>
-        ensures { result ≡ position (is_chain_of peer) self.now }
+    pub fn place(&self, peer: u32) -> Option<usize>
+        ensures { result ≡ position (is_chain_of peer) self.now.chains }
     {
         self.firsts.get(&peer).copied()
     }
 
-    /// The keys of this peer's observers, in the order of registration.
-    pub fn keys(&self, peer: u32) -> &[usize]
-        ensures { result.now ≡ keys_in peer self.now }
+    /// How many keys the chain at this place has.
+    pub fn len(&self, at: usize) -> usize
+        requires { at < length self.now.chains }
+        ensures { result ≡ length (chain_at at self.now.chains).keys }
     {
-        match self.place(peer) {
-            Some(at) => self.chains[at].keys(),
-            None => &[],
-        }
+        self.keys.len(at)
+    }
+
+    /// Where the chain at this place begins: the key behind it is the first one.
+    pub fn start(&self, at: usize) -> usize
+        requires { at < length self.now.chains }
+        ensures { result ≡ (chain_at at self.now.chains).start }
+    {
+        self.keys.start(at)
+    }
+
+    /// The key at this place of a chain, which stands behind the one before it, or behind the start.
+    pub fn behind(&self, at: usize, key: usize, place: usize) -> usize
+        requires at { at < length self.now.chains }
+        requires there { place < length (chain_at at self.now.chains).keys }
+        requires before { key ≡ slice_index_or ((chain_at at self.now.chains).start ∷ (chain_at at self.now.chains).keys) place 0 }
+        ensures { result ≡ slice_index_or (chain_at at self.now.chains).keys place 0 }
+    {
+        self.keys.behind(at, key, place)
     }
 
     /// One more key of this peer, which is behind all others.
     pub fn push(&mut self, peer: u32, key: usize)
-        requires { length (keys_in peer self.old) < room_in peer self.old }
-        ensures { self.new ≡ one_chained peer key self.old }
+        requires room { length (keys_in peer self.old.chains) < room_in peer self.old.chains }
+        requires below { key < self.old.limit }
+        requires new { IsNowhere key self.old.chains }
+        ensures { self.new ≡ record { limit = self.old.limit; chains = one_chained peer key self.old.chains } }
     {
         match self.place(peer) {
-            Some(at) => push_at(&mut self.chains, at, key),
+            Some(at) => {
+                // There are fewer keys than this, so one more can be counted.
+                let _room = self.chains[at].room;
+                self.keys.push(at, key);
+            }
             None => {}
         }
     }
 
     /// This key of the peer goes.
     pub fn leave(&mut self, peer: u32, key: usize)
-        ensures { self.new ≡ one_left peer key self.old }
+        requires { has_slot key (keys_in peer self.old.chains) ≡ true }
+        ensures others { self.new ≡ record { limit = self.old.limit; chains = one_left peer key self.old.chains } }
+        ensures gone { IsNowhere key self.new.chains }
     {
         match self.place(peer) {
-            Some(at) => leave_at(&mut self.chains, at, key),
+            Some(at) => self.keys.leave(at, key),
             None => {}
         }
     }
@@ -150,23 +137,23 @@ fn firsts_of(alloc: Global, pairs: &[Pair]) -> Result<HashMap<u32, usize>, NoMem
 
 /// A chain for the peer of each pair; the first of a peer's is the one that is used.
 fn chains_for(alloc: Global, pairs: &[Pair], room: usize) -> Result<Vec<Chain>, NoMemory>
-    ensures { IfOk result (λ chains. chains.items ≡ map (empty_chain pairs.now room) pairs.now) }
+    ensures { IfOk result (λ chains. chains.items ≡ map (peer_chain pairs.now room) pairs.now) }
 {
     let mut chains = Vec::new(alloc);
     for pair in pairs {
-        let chain = chain_for(alloc, pairs, room, pair.peer)?;
+        let chain = chain_for(pairs, room, pair.peer)?;
         chains.push(chain)?;
     }
     Ok(chains)
 }
 
-fn chain_for(alloc: Global, pairs: &[Pair], room: usize, peer: u32) -> Result<Chain, NoMemory>
-    ensures { IfOk result (λ chain. chain ≡ record { peer = peer; room = room_for pairs.now room peer; keys = [] }) }
+fn chain_for(pairs: &[Pair], room: usize, peer: u32) -> Result<Chain, NoMemory>
+    ensures { IfOk result (λ chain. chain ≡ record { peer = peer; room = room_for pairs.now room peer }) }
 {
     let Some(room) = pairs_with(pairs, peer).checked_mul(room) else {
         return Err(NoMemory);
     };
-    Chain::new(alloc, peer, room)
+    Ok(Chain { peer, room })
 }
 
 /// How many pairs are of this peer.
@@ -180,26 +167,4 @@ fn pairs_with(pairs: &[Pair], peer: u32) -> usize
         }
     }
     count
-}
-
-fn push_at(chains: &mut Vec<Chain>, at: usize, key: usize)
-    requires at { at < length chains.old.items }
-    requires room { (chain : ChainValue) → slice_get chains.old.items at ≡ Some chain → length chain.keys < chain.room }
-    ensures { chains.new.items ≡ replace_at at (λ chain. chained key chain ∷ []) chains.old.items }
-{
-    chains[at].push(key);
-}
-
-fn leave_at(chains: &mut Vec<Chain>, at: usize, key: usize)
-    requires { at < length chains.old.items }
-    ensures { chains.new.items ≡ replace_at at (λ chain. chain_left key chain ∷ []) chains.old.items }
-{
-    chains[at].leave(key);
-}
-
-fn keep_others(keys: &mut Vec<usize>, key: usize)
-    ensures items { keys.new.items ≡ without key keys.old.items }
-    ensures capacity { vec_capacity keys.new ≡ vec_capacity keys.old }
-{
-    keys.retain(|other| *other != key);
 }

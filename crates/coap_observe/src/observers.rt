@@ -4,8 +4,8 @@ ghost use Rattle.dots_history.specs.Entries.{option_any};
 ghost use Rattle.dots_history.specs.Histories.{tally};
 ghost use Rattle.coap_exchange.specs.Firsts.{replace_at};
 ghost use Rattle.slot_order.specs.Links.{Distinct};
-ghost use Rattle.coap_observe.specs.Chains.{room_in, AreChained, SameRoom};
-ghost use Rattle.coap_observe.specs.Rolls.{keys_of, observed_of, has_key, one_at, without_key, first_key, peer_of, own_keys};
+ghost use Rattle.coap_observe.specs.Chains.{chain_at, room_in, AreChained, SameRoom};
+ghost use Rattle.coap_observe.specs.Rolls.{keys_of, observed_of, one_at, without_key, first_key, peer_of};
 ghost use Rattle.coap_observe.specs.Observed.{is_token, is_of, had_id, is_due};
 ghost use Rattle.coap_observe.specs.Observing.{ObserversValue, own_of, has_room, number_for, entered, registered, deregistered, without_id, NoneIsDue, IsNextDue, told_or_gone, after_notice};
 ghost use Rattle.coap_exchange.specs.Pairs.{is_pair, pairs_of};
@@ -58,8 +58,9 @@ impl Model for Observers {
     ghost invariant = { λ o. record {
       bounded : AreBounded o.pairs o.room (observed_of o.roll.rows);
       reserved : length o.pairs * o.room ≤ o.roll.room;
-      chained : AreChained o.chains o.roll.rows;
-      rooms : HaveRoom o.pairs o.room o.chains;
+      chained : AreChained o.chains.chains o.roll.rows;
+      rooms : HaveRoom o.pairs o.room o.chains.chains;
+      limit : o.roll.room ≤ o.chains.limit;
     } };
 }
 
@@ -75,7 +76,7 @@ impl Observers {
             return Err(NoMemory);
         };
         let roll = Roll::new(alloc, count)?;
-        let chains = Chains::new(alloc, pairs.pairs(), room)?;
+        let chains = Chains::new(alloc, pairs.pairs(), room, roll.room())?;
         Ok(Observers {
             roll,
             chains,
@@ -100,8 +101,7 @@ impl Observers {
         ensures number { result ≡ (if has_room self.old.room observer self.old.observed then Some (number_for observer self.old.observed) else None) }
         ensures list { self.new ≡ record self.old { observed = registered (V.lists views.now) self.old.room observer self.old.observed } }
     {
-        let keys = self.chains.keys(observer.peer);
-        if has_room(&self.roll, keys, self.room, &observer) {
+        if has_room(&self.roll, &self.chains, self.room, &observer) {
             let seen = SeenList::of(views, &observer);
             return Some(enter(&mut self.roll, &mut self.chains, observer, seen));
         }
@@ -142,26 +142,23 @@ impl Observers {
     }
 }
 
-/// Whether the observer is there already for its domain, or there are fewer of its peer and domain than the room. The keys are
-/// those of its peer.
-fn has_room(roll: &Roll, keys: &[usize], room: usize, observer: &Observer) -> bool
-    requires apart { Distinct (keys_of roll.now.rows) }
-    requires own { keys.now ≡ own_keys observer.now.peer roll.now.rows }
+/// Whether the observer is there already for its domain, or there are fewer of its peer and domain than the room.
+fn has_room(roll: &Roll, chains: &Chains, room: usize, observer: &Observer) -> bool
+    requires { AreChained chains.now.chains roll.now.rows }
     ensures { result ≡ has_room room observer.now (observed_of roll.now.rows) }
 {
-    if is_at_home(roll, keys, observer) {
+    if is_at_home(roll, chains, observer) {
         return true;
     }
-    count_of(roll, keys, observer.peer, observer.domain) < room
+    count_of(roll, chains, observer.peer, observer.domain) < room
 }
 
 /// Whether the observer is there already, and for its domain.
-fn is_at_home(roll: &Roll, keys: &[usize], observer: &Observer) -> bool
-    requires apart { Distinct (keys_of roll.now.rows) }
-    requires own { keys.now ≡ own_keys observer.now.peer roll.now.rows }
+fn is_at_home(roll: &Roll, chains: &Chains, observer: &Observer) -> bool
+    requires { AreChained chains.now.chains roll.now.rows }
     ensures { result ≡ option_any (λ o. o.observer.domain == observer.now.domain) (own_of observer.now (observed_of roll.now.rows)) }
 {
-    match token_key(roll, keys, observer.peer, observer.token.bytes()) {
+    match token_key(roll, chains, observer.peer, observer.token.bytes()) {
         Some(key) => is_domain_at(roll, key, observer.domain),
         None => false,
     }
@@ -176,21 +173,27 @@ fn is_domain_at(roll: &Roll, key: usize, domain: u16) -> bool
     }
 }
 
-/// The key of the observer of this peer and token. The keys are those of the peer.
-fn token_key(roll: &Roll, keys: &[usize], peer: u32, token: &[u8]) -> Option<usize>
-    requires apart { Distinct (keys_of roll.now.rows) }
-    requires own { keys.now ≡ own_keys peer roll.now.rows }
+/// The key of the observer of this peer and token.
+fn token_key(roll: &Roll, chains: &Chains, peer: u32, token: &[u8]) -> Option<usize>
+    requires { AreChained chains.now.chains roll.now.rows }
     ensures { result ≡ first_key (is_token peer token.now) roll.now.rows }
 {
-    token_among(roll, keys, peer, token)
+    match chains.place(peer) {
+        Some(at) => token_among(roll, chains, at, peer, token),
+        None => None,
+    }
 }
 
-fn token_among(roll: &Roll, keys: &[usize], peer: u32, token: &[u8]) -> Option<usize>
-    ensures { result ≡ find (λ key. option_any (is_token peer token.now) (one_at key roll.now.rows)) keys.now }
+/// The first key of the chain at this place whose observer is of this peer and token.
+fn token_among(roll: &Roll, chains: &Chains, at: usize, peer: u32, token: &[u8]) -> Option<usize>
+    requires { at < length chains.now.chains }
+    ensures { result ≡ find (λ key. option_any (is_token peer token.now) (one_at key roll.now.rows)) (chain_at at chains.now.chains).keys }
 {
-    for key in keys {
-        if is_token_at(roll, *key, peer, token) {
-            return Some(*key);
+    let mut key = chains.start(at);
+    for place in 0..chains.len(at) {
+        key = chains.behind(at, key, place);
+        if is_token_at(roll, key, peer, token) {
+            return Some(key);
         }
     }
     None
@@ -205,21 +208,27 @@ fn is_token_at(roll: &Roll, key: usize, peer: u32, token: &[u8]) -> bool
     }
 }
 
-/// The key of the first observer of this peer whose last notification had this Message ID. The keys are those of the peer.
-fn id_key(roll: &Roll, keys: &[usize], peer: u32, id: u16) -> Option<usize>
-    requires apart { Distinct (keys_of roll.now.rows) }
-    requires own { keys.now ≡ own_keys peer roll.now.rows }
+/// The key of the first observer of this peer whose last notification had this Message ID.
+fn id_key(roll: &Roll, chains: &Chains, peer: u32, id: u16) -> Option<usize>
+    requires { AreChained chains.now.chains roll.now.rows }
     ensures { result ≡ first_key (had_id peer id) roll.now.rows }
 {
-    id_among(roll, keys, peer, id)
+    match chains.place(peer) {
+        Some(at) => id_among(roll, chains, at, peer, id),
+        None => None,
+    }
 }
 
-fn id_among(roll: &Roll, keys: &[usize], peer: u32, id: u16) -> Option<usize>
-    ensures { result ≡ find (λ key. option_any (had_id peer id) (one_at key roll.now.rows)) keys.now }
+/// The first key of the chain at this place whose observer is of this peer and had this Message ID.
+fn id_among(roll: &Roll, chains: &Chains, at: usize, peer: u32, id: u16) -> Option<usize>
+    requires { at < length chains.now.chains }
+    ensures { result ≡ find (λ key. option_any (had_id peer id) (one_at key roll.now.rows)) (chain_at at chains.now.chains).keys }
 {
-    for key in keys {
-        if had_id_at(roll, *key, peer, id) {
-            return Some(*key);
+    let mut key = chains.start(at);
+    for place in 0..chains.len(at) {
+        key = chains.behind(at, key, place);
+        if had_id_at(roll, key, peer, id) {
+            return Some(key);
         }
     }
     None
@@ -234,21 +243,27 @@ fn had_id_at(roll: &Roll, key: usize, peer: u32, id: u16) -> bool
     }
 }
 
-/// How many observers are of this peer and domain. The keys are those of the peer.
-fn count_of(roll: &Roll, keys: &[usize], peer: u32, domain: u16) -> usize
-    requires apart { Distinct (keys_of roll.now.rows) }
-    requires own { keys.now ≡ own_keys peer roll.now.rows }
+/// How many observers are of this peer and domain.
+fn count_of(roll: &Roll, chains: &Chains, peer: u32, domain: u16) -> usize
+    requires { AreChained chains.now.chains roll.now.rows }
     ensures { result ≡ tally (is_of peer domain) (observed_of roll.now.rows) }
 {
-    count_among(roll, keys, peer, domain)
+    match chains.place(peer) {
+        Some(at) => count_among(roll, chains, at, peer, domain),
+        None => 0,
+    }
 }
 
-fn count_among(roll: &Roll, keys: &[usize], peer: u32, domain: u16) -> usize
-    ensures { result ≡ tally (λ key. option_any (is_of peer domain) (one_at key roll.now.rows)) keys.now }
+/// How many keys of the chain at this place have an observer of this peer and domain.
+fn count_among(roll: &Roll, chains: &Chains, at: usize, peer: u32, domain: u16) -> usize
+    requires { at < length chains.now.chains }
+    ensures { result ≡ tally (λ key. option_any (is_of peer domain) (one_at key roll.now.rows)) (chain_at at chains.now.chains).keys }
 {
+    let mut key = chains.start(at);
     let mut count = 0;
-    for key in keys {
-        if is_of_at(roll, *key, peer, domain) {
+    for place in 0..chains.len(at) {
+        key = chains.behind(at, key, place);
+        if is_of_at(roll, key, peer, domain) {
             count += 1;
         }
     }
@@ -267,16 +282,17 @@ fn is_of_at(roll: &Roll, key: usize, peer: u32, domain: u16) -> bool
 /// Puts an observer into the place of the one of its peer and token, or else to the end, and answers its number.
 fn enter(roll: &mut Roll, chains: &mut Chains, observer: Observer, seen: SeenList) -> u32
     requires fits { length (entered observer seen (observed_of roll.old.rows)) ≤ roll.old.room }
-    requires chained { AreChained chains.old roll.old.rows }
-    requires room { tally (λ o. peer_of o == observer.peer) (entered observer seen (observed_of roll.old.rows)) ≤ room_in observer.peer chains.old }
+    requires chained { AreChained chains.old.chains roll.old.rows }
+    requires room { tally (λ o. peer_of o == observer.peer) (entered observer seen (observed_of roll.old.rows)) ≤ room_in observer.peer chains.old.chains }
+    requires limit { roll.old.room ≤ chains.old.limit }
     ensures number { result ≡ number_for observer (observed_of roll.old.rows) }
     ensures list { observed_of roll.new.rows ≡ entered observer seen (observed_of roll.old.rows) }
     ensures capacity { roll.new.room ≡ roll.old.room }
-    ensures chained { AreChained chains.new roll.new.rows }
+    ensures chained { AreChained chains.new.chains roll.new.rows }
     ensures room { SameRoom chains.old chains.new }
 {
     let peer = observer.peer;
-    match token_key(roll, chains.keys(peer), peer, observer.token.bytes()) {
+    match token_key(roll, chains, peer, observer.token.bytes()) {
         Some(key) => roll.register_again(key, observer, seen),
         None => {
             let key = roll.push(Observed::new(observer, seen));
@@ -289,10 +305,10 @@ fn enter(roll: &mut Roll, chains: &mut Chains, observer: Observer, seen: SeenLis
 /// The observer under this key, which is of this peer, goes.
 fn remove_key(roll: &mut Roll, chains: &mut Chains, peer: u32, key: usize)
     requires own { option_map peer_of (one_at key roll.old.rows) ≡ Some peer }
-    requires chained { AreChained chains.old roll.old.rows }
+    requires chained { AreChained chains.old.chains roll.old.rows }
     ensures rows { roll.new.rows ≡ without_key key roll.old.rows }
     ensures capacity { roll.new.room ≡ roll.old.room }
-    ensures chained { AreChained chains.new roll.new.rows }
+    ensures chained { AreChained chains.new.chains roll.new.rows }
     ensures room { SameRoom chains.old chains.new }
 {
     roll.remove(key);
@@ -300,25 +316,25 @@ fn remove_key(roll: &mut Roll, chains: &mut Chains, peer: u32, key: usize)
 }
 
 fn leave_others(roll: &mut Roll, chains: &mut Chains, peer: u32, token: &[u8])
-    requires chained { AreChained chains.old roll.old.rows }
+    requires chained { AreChained chains.old.chains roll.old.rows }
     ensures items { observed_of roll.new.rows ≡ deregistered peer token.now (observed_of roll.old.rows) }
     ensures capacity { roll.new.room ≡ roll.old.room }
-    ensures chained { AreChained chains.new roll.new.rows }
+    ensures chained { AreChained chains.new.chains roll.new.rows }
     ensures room { SameRoom chains.old chains.new }
 {
-    while let Some(key) = token_key(roll, chains.keys(peer), peer, token) {
+    while let Some(key) = token_key(roll, chains, peer, token) {
         remove_key(roll, chains, peer, key);
     }
 }
 
 fn leave_other_ids(roll: &mut Roll, chains: &mut Chains, peer: u32, id: u16)
-    requires chained { AreChained chains.old roll.old.rows }
+    requires chained { AreChained chains.old.chains roll.old.rows }
     ensures items { observed_of roll.new.rows ≡ without_id peer id (observed_of roll.old.rows) }
     ensures capacity { roll.new.room ≡ roll.old.room }
-    ensures chained { AreChained chains.new roll.new.rows }
+    ensures chained { AreChained chains.new.chains roll.new.rows }
     ensures room { SameRoom chains.old chains.new }
 {
-    while let Some(key) = id_key(roll, chains.keys(peer), peer, id) {
+    while let Some(key) = id_key(roll, chains, peer, id) {
         remove_key(roll, chains, peer, key);
     }
 }
@@ -354,10 +370,10 @@ fn is_next<V: Views>(one: &Observed, views: &V, place: usize, from: usize) -> bo
 /// The observer at this place was told what there is to see, or goes where there is nothing.
 fn tell<V: Views>(roll: &mut Roll, chains: &mut Chains, views: &V, place: usize, id: u16)
     requires at { place < length roll.old.rows }
-    requires chained { AreChained chains.old roll.old.rows }
+    requires chained { AreChained chains.old.chains roll.old.rows }
     ensures items { observed_of roll.new.rows ≡ replace_at place (after_notice (V.lists views.now) id) (observed_of roll.old.rows) }
     ensures capacity { roll.new.room ≡ roll.old.room }
-    ensures chained { AreChained chains.new roll.new.rows }
+    ensures chained { AreChained chains.new.chains roll.new.rows }
     ensures room { SameRoom chains.old chains.new }
 {
     let key = roll.at(place);

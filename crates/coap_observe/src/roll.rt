@@ -47,6 +47,13 @@ impl Roll {
         Ok(Roll { ones, order })
     }
 
+    /// How many there may be; keys are below this number.
+    pub fn room(&self) -> usize
+        ensures { result ≡ self.now.room }
+    {
+        self.ones.capacity()
+    }
+
     /// How many there are.
     pub fn len(&self) -> usize
         ensures { result ≡ length self.now.rows }
@@ -96,6 +103,7 @@ impl Roll {
     /// One more observer, which is the last; answers its key.
     pub fn push(&mut self, one: Observed) -> usize
         requires { length self.old.rows < self.old.room }
+        ensures below { result < self.old.room }
         ensures new { has_key result self.old.rows ≡ false }
         ensures last { self.new ≡ record { room = self.old.room; rows = self.old.rows ++ (result, one) ∷ [] } }
     {

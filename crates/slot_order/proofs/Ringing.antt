@@ -17,7 +17,7 @@ apart_from slot (x ∷ xs) none = by_test (is_slot slot x) refl none (apart_from
     by_test true is none rest = absurd (false≢true (sym none))
     by_test false is none rest = (λ same. absurd (false≢true (sym is ∙ eq-eqb x slot same)), rest none)
 
-turned : (slot : ℕ) (xs : List ℕ) → Each (λ x. slot ≢ x) xs → Apart slot xs
+pub turned : (slot : ℕ) (xs : List ℕ) → Each (λ x. slot ≢ x) xs → Apart slot xs
 turned slot xs each = each_weaker (λ x. slot ≢ x) (λ x. x ≢ slot) xs (λ x off same. off (sym same)) each
 
 -- ---- distinct
@@ -29,29 +29,29 @@ distinct_last slot (x ∷ xs) distinct apart = (
   distinct_last slot xs distinct.1 apart.1,
 )
 
-distinct_front : (xs ys : List ℕ) → Distinct (xs ++ ys) → Distinct xs
+pub distinct_front : (xs ys : List ℕ) → Distinct (xs ++ ys) → Distinct xs
 distinct_front [] ys distinct = record {}
 distinct_front (x ∷ xs) ys distinct = (each_front (λ y. y ≢ x) xs ys distinct.0, distinct_front xs ys distinct.1)
 
-distinct_back : (xs ys : List ℕ) → Distinct (xs ++ ys) → Distinct ys
+pub distinct_back : (xs ys : List ℕ) → Distinct (xs ++ ys) → Distinct ys
 distinct_back [] ys distinct = distinct
 distinct_back (x ∷ xs) ys distinct = distinct_back xs ys distinct.1
 
-crossing : (xs ys : List ℕ) → Distinct (xs ++ ys) → Each (λ x. Apart x ys) xs
+pub crossing : (xs ys : List ℕ) → Distinct (xs ++ ys) → Each (λ x. Apart x ys) xs
 crossing [] ys distinct = record {}
 crossing (x ∷ xs) ys distinct = (each_back (λ y. y ≢ x) xs ys distinct.0, crossing xs ys distinct.1)
 
-each_less : (P : ℕ → Type 0) (slot : ℕ) (ys zs : List ℕ) → Each P (ys ++ slot ∷ zs) → Each P (ys ++ zs)
+pub each_less : (P : ℕ → Type 0) (slot : ℕ) (ys zs : List ℕ) → Each P (ys ++ slot ∷ zs) → Each P (ys ++ zs)
 each_less P slot ys zs each = each_both P ys zs (each_front P ys (slot ∷ zs) each) (each_back P ys (slot ∷ zs) each).1
 
-distinct_less : (slot : ℕ) (ys zs : List ℕ) → Distinct (ys ++ slot ∷ zs) → Distinct (ys ++ zs)
+pub distinct_less : (slot : ℕ) (ys zs : List ℕ) → Distinct (ys ++ slot ∷ zs) → Distinct (ys ++ zs)
 distinct_less slot [] zs distinct = distinct.1
 distinct_less slot (y ∷ ys) zs distinct = (each_less (λ x. x ≢ y) slot ys zs distinct.0, distinct_less slot ys zs distinct.1)
 
-apart_front : (slot : ℕ) (ys zs : List ℕ) → Distinct (ys ++ slot ∷ zs) → Apart slot ys
+pub apart_front : (slot : ℕ) (ys zs : List ℕ) → Distinct (ys ++ slot ∷ zs) → Apart slot ys
 apart_front slot ys zs distinct = turned slot ys (each_weaker (λ y. Apart y (slot ∷ zs)) (λ y. slot ≢ y) ys (λ y apart. apart.0) (crossing ys (slot ∷ zs) distinct))
 
-apart_back : (slot : ℕ) (ys zs : List ℕ) → Distinct (ys ++ slot ∷ zs) → Apart slot zs
+pub apart_back : (slot : ℕ) (ys zs : List ℕ) → Distinct (ys ++ slot ∷ zs) → Apart slot zs
 apart_back slot ys zs distinct = (distinct_back ys (slot ∷ zs) distinct).0
 
 -- ---- a slot among others
@@ -124,7 +124,7 @@ near behind before count room slot ring there =
 
 -- ---- one more slot
 
-length_last : (x : ℕ) (xs : List ℕ) → length (xs ++ x ∷ []) ≡ length xs + 1
+pub length_last : (x : ℕ) (xs : List ℕ) → length (xs ++ x ∷ []) ≡ length xs + 1
 length_last x [] = omega arith
 length_last x (y ∷ xs) = let rest = length_last x xs in omega (arith, rest)
 
@@ -195,7 +195,7 @@ less_among behind before room slot p q ys zs xs is is_p is_q p_less q_less linke
     (linked_front behind before room slot room ys zs all)
     (linked_back behind before room slot room ys zs all)
 
-length_among : (slot : ℕ) (ys zs : List ℕ) → length (ys ++ slot ∷ zs) ≡ length (ys ++ zs) + 1
+pub length_among : (slot : ℕ) (ys zs : List ℕ) → length (ys ++ slot ∷ zs) ≡ length (ys ++ zs) + 1
 length_among slot [] zs = omega arith
 length_among slot (y ∷ ys) zs = let rest = length_among slot ys zs in omega (arith, rest)
 

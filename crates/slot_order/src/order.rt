@@ -1,6 +1,8 @@
 ghost use Rattle.std.specs.Prelude.{◌≡◌, ◌+◌, ◌<◌, ◌≤◌, ◌∷◌, [], ◌++◌, true, false, length, Some, IfOk, slice_get, slice_set, slice_index_or, replicate};
+ghost use Rattle.slot_order.specs.Links.{Each, Distinct, walk};
 ghost use Rattle.slot_order.specs.Orders.{OrderValue, has_slot, without};
 
+use crate::places::Places;
 use dots_lists::NoMemory;
 use std::alloc::Global;
 use std::marker::Model;
@@ -12,11 +14,14 @@ pub struct Order {
     behind: Vec<usize>,
     /// The slot before each; before the room is the last one, and before the first one is the room.
     before: Vec<usize>,
+    /// The slots by their places.
+    places: Places,
     count: usize,
     room: usize,
 }
 
 impl Model for Order {
+    ghost use Rattle.std.specs.Prelude.{◌≡◌, ◌+◌};
     ghost use Rattle.slot_order.specs.Links.{walk, IsRing};
     ghost use Rattle.slot_order.specs.Orders.{OrderValue};
 
@@ -24,7 +29,12 @@ impl Model for Order {
 
     ghost view = { λ o. record { room = o.room; slots = walk o.count o.behind.items o.room } };
 
-    ghost invariant = { λ o. IsRing o.behind.items o.before.items o.count o.room };
+    ghost invariant = { λ o. record {
+      ring : IsRing o.behind.items o.before.items o.count o.room;
+      placed : o.places.slots ≡ walk o.count o.behind.items o.room;
+      room : o.places.room ≡ o.room;
+      width : o.places.width ≡ o.room + o.room;
+    } };
 }
 
 impl Order {
@@ -32,11 +42,16 @@ impl Order {
     pub fn new(alloc: Global, room: usize) -> Result<Self, NoMemory>
         ensures { IfOk result (λ made. made ≡ record { room = room; slots = [] }) }
     {
+        let Some(width) = room.checked_add(room) else {
+            return Err(NoMemory);
+        };
+        let places = Places::new(alloc, room, width)?;
         let behind = links_to(alloc, room)?;
         let before = links_to(alloc, room)?;
         Ok(Order {
             behind,
             before,
+            places,
             count: 0,
             room,
         })
@@ -66,17 +81,13 @@ impl Order {
         self.behind[slot]
     }
 
-    /// The slot at this place.
+    /// The slot at this place, which is found in a time that grows with the logarithm of the room.
     pub fn at(&self, place: usize) -> usize
         requires { place < length self.now.slots }
         ensures value { result ≡ slice_index_or self.now.slots place 0 }
         ensures below { result < self.now.room }
     {
-        let mut slot = self.behind(self.start(), 0);
-        for passed in 0..place {
-            slot = self.behind(slot, passed + 1);
-        }
-        slot
+        self.places.at(place)
     }
 
     /// One more slot, which is the last.
@@ -86,6 +97,8 @@ impl Order {
         requires new { has_slot slot self.old.slots ≡ false }
         ensures { self.new ≡ record { room = self.old.room; slots = self.old.slots ++ slot ∷ [] } }
     {
+        make_room(&mut self.places, &self.behind, self.count, self.room);
+        self.places.push(slot);
         let last = self.before[self.room];
         link(&mut self.behind, &mut self.before, last, slot);
         link(&mut self.behind, &mut self.before, slot, self.room);
@@ -97,6 +110,7 @@ impl Order {
         requires { has_slot slot self.old.slots ≡ true }
         ensures { self.new ≡ record { room = self.old.room; slots = without slot self.old.slots } }
     {
+        self.places.leave(slot);
         let before = self.before[slot];
         let behind = self.behind[slot];
         link(&mut self.behind, &mut self.before, before, behind);
@@ -118,8 +132,32 @@ fn links_to(alloc: Global, room: usize) -> Result<Vec<usize>, NoMemory>
     Ok(links)
 }
 
+/// There is a position to give: where all were given, the slots get them anew. They are those that are linked from the room on.
+fn make_room(places: &mut Places, behind: &[usize], count: usize, room: usize)
+    requires slots { places.old.slots ≡ walk count behind.now room }
+    requires few { count < places.old.width }
+    requires room { places.old.room ≡ room }
+    requires links { length behind.now ≡ room + 1 }
+    requires below { Each (λ x. x < room) (walk count behind.now room) }
+    requires distinct { Distinct (walk count behind.now room) }
+    ensures slots { places.new.slots ≡ places.old.slots }
+    ensures room { places.new.room ≡ places.old.room }
+    ensures width { places.new.width ≡ places.old.width }
+    ensures left { places.new.given < places.new.width }
+{
+    if places.has_more() {
+        return;
+    }
+    places.clear();
+    let mut slot = room;
+    for _ in 0..count {
+        slot = behind[slot];
+        places.push(slot);
+    }
+}
+
 /// The second stands behind the first.
-fn link(behind: &mut Vec<usize>, before: &mut Vec<usize>, first: usize, second: usize)
+pub(crate) fn link(behind: &mut Vec<usize>, before: &mut Vec<usize>, first: usize, second: usize)
     requires first { first < length behind.old.items }
     requires second { second < length before.old.items }
     ensures behind { behind.new.items ≡ slice_set behind.old.items first second }

@@ -1,16 +1,28 @@
-use Rattle.std.proofs.Common.{ap, ◌∙◌}
+use Rattle.std.proofs.Common.{ap, sym, ◌∙◌}
 use Rattle.std.specs.Prelude.{◌==◌}
 use Rattle.std.proofs.lemmas.Bool.{and_parts}
 use Rattle.dots_history.specs.Entries.{option_any}
 use Rattle.dots_history.specs.Histories.{tally}
 use Rattle.coap_observe.specs.Observed.{is_of}
 use Rattle.coap_observe.specs.Rolls.{one_at}
+use Rattle.coap_observe.proofs.Chaining.{chain_within, keys_placed, keys_nowhere}
 use Rattle.coap_observe.proofs.Keying.{counted}
 use Rattle.coap_observe.proofs.observers.count_of.Goals as goal
 
-pub returns : goal.returns
-returns c =
+pub count_among-requires : goal.count_among-requires
+count_among-requires c = chain_within c.args.peer c.in-Some.at c.args.chains.now.chains (sym c.in-Some.ensures)
+
+pub returns-in-Some : goal.returns-in-Some
+returns-in-Some c =
     let test = is_of c.args.peer c.args.domain in
+    let rows = c.args.roll.now.rows in
     c.count_among.ensures
-    ∙ ap (tally (λ key. option_any test (one_at key c.args.roll.now.rows))) c.requires.own
-    ∙ counted c.args.peer test c.args.roll.now.rows c.requires.apart (λ x is. (and_parts (x.observer.peer == c.args.peer) (x.observer.domain == c.args.domain) is).0)
+    ∙ ap (tally (λ key. option_any test (one_at key rows))) (keys_placed c.args.peer c.in-Some.at c.args.chains.now.chains (sym c.in-Some.ensures) ∙ c.requires.own c.args.peer)
+    ∙ counted c.args.peer test rows c.requires.apart (λ x is. (and_parts (x.observer.peer == c.args.peer) (x.observer.domain == c.args.domain) is).0)
+
+pub returns-in-None : goal.returns-in-None
+returns-in-None c =
+    let test = is_of c.args.peer c.args.domain in
+    let rows = c.args.roll.now.rows in
+    ap (tally (λ key. option_any test (one_at key rows))) (sym (keys_nowhere c.args.peer c.args.chains.now.chains (sym c.in-None.ensures)) ∙ c.requires.own c.args.peer)
+    ∙ counted c.args.peer test rows c.requires.apart (λ x is. (and_parts (x.observer.peer == c.args.peer) (x.observer.domain == c.args.domain) is).0)

@@ -1,18 +1,18 @@
-use Rattle.std.proofs.Common.{◌∷◌, [], ◌++◌, length, refl, ap, sym, subst, ◌∙◌, arith}
+use Rattle.std.proofs.Common.{◌∷◌, [], ◌++◌, length, ap, sym, subst, ◌∙◌, arith}
 use Rattle.std.specs.Prelude.{option_map, unwrap_or, ◌==◌, bytes_eq}
 use Rattle.std.proofs.lemmas.Bool.{and_parts, eqb-true}
 use Rattle.coap_exchange.proofs.Firsts.{found_none}
-use Rattle.coap_observe.specs.Chains.{room_in, one_chained, AreChained}
+use Rattle.coap_observe.specs.Chains.{ChainsValue, room_in, one_chained, AreChained}
 use Rattle.coap_observe.specs.Observed.{ObservedValue, is_token, registered_again}
 use Rattle.coap_observe.specs.Observing.{registered_first}
 use Rattle.coap_observe.specs.Rolls.{RollValue, observed_of, first_key}
-use Rattle.coap_observe.proofs.Chaining.{chained_last, chained_with, room_chained}
+use Rattle.coap_observe.proofs.Chaining.{chained_last, chained_with, nowhere_new, room_chained, same_room}
 use Rattle.coap_observe.proofs.Entering.{entered_last, length_last, room_for_last}
 use Rattle.coap_observe.proofs.Keying.{is_first, first_own, none_first, entered_key, length_observed, observed_last}
 use Rattle.coap_observe.proofs.observers.enter.Goals as goal
 
 pub token_key-requires : goal.token_key-requires
-token_key-requires c = record { apart = c.requires.chained.apart; own = c.keys.ensures ∙ c.requires.chained.own c.args.observer.peer }
+token_key-requires c = c.requires.chained
 
 pub register_again-requires : goal.register_again-requires
 register_again-requires c =
@@ -35,7 +35,11 @@ push-requires c =
     let rows = c.args.roll.now.rows in
     let found = ap (λ token. first_key (is_token c.args.observer.peer token) rows) (sym c.bytes.ensures.value) ∙ sym c.in-None.ensures in
     let none = none_first (is_token c.args.observer.peer c.args.observer.token) rows found in
-    room_for_last c.args.observer c.args.seen rows c.args.chains.now none c.requires.chained c.requires.room
+    record {
+      room = room_for_last c.args.observer c.args.seen rows c.args.chains.now.chains none c.requires.chained c.requires.room;
+      below = omega (arith, c.push-key.ensures.below, c.requires.limit);
+      new = nowhere_new c.push-key.result rows c.args.chains.now.chains c.push-key.ensures.new c.requires.chained.within;
+    }
 
 pub returns-in-Some-clause-number : goal.returns-in-Some-clause-number
 returns-in-Some-clause-number c =
@@ -59,11 +63,11 @@ returns-in-Some-clause-chained c =
     let found = ap (λ token. first_key (is_token c.args.observer.peer token) rows) (sym c.bytes.ensures.value) ∙ sym c.in-Some.ensures in
     let first = is_first test rows c.in-Some.key c.requires.chained.apart found in
     let same_peer = sym (eqb-true first.one.observer.peer c.args.observer.peer (and_parts (first.one.observer.peer == c.args.observer.peer) (bytes_eq first.one.observer.token c.args.observer.token) first.passes).0) in
-    subst (λ (r : RollValue). AreChained c.args.chains.now r.rows) (sym c.register_again.ensures.again)
-    (chained_with c.args.chains.now rows c.in-Some.key (registered_again c.args.observer c.args.seen) first.one first.there same_peer c.requires.chained)
+    subst (λ (r : RollValue). AreChained c.args.chains.now.chains r.rows) (sym c.register_again.ensures.again)
+    (chained_with c.args.chains.now.chains rows c.in-Some.key (registered_again c.args.observer c.args.seen) first.one first.there same_peer c.requires.chained)
 
 pub returns-in-Some-clause-room : goal.returns-in-Some-clause-room
-returns-in-Some-clause-room c = λ peer. refl
+returns-in-Some-clause-room c = same_room c.args.chains.now
 
 pub returns-in-None-clause-number : goal.returns-in-None-clause-number
 returns-in-None-clause-number c =
@@ -85,16 +89,19 @@ returns-in-None-clause-list c =
 pub returns-in-None-clause-chained : goal.returns-in-None-clause-chained
 returns-in-None-clause-chained c =
     let rows = c.args.roll.now.rows in
-    let chains = c.args.chains.now in
+    let chains = c.args.chains.now.chains in
     let first = registered_first c.args.observer c.args.seen in
     let key = c.push-key.result in
     let last = c.push-key.ensures.last ∙ ap (λ o. record { room = c.args.roll.now.room; rows = rows ++ (key, o) ∷ [] }) c.new.ensures in
     let found = ap (λ token. first_key (is_token c.args.observer.peer token) rows) (sym c.bytes.ensures.value) ∙ sym c.in-None.ensures in
     let none = none_first (is_token c.args.observer.peer c.args.observer.token) rows found in
     let some = room_for_last c.args.observer c.args.seen rows chains none c.requires.chained c.requires.room in
-    subst (λ cs. AreChained cs c.push-key.new.self.rows) (sym c.push.ensures)
+    subst (λ (v : ChainsValue). AreChained v.chains c.push-key.new.self.rows) (sym c.push.ensures)
     (subst (λ (r : RollValue). AreChained (one_chained c.args.observer.peer key chains) r.rows) (sym last)
     (chained_last chains rows key first c.push-key.ensures.new (omega (arith, some)) c.requires.chained))
 
 pub returns-in-None-clause-room : goal.returns-in-None-clause-room
-returns-in-None-clause-room c = λ peer. ap (room_in peer) c.push.ensures ∙ room_chained c.args.observer.peer c.push-key.result c.args.chains.now peer
+returns-in-None-clause-room c = record {
+  limit = ap (λ (v : ChainsValue). v.limit) c.push.ensures;
+  room = λ peer. ap (λ (v : ChainsValue). room_in peer v.chains) c.push.ensures ∙ room_chained c.args.observer.peer c.push-key.result c.args.chains.now.chains peer;
+}

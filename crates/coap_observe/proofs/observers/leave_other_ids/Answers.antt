@@ -3,12 +3,13 @@ use Rattle.std.specs.Prelude.{not, option_map, ◌==◌}
 use Rattle.std.proofs.lemmas.Bool.{and_parts, eqb-true}
 use Rattle.coap_observe.specs.Observed.{had_id, same_id}
 use Rattle.coap_observe.specs.Rolls.{observed_of, peer_of}
+use Rattle.coap_observe.proofs.Chaining.{same_room_then}
 use Rattle.coap_observe.proofs.Keying.{is_first, none_first, others_same, shorter}
 use Rattle.coap_observe.proofs.Leaving.{all_stay}
 use Rattle.coap_observe.proofs.observers.leave_other_ids.Goals as goal
 
 pub id_key-requires : goal.id_key-requires
-id_key-requires c = record { apart = c.loop-key.invariant.chained.apart; own = c.keys.ensures ∙ c.loop-key.invariant.chained.own c.args.peer }
+id_key-requires c = c.loop-key.invariant.chained
 
 pub remove_key-requires : goal.remove_key-requires
 remove_key-requires c =
@@ -30,7 +31,7 @@ loop-key-preserved c =
           ∙ c.loop-key.invariant.stay;
       capacity = c.remove_key.ensures.capacity ∙ c.loop-key.invariant.capacity;
       chained = c.remove_key.ensures.chained;
-      room = λ peer. c.remove_key.ensures.room peer ∙ c.loop-key.invariant.room peer;
+      room = same_room_then c.remove_key.ensures.room c.loop-key.invariant.room;
     }
 
 pub loop-key-smaller : goal.loop-key-smaller

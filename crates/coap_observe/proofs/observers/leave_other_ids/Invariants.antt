@@ -10,7 +10,7 @@ abbrev pub invariant-loop-key : goal.invariant-loop-key
 invariant-loop-key l = record {
   stay : filter (λ o. not (had_id l.peer l.id o)) (observed_of l.roll.rows) ≡ filter (λ o. not (had_id l.peer l.id o)) (observed_of l.fn.roll.rows);
   capacity : l.roll.room ≡ l.fn.roll.room;
-  chained : AreChained l.chains l.roll.rows;
+  chained : AreChained l.chains.chains l.roll.rows;
   room : SameRoom l.fn.chains l.chains;
 }
 

@@ -5,7 +5,7 @@ use Rattle.coap_observe.specs.Seen.{list_for}
 use Rattle.coap_observe.specs.Chains.{AreChained}
 use Rattle.coap_observe.specs.Observed.{told}
 use Rattle.coap_observe.specs.Rolls.{RollValue, observed_of, has_key, one_at, without_key, with_key, peer_of}
-use Rattle.coap_observe.proofs.Chaining.{chained_with}
+use Rattle.coap_observe.proofs.Chaining.{chained_with, same_room}
 use Rattle.coap_observe.proofs.Keying.{one_placed, has_placed, removed_placed, changed_placed}
 use Rattle.coap_observe.proofs.Telling.{gone_at, told_at}
 use Rattle.coap_observe.proofs.observers.tell.Goals as goal
@@ -46,8 +46,8 @@ returns-clause-items g c =
 
 pub returns-clause-chained : goal.returns-clause-chained
 returns-clause-chained g c =
-    subst (λ (r : RollValue). AreChained c.args.chains.now r.rows) (sym c.tell.ensures)
-    (chained_with c.args.chains.now c.args.roll.now.rows c.at-key.result (told c.args.id c.of-seen.result) c.one-one.result.now c.one-one.ensures refl c.requires.chained)
+    subst (λ (r : RollValue). AreChained c.args.chains.now.chains r.rows) (sym c.tell.ensures)
+    (chained_with c.args.chains.now.chains c.args.roll.now.rows c.at-key.result (told c.args.id c.of-seen.result) c.one-one.result.now c.one-one.ensures refl c.requires.chained)
 
 pub returns-clause-room : goal.returns-clause-room
-returns-clause-room g c = λ peer. refl
+returns-clause-room g c = same_room c.args.chains.now

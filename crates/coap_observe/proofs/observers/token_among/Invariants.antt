@@ -1,12 +1,15 @@
--- what is found is found among the rest
-use Rattle.std.proofs.Common.{◌≡◌, drop}
+-- what is found is found among the rest, and the key at hand is the one before them
+use Rattle.std.proofs.Common.{◌≡◌, ◌∷◌, drop, get_or}
 use Rattle.std.specs.List.{find}
 use Rattle.dots_history.specs.Entries.{option_any}
+use Rattle.coap_observe.specs.Chains.{chain_at}
 use Rattle.coap_observe.specs.Observed.{is_token}
 use Rattle.coap_observe.specs.Rolls.{one_at}
 use Rattle.coap_observe.proofs.observers.token_among.Given as goal
 
-abbrev pub invariant-loop-key : goal.invariant-loop-key
-invariant-loop-key l =
-    find (λ key. option_any (is_token l.peer l.token) (one_at key l.roll.rows)) (drop l.key-index l.keys)
-    ≡ find (λ key. option_any (is_token l.peer l.token) (one_at key l.roll.rows)) l.keys
+abbrev pub invariant-loop-place : goal.invariant-loop-place
+invariant-loop-place l = record {
+  rest : find (λ key. option_any (is_token l.peer l.token) (one_at key l.roll.rows)) (drop l.place (chain_at l.at l.chains.chains).keys)
+      ≡ find (λ key. option_any (is_token l.peer l.token) (one_at key l.roll.rows)) (chain_at l.at l.chains.chains).keys;
+  key : l.key ≡ get_or ((chain_at l.at l.chains.chains).start ∷ (chain_at l.at l.chains.chains).keys) l.place 0;
+}

@@ -1,27 +1,59 @@
-use Rattle.std.proofs.Common.{map, ap, sym, subst, ◌∙◌}
+use Rattle.std.proofs.Common.{length, ap, sym, ◌∙◌, arith}
 use Rattle.std.specs.Prelude.{position}
-use Rattle.coap_observe.specs.Chains.{is_chain_of, one_left, chain_peer, AreFirsts}
-use Rattle.coap_observe.proofs.Chaining.{left_at, chain_within, left_nowhere}
-use Rattle.coap_observe.proofs.Firsts.{peers_left}
+use Rattle.std.proofs.lemmas.Bool.{false≢true}
+use Rattle.slot_order.specs.Orders.{has_slot}
+use Rattle.slot_order.specs.Rings.{RingsValue, RingValue, one_less}
+use Rattle.coap_observe.specs.Chains.{ChainsValue, is_chain_of, keys_in, one_left, chains_of}
+use Rattle.coap_observe.proofs.Chaining.{left_at, chain_within, left_nowhere, keys_placed, keys_nowhere}
+use Rattle.coap_observe.proofs.Pairing.{length_chains, length_rings, ring_placed, less_placed, nowhere_all}
 use Rattle.coap_observe.proofs.chains.Chains.leave.Goals as goal
 
-pub leave_at-requires : goal.leave_at-requires
-leave_at-requires c = chain_within c.args.peer c.in-Some.at c.self.inside.chains.items (ap (position (is_chain_of c.args.peer)) c.self.view_is ∙ sym c.in-Some.ensures)
-
-pub returns-in-Some : goal.returns-in-Some
-returns-in-Some c =
+pub leave-requires-clause-at : goal.leave-requires-clause-at
+leave-requires-clause-at c =
+    let peer = c.args.peer in
     let chains = c.self.inside.chains.items in
-    let found = ap (position (is_chain_of c.args.peer)) c.self.view_is ∙ sym c.in-Some.ensures in
-    c.leave_at.ensures ∙ left_at c.args.peer c.args.key c.in-Some.at chains found ∙ ap (one_left c.args.peer c.args.key) c.self.view_is
+    let rings = c.self.inside.keys.rings in
+    let all = chains_of chains rings in
+    let found = ap (λ (v : ChainsValue). position (is_chain_of peer) v.chains) c.self.view_is ∙ sym c.in-Some.ensures in
+    let within = chain_within peer c.in-Some.at all found in
+    let long = length_chains chains rings c.self.invariant.paired in
+    omega (arith, within, long)
 
-pub returns-in-None : goal.returns-in-None
-returns-in-None c =
+pub leave-requires-clause-there : goal.leave-requires-clause-there
+leave-requires-clause-there c =
+    let peer = c.args.peer in
     let chains = c.self.inside.chains.items in
-    let none = ap (position (is_chain_of c.args.peer)) c.self.view_is ∙ sym c.in-None.ensures in
-    sym c.self.view_is ∙ left_nowhere c.args.peer c.args.key chains none ∙ ap (one_left c.args.peer c.args.key) c.self.view_is
+    let rings = c.self.inside.keys.rings in
+    let all = chains_of chains rings in
+    let found = ap (λ (v : ChainsValue). position (is_chain_of peer) v.chains) c.self.view_is ∙ sym c.in-Some.ensures in
+    ap (λ (r : RingValue). has_slot c.args.key r.slots) (ring_placed c.in-Some.at chains rings c.self.invariant.paired)
+    ∙ ap (has_slot c.args.key) (keys_placed peer c.in-Some.at all found)
+    ∙ ap (λ (v : ChainsValue). has_slot c.args.key (keys_in peer v.chains)) c.self.view_is
+    ∙ c.requires
 
 pub invariant_of-self : goal.invariant_of-self
-invariant_of-self c =
+invariant_of-self c = record {
+  firsts = c.self.invariant.firsts;
+  paired = c.self.invariant.paired ∙ sym (ap (λ (v : RingsValue). length v.rings) c.leave.ensures.others ∙ length_rings (one_less c.args.key) c.in-Some.at c.self.inside.keys.rings);
+}
+
+pub returns-in-Some-clause-others : goal.returns-in-Some-clause-others
+returns-in-Some-clause-others c =
+    let peer = c.args.peer in
     let chains = c.self.inside.chains.items in
-    let found = ap (position (is_chain_of c.args.peer)) c.self.view_is ∙ sym c.in-Some.ensures in
-    subst (AreFirsts 0 _) (sym (ap (map chain_peer) (c.leave_at.ensures ∙ left_at c.args.peer c.args.key c.in-Some.at chains found) ∙ peers_left c.args.peer c.args.key chains)) c.self.invariant
+    let rings = c.self.inside.keys.rings in
+    let all = chains_of chains rings in
+    let found = ap (λ (v : ChainsValue). position (is_chain_of peer) v.chains) c.self.view_is ∙ sym c.in-Some.ensures in
+    ap (λ (v : RingsValue). record { limit = v.room; chains = chains_of chains v.rings }) c.leave.ensures.others
+    ∙ ap (λ xs. record { limit = c.self.inside.keys.room; chains = xs }) (less_placed c.args.key c.in-Some.at chains rings ∙ left_at peer c.args.key c.in-Some.at all found)
+    ∙ ap (λ (v : ChainsValue). record { limit = v.limit; chains = one_left peer c.args.key v.chains }) c.self.view_is
+
+pub returns-in-Some-clause-gone : goal.returns-in-Some-clause-gone
+returns-in-Some-clause-gone c = nowhere_all c.args.key c.self.inside.chains.items c.leave.new.self.rings c.leave.ensures.outside
+
+pub returns-in-None-clause-others : goal.returns-in-None-clause-others
+returns-in-None-clause-others c = ap (λ xs. record { limit = c.args.self.now.limit; chains = xs }) (left_nowhere c.args.peer c.args.key c.args.self.now.chains (sym c.in-None.ensures))
+
+pub returns-in-None-clause-gone : goal.returns-in-None-clause-gone
+returns-in-None-clause-gone c =
+    absurd (false≢true (ap (has_slot c.args.key) (sym (keys_nowhere c.args.peer c.args.self.now.chains (sym c.in-None.ensures))) ∙ c.requires))

@@ -15,6 +15,7 @@ invariant_of-self c = record {
   reserved = omega (arith, c.self.invariant.reserved, c.leave_others.ensures.capacity);
   chained = c.leave_others.ensures.chained;
   rooms = rooms_stay c.self.inside.pairs c.self.inside.room c.self.inside.chains _ c.leave_others.ensures.room c.self.invariant.rooms;
+  limit = omega (arith, c.self.invariant.limit, c.leave_others.ensures.capacity, c.leave_others.ensures.room.limit);
 }
 
 pub leave_others-requires : goal.leave_others-requires

@@ -8,7 +8,7 @@ use Rattle.coap_observe.proofs.Counting.{bounded_entered, bounded_length, few_of
 use Rattle.coap_observe.proofs.observers.Observers.register.Goals as goal
 
 pub has_room-requires : goal.has_room-requires
-has_room-requires g c = record { apart = c.self.invariant.chained.apart; own = c.keys-keys.ensures ∙ c.self.invariant.chained.own c.args.observer.peer }
+has_room-requires g c = c.self.invariant.chained
 
 pub enter-requires : goal.enter-requires
 enter-requires g c =
@@ -23,6 +23,7 @@ enter-requires g c =
       fits = omega (arith, fits, c.self.invariant.reserved);
       chained = c.self.invariant.chained;
       room = omega (arith, few, room);
+      limit = c.self.invariant.limit;
     }
 
 pub invariant_of-self : goal.invariant_of-self
@@ -36,4 +37,5 @@ invariant_of-self g c =
       reserved = omega (arith, c.self.invariant.reserved, c.enter.ensures.capacity);
       chained = c.enter.ensures.chained;
       rooms = rooms_stay c.self.inside.pairs c.self.inside.room c.self.inside.chains _ c.enter.ensures.room c.self.invariant.rooms;
+      limit = omega (arith, c.self.invariant.limit, c.enter.ensures.capacity, c.enter.ensures.room.limit);
     }

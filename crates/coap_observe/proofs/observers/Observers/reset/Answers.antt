@@ -15,6 +15,7 @@ invariant_of-self c = record {
   reserved = omega (arith, c.self.invariant.reserved, c.leave_other_ids.ensures.capacity);
   chained = c.leave_other_ids.ensures.chained;
   rooms = rooms_stay c.self.inside.pairs c.self.inside.room c.self.inside.chains _ c.leave_other_ids.ensures.room c.self.invariant.rooms;
+  limit = omega (arith, c.self.invariant.limit, c.leave_other_ids.ensures.capacity, c.leave_other_ids.ensures.room.limit);
 }
 
 pub leave_other_ids-requires : goal.leave_other_ids-requires

@@ -15,6 +15,7 @@ invariant_of-self g c = record {
   reserved = omega (arith, c.self.invariant.reserved, c.tell.ensures.capacity);
   chained = c.tell.ensures.chained;
   rooms = rooms_stay c.self.inside.pairs c.self.inside.room c.self.inside.chains _ c.tell.ensures.room c.self.invariant.rooms;
+  limit = omega (arith, c.self.invariant.limit, c.tell.ensures.capacity, c.tell.ensures.room.limit);
 }
 
 pub tell-requires : goal.tell-requires

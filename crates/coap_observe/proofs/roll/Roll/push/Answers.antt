@@ -25,6 +25,11 @@ push-requires c =
       new = none_has key slots (off_keys at key slots c.self.invariant.kept.there c.insert_reserved-key.ensures.was_vacant);
     }
 
+pub returns-clause-below : goal.returns-clause-below
+returns-clause-below c =
+    let same = ap (λ (r : RollValue). r.room) c.self.view_is in
+    omega (arith, same, c.insert_reserved-key.ensures.key_in_range, c.insert_reserved-key.ensures.capacity, c.self.invariant.room)
+
 pub returns-clause-new : goal.returns-clause-new
 returns-clause-new c =
     let at = get c.self.inside.ones in
