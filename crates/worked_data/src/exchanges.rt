@@ -11,6 +11,7 @@ use data_channel::{
 };
 use dots_lists::List;
 use http_cut::{Cut, HeadRoom, HttpRequest, ReplyHead, Stream, write_head};
+use json_room::JsonRoom;
 use list_json::alias_of;
 use serde_json::Value;
 use std::alloc::Global;
@@ -114,7 +115,8 @@ fn accepted(alloc: Global, asked: &RestRequest, done: Done) -> Result<String, Fa
 }
 
 fn answered(alloc: Global, request: &HttpRequest, done: Done) -> Result<String, Fail> {
-    match read_rest(alloc, request) {
+    let mut room = JsonRoom::new(alloc);
+    match read_rest(alloc, &mut room, request) {
         Ok(asked) => accepted(alloc, &asked, done),
         Err(reject) => refused(alloc, reject),
     }
@@ -258,7 +260,8 @@ fn shown(alloc: Global, asked: RestRequest) -> Result<String, Fail> {
 }
 
 fn written(alloc: Global, request: &HttpRequest) -> Result<String, Fail> {
-    match read_rest(alloc, request) {
+    let mut room = JsonRoom::new(alloc);
+    match read_rest(alloc, &mut room, request) {
         Ok(asked) => shown(alloc, asked),
         Err(_) => Err(Fail::from("refused")),
     }
