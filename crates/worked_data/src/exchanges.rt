@@ -199,6 +199,11 @@ fn refusals(rt: HostRuntime) -> Result<(), Fail> {
             "GET /restconf/data/ietf-dots-data-channel:dots-data/dots-client=a/vendors HTTP/1.1\r\nHost: example.com\r\n\r\n",
             "HTTP/1.1 404 Not Found\r\nContent-Length: 0\r\n\r\n",
         ),
+        // the root is where it is said to be, and isn't looked for
+        (
+            "GET /.well-known/host-meta HTTP/1.1\r\nHost: example.com\r\nAccept: application/xrd+xml\r\n\r\n",
+            "HTTP/1.1 404 Not Found\r\nContent-Length: 0\r\n\r\n",
+        ),
         (
             "PUT /restconf/data/ietf-dots-data-channel:dots-data/dots-client=a?insert=first HTTP/1.1\r\nHost: example.com\r\nContent-Length: 2\r\n\r\n{}",
             "HTTP/1.1 400 Bad Request\r\nContent-Length: 0\r\n\r\n",
