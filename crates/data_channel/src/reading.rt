@@ -13,22 +13,19 @@ use crate::heads::{head_of, is_yang_json};
 use crate::reject::{RestReject, reject_of};
 use crate::request::{Head, RestRequest, Wanted};
 use http_cut::HttpRequest;
+use json_room::{JsonFault, JsonRoom, read_json};
 use serde_json::Value;
 use std::alloc::Global;
 
 /// The value that the body is as JSON.
-fn json_of(alloc: Global, body: &[u8]) -> Result<Value, RestReject>
+fn json_of(alloc: Global, room: &mut JsonRoom, body: &[u8]) -> Result<Value, RestReject>
     ensures found { IfOk result (λ value. IsJson body.now (Some (view value))) }
     ensures refused { IfErr result (λ e. Fulfils e ((e ≡ RestReject.NotJson) × IsJson body.now None)) }
 {
-    match Value::from_slice(alloc, body) {
+    match read_json(alloc, room, body) {
         Ok(value) => Ok(value),
-        Err(error) => {
-            if error.is_memory() {
-                return Err(RestReject::NoMemory);
-            }
-            Err(RestReject::NotJson)
-        }
+        Err(JsonFault::NotJson) => Err(RestReject::NotJson),
+        Err(JsonFault::NoMemory) => Err(RestReject::NoMemory),
     }
 }
 
@@ -43,23 +40,32 @@ fn with_body(alloc: Global, wanted: Wanted, value: &Value) -> Result<RestRequest
 }
 
 /// The answer to a request that wants a body.
-fn answer(alloc: Global, wanted: Wanted, request: &HttpRequest) -> Result<RestRequest, RestReject>
+fn answer(
+    alloc: Global,
+    room: &mut JsonRoom,
+    wanted: Wanted,
+    request: &HttpRequest,
+) -> Result<RestRequest, RestReject>
     ensures { UnlessNoMemory result (IsAnswer wanted (request_view request.now).media request.now.body.now result) }
 {
     if is_yang_json(&request.media) {
-        let value = json_of(alloc, request.body)?;
+        let value = json_of(alloc, room, request.body)?;
         return with_body(alloc, wanted, &value);
     }
     Err(RestReject::Media)
 }
 
 /// What a message of the data channel asks, or the first refusal that applies: the path, its names, the query, the method,
-/// the media type, and then the body.
-pub fn read_rest(alloc: Global, request: &HttpRequest) -> Result<RestRequest, RestReject>
+/// the media type, and then the body. The room serves one message after the other.
+pub fn read_rest(
+    alloc: Global,
+    room: &mut JsonRoom,
+    request: &HttpRequest,
+) -> Result<RestRequest, RestReject>
     ensures { UnlessNoMemory result (Rest (request_view request.now) result) }
 {
     match head_of(alloc, request.method, request.target)? {
         Head::Plain(asked) => Ok(asked),
-        Head::Wants(wanted) => answer(alloc, wanted, request),
+        Head::Wants(wanted) => answer(alloc, room, wanted, request),
     }
 }

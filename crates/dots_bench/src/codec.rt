@@ -8,6 +8,7 @@ ghost use Rattle.cbor_profile.specs.Spelling.{Spells};
 ghost use Rattle.cbor_profile.specs.View.{tree_of};
 ghost use Rattle.dots_bench.specs.Parts.{parts_in};
 
+use crate::bodies::repeat_json;
 use crate::fronts::{repeat_cut, repeat_taking};
 use anyhow::{Context, Result};
 use cbor_profile::{CborFault, Item};
@@ -23,6 +24,8 @@ pub enum Codec {
     Coap,
     Cbor,
     Http,
+    /// Reads a body of the data channel.
+    Json,
     /// Takes the bytes of a stream in one piece, and cuts it.
     Whole,
     /// Takes the bytes of a stream one by one, and cuts it behind each.
@@ -37,6 +40,7 @@ impl Codec {
             "coap" => Some(Codec::Coap),
             "cbor" => Some(Codec::Cbor),
             "http" => Some(Codec::Http),
+            "json" => Some(Codec::Json),
             "whole" => Some(Codec::Whole),
             "single" => Some(Codec::Single),
             _ => None,
@@ -50,6 +54,7 @@ impl Codec {
             Codec::Coap => repeat_coap(copies, times).context("decoding CoAP"),
             Codec::Cbor => repeat_cbor(alloc, copies, times).context("decoding CBOR"),
             Codec::Http => repeat_cut(alloc, copies, times).context("cutting HTTP"),
+            Codec::Json => repeat_json(alloc, copies, times).context("reading JSON"),
             Codec::Whole => repeat_taking(alloc, copies, GREATEST_PIECE, times).context(
                 "taking HTTP",
             ),

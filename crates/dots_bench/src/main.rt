@@ -2,11 +2,12 @@
 //! REPS` asks so often for the fate of each packet of a file by the rows of another. How long that takes is for the caller to
 //! measure.
 //!
-//! A case is a line `KIND.NAME HEX`, with the kind `coap`, `cbor`, `http`, `whole` or `single`. The last three are bytes of a
-//! stream: `http` cuts a stream that holds them, `whole` takes them in one piece and cuts then, and `single` takes them one by
+//! A case is a line `KIND.NAME HEX`, with the kind `coap`, `cbor`, `json`, `http`, `whole` or `single`. `json` is a body of the data
+//! channel with an alias or an access list. The last three are bytes of a stream: `http` cuts a stream that holds them, `whole` takes them in one piece and cuts then, and `single` takes them one by
 //! one and cuts behind each. A row is a line `PREFIX MID`, a packet a line of an IPv4 address. For each case the program prints its name and what its decodes add up to. It ends with status 0 only where there is a case and every decode of every case went well.
 #![tactic(auto)]
 
+mod bodies;
 mod codec;
 mod filter;
 mod fronts;

@@ -1,25 +1,23 @@
 -- What is printed is read again.
-use Rattle.std.proofs.Common.{◌≡◌, ℕ, ◌<◌, ◌≤◌, ◌^◌, List, [], ◌∷◌, map, length, Option, Some, None, option_and_then, Result, Ok, Err, Bool, true, false, refl, sym, ap, ◌∙◌, suc, subst, nat_le, nat_lt}
-use Rattle.std.specs.Prelude.{codes, ok_or, if◌then◌else◌}
+use Rattle.std.proofs.Common.{◌≡◌, ℕ, List, [], ◌∷◌, map, Option, Some, None, option_and_then, Result, Ok, Err, Bool, true, false, refl, sym, ap, ◌∙◌, suc, subst, nat_le, nat_lt}
+use Rattle.std.specs.Prelude.{ok_or, if◌then◌else◌}
 use Rattle.std.specs.List.{AllByRecursion}
 use Rattle.ip_scope.specs.Prefix.{PrefixValue, IsPrefix}
 use Rattle.ip_scope.specs.PrefixText.{Reads, prefix_text}
 use Rattle.ip_scope.specs.PrefixReader.{prefix_in}
-use Rattle.ip_scope.specs.Ports.{Ports}
 use Rattle.ip_scope.proofs.PrefixReading.{reads_prefix}
 use Rattle.ip_scope.proofs.PrefixTexts.{IsPrefixText-prefix_text, prefix_of-itself}
 use Rattle.dots_lists.specs.Name.{is_name}
 use Rattle.serde_json.specs.Data.{Data, Items, no_items, item, string, array}
 use Rattle.serde_json.specs.Events.{items_len}
-use Rattle.serde_json.specs.Find.{get, as_str, as_number, as_u64, as_array}
+use Rattle.serde_json.specs.Find.{as_str, as_number, as_u64, as_array}
 use Rattle.serde_json.specs.View.{items_of}
 use Rattle.list_json.specs.declared.fault.Member.{Member}
-use Rattle.list_json.specs.declared.fault.Member.TheVariants as the
 use Rattle.list_json.specs.declared.fault.ListFault.{ListFault}
 use Rattle.list_json.specs.declared.fault.ListFault.TheVariants as faults
 use Rattle.list_json.specs.Steps.{◌>>=◌, each_item, items_in, at_most, few_items}
 use Rattle.list_json.specs.Values.{name_in, name_of, prefix_of, below, number_below}
-use Rattle.list_json.specs.AliasPrinting.{number_data, prefix_data, range_data}
+use Rattle.list_json.specs.AliasPrinting.{number_data, prefix_data}
 
 -- a step that went well, and the one behind it
 pub bound_ok : {A B : Type 0} (read : Result A ListFault) (next : A → Result B ListFault) (b : B) → (read >>= next) ≡ Ok b → (a : A) × (read ≡ Ok a) × (next a ≡ Ok b)

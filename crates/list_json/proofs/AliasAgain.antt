@@ -1,5 +1,5 @@
 -- An alias that is printed is read again.
-use Rattle.std.proofs.Common.{◌≡◌, ℕ, ◌&&◌, List, [], ◌∷◌, Option, Some, None, Result, Ok, Err, Bool, true, false, refl, sym, ap, ◌∙◌, subst, nat_le, nat_lt, Ordering, Equal}
+use Rattle.std.proofs.Common.{◌≡◌, ℕ, List, [], ◌∷◌, Option, Some, None, Result, Ok, Err, Bool, true, false, refl, sym, ap, ◌∙◌, subst, nat_le, nat_lt, Equal}
 use Rattle.std.specs.Prelude.{codes, if◌then◌else◌}
 use Rattle.std.specs.Cmp.Lexicographic.{slice_cmp}
 use Rattle.std.specs.List.{AllByRecursion}
@@ -8,7 +8,7 @@ use Rattle.acl_lists.specs.declared.alias.Alias.{Alias}
 use Rattle.acl_lists.specs.declared.asked.Asked.{Asked}
 use Rattle.ip_scope.specs.Ports.{Ports}
 use Rattle.ip_scope.specs.Prefix.{PrefixValue, IsPrefix}
-use Rattle.serde_json.specs.Data.{Data, string, array, object, Members, no_members, member}
+use Rattle.serde_json.specs.Data.{Data, string, Members, no_members}
 use Rattle.serde_json.specs.Find.{get, get_member}
 use Rattle.list_json.specs.declared.fault.Member.TheVariants as the
 use Rattle.list_json.specs.declared.fault.Member.{Member}
@@ -20,7 +20,7 @@ use Rattle.list_json.specs.Aliases.{range_between, range_of, with_target, target
 use Rattle.list_json.specs.AliasPrinting.{number_data, prefix_data, range_data, with_items, alias_data}
 use Rattle.list_json.specs.Shapes.{may_have, only, whole_object}
 use Rattle.list_json.specs.Steps.{◌>>=◌, needed, otherwise, items_in}
-use Rattle.list_json.specs.Values.{name_of, prefix_of, protocol_of, port_of, number_below}
+use Rattle.list_json.specs.Values.{name_of, prefix_of, protocol_of, port_of}
 use Rattle.list_json.proofs.Again.{bound_ok, ok_same, name_bound, name_again, number_bound, number_again, prefix_again, printed_items, items_again}
 
 -- ---- members by their names

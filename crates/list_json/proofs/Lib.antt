@@ -6,3 +6,5 @@ pub mod Ordered
 pub mod OrderedLists
 pub mod Plain
 pub mod PutObjects
+mod Skipping
+mod Onwards

@@ -1,5 +1,5 @@
 -- An access list that is printed is read again.
-use Rattle.std.proofs.Common.{◌≡◌, ℕ, ◌==◌, ◌&&◌, ◌⊎◌, inl, inr, List, [], ◌∷◌, map, Option, Some, None, Result, Ok, Err, Bool, true, false, refl, sym, ap, ◌∙◌, subst, nat_le, nat_lt, Equal}
+use Rattle.std.proofs.Common.{◌≡◌, ℕ, ◌==◌, ◌⊎◌, inl, inr, List, [], ◌∷◌, Option, Some, None, Result, Ok, Err, Bool, true, false, refl, sym, ap, ◌∙◌, subst, nat_le, nat_lt, Equal}
 use Rattle.std.specs.Prelude.{codes, if◌then◌else◌}
 use Rattle.std.specs.Cmp.Lexicographic.{slice_cmp}
 use Rattle.std.specs.List.{AllByRecursion}
@@ -15,8 +15,7 @@ use Rattle.dots_lists.specs.Name.{is_name}
 use Rattle.ip_scope.specs.declared.family.Family.{Family}
 use Rattle.ip_scope.specs.declared.family.Family.TheVariants.{V4, V6}
 use Rattle.ip_scope.specs.Family.{same_family}
-use Rattle.ip_scope.specs.Ports.{Ports}
-use Rattle.ip_scope.specs.Prefix.{PrefixValue, IsPrefix}
+use Rattle.ip_scope.specs.Prefix.{PrefixValue}
 use Rattle.serde_json.specs.Data.{Data, string, object, Members, no_members, member}
 use Rattle.serde_json.specs.Find.{get, get_member}
 use Rattle.list_json.specs.declared.fault.Member.{Member}
@@ -31,13 +30,13 @@ use Rattle.list_json.specs.declared.operator.Operator.TheVariants as operator
 use Rattle.list_json.specs.declared.shape.Shape.TheVariants as shape
 use Rattle.list_json.specs.Aliases.{range_between}
 use Rattle.list_json.specs.AliasPrinting.{number_data, prefix_data, range_data}
-use Rattle.list_json.specs.ListPrinting.{with_value, with_object, option_data, operator_data, test_data, transport_members, transport_name, untested, header_members, entry_header, entry_transport, matches_members, actions_data, entry_data, family_text, activation_text, aces_data, acl_data}
+use Rattle.list_json.specs.ListPrinting.{with_value, with_object, option_data, operator_data, test_data, transport_members, transport_name, untested, header_members, matches_members, actions_data, entry_data, family_text, activation_text, aces_data, acl_data}
 use Rattle.list_json.specs.Lists.{word_of, operator_in, family_in, activation_in, range_test, operated, ranged, either_form, port_test_of, one_spelling, transport_of, present, one_transport, header_name, other_header_name, header_member, other_header_member, header_shape, source_name, destination_name, in_family, network_of, header_of, no_header, absent, agreed, source_test, destination_test, joined, with_transport, matches_of, every_packet, actions_of, entry_with, entry_matching, entry_of, distinct, some_entries, aces_of, acl_in}
 use Rattle.list_json.specs.Prefixed.{IsValid, HasPrefixes}
 use Rattle.list_json.specs.Shapes.{may_have, only, whole_object}
 use Rattle.list_json.specs.Steps.{◌>>=◌, needed, given, otherwise, items_in}
 use Rattle.list_json.specs.Values.{name_of, prefix_of, protocol_of, port_of, number_below}
-use Rattle.list_json.proofs.Again.{bound_ok, ok_same, name_bound, name_again, number_bound, prefix_text_again, printed_items, items_again}
+use Rattle.list_json.proofs.Again.{bound_ok, ok_same, name_again, number_bound, prefix_text_again, printed_items, items_again}
 use Rattle.list_json.proofs.AliasAgain.{ordered_ports, needed_name}
 
 -- ---- members by their names

@@ -1,13 +1,12 @@
 -- Members that are put in front of others.
-use Rattle.std.proofs.Common.{◌≡◌, ℕ, List, [], ◌∷◌, map, refl, sym, ap, ◌∙◌, Less}
+use Rattle.std.proofs.Common.{◌≡◌, ℕ, List, [], ◌∷◌, map, refl, ap, ◌∙◌, Less}
 use Rattle.std.specs.Prelude.{⊤, codes}
 use Rattle.std.specs.Cmp.Lexicographic.{slice_cmp}
 use Rattle.std.specs.Ordering.{nat_cmp, match_ordering}
 use Rattle.acl_lists.specs.declared.alias.Alias.{Alias}
-use Rattle.ip_scope.specs.Ports.{Ports}
 use Rattle.serde_json.specs.Data.{Data, string, array, Members, no_members, member, put}
 use Rattle.serde_json.specs.View.{items_of}
-use Rattle.list_json.specs.AliasPrinting.{number_data, prefix_data, range_data, with_items, alias_data}
+use Rattle.list_json.specs.AliasPrinting.{number_data, prefix_data, range_data, with_items}
 use Rattle.list_json.specs.Putting.{put_items}
 
 -- the name stands before those of the members

@@ -1,14 +1,13 @@
 -- The members of an access list, put in one after the other.
 use Rattle.std.proofs.Common.{◌≡◌, ℕ, ◌==◌, List, Option, Some, None, true, false, refl, ap, ◌∙◌, Less}
-use Rattle.std.specs.Prelude.{⊤, codes, if◌then◌else◌}
+use Rattle.std.specs.Prelude.{codes, if◌then◌else◌}
 use Rattle.std.specs.Cmp.Lexicographic.{slice_cmp}
 use Rattle.std.specs.Ordering.{nat_cmp}
 use Rattle.acl_lists.specs.declared.ace.Ace.{Ace}
 use Rattle.ip_scope.specs.declared.family.Family.{Family}
 use Rattle.ip_scope.specs.declared.family.Family.TheVariants.{V4, V6}
-use Rattle.serde_json.specs.Data.{Data, string, object, Members, no_members, member, put}
-use Rattle.list_json.specs.AliasPrinting.{number_data, prefix_data}
-use Rattle.list_json.specs.ListPrinting.{with_value, with_object, option_data, test_data, transport_members, transport_name, untested, header_members, entry_header, entry_transport, matches_members}
+use Rattle.serde_json.specs.Data.{Data, object, Members, no_members, member, put}
+use Rattle.list_json.specs.ListPrinting.{with_value, with_object, transport_members, transport_name, header_members, entry_header, entry_transport, matches_members}
 use Rattle.list_json.specs.Lists.{header_name, source_name, destination_name}
 use Rattle.list_json.specs.Putting.{put_value, put_object}
 use Rattle.list_json.proofs.Ordered.{IsBefore, put_first}

@@ -1,16 +1,16 @@
 -- What is printed has no fractions.
-use Rattle.std.proofs.Common.{◌≡◌, ℕ, List, [], ◌∷◌, map, Option, Some, None, Bool, false, refl}
+use Rattle.std.proofs.Common.{◌≡◌, ℕ, List, [], ◌∷◌, map, Option, Some, None, false, refl}
 use Rattle.acl_lists.specs.declared.ace.Ace.{Ace}
 use Rattle.acl_lists.specs.declared.acl.Acl.{Acl}
 use Rattle.acl_lists.specs.declared.alias.Alias.{Alias}
 use Rattle.acl_lists.specs.declared.port_test.PortTest.{PortTest}
 use Rattle.acl_lists.specs.declared.port_test.PortTest.TheVariants as port
 use Rattle.ip_scope.specs.declared.family.Family.{Family}
-use Rattle.serde_json.specs.Data.{Data, string, array, object, Members, no_members, member}
+use Rattle.serde_json.specs.Data.{Data, string, Members, no_members, member}
 use Rattle.serde_json.specs.View.{items_of}
 use Rattle.serde_json.specs.Written.{has_float, items_have_float, members_have_float}
 use Rattle.list_json.specs.AliasPrinting.{number_data, prefix_data, range_data, with_items, alias_data}
-use Rattle.list_json.specs.ListPrinting.{with_value, with_object, option_data, test_data, transport_members, untested, header_members, entry_header, entry_transport, matches_members, entry_data, acl_data}
+use Rattle.list_json.specs.ListPrinting.{with_value, with_object, option_data, test_data, untested, entry_header, entry_transport, matches_members, entry_data, acl_data}
 
 pub items_plain : {A : Type 0} (write : A → Data) (xs : List A) → ((x : A) → has_float (write x) ≡ false) → items_have_float (items_of (map write xs)) ≡ false
 items_plain write [] plain = refl

@@ -1,5 +1,5 @@
 -- Which values are an alias, and what each member says (RFC 8783, section 6.1).
-use Rattle.std.specs.Prelude.{ℕ, List, [], ◌∷◌, codes, nat_le, if◌then◌else◌, Result, Ok, Err}
+use Rattle.std.specs.Prelude.{ℕ, [], ◌∷◌, codes, nat_le, if◌then◌else◌, Option, Result, Ok, Err}
 use Rattle.acl_lists.specs.declared.alias.Alias.{Alias}
 use Rattle.acl_lists.specs.declared.asked.Asked.{Asked}
 use Rattle.ip_scope.specs.Ports.{Ports}
@@ -30,14 +30,22 @@ range_of d = do
 abbrev pub with_target : Asked → Result Asked ListFault
 with_target asked = elim asked.prefixes [ [] ↦ elim asked.names [ [] ↦ Err (faults.Missing the.TargetPrefix) | name ∷ names ↦ Ok asked ] | prefix ∷ prefixes ↦ Ok asked ]
 
--- what an alias stands for
-abbrev pub targets_of : Data → Result Asked ListFault
-targets_of d = do
-  prefixes ← items_in the.TargetPrefix 16 (prefix_of the.TargetPrefix) (get (codes "target-prefix") d)
-  ports ← items_in the.TargetPortRange 16 range_of (get (codes "target-port-range") d)
-  protocols ← items_in the.TargetProtocol 16 (protocol_of the.TargetProtocol) (get (codes "target-protocol") d)
-  names ← items_in the.TargetFqdn 8 (name_of the.TargetFqdn) (get (codes "target-fqdn") d)
+-- what an alias stands for, by its members
+abbrev pub targets_from : Option Data → Option Data → Option Data → Option Data → Result Asked ListFault
+targets_from target_prefix target_port_range target_protocol target_fqdn = do
+  prefixes ← items_in the.TargetPrefix 16 (prefix_of the.TargetPrefix) target_prefix
+  ports ← items_in the.TargetPortRange 16 range_of target_port_range
+  protocols ← items_in the.TargetProtocol 16 (protocol_of the.TargetProtocol) target_protocol
+  names ← items_in the.TargetFqdn 8 (name_of the.TargetFqdn) target_fqdn
   with_target (record { prefixes = prefixes; ports = ports; protocols = protocols; names = names; aliases = [] })
+
+abbrev pub targets_of : Data → Result Asked ListFault
+targets_of d =
+    targets_from
+    (get (codes "target-prefix") d)
+    (get (codes "target-port-range") d)
+    (get (codes "target-protocol") d)
+    (get (codes "target-fqdn") d)
 
 -- **the alias that a value is**, or its first fault
 abbrev pub alias_in : Data → Result Alias ListFault

@@ -1,6 +1,7 @@
 pub mod Steps
 pub mod Shapes
 pub mod Values
+pub mod Found
 pub mod Aliases
 pub mod AliasPrinting
 pub mod Putting

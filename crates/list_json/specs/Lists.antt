@@ -1,5 +1,5 @@
 -- Which values are an access list, and what each member says (RFC 8783, section 7.2; RFC 8519, section 4.2).
-use Rattle.std.specs.Prelude.{ℕ, Bool, true, false, not, ◌&&◌, ◌==◌, List, [], ◌∷◌, map, codes, bytes_eq, nat_le, if◌then◌else◌, Option, Some, None, option_and_then, ok_or, Result, Ok, Err}
+use Rattle.std.specs.Prelude.{ℕ, Bool, true, false, not, ◌&&◌, ◌==◌, List, [], ◌∷◌, codes, bytes_eq, if◌then◌else◌, Option, Some, None, option_and_then, ok_or, Result, Ok, Err}
 use Rattle.std.specs.List.{list_any}
 use Rattle.acl_lists.specs.declared.ace.Ace.{Ace}
 use Rattle.acl_lists.specs.declared.acl.Acl.{Acl}
@@ -10,7 +10,6 @@ use Rattle.acl_lists.specs.declared.port_test.PortTest.TheVariants as port
 use Rattle.ip_scope.specs.declared.family.Family.{Family}
 use Rattle.ip_scope.specs.declared.family.Family.TheVariants.{V4, V6}
 use Rattle.ip_scope.specs.Family.{same_family}
-use Rattle.ip_scope.specs.Ports.{Ports}
 use Rattle.ip_scope.specs.Prefix.{PrefixValue}
 use Rattle.serde_json.specs.Data.{Data}
 use Rattle.serde_json.specs.Find.{get, as_str}

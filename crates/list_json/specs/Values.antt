@@ -1,5 +1,5 @@
 -- Names, prefixes and numbers in JSON (RFC 7951, section 6; RFC 6991, sections 2 and 4).
-use Rattle.std.specs.Prelude.{ℕ, ◌^◌, List, nat_lt, if◌then◌else◌, Option, Some, None, option_and_then, ok_or, Result}
+use Rattle.std.specs.Prelude.{ℕ, List, nat_lt, if◌then◌else◌, Option, Some, None, option_and_then, ok_or, Result}
 use Rattle.dots_lists.specs.Name.{is_name}
 use Rattle.ip_scope.specs.Prefix.{PrefixValue}
 use Rattle.ip_scope.specs.PrefixReader.{prefix_in}

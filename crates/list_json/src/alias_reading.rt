@@ -4,15 +4,17 @@ ghost use Rattle.std.specs.Prelude.{◌≡◌, codes};
 ghost use Rattle.serde_json.specs.Find.{get};
 ghost use Rattle.serde_json.specs.View.{view};
 ghost use Rattle.list_json.specs.declared.fault.Member.TheVariants as the;
-ghost use Rattle.list_json.specs.Aliases.{alias_in, range_between, range_of, targets_of, with_target};
+ghost use Rattle.list_json.specs.Aliases.{alias_in, range_between, range_of, targets_from, with_target};
+ghost use Rattle.list_json.specs.Found.{found};
 ghost use Rattle.list_json.specs.Steps.{Gives, needed, otherwise, items_in};
 ghost use Rattle.list_json.specs.Values.{name_of, prefix_of, protocol_of, port_of};
 
+use crate::alias_members::{AliasMembers, members_of};
 use crate::fault::{ListFault, Member};
 use crate::shape::{Shape, check_members};
-use crate::values::{few_items, name_of, own_name, port_of, prefix_of, protocol_of};
+use crate::values::{few_items, name_of, port_of, prefix_of, protocol_of};
 use acl_lists::{Alias, Asked, ByteList, NameList, PortList, PrefixList};
-use dots_lists::{Bytes, List};
+use dots_lists::{Bytes, List, Name};
 use ip_scope::PortRange;
 use serde_json::Value;
 use std::alloc::Global;
@@ -60,11 +62,11 @@ fn range_of(value: &Value) -> Result<PortRange, ListFault>
 }
 
 /// The member `target-prefix`: at most 16 texts of prefixes.
-fn prefixes_of(alloc: Global, alias: &Value) -> Result<PrefixList, ListFault>
-    ensures { Gives result (items_in the.TargetPrefix 16 (prefix_of the.TargetPrefix) (get (codes "target-prefix") (view alias.now))) }
+fn prefixes_of(alloc: Global, alias: &AliasMembers<'_>) -> Result<PrefixList, ListFault>
+    ensures { Gives result (items_in the.TargetPrefix 16 (prefix_of the.TargetPrefix) (found alias.now.prefixes)) }
 {
     let mut prefixes = List::new(alloc);
-    let Some(value) = alias.get("target-prefix") else {
+    let Some(value) = alias.prefixes else {
         return Ok(prefixes);
     };
     let Some(items) = few_items(value, MAX_TARGETS) else {
@@ -77,11 +79,11 @@ fn prefixes_of(alloc: Global, alias: &Value) -> Result<PrefixList, ListFault>
 }
 
 /// The member `target-port-range`: at most 16 ranges of ports.
-fn ports_of(alloc: Global, alias: &Value) -> Result<PortList, ListFault>
-    ensures { Gives result (items_in the.TargetPortRange 16 range_of (get (codes "target-port-range") (view alias.now))) }
+fn ports_of(alloc: Global, alias: &AliasMembers<'_>) -> Result<PortList, ListFault>
+    ensures { Gives result (items_in the.TargetPortRange 16 range_of (found alias.now.ports)) }
 {
     let mut ports = List::new(alloc);
-    let Some(value) = alias.get("target-port-range") else {
+    let Some(value) = alias.ports else {
         return Ok(ports);
     };
     let Some(items) = few_items(value, MAX_TARGETS) else {
@@ -94,11 +96,11 @@ fn ports_of(alloc: Global, alias: &Value) -> Result<PortList, ListFault>
 }
 
 /// The member `target-protocol`: at most 16 numbers of protocols.
-fn protocols_of(alloc: Global, alias: &Value) -> Result<ByteList, ListFault>
-    ensures { Gives result (items_in the.TargetProtocol 16 (protocol_of the.TargetProtocol) (get (codes "target-protocol") (view alias.now))) }
+fn protocols_of(alloc: Global, alias: &AliasMembers<'_>) -> Result<ByteList, ListFault>
+    ensures { Gives result (items_in the.TargetProtocol 16 (protocol_of the.TargetProtocol) (found alias.now.protocols)) }
 {
     let mut protocols = Bytes::new(alloc);
-    let Some(value) = alias.get("target-protocol") else {
+    let Some(value) = alias.protocols else {
         return Ok(protocols);
     };
     let Some(items) = few_items(value, MAX_TARGETS) else {
@@ -111,11 +113,11 @@ fn protocols_of(alloc: Global, alias: &Value) -> Result<ByteList, ListFault>
 }
 
 /// The member `target-fqdn`: at most 8 names.
-fn names_of(alloc: Global, alias: &Value) -> Result<NameList, ListFault>
-    ensures { Gives result (items_in the.TargetFqdn 8 (name_of the.TargetFqdn) (get (codes "target-fqdn") (view alias.now))) }
+fn names_of(alloc: Global, alias: &AliasMembers<'_>) -> Result<NameList, ListFault>
+    ensures { Gives result (items_in the.TargetFqdn 8 (name_of the.TargetFqdn) (found alias.now.names)) }
 {
     let mut names = List::new(alloc);
-    let Some(value) = alias.get("target-fqdn") else {
+    let Some(value) = alias.names else {
         return Ok(names);
     };
     let Some(items) = few_items(value, MAX_NAMES) else {
@@ -137,9 +139,20 @@ fn with_target(asked: Asked) -> Result<Asked, ListFault>
     Ok(asked)
 }
 
+/// The member `name`, which an alias has to have.
+fn own_name(alloc: Global, alias: &AliasMembers<'_>) -> Result<Name, ListFault>
+    ensures { Gives result (needed the.Name (name_of the.Name) (found alias.now.name)) }
+{
+    match alias.name {
+        Some(value) => name_of(alloc, Member::Name, value),
+        None => Err(ListFault::Missing(Member::Name)),
+    }
+}
+
 /// What an alias stands for.
-fn targets_of(alloc: Global, alias: &Value) -> Result<Asked, ListFault>
-    ensures { Gives result (targets_of (view alias.now)) }
+fn targets_of(alloc: Global, alias: &AliasMembers<'_>) -> Result<Asked, ListFault>
+    ensures { Gives result (targets_from (found alias.now.prefixes) (found alias.now.ports)
+        (found alias.now.protocols) (found alias.now.names)) }
 {
     let prefixes = prefixes_of(alloc, alias)?;
     let ports = ports_of(alloc, alias)?;
@@ -158,8 +171,8 @@ fn targets_of(alloc: Global, alias: &Value) -> Result<Asked, ListFault>
 pub fn alias_of(alloc: Global, value: &Value) -> Result<Alias, ListFault>
     ensures { Gives result (alias_in (view value.now)) }
 {
-    check_members(value, Shape::Alias, Member::Alias)?;
-    let name = own_name(alloc, value)?;
-    let asked = targets_of(alloc, value)?;
+    let members = members_of(value)?;
+    let name = own_name(alloc, &members)?;
+    let asked = targets_of(alloc, &members)?;
     Ok(Alias { name, asked })
 }

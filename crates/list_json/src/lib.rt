@@ -13,6 +13,7 @@
 //! [`name_value`] serve the bodies that an alias or a list stands in.
 #![tactic(auto)]
 
+mod alias_members;
 mod alias_reading;
 mod alias_writing;
 mod fault;

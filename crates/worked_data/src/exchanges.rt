@@ -11,6 +11,7 @@ use data_channel::{
 };
 use dots_lists::List;
 use http_cut::{Cut, HeadRoom, HttpRequest, ReplyHead, Stream, write_head};
+use json_room::JsonRoom;
 use list_json::alias_of;
 use serde_json::Value;
 use std::alloc::Global;
@@ -114,7 +115,8 @@ fn accepted(alloc: Global, asked: &RestRequest, done: Done) -> Result<String, Fa
 }
 
 fn answered(alloc: Global, request: &HttpRequest, done: Done) -> Result<String, Fail> {
-    match read_rest(alloc, request) {
+    let mut room = JsonRoom::new(alloc);
+    match read_rest(alloc, &mut room, request) {
         Ok(asked) => accepted(alloc, &asked, done),
         Err(reject) => refused(alloc, reject),
     }
@@ -197,6 +199,11 @@ fn refusals(rt: HostRuntime) -> Result<(), Fail> {
             "GET /restconf/data/ietf-dots-data-channel:dots-data/dots-client=a/vendors HTTP/1.1\r\nHost: example.com\r\n\r\n",
             "HTTP/1.1 404 Not Found\r\nContent-Length: 0\r\n\r\n",
         ),
+        // the root is where it is said to be, and isn't looked for
+        (
+            "GET /.well-known/host-meta HTTP/1.1\r\nHost: example.com\r\nAccept: application/xrd+xml\r\n\r\n",
+            "HTTP/1.1 404 Not Found\r\nContent-Length: 0\r\n\r\n",
+        ),
         (
             "PUT /restconf/data/ietf-dots-data-channel:dots-data/dots-client=a?insert=first HTTP/1.1\r\nHost: example.com\r\nContent-Length: 2\r\n\r\n{}",
             "HTTP/1.1 400 Bad Request\r\nContent-Length: 0\r\n\r\n",
@@ -258,7 +265,8 @@ fn shown(alloc: Global, asked: RestRequest) -> Result<String, Fail> {
 }
 
 fn written(alloc: Global, request: &HttpRequest) -> Result<String, Fail> {
-    match read_rest(alloc, request) {
+    let mut room = JsonRoom::new(alloc);
+    match read_rest(alloc, &mut room, request) {
         Ok(asked) => shown(alloc, asked),
         Err(_) => Err(Fail::from("refused")),
     }

@@ -1,7 +1,7 @@
 //! Worked requests and replies of the data channel.
 //!
-//! Each is put to the public calls of `data_channel` and `list_json`. The expected values come from RFC 8783, RFC 8040,
-//! RFC 8519 and RFC 3986.
+//! Each is put to the public calls of `data_channel`, `list_json` and `json_room`. The expected values come from RFC 8783,
+//! RFC 8040, RFC 8519, RFC 8259 and RFC 3986.
 #![tactic(auto)]
 
 #[cfg(test)]
@@ -16,3 +16,5 @@ mod lists;
 mod paths;
 #[cfg(test)]
 mod replies;
+#[cfg(test)]
+mod rooms;

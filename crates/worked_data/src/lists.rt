@@ -63,6 +63,16 @@ fn examples_of_the_standard(rt: HostRuntime) -> Result<(), Fail> {
             "{\"ietf-dots-data-channel:acls\":{\"acl\":[{\"name\":\"dns-fragments\",\"type\":\"ipv4-acl-type\",\"aces\":{\"ace\":[{\"name\":\"drop-all-fragments\",\"matches\":{\"ipv4\":{\"fragment\":{\"operator\":\"match\",\"type\":\"isf\"}}},\"actions\":{\"forwarding\":\"drop\"}}]}}]}}",
             "Body(Unknown)",
         ),
+        (
+            "/dots-client=paL8p4Zqo4SLv64TLPXrxA",
+            "{\"ietf-dots-data-channel:acls\":{\"acl\":[{\"name\":\"dns-fragments\",\"type\":\"ipv6-acl-type\",\"aces\":{\"ace\":[{\"name\":\"drop-all-fragments\",\"matches\":{\"ipv6\":{\"fragment\":{\"operator\":\"match\",\"type\":\"isf\"}}},\"actions\":{\"forwarding\":\"drop\"}}]}}]}}",
+            "Body(Unknown)",
+        ),
+        (
+            "/dots-client=paL8p4Zqo4SLv64TLPXrxA",
+            "{\"ietf-dots-data-channel:acls\":{\"acl\":[{\"name\":\"dns\",\"type\":\"ipv6-acl-type\",\"aces\":{\"ace\":[{\"name\":\"allow-dns-packets\",\"matches\":{\"ipv6\":{\"destination-ipv6-network\":\"2001:db8::/32\"},\"udp\":{\"destination-port\":{\"operator\":\"eq\",\"port\":53}}},\"actions\":{\"forwarding\":\"accept\"}}]}}]}}",
+            "PostAcl /dots-client=paL8p4Zqo4SLv64TLPXrxA/acls/acl=dns {\"aces\":{\"ace\":[{\"actions\":{\"forwarding\":\"accept\"},\"matches\":{\"ipv6\":{\"destination-ipv6-network\":\"2001:db8::/32\"},\"udp\":{\"destination-port-range-or-operator\":{\"operator\":\"eq\",\"port\":53}}},\"name\":\"allow-dns-packets\"}]},\"activation-type\":\"activate-when-mitigating\",\"name\":\"dns\",\"type\":\"ipv6-acl-type\"}",
+        ),
     ] {
         let text = asked(rt.alloc(), "POST", below, body)?;
         assert_eq!(rt; text.as_str(), want, "at {below}");

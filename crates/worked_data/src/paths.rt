@@ -59,7 +59,7 @@ fn paths(rt: HostRuntime) -> Result<(), Fail> {
     Ok(())
 }
 
-/// Requests without a body, as RFC 8783, sections 5.2, 6.2, 6.3, 7.3 and 7.4 show them.
+/// Requests without a body, as RFC 8783, sections 5.2, 6.2, 6.3, 7.1, 7.3 and 7.4 show them.
 #[test]
 fn examples_of_the_standard(rt: HostRuntime) -> Result<(), Fail> {
     for (method, below, want) in [
@@ -98,6 +98,8 @@ fn examples_of_the_standard(rt: HostRuntime) -> Result<(), Fail> {
             "/dots-client=paL8p4Zqo4SLv64TLPXrxA/acls/acl=sample-ipv4-acl",
             "DeleteAcl /dots-client=paL8p4Zqo4SLv64TLPXrxA/acls/acl=sample-ipv4-acl ",
         ),
+        // capabilities aren't served
+        ("GET", "/capabilities", "NotFound"),
     ] {
         let text = asked(rt.alloc(), method, below, "")?;
         assert_eq!(rt; text.as_str(), want, "at {method} {below}");
