@@ -22,21 +22,13 @@ impl Model for CallLog {
 #[derive(Clone, Copy, Debug)]
 pub enum Call<'a> {
     /// It handed in an event, whose bytes stand at the front of the room, with a time in seconds beside it.
-    Took {
-        what: What,
-        room: &'a [u8],
-        at: u64,
-    },
+    Took { what: What, room: &'a [u8], at: u64 },
     /// It was handed a send.
     Gave { out: Out<'a>, sent: Sent },
     /// Its disk was read.
     Read { ok: bool },
     /// The bytes were written to its disk, from the byte `at` on.
-    Wrote {
-        at: u64,
-        bytes: &'a [u8],
-        ok: bool,
-    },
+    Wrote { at: u64, bytes: &'a [u8], ok: bool },
     /// Its disk was synced.
     Synced { ok: bool },
 }

@@ -1,5 +1,5 @@
 -- A disk with a log over one call more.
-use Rattle.std.proofs.Common.{◌≡◌, ℕ, List, [], ◌∷◌, ◌++◌, Some, refl, ap, ◌∙◌}
+use Rattle.std.proofs.Common.{◌≡◌, List, [], ◌∷◌, ◌++◌, Some, ap, ◌∙◌}
 use Rattle.dots_host.specs.declared.act.Act.{Act}
 use Rattle.dots_disk.specs.Media.{Medium, after, all_media, blank}
 use Rattle.dots_disk.specs.Becoming.{Becomes}

@@ -1,6 +1,5 @@
 -- Calls beside a disk with a log go on from none, and one after the other, and what they leave of what is told.
-use Rattle.std.proofs.Common.{◌≡◌, ℕ, List, [], ◌∷◌, ◌++◌, length, Some, refl, sym, ap, ◌∙◌, append_assoc, append-nil, arith}
-use Rattle.dots_host.specs.declared.act.Act.{Act}
+use Rattle.std.proofs.Common.{[], ◌++◌, length, Some, refl, sym, ap, ◌∙◌, append_assoc, append-nil, arith}
 use Rattle.dots_host.specs.Acts.{wire_acts}
 use Rattle.dots_disk.specs.Media.{blank}
 use Rattle.dots_disk.specs.Becoming.{IsMoment}

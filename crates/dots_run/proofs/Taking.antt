@@ -108,7 +108,6 @@ stops_settled settings state stop.Ended what at owed new step may = absurd may
 stops_settled settings state stop.NextFailed what at owed new step may = absurd may
 stops_settled settings state stop.TooMany what at owed new step may = absurd may
 
-
 pub stops_at : (how : Stop) (what : Event) (at moment : ℕ) (front : List Timed) → IsNoEnd (took what at) → GoOn front → MayStop how what
     → Stops how (front ++ (record { moment = moment; act = took what at }) ∷ [])
 stops_at stop.DiskFailed what at moment front one goes may = go_on_then front ((record { moment = moment; act = took what at }) ∷ []) goes (one, tt)

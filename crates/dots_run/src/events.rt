@@ -6,7 +6,6 @@ ghost use Rattle.dots_host.specs.Acts.{IsWithin, event_of};
 ghost use Rattle.dots_host.specs.Causes.{Rose};
 ghost use Rattle.dots_host.specs.Runs.{Owing};
 ghost use Rattle.dots_host.specs.declared.TheConstants.{MAX_EVENT_BYTES};
-
 ghost use Rattle.dots_settings.specs.Settings.{SettingsValue};
 ghost use Rattle.dots_history.specs.declared.entry.Entry.{Entry};
 ghost use Rattle.slot_store.specs.Layout.{needed_of};

@@ -20,11 +20,7 @@ fn are_events(
     let source = MemorySource::new(alloc, script)?;
     let mut host = ScriptHost::new(alloc, source, MemorySink::new(alloc))?;
     let [first, second] = want;
-    Ok(
-        host.next(&mut room) == *first
-            && host.next(&mut room) == *second
-            && room.starts_with(front),
-    )
+    Ok(host.next(&mut room) == *first && host.next(&mut room) == *second && room.starts_with(front))
 }
 
 fn got(what: What, at: u64) -> Got {

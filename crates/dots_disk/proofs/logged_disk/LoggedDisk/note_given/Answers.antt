@@ -1,4 +1,4 @@
-use Rattle.std.proofs.Common.{◌≡◌, ◌∙◌, ◌∷◌, ◌++◌, [], ap, refl, sym}
+use Rattle.std.proofs.Common.{◌∙◌, ◌∷◌, ◌++◌, [], ap, refl, sym}
 use Rattle.std.specs.Prelude.{true}
 use Rattle.dots_host.specs.declared.act.Act.TheVariants as act
 use Rattle.dots_host.specs.Acts.{owned_of, is_done}

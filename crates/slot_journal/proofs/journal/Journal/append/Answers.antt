@@ -1,4 +1,4 @@
-use Rattle.std.proofs.Common.{ap, sym, subst, length, take}
+use Rattle.std.proofs.Common.{ap, sym, subst}
 use Rattle.dots_disk.specs.Becoming.{RestsWith}
 use Rattle.entry_records.specs.Layout.{record_bytes}
 use Rattle.slot_journal.specs.Held.{records_of, StandsFor}
