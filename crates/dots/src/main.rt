@@ -1,8 +1,9 @@
-//! The program `dots`: it hands [`run_program`] the words of its command line and the real files and streams, and ends with its status.
+//! The program `dots`: it hands [`run_program`], or with the words `serve ..` [`run_sockets`], the words of its command line, the real
+//! files and streams, and the runtime, and ends with its status.
 #![tactic(auto)]
 
 use dots_lists::NoMemory;
-use dots_run::run_program;
+use dots_run::{is_serve, run_program, run_sockets};
 use std::io::ErrorKind;
 use std::process::ExitCode;
 use std::{env, fs, io};
@@ -22,8 +23,14 @@ fn words_of(rt: &HostRuntime) -> Result<Vec<String>, NoMemory> {
 fn main(rt: HostRuntime) -> ExitCode {
     let words = words_of(&rt);
     let opening = |name: &str| fs::open(&rt, name).ok();
-    let sends = io::writer(&rt);
     let report = io::writer(&rt);
+    if let Ok(list) = &words {
+        if is_serve(list.as_slice()) {
+            let served = run_sockets(rt.alloc(), list.as_slice(), opening, &rt, report);
+            return ExitCode::from(served.status);
+        }
+    }
+    let sends = io::writer(&rt);
     let finished = run_program(rt.alloc(), &words, opening, rt.reader(), sends, report);
     ExitCode::from(finished.status)
 }

@@ -33,7 +33,7 @@ use Rattle.dots_machine.specs.declared.ending.Showing.{Showing}
 use Rattle.dots_machine.specs.declared.ending.Showing.TheVariants as showing
 use Rattle.dots_machine.specs.declared.ending.Stop.{Stop}
 use Rattle.dots_machine.specs.declared.ending.Stop.TheVariants as stop
-use Rattle.dots_machine.specs.Commands.{is_replay, is_show, is_command, second_of}
+use Rattle.dots_machine.specs.Commands.{is_served, is_show, is_command, second_of}
 use Rattle.dots_machine.specs.Machine.{State, begun_from}
 use Rattle.dots_machine.specs.Turns.{Turn, EachTurn, turns_of}
 use Rattle.dots_machine.specs.Adding.{AddsExactly}
@@ -201,12 +201,12 @@ Behaves ending.WrongWords words before now =
 Behaves (ending.Shown how) words before now =
     (is_show words ≡ true) × (now.acts ≡ before.acts) × Shows how (second_of words) before.held now.held (ReportFailed before now)
 Behaves (ending.Refused fault) words before now =
-    (is_replay words ≡ true) × (now.acts ≡ before.acts) × ¬ (IsNoLineFault fault) × IfSome before.left (λ bytes. SettingsFail bytes fault)
+    (is_served words ≡ true) × (now.acts ≡ before.acts) × ¬ (IsNoLineFault fault) × IfSome before.left (λ bytes. SettingsFail bytes fault)
     × Writes before.held now.held (fault_line fault) (ReportFailed before now)
-Behaves ending.SettingsFailed words before now = (is_replay words ≡ true) × (now.acts ≡ before.acts) × (now.held ≡ before.held) × SourceFailed before now
+Behaves ending.SettingsFailed words before now = (is_served words ≡ true) × (now.acts ≡ before.acts) × (now.held ≡ before.held) × SourceFailed before now
 Behaves ending.NoMemory words before now = (is_command words ≡ true) × (now.acts ≡ before.acts) × (now.held ≡ before.held)
 Behaves served words before now =
-    (is_replay words ≡ true) × (settings : SettingsValue) × IfSome before.left (λ bytes. SettingsAre bytes settings) × ServesTo served settings before now
+    (is_served words ≡ true) × (settings : SettingsValue) × IfSome before.left (λ bytes. SettingsAre bytes settings) × ServesTo served settings before now
 
 -- the word is hexadecimal and writes the spelling of a message
 pub record IsReadable (word : List ℕ) : Type 0 where

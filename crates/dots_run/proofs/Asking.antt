@@ -1,13 +1,14 @@
 -- Words that ask for what is told ask for nothing else, and how their statuses are told apart.
-use Rattle.std.proofs.Common.{◌≡◌, ◌≢◌, ℕ, ◌⊎◌, inl, inr, Bool, true, false, ◌&&◌, ◌||◌, if◌then◌else◌, List, [], ◌∷◌, codes, Some, None, refl, sym, ◌∙◌, subst, arith}
+use Rattle.std.proofs.Common.{◌≡◌, ◌≢◌, ℕ, ◌⊎◌, inl, inr, Bool, true, false, ◌&&◌, ◌||◌, if◌then◌else◌, List, [], ◌∷◌, codes, Option, Some, None, refl, sym, ◌∙◌, subst, arith}
 use Rattle.std.proofs.lemmas.Bool.Decides.{nat_tests}
 use Rattle.std.specs.Prelude.{bytes_eq, is_some}
-use Rattle.dots_machine.specs.Commands.{is_word, is_replay, is_show, is_command}
+use Rattle.dots_machine.specs.Commands.{is_word, is_replay, is_serve, is_served, is_show, is_command}
 use Rattle.dots_tell.specs.declared.told.Told.{Told}
 use Rattle.dots_tell.specs.declared.told.Told.TheVariants as told
 use Rattle.dots_tell.specs.declared.topic.Topic.{Topic}
 use Rattle.dots_tell.specs.declared.topic.Topic.TheVariants as topic
 use Rattle.dots_tell.specs.Telling.{told_status, has_source}
+use Rattle.dots_run.proofs.Commands.{served_by}
 use Rattle.dots_run.specs.Topics.{is_check, is_alone, is_check_script, topic_of, is_known}
 
 check_or_replay : (name word : List ℕ) → (bytes_eq name (codes "check") && is_word word) ≡ true → (bytes_eq name (codes "replay") && is_word word) ≡ true → ⊥
@@ -24,6 +25,12 @@ check_no_replay (name ∷ []) c r = absurd (cc c)
 check_no_replay (name ∷ word ∷ []) c r = check_or_replay name word c r
 check_no_replay (name ∷ word ∷ more ∷ words) c r = absurd (cc c)
 
+check_no_serve : (words : List (List ℕ)) → is_check words ≡ true → is_serve words ≡ true → ⊥
+check_no_serve [] c s = absurd (cc c)
+check_no_serve (name ∷ []) c s = absurd (cc c)
+check_no_serve (name ∷ word ∷ []) c s = absurd (cc s)
+check_no_serve (name ∷ word ∷ more ∷ words) c s = absurd (cc c)
+
 check_no_show : (words : List (List ℕ)) → is_check words ≡ true → is_show words ≡ true → ⊥
 check_no_show [] c s = absurd (cc c)
 check_no_show (name ∷ []) c s = absurd (cc c)
@@ -34,6 +41,11 @@ alone_no_replay : (word : List ℕ) (words : List (List ℕ)) → is_alone word 
 alone_no_replay word [] a r = absurd (cc a)
 alone_no_replay word (name ∷ []) a r = absurd (cc r)
 alone_no_replay word (name ∷ other ∷ words) a r = absurd (cc a)
+
+alone_no_serve : (word : List ℕ) (words : List (List ℕ)) → is_alone word words ≡ true → is_serve words ≡ true → ⊥
+alone_no_serve word [] a s = absurd (cc a)
+alone_no_serve word (name ∷ []) a s = absurd (cc s)
+alone_no_serve word (name ∷ other ∷ words) a s = absurd (cc a)
 
 alone_no_show : (word : List ℕ) (words : List (List ℕ)) → is_alone word words ≡ true → is_show words ≡ true → ⊥
 alone_no_show word [] a s = absurd (cc a)
@@ -57,12 +69,15 @@ module _ (words : List (List ℕ)) (asked : Topic) where
       by false false false true p q r s is = s refl
       by false false false false p q r s is = absurd (cc is)
 
-  pub no_replay : topic_of words ≡ Some asked → is_replay words ≡ true → ⊥
-  no_replay is replay = one_of ⊥ is (λ check. check_no_replay words check replay) (λ word alone. alone_no_replay word words alone replay)
+  pub never_served : topic_of words ≡ Some asked → is_served words ≡ true → ⊥
+  never_served is served =
+      served_by words ⊥ served
+      (λ replay. one_of ⊥ is (λ check. check_no_replay words check replay) (λ word alone. alone_no_replay word words alone replay))
+      (λ serve. one_of ⊥ is (λ check. check_no_serve words check serve) (λ word alone. alone_no_serve word words alone serve))
 
   -- so the run doesn't serve
-  pub not_served : topic_of words ≡ Some asked → is_replay words ≡ false
-  not_served is = by (is_replay words) (no_replay is)
+  pub not_served : topic_of words ≡ Some asked → is_served words ≡ false
+  not_served is = by (is_served words) (never_served is)
     where
       by : (b : Bool) → (b ≡ true → ⊥) → b ≡ false
       by true none = absurd (none refl)
@@ -139,3 +154,11 @@ status_heard end P (inr (inr same)) four five = same
 
 pub one_topic : (words : List (List ℕ)) (asked other : Topic) → topic_of words ≡ Some asked → topic_of words ≡ Some other → asked ≡ other
 one_topic words asked other a b = cc (sym a ∙ b)
+
+-- words whose events are served ask for no topic
+pub served_no_topic : (words : List (List ℕ)) → is_served words ≡ true → topic_of words ≡ None
+served_no_topic words served = by (topic_of words) refl
+  where
+    by : (topic : Option Topic) → topic_of words ≡ topic → topic_of words ≡ None
+    by None is = is
+    by (Some asked) is = absurd (never_served words asked is served)

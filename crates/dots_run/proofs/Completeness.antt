@@ -24,7 +24,8 @@ use Rattle.dots_machine.specs.declared.ending.Ending.{Ending}
 use Rattle.dots_machine.specs.declared.ending.Ending.TheVariants as ending
 use Rattle.dots_machine.specs.declared.ending.Showing.TheVariants as showing
 use Rattle.dots_machine.specs.declared.ending.Stop.TheVariants as stop
-use Rattle.dots_machine.specs.Commands.{is_word, is_replay, is_show, is_command, second_of}
+use Rattle.dots_machine.specs.Commands.{is_word, is_replay, is_serve, is_served, is_show, is_command, second_of}
+use Rattle.dots_run.proofs.Commands.{served_by}
 use Rattle.dots_machine.specs.Outside.{Outside, SourceFailed, WireFailed, DiskFailed, ReportFailed}
 use Rattle.dots_machine.specs.Endings.{recovery_status, status_of, has_hosted, IsDiskFailure, Unrecovers, Behaves, GivesSettings, GivesFault, IsReady, IsReadable}
 
@@ -33,21 +34,30 @@ two_names [] word r s = absurd (cc r)
 two_names (c ∷ name) word r s = grind (arith, nat_tests)
 
 -- the words are one command at most
-one_command : (words : List (List ℕ)) → is_replay words ≡ true → is_show words ≡ true → ⊥
-one_command [] r s = absurd (cc r)
-one_command (name ∷ []) r s = absurd (cc r)
-one_command (name ∷ word ∷ []) r s = two_names name word r s
-one_command (name ∷ word ∷ more ∷ words) r s = absurd (cc r)
+no_replay : (words : List (List ℕ)) → is_replay words ≡ true → is_show words ≡ true → ⊥
+no_replay [] r s = absurd (cc r)
+no_replay (name ∷ []) r s = absurd (cc r)
+no_replay (name ∷ word ∷ []) r s = two_names name word r s
+no_replay (name ∷ word ∷ more ∷ words) r s = absurd (cc r)
 
-replay_is_command : (words : List (List ℕ)) → is_replay words ≡ true → is_command words ≡ false → ⊥
-replay_is_command words r c = true≢false (subst (λ b. (b || is_show words) ≡ false) r c)
+no_serve : (words : List (List ℕ)) → is_serve words ≡ true → is_show words ≡ true → ⊥
+no_serve [] r s = absurd (cc r)
+no_serve (name ∷ []) r s = absurd (cc r)
+no_serve (name ∷ word ∷ []) r s = absurd (cc r)
+no_serve (name ∷ word ∷ more ∷ words) r s = absurd (cc s)
+
+one_command : (words : List (List ℕ)) → is_served words ≡ true → is_show words ≡ true → ⊥
+one_command words served show = served_by words ⊥ served (λ replay. no_replay words replay show) (λ serve. no_serve words serve show)
+
+served_is_command : (words : List (List ℕ)) → is_served words ≡ true → is_command words ≡ false → ⊥
+served_is_command words served none = true≢false (subst (λ b. (b || is_show words) ≡ false) served none)
 
 or_true : (b : Bool) → (b || true) ≡ false → ⊥
 or_true true e = cc e
 or_true false e = cc e
 
 show_is_command : (words : List (List ℕ)) → is_show words ≡ true → is_command words ≡ false → ⊥
-show_is_command words s c = or_true (is_replay words) (subst (λ b. (is_replay words || b) ≡ false) s c)
+show_is_command words s c = or_true (is_served words) (subst (λ b. (is_served words || b) ≡ false) s c)
 
 one_text : {E : Type 0} (x y : List ℕ) (read : Result (List ℕ) E) → read ≡ Ok x → read ≡ Ok y → x ≡ y
 one_text x y read a b = cc (sym a ∙ b)
@@ -106,15 +116,15 @@ module _ (words : List (List ℕ)) (before now : Outside) where
   EndsRefused how =
       ((status_of how ≡ 3) × (now.source_faults ≡ before.source_faults)) ⊎ (status_of how ≡ 4) ⊎ ((status_of how ≡ 5) × Rose before.source_faults now.source_faults)
 
-  pub ends_refused : (how : Ending) → is_replay words ≡ true → GivesFault before.left → Heard how → Behaves how words before now → EndsRefused how
-  ends_refused ending.WrongWords replay given heard behaves = absurd (replay_is_command words replay behaves.0)
-  ends_refused (ending.Shown how) replay given heard behaves = absurd (one_command words replay behaves.0)
-  ends_refused (ending.Refused fault) replay given heard behaves = inl (refl, refused_heard fault heard)
-  ends_refused ending.NoMemory replay given heard behaves = inr (inl refl)
-  ends_refused ending.SettingsFailed replay given heard behaves = inr (inr (refl, behaves.3))
-  ends_refused (ending.Unrecovered fault) replay given heard behaves = absurd (never_served behaves.1 given behaves.2)
-  ends_refused (ending.Served how) replay given heard behaves = absurd (never_served behaves.1 given behaves.2)
-  ends_refused ending.ReportFailed replay given heard behaves = absurd (never_served behaves.1 given behaves.2)
+  pub ends_refused : (how : Ending) → is_served words ≡ true → GivesFault before.left → Heard how → Behaves how words before now → EndsRefused how
+  ends_refused ending.WrongWords served given heard behaves = absurd (served_is_command words served behaves.0)
+  ends_refused (ending.Shown how) served given heard behaves = absurd (one_command words served behaves.0)
+  ends_refused (ending.Refused fault) served given heard behaves = inl (refl, refused_heard fault heard)
+  ends_refused ending.NoMemory served given heard behaves = inr (inl refl)
+  ends_refused ending.SettingsFailed served given heard behaves = inr (inr (refl, behaves.3))
+  ends_refused (ending.Unrecovered fault) served given heard behaves = absurd (never_served behaves.1 given behaves.2)
+  ends_refused (ending.Served how) served given heard behaves = absurd (never_served behaves.1 given behaves.2)
+  ends_refused ending.ReportFailed served given heard behaves = absurd (never_served behaves.1 given behaves.2)
 
   abbrev EndsWell : ℕ → Type 0
   EndsWell status = (status ≡ 0) ⊎ (status ≡ 4) ⊎ (status ≡ 11)
@@ -138,19 +148,19 @@ module _ (words : List (List ℕ)) (before now : Outside) where
     wants_memory (faults.SettingsChanged stored given) is failed = absurd is
     wants_memory (faults.TooSmall needed found) is failed = absurd is
 
-    pub ends_well : (how : Ending) → is_replay words ≡ true → Behaves how words before now → EndsWell (status_of how)
-    ends_well ending.WrongWords replay behaves = absurd (replay_is_command words replay behaves.0)
-    ends_well (ending.Shown how) replay behaves = absurd (one_command words replay behaves.0)
-    ends_well (ending.Refused fault) replay behaves = absurd (never_refused fault ready.gives behaves.3)
-    ends_well ending.NoMemory replay behaves = inr (inl refl)
-    ends_well ending.SettingsFailed replay behaves = absurd (read behaves.3)
-    ends_well (ending.Unrecovered fault) replay behaves = wants_memory fault (no_refusal behaves.1 behaves.2 fault behaves.3) behaves.3.failed
-    ends_well (ending.Served stop.Ended) replay behaves = inl refl
-    ends_well (ending.Served stop.NextFailed) replay behaves = absurd (came behaves.3.any.2.1)
-    ends_well (ending.Served stop.TooMany) replay behaves = inr (inr refl)
-    ends_well (ending.Served stop.DiskFailed) replay behaves = absurd (kept behaves.3.any.2.1)
-    ends_well (ending.Served (stop.Unrecovered fault)) replay behaves = wants_memory fault (behaves.3.lives ready.seen ready.sees).found behaves.3.any.2.1
-    ends_well ending.ReportFailed replay behaves = absurd (written behaves.3.1)
+    pub ends_well : (how : Ending) → is_served words ≡ true → Behaves how words before now → EndsWell (status_of how)
+    ends_well ending.WrongWords served behaves = absurd (served_is_command words served behaves.0)
+    ends_well (ending.Shown how) served behaves = absurd (one_command words served behaves.0)
+    ends_well (ending.Refused fault) served behaves = absurd (never_refused fault ready.gives behaves.3)
+    ends_well ending.NoMemory served behaves = inr (inl refl)
+    ends_well ending.SettingsFailed served behaves = absurd (read behaves.3)
+    ends_well (ending.Unrecovered fault) served behaves = wants_memory fault (no_refusal behaves.1 behaves.2 fault behaves.3) behaves.3.failed
+    ends_well (ending.Served stop.Ended) served behaves = inl refl
+    ends_well (ending.Served stop.NextFailed) served behaves = absurd (came behaves.3.any.2.1)
+    ends_well (ending.Served stop.TooMany) served behaves = inr (inr refl)
+    ends_well (ending.Served stop.DiskFailed) served behaves = absurd (kept behaves.3.any.2.1)
+    ends_well (ending.Served (stop.Unrecovered fault)) served behaves = wants_memory fault (behaves.3.lives ready.seen ready.sees).found behaves.3.any.2.1
+    ends_well ending.ReportFailed served behaves = absurd (written behaves.3.1)
 
   no_fault_shown : (word text : List ℕ) → IsReadable word → ShowsFault word text ⊎ ShowsNoHex word text → ⊥
   no_fault_shown word text readable (inl fault) =
@@ -205,12 +215,12 @@ module _ (words : List (List ℕ)) (before now : Outside) where
   pub no_command : (how : Ending) → is_command words ≡ false → Behaves how words before now → status_of how ≡ 2
   no_command ending.WrongWords none behaves = refl
   no_command (ending.Shown how) none behaves = absurd (show_is_command words behaves.0 none)
-  no_command (ending.Refused fault) none behaves = absurd (replay_is_command words behaves.0 none)
+  no_command (ending.Refused fault) none behaves = absurd (served_is_command words behaves.0 none)
   no_command ending.NoMemory none behaves = absurd (true≢false (sym behaves.0 ∙ none))
-  no_command ending.SettingsFailed none behaves = absurd (replay_is_command words behaves.0 none)
-  no_command (ending.Unrecovered fault) none behaves = absurd (replay_is_command words behaves.0 none)
-  no_command (ending.Served how) none behaves = absurd (replay_is_command words behaves.0 none)
-  no_command ending.ReportFailed none behaves = absurd (replay_is_command words behaves.0 none)
+  no_command ending.SettingsFailed none behaves = absurd (served_is_command words behaves.0 none)
+  no_command (ending.Unrecovered fault) none behaves = absurd (served_is_command words behaves.0 none)
+  no_command (ending.Served how) none behaves = absurd (served_is_command words behaves.0 none)
+  no_command ending.ReportFailed none behaves = absurd (served_is_command words behaves.0 none)
 
   -- what must have failed where the status is 5, and where it is 9
   pub has_read : (how : Ending) → status_of how ≡ 5 → Behaves how words before now → SourceFailed before now ⊎ WireFailed before now

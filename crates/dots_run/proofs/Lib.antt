@@ -1,4 +1,6 @@
+mod Commands
 mod Completeness
+mod HostText
 mod Keeping
 mod Turns
 mod Taking

@@ -30,7 +30,7 @@ use Rattle.dots_machine.specs.Machine.{State, begun_from, restarted}
 use Rattle.dots_machine.specs.Outside.{Outside}
 use Rattle.dots_machine.specs.Report.{Contained, report_of}
 use Rattle.dots_machine.specs.Surviving.{Story, past_of, NoneBefore, Survives}
-use Rattle.dots_machine.specs.Commands.{is_replay}
+use Rattle.dots_machine.specs.Commands.{is_served}
 use Rattle.dots_machine.specs.Endings.{has_hosted, Ran, Lived, LivesFrom, Reports, ServesTo, Behaves}
 use Rattle.dots_machine.proofs.Laws.{keeps_laws}
 use Rattle.dots_machine.proofs.Surviving.{story_trace, survives_opening}
@@ -133,13 +133,13 @@ sees_of None seen rests = absurd rests
 sees_of (Some media) seen rests = rests.1
 
 -- a run that came to its host behaves as it served
-pub behaves_hosted : (words : List (List ℕ)) (before now : Outside) (how : Ending) → has_hosted how ≡ true → is_replay words ≡ true → (settings : SettingsValue)
+pub behaves_hosted : (words : List (List ℕ)) (before now : Outside) (how : Ending) → has_hosted how ≡ true → is_served words ≡ true → (settings : SettingsValue)
     → IfSome before.left (λ bytes. SettingsAre bytes settings) → ServesTo how settings before now → Behaves how words before now
-behaves_hosted words before now (ending.Served how) hosted replay settings are serves = (replay, settings, are, serves)
-behaves_hosted words before now ending.ReportFailed hosted replay settings are serves = (replay, settings, are, serves)
-behaves_hosted words before now (ending.Unrecovered fault) hosted replay settings are serves = (replay, settings, are, serves)
-behaves_hosted words before now ending.WrongWords hosted replay settings are serves = absurd (cc hosted)
-behaves_hosted words before now (ending.Shown how) hosted replay settings are serves = absurd (cc hosted)
-behaves_hosted words before now (ending.Refused fault) hosted replay settings are serves = absurd (cc hosted)
-behaves_hosted words before now ending.SettingsFailed hosted replay settings are serves = absurd (cc hosted)
-behaves_hosted words before now ending.NoMemory hosted replay settings are serves = absurd (cc hosted)
+behaves_hosted words before now (ending.Served how) hosted served settings are serves = (served, settings, are, serves)
+behaves_hosted words before now ending.ReportFailed hosted served settings are serves = (served, settings, are, serves)
+behaves_hosted words before now (ending.Unrecovered fault) hosted served settings are serves = (served, settings, are, serves)
+behaves_hosted words before now ending.WrongWords hosted served settings are serves = absurd (cc hosted)
+behaves_hosted words before now (ending.Shown how) hosted served settings are serves = absurd (cc hosted)
+behaves_hosted words before now (ending.Refused fault) hosted served settings are serves = absurd (cc hosted)
+behaves_hosted words before now ending.SettingsFailed hosted served settings are serves = absurd (cc hosted)
+behaves_hosted words before now ending.NoMemory hosted served settings are serves = absurd (cc hosted)

@@ -3,6 +3,7 @@ pub mod Living
 pub mod Taking
 pub mod Outcomes
 pub mod Programs
+pub mod OverSockets
 pub mod Scripted
 pub mod Topics
 pub mod Leaving

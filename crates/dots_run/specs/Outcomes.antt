@@ -1,6 +1,6 @@
 -- What a status of a run says of its words, of what the settings' source gives, and of what failed.
 use Rattle.std.specs.Prelude.{◌≡◌, ◌≢◌, ◌⊎◌, ◌↔◌, ℕ, List, true, false, Some}
-use Rattle.dots_machine.specs.Commands.{is_replay, is_show, second_of}
+use Rattle.dots_machine.specs.Commands.{is_served, is_show, second_of}
 use Rattle.dots_machine.specs.Endings.{GivesFault, IsReady, IsReadable}
 use Rattle.dots_machine.specs.Outside.{Outside, SourceFailed, WireFailed, DiskFailed, ReportFailed}
 use Rattle.dots_tell.specs.declared.topic.Topic.{Topic}
@@ -16,9 +16,9 @@ pub record Outcome (words : List (List ℕ)) (status : ℕ) (before now : Outsid
   pub written : status ≡ 9 → ReportFailed before now
   -- when the settings are refused, and when a run must go well, want of memory and 2^40 events without End aside: where the disk holds what a server
   -- leaves there
-  pub refused : is_replay words ≡ true → GivesFault before.left
+  pub refused : is_served words ≡ true → GivesFault before.left
       → ((status ≡ 3) × (now.source_faults ≡ before.source_faults)) ⊎ (status ≡ 4) ⊎ ((status ≡ 5) × SourceFailed before now)
-  pub complete : is_replay words ≡ true → IsReady before.left before.media before.extent
+  pub complete : is_served words ≡ true → IsReady before.left before.media before.extent
       → ¬ (SourceFailed before now) → ¬ (WireFailed before now) → ¬ (DiskFailed before now) → ¬ (ReportFailed before now) → (status ≡ 0) ⊎ (status ≡ 4) ⊎ (status ≡ 11)
   -- when a message is shown, and when a fault is, want of memory aside
   pub readable : is_show words ≡ true → IsReadable (second_of words) → ¬ (ReportFailed before now) → (status ≡ 0) ⊎ (status ≡ 4)

@@ -2,7 +2,7 @@
 use Rattle.std.specs.Prelude.{ℕ, List, [], ◌∷◌, Bool, false, ◌&&◌, ◌||◌, if◌then◌else◌, bytes_eq, codes, Option, Some, None, is_some}
 use Rattle.dots_tell.specs.declared.topic.Topic.{Topic}
 use Rattle.dots_tell.specs.declared.topic.Topic.TheVariants as topic
-use Rattle.dots_machine.specs.Commands.{is_word, is_replay, is_command}
+use Rattle.dots_machine.specs.Commands.{is_word, is_served, is_command}
 
 -- `check SETTINGS`
 abbrev pub is_check : List (List ℕ) → Bool
@@ -32,4 +32,4 @@ is_known words = is_command words || is_some (topic_of words)
 
 -- the second word names a settings file
 abbrev pub names_settings : List (List ℕ) → Bool
-names_settings words = is_replay words || is_check words
+names_settings words = is_served words || is_check words

@@ -13,7 +13,7 @@ ghost use Rattle.slot_journal.specs.declared.fault.JournalFault.{JournalFault};
 ghost use Rattle.dots_history.specs.declared.entry.Entry.{Entry};
 ghost use Rattle.dots_settings.specs.Settings.{SettingsValue};
 ghost use Rattle.dots_machine.specs.declared.ending.Ending as endings;
-ghost use Rattle.dots_machine.specs.Commands.{is_replay};
+ghost use Rattle.dots_machine.specs.Commands.{is_served};
 ghost use Rattle.dots_machine.specs.Endings.{status_of, Behaves, Unrecovers, GivesSettings};
 ghost use Rattle.dots_machine.specs.Machine.{begun_from};
 ghost use Rattle.dots_machine.specs.Outside.{Outside};
@@ -69,7 +69,7 @@ pub fn run_again<H: Host, S: Source, K: Sink, G: Host, T: Source, L: Sink>(
         → (seen : ℕ → ℕ) (sees : Sees before.media seen) → RestsWith before.media (Is seen) → (xs ys : List Timed) → before.acts ≡ Some xs → now.acts ≡ Some ys
         → (m : ℕ) (image : ℕ → ℕ) → CrashLeaves m (H.media host.old) (H.media host.new) image → Sees (G.media other.old) image
         → (gives : GivesSettings (T.left again.old)) → gives.settings ≡ settings_of → needed_of (slots_of settings_of) ≤ G.extent other.old
-        → is_replay (map string_bytes words.now) ≡ true
+        → is_served (map string_bytes words.now) ≡ true
         → ¬ (Rose (T.faults again.old) (T.faults again.new)) → ¬ (Rose (G.Wire.faults other.old) (G.Wire.faults other.new))
         → ¬ (Rose (G.Disk.faults other.old) (G.Disk.faults other.new)) → ¬ (Rose (L.faults last.old) (L.faults last.new))
         → (result.1 ≡ 0) ⊎ (result.1 ≡ 4) ⊎ (result.1 ≡ 11) }

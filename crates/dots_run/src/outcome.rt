@@ -13,7 +13,7 @@ ghost use Rattle.slot_journal.specs.Held as journal;
 ghost use Rattle.dots_machine.specs.declared.ending.Ending as endings;
 ghost use Rattle.dots_machine.specs.declared.ending.Ending.TheVariants as ending;
 ghost use Rattle.dots_machine.specs.declared.ending.Stop.{Stop};
-ghost use Rattle.dots_machine.specs.Commands.{is_replay, is_show, is_command, second_of};
+ghost use Rattle.dots_machine.specs.Commands.{is_served, is_show, is_command, second_of};
 ghost use Rattle.dots_machine.specs.Endings.{status_of, has_hosted, Shows, ServesTo, Behaves, GivesFault, IsReady, IsReadable};
 ghost use Rattle.dots_machine.specs.Machine.{State};
 ghost use Rattle.dots_machine.specs.Outside.{Outside};
@@ -23,7 +23,7 @@ ghost use Rattle.dots_run.specs.Refusals.{Counts, Wrote, WritesStop};
 
 use crate::events::take_events;
 use crate::refusals::write_refusal;
-use crate::words::{is_replay, word_to_show};
+use crate::words::{is_served, word_to_show};
 use dots_disk::Host;
 use dots_host::{MAX_EVENT_BYTES, Sink, Source, write_all};
 use dots_lists::NoMemory;
@@ -59,15 +59,15 @@ pub fn run_machine<H: Host, S: Source, K: Sink>(
     ensures heard { result ≢ 4 → result ≢ 5 → S.faults settings.new ≡ S.faults settings.old }
     ensures written { result ≡ 9 → Rose (K.faults report.old) (K.faults report.new) }
     // What isn't called: neither settings nor host for other words, nor the host where nothing was served.
-    ensures unread { is_replay (map string_bytes words.now) ≡ false → (settings.new ≡ settings.old) × (host.new ≡ host.old) }
+    ensures unread { is_served (map string_bytes words.now) ≡ false → (settings.new ≡ settings.old) × (host.new ≡ host.old) }
     ensures uncalled { 1 ≤ result → result ≤ 3 → host.new ≡ host.old }
     // When there must have been a failure of the disk.
     ensures disk { result ≡ 6 → Rose (H.Disk.faults host.old) (H.Disk.faults host.new) }
     // When the settings are refused, and when a run must go well, want of memory and 2^40 events without End aside: where the disk holds what a
     // server leaves there.
-    ensures refused { is_replay (map string_bytes words.now) ≡ true → GivesFault (S.left settings.old)
+    ensures refused { is_served (map string_bytes words.now) ≡ true → GivesFault (S.left settings.old)
         → ((result ≡ 3) × (S.faults settings.new ≡ S.faults settings.old)) ⊎ (result ≡ 4) ⊎ ((result ≡ 5) × Rose (S.faults settings.old) (S.faults settings.new)) }
-    ensures complete { is_replay (map string_bytes words.now) ≡ true → IsReady (S.left settings.old) (H.media host.old) (H.extent host.old)
+    ensures complete { is_served (map string_bytes words.now) ≡ true → IsReady (S.left settings.old) (H.media host.old) (H.extent host.old)
         → ¬ (Rose (S.faults settings.old) (S.faults settings.new)) → ¬ (Rose (H.Wire.faults host.old) (H.Wire.faults host.new))
         → ¬ (Rose (H.Disk.faults host.old) (H.Disk.faults host.new)) → ¬ (Rose (K.faults report.old) (K.faults report.new))
         → (result ≡ 0) ⊎ (result ≡ 4) ⊎ (result ≡ 11) }
@@ -93,7 +93,7 @@ fn ending_of<H: Host, S: Source, K: Sink>(
         (record { left = S.left settings.new; source_faults = S.faults settings.new; acts = H.acts host.new; wire_faults = H.Wire.faults host.new; media = H.media host.new; extent = H.extent host.new; disk_faults = H.Disk.faults host.new; held = K.holds report.new; report_faults = K.faults report.new }) }
     ensures leads { H.leads host.old host.new }
     ensures heard { (result ≡ ending.NoMemory) ⊎ (result ≡ ending.SettingsFailed) ⊎ (S.faults settings.new ≡ S.faults settings.old) }
-    ensures untouched { is_replay (map string_bytes words.now) ≡ false → (settings.new ≡ settings.old) × (host.new ≡ host.old) }
+    ensures untouched { is_served (map string_bytes words.now) ≡ false → (settings.new ≡ settings.old) × (host.new ≡ host.old) }
     ensures uncalled { has_hosted result ≡ false → host.new ≡ host.old }
 {
     if let Some(word) = word_to_show(words) {
@@ -102,7 +102,7 @@ fn ending_of<H: Host, S: Source, K: Sink>(
             Err(_) => return Ending::NoMemory,
         }
     }
-    if !is_replay(words) {
+    if !is_served(words) {
         let _ = write_all(report, b"words\n");
         return Ending::WrongWords;
     }

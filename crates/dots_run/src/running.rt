@@ -3,7 +3,7 @@
 ghost use Rattle.std.specs.Prelude.{◌≡◌, ◌≢◌, ◌≤◌, ◌⊎◌, ◌↔◌, map, false, true, string_bytes, Some, None};
 ghost use Rattle.dots_host.specs.Causes.{Rose};
 ghost use Rattle.dots_machine.specs.declared.ending.Ending as endings;
-ghost use Rattle.dots_machine.specs.Commands.{is_replay, is_show, second_of};
+ghost use Rattle.dots_machine.specs.Commands.{is_served, is_show, second_of};
 ghost use Rattle.dots_machine.specs.Endings.{status_of, has_hosted, Behaves, GivesFault, IsReady, IsReadable};
 ghost use Rattle.dots_tell.specs.declared.topic.Topic as topics;
 ghost use Rattle.dots_tell.specs.declared.told.Told as tolds;
@@ -51,17 +51,17 @@ pub fn run<H: Host, S: Source, K: Sink>(
     ensures heard { result ≢ 4 → result ≢ 5 → S.faults settings.new ≡ S.faults settings.old }
     ensures written { result ≡ 9 → Rose (K.faults report.old) (K.faults report.new) }
     // What isn't called: the source for words that name no file and check no script, nor the host where nothing was served.
-    ensures unread { is_replay (map string_bytes words.now) ≡ false → is_check (map string_bytes words.now) ≡ false
+    ensures unread { is_served (map string_bytes words.now) ≡ false → is_check (map string_bytes words.now) ≡ false
         → is_check_script (map string_bytes words.now) ≡ false → settings.new ≡ settings.old }
-    ensures unserved { is_replay (map string_bytes words.now) ≡ false → host.new ≡ host.old }
+    ensures unserved { is_served (map string_bytes words.now) ≡ false → host.new ≡ host.old }
     ensures uncalled { 1 ≤ result → result ≤ 3 → host.new ≡ host.old }
     // When there must have been a failure of the disk.
     ensures disk { result ≡ 6 → Rose (H.Disk.faults host.old) (H.Disk.faults host.new) }
     // When the settings are refused, and when a run must go well, want of memory and 2^40 events without End aside: where the disk holds what a
     // server leaves there.
-    ensures refused { is_replay (map string_bytes words.now) ≡ true → GivesFault (S.left settings.old)
+    ensures refused { is_served (map string_bytes words.now) ≡ true → GivesFault (S.left settings.old)
         → ((result ≡ 3) × (S.faults settings.new ≡ S.faults settings.old)) ⊎ (result ≡ 4) ⊎ ((result ≡ 5) × Rose (S.faults settings.old) (S.faults settings.new)) }
-    ensures complete { is_replay (map string_bytes words.now) ≡ true → IsReady (S.left settings.old) (H.media host.old) (H.extent host.old)
+    ensures complete { is_served (map string_bytes words.now) ≡ true → IsReady (S.left settings.old) (H.media host.old) (H.extent host.old)
         → ¬ (Rose (S.faults settings.old) (S.faults settings.new)) → ¬ (Rose (H.Wire.faults host.old) (H.Wire.faults host.new))
         → ¬ (Rose (H.Disk.faults host.old) (H.Disk.faults host.new)) → ¬ (Rose (K.faults report.old) (K.faults report.new))
         → (result ≡ 0) ⊎ (result ≡ 4) ⊎ (result ≡ 11) }

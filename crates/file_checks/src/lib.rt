@@ -1,8 +1,8 @@
 //! What is told of a settings file and of a script without serving them: what they come to, or their first fault with the
 //! reason in plain words and the field that has to be mended.
 //!
-//! [`check_settings`] and [`check_script`] read a source to its end and answer the text that is printed. Contracts speak of
-//! the bytes of the source. Start reading at `specs/Checks.antt`, which has the texts; `specs/Reason.antt` has the
+//! [`check_settings`] and [`check_script`] read a source to its end and answer the text that is printed; [`read_front`] reads the
+//! front of one. Contracts speak of the bytes of the source. Start reading at `specs/Checks.antt`, which has the texts; `specs/Reason.antt` has the
 //! reasons in words, `specs/Complaints.antt` the one that a line of the settings has, and `specs/ScriptComplaints.antt` that of a
 //! line of a script.
 #![tactic(auto)]
@@ -25,5 +25,6 @@ mod settings_check;
 mod summary;
 
 pub use checked::{Checked, Unchecked};
+pub use reading::read_front;
 pub use script_check::check_script;
 pub use settings_check::check_settings;

@@ -51,6 +51,11 @@ fn words_and_settings_that_are_refused(rt: HostRuntime) -> Result<(), Fail> {
             is_refused(rt.alloc(), &words, SETTINGS, None, 2, "words\n")?,
             "at {last}"
         );
+        let words = ["serve", "settings", last];
+        assert!(rt;
+            is_refused(rt.alloc(), &words, SETTINGS, None, 2, "words\n")?,
+            "at serve and {last}"
+        );
     }
     for (settings, failing_read, status, report) in [
         ("domain Net1\n", None, 3, "settings line 1\n"),

@@ -31,5 +31,5 @@ returns-in-Ok-read_settings-clause-machine g c =
       held = g.K.Sink.holds c.host_events.new.report;
       report_faults = g.K.Sink.faults c.host_events.new.report;
     } in
-    behaves_hosted (map string_bytes c.args.words.now) before now c.host_events.result c.host_events.ensures.hosted (sym c.is_replay.ensures ∙ c.if-not-is_replay.false) c.in-Ok-read_settings.settings
+    behaves_hosted (map string_bytes c.args.words.now) before now c.host_events.result c.host_events.ensures.hosted (sym c.is_served.ensures ∙ c.if-not-is_served.false) c.in-Ok-read_settings.settings
     c.in-Ok-read_settings.ensures.ok (c.host_events.ensures.machine before.left now.left before.source_faults now.source_faults)

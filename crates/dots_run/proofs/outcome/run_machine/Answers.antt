@@ -18,11 +18,11 @@ pub returns-clause-written : goal.returns-clause-written
 returns-clause-written g c = λ is. has_written _ _ _ c.ending_of.result (rw c.status.ensures at is) c.ending_of.ensures.machine
 
 pub returns-clause-refused : goal.returns-clause-refused
-returns-clause-refused g c = λ replay given. rw c.status.ensures (ends_refused _ _ _ c.ending_of.result replay given c.ending_of.ensures.heard c.ending_of.ensures.machine)
+returns-clause-refused g c = λ served given. rw c.status.ensures (ends_refused _ _ _ c.ending_of.result served given c.ending_of.ensures.heard c.ending_of.ensures.machine)
 
 pub returns-clause-complete : goal.returns-clause-complete
-returns-clause-complete g c = λ replay ready read came kept written.
-    rw c.status.ensures (ends_well _ _ _ ready read came kept written c.ending_of.result replay c.ending_of.ensures.machine)
+returns-clause-complete g c = λ served ready read came kept written.
+    rw c.status.ensures (ends_well _ _ _ ready read came kept written c.ending_of.result served c.ending_of.ensures.machine)
 
 pub returns-clause-disk : goal.returns-clause-disk
 returns-clause-disk g c = λ is. has_failed _ _ _ c.ending_of.result (rw c.status.ensures at is) c.ending_of.ensures.machine

@@ -1,7 +1,7 @@
 use Rattle.std.proofs.Common.{◌∙◌, map, string_bytes, inl, sym, subst}
 use Rattle.dots_host.specs.Causes.{Rose}
 use Rattle.dots_tell.specs.Telling.{Tells, IsSound, IsAtFault}
-use Rattle.dots_run.proofs.Asking.{no_replay, no_show, no_source, one_topic, topic_is_known, known_without, no_topic, never_two, status_unread, status_unwritten, status_sound, status_at_fault, status_heard}
+use Rattle.dots_run.proofs.Asking.{never_served, no_show, no_source, one_topic, topic_is_known, known_without, no_topic, never_two, status_unread, status_unwritten, status_sound, status_at_fault, status_heard}
 use Rattle.dots_run.proofs.running.run.Goals as goal
 
 -- ---- what is told without serving
@@ -32,13 +32,13 @@ pub returns-in-Some-clause-written : goal.returns-in-Some-clause-written
 returns-in-Some-clause-written g c = λ nine. c.tell.ensures.written (status_unwritten c.tell.result (sym c.status.ensures ∙ nine))
 
 pub returns-in-Some-clause-unread : goal.returns-in-Some-clause-unread
-returns-in-Some-clause-unread g c = λ replay check script. c.tell.ensures.unread (no_source (map string_bytes c.args.words.now) c.in-Some.topic (sym c.in-Some.ensures) check script)
+returns-in-Some-clause-unread g c = λ served check script. c.tell.ensures.unread (no_source (map string_bytes c.args.words.now) c.in-Some.topic (sym c.in-Some.ensures) check script)
 
 pub returns-in-Some-clause-refused : goal.returns-in-Some-clause-refused
-returns-in-Some-clause-refused g c = λ replay. absurd (no_replay (map string_bytes c.args.words.now) c.in-Some.topic (sym c.in-Some.ensures) replay)
+returns-in-Some-clause-refused g c = λ served. absurd (never_served (map string_bytes c.args.words.now) c.in-Some.topic (sym c.in-Some.ensures) served)
 
 pub returns-in-Some-clause-complete : goal.returns-in-Some-clause-complete
-returns-in-Some-clause-complete g c = λ replay. absurd (no_replay (map string_bytes c.args.words.now) c.in-Some.topic (sym c.in-Some.ensures) replay)
+returns-in-Some-clause-complete g c = λ served. absurd (never_served (map string_bytes c.args.words.now) c.in-Some.topic (sym c.in-Some.ensures) served)
 
 pub returns-in-Some-clause-readable : goal.returns-in-Some-clause-readable
 returns-in-Some-clause-readable g c = λ show. absurd (no_show (map string_bytes c.args.words.now) c.in-Some.topic (sym c.in-Some.ensures) show)

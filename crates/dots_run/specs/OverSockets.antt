@@ -1,0 +1,46 @@
+-- What a run over real sockets and a real journal has done.
+use Rattle.std.specs.Prelude.{◌≡◌, ◌⊎◌, ℕ, ◌<◌, ◌≤◌, true, false, List, length, codes, Option, None, IfSome}
+use Rattle.dots_edge.specs.Edge.{Edge, disk_bytes, IsAsSaid}
+use Rattle.dots_machine.specs.declared.ending.Ending.{Ending}
+use Rattle.dots_machine.specs.Endings.{status_of, has_hosted, Behaves}
+use Rattle.dots_machine.specs.Outside.{Outside}
+use Rattle.dots_run.specs.Outcomes.{Outcome}
+
+-- how many bytes a host file may have
+abbrev pub max_host_file : ℕ
+max_host_file = 65536
+
+-- The text of a host file is what its source gives, where that has no more bytes than it may; and in place of one that can't be read, or has more, it
+-- is one byte, which is no line of a host file.
+abbrev pub IsHostText : Option (List ℕ) → Type 0 → List ℕ → Type 0
+IsHostText left unread text =
+    IfSome left (λ bytes. (text ≡ bytes) × (length bytes ≤ max_host_file)) ⊎ ((text ≡ codes "?") × (unread ⊎ IfSome left (λ bytes. max_host_file < length bytes)))
+
+-- A host was opened over the text of a host file: it is as that says, or else it has no journal; and no call of it has failed yet.
+pub record IsOpenedFrom (left : Option (List ℕ)) (unread : Type 0) (host : Edge) : Type 0 where
+  pub text : List ℕ
+  pub is_text : IsHostText left unread text
+  pub said : host.opened ≡ true → IsAsSaid text host
+  pub shut : host.opened ≡ false → host.journaled ≡ false
+  pub no_faults : (host.wire ≡ 0) × (host.disk ≡ 0)
+
+-- What stands outside a run over sockets: the host tells neither its acts nor what its disk holds.
+abbrev pub outside_at : Option (List ℕ) → ℕ → Edge → Option (List ℕ) → ℕ → Outside
+outside_at left source_faults host held report_faults = record {
+  left = left;
+  source_faults = source_faults;
+  acts = None;
+  wire_faults = host.wire;
+  media = None;
+  extent = disk_bytes;
+  disk_faults = host.disk;
+  held = held;
+  report_faults = report_faults;
+}
+
+-- A run of words that are served, with this status, from what stood outside before to what stands there now, and from the host as it was to
+-- what it is: what it has done, by the ending that its status is of; where it didn't come to its host, that was not called; and what the
+-- status says of the words, of the settings and of what failed.
+pub record RunsOver (words : List (List ℕ)) (status : ℕ) (before now : Outside) (first host : Edge) : Type 0 where
+  pub machine : (ending : Ending) × (status ≡ status_of ending) × Behaves ending words before now × (has_hosted ending ≡ false → host ≡ first)
+  pub outcome : Outcome words status before now
