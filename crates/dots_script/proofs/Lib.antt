@@ -2,6 +2,7 @@ pub mod Known
 pub mod HexPieces
 pub mod Splits
 pub mod EventLines
+pub mod Feeds
 pub mod Reading
 pub mod OneAnswer
 pub mod Making

@@ -7,6 +7,7 @@ ghost use Rattle.dots_script.specs.Finding.{Finds, Reaches};
 
 use crate::block::Block;
 use dots_host::{Failed, Source};
+use memchr::memchr;
 
 /// The greatest number of bytes of a line, without its line feed.
 pub const MAX_LINE_BYTES: usize = 8_400;
@@ -64,12 +65,10 @@ fn find_feed(bytes: &[u8], from: usize) -> Option<usize>
         (get_or bytes.now at 0 ≡ 10) × HasNoFeed at bytes.now) }
     ensures none { IfNone result (HasNoFeed (length bytes.now) bytes.now) }
 {
-    for at in from..bytes.len() {
-        if bytes[at] == b'\n' {
-            return Some(at);
-        }
+    match memchr(b'\n', &bytes[from..]) {
+        Some(at) => Some(from + at),
+        None => None,
     }
-    None
 }
 
 /// Whether a line is blank or begins with `#`.
