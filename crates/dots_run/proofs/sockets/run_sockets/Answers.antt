@@ -1,8 +1,7 @@
-use Rattle.std.proofs.Common.{◌≡◌, map, string_bytes, option_and_then, refl, ap, subst}
+use Rattle.std.proofs.Common.{map, string_bytes, option_and_then, refl, ap, subst}
 use Rattle.std.specs.Fn.{FnReturnsAt}
 use Rattle.std.proofs.lemmas.Fn.{says_at}
 use Rattle.dots_host.specs.Causes.{Rose}
-use Rattle.dots_edge.specs.Edge.{Edge}
 use Rattle.dots_machine.specs.Outside.{Outside}
 use Rattle.dots_run.specs.OverSockets.{IsOpenedFrom, outside_at, RunsOver}
 use Rattle.dots_run.specs.Outcomes.{Outcome}
