@@ -32,6 +32,7 @@ use Rattle.dots_server.specs.Turning.{IsServed, HoldsTurn}
 use Rattle.dots_server.proofs.Turning.{kept_still, added_behind}
 use Rattle.dots_run.specs.Living.{StopsFor}
 use Rattle.dots_run.specs.Taking.{IsTaken, MayStop, Took, StoppedAt}
+use Rattle.dots_run.proofs.Turns.{go_on_then}
 
 module _ (settings : SettingsValue) (state : State) (at : ℕ) (old : ServerValue) (entries : List Entry) (kept : IsKept old settings state entries) where
   -- what the disk holds at a restart
