@@ -29,6 +29,8 @@ sample packets: 0
 const USAGE: &str = "\
 dots replay SETTINGS   serves a script of datagrams, which it reads from standard input: prints the replies, and at the
                        end the filters that stand
+dots serve SETTINGS HOSTFILE
+                       serves what comes to the sockets that a host file names, and keeps the journal in a file
 dots show HEX          prints the CoAP message that bytes in hexadecimal spell
 dots check SETTINGS    prints what a settings file comes to, or its first fault and why it is one
 dots check-script      reads a script from standard input: prints how many events it has, or its first fault, and why
@@ -36,7 +38,8 @@ dots help              prints this
 dots version           prints the version of the program, and of the kit that it is proved with
 
 SETTINGS is a file that names domains, their prefixes, and the peers that may ask for them. docs/PROTOCOL.md has its
-lines, those of a script, and what is printed. README.md begins with an example:
+lines, those of a script, and what is printed; docs/OPERATING.md has those of a host file. README.md begins with an
+example:
 
     ./dots replay examples/one-filter/settings < examples/one-filter/script
 
@@ -47,13 +50,15 @@ The exit status, and what to do:
   3   the settings, or a script that is checked, have a fault. What is printed names the line; dots check SETTINGS says
       why it is one
   4   no memory was found: free some, and begin again
-  5   the settings or the script can't be read, or a line is no script line: dots check-script says which, and why
-  6   a call of the disk failed. What was answered is on it: see what it lacks, and begin again
+  5   the settings or the script can't be read, or a line is no script line: dots check-script says which, and why.
+      With serve: the settings can't be read, or the sockets failed
+  6   a call of the disk failed. What was answered is on it: see what it lacks, and begin again. With serve also: the
+      host file can't be read or has a fault, a socket can't be bound, or another server has the journal
   7   the disk holds something that isn't a journal of this program. What is printed is the first such place
   8   the journal was written under other settings, and the digests of both are printed: take those again
   9   standard output can't be written: look where it goes
   10  the disk is smaller than the settings need. What is printed has both sizes, in bytes
-  11  the script has no end within 2^40 lines: cut it
+  11  no end came within 2^40 events or lines: cut the script, or begin again
   70  the program isn't built yet, and can't be built: what stands above says why
 ";
 
