@@ -10,7 +10,7 @@ use Rattle.slot_store.proofs.Steps.{leaves_as, seen_at_rest, rests_as}
 use Rattle.dots_disk.specs.Media.{Media}
 use Rattle.dots_disk.specs.Becoming.{Leaves, RestsWith}
 use Rattle.slot_store.proofs.Keeping.{same_half}
-use Rattle.slot_store.proofs.Places.{same_slot}
+use Rattle.slot_store.proofs.Places.{moved_slot}
 use Rattle.slot_store.proofs.CopyStages.{halves_apart}
 
 -- a half by its number
@@ -66,7 +66,7 @@ new_half slots half keep seen image records few are is copies = record {
         let within : slot < slots = omega arith in
         let record_of : get_or (kept_of records keep) slot [] ≡ get_or records (get_or keep slot 0) [] = get_or-map (λ slot. get_or records slot []) keep slot 0 [] inside in
         subst (IsSlot image (place_of slots (1 - half) slot)) (sym record_of)
-        (same_slot seen image (place_of slots half (get_or keep slot 0)) (place_of slots (1 - half) slot) (get_or records (get_or keep slot 0) []) (λ offset low. (copies slot within).kept inside offset low) (is.held (get_or keep slot 0) (are slot inside)))
+        (moved_slot seen image (place_of slots half (get_or keep slot 0)) (place_of slots (1 - half) slot) (get_or records (get_or keep slot 0) []) (λ offset low short. (copies slot within).kept inside offset low short) (is.held (get_or keep slot 0) (are slot inside)))
 
     closed : (slot : ℕ) → length (kept_of records keep) ≤ slot → slot < slots → image (place_of slots (1 - half) slot) ≢ 165
     closed slot low high = λ opened.
@@ -106,7 +106,7 @@ pub selected_new : (slots : ℕ) (half : ℕ) (keep : List ℕ) (seen copied ima
     → Elsewhere copied 48 1 image → IsHalf slots (1 - half) image (kept_of records keep)
 selected_new slots half keep seen copied image records few are held is elsewhere =
     new_half slots half keep seen image records few are held (λ slot within. record {
-      kept = λ inside offset under. elsewhere (place_of slots (1 - half) slot + offset) (past_header slots (1 - half) slot offset) ∙ (is.copies slot within).kept inside offset under;
+      kept = λ inside offset under short. elsewhere (place_of slots (1 - half) slot + offset) (past_header slots (1 - half) slot offset) ∙ (is.copies slot within).kept inside offset under short;
       closed = λ behind. elsewhere (place_of slots (1 - half) slot) (inr (omega arith)) ∙ (is.copies slot within).closed behind;
     })
 

@@ -1,16 +1,16 @@
 -- The calls by which a half is copied, one after the other.
 use Rattle.std.proofs.Common.{zero, suc, ◌≡◌, ◌⊎◌, inl, inr, ℕ, ◌+◌, ◌-◌, ◌*◌, ◌<◌, ◌≤◌, List, [], ◌∷◌, ◌++◌, length, take, get_or, Option, Some, None, refl, sym, ap, subst, ◌∙◌, append_assoc, arith}
-use Rattle.std.proofs.lemmas.List.{get_or-take, length-take}
+use Rattle.std.proofs.lemmas.List.{length-take}
 use Rattle.dots_disk.specs.Media.{Medium, Media, byte_of, all_media, written, settled, IsTorn}
 use Rattle.dots_disk.specs.Becoming.{Becomes, MayBecome, Stays, EachMedium, KeepsMedia, Leaves, RestsWith}
 use Rattle.slot_store.specs.Layout.{place_of}
 use Rattle.slot_store.specs.Gates.{Sees}
-use Rattle.slot_store.specs.Copying.{Elsewhere, IsCopy, AreSlots, HalfIsCopied}
+use Rattle.slot_store.specs.Copying.{Elsewhere, len_of, IsCopy, IsEnough, AreSlots, HalfIsCopied}
 use Rattle.slot_store.specs.Opening.{Is}
 use Rattle.slot_store.proofs.Steps.{Now, Images, Rests, leaves_more, leaves_lost, now_then, rests_with}
 use Rattle.slot_store.proofs.Stages.{Stage, more, unsynced, no_call}
 use Rattle.slot_store.proofs.OpeningLemmas.{images_at_rest}
-use Rattle.slot_store.proofs.CopyingLemmas.{Copying, copy_moved, copying_images, copying_begins, copying_torn, copying_more, copying_settled}
+use Rattle.slot_store.proofs.CopyingLemmas.{Copying, written_copy, copying_images, copying_begins, copying_torn, copying_more, copying_settled}
 
 each_then : (front back : List Medium) (P : Medium → Type 0) → EachMedium front P → EachMedium back P → EachMedium (front ++ back) P
 each_then [] back P a b = b
@@ -51,9 +51,15 @@ halves_apart slots (suc (suc n)) slot offset half within under = absurd (omega a
 copy_seen : (slots half : ℕ) (keep : List ℕ) (seen later : ℕ → ℕ) (slot : ℕ) (bytes : ℕ → ℕ) (at : ℕ) → half < 2 → AreSlots slots keep → Elsewhere seen (place_of slots (1 - half) 0) (8192 * slots) later
     → IsCopy slots half keep later slot bytes at → IsCopy slots half keep seen slot bytes at
 copy_seen slots half keep seen later slot bytes at within are elsewhere is = record {
-  kept = λ inside offset under. is.kept inside offset under ∙ elsewhere (place_of slots half (get_or keep slot 0) + offset) (halves_apart slots half (get_or keep slot 0) offset within (are slot inside) under);
+  kept = λ inside offset under short. is.kept inside offset under (subst (λ len. offset < 3 + len) (same_len inside) short) ∙ same inside offset under;
   closed = is.closed;
 }
+  where
+    same : slot < length keep → (offset : ℕ) → offset < 8192 → later (place_of slots half (get_or keep slot 0) + offset) ≡ seen (place_of slots half (get_or keep slot 0) + offset)
+    same inside offset under = elsewhere (place_of slots half (get_or keep slot 0) + offset) (halves_apart slots half (get_or keep slot 0) offset within (are slot inside) under)
+
+    same_len : slot < length keep → len_of seen (place_of slots half (get_or keep slot 0)) ≡ len_of later (place_of slots half (get_or keep slot 0))
+    same_len inside = sym (ap (λ n. 256 * n + later (place_of slots half (get_or keep slot 0) + 2)) (same inside 1 (omega arith)) ∙ ap (λ n. 256 * seen (place_of slots half (get_or keep slot 0) + 1) + n) (same inside 2 (omega arith)))
 
 pub copy_begins : (start : Option Media) (slots half : ℕ) (keep : List ℕ) (seen : ℕ → ℕ) → RestsWith start (Is seen) → Stage start start (Elsewhere seen (place_of slots (1 - half) 0) (8192 * slots)) (Copying slots half keep seen 0)
 copy_begins start slots half keep seen rests =
@@ -68,23 +74,29 @@ pub copy_reads : (start mid new : Option Media) (slots half : ℕ) (keep : List 
     → Stage start new (Elsewhere seen (place_of slots (1 - half) 0) (8192 * slots)) (Copying slots half keep seen first)
 copy_reads start mid new slots half keep seen first stage keeps = stage_read start mid new (Elsewhere seen (place_of slots (1 - half) 0) (8192 * slots)) (Copying slots half keep seen first) stage keeps (copying_images slots half keep seen first)
 
-pub copy_torn : (start mid new : Option Media) (slots half : ℕ) (keep : List ℕ) (seen : ℕ → ℕ) (first count : ℕ) → first + count ≤ slots → Stage start mid (Elsewhere seen (place_of slots (1 - half) 0) (8192 * slots)) (Copying slots half keep seen first)
-    → MayBecome mid new (IsTorn (place_of slots (1 - half) first) (8192 * count)) → Leaves start new (Elsewhere seen (place_of slots (1 - half) 0) (8192 * slots))
-copy_torn start mid new slots half keep seen first count within stage becomes = leaves_lost start mid new (Elsewhere seen (place_of slots (1 - half) 0) (8192 * slots)) (Copying slots half keep seen first)
-    (IsTorn (place_of slots (1 - half) first) (8192 * count)) stage.leaves stage.now becomes (λ old now is torn. copying_torn slots half keep seen first count old now within is torn)
+pub copy_torn : (start mid new : Option Media) (slots half : ℕ) (keep : List ℕ) (seen : ℕ → ℕ) (first at size : ℕ) → first < slots → size ≤ 8192 → at ≡ place_of slots (1 - half) first
+    → Stage start mid (Elsewhere seen (place_of slots (1 - half) 0) (8192 * slots)) (Copying slots half keep seen first) → MayBecome mid new (IsTorn at size) → Leaves start new (Elsewhere seen (place_of slots (1 - half) 0) (8192 * slots))
+copy_torn start mid new slots half keep seen first at size within fits place stage becomes = leaves_lost start mid new (Elsewhere seen (place_of slots (1 - half) 0) (8192 * slots)) (Copying slots half keep seen first)
+    (IsTorn (place_of slots (1 - half) first) size) stage.leaves stage.now (subst (λ at. MayBecome mid new (IsTorn at size)) place becomes) (λ old now is torn. copying_torn slots half keep seen first size old now within fits is torn)
 
-pub copy_more : (start mid fill new : Option Media) (slots half : ℕ) (keep : List ℕ) (seen : ℕ → ℕ) (first count : ℕ) (bytes : List ℕ) → half < 2 → AreSlots slots keep → first + count ≤ slots → length bytes ≡ 8192 * count → RestsWith start (Is seen)
+pub copy_more : (start mid fill new : Option Media) (slots half : ℕ) (keep : List ℕ) (seen : ℕ → ℕ) (first at size : ℕ) (room : List ℕ) → half < 2 → AreSlots slots keep → first < slots → at ≡ place_of slots (1 - half) first
+    → IsEnough keep first (byte_of room) size → size ≤ length room → RestsWith start (Is seen)
     → Stage start mid (Elsewhere seen (place_of slots (1 - half) 0) (8192 * slots)) (Copying slots half keep seen first) → KeepsMedia mid fill
-    → ((later : ℕ → ℕ) → Sees mid later → (index : ℕ) → index < count → IsCopy slots half keep later (first + index) (byte_of bytes) (8192 * index))
-    → Becomes fill new (λ old now. now ≡ written old (place_of slots (1 - half) first) bytes) → Stage start new (Elsewhere seen (place_of slots (1 - half) 0) (8192 * slots)) (Copying slots half keep seen (first + count))
-copy_more start mid fill new slots half keep seen first count bytes half_is are within size rests stage keeps piece becomes =
+    → ((later : ℕ → ℕ) → Sees mid later → IsCopy slots half keep later first (byte_of room) 0)
+    → Becomes fill new (λ old now. now ≡ written old at (take size room)) → Stage start new (Elsewhere seen (place_of slots (1 - half) 0) (8192 * slots)) (Copying slots half keep seen (first + 1))
+copy_more start mid fill new slots half keep seen first at size room two are within place enough fits rests stage keeps copy becomes =
     let P = Elsewhere seen (place_of slots (1 - half) 0) (8192 * slots) in
     let read = copy_reads start mid fill slots half keep seen first stage keeps in
     let now = current start mid P (Is seen) (Copying slots half keep seen first) rests stage in
-    more start fill new P (Copying slots half keep seen first) (Copying slots half keep seen (first + count)) (λ old now. now ≡ written old (place_of slots (1 - half) first) bytes) read becomes
-    (λ old new is same. copying_more slots half keep seen first count bytes old new within size
-    (λ index under. copy_seen slots half keep seen now.0.seen (first + index) (byte_of bytes) (8192 * index) half_is are now.2.elsewhere (piece now.0.seen now.1 index under)) is same)
-    (copying_images slots half keep seen (first + count))
+    let here = copy_seen slots half keep seen now.0.seen first (byte_of room) 0 two are now.2.elsewhere (copy now.0.seen now.1) in
+    more start fill new P (Copying slots half keep seen first) (Copying slots half keep seen (first + 1)) (λ old now. now ≡ written old (place_of slots (1 - half) first) (take size room)) read
+    (subst (λ at. Becomes fill new (λ old now. now ≡ written old at (take size room))) place becomes)
+    (λ old new is same. copying_more slots half keep seen first (take size room) old new within short
+    (written_copy slots half keep seen old.seen first room size (place_of slots (1 - half) first) here enough fits) is same)
+    (copying_images slots half keep seen (first + 1))
+  where
+    short : length (take size room) ≤ 8192
+    short = let taken = length-take size room in let low = enough.fits in omega arith
 
 pub copy_unsynced : (start mid new : Option Media) (slots half : ℕ) (keep : List ℕ) (seen : ℕ → ℕ) (first : ℕ) → Stage start mid (Elsewhere seen (place_of slots (1 - half) 0) (8192 * slots)) (Copying slots half keep seen first) → MayBecome mid new Stays
     → Leaves start new (Elsewhere seen (place_of slots (1 - half) 0) (8192 * slots))
@@ -107,24 +119,6 @@ copy_done start mid new slots half keep seen rests stage becomes = rests_with st
     (now_then mid new (Copying slots half keep seen slots) (λ now. (now.pending ≡ []) × HalfIsCopied slots half keep seen now.seen) (λ old now. now ≡ settled old) stage.now becomes (copying_settled slots half keep seen)) (λ now is. is)
 
 -- ---- the same by other names
-
-pub write_torn : (start mid new : Option Media) (slots half : ℕ) (keep : List ℕ) (seen : ℕ → ℕ) (first count at size : ℕ) → first + count ≤ slots → at ≡ place_of slots (1 - half) first → size ≡ 8192 * count
-    → Stage start mid (Elsewhere seen (place_of slots (1 - half) 0) (8192 * slots)) (Copying slots half keep seen first) → MayBecome mid new (IsTorn at size) → Leaves start new (Elsewhere seen (place_of slots (1 - half) 0) (8192 * slots))
-write_torn start mid new slots half keep seen first count at size within place length_is stage becomes =
-    copy_torn start mid new slots half keep seen first count within stage (subst (λ at. MayBecome mid new (IsTorn at (8192 * count))) place (subst (λ size. MayBecome mid new (IsTorn at size)) length_is becomes))
-
-pub write_more : (start mid fill new : Option Media) (slots half : ℕ) (keep : List ℕ) (seen : ℕ → ℕ) (first count at : ℕ) (piece : List ℕ) → half < 2 → AreSlots slots keep → first + count ≤ slots → 8192 * count ≤ length piece → at ≡ place_of slots (1 - half) first
-    → RestsWith start (Is seen) → Stage start mid (Elsewhere seen (place_of slots (1 - half) 0) (8192 * slots)) (Copying slots half keep seen first) → KeepsMedia mid fill
-    → ((later : ℕ → ℕ) → Sees mid later → (index : ℕ) → index < count → IsCopy slots half keep later (first + index) (byte_of piece) (8192 * index))
-    → Becomes fill new (λ old now. now ≡ written old at (take (8192 * count) piece)) → Stage start new (Elsewhere seen (place_of slots (1 - half) 0) (8192 * slots)) (Copying slots half keep seen (first + count))
-write_more start mid fill new slots half keep seen first count at piece two are within room place rests stage keeps copies becomes =
-    copy_more start mid fill new slots half keep seen first count (take (8192 * count) piece) two are within size rests stage keeps
-    (λ later sees index under. copy_moved slots half keep later (byte_of piece) (byte_of (take (8192 * count) piece)) (first + index) (8192 * index) (8192 * index)
-    (λ offset low. let inside : 8192 * index + offset < 8192 * count = omega arith in get_or-take (8192 * count) piece (8192 * index + offset) 0 inside) (copies later sees index under))
-    (subst (λ at. Becomes fill new (λ old now. now ≡ written old at (take (8192 * count) piece))) place becomes)
-  where
-    size : length (take (8192 * count) piece) ≡ 8192 * count
-    size = let taken = length-take (8192 * count) piece in omega arith
 
 pub half_left : (start mid new : Option Media) (slots half : ℕ) (keep : List ℕ) (seen : ℕ → ℕ) (first : ℕ) → first ≡ slots → Stage start mid (Elsewhere seen (place_of slots (1 - half) 0) (8192 * slots)) (Copying slots half keep seen first)
     → Becomes mid new (λ old now. now ≡ settled old) → Leaves start new (Elsewhere seen (place_of slots (1 - half) 0) (8192 * slots))

@@ -1,7 +1,8 @@
 -- Bytes of an image that are as those of another.
-use Rattle.std.proofs.Common.{zero, suc, ◌≡◌, ℕ, ◌+◌, ◌*◌, ◌<◌, ◌≤◌, List, [], ◌∷◌, length, set, take, length-set, refl, ap, ◌∙◌, arith}
+use Rattle.std.proofs.Common.{zero, suc, ◌≡◌, ℕ, ◌+◌, ◌*◌, ◌<◌, ◌≤◌, List, [], ◌∷◌, length, set, take, length-set, refl, sym, ap, subst, ◌∙◌, arith}
 use Rattle.dots_disk.specs.Media.{bytes_at}
 use Rattle.slot_store.specs.Layout.{IsHeader, IsSlot}
+use Rattle.slot_store.specs.Copying.{len_of}
 
 -- the bytes from a place on are the same
 abbrev pub Agree : (ℕ → ℕ) → (ℕ → ℕ) → ℕ → ℕ → Type 0
@@ -32,23 +33,28 @@ moved_bytes old new at to (suc count) same =
     ap new before ∙ same (offset + 1) within ∙ ap old after) in
     ap (λ byte. byte ∷ bytes_at new (to + 1) count) first ∙ ap (λ bytes. old at ∷ bytes) rest
 
--- a slot that moved, or stayed
-pub same_slot : (old new : ℕ → ℕ) (at to : ℕ) (bytes : List ℕ) → ((offset : ℕ) → offset < 8192 → new (to + offset) ≡ old (at + offset)) → IsSlot old at bytes → IsSlot new to bytes
-same_slot old new at to bytes same is =
+-- a slot whose gate, length and record moved, or stayed
+pub moved_slot : (old new : ℕ → ℕ) (at to : ℕ) (bytes : List ℕ) → ((offset : ℕ) → offset < 8192 → offset < 3 + len_of old at → new (to + offset) ≡ old (at + offset)) → IsSlot old at bytes → IsSlot new to bytes
+moved_slot old new at to bytes same is =
     let here : to ≡ to + 0 = omega arith in
     let there : at + 0 ≡ at = omega arith in
     let none : 0 < 8192 = omega arith in
     let one : 1 < 8192 = omega arith in
     let two : 2 < 8192 = omega arith in
     let fits = is.fits in
-    let gate : new to ≡ 165 = ap new here ∙ same 0 none ∙ ap old there ∙ is.gate in
-    let size : 256 * new (to + 1) + new (to + 2) ≡ length bytes = ap (λ n. 256 * n + new (to + 2)) (same 1 one) ∙ ap (λ n. 256 * old (at + 1) + n) (same 2 two) ∙ is.size in
+    let gate : new to ≡ 165 = ap new here ∙ same 0 none (omega arith) ∙ ap old there ∙ is.gate in
+    let size : 256 * new (to + 1) + new (to + 2) ≡ length bytes = ap (λ n. 256 * n + new (to + 2)) (same 1 one (omega arith)) ∙ ap (λ n. 256 * old (at + 1) + n) (same 2 two (omega arith)) ∙ is.size in
+    let len : len_of old at ≡ length bytes = is.size in
     let record_bytes = moved_bytes old new (at + 3) (to + 3) (length bytes) (λ offset under.
     let before : to + 3 + offset ≡ to + (3 + offset) = omega arith in
     let after : at + (3 + offset) ≡ at + 3 + offset = omega arith in
     let within : 3 + offset < 8192 = omega arith in
-    ap new before ∙ same (3 + offset) within ∙ ap old after) in
+    let inside : 3 + offset < 3 + length bytes = omega arith in
+    ap new before ∙ same (3 + offset) within (subst (λ len. 3 + offset < 3 + len) (sym len) inside) ∙ ap old after) in
     record { gate = gate; fits = fits; size = size; bytes = record_bytes ∙ is.bytes }
+
+pub same_slot : (old new : ℕ → ℕ) (at to : ℕ) (bytes : List ℕ) → ((offset : ℕ) → offset < 8192 → new (to + offset) ≡ old (at + offset)) → IsSlot old at bytes → IsSlot new to bytes
+same_slot old new at to bytes same is = moved_slot old new at to bytes (λ offset under short. same offset under) is
 
 -- ---- the two bytes before a record
 

@@ -6,10 +6,20 @@ use Rattle.slot_store.specs.Layout.{place_of}
 abbrev pub Elsewhere : (ℕ → ℕ) → ℕ → ℕ → (ℕ → ℕ) → Type 0
 Elsewhere seen at count image = (place : ℕ) → (place < at ⊎ at + count ≤ place) → image place ≡ seen place
 
--- The bytes of a slot, from a place on: those of the slot that the list names there, and a closed gate behind the list.
+-- how long the record of the slot at the place says that it is
+abbrev pub len_of : (ℕ → ℕ) → ℕ → ℕ
+len_of seen at = 256 * seen (at + 1) + seen (at + 2)
+
+-- The bytes of a slot, from a place on: gate, length and record of the slot that the list names there, and a closed gate behind the list.
 pub record IsCopy (slots half : ℕ) (keep : List ℕ) (seen : ℕ → ℕ) (slot : ℕ) (bytes : ℕ → ℕ) (at : ℕ) : Type 0 where
-  pub kept : slot < length keep → (offset : ℕ) → offset < 8192 → bytes (at + offset) ≡ seen (place_of slots half (slice_index keep slot) + offset)
+  pub kept : slot < length keep → (offset : ℕ) → offset < 8192 → offset < 3 + len_of seen (place_of slots half (slice_index keep slot)) → bytes (at + offset) ≡ seen (place_of slots half (slice_index keep slot) + offset)
   pub closed : length keep ≤ slot → bytes at ≡ 0
+
+-- so many bytes of a slot are at least its gate, and of a kept slot all that belongs to its record
+pub record IsEnough (keep : List ℕ) (slot : ℕ) (bytes : ℕ → ℕ) (size : ℕ) : Type 0 where
+  pub some : 0 < size
+  pub fits : size ≤ 8192
+  pub all : slot < length keep → (offset : ℕ) → offset < 8192 → offset < 3 + len_of bytes 0 → offset < size
 
 -- slots that there are
 abbrev pub AreSlots : ℕ → List ℕ → Type 0

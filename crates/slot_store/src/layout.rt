@@ -12,9 +12,6 @@ pub const SLOT: usize = 8192;
 /// The greatest length of a record, in bytes.
 pub const MAX_RECORD: usize = SLOT - 3;
 
-/// How many slots are written at once where a half is written.
-pub const PIECE_SLOTS: u32 = 128;
-
 /// The place of a slot of a half.
 pub fn place_of(slots: u32, half: u8, slot: u32) -> u64
     requires { half < 2 }
@@ -25,9 +22,6 @@ pub fn place_of(slots: u32, half: u8, slot: u32) -> u64
 
 /// The place of the selector, whose lowest bit names the half in use.
 pub const SELECTOR: u64 = 48;
-
-/// The bytes of [`PIECE_SLOTS`] slots.
-pub const PIECE: usize = 1_048_576;
 
 /// How many bytes a journal needs.
 pub fn needed_of(slots: u32) -> u64

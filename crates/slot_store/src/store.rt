@@ -12,7 +12,7 @@ use crate::copying::move_half;
 use crate::fault::{DiskFault, OpenFault};
 use crate::formatting::open_header;
 use crate::gates::count_open;
-use crate::layout::{PIECE, needed_of, place_of};
+use crate::layout::{SLOT, needed_of, place_of};
 use crate::opening::open_gate;
 use crate::selecting::other_selector;
 use crate::sizing::put_sized;
@@ -26,7 +26,8 @@ pub struct SlotStore {
     slots: u32,
     selector: u8,
     used: u32,
-    piece: Vec<u8>,
+    /// Room for a slot.
+    room: Vec<u8>,
 }
 
 impl Model for SlotStore {
@@ -37,7 +38,7 @@ impl Model for SlotStore {
 
     ghost view = { λ store. record { slots = store.slots; selector = store.selector; used = store.used } };
 
-    ghost invariant = { λ store. (length store.piece.items ≡ 1048576) × (store.used ≤ store.slots) };
+    ghost invariant = { λ store. (length store.room.items ≡ 8192) × (store.used ≤ store.slots) };
 }
 
 impl SlotStore {
@@ -78,7 +79,7 @@ impl SlotStore {
         if found < needed {
             return Err(OpenFault::TooSmall { needed, found });
         }
-        let Ok(piece) = vec![in alloc; 0u8; PIECE] else {
+        let Ok(room) = vec![in alloc; 0u8; SLOT] else {
             return Err(OpenFault::NoMemory);
         };
         let selector = open_header(disk, slots, digest)?;
@@ -87,7 +88,7 @@ impl SlotStore {
             slots,
             selector,
             used,
-            piece,
+            room,
         })
     }
 
@@ -140,9 +141,9 @@ impl SlotStore {
     {
         let slot = self.used;
         let at = self.place(slot);
-        let piece = self.piece.as_mut_slice();
-        let size = put_sized(piece, bytes);
-        match open_gate(disk, at, &piece[..size]) {
+        let room = self.room.as_mut_slice();
+        let size = put_sized(room, bytes);
+        match open_gate(disk, at, &room[..size]) {
             Ok(()) => {
                 self.used = slot + 1;
                 return Ok(slot);
@@ -181,7 +182,7 @@ impl SlotStore {
             self.slots,
             self.selector,
             keep,
-            self.piece.as_mut_slice(),
+            self.room.as_mut_slice(),
         ) {
             Ok(()) => {
                 self.selector = selector;
