@@ -12,6 +12,7 @@ pub mod laws;
 mod lists;
 mod reader;
 mod reading;
+mod room;
 mod writer;
 mod writing;
 mod written_changes;
@@ -19,5 +20,6 @@ mod written_lists;
 
 pub use fault::EntryFault;
 pub use reading::entry_of;
+pub use room::RecordRoom;
 pub use writer::MAX_RECORD;
 pub use writing::{record_into, record_len};

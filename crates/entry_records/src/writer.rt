@@ -38,6 +38,13 @@ impl Writer {
         }
     }
 
+    /// Leaves nothing written.
+    pub(crate) fn clear(&mut self)
+        ensures { self.new ≡ [] }
+    {
+        self.bytes.clear();
+    }
+
     /// What is written.
     pub(crate) fn written(&self) -> &[u8]
         ensures { result.now ≡ self.now }
@@ -54,12 +61,14 @@ impl Writer {
         }
     }
 
+    /// Bytes. Those for which there is no room are left out.
     pub(crate) fn bytes(&mut self, bytes: &[u8])
         ensures written { Writes (length bytes.now) bytes.now self.old self.new }
         ensures typed { AllByRecursion IsByte bytes.now }
     {
-        for byte in bytes {
-            self.byte(*byte);
+        match self.bytes.try_extend_from_slice(bytes) {
+            Ok(()) => {}
+            Err(_) => {}
         }
     }
 

@@ -45,11 +45,3 @@ are_kept entries (slot ∷ keep) are all =
       records = ap (λ bytes. bytes ∷ kept_of (records_of entries) keep) first.1.bytes ∙ ap (λ records. record_bytes first.0 ∷ records) rest.records ∙ ap records_of (sym there);
       each = subst (AllByRecursion HasRecord) (sym there) (first.1.has, rest.each);
     }
-
--- what stands at the front
-pub front_is : (n : ℕ) (room front behind : List ℕ) → room ≡ front ++ behind → n ≡ length front → take n room ≡ front
-front_is n room front behind is count = ap (take n) is ∙ ap (λ n. take n (front ++ behind)) count ∙ of front behind
-  where
-    of : (front behind : List ℕ) → take (length front) (front ++ behind) ≡ front
-    of [] behind = refl
-    of (x ∷ front) behind = ap (λ rest. x ∷ rest) (of front behind)

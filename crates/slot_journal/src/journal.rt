@@ -20,7 +20,7 @@ use crate::reading::read_half;
 use dots_disk::Disk;
 use dots_history::Entry;
 use dots_settings::Settings;
-use entry_records::{MAX_RECORD, record_into};
+use entry_records::RecordRoom;
 use slot_store::{DiskFault, SlotStore};
 use std::alloc::Global;
 use std::marker::Model;
@@ -29,6 +29,7 @@ use std::marker::Model;
 #[derive(Drop)]
 pub struct Journal {
     store: SlotStore,
+    room: RecordRoom,
 }
 
 impl Model for Journal {
@@ -75,7 +76,8 @@ impl Journal {
     {
         let store = open_store(alloc, disk, settings)?;
         let entries = read_half(alloc, disk, &store)?;
-        Ok((Journal { store }, entries))
+        let room = RecordRoom::new();
+        Ok((Journal { store, room }, entries))
     }
 
     /// How many slots of the half in use hold an entry.
@@ -126,9 +128,8 @@ impl Journal {
         ensures cause { HasCause (D.faults disk.old) (D.faults disk.new) result }
         ensures beside { D.beside disk.old disk.new }
     {
-        let mut room = [0; MAX_RECORD];
-        let len = record_into(entry, &mut room);
-        let slot = self.store.append(disk, &room[..len])?;
+        self.room.put(entry);
+        let slot = self.store.append(disk, self.room.record())?;
         Ok(slot)
     }
 

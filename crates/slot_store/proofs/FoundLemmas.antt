@@ -1,7 +1,7 @@
 -- The record of a slot that was read.
-use Rattle.std.proofs.Common.{◌≡◌, ℕ, ◌+◌, ◌*◌, ◌<◌, ◌≤◌, List, length, take, drop, get_or, sym, ap, ◌∙◌, arith, length-drop}
+use Rattle.std.proofs.Common.{◌≡◌, ℕ, ◌+◌, ◌<◌, ◌≤◌, List, length, take, drop, get_or, ap, ◌∙◌, arith, length-drop}
 use Rattle.std.proofs.lemmas.List.{get_or-take, get_or-drop, length-take}
-use Rattle.dots_disk.specs.Media.{byte_of, bytes_at}
+use Rattle.dots_disk.specs.Media.{bytes_at}
 use Rattle.dots_disk.proofs.WrittenLemmas.{byte_of_bytes_at, length_of_bytes_at, is_bytes_at}
 
 pub room_byte : (seen : ℕ → ℕ) (at : ℕ) (room : List ℕ) (count offset : ℕ) → room ≡ bytes_at seen at count → offset < count → get_or room offset 0 ≡ seen (at + offset)

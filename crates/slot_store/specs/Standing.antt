@@ -1,5 +1,5 @@
 -- What a journal in memory knows of its disk.
-use Rattle.std.specs.Prelude.{◌≡◌, ℕ, ◌+◌, ◌*◌, ◌/◌, ◌%◌, ◌<◌, ◌≤◌, ◌⊎◌, List, [], ◌∷◌, ◌++◌, length, take, drop, Option, Some, None}
+use Rattle.std.specs.Prelude.{◌≡◌, ℕ, ◌+◌, ◌*◌, ◌/◌, ◌%◌, ◌<◌, ◌≤◌, ◌⊎◌, List, ◌∷◌, length, take, drop, Option, Some, None}
 use Rattle.dots_disk.specs.Media.{bytes_at}
 use Rattle.slot_store.specs.Layout.{IsJournal, HoldsRecords}
 use Rattle.slot_store.specs.Refusing.{IsOpen, IsCount}

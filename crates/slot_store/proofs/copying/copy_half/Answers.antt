@@ -1,7 +1,5 @@
-use Rattle.std.proofs.Common.{arith, ◌∙◌, ◌+◌, ◌<◌, ◌≡◌, ◌≤◌, length, subst, sym, take}
+use Rattle.std.proofs.Common.{arith, ◌∙◌, ◌≡◌, ◌≤◌, length, take}
 use Rattle.std.proofs.lemmas.List.{length-take}
-use Rattle.dots_disk.specs.Becoming.{MayBecome}
-use Rattle.dots_disk.specs.Media.{IsTorn}
 use Rattle.slot_store.proofs.CopyStages.{copy_reads, copy_torn, copy_more, copy_unsynced, half_left, half_done}
 use Rattle.slot_store.proofs.copying.copy_half.Goals as goal
 
