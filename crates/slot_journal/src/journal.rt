@@ -29,7 +29,7 @@ use std::marker::Model;
 #[derive(Drop)]
 pub struct Journal {
     store: SlotStore,
-    room: RecordRoom,
+    room: Box<RecordRoom>,
 }
 
 impl Model for Journal {
@@ -74,9 +74,11 @@ impl Journal {
         ensures cause { Caused (D.faults disk.old) (D.faults disk.new) result }
         ensures beside { D.beside disk.old disk.new }
     {
+        let Ok(room) = Box::new(alloc, RecordRoom::new()) else {
+            return Err(JournalFault::NoMemory);
+        };
         let store = open_store(alloc, disk, settings)?;
         let entries = read_half(alloc, disk, &store)?;
-        let room = RecordRoom::new();
         Ok((Journal { store, room }, entries))
     }
 

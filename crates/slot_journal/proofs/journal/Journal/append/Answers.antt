@@ -6,7 +6,7 @@ use Rattle.slot_journal.proofs.journal.Journal.append.Goals as goal
 
 pub returns-clause-moments : goal.returns-clause-moments
 returns-clause-moments g c = λ settings entries rests.
-    let bytes = c.record.ensures ∙ c.put.ensures.written in
+    let bytes = c.record.ensures ∙ c.deref.ensures ∙ c.put.ensures.written in
     leaves_either _ _ c.self.inside.store settings _ entries _
     (λ image stands. appended c.self.inside.store settings entries c.args.entry.now _ image bytes (has_record _ _ c.put.ensures.record) stands)
     (subst (λ journal. RestsWith (g.D.Disk.media c.args.disk.now) (StandsFor journal settings entries)) (sym c.self.view_is) rests)
@@ -14,7 +14,7 @@ returns-clause-moments g c = λ settings entries rests.
 
 pub returns-in_err-slot-clause-moments : goal.returns-in_err-slot-clause-moments
 returns-in_err-slot-clause-moments g c = λ settings entries rests.
-    let bytes = c.record.ensures ∙ c.put.ensures.written in
+    let bytes = c.record.ensures ∙ c.deref.ensures ∙ c.put.ensures.written in
     leaves_either _ _ c.self.inside.store settings _ entries _
     (λ image stands. appended c.self.inside.store settings entries c.args.entry.now _ image bytes (has_record _ _ c.put.ensures.record) stands)
     (subst (λ journal. RestsWith (g.D.Disk.media c.args.disk.now) (StandsFor journal settings entries)) (sym c.self.view_is) rests)
@@ -22,7 +22,7 @@ returns-in_err-slot-clause-moments g c = λ settings entries rests.
 
 pub returns-clause-rests : goal.returns-clause-rests
 returns-clause-rests g c = λ settings entries rests.
-    let bytes = c.record.ensures ∙ c.put.ensures.written in
+    let bytes = c.record.ensures ∙ c.deref.ensures ∙ c.put.ensures.written in
     rests_second _ _ c.self.inside.store _ settings _ entries _ (ap (λ journal. journal.slots) c.in_ok-slot.ensures.next)
     (λ image stands. appended c.self.inside.store settings entries c.args.entry.now _ image bytes (has_record _ _ c.put.ensures.record) stands)
     (subst (λ journal. RestsWith (g.D.Disk.media c.args.disk.now) (StandsFor journal settings entries)) (sym c.self.view_is) rests)
