@@ -94,11 +94,11 @@ fn failing(alloc: Global, count: u64) -> Result<Option<u64>, Fail> {
 }
 
 /// An entry is written and synced in two calls, and its gate opened in two more. Where a write fails here, it wasn't done; where the
-/// last sync fails, the gate is open. Before the 31st entry the journal is compacted: seven records are read, written together and
-/// synced, and so is the selector.
+/// last sync fails, the gate is open. Before the 31st entry the journal is compacted: seven records are read and written, the 23
+/// gates behind them are closed, all that is synced, and the selector is written and synced.
 #[test]
 fn a_fault_leaves_the_entry_or_not(rt: HostRuntime) -> Result<(), Fail> {
-    for (count, want) in [(5, 4), (30, 15)] {
+    for (count, want) in [(5, 4), (30, 44)] {
         let found = failing(rt.alloc(), count)?;
         assert!(rt; found == Some(want), "at {count}: {found:?}");
     }
