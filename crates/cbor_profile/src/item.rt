@@ -1,4 +1,4 @@
-ghost use Rattle.std.specs.Prelude.{◌≡◌, [], ◌∷◌, ◌++◌, OnOk, OnErr, IfOk, map, option_map};
+ghost use Rattle.std.specs.Prelude.{◌≡◌, ◌<◌, [], ◌∷◌, ◌++◌, vec_len, vec_capacity, OnOk, OnErr, IfOk, map, option_map};
 ghost use Rattle.cbor_profile.specs.Kind.{number_in, text_in, items_in, pairs_in};
 ghost use Rattle.cbor_profile.specs.View.{tree_of, trees, tree_pairs, items_of, pairs_of};
 
@@ -97,6 +97,39 @@ impl ItemList {
         Ok(ItemList { items })
     }
 
+    /// The same list, with room for one more.
+    #[inline(always)]
+    pub(crate) fn with_room_for_one(self) -> Result<Self, NoMemory>
+        ensures same { IfOk result (λ list. trees list ≡ trees self) }
+        ensures room { IfOk result (λ list. vec_len list.items < vec_capacity list.items) }
+    {
+        if self.items.len() == self.items.capacity() {
+            let list = self.grown()?;
+            return Ok(list);
+        }
+        Ok(self)
+    }
+
+    #[cold]
+    #[inline(never)]
+    fn grown(self) -> Result<Self, NoMemory>
+        ensures same { IfOk result (λ list. trees list ≡ trees self) }
+        ensures room { IfOk result (λ list. vec_len list.items < vec_capacity list.items) }
+    {
+        let ItemList { mut items } = self;
+        items.reserve(1)?;
+        Ok(ItemList { items })
+    }
+
+    /// Puts one more behind the others, for which there is room.
+    #[inline(always)]
+    pub(crate) fn push_within(&mut self, item: Item)
+        requires { vec_len self.old.items < vec_capacity self.old.items }
+        ensures { trees self.new ≡ trees self.old ++ tree_of item ∷ [] }
+    {
+        self.items.push_reserved(item);
+    }
+
     pub fn items(&self) -> &[Item]
         ensures { map tree_of result.now ≡ trees self.now }
     {
@@ -128,6 +161,39 @@ impl PairList {
     {
         let items = Vec::with_capacity(alloc, room)?;
         Ok(PairList { items })
+    }
+
+    /// The same list, with room for one more.
+    #[inline(always)]
+    pub(crate) fn with_room_for_one(self) -> Result<Self, NoMemory>
+        ensures same { IfOk result (λ list. tree_pairs list ≡ tree_pairs self) }
+        ensures room { IfOk result (λ list. vec_len list.items < vec_capacity list.items) }
+    {
+        if self.items.len() == self.items.capacity() {
+            let list = self.grown()?;
+            return Ok(list);
+        }
+        Ok(self)
+    }
+
+    #[cold]
+    #[inline(never)]
+    fn grown(self) -> Result<Self, NoMemory>
+        ensures same { IfOk result (λ list. tree_pairs list ≡ tree_pairs self) }
+        ensures room { IfOk result (λ list. vec_len list.items < vec_capacity list.items) }
+    {
+        let PairList { mut items } = self;
+        items.reserve(1)?;
+        Ok(PairList { items })
+    }
+
+    /// Puts one more behind the others, for which there is room.
+    #[inline(always)]
+    pub(crate) fn push_within(&mut self, pair: (Item, Item))
+        requires { vec_len self.old.items < vec_capacity self.old.items }
+        ensures { tree_pairs self.new ≡ tree_pairs self.old ++ (tree_of pair.0, tree_of pair.1) ∷ [] }
+    {
+        self.items.push_reserved(pair);
     }
 
     pub fn items(&self) -> &[(Item, Item)]
