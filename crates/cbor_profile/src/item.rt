@@ -1,4 +1,4 @@
-ghost use Rattle.std.specs.Prelude.{◌≡◌, [], ◌∷◌, ◌++◌, OnOk, OnErr, IfOk, map, option_map};
+ghost use Rattle.std.specs.Prelude.{◌≡◌, ◌<◌, [], ◌∷◌, ◌++◌, vec_len, vec_capacity, OnOk, OnErr, IfOk, map, option_map};
 ghost use Rattle.cbor_profile.specs.Kind.{number_in, text_in, items_in, pairs_in};
 ghost use Rattle.cbor_profile.specs.View.{tree_of, trees, tree_pairs, items_of, pairs_of};
 
@@ -7,7 +7,7 @@ use std::alloc::Global;
 
 /// A data item (RFC 8949, section 3.1).
 #[cycle(item)]
-#[derive(Debug, Drop)]
+#[derive(Debug)]
 pub enum Item {
     Unsigned(u64),
     /// The number -1 - n.
@@ -34,6 +34,22 @@ pub struct ItemList {
 #[derive(Debug, Drop)]
 pub struct PairList {
     pub(crate) items: Vec<(Item, Item)>,
+}
+
+/// Written out, so that what holds no memory is let go where it stands: most items are numbers, and a call for each
+/// takes longer.
+impl Drop for Item {
+    #[inline(always)]
+    fn drop(self) {
+        match self {
+            Item::Unsigned(_) | Item::Negative(_) | Item::Bool(_) | Item::Null => {}
+            Item::Bytes(_bytes) => {}
+            Item::Text(_text) => {}
+            Item::Array(_items) => {}
+            Item::Map(_pairs) => {}
+            Item::Tag(_, _inner) => {}
+        }
+    }
 }
 
 impl Item {
@@ -97,6 +113,39 @@ impl ItemList {
         Ok(ItemList { items })
     }
 
+    /// The same list, with room for one more.
+    #[inline(always)]
+    pub(crate) fn with_room_for_one(self) -> Result<Self, NoMemory>
+        ensures same { IfOk result (λ list. trees list ≡ trees self) }
+        ensures room { IfOk result (λ list. vec_len list.items < vec_capacity list.items) }
+    {
+        if self.items.len() == self.items.capacity() {
+            let list = self.grown()?;
+            return Ok(list);
+        }
+        Ok(self)
+    }
+
+    #[cold]
+    #[inline(never)]
+    fn grown(self) -> Result<Self, NoMemory>
+        ensures same { IfOk result (λ list. trees list ≡ trees self) }
+        ensures room { IfOk result (λ list. vec_len list.items < vec_capacity list.items) }
+    {
+        let ItemList { mut items } = self;
+        items.reserve(1)?;
+        Ok(ItemList { items })
+    }
+
+    /// Puts one more behind the others, for which there is room.
+    #[inline(always)]
+    pub(crate) fn push_within(&mut self, item: Item)
+        requires { vec_len self.old.items < vec_capacity self.old.items }
+        ensures { trees self.new ≡ trees self.old ++ tree_of item ∷ [] }
+    {
+        self.items.push_reserved(item);
+    }
+
     pub fn items(&self) -> &[Item]
         ensures { map tree_of result.now ≡ trees self.now }
     {
@@ -128,6 +177,39 @@ impl PairList {
     {
         let items = Vec::with_capacity(alloc, room)?;
         Ok(PairList { items })
+    }
+
+    /// The same list, with room for one more.
+    #[inline(always)]
+    pub(crate) fn with_room_for_one(self) -> Result<Self, NoMemory>
+        ensures same { IfOk result (λ list. tree_pairs list ≡ tree_pairs self) }
+        ensures room { IfOk result (λ list. vec_len list.items < vec_capacity list.items) }
+    {
+        if self.items.len() == self.items.capacity() {
+            let list = self.grown()?;
+            return Ok(list);
+        }
+        Ok(self)
+    }
+
+    #[cold]
+    #[inline(never)]
+    fn grown(self) -> Result<Self, NoMemory>
+        ensures same { IfOk result (λ list. tree_pairs list ≡ tree_pairs self) }
+        ensures room { IfOk result (λ list. vec_len list.items < vec_capacity list.items) }
+    {
+        let PairList { mut items } = self;
+        items.reserve(1)?;
+        Ok(PairList { items })
+    }
+
+    /// Puts one more behind the others, for which there is room.
+    #[inline(always)]
+    pub(crate) fn push_within(&mut self, pair: (Item, Item))
+        requires { vec_len self.old.items < vec_capacity self.old.items }
+        ensures { tree_pairs self.new ≡ tree_pairs self.old ++ (tree_of pair.0, tree_of pair.1) ∷ [] }
+    {
+        self.items.push_reserved(pair);
     }
 
     pub fn items(&self) -> &[(Item, Item)]

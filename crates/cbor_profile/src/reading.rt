@@ -209,7 +209,8 @@ fn read_items(
     let mut rest = bytes;
     for _ in 0..count {
         let (item, after) = read_item(alloc, end, rest, levels)?;
-        items.push(item)?;
+        items = items.with_room_for_one()?;
+        items.push_within(item);
         rest = after;
     }
     Ok((items, rest))
@@ -292,7 +293,7 @@ fn read_map(
     Ok((Item::Map(pairs), rest))
 }
 
-/// So many pairs, in the order of their keys. Senders mostly put them so, and then each comes behind the last.
+/// So many pairs, in the order of their keys. Most keys are numbers below 24, each after the last.
 #[cycle(reader)]
 fn read_pairs(
     alloc: Global,
@@ -311,12 +312,36 @@ fn read_pairs(
         match rest.split_first() {
             Some((first, after_key)) if *first < 24 && comes_last(pairs.items(), *first as u64) => {
                 let (value, after) = read_item(alloc, end, after_key, levels)?;
-                pairs.push((Item::Unsigned(*first as u64), value))?;
+                pairs = pairs.with_room_for_one()?;
+                pairs.push_within((Item::Unsigned(*first as u64), value));
                 rest = after;
-                continue;
             }
-            _ => {}
+            _ => return read_other_pairs(alloc, end, count - done, pairs, rest, levels),
         }
+    }
+    Ok((pairs, rest))
+}
+
+/// So many pairs more, in the order of their keys. Senders mostly put them so, and then each comes behind the last.
+#[cycle(reader)]
+#[inline(never)]
+fn read_other_pairs(
+    alloc: Global,
+    end: usize,
+    count: u64,
+    pairs: PairList,
+    bytes: &[u8],
+    levels: u8,
+) -> Result<(PairList, &[u8]), CborFault>
+    requires within { length bytes.now ≤ end }
+    requires rise { KeysRise (pairs_of (tree_pairs pairs)) }
+    requires sound { AllByRecursion (λ p. IsSound p.0) (tree_pairs pairs) }
+    ensures value { Gives pairs_read result (pairs_at (item_at levels end) end count (tree_pairs pairs) bytes.now) }
+    ensures shorter { IfOk result (λ read. length read.1.now ≤ length bytes.now) }
+{
+    let mut pairs = pairs;
+    let mut rest = bytes;
+    for done in 0..count {
         let (key, after_key) = read_item(alloc, end, rest, levels)?;
         match compare_to_last(pairs.items(), &key) {
             Ordering::Less => {

@@ -1,7 +1,8 @@
-use Rattle.std.proofs.Common.{◌≡◌, ◌-◌, ◌+◌, true, false, Option, IfSome, length, refl, sym, ap, subst, ◌∙◌, arith}
+use Rattle.std.proofs.Common.{◌≡◌, ◌-◌, ◌+◌, true, false, List, [], ◌∷◌, ◌++◌, Option, IfSome, length, refl, sym, ap, subst, ◌∙◌, arith}
 use Rattle.std.proofs.lemmas.Result.{err_from_is_err_and}
 use Rattle.cbor_profile.specs.declared.item.Item.{Unsigned}
 use Rattle.cbor_profile.specs.declared.gathering.Place.{Place}
+use Rattle.cbor_profile.specs.Tree.{Tree}
 use Rattle.cbor_profile.specs.View.{tree_of, trees, tree_pairs, item_read}
 use Rattle.cbor_profile.specs.Gathering.{gathered, AllBefore}
 use Rattle.cbor_profile.specs.Reading.{item_at, has_key}
@@ -54,7 +55,7 @@ read_items-returns-in_err-item-clause-value t c =
 
 pub read_items-loop-preserved : goal.read_items-loop-preserved
 read_items-loop-preserved t c =
-    rw c.in_ok-push.ensures.ok (
+    rw (c.push_within.ensures, c.in_ok-items-2.ensures.same) (
     record {
       read =
           items_go (item_at c.args.levels c.args.end) (c.args.count - c.loop.counter) (c.args.count - (c.loop.counter + 1)) (trees c.loop.items) (tree_of c.in_ok-item.item) c.loop.rest.now c.in_ok-item.after.now _
@@ -114,53 +115,58 @@ read_pairs-returns-in_err-value-in-Some-clause-value t c =
     c.in-Some.after_key.now (tree_of (Unsigned c.in-Some.first.now)) (omega (arith, c.loop-done-test.true)) (small_read c.args.levels c.args.end c.loop-done.rest.now c.in-Some.after_key.now c.in-Some.first.now c.in-Some.ensures.cases.0 c.if-first-lt24.true) (subst (AllBefore (tree_of (Unsigned c.in-Some.first.now))) c.items.ensures (c.comes_last.ensures c.if-comes_last.true)) c.in_err-value-in-Some.ensures.value
     )
 
-pub read_pairs-loop-done-preserved-in-Some : goal.read_pairs-loop-done-preserved-in-Some
-read_pairs-loop-done-preserved-in-Some t c =
-    let before = subst (AllBefore (tree_of (Unsigned c.in-Some.first.now))) c.items.ensures (c.comes_last.ensures c.if-comes_last.true) in
-    let good = small_read c.args.levels c.args.end c.loop-done.rest.now c.in-Some.after_key.now c.in-Some.first.now c.in-Some.ensures.cases.0 c.if-first-lt24.true in
-    record {
-      read =
-          next_pair (item_at c.args.levels c.args.end) c.args.end (c.args.count - c.loop-done.done) (tree_pairs c.loop-done.pairs) c.loop-done.rest.now _ c.loop-done.invariant.read (c.args.count - (c.loop-done.done + 1))
-          (tree_pairs c.push.new.self) c.in-Some.after_key.now c.in_ok-value-in-Some.after.now (tree_of (Unsigned c.in-Some.first.now)) (tree_of c.in_ok-value-in-Some.value) (omega (arith, c.loop-done-test.true)) good before
-          c.in_ok-value-in-Some.ensures.value c.in_ok-push-in-Some.ensures.ok;
-      rise = next_rises (tree_pairs c.loop-done.pairs) (tree_pairs c.push.new.self) (tree_of (Unsigned c.in-Some.first.now)) (tree_of c.in_ok-value-in-Some.value) before c.in_ok-push-in-Some.ensures.ok c.loop-done.invariant.rise;
-      sound = next_sound (tree_pairs c.loop-done.pairs) (tree_pairs c.push.new.self) (tree_of (Unsigned c.in-Some.first.now)) (tree_of c.in_ok-value-in-Some.value) before c.in_ok-push-in-Some.ensures.ok c.loop-done.invariant.sound (number_sound c.in-Some.first.now (omega (arith, c.if-first-lt24.true)));
-      shorter = omega (arith, c.in_ok-value-in-Some.ensures.shorter, ap length c.in-Some.ensures.cases.0, c.loop-done.invariant.shorter);
-    }
-
-pub read_pairs-returns-in_err-key-clause-value : goal.read_pairs-returns-in_err-key-clause-value
-read_pairs-returns-in_err-key-clause-value t c =
-    let p = err_from_is_err_and c.from_residual-in_err-key.result c.from_residual-in_err-key.ensures.1 in
-    rw (p.1, p.2) (next_key_fails (item_at c.args.levels c.args.end) c.args.end (c.args.count - c.loop-done.done) (tree_pairs c.loop-done.pairs) c.loop-done.rest.now _ c.loop-done.invariant.read c.in_err-key.field-0.0 (omega (arith, c.loop-done-test.true)) c.in_err-key.ensures.value)
-
-pub read_pairs-returns-in_err-value-in-Less-clause-value : goal.read_pairs-returns-in_err-value-in-Less-clause-value
-read_pairs-returns-in_err-value-in-Less-clause-value t c =
-    let p = err_from_is_err_and c.from_residual-in_err-value-in-Less.result c.from_residual-in_err-value-in-Less.ensures.1 in
-    rw (p.1, p.2) (
-    next_value_fails (item_at c.args.levels c.args.end) c.args.end (c.args.count - c.loop-done.done) (tree_pairs c.loop-done.pairs) c.loop-done.rest.now _ c.loop-done.invariant.read c.in_err-value-in-Less.field-0.0
-    c.in_ok-key.after_key.now (tree_of c.in_ok-key.key) (omega (arith, c.loop-done-test.true)) c.in_ok-key.ensures.value (subst (AllBefore (tree_of c.in_ok-key.key)) c.items-in-loop-done.ensures (c.in-Less.ensures.less refl)) c.in_err-value-in-Less.ensures.value
-    )
-
-pub read_pairs-returns-in-Equal-clause-value : goal.read_pairs-returns-in-Equal-clause-value
-read_pairs-returns-in-Equal-clause-value t c =
-    next_again (item_at c.args.levels c.args.end) c.args.end (c.args.count - c.loop-done.done) (tree_pairs c.loop-done.pairs) c.loop-done.rest.now _ c.loop-done.invariant.read c.in_ok-key.after_key.now
-    (tree_of c.in_ok-key.key) (omega (arith, c.loop-done-test.true)) c.in_ok-key.ensures.value (subst (λ l. has_key (tree_of c.in_ok-key.key) l ≡ true) c.items-in-loop-done.ensures (c.in-Equal.ensures.equal refl))
-
 pub read_pairs-loop-done-preserved : goal.read_pairs-loop-done-preserved
 read_pairs-loop-done-preserved t c =
-    let before = subst (AllBefore (tree_of c.in_ok-key.key)) c.items-in-loop-done.ensures (c.in-Less.ensures.less refl) in
+    let before = subst (AllBefore (tree_of (Unsigned c.in-Some.first.now))) c.items.ensures (c.comes_last.ensures c.if-comes_last.true) in
+    let good = small_read c.args.levels c.args.end c.loop-done.rest.now c.in-Some.after_key.now c.in-Some.first.now c.in-Some.ensures.cases.0 c.if-first-lt24.true in
+    let is = c.push_within.ensures ∙ ap (λ (l : List (Tree × Tree)). l ++ (tree_of (Unsigned c.in-Some.first.now), tree_of c.in_ok-value-in-Some.value) ∷ []) c.in_ok-pairs-in-Some.ensures.same in
     record {
       read =
           next_pair (item_at c.args.levels c.args.end) c.args.end (c.args.count - c.loop-done.done) (tree_pairs c.loop-done.pairs) c.loop-done.rest.now _ c.loop-done.invariant.read (c.args.count - (c.loop-done.done + 1))
-          (tree_pairs c.push-in-Less.new.self) c.in_ok-key.after_key.now c.in_ok-value-in-Less.after.now (tree_of c.in_ok-key.key) (tree_of c.in_ok-value-in-Less.value) (omega (arith, c.loop-done-test.true)) c.in_ok-key.ensures.value before
-          c.in_ok-value-in-Less.ensures.value c.in_ok-push-in-Less.ensures.ok;
-      rise = next_rises (tree_pairs c.loop-done.pairs) (tree_pairs c.push-in-Less.new.self) (tree_of c.in_ok-key.key) (tree_of c.in_ok-value-in-Less.value) before c.in_ok-push-in-Less.ensures.ok c.loop-done.invariant.rise;
-      sound = next_sound (tree_pairs c.loop-done.pairs) (tree_pairs c.push-in-Less.new.self) (tree_of c.in_ok-key.key) (tree_of c.in_ok-value-in-Less.value) before c.in_ok-push-in-Less.ensures.ok c.loop-done.invariant.sound c.in_ok-key.ensures.sound;
-      shorter = omega (arith, c.in_ok-value-in-Less.ensures.shorter, c.in_ok-key.ensures.shorter, c.loop-done.invariant.shorter);
+          (tree_pairs c.push_within.new.self) c.in-Some.after_key.now c.in_ok-value-in-Some.after.now (tree_of (Unsigned c.in-Some.first.now)) (tree_of c.in_ok-value-in-Some.value) (omega (arith, c.loop-done-test.true)) good before
+          c.in_ok-value-in-Some.ensures.value is;
+      rise = next_rises (tree_pairs c.loop-done.pairs) (tree_pairs c.push_within.new.self) (tree_of (Unsigned c.in-Some.first.now)) (tree_of c.in_ok-value-in-Some.value) before is c.loop-done.invariant.rise;
+      sound = next_sound (tree_pairs c.loop-done.pairs) (tree_pairs c.push_within.new.self) (tree_of (Unsigned c.in-Some.first.now)) (tree_of c.in_ok-value-in-Some.value) before is c.loop-done.invariant.sound (number_sound c.in-Some.first.now (omega (arith, c.if-first-lt24.true)));
+      shorter = omega (arith, c.in_ok-value-in-Some.ensures.shorter, ap length c.in-Some.ensures.cases.0, c.loop-done.invariant.shorter);
     }
 
 pub read_pairs-returns-clause-value : goal.read_pairs-returns-clause-value
 read_pairs-returns-clause-value t c =
+    pairs_done (item_at c.args.levels c.args.end) c.args.end (c.args.count - c.loop-done.done) (tree_pairs c.loop-done.pairs) c.loop-done.rest.now _ (omega (arith, c.loop-done-test.false)) c.loop-done.invariant.read
+
+pub read_other_pairs-returns-in_err-key-clause-value : goal.read_other_pairs-returns-in_err-key-clause-value
+read_other_pairs-returns-in_err-key-clause-value t c =
+    let p = err_from_is_err_and c.from_residual.result c.from_residual.ensures.1 in
+    rw (p.1, p.2) (next_key_fails (item_at c.args.levels c.args.end) c.args.end (c.args.count - c.loop-done.done) (tree_pairs c.loop-done.pairs) c.loop-done.rest.now _ c.loop-done.invariant.read c.in_err-key.field-0.0 (omega (arith, c.loop-done-test.true)) c.in_err-key.ensures.value)
+
+pub read_other_pairs-returns-in_err-value-in-Less-clause-value : goal.read_other_pairs-returns-in_err-value-in-Less-clause-value
+read_other_pairs-returns-in_err-value-in-Less-clause-value t c =
+    let p = err_from_is_err_and c.from_residual-in_err-value-in-Less.result c.from_residual-in_err-value-in-Less.ensures.1 in
+    rw (p.1, p.2) (
+    next_value_fails (item_at c.args.levels c.args.end) c.args.end (c.args.count - c.loop-done.done) (tree_pairs c.loop-done.pairs) c.loop-done.rest.now _ c.loop-done.invariant.read c.in_err-value-in-Less.field-0.0
+    c.in_ok-key.after_key.now (tree_of c.in_ok-key.key) (omega (arith, c.loop-done-test.true)) c.in_ok-key.ensures.value (subst (AllBefore (tree_of c.in_ok-key.key)) c.items.ensures (c.in-Less.ensures.less refl)) c.in_err-value-in-Less.ensures.value
+    )
+
+pub read_other_pairs-returns-in-Equal-clause-value : goal.read_other_pairs-returns-in-Equal-clause-value
+read_other_pairs-returns-in-Equal-clause-value t c =
+    next_again (item_at c.args.levels c.args.end) c.args.end (c.args.count - c.loop-done.done) (tree_pairs c.loop-done.pairs) c.loop-done.rest.now _ c.loop-done.invariant.read c.in_ok-key.after_key.now
+    (tree_of c.in_ok-key.key) (omega (arith, c.loop-done-test.true)) c.in_ok-key.ensures.value (subst (λ l. has_key (tree_of c.in_ok-key.key) l ≡ true) c.items.ensures (c.in-Equal.ensures.equal refl))
+
+pub read_other_pairs-loop-done-preserved : goal.read_other_pairs-loop-done-preserved
+read_other_pairs-loop-done-preserved t c =
+    let before = subst (AllBefore (tree_of c.in_ok-key.key)) c.items.ensures (c.in-Less.ensures.less refl) in
+    record {
+      read =
+          next_pair (item_at c.args.levels c.args.end) c.args.end (c.args.count - c.loop-done.done) (tree_pairs c.loop-done.pairs) c.loop-done.rest.now _ c.loop-done.invariant.read (c.args.count - (c.loop-done.done + 1))
+          (tree_pairs c.push.new.self) c.in_ok-key.after_key.now c.in_ok-value-in-Less.after.now (tree_of c.in_ok-key.key) (tree_of c.in_ok-value-in-Less.value) (omega (arith, c.loop-done-test.true)) c.in_ok-key.ensures.value before
+          c.in_ok-value-in-Less.ensures.value c.in_ok-push-in-Less.ensures.ok;
+      rise = next_rises (tree_pairs c.loop-done.pairs) (tree_pairs c.push.new.self) (tree_of c.in_ok-key.key) (tree_of c.in_ok-value-in-Less.value) before c.in_ok-push-in-Less.ensures.ok c.loop-done.invariant.rise;
+      sound = next_sound (tree_pairs c.loop-done.pairs) (tree_pairs c.push.new.self) (tree_of c.in_ok-key.key) (tree_of c.in_ok-value-in-Less.value) before c.in_ok-push-in-Less.ensures.ok c.loop-done.invariant.sound c.in_ok-key.ensures.sound;
+      shorter = omega (arith, c.in_ok-value-in-Less.ensures.shorter, c.in_ok-key.ensures.shorter, c.loop-done.invariant.shorter);
+    }
+
+pub read_other_pairs-returns-clause-value : goal.read_other_pairs-returns-clause-value
+read_other_pairs-returns-clause-value t c =
     pairs_done (item_at c.args.levels c.args.end) c.args.end (c.args.count - c.loop-done.done) (tree_pairs c.loop-done.pairs) c.loop-done.rest.now _ (omega (arith, c.loop-done-test.false)) c.loop-done.invariant.read
 
 pub read_late_pairs-returns-in_err-after-clause-value : goal.read_late_pairs-returns-in_err-after-clause-value

@@ -10,49 +10,52 @@ use Rattle.cbor_profile.proofs.reading.+reader.Given as goal
 
 -- A part nests one level less, and on one level the calls go down this list.
 abbrev pub decreases-read_array : goal.decreases-read_array
-decreases-read_array l = 8 * l.levels + 7
+decreases-read_array l = 16 * l.levels + 9
 
 abbrev pub decreases-read_open_array : goal.decreases-read_open_array
-decreases-read_open_array l = 8 * l.levels + 7
+decreases-read_open_array l = 16 * l.levels + 9
 
 abbrev pub decreases-read_map : goal.decreases-read_map
-decreases-read_map l = 8 * l.levels + 7
+decreases-read_map l = 16 * l.levels + 9
 
 abbrev pub decreases-read_open_map : goal.decreases-read_open_map
-decreases-read_open_map l = 8 * l.levels + 7
+decreases-read_open_map l = 16 * l.levels + 9
 
 abbrev pub decreases-read_tag : goal.decreases-read_tag
-decreases-read_tag l = 8 * l.levels + 7
+decreases-read_tag l = 16 * l.levels + 9
 
 abbrev pub decreases-read_items : goal.decreases-read_items
-decreases-read_items l = 8 * l.levels + 6
+decreases-read_items l = 16 * l.levels + 8
 
 abbrev pub decreases-read_open_items : goal.decreases-read_open_items
-decreases-read_open_items l = 8 * l.levels + 6
+decreases-read_open_items l = 16 * l.levels + 8
 
 abbrev pub decreases-read_pairs : goal.decreases-read_pairs
-decreases-read_pairs l = 8 * l.levels + 6
+decreases-read_pairs l = 16 * l.levels + 8
+
+abbrev pub decreases-read_other_pairs : goal.decreases-read_other_pairs
+decreases-read_other_pairs l = 16 * l.levels + 7
 
 abbrev pub decreases-read_late_pairs : goal.decreases-read_late_pairs
-decreases-read_late_pairs l = 8 * l.levels + 5
+decreases-read_late_pairs l = 16 * l.levels + 6
 
 abbrev pub decreases-read_open_pairs : goal.decreases-read_open_pairs
-decreases-read_open_pairs l = 8 * l.levels + 6
+decreases-read_open_pairs l = 16 * l.levels + 8
 
 abbrev pub decreases-read_pair : goal.decreases-read_pair
-decreases-read_pair l = 8 * l.levels + 4
+decreases-read_pair l = 16 * l.levels + 5
 
 abbrev pub decreases-read_item : goal.decreases-read_item
-decreases-read_item l = 8 * l.levels + 3
+decreases-read_item l = 16 * l.levels + 3
 
 abbrev pub decreases-read_long_item : goal.decreases-read_long_item
-decreases-read_long_item l = 8 * l.levels + 2
+decreases-read_long_item l = 16 * l.levels + 2
 
 abbrev pub decreases-read_value : goal.decreases-read_value
-decreases-read_value l = 8 * l.levels + 1
+decreases-read_value l = 16 * l.levels + 1
 
 abbrev pub decreases-read_indefinite : goal.decreases-read_indefinite
-decreases-read_indefinite l = 8 * l.levels + 1
+decreases-read_indefinite l = 16 * l.levels + 1
 
 -- the parts so far and those to come are all of them
 abbrev pub invariant-read_items-loop : goal.invariant-read_items-loop
@@ -70,6 +73,14 @@ invariant-read_open_items-loop l = record {
 abbrev pub invariant-read_pairs-loop-done : goal.invariant-read_pairs-loop-done
 invariant-read_pairs-loop-done l = record {
   read : pairs_at (item_at l.levels l.fn.end) l.fn.end (l.count - l.done) (tree_pairs l.pairs) l.rest ≡ pairs_at (item_at l.levels l.fn.end) l.fn.end l.count [] l.bytes;
+  rise : KeysRise (pairs_of (tree_pairs l.pairs));
+  sound : AllByRecursion (λ p. IsSound p.0) (tree_pairs l.pairs);
+  shorter : length l.rest ≤ length l.bytes;
+}
+
+abbrev pub invariant-read_other_pairs-loop-done : goal.invariant-read_other_pairs-loop-done
+invariant-read_other_pairs-loop-done l = record {
+  read : pairs_at (item_at l.levels l.fn.end) l.fn.end (l.count - l.done) (tree_pairs l.pairs) l.rest ≡ pairs_at (item_at l.levels l.fn.end) l.fn.end l.count (tree_pairs l.fn.pairs) l.bytes;
   rise : KeysRise (pairs_of (tree_pairs l.pairs));
   sound : AllByRecursion (λ p. IsSound p.0) (tree_pairs l.pairs);
   shorter : length l.rest ≤ length l.bytes;
