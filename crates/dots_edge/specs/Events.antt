@@ -1,5 +1,7 @@
 -- What a part of the host hands in.
-use Rattle.std.specs.Prelude.{ℕ, ◌≤◌, ⊤}
+use Rattle.std.specs.Prelude.{◌≡◌, ℕ, ◌≤◌, false, Some, unwrap_or, ⊤}
+use Rattle.std.specs.declared.time.Duration.{Duration}
+use Rattle.dots_edge.specs.declared.connection.Connection.{Connection}
 use Rattle.dots_edge.specs.declared.connection.Piece.{Piece}
 use Rattle.dots_edge.specs.declared.connection.Piece.TheVariants as piece
 use Rattle.dots_edge.specs.declared.sockets.Received.{Received}
@@ -13,3 +15,14 @@ IsPiece _ room = ⊤
 abbrev pub IsReceived : Received → ℕ → Type 0
 IsReceived (received.Datagram len from) room = len ≤ room
 IsReceived _ room = ⊤
+
+-- the times of the connection are as before
+abbrev pub KeepsTimes : Connection → Connection → Type 0
+KeepsTimes old new = (new.moved ≡ old.moved) × (new.asked ≡ old.asked)
+
+-- What a read leaves. Bytes came now, and wait for an answer since the first that had none. Or nothing is there until a wait tells of it.
+abbrev pub AfterRead : Piece → Duration → Connection → Connection → Type 0
+AfterRead (piece.Bytes count) now old new = (new.moved ≡ now) × (new.asked ≡ Some (unwrap_or old.asked now)) × (new.ready ≡ old.ready)
+AfterRead piece.Nothing now old new = KeepsTimes old new × (new.ready ≡ false)
+AfterRead piece.Again now old new = KeepsTimes old new × (new.ready ≡ old.ready)
+AfterRead piece.Ended now old new = ⊤

@@ -1,8 +1,9 @@
 //! Addresses as sockets have them.
 
 ghost use Rattle.std.specs.Prelude.{◌≡◌};
-ghost use Rattle.std.specs.Net.Socket.{socket_port};
-ghost use Rattle.dots_edge.specs.Address.{key_of_ip};
+ghost use Rattle.std.specs.Net.Addr.{IsIpv6OfBits, IsV6And};
+ghost use Rattle.std.specs.Net.Socket.{socket_ip, socket_port};
+ghost use Rattle.dots_edge.specs.Address.{key_of_ip, IsIpOf};
 
 use crate::host_line::{Endpoint, MAPPED};
 use ip_scope::Family;
@@ -20,7 +21,8 @@ pub fn key_of_ip(ip: IpAddr) -> u128
 
 /// Where a socket binds or sends.
 pub fn socket_address(at: Endpoint) -> SocketAddr
-    ensures { socket_port result ≡ at.port }
+    ensures port { socket_port result ≡ at.port }
+    ensures ip { IsIpOf (socket_ip result) at.address }
 {
     let ip = match at.address.family {
         Family::V4 => IpAddr::V4(Ipv4Addr::from_bits(at.address.number as u32)),
@@ -31,7 +33,8 @@ pub fn socket_address(at: Endpoint) -> SocketAddr
 
 /// The same address for a socket of IPv6, which sends to IPv4 by mapped addresses.
 pub fn mapped(to: SocketAddr) -> SocketAddr
-    ensures { socket_port result ≡ socket_port to }
+    ensures port { socket_port result ≡ socket_port to }
+    ensures ip { IsV6And (socket_ip result) (λ ip. IsIpv6OfBits ip (key_of_ip (socket_ip to))) }
 {
     SocketAddr::new(
         IpAddr::V6(Ipv6Addr::from_bits(key_of_ip(to.ip()))),

@@ -1,5 +1,6 @@
-ghost use Rattle.std.specs.Prelude.{◌≤◌, length};
-ghost use Rattle.dots_edge.specs.Events.{IsPiece};
+ghost use Rattle.std.specs.Prelude.{◌≡◌, ◌≤◌, length, true, false, None, Some, unwrap_or};
+ghost use Rattle.dots_edge.specs.Events.{IsPiece, AfterRead};
+ghost use Rattle.dots_edge.specs.Passing.{is_stale};
 
 use crate::passing::have_passed;
 use dots_host::Sent;
@@ -47,7 +48,9 @@ pub struct Connection {
 
 impl Connection {
     /// A connection that was accepted now.
-    pub fn new(stream: TcpStream, now: Duration) -> Connection {
+    pub fn new(stream: TcpStream, now: Duration) -> Connection
+        ensures { result ≡ record { stream = stream; ready = true; moved = now; asked = None; broken = false } }
+    {
         Connection {
             stream,
             ready: true,
@@ -59,7 +62,10 @@ impl Connection {
 
     /// Reads what has come.
     pub fn read(&mut self, into: &mut [u8], now: Duration) -> Piece
-        ensures { IsPiece result (length into.old) }
+        ensures piece { IsPiece result (length into.old) }
+        ensures broken { self.old.broken ≡ true → result ≡ Piece.Ended }
+        ensures kept { self.new.broken ≡ self.old.broken }
+        ensures after { AfterRead result now self.old self.new }
     {
         if self.broken {
             return Piece::Ended;
@@ -81,7 +87,9 @@ impl Connection {
         }
     }
 
-    fn hear(&mut self, now: Duration) {
+    fn hear(&mut self, now: Duration)
+        ensures { self.new ≡ record self.old { moved = now; asked = Some (unwrap_or self.old.asked now) } }
+    {
         self.moved = now;
         if self.asked.is_none() {
             self.asked = Some(now);
@@ -89,7 +97,11 @@ impl Connection {
     }
 
     /// Sends all of the bytes, or loses them. After a loss the connection is of no use.
-    pub fn send(&mut self, bytes: &[u8], now: Duration) -> Sent {
+    pub fn send(&mut self, bytes: &[u8], now: Duration) -> Sent
+        ensures done { result ≡ Sent.Done → (self.old.broken ≡ false) × (self.new.broken ≡ false)
+            × (self.new.moved ≡ now) × (self.new.asked ≡ None) × (self.new.ready ≡ self.old.ready) }
+        ensures lost { result ≡ Sent.Lost → (self.new.broken ≡ true) × (self.new.ready ≡ true) }
+    {
         if self.broken || self.stream.write_all(bytes).is_err() {
             self.broken = true;
             self.ready = true;
@@ -101,7 +113,9 @@ impl Connection {
     }
 
     /// Whether it was idle or left its sender without an answer for too long.
-    pub fn is_stale(&self, now: Duration) -> bool {
+    pub fn is_stale(&self, now: Duration) -> bool
+        ensures { result ≡ is_stale self.now.moved self.now.asked now }
+    {
         if have_passed(IDLE_SECONDS, self.moved, now) {
             return true;
         }

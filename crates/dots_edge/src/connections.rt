@@ -1,4 +1,4 @@
-ghost use Rattle.std.specs.Prelude.{◌≡◌, ◌==◌, ◌<◌, length, IfSome};
+ghost use Rattle.std.specs.Prelude.{◌≡◌, ◌==◌, ◌<◌, ◌+◌, ◌-◌, ◌%◌, length, IfSome};
 ghost use Rattle.dots_host.specs.Acts.{IsWithin, OnFailed};
 ghost use Rattle.dots_host.specs.declared.TheConstants.{MAX_EVENT_BYTES};
 ghost use Rattle.dots_edge.specs.Events.{IsPiece};
@@ -50,7 +50,9 @@ impl Connections {
     }
 
     /// Puts a connection to its place.
-    pub fn open(&mut self, place: usize, stream: TcpStream, now: Duration) {
+    pub fn open(&mut self, place: usize, stream: TcpStream, now: Duration)
+        ensures { self.new.looks ≡ 128 }
+    {
         if let Some(free) = self.places.get_mut(place) {
             *free = Some(Connection::new(stream, now));
         }
@@ -72,7 +74,9 @@ impl Connections {
     }
 
     /// Something may have come at a place.
-    pub fn mark(&mut self, place: usize) {
+    pub fn mark(&mut self, place: usize)
+        ensures { self.new.looks ≡ 128 }
+    {
         if let Some(Some(connection)) = self.places.get_mut(place) {
             connection.ready = true;
         }
@@ -99,7 +103,9 @@ impl Connections {
 
     /// The place whose turn it is, which then is looked at.
     fn pass(&mut self) -> usize
-        ensures { result < 128 }
+        ensures place { result < 128 }
+        ensures turn { result ≡ self.old.turn % 128 }
+        ensures passed { self.new ≡ record self.old { turn = result + 1; looks = self.old.looks - 1 } }
     {
         let place = self.turn % MAX_CONNECTIONS;
         self.turn = place + 1;
@@ -142,12 +148,16 @@ impl Connections {
     }
 
     /// From now on stale connections are looked for.
-    pub fn sweep(&mut self) {
+    pub fn sweep(&mut self)
+        ensures { self.new ≡ record self.old { swept = 0 } }
+    {
         self.swept = 0;
     }
 
     /// Closes the next stale connection, and answers its number.
-    pub fn next_stale(&mut self, now: Duration) -> Option<u32> {
+    pub fn next_stale(&mut self, now: Duration) -> Option<u32>
+        ensures { IfSome result (λ conn. conn < 128) }
+    {
         for _ in 0..MAX_CONNECTIONS {
             if self.swept >= MAX_CONNECTIONS {
                 return None;

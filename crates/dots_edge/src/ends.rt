@@ -1,9 +1,9 @@
 //! What comes to the sockets, in turn.
 
-ghost use Rattle.std.specs.Prelude.{◌≡◌, length, true, IfOk, IfSome};
+ghost use Rattle.std.specs.Prelude.{◌≡◌, length, true, false, IfOk, IfSome};
 ghost use Rattle.dots_host.specs.Acts.{IsWithin, OnFailed};
 ghost use Rattle.dots_host.specs.declared.TheConstants.{MAX_EVENT_BYTES};
-ghost use Rattle.dots_edge.specs.Drained.{IsDrained};
+ghost use Rattle.dots_edge.specs.Drained.{IsDrained, tried_again};
 
 use crate::connections::Connections;
 use crate::host_line::HostLine;
@@ -162,7 +162,11 @@ impl Ends {
     }
 
     /// From now on stale connections are looked for, and accepting is tried again.
-    fn tick(&mut self) {
+    fn tick(&mut self)
+        ensures kept { self.new ≡ record self.old { connections = self.new.connections; waiting = self.new.waiting } }
+        ensures swept { self.new.connections ≡ record self.old.connections { swept = 0 } }
+        ensures accepting { self.new.waiting ≡ tried_again self.old.waiting }
+    {
         self.connections.sweep();
         if let Accepting::Stuck = self.waiting.connections {
             self.waiting.connections = Accepting::Yes;
@@ -171,13 +175,17 @@ impl Ends {
 
     /// Whether every source was found empty.
     fn is_drained(&self) -> bool
-        ensures { result ≡ true → IsDrained self.now }
+        ensures drained { result ≡ true → IsDrained self.now }
+        ensures accepting { result ≡ false → self.now.waiting.datagrams ≡ false → self.now.connections.looks ≡ 0 →
+            self.now.waiting.connections ≡ Accepting.Yes }
     {
         !self.waiting.datagrams && !self.may_accept() && self.connections.is_drained()
     }
 
     /// Whether a connection may wait, and a place is free for it.
-    fn may_accept(&self) -> bool {
+    fn may_accept(&self) -> bool
+        ensures { result ≡ true → self.now.waiting.connections ≡ Accepting.Yes }
+    {
         match self.waiting.connections {
             Accepting::Yes => self.connections.free_place().is_some(),
             _ => false,

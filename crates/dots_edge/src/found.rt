@@ -1,8 +1,8 @@
 //! The lines of which a host file has one.
 
-ghost use Rattle.std.specs.Prelude.{◌≡◌, map, is_some};
+ghost use Rattle.std.specs.Prelude.{◌≡◌, map, Some, is_some, IfSome};
 ghost use Rattle.dots_edge.specs.HostLine.{line_value};
-ghost use Rattle.dots_edge.specs.Found.{events_in, has_journal};
+ghost use Rattle.dots_edge.specs.Found.{events_in, has_journal, journal_in, signal_in, http_in};
 
 use crate::host_line::{Endpoint, HostLine};
 
@@ -20,7 +20,8 @@ pub fn events_in(lines: &[HostLine<'_>]) -> Option<u64>
 
 /// The path of the journal, where a line has one.
 pub fn journal_in<'a>(lines: &[HostLine<'a>]) -> Option<&'a str>
-    ensures { is_some result ≡ has_journal (map line_value lines.now) }
+    ensures is_some { is_some result ≡ has_journal (map line_value lines.now) }
+    ensures path { IfSome result (λ path. journal_in (map line_value lines.now) ≡ Some path.now) }
 {
     for line in lines {
         if let HostLine::Journal { path } = line {
@@ -31,7 +32,9 @@ pub fn journal_in<'a>(lines: &[HostLine<'a>]) -> Option<&'a str>
 }
 
 /// Where datagrams come.
-pub fn signal_in(lines: &[HostLine<'_>]) -> Option<Endpoint> {
+pub fn signal_in(lines: &[HostLine<'_>]) -> Option<Endpoint>
+    ensures { result ≡ signal_in (map line_value lines.now) }
+{
     for line in lines {
         if let HostLine::Signal { at } = line {
             return Some(*at);
@@ -41,7 +44,9 @@ pub fn signal_in(lines: &[HostLine<'_>]) -> Option<Endpoint> {
 }
 
 /// Where connections come.
-pub fn http_in(lines: &[HostLine<'_>]) -> Option<Endpoint> {
+pub fn http_in(lines: &[HostLine<'_>]) -> Option<Endpoint>
+    ensures { result ≡ http_in (map line_value lines.now) }
+{
     for line in lines {
         if let HostLine::Http { at } = line {
             return Some(*at);
