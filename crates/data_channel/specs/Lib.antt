@@ -5,3 +5,4 @@ pub mod Bodies
 pub mod Rest
 pub mod Views
 pub mod Replies
+pub mod RejectText

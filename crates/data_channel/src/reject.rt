@@ -70,6 +70,11 @@ pub fn reject_of(fault: ListFault) -> RestReject
 }
 
 impl fmt::Display for RestReject {
+    ghost use Rattle.std.specs.Prelude.{Some};
+    ghost use Rattle.data_channel.specs.RejectText.{reject_text};
+
+    ghost output = { λ reject. Some (reject_text reject) };
+
     fn fmt<W: fmt::Write>(&self, f: &mut fmt::Formatter<W>) -> fmt::Result {
         match self {
             RestReject::NotFound => f.write_str("no such resource"),

@@ -12,6 +12,11 @@ pub enum JsonFault {
 }
 
 impl fmt::Display for JsonFault {
+    ghost use Rattle.std.specs.Prelude.{Some};
+    ghost use Rattle.json_room.specs.FaultText.{fault_text};
+
+    ghost output = { λ fault. Some (fault_text fault) };
+
     fn fmt<W: fmt::Write>(&self, f: &mut fmt::Formatter<W>) -> fmt::Result {
         match self {
             JsonFault::NotJson => f.write_str("no JSON"),

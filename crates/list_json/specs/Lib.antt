@@ -8,3 +8,4 @@ pub mod Putting
 pub mod Lists
 pub mod ListPrinting
 pub mod Prefixed
+pub mod FaultText
