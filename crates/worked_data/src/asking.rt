@@ -1,9 +1,8 @@
 //! What a message asks, as text.
 
-use data_channel::{RestRequest, location_of, read_rest};
+use data_channel::{RestRequest, location_of, read_rest_once};
 use dots_lists::NoMemory;
 use http_cut::HttpRequest;
-use json_room::JsonRoom;
 use list_json::{acl_value, alias_value};
 use std::alloc::Global;
 use std::str;
@@ -56,8 +55,7 @@ fn told(alloc: Global, request: &RestRequest) -> Result<String, Fail> {
 
 /// What a message asks, or what it is refused with.
 fn answer(alloc: Global, request: &HttpRequest) -> Result<String, Fail> {
-    let mut room = JsonRoom::new(alloc);
-    match read_rest(alloc, &mut room, request) {
+    match read_rest_once(alloc, request) {
         Ok(asked) => told(alloc, &asked),
         Err(reject) => Ok(format!(in alloc; "{reject:?}")?),
     }
