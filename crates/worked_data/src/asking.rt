@@ -1,6 +1,7 @@
 //! What a message asks, as text.
 
-use data_channel::{RestRequest, location_of, read_rest_once};
+use acl_lists::{Acl, Alias};
+use data_channel::{RestReject, RestRequest, location_of, read_rest_once};
 use dots_lists::NoMemory;
 use http_cut::HttpRequest;
 use list_json::{acl_value, alias_value};
@@ -8,8 +9,8 @@ use std::alloc::Global;
 use std::str;
 use std::test::Fail;
 
-/// The path of a client.
-pub const CLIENT: &str = "/dots-client=dz6pHjaADkaFTbjr0JGBpw";
+/// The path of the root.
+const ROOT: &str = "/restconf/data/ietf-dots-data-channel:dots-data";
 
 const JSON: &str = "application/yang-data+json";
 
@@ -32,44 +33,67 @@ fn kind_of(request: &RestRequest) -> &'static str {
     }
 }
 
+fn text_of_alias(alloc: Global, alias: &Alias) -> Result<String, NoMemory> {
+    let value = alias_value(alloc, alias)?;
+    Ok(value.to_string(alloc)?)
+}
+
+fn text_of_acl(alloc: Global, acl: &Acl) -> Result<String, NoMemory> {
+    let value = acl_value(alloc, acl)?;
+    Ok(value.to_string(alloc)?)
+}
+
 /// The alias or the access list of a request as JSON, or nothing.
 fn printed(alloc: Global, request: &RestRequest) -> Result<String, NoMemory> {
     match request {
-        RestRequest::PutAlias { alias, .. } => Ok(alias_value(alloc, alias)?.to_string(alloc)?),
-        RestRequest::PostAlias { alias, .. } => Ok(alias_value(alloc, alias)?.to_string(alloc)?),
-        RestRequest::PutAcl { acl, .. } => Ok(acl_value(alloc, acl)?.to_string(alloc)?),
-        RestRequest::PostAcl { acl, .. } => Ok(acl_value(alloc, acl)?.to_string(alloc)?),
+        RestRequest::PutAlias { alias, .. } => text_of_alias(alloc, alias),
+        RestRequest::PostAlias { alias, .. } => text_of_alias(alloc, alias),
+        RestRequest::PutAcl { acl, .. } => text_of_acl(alloc, acl),
+        RestRequest::PostAcl { acl, .. } => text_of_acl(alloc, acl),
         _ => Ok(String::new(alloc)),
     }
 }
 
-/// What a request asks, where, and with which alias or access list.
+/// What a request asks, where below the root, and behind a bar with which alias or access list.
 fn told(alloc: Global, request: &RestRequest) -> Result<String, Fail> {
-    let kind = kind_of(request);
     let path = location_of(alloc, request)?;
-    let place = str::from_utf8(path.items())?;
+    let place = str::from_utf8(path.items())?
+        .strip_prefix(ROOT)
+        .unwrap_or("");
     let body = printed(alloc, request)?;
-    let text = format!(in alloc; "{kind} {place} {body}")?;
-    Ok(text)
+    let kind = kind_of(request);
+    Ok(format!(in alloc; "{kind} {place}|{body}")?)
 }
 
-/// What a message asks, or what it is refused with.
-fn answer(alloc: Global, request: &HttpRequest) -> Result<String, Fail> {
-    match read_rest_once(alloc, request) {
-        Ok(asked) => told(alloc, &asked),
-        Err(reject) => Ok(format!(in alloc; "{reject:?}")?),
+/// What a message is refused with, and the methods of a resource that has others.
+fn refused(alloc: Global, reject: RestReject) -> Result<String, Fail> {
+    match reject {
+        RestReject::Method { allow } => {
+            let methods = allow.text();
+            Ok(format!(in alloc; "Method {methods}")?)
+        }
+        other => Ok(format!(in alloc; "{other:?}")?),
     }
 }
 
-/// What a message of this method asks below the root, with this media type and body.
-pub fn asked_as(
-    alloc: Global,
-    method: &str,
-    below: &str,
-    media: Option<&[u8]>,
-    body: &str,
-) -> Result<String, Fail> {
-    let target = format!(in alloc; "/restconf/data/ietf-dots-data-channel:dots-data{below}")?;
+/// What a message asks, or is refused with.
+pub fn answer(alloc: Global, request: &HttpRequest) -> Result<String, Fail> {
+    match read_rest_once(alloc, request) {
+        Ok(asked) => told(alloc, &asked),
+        Err(reject) => refused(alloc, reject),
+    }
+}
+
+/// What a message asks that has this body. Its head is a method, a path below the root and, where it is another than that of YANG data in
+/// JSON, the media type, or a dash for none.
+pub fn asked(alloc: Global, head: &str, body: &str) -> Result<String, Fail> {
+    let (method, rest) = head.split_once(' ').ok_or("a method")?;
+    let (below, media) = match rest.split_once(' ') {
+        Some((below, "-")) => (below, None),
+        Some((below, media)) => (below, Some(media.as_bytes())),
+        None => (rest, Some(JSON.as_bytes())),
+    };
+    let target = format!(in alloc; "{ROOT}{below}")?;
     let request = HttpRequest {
         method: method.as_bytes(),
         target: target.as_bytes(),
@@ -79,13 +103,4 @@ pub fn asked_as(
         length: 0,
     };
     answer(alloc, &request)
-}
-
-/// The same with the media type of YANG data in JSON, and the root left out of what is answered.
-pub fn asked(alloc: Global, method: &str, below: &str, body: &str) -> Result<String, Fail> {
-    let text = asked_as(alloc, method, below, Some(JSON.as_bytes()), body)?;
-    match text.split_once("/restconf/data/ietf-dots-data-channel:dots-data") {
-        Some((kind, rest)) => Ok(format!(in alloc; "{kind}{rest}")?),
-        None => Ok(text),
-    }
 }

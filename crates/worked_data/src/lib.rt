@@ -18,3 +18,5 @@ mod paths;
 mod replies;
 #[cfg(test)]
 mod rooms;
+#[cfg(test)]
+mod tables;

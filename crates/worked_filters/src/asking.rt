@@ -1,281 +1,326 @@
-//! Requests for mitigations as they are judged and taken, and what is read after them, as plain values.
+//! What a registry says, in letters: an alias and an access list are the first letters of their names, a number of one digit is that
+//! digit, and what there isn't is a dash.
 
-ghost use Rattle.std.specs.Prelude.{List};
+ghost use Rattle.std.specs.Prelude.{◌≡◌, ◌<◌, List, true};
 ghost use Rattle.dots_history.specs.declared.entry.Entry.{Entry};
-ghost use Rattle.dots_registry.specs.Standing.{StandsFor, IsOf};
+ghost use Rattle.dots_registry.specs.Standing.{StandsFor, IsOf, domains_of};
 
-use crate::steps::{Act, Who, asked_for, entry, name, settings, text};
-use crate::taking::{has_domain, take, tick};
-use conflict_rules::Which;
+use crate::entries::{number, settings};
+use crate::taking::take_all;
+use acl_lists::{Acl, Alias, Asked, Packet};
 use dots_heads::MitigationPath;
-use dots_history::{Change, Entry, MessageKey};
 use dots_keys::MitigationBody;
-use dots_lists::{Bytes, Text};
+use dots_lists::{Bytes, List, Name};
 use dots_registry::Registry;
 use dots_settings::Settings;
-use filter_table::FilterTable;
+use filter_rows::Fate;
+use held_things::RoomKind;
+use ip_scope::{Addr, Family, parse_prefix};
 use put_judging::{Judged, PutFault};
 use std::alloc::Global;
 use std::test::Fail;
 
-/// What a client sends at a second.
-#[derive(Clone, Copy)]
-pub enum Sent<'a> {
-    /// A request for a mitigation of this mid, for one prefix and so many seconds.
-    Put(u32, &'a str, i32),
-    /// The withdrawal of a mitigation.
-    Withdraw(u32),
+const NONE: u8 = b'-';
+
+fn digit(number: u64) -> u8 {
+    b'0' + (number % 10) as u8
 }
 
-/// What becomes of it.
-#[derive(Clone, Copy, Debug, PartialEq, Eq)]
-pub enum Outcome {
-    /// It is accepted, and this lifetime is granted.
-    Accepted(i32),
-    /// The same, and it refreshes a mitigation that stands.
-    Refreshed(i32),
-    Withdrawn,
-    Collision,
-    Changed,
-    UnknownAlias,
-    TooMany,
-    Higher(u32),
-    /// So many resolved prefixes meet those of others; the first has this length.
-    Other(usize, u8),
-    Capacity(Which, u64),
-    /// It could not be asked, or memory ran out.
-    Failed,
-}
-
-pub type Turn<'a> = (u64, Who<'a>, Sent<'a>, Outcome);
-
-/// Settings with two domains, of which the first has two clients. A client may have 16 live mitigations.
-pub const SETTINGS: &str = "domain net1
-prefix net1 192.0.2.0/24
-prefix net1 2001:db8:1::/48
-domain net2
-prefix net2 198.51.100.0/24
-client 0 net1
-client 1 net1
-client 2 net2
-gateway 3
-ceiling 86400
-";
-
-fn told(fault: &PutFault) -> Outcome {
-    match fault {
-        PutFault::Collision => Outcome::Collision,
-        PutFault::Changed => Outcome::Changed,
-        PutFault::UnknownAlias => Outcome::UnknownAlias,
-        PutFault::TooMany => Outcome::TooMany,
-        PutFault::Higher { mid } => Outcome::Higher(*mid),
-        PutFault::Other { prefixes } => match prefixes.items() {
-            [first, ..] => Outcome::Other(prefixes.items().len(), first.length()),
-            [] => Outcome::Other(0, 0),
-        },
-        PutFault::Capacity { which, number } => Outcome::Capacity(*which, *number),
-        PutFault::NoMemory => Outcome::Failed,
+fn letter(name: &Name) -> u8 {
+    match name.bytes() {
+        [first, ..] => *first,
+        [] => NONE,
     }
 }
 
-fn path(alloc: Global, cuid: &str, mid: u32) -> Result<MitigationPath, Fail> {
-    Ok(MitigationPath {
-        cdid: None,
-        cuid: name(alloc, cuid)?,
-        mid: Some(mid),
-    })
-}
-
-fn body(alloc: Global, prefix: &str, lifetime: i32) -> Result<MitigationBody, Fail> {
-    Ok(MitigationBody {
-        asked: asked_for(alloc, prefix)?,
-        lifetime,
-    })
-}
-
-fn granted(alloc: Global, time: u64, who: Who<'_>, cuid: Text, judged: Judged) -> Entry {
-    Entry {
-        time,
-        peer: who.peer,
-        domain: who.domain,
-        cuid,
-        key: MessageKey::Non(330),
-        reply: Bytes::new(alloc),
-        change: Change::Put(judged.put),
+fn name(alloc: Global, text: &str) -> Result<Name, Fail> {
+    match Name::new(alloc, text.as_bytes())? {
+        Some(name) => Ok(name),
+        None => Err(Fail::from("a name")),
     }
 }
 
-/// Takes what was granted.
-fn take_granted(
+/// The domain and the cuid of a client.
+fn client(word: &str) -> (u16, &'static [u8]) {
+    match word.as_bytes() {
+        [b'A'] => (0, b"a"),
+        [b'B'] => (0, b"b"),
+        _ => (1, b"a"),
+    }
+}
+
+fn tell_aliases(told: &mut Vec<u8>, aliases: &[Alias]) -> Result<(), Fail> {
+    for alias in aliases {
+        told.push(letter(&alias.name))?;
+    }
+    told.push(b' ')?;
+    Ok(())
+}
+
+fn tell_acls(told: &mut Vec<u8>, acls: &[Acl]) -> Result<(), Fail> {
+    for acl in acls {
+        told.push(letter(&acl.name))?;
+    }
+    told.push(b' ')?;
+    Ok(())
+}
+
+/// The number that is reached.
+fn room(registry: &Registry, domain: u16, cuid: &[u8], kind: RoomKind) -> u8 {
+    match registry.room_for(domain, cuid, kind) {
+        Some(number) => digit(number),
+        None => NONE,
+    }
+}
+
+/// The peer that registered the client.
+fn registrant(registry: &Registry, domain: u16, cuid: &[u8]) -> u8 {
+    match registry.registrant(domain, cuid) {
+        Some(peer) => digit(u64::from(peer)),
+        None => NONE,
+    }
+}
+
+fn alias_named(registry: &Registry, domain: u16, cuid: &[u8], name: &Name) -> u8 {
+    match registry.alias(domain, cuid, name) {
+        Some(alias) => letter(&alias.name),
+        None => NONE,
+    }
+}
+
+fn acl_named(registry: &Registry, domain: u16, cuid: &[u8], name: &Name) -> u8 {
+    match registry.acl(domain, cuid, name) {
+        Some(acl) => letter(&acl.name),
+        None => NONE,
+    }
+}
+
+/// Who registered a client, its aliases and its access lists, which numbers of clients, of aliases and of access lists are reached, and
+/// its alias `web` and its list `ok`.
+fn tell_held(
     alloc: Global,
+    told: &mut Vec<u8>,
+    registry: &Registry,
+    word: &str,
+) -> Result<(), Fail> {
+    let (domain, cuid) = client(word);
+    let web = name(alloc, "web")?;
+    let ok = name(alloc, "ok")?;
+    told.push(registrant(registry, domain, cuid))?;
+    told.push(b' ')?;
+    tell_aliases(told, registry.aliases(domain, cuid))?;
+    tell_acls(told, registry.acls(domain, cuid))?;
+    let rest = [
+        room(registry, domain, cuid, RoomKind::Client),
+        room(registry, domain, cuid, RoomKind::Alias),
+        room(registry, domain, cuid, RoomKind::Acl),
+        b' ',
+        alias_named(registry, domain, cuid, &web),
+        acl_named(registry, domain, cuid, &ok),
+    ];
+    told.extend_from_slice(&rest)?;
+    Ok(())
+}
+
+/// The sid of the session configuration of a peer.
+fn sid(registry: &Registry, peer: u32) -> u8 {
+    match registry.config(peer) {
+        Some((sid, _)) => digit(u64::from(sid)),
+        None => NONE,
+    }
+}
+
+fn tell_sid(told: &mut Vec<u8>, registry: &Registry, peer: &str) -> Result<(), Fail> {
+    let peer = (number(peer)? % 10) as u32;
+    told.push(sid(registry, peer))?;
+    Ok(())
+}
+
+fn v4(number: u32) -> Addr {
+    Addr {
+        family: Family::V4,
+        number: u128::from(number),
+    }
+}
+
+/// A packet to 192.0.2.9.
+fn packet(source: u32, protocol: u8, port: u16) -> Packet {
+    Packet {
+        source: v4(source),
+        destination: v4(0xc000_0209),
+        protocol,
+        ports: Some((4000, port)),
+    }
+}
+
+/// The fate of a packet, with the list or the mid that decides.
+fn fate(registry: &Registry, settings: &Settings, packet: &Packet) -> [u8; 2] {
+    match registry.filters().fate(packet, settings) {
+        Fate::Pass => [b'p', NONE],
+        Fate::Accepted { acl } => [b'a', letter(acl)],
+        Fate::Dropped { acl } => [b'd', letter(acl)],
+        Fate::Scrubbed { mid } => [b's', digit(u64::from(mid))],
+    }
+}
+
+/// The fates at a second of packets to port 53 of UDP, from 203.0.113.5 and from 198.18.0.1, and from the second to port 443 of UDP
+/// and to port 53 of TCP.
+fn tell_fates(
+    told: &mut Vec<u8>,
     registry: &mut Registry,
     settings: &Settings,
-    who: Who<'_>,
-    cuid: Text,
-    judged: Judged,
-) -> Result<Outcome, Fail>
-    requires settings { IsOf settings.now registry.old }
-    requires stands { (entries : List Entry) × StandsFor registry.old entries }
-    ensures settings { IsOf settings.now registry.new }
-    ensures stands { (entries : List Entry) × StandsFor registry.new entries }
-{
-    let lifetime = judged.put.granted;
-    let outcome = if judged.refreshed {
-        Outcome::Refreshed(lifetime)
-    } else {
-        Outcome::Accepted(lifetime)
-    };
-    let entry = granted(alloc, registry.time(), who, cuid, judged);
-    if !take(registry, settings, entry, 0)? {
-        return Ok(Outcome::Failed);
+    second: &str,
+) -> Result<(), Fail> {
+    let now = number(second)?;
+    if registry.time() <= now && now < u64::MAX {
+        registry.tick(now);
     }
-    Ok(outcome)
+    for packet in [
+        packet(0xcb00_7105, 17, 53),
+        packet(0xc612_0001, 17, 53),
+        packet(0xc612_0001, 17, 443),
+        packet(0xc612_0001, 6, 53),
+    ] {
+        told.extend_from_slice(&fate(registry, settings, &packet))?;
+    }
+    Ok(())
 }
 
-/// The judgement of a request now; want of memory where it can't be asked.
+/// Whether there is such a domain.
+fn has_domain(registry: &Registry, settings: &Settings, domain: u16) -> bool
+    requires { IsOf settings.now registry.now }
+    ensures { result ≡ true → domain < domains_of registry.now }
+{
+    domain < settings.domains()
+}
+
+/// A request for 192.0.2.128/25, for an hour.
+fn body(alloc: Global) -> Result<MitigationBody, Fail> {
+    let scope = parse_prefix(b"192.0.2.128/25").ok().ok_or("a prefix")?;
+    let mut prefixes = List::new(alloc);
+    prefixes.push(scope)?;
+    Ok(MitigationBody {
+        asked: Asked {
+            prefixes,
+            ports: List::new(alloc),
+            protocols: Bytes::new(alloc),
+            names: List::new(alloc),
+            aliases: List::new(alloc),
+        },
+        lifetime: 3600,
+    })
+}
+
+fn path(alloc: Global) -> Result<MitigationPath, Fail> {
+    Ok(MitigationPath {
+        cdid: None,
+        cuid: name(alloc, "a")?,
+        mid: Some(9),
+    })
+}
+
+/// The mid that is granted, or `c` where the client's name is in use.
+fn granted(judged: &Result<Judged, PutFault>) -> u8 {
+    match judged {
+        Ok(judged) => digit(u64::from(judged.put.mid)),
+        Err(PutFault::Collision) => b'c',
+        Err(_) => NONE,
+    }
+}
+
+/// What is granted to a peer that asks so in the first domain.
 fn judged(
     registry: &Registry,
     settings: &Settings,
-    who: Who<'_>,
     path: &MitigationPath,
     body: &MitigationBody,
-) -> Result<Judged, PutFault>
+    peer: u32,
+) -> u8
     requires { IsOf settings.now registry.now }
 {
-    if path.mid.is_none() || body.lifetime < 1 || !has_domain(registry, settings, who.domain) {
-        return Err(PutFault::NoMemory);
+    if path.mid.is_none() || body.lifetime < 1 || !has_domain(registry, settings, 0) {
+        return NONE;
     }
-    registry.judge_put(settings, path, body, who.peer, who.domain)
+    granted(&registry.judge_put(settings, path, body, peer, 0))
 }
 
-fn ask(
+fn judge_path(
     alloc: Global,
-    registry: &mut Registry,
+    registry: &Registry,
     settings: &Settings,
-    who: Who<'_>,
-    mid: u32,
-    prefix: &str,
-    lifetime: i32,
-) -> Result<Outcome, Fail>
-    requires settings { IsOf settings.now registry.old }
-    requires stands { (entries : List Entry) × StandsFor registry.old entries }
-    ensures settings { IsOf settings.now registry.new }
-    ensures stands { (entries : List Entry) × StandsFor registry.new entries }
-{
-    let cuid = text(alloc, who.cuid)?;
-    let path = path(alloc, who.cuid, mid)?;
-    let body = body(alloc, prefix, lifetime)?;
-    match judged(registry, settings, who, &path, &body) {
-        Ok(judged) => take_granted(alloc, registry, settings, who, cuid, judged),
-        Err(fault) => Ok(told(&fault)),
-    }
-}
-
-fn withdraw(
-    alloc: Global,
-    registry: &mut Registry,
-    settings: &Settings,
-    who: Who<'_>,
-    mid: u32,
-) -> Result<Outcome, Fail>
-    requires settings { IsOf settings.now registry.old }
-    requires stands { (entries : List Entry) × StandsFor registry.old entries }
-    ensures settings { IsOf settings.now registry.new }
-    ensures stands { (entries : List Entry) × StandsFor registry.new entries }
-{
-    let entry = entry(alloc, (registry.time(), who, 331, Act::Withdraw(mid)))?;
-    if !take(registry, settings, entry, 0)? {
-        return Ok(Outcome::Failed);
-    }
-    Ok(Outcome::Withdrawn)
-}
-
-/// What becomes of what a client sends now.
-pub fn send(
-    alloc: Global,
-    registry: &mut Registry,
-    settings: &Settings,
-    who: Who<'_>,
-    sent: Sent<'_>,
-) -> Result<Outcome, Fail>
-    requires settings { IsOf settings.now registry.old }
-    requires stands { (entries : List Entry) × StandsFor registry.old entries }
-    ensures settings { IsOf settings.now registry.new }
-    ensures stands { (entries : List Entry) × StandsFor registry.new entries }
-{
-    match sent {
-        Sent::Put(mid, prefix, lifetime) => {
-            ask(alloc, registry, settings, who, mid, prefix, lifetime)
-        }
-        Sent::Withdraw(mid) => withdraw(alloc, registry, settings, who, mid),
-    }
-}
-
-/// The live mitigations of a client: how many there are, the mid, the start, the seconds left and the status of the last, and how
-/// many rows filter.
-pub type Shown = (usize, Option<(u32, u64, i32, u8)>, usize);
-
-/// How many rows filter.
-fn rows_of(table: &FilterTable) -> usize {
-    let mut count: usize = 0;
-    for _row in table.scrubs() {
-        count = count.saturating_add(1);
-    }
-    count
-}
-
-fn shown(registry: &Registry, settings: &Settings, who: Who<'_>) -> Shown
+    path: &MitigationPath,
+    peer: u32,
+) -> Result<u8, Fail>
     requires { IsOf settings.now registry.now }
 {
-    let mut count: usize = 0;
-    let mut last = None;
-    if has_domain(registry, settings, who.domain) {
-        for row in registry.mitigations(who.domain, who.cuid.as_bytes()) {
-            count = count.saturating_add(1);
-            last = Some((row.put.mid, row.put.start, row.left, row.status));
-        }
-    }
-    (count, last, rows_of(registry.filters()))
+    let body = body(alloc)?;
+    Ok(judged(registry, settings, path, &body, peer))
 }
 
-/// After how many turns an outcome first differs.
-fn differs(
+/// What is granted to a peer that asks for mid 9 of the client A.
+fn judge(alloc: Global, registry: &Registry, settings: &Settings, peer: u32) -> Result<u8, Fail>
+    requires { IsOf settings.now registry.now }
+{
+    let path = path(alloc)?;
+    judge_path(alloc, registry, settings, &path, peer)
+}
+
+fn tell_judged(
+    alloc: Global,
+    told: &mut Vec<u8>,
+    registry: &Registry,
+    settings: &Settings,
+    peer: &str,
+) -> Result<(), Fail>
+    requires { IsOf settings.now registry.now }
+{
+    let peer = (number(peer)? % 10) as u32;
+    let letter = judge(alloc, registry, settings, peer)?;
+    told.push(letter)?;
+    Ok(())
+}
+
+/// Tells what is asked: `held` of a client, `sid` of a peer, `judge` for a peer, or the fates at a second.
+fn tell(
+    alloc: Global,
+    told: &mut Vec<u8>,
+    registry: &mut Registry,
+    settings: &Settings,
+    question: &str,
+) -> Result<(), Fail>
+    requires { IsOf settings.now registry.old }
+{
+    let (what, of) = question.split_once(' ').ok_or("a question")?;
+    match what.as_bytes() {
+        [b'h', ..] => tell_held(alloc, told, registry, of),
+        [b's', ..] => tell_sid(told, registry, of),
+        [b'j', ..] => tell_judged(alloc, told, registry, settings, of),
+        _ => tell_fates(told, registry, settings, of),
+    }
+}
+
+fn tell_after(
     alloc: Global,
     registry: &mut Registry,
     settings: &Settings,
-    turns: &[Turn<'_>],
-) -> Result<Option<usize>, Fail>
+    entries: &str,
+    question: &str,
+) -> Result<Vec<u8>, Fail>
     requires settings { IsOf settings.now registry.old }
     requires stands { (entries : List Entry) × StandsFor registry.old entries }
-    ensures settings { IsOf settings.now registry.new }
-    ensures stands { (entries : List Entry) × StandsFor registry.new entries }
 {
-    let mut differs = None;
-    for (place, turn) in turns.iter().enumerate() {
-        let (time, from, sent, want) = *turn;
-        tick(registry, settings, time);
-        let outcome = send(alloc, registry, settings, from, sent)?;
-        if outcome != want && differs.is_none() {
-            differs = Some(place);
-        }
+    let mut told = Vec::new(alloc);
+    take_all(alloc, registry, settings, entries, &mut told)?;
+    if question != "fit" {
+        told.clear();
+        tell(alloc, &mut told, registry, settings, question)?;
     }
-    Ok(differs)
+    Ok(told)
 }
 
-/// After how many turns an outcome first differs, and what is shown of the client at this second.
-pub fn run(
-    alloc: Global,
-    turns: &[Turn<'_>],
-    now: u64,
-    who: Who<'_>,
-) -> Result<(Option<usize>, Shown), Fail> {
-    let settings = settings(alloc, SETTINGS)?;
+/// What is told after these entries, or which of them fit.
+pub fn told(alloc: Global, entries: &str, question: &str) -> Result<Vec<u8>, Fail> {
+    let settings = settings(alloc)?;
     let mut registry = Registry::new(alloc, &settings)?;
-    let differs = differs(alloc, &mut registry, &settings, turns);
-    tick(&mut registry, &settings, now);
-    let shown = shown(&registry, &settings, who);
-    match differs {
-        Ok(differs) => Ok((differs, shown)),
-        Err(fail) => Err(fail),
-    }
+    tell_after(alloc, &mut registry, &settings, entries, question)
 }

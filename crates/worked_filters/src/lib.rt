@@ -1,24 +1,18 @@
-//! Worked tables of a registry: entries and requests, and what is read after them; and generated entries, of every kind, after each of
-//! which every reader answers what the plain programs of `dots_history` say.
+//! Worked registries: entries of all kinds, and what is read and judged after them.
 //!
-//! The expected values come from RFC 9132, sections 4.4.1, 4.4.2 and 4.4.4, RFC 8783, sections 6 and 7, and RFC 7252, section 4.5.
+//! Each row is put to the public calls of `dots_registry`. The expected values come from RFC 8783, sections 5 to 7, and RFC 9132,
+//! sections 4.4.1 and 4.5; what the signal channel shows of mitigations stands in `worked_rows`.
+//!
+//! Rows are text: [`entries`] says how an entry is read, and [`texts`] has the names that stand in them.
 #![tactic(auto)]
 
 #[cfg(test)]
 mod asking;
 #[cfg(test)]
-mod comparing;
+mod entries;
 #[cfg(test)]
-mod fates;
-#[cfg(test)]
-mod generated;
-#[cfg(test)]
-mod held;
-#[cfg(test)]
-mod plain;
-#[cfg(test)]
-mod requests;
-#[cfg(test)]
-mod steps;
+mod rows;
 #[cfg(test)]
 mod taking;
+#[cfg(test)]
+mod texts;

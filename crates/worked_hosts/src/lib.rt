@@ -6,8 +6,6 @@
 #[cfg(test)]
 mod disks;
 #[cfg(test)]
-mod hosts;
-#[cfg(test)]
 mod scripts;
 #[cfg(test)]
 mod streams;

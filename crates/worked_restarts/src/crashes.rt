@@ -1,17 +1,55 @@
 //! Runs in which a call fails, and what is found on the disk after them.
 
-use crate::failing::{Failing, How};
-use crate::hosts::{host_over, run_over};
+use crate::hosts::{host_over, push_all, run_over};
 use crate::images::{WAYS, image_after};
-use crate::plans::{Ask, Plan, Range, journal};
-use crate::texts::{BOTH_ROWS, FIRST, FIRST_ROW, SECOND, TWO, TWO_BYTES, TWO_SLOTS};
+use crate::many::push_requests;
+use crate::tables::push_lines;
+use crate::texts::{BOTH_ROWS, FIRST_ROW, TWO, TWO_BYTES};
 use dots_disk::MemoryHost;
-use dots_host::{Act, MemorySink};
+use dots_host::{Act, Event, MemorySink, OwnedOut};
 use std::alloc::Global;
 use std::test::Fail;
 
 /// More calls than a run of a plan makes.
 const MANY: u64 = 1000;
+
+/// Requests over a journal.
+#[derive(Clone, Copy)]
+struct Plan<'a> {
+    /// How often the first request was accepted before, so that the journal has as many entries.
+    before: &'a str,
+    events: &'a str,
+    /// What is reported where none of the requests is accepted, where the first is, and so on.
+    reports: &'a [&'a str],
+    /// The half of the disk that is in use in the end.
+    half: u8,
+}
+
+/// Two requests over a disk that wasn't formatted, and a restart between them.
+const OVER_NOTHING: Plan<'static> = Plan {
+    before: "0",
+    events: "\
+at 2000 from 0 5103+0001+ASK
+at 2001 restart
+at 2001 from 0 5103+0002+ASK_SECOND",
+    reports: &["", FIRST_ROW, BOTH_ROWS],
+    half: 0,
+};
+
+/// A request over a journal that is compacted for it.
+const OVER_FULL: Plan<'static> = Plan {
+    before: "28",
+    events: "at 2000 from 0 5103+001d+ASK_SECOND",
+    reports: &[FIRST_ROW, BOTH_ROWS],
+    half: 1,
+};
+
+/// Calls of a host that fail: that of this number, from 1, alone or with every later one.
+#[derive(Clone, Copy)]
+struct Failing {
+    call: u64,
+    onwards: bool,
+}
 
 /// What came of a run in which calls were to fail.
 #[derive(Clone, Copy)]
@@ -24,12 +62,101 @@ enum Found {
     NothingFailed,
 }
 
+impl Failing {
+    /// Lets the calls of the host fail, and answers whether that could be done.
+    fn arrange(self, host: &mut MemoryHost) -> bool {
+        if self.onwards {
+            host.stop_at(self.call);
+            return true;
+        }
+        host.fail_at(self.call).is_ok()
+    }
+
+    /// The status of a run whose first call that failed is this one. A send that is lost ends nothing; but then the next event
+    /// can't be had where every later call fails.
+    fn status(self, act: &Act) -> u8 {
+        match act {
+            Act::Took { .. } => 5,
+            Act::Gave { .. } => if self.onwards { 5 } else { 0 },
+            Act::Read { .. } | Act::Wrote { .. } | Act::Synced { .. } => 6,
+        }
+    }
+
+    /// Whether this call, where it fails, leaves ranges that are being written.
+    fn leaves_ranges(self, act: &Act) -> bool {
+        self.onwards && matches!(act, Act::Wrote { .. } | Act::Synced { .. })
+    }
+
+    /// Whether the disk is to be looked at after a run that ended with this status, and whose first call that failed is this one. Where the
+    /// run ended at the call that failed alone, the disk is as where every later call fails; and where that call came behind a read, and
+    /// writes nothing, the disk is as before the read.
+    fn is_new(self, acts: &[Act], failed: &Act, status: u8) -> bool {
+        if !self.onwards {
+            return status == 0;
+        }
+        let before = acts.get((self.call as usize).saturating_sub(2));
+        self.leaves_ranges(failed) || !matches!(before, Some(Act::Read { .. }))
+    }
+}
+
+/// How many requests are accepted after these acts: at least up to the last whose acceptance was told, 2.01 or 2.04, and at most
+/// those that were taken.
+fn range_of(acts: &[Act]) -> (usize, usize) {
+    let mut least: usize = 0;
+    let mut most: usize = 0;
+    for act in acts {
+        match act {
+            Act::Took {
+                event: Event::Datagram { .. },
+                ..
+            } => most = most.saturating_add(1),
+            Act::Gave {
+                out: OwnedOut::To { bytes, .. },
+                done: true,
+            } => match bytes.items() {
+                [_, 0x41 | 0x44, ..] => least = most,
+                _ => {}
+            },
+            _ => {}
+        }
+    }
+    (least, most)
+}
+
+impl<'a> Plan<'a> {
+    /// Whether this is reported where a number of requests in the range are accepted.
+    fn has_report(&self, report: &[u8], range: (usize, usize)) -> bool {
+        let (least, most) = range;
+        for (index, text) in self.reports.iter().enumerate() {
+            if least <= index && index <= most && text.as_bytes() == report {
+                return true;
+            }
+        }
+        false
+    }
+
+    /// Whether a run that ended with this status reports what all requests leave, where it came to its end, and else nothing.
+    fn is_reported(&self, status: u8, report: &[u8]) -> bool {
+        let all = self.reports.len().saturating_sub(1);
+        match status {
+            0 => self.has_report(report, (all, all)),
+            _ => report.is_empty(),
+        }
+    }
+}
+
+/// Whether a run without events over this image ends well. What it reports is in the sink.
+fn ends_well(alloc: Global, image: &[u8], sink: &mut MemorySink) -> bool {
+    match host_over(alloc, TWO_BYTES, image) {
+        Some(mut host) => run_over(alloc, TWO, &mut host, sink) == Some(0),
+        None => false,
+    }
+}
+
 /// Whether a run without events over this image ends well, and reports what is left where so many requests are accepted.
-fn is_found(alloc: Global, plan: &Plan, image: &[u8], range: Range) -> Result<bool, Fail> {
+fn is_found(alloc: Global, plan: &Plan, image: &[u8], range: (usize, usize)) -> bool {
     let mut sink = MemorySink::new(alloc);
-    let mut host = host_over(alloc, TWO_BYTES, image)?;
-    let status = run_over(alloc, TWO, &mut host, &mut sink)?;
-    Ok(status == 0 && plan.has_report(sink.bytes(), range))
+    ends_well(alloc, image, &mut sink) && plan.has_report(sink.bytes(), range)
 }
 
 /// The same of each image that a crash leaves behind these calls over a disk that held the image before.
@@ -38,166 +165,160 @@ fn is_found_each_way(
     plan: &Plan,
     before: &[u8],
     acts: &[Act],
-    range: Range,
-) -> Result<bool, Fail> {
+    range: (usize, usize),
+) -> bool {
     for way in WAYS {
-        let image = image_after(alloc, TWO_BYTES as usize, before, acts, way)?;
-        if !is_found(alloc, plan, image.as_slice(), range)? {
-            return Ok(false);
+        let found = match image_after(alloc, TWO_BYTES as usize, before, acts, way) {
+            Some(image) => is_found(alloc, plan, image.as_slice(), range),
+            None => false,
+        };
+        if !found {
+            return false;
         }
     }
-    Ok(true)
-}
-
-/// Whether a run over the image from before, of which this call was the first that failed, leaves what is to be found.
-fn is_survived(
-    alloc: Global,
-    plan: &Plan,
-    before: &[u8],
-    failing: Failing,
-    host: &MemoryHost,
-    failed: &Act,
-) -> Result<bool, Fail> {
-    let range = plan.range(host.acts());
-    if !is_found(alloc, plan, host.image(), range)? {
-        return Ok(false);
-    }
-    if failing.leaves_ranges(failed) {
-        return is_found_each_way(alloc, plan, before, host.acts(), range);
-    }
-    Ok(true)
-}
-
-/// Whether the run reports what all its requests leave, where it came to its end, and else nothing.
-fn is_reported(plan: &Plan, status: u8, report: &[u8]) -> bool {
-    let all = plan.asked.len();
-    match status {
-        0 => plan.has_report(report, (all, all)),
-        _ => report.is_empty(),
-    }
-}
-
-/// Whether this half of the disk is in use.
-fn uses_half(image: &[u8], half: u8) -> bool {
-    image.len() > 48 && image[48] % 2 == half
+    true
 }
 
 /// What came of the run over the host, which ended with this status.
-fn judge(
+fn found_after(
     alloc: Global,
     plan: &Plan,
     before: &[u8],
     failing: Failing,
     host: &MemoryHost,
     status: u8,
-) -> Result<Found, Fail> {
-    let Some(failed) = failing.first(host.acts()) else {
-        if status == 0 && uses_half(host.image(), plan.half) {
-            return Ok(Found::NothingFailed);
+) -> Found {
+    let acts = host.acts();
+    let Some(failed) = acts.get((failing.call as usize).saturating_sub(1)) else {
+        let image = host.image();
+        if status == 0 && image.len() > 48 && image[48] % 2 == plan.half {
+            return Found::NothingFailed;
         }
-        return Ok(Found::Lost);
+        return Found::Lost;
     };
     if !host.whole() || status != failing.status(failed) {
-        return Ok(Found::Lost);
+        return Found::Lost;
     }
-    if !failing.is_new(host.acts(), failed, status)
-        || is_survived(alloc, plan, before, failing, host, failed)?
-    {
-        return Ok(Found::Survived);
+    if !failing.is_new(acts, failed, status) {
+        return Found::Survived;
     }
-    Ok(Found::Lost)
+    let range = range_of(acts);
+    if !is_found(alloc, plan, host.image(), range) {
+        return Found::Lost;
+    }
+    if failing.leaves_ranges(failed) && !is_found_each_way(alloc, plan, before, acts, range) {
+        return Found::Lost;
+    }
+    Found::Survived
+}
+
+/// The status of a run of these events over the host, whose calls fail. What it reports is in the sink.
+fn run_failing(
+    alloc: Global,
+    events: &str,
+    failing: Failing,
+    host: &mut MemoryHost,
+    sink: &mut MemorySink,
+) -> Option<u8> {
+    if !push_all(alloc, host, events) || !failing.arrange(host) {
+        return None;
+    }
+    run_over(alloc, TWO, host, sink)
+}
+
+/// What comes of the plan over the host, which holds the image from before.
+fn judged(
+    alloc: Global,
+    plan: &Plan,
+    before: &[u8],
+    events: &str,
+    failing: Failing,
+    host: &mut MemoryHost,
+    sink: &mut MemorySink,
+) -> Option<Found> {
+    let status = run_failing(alloc, events, failing, host, sink)?;
+    if !plan.is_reported(status, sink.bytes()) {
+        return Some(Found::Lost);
+    }
+    Some(found_after(alloc, plan, before, failing, host, status))
 }
 
 /// What comes of the plan over the image from before, with calls that fail.
-fn outcome(alloc: Global, plan: &Plan, before: &[u8], failing: Failing) -> Result<Found, Fail> {
+fn outcome(
+    alloc: Global,
+    plan: &Plan,
+    before: &[u8],
+    events: &str,
+    failing: Failing,
+) -> Option<Found> {
     let mut sink = MemorySink::new(alloc);
     let mut host = host_over(alloc, TWO_BYTES, before)?;
-    plan.push(alloc, &mut host)?;
-    failing.arrange(&mut host)?;
-    let status = run_over(alloc, TWO, &mut host, &mut sink)?;
-    if !is_reported(plan, status, sink.bytes()) {
-        return Ok(Found::Lost);
-    }
-    judge(alloc, plan, before, failing, &host, status)
+    judged(alloc, plan, before, events, failing, &mut host, &mut sink)
 }
 
-/// The first call whose failure isn't survived.
-fn first_lost(alloc: Global, plan: &Plan, before: &[u8], how: How) -> Result<Option<u64>, Fail> {
+/// What the disk holds after these events came over the host.
+fn image_after_events(
+    alloc: Global,
+    events: &str,
+    host: &mut MemoryHost,
+    sink: &mut MemorySink,
+) -> Option<Vec<u8>> {
+    if !push_all(alloc, host, events) || run_over(alloc, TWO, host, sink).is_none() {
+        return None;
+    }
+    Vec::from_slice(alloc, host.image()).ok()
+}
+
+/// What the disk holds after the first request was accepted so often.
+fn journal(alloc: Global, count: &str) -> Option<Vec<u8>> {
+    if count == "0" {
+        return Some(Vec::new(alloc));
+    }
+    let mut events = String::new(alloc);
+    push_requests(&mut events, count).ok()?;
+    let mut sink = MemorySink::new(alloc);
+    let mut host = host_over(alloc, TWO_BYTES, &[])?;
+    image_after_events(alloc, events.as_str(), &mut host, &mut sink)
+}
+
+/// The first call whose failure isn't survived, and 0 where each is.
+fn first_lost(alloc: Global, plan: &Plan, onwards: bool) -> Option<u64> {
+    let before = journal(alloc, plan.before)?;
+    let mut events = String::new(alloc);
+    push_lines(&mut events, plan.events).ok()?;
     for call in 1..MANY {
-        match outcome(alloc, plan, before, Failing { call, how })? {
+        let failing = Failing { call, onwards };
+        match outcome(alloc, plan, before.as_slice(), events.as_str(), failing)? {
             Found::Survived => {}
-            Found::Lost => return Ok(Some(call)),
-            Found::NothingFailed => return Ok(None),
+            Found::Lost => return Some(call),
+            Found::NothingFailed => return Some(0),
         }
     }
-    Ok(Some(MANY))
+    None
 }
 
-fn lost_of_plan(alloc: Global, plan: &Plan, how: How) -> Result<Option<u64>, Fail> {
-    let before = journal(alloc, plan.before)?;
-    first_lost(alloc, plan, before.as_slice(), how)
-}
-
-/// The first call whose failure isn't survived where two requests come over a disk that wasn't formatted, and a restart between them.
-fn lost_of_new(alloc: Global, how: How) -> Result<Option<u64>, Fail> {
-    let first = Ask {
-        digits: FIRST,
-        id: 1,
-    };
-    let second = Ask {
-        digits: SECOND,
-        id: 2,
-    };
-    let plan = Plan {
-        before: 0,
-        asked: &[first, second],
-        reports: &["", FIRST_ROW, BOTH_ROWS],
-        half: 0,
-    };
-    lost_of_plan(alloc, &plan, how)
-}
-
-/// The same where one request comes over a journal that is compacted for it.
-fn lost_of_full(alloc: Global, how: How) -> Result<Option<u64>, Fail> {
-    let ask = Ask {
-        digits: SECOND,
-        id: 29,
-    };
-    let plan = Plan {
-        before: TWO_SLOTS,
-        asked: &[ask],
-        reports: &[FIRST_ROW, BOTH_ROWS],
-        half: 1,
-    };
-    lost_of_plan(alloc, &plan, how)
-}
-
-/// Whichever call fails, alone or onwards, what is found is what the first of the requests leave, among which each is whose acceptance was
-/// told.
+/// Whichever call fails, alone or with all behind it, what is found is what the first of the requests leave, among which each is whose
+/// acceptance was told.
 #[test]
 fn a_call_over_a_new_disk(rt: HostRuntime) -> Result<(), Fail> {
-    let lost = lost_of_new(rt.alloc(), How::Alone)?;
-    assert!(rt; lost.is_none(), "{lost:?}");
+    assert!(rt; first_lost(rt.alloc(), &OVER_NOTHING, false) == Some(0));
     Ok(())
 }
 
 #[test]
 fn all_calls_over_a_new_disk(rt: HostRuntime) -> Result<(), Fail> {
-    let lost = lost_of_new(rt.alloc(), How::Onwards)?;
-    assert!(rt; lost.is_none(), "{lost:?}");
+    assert!(rt; first_lost(rt.alloc(), &OVER_NOTHING, true) == Some(0));
     Ok(())
 }
 
 #[test]
 fn a_call_over_a_full_journal(rt: HostRuntime) -> Result<(), Fail> {
-    let lost = lost_of_full(rt.alloc(), How::Alone)?;
-    assert!(rt; lost.is_none(), "{lost:?}");
+    assert!(rt; first_lost(rt.alloc(), &OVER_FULL, false) == Some(0));
     Ok(())
 }
 
 #[test]
 fn all_calls_over_a_full_journal(rt: HostRuntime) -> Result<(), Fail> {
-    let lost = lost_of_full(rt.alloc(), How::Onwards)?;
-    assert!(rt; lost.is_none(), "{lost:?}");
+    assert!(rt; first_lost(rt.alloc(), &OVER_FULL, true) == Some(0));
     Ok(())
 }

@@ -1,8 +1,7 @@
-//! The images that a crash may leave of a disk, by the ranges that were written since the last sync.
+//! Images of disks: by lines of bytes at places, and those that a crash may leave, by the ranges that were written since the last sync.
 
 use dots_host::Act;
 use std::alloc::Global;
-use std::test::Fail;
 
 /// What a crash leaves of a range that is being written.
 #[derive(Clone, Copy)]
@@ -27,17 +26,10 @@ pub const WAYS: [Way; 5] = [
     Way::Gates,
 ];
 
-/// Puts the bytes into a disk from the place on.
+/// Puts the bytes into a disk from the place on, as far as it goes.
 fn put(disk: &mut [u8], at: usize, bytes: &[u8]) {
     if at <= disk.len() && bytes.len() <= disk.len() - at {
         disk[at..at + bytes.len()].copy_from_slice(bytes);
-    }
-}
-
-/// Puts open gates alone into the range.
-fn put_gates(disk: &mut [u8], at: usize, count: usize) {
-    if at <= disk.len() && count <= disk.len() - at {
-        disk[at..at + count].fill(0xa5);
     }
 }
 
@@ -48,7 +40,11 @@ fn tear(disk: &mut [u8], at: usize, bytes: &[u8], way: Way) {
         Way::New => put(disk, at, bytes),
         Way::FirstHalf => put(disk, at, &bytes[..half]),
         Way::SecondHalf => put(disk, at.saturating_add(half), &bytes[half..]),
-        Way::Gates => put_gates(disk, at, bytes.len()),
+        Way::Gates => {
+            for index in 0..bytes.len() {
+                put(disk, at.saturating_add(index), &[0xa5]);
+            }
+        }
     }
 }
 
@@ -71,9 +67,9 @@ pub fn image_after(
     before: &[u8],
     acts: &[Act],
     way: Way,
-) -> Result<Vec<u8>, Fail> {
+) -> Option<Vec<u8>> {
     let synced = last_sync(acts);
-    let mut image = vec![in alloc; 0u8; size]?;
+    let mut image = vec![in alloc; 0u8; size].ok()?;
     put(image.as_mut_slice(), 0, before);
     for (index, act) in acts.iter().enumerate() {
         if let Act::Wrote { at, bytes, .. } = act {
@@ -81,5 +77,39 @@ pub fn image_after(
             tear(image.as_mut_slice(), *at as usize, bytes.items(), way);
         }
     }
-    Ok(image)
+    Some(image)
+}
+
+/// The place and the bytes of a line.
+fn range_of(alloc: Global, line: &str) -> Option<(usize, Vec<u8>)> {
+    let (place, digits) = line.split_once(' ')?;
+    let place = place.parse::<usize>().ok()?;
+    Some((place, hex::decode(alloc, digits).ok()?))
+}
+
+/// A disk of this size that holds the bytes of these lines, and zeros around them.
+pub fn image_of(alloc: Global, size: usize, lines: &str) -> Option<Vec<u8>> {
+    let mut image = vec![in alloc; 0u8; size].ok()?;
+    for line in lines.lines() {
+        let (at, bytes) = range_of(alloc, line)?;
+        put(image.as_mut_slice(), at, bytes.as_slice());
+    }
+    Some(image)
+}
+
+/// Whether the bytes of a line stand on the disk.
+fn stands(alloc: Global, image: &[u8], line: &str) -> bool {
+    match range_of(alloc, line) {
+        Some((at, bytes)) => at <= image.len() && image[at..].starts_with(bytes.as_slice()),
+        None => false,
+    }
+}
+
+/// Whether the bytes of each line stand on the disk.
+pub fn holds_all(alloc: Global, image: &[u8], lines: &str) -> bool {
+    let mut all = true;
+    for line in lines.lines() {
+        all = stands(alloc, image, line) && all;
+    }
+    all
 }

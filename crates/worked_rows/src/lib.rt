@@ -1,7 +1,7 @@
 //! Worked rows: whole runs of the program, with the bytes that are expected of them.
 //!
-//! Each row is run through `dots_run::run`, as a user would: over a script, or over a host in memory whose acts
-//! are looked at. The expected bytes come from the protocol's documents and not from the program.
+//! Each row is run through `dots_run::run` over a script, as a user would. The expected bytes come from the protocol's documents
+//! and not from the program.
 //!
 //! Rows are text: [`tables`] says how they are read, and [`texts`] has the names that stand in them.
 #![tactic(auto)]
@@ -9,11 +9,7 @@
 #[cfg(test)]
 mod datagram_rows;
 #[cfg(test)]
-mod disk_rows;
-#[cfg(test)]
 mod domain_rows;
-#[cfg(test)]
-mod memory_rows;
 #[cfg(test)]
 mod mitigation_rows;
 #[cfg(test)]
@@ -27,13 +23,11 @@ mod repeat_rows;
 #[cfg(test)]
 mod restart_rows;
 #[cfg(test)]
+mod rows;
+#[cfg(test)]
 mod runs;
 #[cfg(test)]
 mod script_rows;
-#[cfg(test)]
-mod show_rows;
-#[cfg(test)]
-mod status_rows;
 #[cfg(test)]
 mod tables;
 #[cfg(test)]

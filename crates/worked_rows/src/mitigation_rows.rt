@@ -1,21 +1,19 @@
 //! Mitigations as they are asked for, refreshed, withdrawn and read.
 
-use crate::tables::all_hold;
-use crate::texts::SETTINGS;
-use std::test::Fail;
+pub const MITIGATIONS: &str = "\
+$ replay settings
+&
 
-/// Of two mitigations of a client that overlap the one with the higher mid stays; the lower one may not be asked for beside it.
-const HIGHER: &str = "\
+# Of two mitigations of a client that overlap the one with the higher mid stays; the lower one may not be asked for beside it.
 < at 1000 from 0 REQUEST
 < at 1000 from 0 51030002+MITIGATE+CUID+MID_124+NET1
 < at 1000 from 0 51030003+MITIGATE+CUID+MID_123+NET1
 > to 0 REPLY
 > to 0 51410002+CBOR+a101a10281a205187c0e190e10
 > to 0 51890003+CBOR+a101a10281a205187b11a31201130115a105187c
-= scrub net1 dz6pHjaADkaFTbjr0JGBpw 124 192.0.2.0/24 any any";
+= scrub net1 dz6pHjaADkaFTbjr0JGBpw 124 192.0.2.0/24 any any
 
-/// A refresh asks for the same and may have another lifetime, which begins with it.
-const REFRESHES: &str = "\
+# A refresh asks for the same and may have another lifetime, which begins with it.
 < at 1000 from 0 REQUEST
 < at 1100 from 0 51030002+MITIGATE+CUID+MID_123+BODY+816c3139322e302e322e302f3235+LIFETIME
 < at 1100 from 0 51030003+MITIGATE+CUID+MID_123+BODY+81+INSIDE+0e191c20
@@ -29,11 +27,10 @@ const REFRESHES: &str = "\
 < at 1100 from 0 51030003+MITIGATE+CUID+MID_123+BODY+81+INSIDE+0e191c20
 < at 8300 tick
 > to 0 REPLY
-> to 0 51440003+CBOR+a101a10281a205187b0e191c20";
+> to 0 51440003+CBOR+a101a10281a205187b0e191c20
 
-/// A withdrawn mitigation is terminating for 120 seconds, and a second withdrawal changes nothing of that. One that never was is
-/// withdrawn too.
-const WITHDRAWN: &str = "\
+# A withdrawn mitigation is terminating for 120 seconds, and a second withdrawal changes nothing of that. One that never was is
+# withdrawn too.
 < at 1000 from 0 REQUEST
 < at 1100 from 0 51040002+MITIGATE+CUID+MID_123
 < at 1200 from 0 51040003+MITIGATE+CUID+MID_123
@@ -52,11 +49,10 @@ const WITHDRAWN: &str = "\
 > to 0 REPLY
 > to 0 514200024a
 > to 0 518400044aff616273656e74
-> to 0 514200054a";
+> to 0 514200054a
 
-/// What is read: all of a mitigation that stands, what was asked for and the seconds left, and the start and the status; and each of
-/// two, in order of their entries, of which a refresh is a new one.
-const READ: &str = "\
+# What is read: all of a mitigation that stands, what was asked for and the seconds left, and the start and the status; and each of
+# two, in order of their entries, of which a refresh is a new one.
 < at 1000 from 0 REQUEST
 < at 1010 from 0 51010002+MITIGATE+CUID+MID_123
 < at 1010 from 0 51010003+MITIGATE+CUID+MID_123+43633d63
@@ -78,11 +74,10 @@ const READ: &str = "\
 > to 0 51440004+CBOR+a101a10281a205187b0e190e10
 > to 0 51450005+CBOR+a101a10282a305187c0f1903e81002a305187b0f1903e81002
 = scrub net1 dz6pHjaADkaFTbjr0JGBpw 124 192.0.2.128/25 any any
-= scrub net1 dz6pHjaADkaFTbjr0JGBpw 123 192.0.2.0/25 any any";
+= scrub net1 dz6pHjaADkaFTbjr0JGBpw 123 192.0.2.0/25 any any
 
-/// Other clients of the domain: their mitigations stand in the way, with the prefixes that meet; those of another domain don't. A
-/// client's name is its peer's.
-const OTHERS: &str = "\
+# Other clients of the domain: their mitigations stand in the way, with the prefixes that meet; those of another domain don't. A
+# client's name is its peer's.
 < at 1000 from 0 REQUEST
 < at 1000 from 1 51030002+MITIGATE+B_7+BODY+816e3139322e302e322e3132382f3235+LIFETIME
 < at 1000 from 2 51030003+MITIGATE+B_7+BODY+81+OUTSIDE+LIFETIME
@@ -110,10 +105,9 @@ const OTHERS: &str = "\
 > to 0 514200034a
 > to 1 51410004+CBOR+a101a10281a205070e190e10
 = scrub net1 dz6pHjaADkaFTbjr0JGBpw 123 192.0.2.0/25 any any
-= scrub net1 b 7 192.0.2.0/26 any any";
+= scrub net1 b 7 192.0.2.0/26 any any
 
-/// A client has at most sixteen live mitigations; one more takes the place of one that it ends.
-const FULL: &str = "\
+# A client has at most sixteen live mitigations; one more takes the place of one that it ends.
 < at 1000 from 0 51030001+MITIGATE+CUID+056d69643d31+BODY+816c3139322e302e322e302f3332+LIFETIME
 < at 1000 from 0 51030002+MITIGATE+CUID+056d69643d32+BODY+816c3139322e302e322e312f3332+LIFETIME
 < at 1000 from 0 51030003+MITIGATE+CUID+056d69643d33+BODY+816c3139322e302e322e322f3332+LIFETIME
@@ -165,32 +159,21 @@ const FULL: &str = "\
 = scrub net1 dz6pHjaADkaFTbjr0JGBpw 14 192.0.2.13/32 any any
 = scrub net1 dz6pHjaADkaFTbjr0JGBpw 15 192.0.2.14/32 any any
 = scrub net1 dz6pHjaADkaFTbjr0JGBpw 16 192.0.2.15/32 any any
-= scrub net1 dz6pHjaADkaFTbjr0JGBpw 17 192.0.2.0/32 any any";
+= scrub net1 dz6pHjaADkaFTbjr0JGBpw 17 192.0.2.0/32 any any
 
-/// A moment that runs backwards.
-const BACKWARDS: &str = "\
+# A moment that runs backwards.
 < at 1000 from 0 REQUEST
 < at 500 tick
 > to 0 REPLY
 = ROW";
 
-/// The settings with a sample packet.
-const SAMPLED: &str = "\
-domain net1
-prefix net1 192.0.2.0/24
-prefix net1 2001:db8:1::/48
-domain net2
-prefix net2 198.51.100.0/24
-client 0 net1
-client 1 net1
-client 2 net2
-gateway 3
-ceiling 86400
-packet 198.18.0.1 192.0.2.9 17 4000 53
-";
+/// With a sample packet.
+pub const FATES: &str = "\
+$ replay settings
+&
+: packet 198.18.0.1 192.0.2.9 17 4000 53
 
-/// A packet is scrubbed while the mitigation lives, withdrawn or not, and not longer.
-const FATES: &str = "\
+# A packet is scrubbed while the mitigation lives, withdrawn or not, and not longer.
 < at 1000 from 0 REQUEST
 > to 0 REPLY
 = ROW
@@ -219,16 +202,3 @@ const FATES: &str = "\
 = scrub net1 dz6pHjaADkaFTbjr0JGBpw 124 192.0.2.128/25 any any
 = scrub net1 dz6pHjaADkaFTbjr0JGBpw 123 192.0.2.0/25 any any
 = packet 1 scrubbed 123";
-
-#[test]
-fn mitigations(rt: HostRuntime) -> Result<(), Fail> {
-    for table in [HIGHER, REFRESHES, WITHDRAWN, READ, OTHERS, FULL, BACKWARDS] {
-        all_hold(&rt, rt.alloc(), SETTINGS, table)?;
-    }
-    Ok(())
-}
-
-#[test]
-fn fates(rt: HostRuntime) -> Result<(), Fail> {
-    all_hold(&rt, rt.alloc(), SAMPLED, FATES)
-}

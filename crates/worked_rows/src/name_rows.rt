@@ -1,27 +1,22 @@
 //! Scopes with host names, ports and protocols; lifetimes.
 
-use crate::tables::all_hold;
-use crate::texts::SETTINGS;
-use std::test::Fail;
-
 /// Host names inside the domain of the client, outside it, and with an address that is no target; two sample packets; and
 /// lifetimes without end.
-const NAMED: &str = "\
-domain net1
-prefix net1 192.0.2.0/24
-prefix net1 2001:db8:1::/48
-client 0 net1
-name www.example.net 192.0.2.80/32
-name www.example.net 2001:db8:1::80/128
-name out.example.net 198.51.100.9/32
-name both.example.net 192.0.2.81/32
-name both.example.net 127.0.0.1/32
-indefinite yes
-packet 203.0.113.5 192.0.2.9 17 4000 53
-packet 203.0.113.5 192.0.2.9 1 - -
-";
+pub const SCOPES: &str = "\
+$ replay settings
+: domain net1
+: prefix net1 192.0.2.0/24
+: prefix net1 2001:db8:1::/48
+: client 0 net1
+: name www.example.net 192.0.2.80/32
+: name www.example.net 2001:db8:1::80/128
+: name out.example.net 198.51.100.9/32
+: name both.example.net 192.0.2.81/32
+: name both.example.net 127.0.0.1/32
+: indefinite yes
+: packet 203.0.113.5 192.0.2.9 17 4000 53
+: packet 203.0.113.5 192.0.2.9 1 - -
 
-const SCOPES: &str = "\
 # a name
 < at 1000 from 0 HEAD+MID_123+12010fffa101a10281+a20b816f7777772e6578616d706c652e6e65740e190e10
 > to 0 REPLY
@@ -72,10 +67,9 @@ const SCOPES: &str = "\
 < at 1000 from 0 HEAD+MID_123+12010fffa101a10281+a20d81637765620e190e10
 > to 0 UNKNOWN_ALIAS
 = packet 1 pass
-= packet 2 pass";
+= packet 2 pass
 
-/// A lifetime without end is granted where the settings say so.
-const ENDLESS: &str = "\
+# A lifetime without end is granted where the settings say so.
 < at 1000 from 0 HEAD+MID_123+12010fffa101a10281a206816c3139322e302e322e302f32340e+20
 < at 86000 from 77 00
 > to 0 514100014ac2010fffa101a10281a205187b0e20
@@ -83,8 +77,11 @@ const ENDLESS: &str = "\
 = packet 1 scrubbed 123
 = packet 2 scrubbed 123";
 
-/// A lifetime is cut to the ceiling.
-const LIFETIMES: &str = "\
+pub const LIFETIMES: &str = "\
+$ replay settings
+&
+
+# A lifetime is cut to the ceiling.
 # invalid 14
 < at 1000 from 0 HEAD+MID_123+12010fffa101a10281a206816c3139322e302e322e302f32340e+00
 < at 86000 from 77 00
@@ -103,11 +100,3 @@ const LIFETIMES: &str = "\
 < at 86000 from 77 00
 > to 0 514100014ac2010fffa101a10281a205187b0e1a00015180
 = ROW";
-
-#[test]
-fn names_and_lifetimes(rt: HostRuntime) -> Result<(), Fail> {
-    for (settings, table) in [(NAMED, SCOPES), (NAMED, ENDLESS), (SETTINGS, LIFETIMES)] {
-        all_hold(&rt, rt.alloc(), settings, table)?;
-    }
-    Ok(())
-}

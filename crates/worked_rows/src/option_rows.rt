@@ -1,12 +1,10 @@
 //! Paths, methods, options and queries.
 
-use crate::tables::all_hold;
-use crate::texts::SETTINGS;
-use std::test::Fail;
+pub const OPTIONS: &str = "\
+$ replay settings
+&
 
-/// What is wrong with the path, the method and the options of a request decides in this order; then it is looked at the
-/// body.
-const REFUSED_HEADS: &str = "\
+# What is wrong with the path, the method and the options of a request decides in this order; then it is looked at the body.
 # parameters in another order
 < at 1000 from 0 START+056d69643d3706637569643d62+NET1
 > to 0 NO_PATH
@@ -37,11 +35,10 @@ const REFUSED_HEADS: &str = "\
 
 # and both come before the body
 < at 1000 from 0 START+B_7+113cff00
-> to 0 518f00014aff636f6e74656e7420666f726d6174";
+> to 0 518f00014aff636f6e74656e7420666f726d6174
 
-/// A Hop-Limit that isn't 0 makes no difference, and neither do a missing Content-Format, Accept 271 and keys that are to be
-/// ignored. Other keys that aren't known are refused.
-const PASSED_OVER: &str = "\
+# A Hop-Limit that isn't 0 makes no difference, and neither do a missing Content-Format, Accept 271 and keys that are to be ignored.
+# Other keys that aren't known are refused.
 < at 1000 from 0 HEAD+MID_123+12010f4101ffa101a10281a206816c3139322e302e322e302f32340e190e10
 > to 0 REPLY
 = ROW
@@ -59,10 +56,9 @@ const PASSED_OVER: &str = "\
 = ROW
 
 < at 1000 from 0 HEAD+MID_123+12010fffa101a10281a306816c3139322e302e322e302f32340e190e10183c00
-> to 0 518000014aff756e6b6e6f776e203630";
+> to 0 518000014aff756e6b6e6f776e203630
 
-/// The configuration of a session and heartbeats aren't served; what is wrong with them is answered.
-const NOT_SERVED: &str = "\
+# The configuration of a session and heartbeats aren't served; what is wrong with them is answered.
 < at 1000 from 0 510100014abb2e77656c6c2d6b6e6f776e04646f7473086d69746967617465+CUID
 > to 0 ABSENT
 
@@ -82,10 +78,9 @@ const NOT_SERVED: &str = "\
 > to 0 UNSERVED
 
 < at 1000 from 0 510300014abb2e77656c6c2d6b6e6f776e04646f747303686262
-> to 0 NO_PATH";
+> to 0 NO_PATH
 
-/// A GET with a query that isn't one of the contents.
-const QUERIES: &str = "\
+# A GET with a query that isn't one of the contents.
 < at 1000 from 0 510100014abb2e77656c6c2d6b6e6f776e04646f7473086d69746967617465+CUID+43633d61
 > to 0 ABSENT
 
@@ -94,11 +89,3 @@ const QUERIES: &str = "\
 
 < at 1000 from 0 510100014abb2e77656c6c2d6b6e6f776e04646f7473086d69746967617465+CUID+43633d6103633d61
 > to 0 QUERY";
-
-#[test]
-fn heads_options_and_queries(rt: HostRuntime) -> Result<(), Fail> {
-    for table in [REFUSED_HEADS, PASSED_OVER, NOT_SERVED, QUERIES] {
-        all_hold(&rt, rt.alloc(), SETTINGS, table)?;
-    }
-    Ok(())
-}

@@ -1,11 +1,10 @@
 //! Prefixes that may not be asked for, and requests that meet another.
 
-use crate::tables::all_hold;
-use crate::texts::SETTINGS;
-use std::test::Fail;
+pub const REFUSALS: &str = "\
+$ replay settings
+&
 
-/// Of several prefixes the first at fault decides, and of one prefix that it is no target.
-const PREFIXES: &str = "\
+# Of several prefixes the first at fault decides, and of one prefix that it is no target.
 < at 1000 from 0 HEAD+MID_123+BODY+816f3139382e35312e3130302e302f3234+LIFETIME
 > to 0 OUTSIDE_DOMAIN
 
@@ -40,11 +39,10 @@ const PREFIXES: &str = "\
 
 # sixteen prefixes in one scope, the last of which lies outside
 < at 1000 from 0 HEAD+MID_123+BODY+90+INSIDE+INSIDE+INSIDE+INSIDE+INSIDE+INSIDE+INSIDE+INSIDE+INSIDE+INSIDE+INSIDE+INSIDE+INSIDE+INSIDE+INSIDE+OUTSIDE+LIFETIME
-> to 0 OUTSIDE_DOMAIN";
+> to 0 OUTSIDE_DOMAIN
 
-/// The same request again, in a message of its own or where the message isn't remembered any more, refreshes it up to the last second of
-/// the first; at its end it is a new one.
-const AGAIN: &str = "\
+# The same request again, in a message of its own or where the message isn't remembered any more, refreshes it up to the last second
+# of the first; at its end it is a new one.
 < at 1000 from 0 REQUEST
 < at 1000 from 0 51030002+MITIGATE+CUID+MID_123+NET1
 > to 0 REPLY
@@ -68,10 +66,9 @@ const AGAIN: &str = "\
 < at 4600 from 0 REQUEST
 > to 0 REPLY
 > to 0 REPLY
-= ROW";
+= ROW
 
-/// A second request that meets the first in no prefix stands beside the first; with its mid it would change it.
-const BESIDE: &str = "\
+# A second request that meets the first in no prefix stands beside the first; with its mid it would change it.
 < at 1000 from 0 HEAD+MID_123+BODY+816c3139322e302e322e302f3235+LIFETIME
 < at 1000 from 0 51030002+MITIGATE+CUID+MID_124+BODY+816e3139322e302e322e3132382f3235+LIFETIME
 > to 0 REPLY
@@ -84,11 +81,3 @@ const BESIDE: &str = "\
 > to 0 REPLY
 > to 0 518000024aff6368616e676564
 = scrub net1 dz6pHjaADkaFTbjr0JGBpw 123 192.0.2.0/25 any any";
-
-#[test]
-fn prefixes_and_conflicts(rt: HostRuntime) -> Result<(), Fail> {
-    for table in [PREFIXES, AGAIN, BESIDE] {
-        all_hold(&rt, rt.alloc(), SETTINGS, table)?;
-    }
-    Ok(())
-}

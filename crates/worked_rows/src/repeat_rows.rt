@@ -1,12 +1,11 @@
 //! Messages that are sent again.
 
-use crate::tables::all_hold;
-use crate::texts::SETTINGS;
-use std::test::Fail;
+pub const REPEATS: &str = "\
+$ replay settings
+&
 
-/// A repeat gets the same bytes, and the times are those of the first: of a non-confirmable message for 145 seconds and of a confirmable one
-/// for 247. After that the same message asks for a refresh.
-const PUTS: &str = "\
+# A repeat gets the same bytes, and the times are those of the first: of a non-confirmable message for 145 seconds and of a
+# confirmable one for 247. After that the same message asks for a refresh.
 < at 1000 from 0 REQUEST
 < at 1145 from 0 REQUEST
 < at 1145 from 0 51010002+MITIGATE+CUID+MID_123
@@ -39,10 +38,9 @@ const PUTS: &str = "\
 < at 4600 tick
 > to 0 61410001+CBOR+a101a10281a205187b0e190e10
 > to 0 61440001+CBOR+a101a10281a205187b0e190e10
-= ROW";
+= ROW
 
-/// A repeat of a withdrawal withdraws nothing, though a mitigation of the mid stands anew; after 145 seconds it is a withdrawal.
-const DELETES: &str = "\
+# A repeat of a withdrawal withdraws nothing, though a mitigation of the mid stands anew; after 145 seconds it is a withdrawal.
 < at 1000 from 0 REQUEST
 < at 1100 from 0 51040002+MITIGATE+CUID+MID_123
 < at 1110 from 0 51030003+MITIGATE+CUID+MID_123+NET1
@@ -65,11 +63,10 @@ const DELETES: &str = "\
 > to 0 51410003+CBOR+a101a10281a205187b0e190e10
 > to 0 514200024a
 > to 0 51450004+CBOR+a101a10281a305187b0f1904561005
-= ROW";
+= ROW
 
-/// The Message ID of the peer and domain tells a repeat, whatever is asked to change: another mid, a withdrawal, a configuration, in a message
-/// of either type and with any token. A GET isn't a repeat, nor is what is refused for its form or its scope.
-const WHATEVER: &str = "\
+# The Message ID of the peer and domain tells a repeat, whatever is asked to change: another mid, a withdrawal, a configuration, in
+# a message of either type and with any token. A GET isn't a repeat, nor is what is refused for its form or its scope.
 < at 1000 from 0 REQUEST
 < at 1001 from 0 51030001+MITIGATE+CUID+MID_124+NET1
 < at 1001 from 0 51040001+MITIGATE+CUID+MID_123
@@ -92,10 +89,9 @@ const WHATEVER: &str = "\
 > to 0 OUTSIDE_DOMAIN
 > to 0 NO_PARAMETER
 > to 0 51450001+CBOR+a101a10281a305187b0f1903e81002
-= ROW";
+= ROW
 
-/// Another peer, or a gateway for another domain, may have the same Message ID.
-const OTHERS: &str = "\
+# Another peer, or a gateway for another domain, may have the same Message ID.
 < at 1000 from 0 REQUEST
 < at 1000 from 2 51030001+MITIGATE+B_7+BODY+81+OUTSIDE+LIFETIME
 > to 0 REPLY
@@ -112,10 +108,9 @@ const OTHERS: &str = "\
 > to 3 51410001+CBOR+a101a10281a205070e190e10
 > to 3 UNSERVED
 = scrub net2 b 7 198.51.100.0/24 any any
-= scrub net1 b 7 192.0.2.0/24 any any";
+= scrub net1 b 7 192.0.2.0/24 any any
 
-/// A message that was refused isn't remembered.
-const REFUSED: &str = "\
+# A message that was refused isn't remembered.
 < at 1000 from 0 51030001+MITIGATE+CUID+MID_123+BODY+81+INSIDE+0e0a
 < at 1005 from 1 51030001+MITIGATE+CUID+MID_123+NET1
 < at 1010 from 1 51030001+MITIGATE+CUID+MID_123+NET1
@@ -124,16 +119,15 @@ const REFUSED: &str = "\
 > to 1 REPLY
 = ROW";
 
-/// Settings by which two messages of a peer and domain are remembered.
-const TWO_REMEMBERED: &str = "\
-domain net1
-prefix net1 192.0.2.0/24
-client 0 net1
-capacity remembered 2
-";
+/// Two messages of a peer and domain are remembered.
+pub const LAST_TWO: &str = "\
+$ replay settings
+: domain net1
+: prefix net1 192.0.2.0/24
+: client 0 net1
+: capacity remembered 2
 
-/// The last two messages are remembered, and none before them.
-const LAST_TWO: &str = "\
+# The last two messages are remembered, and none before them.
 < at 1000 from 0 51030001+MITIGATE+CUID+056d69643d31+BODY+816c3139322e302e322e302f3332+LIFETIME
 < at 1001 from 0 51030002+MITIGATE+CUID+056d69643d32+BODY+816c3139322e302e322e312f3332+LIFETIME
 < at 1002 from 0 51040001+MITIGATE+CUID+056d69643d31
@@ -149,16 +143,3 @@ const LAST_TWO: &str = "\
 = scrub net1 dz6pHjaADkaFTbjr0JGBpw 1 192.0.2.0/32 any any
 = scrub net1 dz6pHjaADkaFTbjr0JGBpw 2 192.0.2.1/32 any any
 = scrub net1 dz6pHjaADkaFTbjr0JGBpw 3 192.0.2.2/32 any any";
-
-#[test]
-fn repeats(rt: HostRuntime) -> Result<(), Fail> {
-    for table in [PUTS, DELETES, WHATEVER, OTHERS, REFUSED] {
-        all_hold(&rt, rt.alloc(), SETTINGS, table)?;
-    }
-    Ok(())
-}
-
-#[test]
-fn the_last_two(rt: HostRuntime) -> Result<(), Fail> {
-    all_hold(&rt, rt.alloc(), TWO_REMEMBERED, LAST_TWO)
-}

@@ -1,53 +1,11 @@
 //! What is found again after a restart, which leaves the disk alone.
 
-use crate::tables::all_hold;
-use crate::texts::SETTINGS;
-use std::test::Fail;
+pub const RESTARTS: &str = "\
+$ replay settings
+&
 
-/// A message that comes again after a restart gets the same reply: the mitigation is that of the first, and ends with it.
-const AGAIN: &str = "\
-< at 1000 from 0 REQUEST
-< at 1005 restart
-< at 1010 from 0 REQUEST
-> to 0 REPLY
-> to 0 REPLY
-= ROW
-
-< at 1000 from 0 REQUEST
-< at 1005 restart
-< at 1010 from 0 REQUEST
-< at 4600 tick
-> to 0 REPLY
-> to 0 REPLY
-
-# the last second in which it is remembered, and the next
-< at 1000 from 0 REQUEST
-< at 1145 restart
-< at 1145 from 0 REQUEST
-< at 4600 tick
-> to 0 REPLY
-> to 0 REPLY
-
-< at 1000 from 0 REQUEST
-< at 1146 restart
-< at 1146 from 0 REQUEST
-< at 4745 tick
-> to 0 REPLY
-> to 0 REFRESHED
-= ROW
-
-# another message asks for a refresh
-< at 1000 from 0 REQUEST
-< at 1005 restart
-< at 1010 from 0 51030002+MITIGATE+CUID+MID_123+NET1
-< at 4609 tick
-> to 0 REPLY
-> to 0 51440002+CBOR+a101a10281a205187b0e190e10
-= ROW";
-
-/// The time after a restart is that of the restart or of the last entry, whichever is later, and nothing else of the time before is
-/// kept. So it may fall, and what had ended stands again.
-const TIMES: &str = "\
+# The time after a restart is that of the restart or of the last entry, whichever is later, and nothing else of the time before is
+# kept. So it may fall, and what had ended stands again.
 < at 1000 from 0 REQUEST
 < at 4599 restart
 > to 0 REPLY
@@ -90,10 +48,9 @@ const TIMES: &str = "\
 < at 1001 restart
 < at 1002 restart
 > to 0 REPLY
-= ROW";
+= ROW
 
-/// A request that was refused isn't found, and the same message may ask anew.
-const REFUSED: &str = "\
+# A request that was refused isn't found, and the same message may ask anew.
 < at 1000 from 0 START+CUID+MID_123+BODY+81+OUTSIDE+LIFETIME
 < at 1005 restart
 < at 1005 from 0 51010002+MITIGATE+CUID+MID_123
@@ -111,11 +68,10 @@ const REFUSED: &str = "\
 > to 0 REPLY
 > to 1 51890002+CBOR+a101a10281a2050711a41201130114187815a106816e3139322e302e322e3132382f3235
 > to 1 518400034aff616273656e74
-= ROW";
+= ROW
 
-/// What was accepted is found with all its times: a refresh has the end that it was granted, what was withdrawn is terminating for 120
-/// seconds and not longer, and what was asked for in place of another has its place.
-const FOUND: &str = "\
+# What was accepted is found with all its times: a refresh has the end that it was granted, what was withdrawn is terminating for
+# 120 seconds and not longer, and what was asked for in place of another has its place.
 < at 1000 from 0 REQUEST
 < at 1100 from 0 51030003+MITIGATE+CUID+MID_123+BODY+81+INSIDE+0e191c20
 < at 8299 restart
@@ -162,10 +118,9 @@ const FOUND: &str = "\
 > to 0 REPLY
 > to 0 51410002+CBOR+a101a10281a205187c0e190e10
 > to 0 51890003+CBOR+a101a10281a205187b11a31201130115a105187c
-= scrub net1 dz6pHjaADkaFTbjr0JGBpw 124 192.0.2.0/24 any any";
+= scrub net1 dz6pHjaADkaFTbjr0JGBpw 124 192.0.2.0/24 any any
 
-/// Each domain finds its own, in the order of acceptance; a name stays its peer's, and what meets a mitigation is still refused.
-const DOMAINS: &str = "\
+# Each domain finds its own, in the order of acceptance; a name stays its peer's, and what meets a mitigation is still refused.
 < at 1000 from 0 REQUEST
 < at 1000 from 2 START+CUID+MID_123+NET2
 < at 1005 restart
@@ -189,17 +144,44 @@ const DOMAINS: &str = "\
 > to 0 51440003+CBOR+a101a10281a205187b0e190e10
 > to 0 51450004+CBOR+a101a10282a305187c0f1903e81002a305187b0f1903e81002
 = scrub net1 dz6pHjaADkaFTbjr0JGBpw 124 192.0.2.128/25 any any
-= scrub net1 dz6pHjaADkaFTbjr0JGBpw 123 192.0.2.0/25 any any";
+= scrub net1 dz6pHjaADkaFTbjr0JGBpw 123 192.0.2.0/25 any any
 
-#[test]
-fn restarts(rt: HostRuntime) -> Result<(), Fail> {
-    for table in [TIMES, REFUSED, FOUND, DOMAINS] {
-        all_hold(&rt, rt.alloc(), SETTINGS, table)?;
-    }
-    Ok(())
-}
+# A message that comes again after a restart gets the same reply: the mitigation is that of the first, and ends with it.
+< at 1000 from 0 REQUEST
+< at 1005 restart
+< at 1010 from 0 REQUEST
+> to 0 REPLY
+> to 0 REPLY
+= ROW
 
-#[test]
-fn messages_that_come_again(rt: HostRuntime) -> Result<(), Fail> {
-    all_hold(&rt, rt.alloc(), SETTINGS, AGAIN)
-}
+< at 1000 from 0 REQUEST
+< at 1005 restart
+< at 1010 from 0 REQUEST
+< at 4600 tick
+> to 0 REPLY
+> to 0 REPLY
+
+# the last second in which it is remembered, and the next
+< at 1000 from 0 REQUEST
+< at 1145 restart
+< at 1145 from 0 REQUEST
+< at 4600 tick
+> to 0 REPLY
+> to 0 REPLY
+
+< at 1000 from 0 REQUEST
+< at 1146 restart
+< at 1146 from 0 REQUEST
+< at 4745 tick
+> to 0 REPLY
+> to 0 REFRESHED
+= ROW
+
+# another message asks for a refresh
+< at 1000 from 0 REQUEST
+< at 1005 restart
+< at 1010 from 0 51030002+MITIGATE+CUID+MID_123+NET1
+< at 4609 tick
+> to 0 REPLY
+> to 0 51440002+CBOR+a101a10281a205187b0e190e10
+= ROW";

@@ -1,57 +1,35 @@
-//! Runs over scripts, and over hosts in memory.
+//! Runs of rows.
 
-use crate::tables::COMMAND;
-use dots_disk::MemoryHost;
+use crate::tables::Row;
 use dots_host::{MemorySink, MemorySource, NoMemory};
 use dots_run::{ScriptHost, run};
 use std::alloc::Global;
-
-/// What is run.
-#[derive(Clone, Copy)]
-pub struct Case<'a> {
-    pub words: &'a [&'a str],
-    pub settings: &'a [u8],
-    pub script: &'a [u8],
-    /// The read of the settings that fails.
-    pub failing_read: Option<u64>,
-    /// The write of the report that fails.
-    pub failing_write: Option<u64>,
-}
-
-impl<'a> Case<'a> {
-    /// No words over nothing, and nothing fails.
-    pub fn new() -> Self {
-        Case {
-            words: &[],
-            settings: &[],
-            script: &[],
-            failing_read: None,
-            failing_write: None,
-        }
-    }
-}
+use std::process::Abort;
+use std::test::Fail;
 
 /// The words of a command line.
-pub fn words_of(alloc: Global, texts: &[&str]) -> Result<Vec<String>, NoMemory> {
+fn words_of(alloc: Global, line: &str) -> Result<Vec<String>, NoMemory> {
     let mut words = Vec::new(alloc);
-    for text in texts {
-        words.push(String::from_str(alloc, text)?)?;
+    for word in line.split(' ') {
+        words.push(String::from_str(alloc, word)?)?;
     }
     Ok(words)
 }
 
-fn source_of(alloc: Global, bytes: &[u8], failing: Option<u64>) -> Result<MemorySource, NoMemory> {
+/// A source of these bytes, whose first read fails where that is asked for.
+fn source_of(alloc: Global, bytes: &[u8], is_failing: bool) -> Result<MemorySource, NoMemory> {
     let mut source = MemorySource::new(alloc, bytes)?;
-    if let Some(call) = failing {
-        source.fail_at(call)?;
+    if is_failing {
+        source.fail_at(1)?;
     }
     Ok(source)
 }
 
-fn sink_of(alloc: Global, failing: Option<u64>) -> Result<MemorySink, NoMemory> {
+/// A sink whose first write fails where that is asked for.
+fn sink_of(alloc: Global, is_failing: bool) -> Result<MemorySink, NoMemory> {
     let mut sink = MemorySink::new(alloc);
-    if let Some(call) = failing {
-        sink.fail_at(call)?;
+    if is_failing {
+        sink.fail_at(1)?;
     }
     Ok(sink)
 }
@@ -62,30 +40,44 @@ fn host_of(alloc: Global, script: &[u8]) -> Result<ScriptHost<MemorySource, Memo
     ScriptHost::new(alloc, source, MemorySink::new(alloc))
 }
 
-/// Whether a run of the case ends with this status and leaves these sends and this report, and the host still tells its acts.
-pub fn leaves(
+/// Whether a run over these leaves what the row says.
+fn leaves(
     alloc: Global,
-    case: &Case,
-    status: u8,
-    sends: &[u8],
-    report: &[u8],
+    row: &Row,
+    settings: &mut MemorySource,
+    host: &mut ScriptHost<MemorySource, MemorySink>,
+    sink: &mut MemorySink,
 ) -> Result<bool, NoMemory> {
-    let words = words_of(alloc, case.words)?;
-    let mut settings = source_of(alloc, case.settings, case.failing_read)?;
-    let mut sink = sink_of(alloc, case.failing_write)?;
-    let mut host = host_of(alloc, case.script)?;
-    let ended = run(alloc, words.as_slice(), &mut settings, &mut host, &mut sink);
-    Ok(ended == status && host.sink().bytes() == sends && sink.bytes() == report)
+    let words = words_of(alloc, row.words.as_str())?;
+    let ended = run(alloc, words.as_slice(), settings, host, sink);
+    Ok(
+        ended == row.status
+            && host.sink().bytes() == row.sends.as_bytes()
+            && sink.bytes() == row.report.as_bytes(),
+    )
 }
 
-/// The status of a run over a host in memory. What it reports is in the sink.
-pub fn run_over(
-    alloc: Global,
-    settings: &str,
-    host: &mut MemoryHost,
-    sink: &mut MemorySink,
-) -> Result<u8, NoMemory> {
-    let words = words_of(alloc, &COMMAND)?;
-    let mut settings = MemorySource::new(alloc, settings.as_bytes())?;
-    Ok(run(alloc, words.as_slice(), &mut settings, host, sink))
+/// Whether the run of a row leaves what it says.
+fn goes(alloc: Global, row: &Row) -> Result<bool, NoMemory> {
+    let failing = row.failing.as_str();
+    let mut settings = source_of(alloc, row.settings.as_bytes(), failing == "read")?;
+    let mut sink = sink_of(alloc, failing == "write")?;
+    let mut host = host_of(alloc, row.script.as_bytes())?;
+    leaves(alloc, row, &mut settings, &mut host, &mut sink)
+}
+
+/// Whether the run of a row goes as it says; false also where it can't be read.
+fn holds(alloc: Global, head: &str, text: &str) -> Result<bool, NoMemory> {
+    let mut row = Row::new(alloc);
+    let is_read = row.take_all(head)? && row.take_all(text)?;
+    Ok(is_read && goes(alloc, &row)?)
+}
+
+/// Each row of the table runs as it says.
+pub fn all_hold(rt: &impl Abort, alloc: Global, table: &str) -> Result<(), Fail> {
+    let (head, rows) = table.split_once("\n\n").ok_or("a table")?;
+    for row in rows.split("\n\n") {
+        assert!(rt; holds(alloc, head, row)?, "at {row}");
+    }
+    Ok(())
 }

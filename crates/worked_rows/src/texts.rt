@@ -1,6 +1,6 @@
 //! Texts that many rows share.
 
-/// Two domains, their clients and a gateway.
+/// Two domains, their clients and a gateway: the settings of most rows.
 pub const SETTINGS: &str = "\
 domain net1
 prefix net1 192.0.2.0/24
@@ -14,19 +14,10 @@ gateway 3
 ceiling 86400
 ";
 
-/// The datagram of a request for 192.0.2.0/24 with mid 123, lifetime 3600 s and Message ID 1, in hexadecimal.
-pub const REQUEST: &str =
-    "510300014abb2e77656c6c2d6b6e6f776e04646f7473086d697469676174650d0e637569643d647a3670486a6141446b614654626a72304a47427077076d69643d31323312010fffa101a10281a206816c3139322e302e322e302f32340e190e10";
-
-/// Its reply, 2.01 with mid 123 and 3600 s.
-pub const REPLY: &str = "514100014ac2010fffa101a10281a205187b0e190e10";
-
-/// The line of its filter.
-pub const ROW: &str = "scrub net1 dz6pHjaADkaFTbjr0JGBpw 123 192.0.2.0/24 any any\n";
-
 /// What stands for a name in a row: each line is a name and a text.
 ///
-/// HEAD is that datagram up to its mid, and START up to its path. CUID, MID_123 and MID_124 are options of the path. BODY stands
+/// REQUEST is the datagram of a request for 192.0.2.0/24 with mid 123, lifetime 3600 s and Message ID 1, in hexadecimal, REPLY its reply,
+/// 2.01 with mid 123 and 3600 s, and ROW the line of its filter. HEAD is the datagram up to its mid, and START up to its path. CUID, MID_123 and MID_124 are options of the path. BODY stands
 /// between the mid and the array of the prefixes, and LIFETIME behind that. NET1 and NET2 are the rest behind the mid for
 /// 192.0.2.0/24 and for 198.51.100.0/25. INSIDE and OUTSIDE are the texts of 192.0.2.0/24 and of 198.51.100.0/24, and CDID_NET2
 /// and CDID_NET9 options in front of the cuid. B_7 is the parameters of a client `b` and mid 7.

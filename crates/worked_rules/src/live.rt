@@ -1,42 +1,35 @@
-//! Live mitigations from plain rows. No function here can leave while a mitigation is alive.
+//! Live mitigations from rows of text. No function here can leave while a mitigation is alive.
+//!
+//! Mitigations stand apart by semicolons. Each is its peer, its client and its mid, `stands` or `ends`, and lists of what it
+//! names: prefixes, ranges of ports, protocols, host names and aliases, each between commas, or a dash for none.
 
 use acl_lists::{Asked, NameList, PortList, PrefixList};
 use conflict_rules::Live;
 use dots_history::{Put, Target, TargetList};
 use dots_lists::{Bytes, List, Name, Text};
-use ip_scope::{PortRange, Prefix, parse_prefix};
+use ip_scope::{PortRange, parse_prefix};
 use std::alloc::Global;
 use std::test::Fail;
 
-/// What a request names.
-#[derive(Clone, Copy)]
-pub struct Scope<'a> {
-    pub prefixes: &'a [&'a str],
-    pub ports: &'a [(u16, u16)],
-    pub protocols: &'a [u8],
-    pub names: &'a [&'a str],
-    pub aliases: &'a [&'a str],
+/// The words of a text, which has up to nine.
+pub fn words_of(text: &str) -> [&str; 9] {
+    let mut words = text.split(' ');
+    [
+        words.next().unwrap_or(""),
+        words.next().unwrap_or(""),
+        words.next().unwrap_or(""),
+        words.next().unwrap_or(""),
+        words.next().unwrap_or(""),
+        words.next().unwrap_or(""),
+        words.next().unwrap_or(""),
+        words.next().unwrap_or(""),
+        words.next().unwrap_or(""),
+    ]
 }
 
-/// A request that names these prefixes alone.
-pub fn net<'a>(prefixes: &'a [&'a str]) -> Scope<'a> {
-    Scope {
-        prefixes,
-        ports: &[],
-        protocols: &[],
-        names: &[],
-        aliases: &[],
-    }
-}
-
-/// A mitigation: its peer, its client, its mid, what it names, and whether it stands.
-#[derive(Clone, Copy)]
-pub struct Held<'a> {
-    pub peer: u32,
-    pub cuid: &'a str,
-    pub mid: u32,
-    pub scope: Scope<'a>,
-    pub standing: bool,
+/// The number that a word is, or 0.
+pub fn number(word: &str) -> u32 {
+    word.parse::<u32>().unwrap_or(0)
 }
 
 fn text(alloc: Global, text: &str) -> Result<Text, Fail> {
@@ -53,52 +46,71 @@ fn name(alloc: Global, text: &str) -> Result<Name, Fail> {
     }
 }
 
-fn names(alloc: Global, texts: &[&str]) -> Result<NameList, Fail> {
+fn names(alloc: Global, word: &str) -> Result<NameList, Fail> {
     let mut names = List::new(alloc);
-    for text in texts {
-        names.push(name(alloc, text)?)?;
+    for part in word.split(',') {
+        if part != "-" {
+            names.push(name(alloc, part)?)?;
+        }
     }
     Ok(names)
 }
 
-fn prefix(text: &str) -> Result<Prefix, Fail> {
-    match parse_prefix(text.as_bytes()) {
-        Ok(prefix) => Ok(prefix),
-        Err(_) => Err(Fail::from("a prefix")),
-    }
-}
-
-fn prefixes(alloc: Global, texts: &[&str]) -> Result<PrefixList, Fail> {
+fn prefixes(alloc: Global, word: &str) -> Result<PrefixList, Fail> {
     let mut prefixes = List::new(alloc);
-    for text in texts {
-        prefixes.push(prefix(text)?)?;
+    for part in word.split(',') {
+        if let Ok(prefix) = parse_prefix(part.as_bytes()) {
+            prefixes.push(prefix)?;
+        }
     }
     Ok(prefixes)
 }
 
-fn ports(alloc: Global, pairs: &[(u16, u16)]) -> Result<PortList, Fail> {
+fn range(part: &str) -> Option<PortRange> {
+    let (lower, upper) = part.split_once('-')?;
+    PortRange::new(lower.parse::<u16>().ok()?, upper.parse::<u16>().ok()?)
+}
+
+fn ports(alloc: Global, word: &str) -> Result<PortList, Fail> {
     let mut ports = List::new(alloc);
-    for (lower, upper) in pairs {
-        match PortRange::new(*lower, *upper) {
-            Some(range) => ports.push(range)?,
-            None => return Err(Fail::from("a range")),
+    for part in word.split(',') {
+        if let Some(range) = range(part) {
+            ports.push(range)?;
         }
     }
     Ok(ports)
 }
 
-fn asked(alloc: Global, scope: Scope<'_>) -> Result<Asked, Fail> {
+fn protocols(alloc: Global, word: &str) -> Result<Bytes, Fail> {
+    let mut protocols = Bytes::new(alloc);
+    for part in word.split(',') {
+        if let Ok(protocol) = part.parse::<u8>() {
+            protocols.push(protocol)?;
+        }
+    }
+    Ok(protocols)
+}
+
+/// A request for what five words name.
+fn asked(
+    alloc: Global,
+    of_prefixes: &str,
+    of_ports: &str,
+    of_protocols: &str,
+    of_names: &str,
+    of_aliases: &str,
+) -> Result<Asked, Fail> {
     Ok(Asked {
-        prefixes: prefixes(alloc, scope.prefixes)?,
-        ports: ports(alloc, scope.ports)?,
-        protocols: Bytes::from_slice(alloc, scope.protocols)?,
-        names: names(alloc, scope.names)?,
-        aliases: names(alloc, scope.aliases)?,
+        prefixes: prefixes(alloc, of_prefixes)?,
+        ports: ports(alloc, of_ports)?,
+        protocols: protocols(alloc, of_protocols)?,
+        names: names(alloc, of_names)?,
+        aliases: names(alloc, of_aliases)?,
     })
 }
 
 fn target(alloc: Global, text: &str) -> Result<Target, Fail> {
-    let prefixes = prefixes(alloc, &[text])?;
+    let prefixes = prefixes(alloc, text)?;
     Ok(Target {
         prefixes,
         ports: List::new(alloc),
@@ -107,10 +119,10 @@ fn target(alloc: Global, text: &str) -> Result<Target, Fail> {
 }
 
 /// A target for each prefix.
-fn targets(alloc: Global, scope: Scope<'_>) -> Result<TargetList, Fail> {
+fn targets(alloc: Global, word: &str) -> Result<TargetList, Fail> {
     let mut targets = List::new(alloc);
-    for text in scope.prefixes {
-        targets.push(target(alloc, text)?)?;
+    for part in word.split(',') {
+        targets.push(target(alloc, part)?)?;
     }
     Ok(targets)
 }
@@ -125,28 +137,41 @@ fn put(mid: u32, asked: Asked, targets: TargetList) -> Put {
     }
 }
 
-fn mitigation(alloc: Global, held: Held<'_>) -> Result<Live, Fail> {
-    let cuid = text(alloc, held.cuid)?;
-    let targets = targets(alloc, held.scope)?;
-    let asked = asked(alloc, held.scope)?;
-    Ok(Live {
-        peer: held.peer,
+fn mitigation(alloc: Global, row: &str) -> Result<Live, Fail> {
+    let [
+        peer,
         cuid,
-        put: put(held.mid, asked, targets),
-        standing: held.standing,
+        mid,
+        state,
+        of_prefixes,
+        of_ports,
+        of_protocols,
+        of_names,
+        of_aliases,
+    ] = words_of(row);
+    let cuid = text(alloc, cuid)?;
+    let targets = targets(alloc, of_prefixes)?;
+    let asked = asked(
+        alloc,
+        of_prefixes,
+        of_ports,
+        of_protocols,
+        of_names,
+        of_aliases,
+    )?;
+    Ok(Live {
+        peer: number(peer),
+        cuid,
+        put: put(number(mid), asked, targets),
+        standing: state == "stands",
     })
 }
 
-/// The request as a mitigation, and the live mitigations behind it.
-pub fn request_and_live(
-    alloc: Global,
-    request: Held<'_>,
-    rows: &[Held<'_>],
-) -> Result<List<Live>, Fail> {
+/// The mitigations of a text.
+pub fn mitigations(alloc: Global, rows: &str) -> Result<List<Live>, Fail> {
     let mut live = List::new(alloc);
-    live.push(mitigation(alloc, request)?)?;
-    for held in rows {
-        live.push(mitigation(alloc, *held)?)?;
+    for row in rows.split(';') {
+        live.push(mitigation(alloc, row)?)?;
     }
     Ok(live)
 }

@@ -1,12 +1,11 @@
 //! A request over a socket, and the same one again after the server began anew.
 
-use crate::texts::{SETTINGS, words_of};
+use crate::serving::status_over;
 use dots_edge::FileSocketHost;
-use dots_host::{MemorySink, MemorySource};
-use dots_run::run;
+use dots_host::MemorySink;
+use std::fs;
 use std::net::{Ipv4Addr, SocketAddr, UdpSocket};
 use std::test::Fail;
-use std::{fs, io};
 
 const HOST_FILE: &[u8] =
     b"journal worked_serving_alike\nsignal 127.0.0.1:0\npeer 0 127.0.0.1\nevents 1\n";
@@ -23,35 +22,36 @@ const REPLY: &[u8] = b"\x51\x41\x00\x01\x4a\xc2\x01\x0f\
 /// The filter that stands at the end.
 const REPORT: &[u8] = b"scrub net1 dz6pHjaADkaFTbjr0JGBpw 123 192.0.2.0/24 any any\n";
 
-fn gets(client: &UdpSocket, want: &[u8]) -> io::Result<bool> {
+fn sends(client: &UdpSocket, port: u16) -> bool {
+    let server = SocketAddr::from((Ipv4Addr::LOCALHOST, port));
+    client.send_to(REQUEST, server).is_ok()
+}
+
+fn gets(client: &UdpSocket, want: &[u8]) -> bool {
     let mut bytes = [0; 100];
-    let (count, _) = client.recv_from(&mut bytes)?;
-    Ok(&bytes[..count.min(100)] == want)
+    match client.recv_from(&mut bytes) {
+        Ok((count, _)) => &bytes[..count.min(100)] == want,
+        Err(_) => false,
+    }
 }
 
 /// Whether the request, sent before the server begins, gets the reply, and stands at the end.
-fn is_answered(rt: &HostRuntime) -> Result<bool, Fail> {
-    let client = UdpSocket::bind(rt, SocketAddr::from((Ipv4Addr::LOCALHOST, 0)))?;
-    let mut host = FileSocketHost::open(rt.alloc(), rt, HOST_FILE)?;
-    let server = SocketAddr::from((Ipv4Addr::LOCALHOST, host.signal_port()));
-    client.send_to(REQUEST, server)?;
-    let words = words_of(rt.alloc())?;
-    let mut settings = MemorySource::new(rt.alloc(), SETTINGS)?;
+fn is_answered(rt: &HostRuntime) -> Option<bool> {
     let mut report = MemorySink::new(rt.alloc());
-    let status = run(
-        rt.alloc(),
-        words.as_slice(),
-        &mut settings,
-        &mut host,
-        &mut report,
-    );
-    Ok(status == 0 && report.bytes() == REPORT && gets(&client, REPLY)?)
+    let client = UdpSocket::bind(rt, SocketAddr::from((Ipv4Addr::LOCALHOST, 0))).ok()?;
+    let mut host = FileSocketHost::open(rt.alloc(), rt, HOST_FILE).ok()?;
+    Some(
+        sends(&client, host.signal_port())
+            && status_over(rt.alloc(), &mut host, &mut report) == Some(0)
+            && report.bytes() == REPORT
+            && gets(&client, REPLY),
+    )
 }
 
 #[test]
 fn a_server_that_begins_anew_answers_alike(rt: HostRuntime) -> Result<(), Fail> {
     for run in 1..3 {
-        assert!(rt; is_answered(&rt)?, "in run {run}");
+        assert!(rt; is_answered(&rt) == Some(true), "in run {run}");
     }
     fs::remove_file(&rt, "worked_serving_alike")?;
     Ok(())

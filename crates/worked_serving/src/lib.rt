@@ -9,4 +9,4 @@ mod alike;
 #[cfg(test)]
 mod refusals;
 #[cfg(test)]
-mod texts;
+mod serving;

@@ -1,9 +1,6 @@
 //! What is told of settings and scripts that are checked.
 
-use dots_host::MemorySource;
-use dots_lists::Bytes;
-use file_checks::{Checked, check_script, check_settings};
-use std::alloc::Global;
+use crate::asking::{What, all_hold};
 use std::test::Fail;
 
 /// Settings that are at fault and, behind a bar, what is told of them, where `;` stands for a line feed.
@@ -52,50 +49,12 @@ at 1 from  0 50;|script line 1: "at 1 from  0 50";line 1: a from line is: at SEC
 #;at 1 from 0 50|script line 2: "at 1 from 0 50";line 2: the last line does not end with a line feed: "at 1 from 0 50";
 at 5 tick|script line 1: "at 5 tick";line 1: the last line does not end with a line feed: "at 5 tick";"#;
 
-/// The text with a line feed in place of each semicolon.
-fn lines(alloc: Global, text: &str) -> Result<Vec<u8>, Fail> {
-    let mut lines = Vec::from_slice(alloc, text.as_bytes())?;
-    for byte in lines.iter_mut() {
-        if *byte == b';' {
-            *byte = b'\n';
-        }
-    }
-    Ok(lines)
-}
-
-/// The text that is told.
-fn told(checked: Checked) -> Bytes {
-    match checked {
-        Checked::Good(text) => text,
-        Checked::AtFault(text) => text,
-    }
-}
-
-/// Whether this is told of the text before the bar, as settings or as a script.
-fn holds(alloc: Global, row: &str, is_script: bool) -> Result<bool, Fail> {
-    let (front, back) = row.split_once('|').ok_or("a row")?;
-    let file = lines(alloc, front)?;
-    let want = lines(alloc, back)?;
-    let mut source = MemorySource::new(alloc, file.as_slice())?;
-    let checked = match is_script {
-        true => check_script(alloc, &mut source),
-        false => check_settings(alloc, &mut source),
-    };
-    Ok(checked.is_ok_and(|checked| told(checked).items() == want.as_slice()))
-}
-
 #[test]
 fn settings_are_told_why(rt: HostRuntime) -> Result<(), Fail> {
-    for row in FAULTS.lines().skip(1) {
-        assert!(rt; holds(rt.alloc(), row, false)?, "at {row}");
-    }
-    Ok(())
+    all_hold(&rt, rt.alloc(), What::CheckSettings, FAULTS)
 }
 
 #[test]
 fn scripts_are_told_why(rt: HostRuntime) -> Result<(), Fail> {
-    for row in SCRIPTS.lines().skip(1) {
-        assert!(rt; holds(rt.alloc(), row, true)?, "at {row}");
-    }
-    Ok(())
+    all_hold(&rt, rt.alloc(), What::CheckScript, SCRIPTS)
 }

@@ -1,121 +1,81 @@
-use crate::reading::{fault, fault_where};
-use dots_settings::SettingsFault;
+//! Which settings are refused, and by which line.
+
+use crate::asking::{What, all_hold};
 use std::test::Fail;
 
-/// One blank stands between the fields, and nothing else does: a line with a tab, a second blank, a blank at its end, a
-/// carriage return, a capital in a domain or a number with leading zeros has none of the forms.
-#[test]
-fn lines_have_their_forms(rt: HostRuntime) -> Result<(), Fail> {
-    let rows: [&[u8]; 21] = [
-        b" ",
-        b"domain\tnet1",
-        b"domain  net1",
-        b"domain net1 ",
-        b"domain net1\r\n",
-        b"domain Net1",
-        b"Domain net1",
-        b"gateway 03",
-        b"gateway +3",
-        b"gateway 4294967296",
-        b"name a b 192.0.2.1/32",
-        b"name a 192.0.2.1",
-        b"name a 192.0.2.1/033",
-        b"name a 192.0.2.1/33",
-        b"ceiling 0",
-        b"ceiling 604801",
-        b"indefinite maybe",
-        b"capacity cells 1",
-        b"capacity clients 01",
-        b"packet 192.0.2.1 192.0.2.2 17 - 53",
-        b"packet 192.0.2.1 192.0.2.2 256 1 2",
-    ];
-    for text in rows {
-        assert_eq!(rt;
-            fault(rt.alloc(), text)?,
-            Some(SettingsFault::Line { n: 1 }),
-            "at {text:?}"
-        );
-    }
-    assert_eq!(rt; fault(rt.alloc(), b"gateway 4294967295")?, None);
-    Ok(())
-}
+/// One blank stands between the fields, and nothing else does: a line with a tab, a second blank, a carriage return, a
+/// capital in a domain or a number with leading zeros has none of the forms.
+const FAULTS: &str = "
+ |settings line 1
+domain\tnet1|settings line 1
+domain  net1|settings line 1
+domain net1\r;|settings line 1
+Domain net1|settings line 1
+gateway 03|settings line 1
+gateway +3|settings line 1
+gateway 4294967296|settings line 1
+gateway 4294967295|
+name a b 192.0.2.1/32|settings line 1
+name a 192.0.2.1|settings line 1
+name a 192.0.2.1/033|settings line 1
+name a 192.0.2.1/33|settings line 1
+capacity clients 01|settings line 1
+packet 192.0.2.1 192.0.2.2 256 1 2|settings line 1
+#;;ceiling 604801;|settings line 3
+domain a;;domain a;|settings twice 3
+gateway 1;client 1 a;|settings twice 2
+ceiling 1;ceiling 1;|settings twice 2
+indefinite no;indefinite yes;|settings twice 2
+capacity acls 1;capacity acls 9;|settings twice 2
+client 1 a;|settings unknown 1
+prefix a ::/0;domain a;|settings unknown 1
+domain a;prefix a ::/9;domain b;prefix b ::/8;|settings overlap 2 4
+domain a;prefix a ::/8;prefix a ::/8;|
+capacity clients 0;|settings capacity 1
+capacity aliases 17;|settings capacity 1
+capacity clients 100000000000000000000000;|settings capacity 1
+|domain d%;*16|
+|domain d%;*17|settings capacity 17
+domain a;|prefix a 10.1%.0.0/16;*17|settings capacity 18
+domain a;|client 1% a;*65|settings capacity 66
+|gateway 1%;*5|settings capacity 5
+|name n% 10.0.0.0/8;*65|settings capacity 65
+|name a 10.1%.0.0/16;*5|settings capacity 5";
 
 #[test]
 fn faults_have_their_lines(rt: HostRuntime) -> Result<(), Fail> {
-    let rows: [(&[u8], SettingsFault); 12] = [
-        (b"#\n\nceiling 604801\n", SettingsFault::Line { n: 3 }),
-        (b"domain a\n\ndomain a\n", SettingsFault::Twice { n: 3 }),
-        (b"gateway 1\nclient 1 a\n", SettingsFault::Twice { n: 2 }),
-        (b"ceiling 1\nceiling 1\n", SettingsFault::Twice { n: 2 }),
-        (
-            b"indefinite no\nindefinite yes\n",
-            SettingsFault::Twice { n: 2 },
-        ),
-        (
-            b"capacity acls 1\ncapacity acls 9\n",
-            SettingsFault::Twice { n: 2 },
-        ),
-        (b"client 1 a\n", SettingsFault::Unknown { n: 1 }),
-        (
-            b"prefix a ::/0\ndomain a\n",
-            SettingsFault::Unknown { n: 1 },
-        ),
-        (
-            b"domain a\nprefix a ::/9\ndomain b\nprefix b ::/8\n",
-            SettingsFault::Overlap { a: 2, b: 4 },
-        ),
-        (b"capacity clients 0\n", SettingsFault::Capacity { n: 1 }),
-        (b"capacity aliases 17\n", SettingsFault::Capacity { n: 1 }),
-        (
-            b"capacity clients 100000000000000000000000\n",
-            SettingsFault::Capacity { n: 1 },
-        ),
-    ];
-    for (text, want) in rows {
-        assert_eq!(rt; fault(rt.alloc(), text)?, Some(want), "at {text:?}");
-    }
-    assert_eq!(rt;
-        fault(rt.alloc(), b"domain a\nprefix a ::/8\nprefix a ::/8\n")?,
-        None
-    );
-    Ok(())
+    all_hold(&rt, rt.alloc(), What::Read(0), FAULTS)
 }
+
+/// The byte after the last that a file may have is too much, in its line. What stands in that line isn't judged.
+const LARGE: &str = "
+|#*65536|
+|#*65537|settings capacity 1
+;|#*65536|settings capacity 2
+;x|#*65535|settings capacity 2";
 
 #[test]
 fn the_byte_after_the_last_is_too_much(rt: HostRuntime) -> Result<(), Fail> {
-    let mut text = vec![in rt.alloc(); b'#'; 65_536]?;
-    assert_eq!(rt; fault(rt.alloc(), text.as_slice())?, None);
-    text.push(b'\n')?;
-    assert_eq!(rt;
-        fault(rt.alloc(), text.as_slice())?,
-        Some(SettingsFault::Capacity { n: 1 })
-    );
-    text[0] = b'\n';
-    assert_eq!(rt;
-        fault(rt.alloc(), text.as_slice())?,
-        Some(SettingsFault::Capacity { n: 2 })
-    );
-    text[1] = b'x';
-    assert_eq!(rt;
-        fault(rt.alloc(), text.as_slice())?,
-        Some(SettingsFault::Capacity { n: 2 })
-    );
-    Ok(())
+    all_hold(&rt, rt.alloc(), What::Read(0), LARGE)
 }
 
 /// The first read fails, or the second, which would tell the end; the line at fault isn't judged then.
 #[test]
 fn a_failed_read_is_told(rt: HostRuntime) -> Result<(), Fail> {
-    for (call, want) in [
-        (1, SettingsFault::ReadFault),
-        (2, SettingsFault::ReadFault),
-        (3, SettingsFault::Line { n: 1 }),
-    ] {
-        assert_eq!(rt;
-            fault_where(rt.alloc(), b"x\n", call)?,
-            Some(want),
-            "at {call}"
-        );
-    }
-    Ok(())
+    let failed = "\nx;|reading the settings failed";
+    all_hold(&rt, rt.alloc(), What::Read(1), failed)?;
+    all_hold(&rt, rt.alloc(), What::Read(2), failed)?;
+    all_hold(&rt, rt.alloc(), What::Read(3), "\nx;|settings line 1")
+}
+
+/// Two domains, three clients, a gateway. Packets, empty lines and comments leave the digest as it is, and the last line may lack its
+/// line feed. The case of a name's letters doesn't count.
+const FILES: &str = "
+domain net1;prefix net1 192.0.2.0/24;prefix net1 2001:db8:1::/48;domain net2;prefix net2 198.51.100.0/24;client 0 net1;client 1 net1;client 2 net2;gateway 3;ceiling 86400;|the example
+# more;;packet 203.0.113.5 192.0.2.9 17 4000 53;domain net1;prefix net1 192.0.2.0/24;prefix net1 2001:db8:1::/48;domain net2;prefix net2 198.51.100.0/24;client 0 net1;client 1 net1;client 2 net2;gateway 3;packet 2001:db8::1 2001:db8:1::1 58 - -;ceiling 86400|the example
+name WWW.example 192.0.2.1/32;name www.Example 192.0.2.2/32;|two addresses";
+
+#[test]
+fn files_are_read(rt: HostRuntime) -> Result<(), Fail> {
+    all_hold(&rt, rt.alloc(), What::Read(0), FILES)
 }

@@ -29,6 +29,33 @@ fn writes_the_lines_in_order(rt: HostRuntime) {
     };
     assert!(rt; is_text(&nothing, b"HTTP/1.1 204 No Content\r\n\r\n"));
 
+    let location =
+        b"/restconf/data/ietf-dots-data-channel:dots-data/dots-client=dz6pHjaADkaFTbjr0JGBpw";
+    let created = ReplyHead {
+        status: 201,
+        location,
+        ..nothing
+    };
+    assert!(rt;
+        is_text(
+            &created,
+            b"HTTP/1.1 201 Created\r\nLocation: /restconf/data/ietf-dots-data-channel:dots-data/dots-client=dz6pHjaADkaFTbjr0JGBpw\r\nContent-Length: 0\r\n\r\n",
+        )
+    );
+
+    let shown = ReplyHead {
+        status: 200,
+        json: true,
+        length: 83,
+        ..nothing
+    };
+    assert!(rt;
+        is_text(
+            &shown,
+            b"HTTP/1.1 200 OK\r\nContent-Type: application/yang-data+json\r\nContent-Length: 83\r\n\r\n",
+        )
+    );
+
     let all = ReplyHead {
         status: 413,
         close: true,

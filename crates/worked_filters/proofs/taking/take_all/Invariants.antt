@@ -4,8 +4,8 @@ use Rattle.dots_history.specs.declared.entry.Entry.{Entry}
 use Rattle.dots_registry.specs.Standing.{StandsFor, IsOf}
 use Rattle.worked_filters.proofs.taking.take_all.Given as goal
 
-abbrev pub invariant-loop-step : goal.invariant-loop-step
-invariant-loop-step l = record {
+abbrev pub invariant-loop-text : goal.invariant-loop-text
+invariant-loop-text l = record {
   settings : IsOf l.settings l.registry;
   stands : (entries : List Entry) × StandsFor l.registry entries;
 }

@@ -1,0 +1,60 @@
+//! What a host was called for, as text.
+
+use dots_host::{Act, OwnedOut};
+use std::alloc::Global;
+use std::fmt::Write;
+
+/// The lines of the sends, where each was done.
+fn sends_of(alloc: Global, acts: &[Act]) -> Option<String> {
+    let mut text = String::new(alloc);
+    for act in acts {
+        match act {
+            Act::Gave {
+                out: OwnedOut::To { peer, bytes },
+                done: true,
+            } => {
+                let digits = hex::encode(alloc, bytes.items()).ok()?;
+                write!(text, "to {peer} {digits}\n").ok()?;
+            }
+            Act::Gave { .. } => text.push_str("another send\n").ok()?,
+            _ => {}
+        }
+    }
+    Some(text)
+}
+
+/// How many writes and syncs there are before the first event, and behind each event.
+fn calls_of(alloc: Global, acts: &[Act]) -> Option<String> {
+    let mut text = String::new(alloc);
+    let mut writes: u32 = 0;
+    let mut syncs: u32 = 0;
+    for act in acts {
+        match act {
+            Act::Took { .. } => {
+                write!(text, "{writes}/{syncs} ").ok()?;
+                writes = 0;
+                syncs = 0;
+            }
+            Act::Wrote { .. } => writes = writes.saturating_add(1),
+            Act::Synced { .. } => syncs = syncs.saturating_add(1),
+            _ => {}
+        }
+    }
+    Some(text)
+}
+
+/// Whether these are the lines of the sends.
+pub fn has_sends(alloc: Global, acts: &[Act], lines: &str) -> bool {
+    match sends_of(alloc, acts) {
+        Some(sends) => sends.as_str() == lines,
+        None => false,
+    }
+}
+
+/// Whether there are so many writes and syncs; any where nothing is said.
+pub fn has_calls(alloc: Global, acts: &[Act], counts: &str) -> bool {
+    match calls_of(alloc, acts) {
+        Some(calls) => counts.is_empty() || calls.as_str() == counts,
+        None => false,
+    }
+}
