@@ -1,15 +1,15 @@
 -- A ledger goes on to stand for a history.
-use Rattle.std.proofs.Common.{◌≡◌, ℕ, suc, ◌+◌, ◌<◌, ◌≤◌, Bool, true, cond, ◌&&◌, List, [], ◌∷◌, ◌++◌, length, map, refl, sym, ap, subst, ◌∙◌, le_refl, arith}
+use Rattle.std.proofs.Common.{◌≡◌, ℕ, ◌+◌, ◌≤◌, true, ◌&&◌, List, [], ◌∷◌, ◌++◌, length, map, refl, sym, ap, subst, ◌∙◌, le_refl, arith}
 use Rattle.std.specs.Prelude.{nat_le}
 use Rattle.std.proofs.lemmas.Bool.{and_parts, and_from, leb-true}
 use Rattle.dots_settings.specs.Settings.{SettingsValue}
 use Rattle.dots_settings.specs.declared.limits.Limits.{Limits}
 use Rattle.dots_history.specs.declared.entry.Entry.{Entry}
 use Rattle.dots_history.specs.Bounds.{within_bounds}
-use Rattle.dots_history.specs.Histories.{View, Mitigation, Kept, Within, Calm, mitigations}
+use Rattle.dots_history.specs.Histories.{View, Kept, Calm, mitigations}
 use Rattle.dots_history.specs.Keeping.{kept}
 use Rattle.dots_laws.specs.Capacities.{Capacities, most_named}
-use Rattle.dots_laws.specs.Calm.{IsCalmBy, came_rightly, numbers_from}
+use Rattle.dots_laws.specs.Calm.{came_rightly, numbers_from}
 use Rattle.dots_laws.specs.Fits.{fits, joins, is_calm, has_one_peer, last_time}
 use Rattle.dots_laws.proofs.CalmCuts.{calm_more, calm_at_end, named_is_calm}
 use Rattle.dots_laws.proofs.Composing.{kept_trans, kept_later, kept_more}
@@ -27,7 +27,7 @@ use Rattle.dots_registry.specs.Filed.{StandsIn, actor_of, most_kept}
 use Rattle.dots_registry.specs.Fitting.{FitsIn, fits_now, fits_then}
 use Rattle.dots_registry.proofs.Conditions.{same_fits}
 use Rattle.slot_store.specs.Standing.{JournalValue}
-use Rattle.dots_ledger.specs.Standing.{LedgerValue, StandsFor, IsStanding, CanAccept, joins_at}
+use Rattle.dots_ledger.specs.Standing.{LedgerValue, StandsFor, joins_at}
 
 -- ---- how many slots a compaction keeps is by the settings
 

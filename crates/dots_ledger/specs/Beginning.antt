@@ -1,5 +1,5 @@
 -- How a ledger begins by what a disk holds, and why it doesn't.
-use Rattle.std.specs.Prelude.{◌≡◌, ℕ, ◌%◌, ◌⊎◌, ⊤, max, Bool, ◌&&◌, true, false, List, [], ◌∷◌, ◌++◌, length, Option}
+use Rattle.std.specs.Prelude.{◌≡◌, ℕ, ◌%◌, ◌⊎◌, ⊤, max, Bool, ◌&&◌, true, false, List, ◌∷◌, ◌++◌, length, Option}
 use Rattle.dots_disk.specs.Media.{Media}
 use Rattle.dots_disk.specs.Becoming.{RestsWith}
 use Rattle.dots_settings.specs.Settings.{SettingsValue}

@@ -1,6 +1,6 @@
 //! How a ledger begins.
 
-ghost use Rattle.std.specs.Prelude.{◌≡◌, ◌≢◌, ℕ, ◌^◌, ◌<◌, ◌≤◌, ◌⊎◌, true, List, IfOk, IfErr};
+ghost use Rattle.std.specs.Prelude.{◌≡◌, ◌≢◌, ℕ, ◌^◌, ◌<◌, ◌≤◌, ◌⊎◌, [], true, List, IfOk, IfErr};
 ghost use Rattle.dots_disk.specs.Becoming.{Leaves, RestsWith};
 ghost use Rattle.dots_settings.specs.Settings.{SettingsValue};
 ghost use Rattle.dots_history.specs.declared.entry.Entry.{Entry};
@@ -14,7 +14,7 @@ ghost use Rattle.slot_journal.specs.declared.fault.JournalFault.{JournalFault};
 ghost use Rattle.slot_journal.specs.Sizes.{slots_of};
 ghost use Rattle.slot_journal.specs.Held.{Holds};
 ghost use Rattle.slot_journal.specs.Refused.{Caused};
-ghost use Rattle.dots_ledger.specs.Beginning.{HasBegun, RefusesLedger, IsFailure};
+ghost use Rattle.dots_ledger.specs.Beginning.{HasTaken, HasBegun, RefusesLedger, IsFailure};
 
 use crate::ledger::Ledger;
 use crate::taking::take_all;
@@ -63,25 +63,76 @@ impl Ledger {
         ensures cause { Caused (D.faults disk.old) (D.faults disk.new) result }
         ensures beside { D.beside disk.old disk.new }
     {
-        let mut registry = Registry::new(alloc, settings)?;
         let keep = keep_list(alloc, settings)?;
-        let (journal, entries) = Journal::recover(alloc, disk, settings)?;
-        let many = entries.items().len();
-        let used = journal.used();
-        if many != used as usize {
-            return Err(JournalFault::NotOurs {
-                at: journal.place(0),
-            });
+        let mut registry = Registry::new(alloc, settings)?;
+        match fill(alloc, disk, settings, at, &mut registry) {
+            Ok(journal) => {
+                return Ok(Ledger {
+                    registry,
+                    journal,
+                    keep,
+                });
+            }
+            Err(fault) => return Err(give_up(registry, fault)),
         }
-        take_all(&mut registry, settings, &journal, entries)?;
-        let now = at.max(registry.time());
-        registry.tick(now);
-        Ok(Ledger {
-            registry,
-            journal,
-            keep,
-        })
     }
+}
+
+/// Recovers what the disk holds into tables that have nothing. The time is then the greater of this one and that of the last entry.
+///
+/// # Errors
+///
+/// Those of [`Ledger::begin`]. The tables are used no more.
+fn fill<D: Disk>(
+    alloc: Global,
+    disk: &mut D,
+    settings: &Settings,
+    at: u64,
+    registry: &mut Registry,
+) -> Result<Journal, JournalFault>
+    requires early { at < 2 ^ 48 }
+    requires first { HasTaken settings.now [] registry.old }
+    requires fewer { (r : RegistryValue) → IsOf settings.now r → most_kept r < slots_of settings.now }
+    ensures moments { (seen : ℕ → ℕ) (entries : List Entry) → RestsWith (D.media disk.old) (Is seen) → Holds settings.now seen entries
+        → Leaves (D.media disk.old) (D.media disk.new) (λ image. Holds settings.now image entries) }
+    ensures recovered { IfOk result (λ journal. HasBegun settings.now at (D.media disk.old) (D.media disk.new)
+        (record { registry = registry.new; journal = journal })) }
+    ensures size { IfOk result (λ journal. (journal.slots ≡ slots_of settings.now) × (needed_of (slots_of settings.now) ≤ D.extent disk.new)) }
+    ensures refused { IfErr result (λ fault. (seen : ℕ → ℕ) → Sees (D.media disk.old) seen
+        → RefusesLedger settings.now (D.extent disk.old) seen (D.media disk.new) fault) }
+    ensures complete { IfErr result (λ fault. (seen : ℕ → ℕ) (entries : List Entry) → Sees (D.media disk.old) seen → Holds settings.now seen entries
+        → is_calm settings.now entries ≡ true → needed_of (slots_of settings.now) ≤ D.extent disk.old → IsFailure fault) }
+    ensures unwritten { IfErr result (λ fault. (seen : ℕ → ℕ) → fault ≢ JournalFault.DiskFault → RestsWith (D.media disk.old) (Is seen)
+        → RestsWith (D.media disk.new) (Is seen) ⊎ ((entries : List Entry) × Holds settings.now seen entries)) }
+    ensures extent { D.extent disk.new ≡ D.extent disk.old }
+    ensures cause { Caused (D.faults disk.old) (D.faults disk.new) result }
+    ensures beside { D.beside disk.old disk.new }
+{
+    let (journal, entries) = Journal::recover(alloc, disk, settings)?;
+    let many = entries.items().len();
+    let used = journal.used();
+    if many != used as usize {
+        let at = journal.place(0);
+        return Err(refuse(entries, JournalFault::NotOurs { at }));
+    }
+    take_all(registry, settings, &journal, entries)?;
+    let now = at.max(registry.time());
+    registry.tick(now);
+    Ok(journal)
+}
+
+/// Lets the entries of a journal go, for this fault.
+fn refuse(_entries: EntryList, fault: JournalFault) -> JournalFault
+    ensures { result ≡ fault }
+{
+    fault
+}
+
+/// Lets the tables go, for this fault.
+fn give_up(_registry: Registry, fault: JournalFault) -> JournalFault
+    ensures { result ≡ fault }
+{
+    fault
 }
 
 /// An empty list with room for the slots that a compaction keeps under these settings, which are fewer than a half has.

@@ -93,8 +93,10 @@ impl Ledger {
         ensures cause { HasCause (D.faults disk.old) (D.faults disk.new) result }
         ensures beside { D.beside disk.old disk.new }
     {
-        self.make_room(disk)?;
-        self.append(disk, staged)
+        match self.make_room(disk) {
+            Ok(()) => return self.append(disk, staged),
+            Err(fault) => return Err(refuse(staged, fault)),
+        }
     }
 
     /// Compacts the journal where no slot is free.
@@ -168,8 +170,19 @@ impl Ledger {
         ensures cause { HasCause (D.faults disk.old) (D.faults disk.new) result }
         ensures beside { D.beside disk.old disk.new }
     {
-        let slot = self.journal.append(disk, staged.entry())?;
-        self.registry.apply(staged, slot);
-        Ok(())
+        match self.journal.append(disk, staged.entry()) {
+            Ok(slot) => {
+                self.registry.apply(staged, slot);
+                return Ok(());
+            }
+            Err(failed) => return Err(refuse(staged, failed)),
+        }
     }
+}
+
+/// Lets an entry go that wasn't appended, for this fault.
+fn refuse(_staged: Staged, fault: DiskFault) -> DiskFault
+    ensures { result ≡ fault }
+{
+    fault
 }

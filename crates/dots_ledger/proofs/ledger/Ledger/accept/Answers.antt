@@ -4,12 +4,12 @@ use Rattle.dots_registry.specs.Standing.{time_of, number_remembered}
 use Rattle.slot_store.proofs.Steps.{leaves_then}
 use Rattle.dots_ledger.specs.Standing.{LedgerValue, StandsFor, joins_at}
 use Rattle.dots_ledger.specs.Crashes.{HoldsEither}
-use Rattle.dots_ledger.proofs.Answering.{ok_as, err_as, err_of}
+use Rattle.dots_ledger.proofs.Answering.{ok_as, err_as}
 use Rattle.dots_ledger.proofs.Images.{leaves_compacting, leaves_appending}
 use Rattle.dots_ledger.proofs.ledger.Ledger.accept.Goals as goal
 
-pub returns-in_err-make_room-clause-moments : goal.returns-in_err-make_room-clause-moments
-returns-in_err-make_room-clause-moments g c = λ settings history entries stands joins rests.
+pub returns-in-Err-clause-moments : goal.returns-in-Err-clause-moments
+returns-in-Err-clause-moments g c = λ settings history entries stands joins rests.
     leaves_compacting
     (g.D.Disk.media c.args.disk.now)
     (g.D.Disk.media c.make_room.new.disk)
@@ -21,17 +21,13 @@ returns-in_err-make_room-clause-moments g c = λ settings history entries stands
     stands
     (c.make_room.ensures.moments settings history entries stands rests)
 
-pub returns-in_err-make_room-clause-refused : goal.returns-in_err-make_room-clause-refused
-returns-in_err-make_room-clause-refused g c =
-    err_of
-    c.from_residual.result
-    _
-    (λ settings history entries stands. (entries, subst (λ (l : LedgerValue). StandsFor l settings history entries) (sym c.in_err-make_room.ensures.same) stands))
+pub returns-in-Err-clause-refused : goal.returns-in-Err-clause-refused
+returns-in-Err-clause-refused g c = λ settings history entries stands. (entries, subst (λ (l : LedgerValue). StandsFor l settings history entries) (sym c.in-Err.ensures.same) stands)
 
 pub append-requires-clause-can : goal.append-requires-clause-can
 append-requires-clause-can g c =
     let can = c.requires.can in
-    let made = c.in_ok-make_room.ensures.compacted can.settings can.history can.entries can.stands in
+    let made = c.in-Ok.ensures.compacted can.settings can.history can.entries can.stands in
     record {
       settings = can.settings;
       history = can.history;
@@ -40,15 +36,15 @@ append-requires-clause-can g c =
       joins = subst (λ (t : ℕ). joins_at can.settings t can.history c.args.staged ≡ true) (sym c.make_room.ensures.time) can.joins;
     }
 
-pub returns-clause-moments : goal.returns-clause-moments
-returns-clause-moments g c = λ settings history entries stands joins rests.
+pub returns-in-Ok-clause-moments : goal.returns-in-Ok-clause-moments
+returns-in-Ok-clause-moments g c = λ settings history entries stands joins rests.
     let start = g.D.Disk.media c.args.disk.now in
     let mid = g.D.Disk.media c.make_room.new.disk in
     let end = g.D.Disk.media c.append.new.disk in
     let n = number_remembered c.args.self.now.registry in
     let t = time_of c.args.self.now.registry in
     let later = time_of c.make_room.new.self.registry in
-    let made = c.in_ok-make_room.ensures.compacted settings history entries stands in
+    let made = c.in-Ok.ensures.compacted settings history entries stands in
     leaves_then
     start
     mid
@@ -73,14 +69,14 @@ returns-clause-moments g c = λ settings history entries stands joins rests.
     (subst (λ (u : ℕ). joins_at settings u history c.args.staged ≡ true) (sym c.make_room.ensures.time) joins)
     (c.append.ensures.moments settings history made.0 made.1 (made.2 rests)))))
 
-pub returns-clause-accepted : goal.returns-clause-accepted
-returns-clause-accepted g c =
+pub returns-in-Ok-clause-accepted : goal.returns-in-Ok-clause-accepted
+returns-in-Ok-clause-accepted g c =
     ok_as
     c.append.result
     _
     _
     (λ goes settings history entries stands joins.
-    let made = c.in_ok-make_room.ensures.compacted settings history entries stands in
+    let made = c.in-Ok.ensures.compacted settings history entries stands in
     let end = goes
     settings
     history
@@ -90,13 +86,13 @@ returns-clause-accepted g c =
     (made.0 ++ c.args.staged ∷ [], end.0, λ rests. end.1 (made.2 rests)))
     c.append.ensures.appended
 
-pub returns-clause-refused : goal.returns-clause-refused
-returns-clause-refused g c =
+pub returns-in-Ok-clause-refused : goal.returns-in-Ok-clause-refused
+returns-in-Ok-clause-refused g c =
     err_as
     c.append.result
     _
     _
     (λ same settings history entries stands.
-    let made = c.in_ok-make_room.ensures.compacted settings history entries stands in
+    let made = c.in-Ok.ensures.compacted settings history entries stands in
     (made.0, subst (λ (l : LedgerValue). StandsFor l settings history made.0) (sym same) made.1))
     c.append.ensures.same

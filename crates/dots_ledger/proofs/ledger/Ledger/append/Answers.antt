@@ -1,4 +1,4 @@
-use Rattle.std.proofs.Common.{◌≡◌, ℕ, List, [], ◌∷◌, ◌++◌, true, sym, ap, subst, ◌∙◌, arith}
+use Rattle.std.proofs.Common.{◌≡◌, [], ◌∷◌, ◌++◌, true, sym, ap, subst, arith}
 use Rattle.dots_disk.specs.Becoming.{Leaves, RestsWith}
 use Rattle.dots_history.specs.declared.entry.Entry.{Entry}
 use Rattle.dots_registry.specs.Standing.{time_of}
@@ -14,16 +14,24 @@ apply-requires g c =
     let can = subst (λ (l : LedgerValue). CanAccept l c.args.staged) (sym c.self.view_is) c.requires.can in
     fits_in (record { registry = c.self.inside.registry; journal = c.self.inside.journal }) can.settings can.history can.entries c.args.staged can.stands can.joins
 
-pub returns-clause-moments : goal.returns-clause-moments
-returns-clause-moments g c = λ settings history entries stands rests.
+pub returns-in-Ok-clause-moments : goal.returns-in-Ok-clause-moments
+returns-in-Ok-clause-moments g c = λ settings history entries stands rests.
     subst
     (λ (e : Entry). Leaves (g.D.Disk.media c.args.disk.now) (g.D.Disk.media c.append.new.disk) (HoldsOne settings entries (entries ++ e ∷ [])))
     c.entry.ensures
     (c.append.ensures.moments settings entries
     (subst (λ (l : LedgerValue). RestsWith (g.D.Disk.media c.args.disk.now) (journal.StandsFor l.journal settings entries)) (sym c.self.view_is) rests))
 
-pub invariant_of-self-2 : goal.invariant_of-self-2
-invariant_of-self-2 g c =
+pub returns-in-Err-clause-moments : goal.returns-in-Err-clause-moments
+returns-in-Err-clause-moments g c = λ settings history entries stands rests.
+    subst
+    (λ (e : Entry). Leaves (g.D.Disk.media c.args.disk.now) (g.D.Disk.media c.append.new.disk) (HoldsOne settings entries (entries ++ e ∷ [])))
+    c.entry.ensures
+    (c.append.ensures.moments settings entries
+    (subst (λ (l : LedgerValue). RestsWith (g.D.Disk.media c.args.disk.now) (journal.StandsFor l.journal settings entries)) (sym c.self.view_is) rests))
+
+pub invariant_of-self : goal.invariant_of-self
+invariant_of-self g c =
     let can = subst (λ (l : LedgerValue). CanAccept l c.args.staged) (sym c.self.view_is) c.requires.can in
     let most = most_same can.settings c.self.inside.registry c.apply.new.self can.stands.is_of (c.apply.ensures.settings can.settings can.stands.is_of) in
     let room = c.self.invariant.1 in (
@@ -32,13 +40,13 @@ invariant_of-self-2 g c =
         history = can.history ++ c.args.staged ∷ [];
         entries = can.entries ++ c.args.staged ∷ [];
         stands = stands_more
-            c.in_ok-slot.slot
+            c.in-Ok.slot
             c.args.staged
             (record { registry = c.self.inside.registry; journal = c.self.inside.journal })
             (record { registry = c.apply.new.self; journal = c.append.new.self })
-            (ap (λ (j : JournalValue). j.used) c.in_ok-slot.ensures.next)
-            (ap (λ (j : JournalValue). j.slots) c.in_ok-slot.ensures.next)
-            c.in_ok-slot.ensures.slot
+            (ap (λ (j : JournalValue). j.used) c.in-Ok.ensures.next)
+            (ap (λ (j : JournalValue). j.slots) c.in-Ok.ensures.next)
+            c.in-Ok.ensures.slot
             c.apply.ensures.time
             c.apply.ensures.stands
             c.apply.ensures.filed
@@ -52,16 +60,16 @@ invariant_of-self-2 g c =
       omega (arith, most, room),
     )
 
-pub returns-clause-appended : goal.returns-clause-appended
-returns-clause-appended g c = λ settings history entries stands joins. (
+pub returns-in-Ok-clause-appended : goal.returns-in-Ok-clause-appended
+returns-in-Ok-clause-appended g c = λ settings history entries stands joins. (
   stands_more
-      c.in_ok-slot.slot
+      c.in-Ok.slot
       c.args.staged
       (record { registry = c.self.inside.registry; journal = c.self.inside.journal })
       (record { registry = c.apply.new.self; journal = c.append.new.self })
-      (ap (λ (j : JournalValue). j.used) c.in_ok-slot.ensures.next)
-      (ap (λ (j : JournalValue). j.slots) c.in_ok-slot.ensures.next)
-      c.in_ok-slot.ensures.slot
+      (ap (λ (j : JournalValue). j.used) c.in-Ok.ensures.next)
+      (ap (λ (j : JournalValue). j.slots) c.in-Ok.ensures.next)
+      c.in-Ok.ensures.slot
       c.apply.ensures.time
       c.apply.ensures.stands
       c.apply.ensures.filed
@@ -75,6 +83,6 @@ returns-clause-appended g c = λ settings history entries stands joins. (
       subst
       (λ (e : Entry). RestsWith (g.D.Disk.media c.append.new.disk) (journal.StandsFor c.append.new.self settings (entries ++ e ∷ [])))
       c.entry.ensures
-      (c.in_ok-slot.ensures.rests settings entries
+      (c.in-Ok.ensures.rests settings entries
       (subst (λ (l : LedgerValue). RestsWith (g.D.Disk.media c.args.disk.now) (journal.StandsFor l.journal settings entries)) (sym c.self.view_is) rests)),
 )
