@@ -1,5 +1,5 @@
 -- The order of encodings goes by their parts, since no part is the front of another.
-use Rattle.std.proofs.Common.{◌≡◌, ℕ, zero, suc, ◌+◌, ◌<◌, List, [], ◌∷◌, ◌++◌, length, get_or, drop, Ordering, Less, Equal, Greater, nat_cmp, is_eq, refl, sym, ap, subst, ◌∙◌, append_assoc, arith, drop-cons, add-one}
+use Rattle.std.proofs.Common.{◌≡◌, ℕ, zero, suc, ◌+◌, ◌<◌, List, [], ◌∷◌, ◌++◌, length, get_or, drop, Ordering, Less, Equal, Greater, nat_cmp, is_eq, refl, sym, ap, subst, ◌∙◌, append_assoc, arith}
 use Rattle.std.proofs.lemmas.List.{append-nil}
 use Rattle.std.proofs.lemmas.Map.Text.{is_eq-slice_cmp}
 use Rattle.std.proofs.lemmas.Slice.Eq.{bytes_eq-Decides}
@@ -12,7 +12,7 @@ use Rattle.cbor_profile.specs.Parts.{number_of, major, argument, content}
 use Rattle.cbor_profile.specs.Valid.{IsSound, AreSound, ArePairsSound}
 use Rattle.cbor_profile.specs.declared.item.Item.{Item}
 use Rattle.cbor_profile.specs.View.{tree_of}
-use Rattle.cbor_profile.proofs.Views.{items_view, pairs_view}
+use Rattle.cbor_profile.proofs.Views.{dropped, items_view, pairs_view}
 use Rattle.cbor_profile.proofs.Heads.{one_head}
 use Rattle.cbor_profile.proofs.Spellings.{argument_fits, in_parts, one_spelling}
 
@@ -120,9 +120,6 @@ pair_sound_at : (xs : List (Item × Item)) (i : ℕ) (x : Item × Item) → AreP
 pair_sound_at [] i x h lt is = absurd (omega arith)
 pair_sound_at (y ∷ ys) zero x h lt is = subst (λ (z : Item × Item). IsSound (tree_of z.0) × IsSound (tree_of z.1)) (sym is) (h.0, h.1)
 pair_sound_at (y ∷ ys) (suc i) x h lt is = pair_sound_at ys i x h.2 (omega arith) is
-
-dropped : {A : Type 0} (xs : List A) (i : ℕ) (x : A) → i < length xs → x ≡ get_or xs i x → drop i xs ≡ x ∷ drop (i + 1) xs
-dropped {A} xs i x lt is = rw add-one (drop-cons xs i x lt ∙ ap (λ (y : A). y ∷ drop (suc i) xs) (sym is))
 
 -- the next items of two arrays, and those after them
 pub record NextItems (xs ys : List Item) (i : ℕ) (x y : Item) : Type 0 where

@@ -11,10 +11,12 @@ pub mod Inside
 pub mod Keys
 pub mod Levels
 pub mod Loops
+pub mod Made
 pub mod Nested
 pub mod Ordered
 pub mod Paired
 pub mod PartFaults
+pub mod Parts
 pub mod Places
 pub mod Readings
 pub mod Refusals

@@ -1,9 +1,9 @@
 -- An item beside its tree.
-use Rattle.std.proofs.Common.{◌≡◌, ℕ, suc, List, [], ◌∷◌, length, map, refl, sym, ap, subst, ◌∙◌, rules}
-use Rattle.cbor_profile.specs.declared.item.Item.{Item, Unsigned, Array, Map, the_lemmas}
+use Rattle.std.proofs.Common.{◌≡◌, ℕ, suc, ◌+◌, ◌<◌, List, [], ◌∷◌, length, get_or, drop, map, refl, sym, ap, subst, ◌∙◌, rules, drop-cons, add-one}
+use Rattle.cbor_profile.specs.declared.item.Item.{Item, Unsigned, Bytes, Text, Array, Map, the_lemmas}
 use Rattle.cbor_profile.specs.declared.item.ItemList.{ItemList, the_lemmas as items_lemmas}
 use Rattle.cbor_profile.specs.declared.item.PairList.{PairList, the_lemmas as pairs_lemmas}
-use Rattle.cbor_profile.specs.Tree.{Tree, Trees, Pairs, unsigned, array, mapping, count, pair_count}
+use Rattle.cbor_profile.specs.Tree.{Tree, Trees, Pairs, unsigned, byte_string, text, array, mapping, count, pair_count}
 use Rattle.cbor_profile.specs.Parts.{argument}
 use Rattle.cbor_profile.specs.Valid.{IsSound, AreSound, ArePairsSound}
 use Rattle.cbor_profile.specs.View.{tree_of, trees, tree_pairs, items_of, pairs_of}
@@ -13,6 +13,10 @@ items_view xs = items_of (map tree_of xs)
 
 abbrev pub pairs_view : List (Item × Item) → Pairs
 pairs_view xs = pairs_of (map (λ p. (tree_of p.0, tree_of p.1)) xs)
+
+-- the next element, in front of those behind it
+pub dropped : {A : Type 0} (xs : List A) (i : ℕ) (x : A) → i < length xs → x ≡ get_or xs i x → drop i xs ≡ x ∷ drop (i + 1) xs
+dropped {A} xs i x lt is = rw add-one (drop-cons xs i x lt ∙ ap (λ (y : A). y ∷ drop (suc i) xs) (sym is))
 
 pub count_is : (xs : List Item) → count (items_view xs) ≡ length xs
 count_is [] = refl
@@ -30,6 +34,12 @@ tree_pairs_are list = search (rules, pairs_lemmas)
 
 pub tree_of-Unsigned : (number : ℕ) → tree_of (Unsigned number) ≡ unsigned number
 tree_of-Unsigned number = search (rules, the_lemmas)
+
+pub tree_of-Bytes : (bytes : List ℕ) → tree_of (Bytes bytes) ≡ byte_string bytes
+tree_of-Bytes bytes = search (rules, the_lemmas)
+
+pub tree_of-Text : (bytes : List ℕ) → tree_of (Text bytes) ≡ text bytes
+tree_of-Text bytes = search (rules, the_lemmas)
 
 pub tree_of-Array : (list : ItemList) → tree_of (Array list) ≡ array (items_of (trees list))
 tree_of-Array list = search (rules, the_lemmas)

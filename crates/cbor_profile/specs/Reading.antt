@@ -167,30 +167,43 @@ abbrev pub nested : {A : Type 0} → Option (List ℕ → Read Tree) → ℕ →
 nested None at f = Err (Deep at)
 nested (Some read) at f = f read
 
+-- strings and parts as items
+abbrev pub as_bytes : Read (List ℕ) → Read Tree
+as_bytes read = read >>= λ string. Ok (byte_string string.0, string.1)
+
+abbrev pub as_text : Read (List ℕ) → Read Tree
+as_text read = read >>= λ string. Ok (text string.0, string.1)
+
+abbrev pub as_array : Read (List Tree) → Read Tree
+as_array read = read >>= λ ts. Ok (array (items_of ts.0), ts.1)
+
+abbrev pub as_map : Read (List (Tree × Tree)) → Read Tree
+as_map read = read >>= λ ps. Ok (mapping (pairs_of ps.0), ps.1)
+
 abbrev pub simple : ℕ → Tree
 simple n = if n == 20 then boolean false else if n == 21 then boolean true else null
 
 abbrev pub array_at : (List ℕ → Read Tree) → ℕ → ℕ → List ℕ → Read Tree
-array_at read end info bytes = argument_at end info bytes >>= λ n. items_at read n.0 n.1 >>= λ ts. Ok (array (items_of ts.0), ts.1)
+array_at read end info bytes = argument_at end info bytes >>= λ n. as_array (items_at read n.0 n.1)
 
 abbrev pub map_at : (List ℕ → Read Tree) → ℕ → ℕ → List ℕ → Read Tree
-map_at read end info bytes = argument_at end info bytes >>= λ n. pairs_at read end n.0 [] n.1 >>= λ ps. Ok (mapping (pairs_of ps.0), ps.1)
+map_at read end info bytes = argument_at end info bytes >>= λ n. as_map (pairs_at read end n.0 [] n.1)
 
 abbrev pub tag_at : (List ℕ → Read Tree) → ℕ → ℕ → List ℕ → Read Tree
 tag_at read end info bytes = argument_at end info bytes >>= λ n. read n.1 >>= λ t. Ok (tag n.0 t.0, t.1)
 
 abbrev pub open_array_at : (List ℕ → Read Tree) → ℕ → List ℕ → Read Tree
-open_array_at read end bytes = open_items_at read (length bytes) end bytes >>= λ ts. Ok (array (items_of ts.0), ts.1)
+open_array_at read end bytes = as_array (open_items_at read (length bytes) end bytes)
 
 abbrev pub open_map_at : (List ℕ → Read Tree) → ℕ → List ℕ → Read Tree
-open_map_at read end bytes = open_pairs_at read (length bytes) end [] bytes >>= λ ps. Ok (mapping (pairs_of ps.0), ps.1)
+open_map_at read end bytes = as_map (open_pairs_at read (length bytes) end [] bytes)
 
 -- behind the initial byte, which stands at the place at
 unfoldable pub value_at : Option (List ℕ → Read Tree) → ℕ → ℕ → Major → ℕ → List ℕ → Read Tree
 value_at parts end at major_type.Unsigned info bytes = argument_at end info bytes >>= λ n. Ok (unsigned n.0, n.1)
 value_at parts end at major_type.Negative info bytes = argument_at end info bytes >>= λ n. Ok (negative n.0, n.1)
-value_at parts end at major_type.Bytes info bytes = string_at end at major_type.Bytes info bytes >>= λ string. Ok (byte_string string.0, string.1)
-value_at parts end at major_type.Text info bytes = string_at end at major_type.Text info bytes >>= λ string. Ok (text string.0, string.1)
+value_at parts end at major_type.Bytes info bytes = as_bytes (string_at end at major_type.Bytes info bytes)
+value_at parts end at major_type.Text info bytes = as_text (string_at end at major_type.Text info bytes)
 value_at parts end at major_type.Array info bytes =
     nested parts at (λ read. array_at read end info bytes)
 value_at parts end at major_type.Map info bytes =
@@ -200,8 +213,8 @@ value_at parts end at major_type.Tag info bytes =
 value_at parts end at major_type.Simple info bytes = Ok (simple info, bytes)
 
 unfoldable pub indefinite_at : Option (List ℕ → Read Tree) → ℕ → ℕ → Major → List ℕ → Read Tree
-indefinite_at parts end at major_type.Bytes bytes = parts_at (length bytes) end major_type.Bytes bytes >>= λ string. Ok (byte_string string.0, string.1)
-indefinite_at parts end at major_type.Text bytes = parts_at (length bytes) end major_type.Text bytes >>= λ string. Ok (text string.0, string.1)
+indefinite_at parts end at major_type.Bytes bytes = as_bytes (parts_at (length bytes) end major_type.Bytes bytes)
+indefinite_at parts end at major_type.Text bytes = as_text (parts_at (length bytes) end major_type.Text bytes)
 indefinite_at parts end at major_type.Array bytes =
     nested parts at (λ read. open_array_at read end bytes)
 indefinite_at parts end at major_type.Map bytes =

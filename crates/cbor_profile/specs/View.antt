@@ -44,9 +44,3 @@ pair_of p = (tree_of p.0, tree_of p.1)
 -- what the readers answer, with the bytes behind it
 abbrev pub item_read : Item × Bor (List ℕ) → Tree × List ℕ
 item_read read = (tree_of read.0, read.1.now)
-
-abbrev pub items_read : ItemList × Bor (List ℕ) → List Tree × List ℕ
-items_read read = (trees read.0, read.1.now)
-
-abbrev pub pairs_read : PairList × Bor (List ℕ) → List (Tree × Tree) × List ℕ
-pairs_read read = (tree_pairs read.0, read.1.now)

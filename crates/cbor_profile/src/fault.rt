@@ -8,7 +8,7 @@ use std::fmt;
 
 /// Why [`decode`](crate::decode) answers no item: the first fault from left to right, and the place of the byte
 /// where it is, counted from 0.
-#[derive(Clone, Copy, Debug, PartialEq, Eq)]
+#[derive(Clone, Copy, Debug)]
 pub enum CborFault {
     /// The input ends inside the item. The place is the length of the input.
     Short { at: usize },

@@ -8,7 +8,7 @@ ghost use Rattle.cbor_profile.specs.Reading.{major_of, simple_start, sized_start
 pub(crate) const BREAK: u8 = 0xff;
 
 /// The major type of an item (section 3.1).
-#[derive(Clone, Copy, Debug, PartialEq, Eq)]
+#[derive(Clone, Copy)]
 pub(crate) enum Major {
     Unsigned,
     Negative,
@@ -54,7 +54,7 @@ impl Major {
 }
 
 /// What an item begins with.
-#[derive(Clone, Copy, Debug, PartialEq, Eq)]
+#[derive(Clone, Copy)]
 pub(crate) enum Start {
     /// A head, whose argument is or follows this additional information, up to 27.
     Value(Major, u8),

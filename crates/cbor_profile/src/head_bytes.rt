@@ -15,7 +15,7 @@ pub(crate) const TRUE: u64 = 21;
 pub(crate) const NULL: u64 = 22;
 
 /// A head in its shortest form.
-#[derive(Debug, Drop)]
+#[derive(Drop)]
 pub(crate) struct HeadBytes {
     bytes: [u8; 9],
     len: usize,

@@ -7,7 +7,6 @@ use std::alloc::Global;
 
 /// A data item (RFC 8949, section 3.1).
 #[cycle(item)]
-#[derive(Debug)]
 pub enum Item {
     Unsigned(u64),
     /// The number -1 - n.
@@ -24,14 +23,14 @@ pub enum Item {
 
 /// The items of an array.
 #[cycle(item)]
-#[derive(Debug, Drop)]
+#[derive(Drop)]
 pub struct ItemList {
     pub(crate) items: Vec<Item>,
 }
 
 /// The pairs of a map, each a key and its value.
 #[cycle(item)]
-#[derive(Debug, Drop)]
+#[derive(Drop)]
 pub struct PairList {
     pub(crate) items: Vec<(Item, Item)>,
 }
@@ -120,8 +119,7 @@ impl ItemList {
         ensures room { IfOk result (λ list. vec_len list.items < vec_capacity list.items) }
     {
         if self.items.len() == self.items.capacity() {
-            let list = self.grown()?;
-            return Ok(list);
+            return self.grown();
         }
         Ok(self)
     }
@@ -186,8 +184,7 @@ impl PairList {
         ensures room { IfOk result (λ list. vec_len list.items < vec_capacity list.items) }
     {
         if self.items.len() == self.items.capacity() {
-            let list = self.grown()?;
-            return Ok(list);
+            return self.grown();
         }
         Ok(self)
     }

@@ -6,11 +6,11 @@ ghost use Rattle.cbor_profile.specs.declared.fault.CborFault.{CborFault};
 ghost use Rattle.cbor_profile.specs.declared.fault.CborFault.TheVariants.{NoMemory};
 ghost use Rattle.cbor_profile.specs.Tree.{Tree, pairs_of};
 ghost use Rattle.cbor_profile.specs.Valid.{IsValid, IsSound, KeysRise};
-ghost use Rattle.cbor_profile.specs.View.{tree_of, trees, tree_pairs, item_read, items_read, pairs_read};
+ghost use Rattle.cbor_profile.specs.View.{tree_of, tree_pairs, item_read};
 ghost use Rattle.cbor_profile.specs.Gathering.{gathered, IsGathered};
 ghost use Rattle.cbor_profile.specs.Spelling.{Spells};
 ghost use Rattle.cbor_profile.specs.Breaking.{Refuses};
-ghost use Rattle.cbor_profile.specs.Reading.{Gives, simple, items_at, open_items_at, pair_at, pairs_at, open_pairs_at, array_at, map_at, tag_at, open_array_at, open_map_at, value_at, indefinite_at, item_at, parts_of, whole};
+ghost use Rattle.cbor_profile.specs.Reading.{Gives, simple, items_at, pair_at, pairs_at, as_array, as_map, array_at, map_at, tag_at, open_array_at, open_map_at, value_at, indefinite_at, item_at, parts_of, whole};
 
 use crate::argument::read_argument;
 use crate::fault::CborFault;
@@ -110,14 +110,8 @@ fn read_value(
             let (number, rest) = read_argument(end, info, bytes)?;
             Ok((Item::Negative(number), rest))
         }
-        Major::Bytes => {
-            let (string, rest) = read_byte_string(alloc, end, at, info, bytes)?;
-            Ok((Item::Bytes(string), rest))
-        }
-        Major::Text => {
-            let (string, rest) = read_text(alloc, end, at, info, bytes)?;
-            Ok((Item::Text(string), rest))
-        }
+        Major::Bytes => read_byte_string(alloc, end, at, info, bytes),
+        Major::Text => read_text(alloc, end, at, info, bytes),
         Major::Array if levels > 0 => read_array(alloc, end, info, bytes, levels - 1),
         Major::Map if levels > 0 => read_map(alloc, end, info, bytes, levels - 1),
         Major::Tag if levels > 0 => read_tag(alloc, end, info, bytes, levels - 1),
@@ -153,14 +147,8 @@ fn read_indefinite(
     ensures shorter { IfOk result (λ read. length read.1.now ≤ length bytes.now) }
 {
     match major {
-        Major::Bytes => {
-            let (string, rest) = read_byte_parts(alloc, end, bytes)?;
-            Ok((Item::Bytes(string), rest))
-        }
-        Major::Text => {
-            let (string, rest) = read_text_parts(alloc, end, bytes)?;
-            Ok((Item::Text(string), rest))
-        }
+        Major::Bytes => read_byte_parts(alloc, end, bytes),
+        Major::Text => read_text_parts(alloc, end, bytes),
         Major::Array if levels > 0 => read_open_array(alloc, end, bytes, levels - 1),
         Major::Map if levels > 0 => read_open_map(alloc, end, bytes, levels - 1),
         Major::Array | Major::Map => Err(CborFault::Deep { at }),
@@ -188,11 +176,10 @@ fn read_array(
     ensures shorter { IfOk result (λ read. length read.1.now ≤ length bytes.now) }
 {
     let (count, rest) = read_argument(end, info, bytes)?;
-    let (items, rest) = read_items(alloc, end, count, rest, levels)?;
-    Ok((Item::Array(items), rest))
+    read_items(alloc, end, count, rest, levels)
 }
 
-/// So many items, one after the other.
+/// The array of so many items.
 #[cycle(reader)]
 fn read_items(
     alloc: Global,
@@ -200,9 +187,9 @@ fn read_items(
     count: u64,
     bytes: &[u8],
     levels: u8,
-) -> Result<(ItemList, &[u8]), CborFault>
+) -> Result<(Item, &[u8]), CborFault>
     requires { length bytes.now ≤ end }
-    ensures value { Gives items_read result (items_at (item_at levels end) count bytes.now) }
+    ensures value { Gives item_read result (as_array (items_at (item_at levels end) count bytes.now)) }
     ensures shorter { IfOk result (λ read. length read.1.now ≤ length bytes.now) }
 {
     let mut items = ItemList::with_room(alloc, first_room(count, bytes))?;
@@ -213,7 +200,7 @@ fn read_items(
         items.push_within(item);
         rest = after;
     }
-    Ok((items, rest))
+    Ok((Item::Array(items), rest))
 }
 
 #[cycle(reader)]
@@ -233,6 +220,7 @@ fn read_tag(
     Ok((Item::Tag(number, Box::new(alloc, item)?), rest))
 }
 
+/// The array of the items up to the end of an indefinite length. Each takes a byte at least.
 #[cycle(reader)]
 fn read_open_array(
     alloc: Global,
@@ -244,22 +232,6 @@ fn read_open_array(
     ensures value { Gives item_read result (open_array_at (item_at levels end) end bytes.now) }
     ensures shorter { IfOk result (λ read. length read.1.now ≤ length bytes.now) }
 {
-    let (items, rest) = read_open_items(alloc, end, bytes, levels)?;
-    Ok((Item::Array(items), rest))
-}
-
-/// The items up to the end of an indefinite length. Each takes a byte at least.
-#[cycle(reader)]
-fn read_open_items(
-    alloc: Global,
-    end: usize,
-    bytes: &[u8],
-    levels: u8,
-) -> Result<(ItemList, &[u8]), CborFault>
-    requires { length bytes.now ≤ end }
-    ensures value { Gives items_read result (open_items_at (item_at levels end) (length bytes.now) end bytes.now) }
-    ensures shorter { IfOk result (λ read. length read.1.now ≤ length bytes.now) }
-{
     let mut items = ItemList::new(alloc);
     let mut rest = bytes;
     for _ in 0..bytes.len() {
@@ -267,7 +239,7 @@ fn read_open_items(
             return Err(CborFault::Short { at: end });
         };
         if *first == BREAK {
-            return Ok((items, behind));
+            return Ok((Item::Array(items), behind));
         }
         let (item, after) = read_item(alloc, end, rest, levels)?;
         items.push(item)?;
@@ -289,11 +261,10 @@ fn read_map(
     ensures shorter { IfOk result (λ read. length read.1.now ≤ length bytes.now) }
 {
     let (count, rest) = read_argument(end, info, bytes)?;
-    let (pairs, rest) = read_pairs(alloc, end, count, rest, levels)?;
-    Ok((Item::Map(pairs), rest))
+    read_pairs(alloc, end, count, rest, levels)
 }
 
-/// So many pairs, in the order of their keys. Most keys are numbers below 24, each after the last.
+/// The map of so many pairs, in the order of their keys. Most keys are numbers below 24, each after the last.
 #[cycle(reader)]
 fn read_pairs(
     alloc: Global,
@@ -301,9 +272,9 @@ fn read_pairs(
     count: u64,
     bytes: &[u8],
     levels: u8,
-) -> Result<(PairList, &[u8]), CborFault>
+) -> Result<(Item, &[u8]), CborFault>
     requires { length bytes.now ≤ end }
-    ensures value { Gives pairs_read result (pairs_at (item_at levels end) end count [] bytes.now) }
+    ensures value { Gives item_read result (as_map (pairs_at (item_at levels end) end count [] bytes.now)) }
     ensures shorter { IfOk result (λ read. length read.1.now ≤ length bytes.now) }
 {
     let mut pairs = PairList::with_room(alloc, first_room(count, bytes))?;
@@ -319,10 +290,10 @@ fn read_pairs(
             _ => return read_other_pairs(alloc, end, count - done, pairs, rest, levels),
         }
     }
-    Ok((pairs, rest))
+    Ok((Item::Map(pairs), rest))
 }
 
-/// So many pairs more, in the order of their keys. Senders mostly put them so, and then each comes behind the last.
+/// The map with so many pairs more, in the order of their keys. Senders mostly put them so, and then each comes behind the last.
 #[cycle(reader)]
 #[inline(never)]
 fn read_other_pairs(
@@ -332,11 +303,11 @@ fn read_other_pairs(
     pairs: PairList,
     bytes: &[u8],
     levels: u8,
-) -> Result<(PairList, &[u8]), CborFault>
+) -> Result<(Item, &[u8]), CborFault>
     requires within { length bytes.now ≤ end }
     requires rise { KeysRise (pairs_of (tree_pairs pairs)) }
     requires sound { AllByRecursion (λ p. IsSound p.0) (tree_pairs pairs) }
-    ensures value { Gives pairs_read result (pairs_at (item_at levels end) end count (tree_pairs pairs) bytes.now) }
+    ensures value { Gives item_read result (as_map (pairs_at (item_at levels end) end count (tree_pairs pairs) bytes.now)) }
     ensures shorter { IfOk result (λ read. length read.1.now ≤ length bytes.now) }
 {
     let mut pairs = pairs;
@@ -359,10 +330,10 @@ fn read_other_pairs(
             }
         }
     }
-    Ok((pairs, rest))
+    Ok((Item::Map(pairs), rest))
 }
 
-/// So many pairs more, whose keys may come in any order.
+/// The map with so many pairs more, whose keys may come in any order.
 #[cycle(reader)]
 #[cold]
 #[inline(never)]
@@ -373,11 +344,11 @@ fn read_late_pairs(
     pairs: PairList,
     bytes: &[u8],
     levels: u8,
-) -> Result<(PairList, &[u8]), CborFault>
+) -> Result<(Item, &[u8]), CborFault>
     requires within { length bytes.now ≤ end }
     requires rise { KeysRise (pairs_of (tree_pairs pairs)) }
     requires sound { AllByRecursion (λ p. IsSound p.0) (tree_pairs pairs) }
-    ensures value { Gives pairs_read result (pairs_at (item_at levels end) end count (tree_pairs pairs) bytes.now) }
+    ensures value { Gives item_read result (as_map (pairs_at (item_at levels end) end count (tree_pairs pairs) bytes.now)) }
     ensures shorter { IfOk result (λ read. length read.1.now ≤ length bytes.now) }
 {
     let mut pairs = Gathered::Rising(pairs);
@@ -386,9 +357,10 @@ fn read_late_pairs(
         let after = read_pair(alloc, end, &mut pairs, rest, levels)?;
         rest = after;
     }
-    Ok((pairs.into_list(alloc)?, rest))
+    Ok((Item::Map(pairs.into_list(alloc)?), rest))
 }
 
+/// The map of the pairs up to the end of an indefinite length, in the order of their keys. Each takes a byte at least.
 #[cycle(reader)]
 fn read_open_map(
     alloc: Global,
@@ -400,22 +372,6 @@ fn read_open_map(
     ensures value { Gives item_read result (open_map_at (item_at levels end) end bytes.now) }
     ensures shorter { IfOk result (λ read. length read.1.now ≤ length bytes.now) }
 {
-    let (pairs, rest) = read_open_pairs(alloc, end, bytes, levels)?;
-    Ok((Item::Map(pairs), rest))
-}
-
-/// The pairs up to the end of an indefinite length, in the order of their keys. Each takes a byte at least.
-#[cycle(reader)]
-fn read_open_pairs(
-    alloc: Global,
-    end: usize,
-    bytes: &[u8],
-    levels: u8,
-) -> Result<(PairList, &[u8]), CborFault>
-    requires { length bytes.now ≤ end }
-    ensures value { Gives pairs_read result (open_pairs_at (item_at levels end) (length bytes.now) end [] bytes.now) }
-    ensures shorter { IfOk result (λ read. length read.1.now ≤ length bytes.now) }
-{
     let mut pairs = Gathered::new(alloc);
     let mut rest = bytes;
     for _ in 0..bytes.len() {
@@ -423,7 +379,7 @@ fn read_open_pairs(
             return Err(CborFault::Short { at: end });
         };
         if *first == BREAK {
-            return Ok((pairs.into_list(alloc)?, behind));
+            return Ok((Item::Map(pairs.into_list(alloc)?), behind));
         }
         let after = read_pair(alloc, end, &mut pairs, rest, levels)?;
         rest = after;

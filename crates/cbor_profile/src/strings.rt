@@ -2,11 +2,13 @@
 
 ghost use Rattle.std.specs.Prelude.{◌≡◌, ◌≤◌, ◌<◌, ◌+◌, ℕ, length, IfOk};
 ghost use Rattle.cbor_profile.specs.declared.head.Major.TheVariants as major_type;
-ghost use Rattle.cbor_profile.specs.Reading.{Gives, argument_at, content_at, raw_at, string_at, is_part, parts_at};
+ghost use Rattle.cbor_profile.specs.View.{item_read};
+ghost use Rattle.cbor_profile.specs.Reading.{Gives, argument_at, content_at, raw_at, string_at, is_part, parts_at, as_bytes, as_text};
 
 use crate::argument::read_argument;
 use crate::fault::CborFault;
 use crate::head::{BREAK, Major};
+use crate::item::Item;
 use dots_lists::{Bytes, Text};
 use std::alloc::Global;
 use std::str;
@@ -19,12 +21,12 @@ pub(crate) fn read_byte_string(
     at: usize,
     info: u8,
     bytes: &[u8],
-) -> Result<(Bytes, &[u8]), CborFault>
-    ensures value { Gives (λ x. (x.0, x.1.now)) result (string_at end at major_type.Bytes info bytes.now) }
+) -> Result<(Item, &[u8]), CborFault>
+    ensures value { Gives item_read result (as_bytes (string_at end at major_type.Bytes info bytes.now)) }
     ensures shorter { IfOk result (λ x. length x.1.now ≤ length bytes.now) }
 {
     let (content, rest) = read_raw(end, at, info, bytes)?;
-    Ok((Bytes::from_slice(alloc, content)?, rest))
+    Ok((Item::Bytes(Bytes::from_slice(alloc, content)?), rest))
 }
 
 /// A text of definite length, whose initial byte stands at the place `at`.
@@ -35,14 +37,14 @@ pub(crate) fn read_text(
     at: usize,
     info: u8,
     bytes: &[u8],
-) -> Result<(Text, &[u8]), CborFault>
-    ensures value { Gives (λ x. (x.0, x.1.now)) result (string_at end at major_type.Text info bytes.now) }
+) -> Result<(Item, &[u8]), CborFault>
+    ensures value { Gives item_read result (as_text (string_at end at major_type.Text info bytes.now)) }
     ensures shorter { IfOk result (λ x. length x.1.now ≤ length bytes.now) }
 {
     let (count, rest) = read_argument(end, info, bytes)?;
     let (content, rest) = take_content(end, count, rest)?;
     match Text::new(alloc, content)? {
-        Some(text) => Ok((text, rest)),
+        Some(text) => Ok((Item::Text(text), rest)),
         None => Err(CborFault::NotUtf8 { at }),
     }
 }
@@ -63,9 +65,9 @@ pub(crate) fn read_byte_parts(
     alloc: Global,
     end: usize,
     bytes: &[u8],
-) -> Result<(Bytes, &[u8]), CborFault>
+) -> Result<(Item, &[u8]), CborFault>
     requires { length bytes.now ≤ end }
-    ensures value { Gives (λ x. (x.0, x.1.now)) result (parts_at (length bytes.now) end major_type.Bytes bytes.now) }
+    ensures value { Gives item_read result (as_bytes (parts_at (length bytes.now) end major_type.Bytes bytes.now)) }
     ensures shorter { IfOk result (λ x. length x.1.now ≤ length bytes.now) }
 {
     let mut string = Vec::new(alloc);
@@ -75,7 +77,7 @@ pub(crate) fn read_byte_parts(
             return Err(CborFault::Short { at: end });
         };
         if *first == BREAK {
-            return Ok((Bytes::from_vec(string), behind));
+            return Ok((Item::Bytes(Bytes::from_vec(string)), behind));
         }
         if !is_part(Major::Bytes, *first) {
             return Err(CborFault::Reserved {
@@ -94,9 +96,9 @@ pub(crate) fn read_text_parts(
     alloc: Global,
     end: usize,
     bytes: &[u8],
-) -> Result<(Text, &[u8]), CborFault>
+) -> Result<(Item, &[u8]), CborFault>
     requires { length bytes.now ≤ end }
-    ensures value { Gives (λ x. (x.0, x.1.now)) result (parts_at (length bytes.now) end major_type.Text bytes.now) }
+    ensures value { Gives item_read result (as_text (parts_at (length bytes.now) end major_type.Text bytes.now)) }
     ensures shorter { IfOk result (λ x. length x.1.now ≤ length bytes.now) }
 {
     let mut string = String::new(alloc);
@@ -106,7 +108,7 @@ pub(crate) fn read_text_parts(
             return Err(CborFault::Short { at: end });
         };
         if *first == BREAK {
-            return Ok((Text::from_string(string), behind));
+            return Ok((Item::Text(Text::from_string(string)), behind));
         }
         if !is_part(Major::Text, *first) {
             return Err(CborFault::Reserved {
@@ -135,8 +137,7 @@ fn read_raw(end: usize, at: usize, info: u8, bytes: &[u8]) -> Result<(&[u8], &[u
 {
     let _at = at;
     let (count, rest) = read_argument(end, info, bytes)?;
-    let (content, rest) = take_content(end, count, rest)?;
-    Ok((content, rest))
+    take_content(end, count, rest)
 }
 
 /// The content of a text of definite length, whose initial byte stands at the place `at`.

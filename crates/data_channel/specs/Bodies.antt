@@ -77,6 +77,13 @@ acl_body d = do
 abbrev pub same_name : Member → List ℕ → List ℕ → Result (Unit {0}) ListFault
 same_name of wanted given = if bytes_eq given wanted then Ok tt else Err (faults.Invalid of)
 
+-- the alias or the access list in a body, which has this name
+abbrev pub named_alias : List ℕ → Data → Result Alias ListFault
+named_alias name d = alias_body d >>= λ alias. same_name the.Name name alias.name >>= λ _. Ok alias
+
+abbrev pub named_acl : List ℕ → Data → Result Acl ListFault
+named_acl name d = acl_body d >>= λ acl. same_name the.Name name acl.name >>= λ _. Ok acl
+
 abbrev pub names_acl : Data → Bool
 names_acl d =
     is_some (get (codes "ietf-dots-data-channel:acl") d) || is_some (get (codes "ietf-dots-data-channel:acls") d)

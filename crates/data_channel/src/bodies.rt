@@ -5,7 +5,8 @@ ghost use Rattle.serde_json.specs.Find.{get};
 ghost use Rattle.serde_json.specs.View.{view};
 ghost use Rattle.list_json.specs.declared.fault.Member.TheVariants as the;
 ghost use Rattle.list_json.specs.Steps.{Gives, needed};
-ghost use Rattle.data_channel.specs.Bodies.{sole_item, client_in, listed_alias, spelled_alias, alias_body, listed_acl, spelled_acl, acl_body, same_name, names_acl, posted, whole_request};
+ghost use Rattle.data_channel.specs.declared.request.Wanted.TheVariants as wanted;
+ghost use Rattle.data_channel.specs.Bodies.{sole_item, client_in, listed_alias, spelled_alias, alias_body, listed_acl, spelled_acl, acl_body, same_name, named_alias, named_acl, names_acl, posted, whole_request};
 ghost use Rattle.data_channel.specs.Views.{ReadsValue};
 
 use crate::request::{RestRequest, Wanted};
@@ -144,6 +145,57 @@ fn posted(alloc: Global, cuid: Name, body: &Value) -> Result<RestRequest, ListFa
     Ok(RestRequest::PostAlias { cuid, alias })
 }
 
+/// What a body makes of a PUT of this client.
+fn put_client(alloc: Global, cuid: Name, body: &Value) -> Result<RestRequest, ListFault>
+    ensures { Gives result (whole_request (wanted.PutClient cuid) (view body.now)) }
+{
+    let given = client_of(alloc, body)?;
+    check_name(Member::Cuid, &cuid, &given)?;
+    Ok(RestRequest::PutClient { cuid })
+}
+
+/// The alias in a body, which has this name.
+fn named_alias(alloc: Global, name: &Name, body: &Value) -> Result<Alias, ListFault>
+    ensures { Gives result (named_alias name.now (view body.now)) }
+{
+    let alias = alias_body(alloc, body)?;
+    match check_name(Member::Name, name, &alias.name) {
+        Ok(()) => Ok(alias),
+        Err(fault) => Err(fault),
+    }
+}
+
+/// The access list in a body, which has this name.
+fn named_acl(alloc: Global, name: &Name, body: &Value) -> Result<Acl, ListFault>
+    ensures { Gives result (named_acl name.now (view body.now)) }
+{
+    let acl = acl_body(alloc, body)?;
+    match check_name(Member::Name, name, &acl.name) {
+        Ok(()) => Ok(acl),
+        Err(fault) => Err(fault),
+    }
+}
+
+/// What a body makes of a PUT of this alias.
+fn put_alias(alloc: Global, cuid: Name, name: &Name, body: &Value) -> Result<RestRequest, ListFault>
+    ensures { Gives result (whole_request (wanted.PutAlias cuid name.now) (view body.now)) }
+{
+    match named_alias(alloc, name, body) {
+        Ok(alias) => Ok(RestRequest::PutAlias { cuid, alias }),
+        Err(fault) => Err(fault),
+    }
+}
+
+/// What a body makes of a PUT of this access list.
+fn put_acl(alloc: Global, cuid: Name, name: &Name, body: &Value) -> Result<RestRequest, ListFault>
+    ensures { Gives result (whole_request (wanted.PutAcl cuid name.now) (view body.now)) }
+{
+    match named_acl(alloc, name, body) {
+        Ok(acl) => Ok(RestRequest::PutAcl { cuid, acl }),
+        Err(fault) => Err(fault),
+    }
+}
+
 /// What a body makes of a request that wants one.
 pub fn whole_request(alloc: Global, wanted: Wanted, body: &Value) -> Result<RestRequest, ListFault>
     ensures { Gives result (whole_request wanted (view body.now)) }
@@ -153,21 +205,9 @@ pub fn whole_request(alloc: Global, wanted: Wanted, body: &Value) -> Result<Rest
             let cuid = client_of(alloc, body)?;
             Ok(RestRequest::PostClient { cuid })
         }
-        Wanted::PutClient { cuid } => {
-            let given = client_of(alloc, body)?;
-            check_name(Member::Cuid, &cuid, &given)?;
-            Ok(RestRequest::PutClient { cuid })
-        }
+        Wanted::PutClient { cuid } => put_client(alloc, cuid, body),
         Wanted::PostBelow { cuid } => posted(alloc, cuid, body),
-        Wanted::PutAlias { cuid, name } => {
-            let alias = alias_body(alloc, body)?;
-            check_name(Member::Name, &name, &alias.name)?;
-            Ok(RestRequest::PutAlias { cuid, alias })
-        }
-        Wanted::PutAcl { cuid, name } => {
-            let acl = acl_body(alloc, body)?;
-            check_name(Member::Name, &name, &acl.name)?;
-            Ok(RestRequest::PutAcl { cuid, acl })
-        }
+        Wanted::PutAlias { cuid, name } => put_alias(alloc, cuid, &name, body),
+        Wanted::PutAcl { cuid, name } => put_acl(alloc, cuid, &name, body),
     }
 }

@@ -22,7 +22,7 @@ pub const ACLS: &[u8] = b"/acls";
 pub const ACL: &[u8] = b"/acls/acl=";
 
 /// A kind of resource.
-#[derive(Clone, Copy, Debug, PartialEq, Eq)]
+#[derive(Clone, Copy)]
 pub enum Kind {
     Root,
     Client,
@@ -33,7 +33,7 @@ pub enum Kind {
 }
 
 /// A resource, with the names in its path as they stand there; a name that it hasn't is empty.
-#[derive(Clone, Copy, Debug)]
+#[derive(Clone, Copy)]
 pub struct Place<'a> {
     pub kind: Kind,
     pub client: &'a [u8],

@@ -9,7 +9,7 @@ use std::error::Error;
 use std::fmt;
 
 /// Why a message is no request of the data channel: the first of these that applies, in this order.
-#[derive(Clone, Copy, Debug, PartialEq, Eq)]
+#[derive(Clone, Copy, Debug)]
 pub enum RestReject {
     /// No resource has this path: 404.
     NotFound,
@@ -30,7 +30,7 @@ pub enum RestReject {
 }
 
 /// The methods of a resource.
-#[derive(Clone, Copy, Debug, PartialEq, Eq)]
+#[derive(Clone, Copy, Debug)]
 pub enum Allow {
     /// Those of the root.
     Root,

@@ -20,7 +20,7 @@ pub type AliasList = List<Alias>;
 pub type AclList = List<Acl>;
 
 /// The body of a reply to a GET.
-#[derive(Debug, Drop)]
+#[derive(Drop)]
 pub enum RestBody {
     Client {
         cuid: Name,

@@ -3,7 +3,7 @@ use dots_lists::Name;
 
 /// A request of the data channel that can be carried out (RFC 8783, sections 4.3, 6 and 7): the client's `cuid`, and what is
 /// to be done below it. A POST creates, a PUT creates or replaces.
-#[derive(Debug, Drop)]
+#[derive(Drop)]
 pub enum RestRequest {
     PutClient { cuid: Name },
     PostClient { cuid: Name },
@@ -22,7 +22,7 @@ pub enum RestRequest {
 }
 
 /// What is asked before the body is read.
-#[derive(Debug, Drop)]
+#[derive(Drop)]
 pub enum Head {
     /// A request without a body.
     Plain(RestRequest),
@@ -31,7 +31,7 @@ pub enum Head {
 }
 
 /// A request whose body isn't read yet.
-#[derive(Debug, Drop)]
+#[derive(Drop)]
 pub enum Wanted {
     PostClient,
     PutClient { cuid: Name },
@@ -42,7 +42,7 @@ pub enum Wanted {
 }
 
 /// A resource, its names decoded.
-#[derive(Debug, Drop)]
+#[derive(Drop)]
 pub enum Resource {
     Root,
     Client(Name),
@@ -53,7 +53,7 @@ pub enum Resource {
 }
 
 /// The methods that some resource has.
-#[derive(Clone, Copy, Debug, PartialEq, Eq)]
+#[derive(Clone, Copy)]
 pub enum Verb {
     Get,
     Put,

@@ -18,9 +18,14 @@ use std::alloc::Global;
 /// up their sizes.
 pub fn repeat_json(alloc: Global, copies: [&[u8]; 2], times: u64) -> Result<u64> {
     let mut room = JsonRoom::new(alloc);
+    sum_of_sizes(alloc, &mut room, copies, times)
+}
+
+/// The same in this room.
+fn sum_of_sizes(alloc: Global, room: &mut JsonRoom, copies: [&[u8]; 2], times: u64) -> Result<u64> {
     let mut sum: u64 = 0;
     for turn in 0..times {
-        match read_body(alloc, &mut room, copies[(turn % 2) as usize]) {
+        match read_body(alloc, room, copies[(turn % 2) as usize]) {
             Some(size) => sum = sum.wrapping_add(size),
             None => bail!("no body of an alias or of an access list"),
         }

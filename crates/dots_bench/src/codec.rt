@@ -19,7 +19,7 @@ use std::alloc::Global;
 const GREATEST_PIECE: usize = 32_768;
 
 /// What decodes the bytes of a case.
-#[derive(Clone, Copy, Debug, PartialEq, Eq)]
+#[derive(Clone, Copy)]
 pub enum Codec {
     Coap,
     Cbor,

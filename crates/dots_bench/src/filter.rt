@@ -38,18 +38,24 @@ fn row(alloc: Global, line: &str) -> Result<ScrubRow> {
     })
 }
 
-/// A table with the rows of these lines, in their order.
-pub fn read_table(alloc: Global, text: &str) -> Result<FilterTable> {
-    let room = u32::try_from(text.lines().count()).context("counting rows")?;
-    let mut table = FilterTable::new(alloc, room as usize, 0)?;
+/// Puts the row at this place into the table, where it has room for it.
+fn has_installed(table: &mut FilterTable, place: u64, row: ScrubRow) -> bool {
+    if !table.has_scrub_room() {
+        return false;
+    }
+    table.install(place, row);
+    true
+}
+
+/// Puts the rows of these lines into the table, in their order.
+fn install_rows(alloc: Global, table: &mut FilterTable, text: &str) -> Result<()> {
     let mut place: u64 = 0;
     for line in text.lines() {
         let row = row(alloc, line)?;
-        ensure!(table.has_scrub_room(), "more rows than lines");
-        table.install(place, row);
+        ensure!(has_installed(table, place, row), "more rows than lines");
         place = place.wrapping_add(1);
     }
-    Ok(table)
+    Ok(())
 }
 
 /// The number of an IPv4 address.
@@ -60,7 +66,7 @@ fn number(alloc: Global, line: &str) -> Result<u32> {
 }
 
 /// The numbers of the addresses of these lines.
-pub fn read_addresses(alloc: Global, text: &str) -> Result<Vec<u32>> {
+fn read_addresses(alloc: Global, text: &str) -> Result<Vec<u32>> {
     let mut numbers = Vec::new(alloc);
     for line in text.lines() {
         numbers.push(number(alloc, line)?)?;
@@ -69,7 +75,7 @@ pub fn read_addresses(alloc: Global, text: &str) -> Result<Vec<u32>> {
 }
 
 /// Settings of a domain, which no row here looks at.
-pub fn settings(alloc: Global) -> Result<Settings> {
+fn settings(alloc: Global) -> Result<Settings> {
     let text = b"domain net\nprefix net 192.0.2.0/24\nclient 0 net\n";
     let mut source = MemorySource::new(alloc, text)?;
     match read_settings(alloc, &mut source) {
@@ -97,10 +103,41 @@ fn winning_mid(table: &FilterTable, settings: &Settings, number: u32) -> u32 {
 }
 
 /// The sum of the winning mids of packets to these addresses.
-pub fn sum_of_mids(table: &FilterTable, settings: &Settings, numbers: &[u32]) -> u64 {
+fn sum_of_mids(table: &FilterTable, settings: &Settings, numbers: &[u32]) -> u64 {
     let mut sum: u64 = 0;
     for number in numbers {
         sum = sum.wrapping_add(u64::from(winning_mid(table, settings, *number)));
     }
     sum
+}
+
+/// The sum of one round, after so many rounds.
+fn repeat_rounds(table: &FilterTable, settings: &Settings, numbers: &[u32], times: u64) -> u64 {
+    let mut sum = 0;
+    for _ in 0..times {
+        sum = sum_of_mids(table, settings, numbers);
+    }
+    sum
+}
+
+/// The same with a table of the rows of these lines.
+fn repeat_over(
+    alloc: Global,
+    rows: &str,
+    settings: &Settings,
+    numbers: &[u32],
+    times: u64,
+) -> Result<u64> {
+    let room = u32::try_from(rows.lines().count()).context("counting rows")?;
+    let mut table = FilterTable::new(alloc, room as usize, 0)?;
+    install_rows(alloc, &mut table, rows)?;
+    Ok(repeat_rounds(&table, settings, numbers, times))
+}
+
+/// Asks so often for the fates of packets to the addresses of these lines by a table with these rows, and answers the sum of the
+/// winning mids of one round.
+pub fn repeat_filter(alloc: Global, rows: &str, packets: &str, times: u64) -> Result<u64> {
+    let numbers = read_addresses(alloc, packets)?;
+    let settings = settings(alloc)?;
+    repeat_over(alloc, rows, &settings, numbers.as_slice(), times)
 }

@@ -16,15 +16,21 @@ fn stream_of(alloc: Global, bytes: &[u8]) -> Result<Stream> {
     Ok(stream)
 }
 
+/// Cuts two streams in turns, so often, and adds up what stands at their fronts.
+fn sum_of_cuts(streams: [&Stream; 2], room: &mut HeadRoom, times: u64) -> Result<u64> {
+    let mut sum: u64 = 0;
+    for turn in 0..times {
+        sum = sum.wrapping_add(cut_front(streams[(turn % 2) as usize], room)?);
+    }
+    Ok(sum)
+}
+
 /// Cuts two streams that hold the bytes, in turns, so often, and adds up what stands at their fronts.
 pub fn repeat_cut(alloc: Global, copies: [&[u8]; 2], times: u64) -> Result<u64> {
     let mut room = HeadRoom::new(alloc)?;
-    let streams = [stream_of(alloc, copies[0])?, stream_of(alloc, copies[1])?];
-    let mut sum: u64 = 0;
-    for turn in 0..times {
-        sum = sum.wrapping_add(cut_front(&streams[(turn % 2) as usize], &mut room)?);
-    }
-    Ok(sum)
+    let first = stream_of(alloc, copies[0])?;
+    let second = stream_of(alloc, copies[1])?;
+    sum_of_cuts([&first, &second], &mut room, times)
 }
 
 /// How many bytes the request at the front has; 0 where it isn't there whole.
@@ -48,9 +54,24 @@ pub fn repeat_taking(alloc: Global, copies: [&[u8]; 2], piece: usize, times: u64
     let mut stream = Stream::new(alloc)?;
     let mut sum: u64 = 0;
     for turn in 0..times {
-        for bytes in copies[(turn % 2) as usize].chunks(piece) {
-            sum = sum.wrapping_add(take_front(&mut stream, &mut room, bytes)?);
-        }
+        let bytes = copies[(turn % 2) as usize];
+        sum = sum.wrapping_add(take_pieces(&mut stream, &mut room, bytes, piece)?);
+    }
+    Ok(sum)
+}
+
+/// Takes the bytes in pieces of so many and cuts behind each, and adds up the requests that it found and dropped.
+fn take_pieces(
+    stream: &mut Stream,
+    room: &mut HeadRoom,
+    bytes: &[u8],
+    piece: usize,
+) -> Result<u64, HttpFault>
+    requires { 0 < piece }
+{
+    let mut sum: u64 = 0;
+    for bytes in bytes.chunks(piece) {
+        sum = sum.wrapping_add(take_front(stream, room, bytes)?);
     }
     Ok(sum)
 }

@@ -14,6 +14,7 @@ mod fronts;
 
 use anyhow::{Context, Result, bail, ensure};
 use codec::Codec;
+use std::alloc::Global;
 use std::{env, fs};
 
 /// The command line.
@@ -26,8 +27,15 @@ fn parse_repetitions(word: &str) -> Result<u64> {
     Ok(repetitions)
 }
 
-fn decode_digits(rt: &HostRuntime, digits: &str) -> Result<Vec<u8>> {
-    hex::decode(rt.alloc(), digits).context("reading the bytes of a case")
+fn decode_digits(alloc: Global, digits: &str) -> Result<Vec<u8>> {
+    hex::decode(alloc, digits).context("reading the bytes of a case")
+}
+
+/// Decodes the bytes that these digits write so often, and adds up what each decode read.
+fn decode_case(alloc: Global, codec: Codec, digits: &str, repetitions: u64) -> Result<u64> {
+    let first = decode_digits(alloc, digits)?;
+    let second = decode_digits(alloc, digits)?;
+    codec.decode_times(alloc, [first.as_slice(), second.as_slice()], repetitions)
 }
 
 /// Decodes the case of a line so often, and prints its name and the sum.
@@ -38,17 +46,13 @@ fn run_case(rt: &HostRuntime, line: &str, repetitions: u64) -> Result<()> {
     let Some(codec) = Codec::of_case(name) else {
         bail!("no decoder for the case {name}");
     };
-    let first = decode_digits(rt, digits)?;
-    let second = decode_digits(rt, digits)?;
-    let copies = [first.as_slice(), second.as_slice()];
-    let sum = codec.decode_times(rt.alloc(), copies, repetitions)?;
+    let sum = decode_case(rt.alloc(), codec, digits, repetitions)?;
     println!(rt; "{name} {sum}")?;
     Ok(())
 }
 
-/// Runs the cases of a file, of which there is at least one.
-fn run_cases(rt: &HostRuntime, file: &str, repetitions: u64) -> Result<()> {
-    let text = fs::read_to_string(rt, file).context("reading the case file")?;
+/// Runs the cases of these lines, of which there is at least one.
+fn run_lines(rt: &HostRuntime, text: &str, repetitions: u64) -> Result<()> {
     ensure!(!text.is_empty(), "the case file is empty");
     for line in text.lines() {
         run_case(rt, line, repetitions)?;
@@ -56,36 +60,43 @@ fn run_cases(rt: &HostRuntime, file: &str, repetitions: u64) -> Result<()> {
     Ok(())
 }
 
-/// Asks so often for the fate of a packet to each address of a file by the rows of another, and prints the sum of the
+/// Runs the cases of a file.
+fn run_cases(rt: &HostRuntime, file: &str, repetitions: &str) -> Result<()> {
+    let repetitions = parse_repetitions(repetitions)?;
+    let text = fs::read_to_string(rt, file).context("reading the case file")?;
+    run_lines(rt, text.as_str(), repetitions)
+}
+
+/// Asks so often for the fate of a packet to each address of a file by the rows of another, and answers the sum of the
 /// winning mids of one round.
-fn run_filter(rt: &HostRuntime, rows: &str, packets: &str, repetitions: u64) -> Result<()> {
+fn sum_of_files(rt: &HostRuntime, rows: &str, packets: &str, repetitions: u64) -> Result<u64> {
     let rows = fs::read_to_string(rt, rows).context("reading the rows")?;
     let packets = fs::read_to_string(rt, packets).context("reading the packets")?;
-    let table = filter::read_table(rt.alloc(), rows.as_str())?;
-    let numbers = filter::read_addresses(rt.alloc(), packets.as_str())?;
-    let settings = filter::settings(rt.alloc())?;
-    let mut sum = 0;
-    for _ in 0..repetitions {
-        sum = filter::sum_of_mids(&table, &settings, numbers.as_slice());
-    }
+    filter::repeat_filter(rt.alloc(), rows.as_str(), packets.as_str(), repetitions)
+}
+
+/// The same, and prints the sum.
+fn run_filter(rt: &HostRuntime, rows: &str, packets: &str, repetitions: &str) -> Result<()> {
+    let repetitions = parse_repetitions(repetitions)?;
+    let sum = sum_of_files(rt, rows, packets, repetitions)?;
     println!(rt; "sum {sum}")?;
     Ok(())
 }
 
-fn main(rt: HostRuntime) -> Result<()> {
-    let words = env::args(&rt)?.skip(1).collect::<Vec<String>>(rt.alloc())?;
-    match words.as_slice() {
-        [command, file, repetitions] if command.as_str() == "codec" => run_cases(
-            &rt,
-            file.as_str(),
-            parse_repetitions(repetitions.as_str())?,
-        ),
-        [command, rows, packets, repetitions] if command.as_str() == "filter" => run_filter(
-            &rt,
-            rows.as_str(),
-            packets.as_str(),
-            parse_repetitions(repetitions.as_str())?,
-        ),
+/// Does what the words of the command line say.
+fn run(rt: &HostRuntime, words: &[String]) -> Result<()> {
+    match words {
+        [command, file, repetitions] if command.as_str() == "codec" => {
+            run_cases(rt, file.as_str(), repetitions.as_str())
+        }
+        [command, rows, packets, repetitions] if command.as_str() == "filter" => {
+            run_filter(rt, rows.as_str(), packets.as_str(), repetitions.as_str())
+        }
         _ => bail!("{USAGE}"),
     }
+}
+
+fn main(rt: HostRuntime) -> Result<()> {
+    let words = env::args(&rt)?.skip(1).collect::<Vec<String>>(rt.alloc())?;
+    run(&rt, words.as_slice())
 }

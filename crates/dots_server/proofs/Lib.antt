@@ -1,4 +1,5 @@
 pub mod Acting
+pub mod Asked
 pub mod Accepting
 pub mod Bodies
 pub mod CommaTexts

@@ -51,21 +51,26 @@ later_then : (start before now : ℕ) → before ≡ start → before ≤ now �
 later_then start before now is later = subst (λ n. n ≤ now) is later
 
 -- the block was written
-pub puts_flushed : (a b : Sunk) (block : List ℕ) → Appends a.held b.held block → b.faults ≡ a.faults
-    → Puts a (record { block = block; failed = false }) b (record { block = []; failed = false }) []
-puts_flushed a b block wrote same = λ start written is. (
-  subst (λ text. Owes start.held b.held text []) (sym (append-nil written)) (owes_less start.held a.held b.held written block [] (subst (Owes start.held a.held written) (sym (append-nil block)) is.0) wrote),
-  same ∙ is.1,
-)
+pub puts_flushed : (a b : Sunk) (g h : Gathered) (block : List ℕ) → g.block ≡ block → g.failed ≡ false → h.block ≡ [] → h.failed ≡ false → Appends a.held b.held block → b.faults ≡ a.faults → Puts a g b h []
+puts_flushed a b g h block gathered well none still wrote same = λ start written is.
+    let old : HasWritten start a false block written = subst (λ f. HasWritten start a f block written) well (subst (λ block. HasWritten start a g.failed block written) gathered is) in
+    let new : HasWritten start b false [] (written ++ []) = (
+      subst (λ text. Owes start.held b.held text []) (sym (append-nil written)) (owes_less start.held a.held b.held written block [] (subst (Owes start.held a.held written) (sym (append-nil block)) old.0) wrote),
+      same ∙ old.1,
+    ) in
+    subst (λ f. HasWritten start b f h.block (written ++ [])) (sym still) (subst (λ block. HasWritten start b false block (written ++ [])) (sym none) new)
 
 -- or a beginning of it
-pub puts_unflushed : (a b : Sunk) (block left : List ℕ) → AppendsBeginning a.held b.held block → a.faults ≤ b.faults → Rose a.faults b.faults
-    → Puts a (record { block = block; failed = false }) b (record { block = left; failed = true }) []
-puts_unflushed a b block left wrote later rose = λ start written is. (
-  subst (λ text. AppendsBeginning start.held b.held text) (sym (append-nil written)) (owes_lost start.held a.held b.held written block [] (subst (Owes start.held a.held written) (sym (append-nil block)) is.0) wrote),
-  later_then start.faults a.faults b.faults is.1 later,
-  rose_then start.faults a.faults b.faults is.1 rose,
-)
+pub puts_unflushed : (a b : Sunk) (g h : Gathered) (block : List ℕ) → g.block ≡ block → g.failed ≡ false → h.failed ≡ true → AppendsBeginning a.held b.held block → a.faults ≤ b.faults → Rose a.faults b.faults
+    → Puts a g b h []
+puts_unflushed a b g h block gathered well fails wrote later rose = λ start written is.
+    let old : HasWritten start a false block written = subst (λ f. HasWritten start a f block written) well (subst (λ block. HasWritten start a g.failed block written) gathered is) in
+    let new : HasWritten start b true h.block (written ++ []) = (
+      subst (λ text. AppendsBeginning start.held b.held text) (sym (append-nil written)) (owes_lost start.held a.held b.held written block [] (subst (Owes start.held a.held written) (sym (append-nil block)) old.0) wrote),
+      later_then start.faults a.faults b.faults old.1 later,
+      rose_then start.faults a.faults b.faults old.1 rose,
+    ) in
+    subst (λ f. HasWritten start b f h.block (written ++ [])) (sym fails) new
 
 whole_owed : (a b c : Option (List ℕ)) (text bytes : List ℕ) → Owes a b text [] → Appends b c bytes → Owes a c (text ++ bytes) []
 whole_owed a b c text bytes owes wrote =

@@ -1,12 +1,13 @@
 //! What a server decides on a datagram.
 
 ghost use Rattle.std.specs.Prelude.{◌≡◌, ◌<◌, length, true, IfOk, IfSome, IfNone, Some, None};
-ghost use Rattle.dots_keys.specs.Askable.{IsAskable};
+ghost use Rattle.dots_keys.specs.Askable.{IsAskable, IsAskableBody};
 ghost use Rattle.dots_settings.specs.Settings.{SettingsValue};
 ghost use Rattle.dots_settings.specs.Lookups.{role_of};
 ghost use Rattle.dots_laws.specs.Calm.{may_act};
 ghost use Rattle.dots_machine.specs.Machine.{State, reject_verdict, dismissal_verdict, Decides};
-ghost use Rattle.dots_machine.specs.Verdicts.{asked_verdict};
+ghost use Rattle.dots_machine.specs.Domains.{domain_for};
+ghost use Rattle.dots_machine.specs.Verdicts.{asked_verdict, in_domain, with_mid, put_for, put_in, get_for, delete_for, delete_in};
 ghost use Rattle.dots_server.specs.Asking.{IsOwn, domain_asked, DecidesOn};
 ghost use Rattle.dots_server.specs.Receiving.{IsGrantable};
 ghost use Rattle.dots_server.specs.Standing.{StandsFor, CanCarryOut};
@@ -15,8 +16,8 @@ use crate::receiving::receive;
 use crate::replies::{bad_parameter, not_implemented, rejection, reset, unavailable};
 use crate::server::Server;
 use coap_message::Kind;
-use dots_heads::{MitigationPath, Reject};
-use dots_keys::Request;
+use dots_heads::{Content, MitigationPath, Reject};
+use dots_keys::{MitigationBody, Request};
 use dots_lists::{Name, NoMemory};
 use dots_machine::{ClientRequest, Dismissal, Exchange, MitigationRequest, Received, Verdict};
 use dots_settings::Role;
@@ -81,32 +82,12 @@ impl Server {
     {
         match request {
             Request::PutMitigation { path, body } => {
-                let MitigationPath { cdid, cuid, mid } = path;
-                let Some(from) = self.asks_for(peer, own, exchange, &cdid, cuid) else {
-                    return Ok(Verdict::Reply(bad_parameter(&exchange)));
-                };
-                let Some(mid) = mid else {
-                    return Ok(Verdict::Reply(bad_parameter(&exchange)));
-                };
-                self.decide_put(MitigationRequest { from, mid, body })
+                self.put_by_path(peer, own, exchange, path, body)
             }
             Request::GetMitigation { path, content, .. } => {
-                let MitigationPath { cdid, cuid, mid } = path;
-                let Some(from) = self.asks_for(peer, own, exchange, &cdid, cuid) else {
-                    return Ok(Verdict::Reply(bad_parameter(&exchange)));
-                };
-                self.decide_get(&from, mid, content)
+                self.get_by_path(peer, own, exchange, path, content)
             }
-            Request::DeleteMitigation { path } => {
-                let MitigationPath { cdid, cuid, mid } = path;
-                let Some(from) = self.asks_for(peer, own, exchange, &cdid, cuid) else {
-                    return Ok(Verdict::Reply(bad_parameter(&exchange)));
-                };
-                let Some(mid) = mid else {
-                    return Ok(Verdict::Reply(bad_parameter(&exchange)));
-                };
-                self.decide_delete(from, mid)
-            }
+            Request::DeleteMitigation { path } => self.delete_by_path(peer, own, exchange, path),
             Request::PutConfig { .. } | Request::DeleteConfig { .. } => {
                 Ok(self.decide_config(peer, own, &exchange))
             }
@@ -116,28 +97,124 @@ impl Server {
         }
     }
 
-    /// Who asks for a client of this name, and for which domain. None for a domain that there isn't.
+    /// What is decided on a request for the mitigation of a path.
+    fn put_by_path(
+        &self,
+        peer: u32,
+        own: Option<u16>,
+        exchange: Exchange,
+        path: MitigationPath,
+        body: MitigationBody,
+    ) -> Result<Verdict, NoMemory>
+        requires askable { IsAskableBody body }
+        requires own { IsOwn self.now.settings peer own }
+        ensures decides { (settings : SettingsValue) (state : State) → StandsFor self.now settings state
+            → IfOk result (λ verdict. verdict ≡ in_domain exchange (domain_for settings (role_of settings peer) path.cdid) (put_for settings state peer exchange path body)) }
+        ensures ready { IfOk result (λ verdict. CanCarryOut verdict self.now) }
+    {
+        let mid = path.mid;
+        match self.asks_for(peer, own, exchange, path) {
+            Some(from) => self.put_with_mid(from, mid, body),
+            None => Ok(Verdict::Reply(bad_parameter(&exchange))),
+        }
+    }
+
+    /// What is decided on a request for a mitigation, whose mid must be there.
+    fn put_with_mid(
+        &self,
+        from: ClientRequest,
+        mid: Option<u32>,
+        body: MitigationBody,
+    ) -> Result<Verdict, NoMemory>
+        requires askable { IsAskableBody body }
+        requires acts { may_act self.now.settings (role_of self.now.settings from.peer) from.domain ≡ true }
+        ensures decides { (settings : SettingsValue) (state : State) → StandsFor self.now settings state
+            → IfOk result (λ verdict. verdict ≡ with_mid from.exchange mid (put_in settings state from body)) }
+        ensures ready { IfOk result (λ verdict. CanCarryOut verdict self.now) }
+    {
+        match mid {
+            Some(mid) => self.decide_put(MitigationRequest { from, mid, body }),
+            None => Ok(Verdict::Reply(bad_parameter(&from.exchange))),
+        }
+    }
+
+    /// What is decided on a request to read the mitigations of a path.
+    fn get_by_path(
+        &self,
+        peer: u32,
+        own: Option<u16>,
+        exchange: Exchange,
+        path: MitigationPath,
+        content: Content,
+    ) -> Result<Verdict, NoMemory>
+        requires own { IsOwn self.now.settings peer own }
+        ensures decides { (settings : SettingsValue) (state : State) → StandsFor self.now settings state
+            → IfOk result (λ verdict. verdict ≡ in_domain exchange (domain_for settings (role_of settings peer) path.cdid) (get_for state peer exchange path content)) }
+        ensures ready { IfOk result (λ verdict. CanCarryOut verdict self.now) }
+    {
+        let mid = path.mid;
+        match self.asks_for(peer, own, exchange, path) {
+            Some(from) => self.decide_get(&from, mid, content),
+            None => Ok(Verdict::Reply(bad_parameter(&exchange))),
+        }
+    }
+
+    /// What is decided on a request to withdraw the mitigation of a path.
+    fn delete_by_path(
+        &self,
+        peer: u32,
+        own: Option<u16>,
+        exchange: Exchange,
+        path: MitigationPath,
+    ) -> Result<Verdict, NoMemory>
+        requires own { IsOwn self.now.settings peer own }
+        ensures decides { (settings : SettingsValue) (state : State) → StandsFor self.now settings state
+            → IfOk result (λ verdict. verdict ≡ in_domain exchange (domain_for settings (role_of settings peer) path.cdid) (delete_for settings state peer exchange path)) }
+        ensures ready { IfOk result (λ verdict. CanCarryOut verdict self.now) }
+    {
+        let mid = path.mid;
+        match self.asks_for(peer, own, exchange, path) {
+            Some(from) => self.delete_with_mid(&from, mid),
+            None => Ok(Verdict::Reply(bad_parameter(&exchange))),
+        }
+    }
+
+    /// What is decided on a request to withdraw, whose mid must be there.
+    fn delete_with_mid(&self, from: &ClientRequest, mid: Option<u32>) -> Result<Verdict, NoMemory>
+        requires acts { may_act self.now.settings (role_of self.now.settings from.now.peer) from.now.domain ≡ true }
+        ensures decides { (settings : SettingsValue) (state : State) → StandsFor self.now settings state
+            → IfOk result (λ verdict. verdict ≡ with_mid from.now.exchange mid (delete_in settings state from.now)) }
+        ensures ready { IfOk result (λ verdict. CanCarryOut verdict self.now) }
+    {
+        match mid {
+            Some(mid) => self.decide_delete(from, mid),
+            None => Ok(Verdict::Reply(bad_parameter(&from.exchange))),
+        }
+    }
+
+    /// Who asks for the client of this path, and for which domain. None for a domain that there isn't.
     fn asks_for(
         &self,
         peer: u32,
         own: Option<u16>,
         exchange: Exchange,
-        cdid: &Option<Name>,
-        cuid: Name,
+        path: MitigationPath,
     ) -> Option<ClientRequest>
         requires own { IsOwn self.now.settings peer own }
-        ensures some { IfSome result (λ from. (domain_asked self.now.settings own cdid.now ≡ Some from.domain)
-            × (from ≡ record { peer = peer; domain = from.domain; exchange = exchange; cuid = cuid })) }
-        ensures none { IfNone result (domain_asked self.now.settings own cdid.now ≡ None) }
-        ensures acts { IfSome result (λ from. may_act self.now.settings (role_of self.now.settings peer) from.domain ≡ true) }
+        ensures some { IfSome result (λ from. (domain_asked self.now.settings own path.cdid ≡ Some from.domain)
+            × (from ≡ record { peer = peer; domain = from.domain; exchange = exchange; cuid = path.cuid })) }
+        ensures none { IfNone result (domain_asked self.now.settings own path.cdid ≡ None) }
+        ensures acts { IfSome result (λ from. may_act self.now.settings (role_of self.now.settings from.peer) from.domain ≡ true) }
     {
-        let domain = self.domain_for(peer, own, cdid)?;
-        Some(ClientRequest {
-            peer,
-            domain,
-            exchange,
-            cuid,
-        })
+        match self.domain_for(peer, own, &path.cdid) {
+            Some(domain) => Some(ClientRequest {
+                peer,
+                domain,
+                exchange,
+                cuid: path.cuid,
+            }),
+            None => None,
+        }
     }
 
     /// The domain for which a client of this domain, or a gateway, asks.

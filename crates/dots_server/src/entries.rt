@@ -10,28 +10,32 @@ use dots_lists::{Bytes, Name, NoMemory, Text};
 use dots_machine::{ClientRequest, ShortMessage};
 use std::alloc::Global;
 
-/// What is kept of a change that is accepted at this time, in seconds, with the reply to it.
-pub fn entry_of(
-    alloc: Global,
-    time: u64,
-    from: &ClientRequest,
-    reply: &ShortMessage,
-    change: Change,
-) -> Result<Entry, NoMemory>
-    ensures entry { IfOk result (λ entry. entry ≡ entry_of time from.now reply.now change) }
-    ensures cuid { OnOk result (is_name from.now.cuid ≡ true) }
-    ensures reply { OnOk result (length reply.now ≤ 64) }
+/// What is kept of a change that is accepted at this time, in seconds, with the client's name and the reply.
+pub fn entry_of(time: u64, from: &ClientRequest, copies: (Text, Bytes), change: Change) -> Entry
+    requires { copies.0 ≡ from.now.cuid }
+    ensures { result ≡ entry_of time from.now copies.1 change }
 {
-    let kept = Bytes::from_slice(alloc, reply.bytes())?;
-    Ok(Entry {
+    let (cuid, reply) = copies;
+    Entry {
         time,
         peer: from.peer,
         domain: from.domain,
-        cuid: text_of(alloc, &from.cuid)?,
+        cuid,
         key: key_of(from.exchange.kind, from.exchange.id),
-        reply: kept,
+        reply,
         change,
-    })
+    }
+}
+
+/// The client's name and the reply, as an entry has them.
+pub fn copies(alloc: Global, cuid: &Name, reply: &ShortMessage) -> Result<(Text, Bytes), NoMemory>
+    ensures copies { IfOk result (λ copies. (copies.0 ≡ cuid.now) × (copies.1 ≡ reply.now)) }
+    ensures cuid { OnOk result (is_name cuid.now ≡ true) }
+    ensures reply { OnOk result (length reply.now ≤ 64) }
+{
+    let reply = Bytes::from_slice(alloc, reply.bytes())?;
+    let cuid = text_of(alloc, cuid)?;
+    Ok((cuid, reply))
 }
 
 /// The message by which repeats of a request are known.

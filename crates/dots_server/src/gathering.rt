@@ -69,8 +69,14 @@ impl Gatherer {
             return;
         }
         match write_all(sink, &self.bytes[..self.size]) {
-            Ok(()) => self.size = 0,
-            Err(Failed) => self.failed = true,
+            Ok(()) => {
+                self.size = 0;
+                return;
+            }
+            Err(Failed) => {
+                self.failed = true;
+                return;
+            }
         }
     }
 
@@ -84,7 +90,10 @@ impl Gatherer {
         }
         match write_all(sink, bytes) {
             Ok(()) => return,
-            Err(Failed) => self.failed = true,
+            Err(Failed) => {
+                self.failed = true;
+                return;
+            }
         }
     }
 

@@ -1,6 +1,6 @@
 //! What a server decides on requests for mitigations.
 
-ghost use Rattle.std.specs.Prelude.{◌≡◌, ◌≢◌, ◌≤◌, ◌<◌, List, ◌++◌, ◌∷◌, [], map, filter, length, true, false, IfOk, OnOk, None};
+ghost use Rattle.std.specs.Prelude.{◌≡◌, ◌≢◌, ◌≤◌, ◌<◌, List, ◌++◌, ◌∷◌, [], map, filter, length, true, false, IfOk, OnOk, None, Err};
 ghost use Rattle.std.specs.List.{list_any};
 ghost use Rattle.dots_keys.specs.Askable.{IsAskableBody};
 ghost use Rattle.dots_settings.specs.Settings.{SettingsValue};
@@ -18,22 +18,21 @@ ghost use Rattle.dots_lists.specs.Name.{is_name};
 ghost use Rattle.dots_machine.specs.Replies.{conflicting, deleted, granting, told};
 ghost use Rattle.dots_machine.specs.Targets.{scope_fault};
 ghost use Rattle.dots_machine.specs.declared.verdict.Verdict.TheVariants as verdicts;
-ghost use Rattle.dots_machine.specs.Mitigations.{grant, refusal, judged, request_of, lives, is_wanted};
+ghost use Rattle.dots_machine.specs.Mitigations.{grant, entry_of, refusal, judged, request_of, lives, is_wanted};
 ghost use Rattle.dots_machine.specs.Verdicts.{put_verdict, is_taken, stands_as, delete_by, delete_verdict, delete_in, get_verdict};
-ghost use Rattle.reply_bodies.specs.declared.conflict.ConflictCause.TheVariants as cause;
 ghost use Rattle.live_mitigations.specs.Reading.{Shown, row_view};
 ghost use Rattle.dots_server.specs.Standing.{StandsFor, CanCarryOut};
 
-use crate::entries::entry_of;
+use crate::entries::{copies, entry_of};
 use crate::replies::{
     absent, at_capacity, bad_request, bad_target, deleted, granting, unavailable,
 };
 use crate::scopes::scope_fault;
 use crate::server::Server;
 use crate::telling::{conflicting, telling};
-use dots_history::Change;
+use dots_history::{Change, Entry};
 use dots_lists::{List, NoMemory};
-use dots_machine::{ClientRequest, Exchange, MitigationRequest, Verdict};
+use dots_machine::{ClientRequest, Exchange, MitigationRequest, ShortMessage, Verdict};
 use dots_registry::Registry;
 use dots_settings::Settings;
 use live_mitigations::MitigationRow;
@@ -52,6 +51,17 @@ impl Server {
             → IfOk result (λ verdict. verdict ≡ put_verdict settings state.time state.history asked) }
         ensures ready { IfOk result (λ verdict. CanCarryOut verdict self.now) }
     {
+        self.decide_asked(&asked)
+    }
+
+    /// The same, over a request that its caller lets go.
+    fn decide_asked(&self, asked: &MitigationRequest) -> Result<Verdict, NoMemory>
+        requires askable { IsAskableBody asked.now.body }
+        requires acts { may_act self.now.settings (role_of self.now.settings asked.now.from.peer) asked.now.from.domain ≡ true }
+        ensures decides { (settings : SettingsValue) (state : State) → StandsFor self.now settings state
+            → IfOk result (λ verdict. verdict ≡ put_verdict settings state.time state.history asked.now) }
+        ensures ready { IfOk result (λ verdict. CanCarryOut verdict self.now) }
+    {
         let domain = self.settings.prefixes_of(asked.from.domain);
         if let Some(fault) = scope_fault(&self.settings, domain, &asked.body.asked) {
             return Ok(Verdict::Reply(bad_target(&asked.from.exchange, fault)));
@@ -64,15 +74,15 @@ impl Server {
     }
 
     /// What the rules say of a request for what may be asked for.
-    fn judge(&self, asked: MitigationRequest) -> Result<Verdict, NoMemory>
-        requires askable { IsAskableBody asked.body }
-        requires acts { may_act self.now.settings (role_of self.now.settings asked.from.peer) asked.from.domain ≡ true }
-        requires clear { scope_fault self.now.settings (prefixes_of self.now.settings asked.from.domain) asked.body.asked ≡ None }
+    fn judge(&self, asked: &MitigationRequest) -> Result<Verdict, NoMemory>
+        requires askable { IsAskableBody asked.now.body }
+        requires acts { may_act self.now.settings (role_of self.now.settings asked.now.from.peer) asked.now.from.domain ≡ true }
+        requires clear { scope_fault self.now.settings (prefixes_of self.now.settings asked.now.from.domain) asked.now.body.asked ≡ None }
         ensures decides { (settings : SettingsValue) (state : State) → StandsFor self.now settings state
-            → IfOk result (λ verdict. verdict ≡ judged state.time asked (judge_request settings state.time state.history asked.from.domain (request_of asked))) }
+            → IfOk result (λ verdict. verdict ≡ judged state.time asked.now (judge_request settings state.time state.history asked.now.from.domain (request_of asked.now))) }
         ensures ready { IfOk result (λ verdict. CanCarryOut verdict self.now) }
     {
-        match self.judged(&asked) {
+        match self.judged(asked) {
             Ok(judged) => self.grant(&asked.from, judged),
             Err(fault) => self.refuse(&asked.from.exchange, asked.mid, fault),
         }
@@ -94,11 +104,38 @@ impl Server {
         ensures cuid { OnOk result (is_name from.now.cuid ≡ true) }
         ensures reply { OnOk result (length (granting from.now.exchange judged) ≤ 64) }
     {
-        let reply = granting(self.alloc, &from.exchange, &judged)?;
+        match granting(self.alloc, &from.exchange, &judged) {
+            Ok(reply) => self.accept(from, reply, Change::Put(judged.put)),
+            Err(fault) => Err(fault),
+        }
+    }
+
+    /// A change is accepted with this reply.
+    fn accept(
+        &self,
+        from: &ClientRequest,
+        reply: ShortMessage,
+        change: Change,
+    ) -> Result<Verdict, NoMemory>
+        ensures verdict { IfOk result (λ verdict. verdict ≡ verdicts.Accept reply (entry_of (time_of self.now.registry) from.now reply change)) }
+        ensures cuid { OnOk result (is_name from.now.cuid ≡ true) }
+        ensures reply { OnOk result (length reply ≤ 64) }
+    {
         let time = self.ledger.registry().time();
-        let entry = entry_of(self.alloc, time, from, &reply, Change::Put(judged.put))?;
-        let entry = self.ledger.registry().stage(entry)?;
-        Ok(Verdict::Accept { reply, entry })
+        match copies(self.alloc, &from.cuid, &reply) {
+            Ok(copies) => self.staged(reply, entry_of(time, from, copies, change)),
+            Err(fault) => without(change, fault),
+        }
+    }
+
+    /// The rows of an accepted entry are made beside it.
+    fn staged(&self, reply: ShortMessage, entry: Entry) -> Result<Verdict, NoMemory>
+        ensures { IfOk result (λ verdict. verdict ≡ verdicts.Accept reply entry) }
+    {
+        match self.ledger.registry().stage(entry) {
+            Ok(entry) => Ok(Verdict::Accept { reply, entry }),
+            Err(fault) => Err(fault),
+        }
     }
 
     /// The answer to a request that can't be granted.
@@ -107,26 +144,27 @@ impl Server {
         ensures known { OnOk result (fault ≢ faults.NoMemory) }
         ensures ready { IfOk result (λ verdict. CanCarryOut verdict self.now) }
     {
-        let cause = match fault {
-            PutFault::Collision => ConflictCause::Collision,
-            PutFault::Higher { mid } => ConflictCause::Higher(mid),
-            PutFault::Other { prefixes } => ConflictCause::Other(prefixes),
-            PutFault::Changed => return Ok(Verdict::Reply(bad_request(exchange, b"changed"))),
-            PutFault::UnknownAlias => {
-                return Ok(Verdict::Reply(bad_request(exchange, b"unknown alias")));
+        match fault {
+            PutFault::Collision => self.conflict(exchange, Some(mid), ConflictCause::Collision),
+            PutFault::Higher { mid: higher } => {
+                self.conflict(exchange, Some(mid), ConflictCause::Higher(higher))
             }
-            PutFault::TooMany => return Ok(Verdict::Reply(bad_request(exchange, b"too many"))),
-            PutFault::Capacity { .. } => return Ok(Verdict::Reply(at_capacity(exchange))),
-            PutFault::NoMemory => return Err(NoMemory),
-        };
-        Ok(Verdict::Told(conflicting(self.alloc, exchange, Some(mid), cause)?))
+            PutFault::Other { prefixes } => {
+                self.conflict(exchange, Some(mid), ConflictCause::Other(prefixes))
+            }
+            PutFault::Changed => Ok(Verdict::Reply(bad_request(exchange, b"changed"))),
+            PutFault::UnknownAlias => Ok(Verdict::Reply(bad_request(exchange, b"unknown alias"))),
+            PutFault::TooMany => Ok(Verdict::Reply(bad_request(exchange, b"too many"))),
+            PutFault::Capacity { .. } => Ok(Verdict::Reply(at_capacity(exchange))),
+            PutFault::NoMemory => Err(NoMemory),
+        }
     }
 
     /// What is decided on a request to withdraw the mitigation of a mid (RFC 9132, section 4.4.4).
-    pub(crate) fn decide_delete(&self, from: ClientRequest, mid: u32) -> Result<Verdict, NoMemory>
-        requires acts { may_act self.now.settings (role_of self.now.settings from.peer) from.domain ≡ true }
+    pub(crate) fn decide_delete(&self, from: &ClientRequest, mid: u32) -> Result<Verdict, NoMemory>
+        requires acts { may_act self.now.settings (role_of self.now.settings from.now.peer) from.now.domain ≡ true }
         ensures decides { (settings : SettingsValue) (state : State) → StandsFor self.now settings state
-            → IfOk result (λ verdict. verdict ≡ delete_in settings state from mid) }
+            → IfOk result (λ verdict. verdict ≡ delete_in settings state from.now mid) }
         ensures ready { IfOk result (λ verdict. CanCarryOut verdict self.now) }
     {
         let known = self.remembered(from.peer, from.domain, &from.exchange);
@@ -137,19 +175,19 @@ impl Server {
     }
 
     /// What the rules say of a request to withdraw.
-    fn judge_delete(&self, from: ClientRequest, mid: u32) -> Result<Verdict, NoMemory>
-        requires acts { may_act self.now.settings (role_of self.now.settings from.peer) from.domain ≡ true }
+    fn judge_delete(&self, from: &ClientRequest, mid: u32) -> Result<Verdict, NoMemory>
+        requires acts { may_act self.now.settings (role_of self.now.settings from.now.peer) from.now.domain ≡ true }
         ensures decides { (settings : SettingsValue) (state : State) → StandsFor self.now settings state
-            → IfOk result (λ verdict. verdict ≡ delete_verdict state.time state.history from mid) }
+            → IfOk result (λ verdict. verdict ≡ delete_verdict state.time state.history from.now mid) }
         ensures ready { IfOk result (λ verdict. CanCarryOut verdict self.now) }
     {
-        if self.is_taken(&from) {
-            return self.collision(&from.exchange, Some(mid));
+        if self.is_taken(from) {
+            return self.conflict(&from.exchange, Some(mid), ConflictCause::Collision);
         }
-        if !self.stands(&from, mid) {
+        if !self.stands(from, mid) {
             return Ok(Verdict::Reply(deleted(&from.exchange)));
         }
-        self.withdraw(&from, mid)
+        self.withdraw(from, mid)
     }
 
     /// A mitigation that stands is withdrawn.
@@ -158,11 +196,7 @@ impl Server {
         ensures cuid { OnOk result (is_name from.now.cuid ≡ true) }
         ensures reply { OnOk result (length (deleted from.now.exchange) ≤ 64) }
     {
-        let reply = deleted(&from.exchange);
-        let time = self.ledger.registry().time();
-        let entry = entry_of(self.alloc, time, from, &reply, Change::Withdraw { mid })?;
-        let entry = self.ledger.registry().stage(entry)?;
-        Ok(Verdict::Accept { reply, entry })
+        self.accept(from, deleted(&from.exchange), Change::Withdraw { mid })
     }
 
     /// What is decided on a request to read mitigations of a client, or that of a mid (RFC 9132, section 4.4.2).
@@ -178,7 +212,7 @@ impl Server {
         ensures ready { IfOk result (λ verdict. CanCarryOut verdict self.now) }
     {
         if self.is_taken(from) {
-            return self.collision(&from.exchange, mid);
+            return self.conflict(&from.exchange, mid, ConflictCause::Collision);
         }
         let views = self.views(from, mid, content)?;
         if views.items().is_empty() {
@@ -187,13 +221,20 @@ impl Server {
         Ok(Verdict::Told(telling(self.alloc, &from.exchange, views)?))
     }
 
-    /// The refusal where the client's name is in use by another peer.
-    fn collision(&self, exchange: &Exchange, mid: Option<u32>) -> Result<Verdict, NoMemory>
-        ensures verdict { IfOk result (λ verdict. verdict ≡ verdicts.Told (conflicting exchange.now mid cause.Collision)) }
+    /// The refusal for what stands in the way.
+    fn conflict(
+        &self,
+        exchange: &Exchange,
+        mid: Option<u32>,
+        cause: ConflictCause,
+    ) -> Result<Verdict, NoMemory>
+        ensures verdict { IfOk result (λ verdict. verdict ≡ verdicts.Told (conflicting exchange.now mid cause)) }
         ensures ready { IfOk result (λ verdict. CanCarryOut verdict self.now) }
     {
-        let cause = ConflictCause::Collision;
-        Ok(Verdict::Told(conflicting(self.alloc, exchange, mid, cause)?))
+        match conflicting(self.alloc, exchange, mid, cause) {
+            Ok(reply) => Ok(Verdict::Told(reply)),
+            Err(fault) => Err(fault),
+        }
     }
 
     /// Whether the client's name is in use by another peer.
@@ -267,6 +308,13 @@ fn push_wanted<'a>(
         status: row.status,
         content,
     })
+}
+
+/// There is no memory for a change, which is let go.
+fn without(_change: Change, fault: NoMemory) -> Result<Verdict, NoMemory>
+    ensures { result ≡ Err fault }
+{
+    Err(fault)
 }
 
 /// Whether all are wanted, or the mid is the one that is.

@@ -57,7 +57,7 @@ impl Model for Server {
 }
 
 /// The report couldn't be written.
-#[derive(Clone, Copy, Debug, PartialEq, Eq)]
+#[derive(Clone, Copy)]
 pub enum ReportFault {
     /// The sink failed: its count of faults rose.
     Failed,

@@ -4,7 +4,7 @@ use std::error::Error;
 use std::fmt;
 
 /// A member of the bodies of the data channel (RFC 8783, sections 4.3, 6.1 and 7.2; RFC 8519, section 4.2).
-#[derive(Clone, Copy, Debug, PartialEq, Eq)]
+#[derive(Clone, Copy, Debug)]
 pub enum Member {
     DotsClient,
     Cuid,
@@ -45,7 +45,7 @@ pub enum Member {
 }
 
 /// Why a value is none of the data channel: the first fault in the order of the definition of what is read.
-#[derive(Clone, Copy, Debug, PartialEq, Eq)]
+#[derive(Clone, Copy, Debug)]
 pub enum ListFault {
     /// An object lacks this member.
     Missing(Member),

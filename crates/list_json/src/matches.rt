@@ -22,7 +22,7 @@ const TCP: u8 = 6;
 const UDP: u8 = 17;
 
 /// What `ipv4` or `ipv6` asks.
-#[derive(Clone, Copy, Debug, PartialEq, Eq)]
+#[derive(Clone, Copy)]
 pub struct Network {
     pub source: Option<Prefix>,
     pub destination: Option<Prefix>,
@@ -30,7 +30,7 @@ pub struct Network {
 }
 
 /// What `tcp` or `udp` asks.
-#[derive(Clone, Copy, Debug, PartialEq, Eq)]
+#[derive(Clone, Copy)]
 pub struct Transport {
     pub protocol: u8,
     pub source: PortTest,
@@ -38,7 +38,7 @@ pub struct Transport {
 }
 
 /// What `matches` asks.
-#[derive(Clone, Copy, Debug, PartialEq, Eq)]
+#[derive(Clone, Copy)]
 pub struct Matches {
     pub source: Option<Prefix>,
     pub destination: Option<Prefix>,

@@ -16,7 +16,7 @@ use acl_lists::PortTest;
 use serde_json::Value;
 
 /// How a port is compared with another.
-#[derive(Clone, Copy, Debug, PartialEq, Eq)]
+#[derive(Clone, Copy)]
 pub enum Operator {
     Lte,
     Gte,

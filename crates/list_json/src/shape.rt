@@ -1,14 +1,15 @@
 //! Which members an object may have.
 
-ghost use Rattle.std.specs.Prelude.{◌≡◌};
+ghost use Rattle.std.specs.Prelude.{◌≡◌, ◌||◌, bytes_eq};
 ghost use Rattle.serde_json.specs.View.{view, members_view};
+ghost use Rattle.list_json.specs.declared.shape.Shape.TheVariants as shape;
 ghost use Rattle.list_json.specs.Shapes.{may_have, only, whole_object};
 
 use crate::fault::{ListFault, Member};
 use serde_json::{Map, Value};
 
 /// The objects in the bodies of the data channel.
-#[derive(Clone, Copy, Debug, PartialEq, Eq)]
+#[derive(Clone, Copy)]
 pub enum Shape {
     /// The body of a client, and the client in it.
     ClientBody,
@@ -43,50 +44,81 @@ impl Shape {
         match self {
             Shape::ClientBody => name == "ietf-dots-data-channel:dots-client",
             Shape::Client => name == "cuid",
-            Shape::AliasBody => {
-                name == "ietf-dots-data-channel:alias" || name == "ietf-dots-data-channel:aliases"
-            }
+            Shape::AliasBody => is_either(
+                name,
+                "ietf-dots-data-channel:alias",
+                "ietf-dots-data-channel:aliases",
+            ),
             Shape::Aliases => name == "alias",
-            Shape::AclBody => {
-                name == "ietf-dots-data-channel:acl" || name == "ietf-dots-data-channel:acls"
-            }
+            Shape::AclBody => is_either(
+                name,
+                "ietf-dots-data-channel:acl",
+                "ietf-dots-data-channel:acls",
+            ),
             Shape::Acls => name == "acl",
-            Shape::Alias => {
-                name == "name"
-                    || name == "target-prefix"
-                    || name == "target-port-range"
-                    || name == "target-protocol"
-                    || name == "target-fqdn"
-            }
-            Shape::Range => name == "lower-port" || name == "upper-port",
-            Shape::List => {
-                name == "name" || name == "type" || name == "activation-type" || name == "aces"
-            }
+            Shape::Alias => alias_may_have(name),
+            Shape::Range => is_either(name, "lower-port", "upper-port"),
+            Shape::List => is_one_of_four(name, "name", "type", "activation-type", "aces"),
             Shape::Aces => name == "ace",
-            Shape::Entry => name == "name" || name == "matches" || name == "actions",
+            Shape::Entry => is_one_of_three(name, "name", "matches", "actions"),
             Shape::Actions => name == "forwarding",
-            Shape::Matches => name == "ipv4" || name == "ipv6" || name == "tcp" || name == "udp",
-            Shape::Ipv4 => {
-                name == "source-ipv4-network"
-                    || name == "destination-ipv4-network"
-                    || name == "protocol"
-            }
-            Shape::Ipv6 => {
-                name == "source-ipv6-network"
-                    || name == "destination-ipv6-network"
-                    || name == "protocol"
-            }
-            Shape::Transport => {
-                name == "source-port"
-                    || name == "source-port-range-or-operator"
-                    || name == "destination-port"
-                    || name == "destination-port-range-or-operator"
-            }
+            Shape::Matches => is_one_of_four(name, "ipv4", "ipv6", "tcp", "udp"),
+            Shape::Ipv4 => is_one_of_three(
+                name,
+                "source-ipv4-network",
+                "destination-ipv4-network",
+                "protocol",
+            ),
+            Shape::Ipv6 => is_one_of_three(
+                name,
+                "source-ipv6-network",
+                "destination-ipv6-network",
+                "protocol",
+            ),
+            Shape::Transport => is_one_of_four(
+                name,
+                "source-port",
+                "source-port-range-or-operator",
+                "destination-port",
+                "destination-port-range-or-operator",
+            ),
             Shape::PortTest => {
-                name == "operator" || name == "port" || name == "lower-port" || name == "upper-port"
+                is_one_of_four(name, "operator", "port", "lower-port", "upper-port")
             }
         }
     }
+}
+
+/// Whether an alias may have a member of this name.
+fn alias_may_have(name: &str) -> bool
+    ensures { result ≡ may_have shape.Alias name.now }
+{
+    name == "name"
+        || is_one_of_four(
+            name,
+            "target-prefix",
+            "target-port-range",
+            "target-protocol",
+            "target-fqdn",
+        )
+}
+
+fn is_either(name: &str, first: &str, second: &str) -> bool
+    ensures { result ≡ bytes_eq name.now first.now || bytes_eq name.now second.now }
+{
+    name == first || name == second
+}
+
+fn is_one_of_three(name: &str, first: &str, second: &str, third: &str) -> bool
+    ensures { result ≡ bytes_eq name.now first.now || bytes_eq name.now second.now || bytes_eq name.now third.now }
+{
+    name == first || name == second || name == third
+}
+
+fn is_one_of_four(name: &str, first: &str, second: &str, third: &str, fourth: &str) -> bool
+    ensures { result ≡ bytes_eq name.now first.now || bytes_eq name.now second.now || bytes_eq name.now third.now || bytes_eq name.now fourth.now }
+{
+    name == first || name == second || name == third || name == fourth
 }
 
 /// Whether every member is one that such an object may have.

@@ -12,14 +12,8 @@ use Rattle.cbor_profile.proofs.reading.+reader.Given as goal
 abbrev pub decreases-read_array : goal.decreases-read_array
 decreases-read_array l = 16 * l.levels + 9
 
-abbrev pub decreases-read_open_array : goal.decreases-read_open_array
-decreases-read_open_array l = 16 * l.levels + 9
-
 abbrev pub decreases-read_map : goal.decreases-read_map
 decreases-read_map l = 16 * l.levels + 9
-
-abbrev pub decreases-read_open_map : goal.decreases-read_open_map
-decreases-read_open_map l = 16 * l.levels + 9
 
 abbrev pub decreases-read_tag : goal.decreases-read_tag
 decreases-read_tag l = 16 * l.levels + 9
@@ -27,8 +21,8 @@ decreases-read_tag l = 16 * l.levels + 9
 abbrev pub decreases-read_items : goal.decreases-read_items
 decreases-read_items l = 16 * l.levels + 8
 
-abbrev pub decreases-read_open_items : goal.decreases-read_open_items
-decreases-read_open_items l = 16 * l.levels + 8
+abbrev pub decreases-read_open_array : goal.decreases-read_open_array
+decreases-read_open_array l = 16 * l.levels + 8
 
 abbrev pub decreases-read_pairs : goal.decreases-read_pairs
 decreases-read_pairs l = 16 * l.levels + 8
@@ -39,8 +33,8 @@ decreases-read_other_pairs l = 16 * l.levels + 7
 abbrev pub decreases-read_late_pairs : goal.decreases-read_late_pairs
 decreases-read_late_pairs l = 16 * l.levels + 6
 
-abbrev pub decreases-read_open_pairs : goal.decreases-read_open_pairs
-decreases-read_open_pairs l = 16 * l.levels + 8
+abbrev pub decreases-read_open_map : goal.decreases-read_open_map
+decreases-read_open_map l = 16 * l.levels + 8
 
 abbrev pub decreases-read_pair : goal.decreases-read_pair
 decreases-read_pair l = 16 * l.levels + 5
@@ -64,8 +58,8 @@ invariant-read_items-loop l = record {
   shorter : length l.rest ≤ length l.bytes;
 }
 
-abbrev pub invariant-read_open_items-loop : goal.invariant-read_open_items-loop
-invariant-read_open_items-loop l = record {
+abbrev pub invariant-read_open_array-loop : goal.invariant-read_open_array-loop
+invariant-read_open_array-loop l = record {
   read : with_front (trees l.items) (open_items_at (item_at l.levels l.fn.end) (length l.bytes - l.counter) l.fn.end l.rest) ≡ open_items_at (item_at l.levels l.fn.end) (length l.bytes) l.fn.end l.bytes;
   shorter : length l.rest ≤ length l.bytes;
 }
@@ -93,8 +87,8 @@ invariant-read_late_pairs-loop l = record {
   shorter : length l.rest ≤ length l.bytes;
 }
 
-abbrev pub invariant-read_open_pairs-loop : goal.invariant-read_open_pairs-loop
-invariant-read_open_pairs-loop l = record {
+abbrev pub invariant-read_open_map-loop : goal.invariant-read_open_map-loop
+invariant-read_open_map-loop l = record {
   read : open_pairs_at (item_at l.levels l.fn.end) (length l.bytes - l.counter) l.fn.end (gathered l.pairs) l.rest ≡ open_pairs_at (item_at l.levels l.fn.end) (length l.bytes) l.fn.end [] l.bytes;
   gathered : IsGathered l.pairs;
   shorter : length l.rest ≤ length l.bytes;

@@ -1,6 +1,7 @@
-use Rattle.std.proofs.Common.{true≢false, sym, arith}
+use Rattle.std.proofs.Common.{true≢false, refl, sym, arith}
+use Rattle.cbor_profile.specs.Within.{canon_of}
 use Rattle.cbor_profile.specs.View.{tree_of}
-use Rattle.cbor_profile.proofs.Levels.{array_within, within_array, map_within, within_map, within_at}
+use Rattle.cbor_profile.proofs.Levels.{array_within, within_array, map_within, within_map, within_at, items_on, pairs_on, pairs_left}
 use Rattle.cbor_profile.proofs.Views.{array_is, map_is, items_are, pairs_are}
 use Rattle.cbor_profile.proofs.validity.+validity.Goals as goal
 
@@ -23,4 +24,16 @@ is_within-returns-then-levels-gt0-2 t c =
     (pairs_are c.in-Map.list c.as_slice-then-levels-gt0-2.result.now c.as_slice-then-levels-gt0-2.ensures.value) in (
       λ yes. map_within c.args.levels (tree_of c.args.item.now) c.as_slice-then-levels-gt0-2.result.now is c.if-levels-gt0-2.true (omega arith) (c.are_pairs_within.ensures.0 yes),
       λ within. c.are_pairs_within.ensures.1 (within_map c.args.levels (tree_of c.args.item.now) c.as_slice-then-levels-gt0-2.result.now is within),
+    )
+
+pub are_within-loop-item-preserved : goal.are_within-loop-item-preserved
+are_within-loop-item-preserved t c = items_on c.args.levels c.args.items.now c.loop-item.item-index c.item-item.result c.loop-item-test.true c.item-item.is (c.if-not-is_within.ensures.0 refl) c.loop-item.invariant
+
+pub are_pairs_within-loop-key-preserved : goal.are_pairs_within-loop-key-preserved
+are_pairs_within-loop-key-preserved t c =
+    let key = c.if-not-is_within.ensures.0 refl in
+    let value = c.if-not-is_within-2.ensures.0 refl in (
+      key.sound,
+      pairs_on c.args.levels c.args.pairs.now c.loop-key.key-index c.loop-key-item.result (canon_of c.loop-key.last) c.loop-key-test.true c.loop-key-item.is key value (c.if-not-rises.ensures.0 refl) c.loop-key.invariant.1,
+      pairs_left c.args.levels c.args.pairs.now c.loop-key.key-index c.loop-key-item.result (canon_of c.loop-key.last) c.loop-key-test.true c.loop-key-item.is c.loop-key.invariant.2,
     )

@@ -8,12 +8,12 @@ use Rattle.dots_server.proofs.server.Server.judge.Goals as goal
 pub returns-in-Ok-clause-decides : goal.returns-in-Ok-clause-decides
 returns-in-Ok-clause-decides c = λ settings state stands.
     if_ok c.grant.result _ _
-    (λ v is. is ∙ server_judges c.args.self.now settings state c.args.asked stands (Ok c.in-Ok.judged) (c.in-Ok.ensures state.history stands.registry))
+    (λ v is. is ∙ server_judges c.args.self.now settings state c.args.asked.now stands (Ok c.in-Ok.judged) (c.in-Ok.ensures state.history stands.registry))
     c.grant.ensures.verdict
 
 pub returns-in-Ok-clause-ready : goal.returns-in-Ok-clause-ready
 returns-in-Ok-clause-ready c =
-    let asked = c.args.asked in
+    let asked = c.args.asked.now in
     if_both c.grant.result _ _ _ _
     (λ v is named short.
     subst (λ v. CanCarryOut v c.args.self.now) (sym is)
@@ -21,9 +21,9 @@ returns-in-Ok-clause-ready c =
     (λ settings state stands. judged_here c.args.self.now settings state asked stands (Ok c.in-Ok.judged) (c.in-Ok.ensures state.history stands.registry))))
     c.grant.ensures.verdict c.grant.ensures.cuid c.grant.ensures.reply
 
-pub returns-clause-decides : goal.returns-clause-decides
-returns-clause-decides c = λ settings state stands.
+pub returns-in-Err-clause-decides : goal.returns-in-Err-clause-decides
+returns-in-Err-clause-decides c = λ settings state stands.
     if_one c.refuse.result _ _ _
     (λ v is known.
-    is ∙ server_judges c.args.self.now settings state c.args.asked stands (Err c.in-Err.fault) (fails_known c.in-Err.fault _ known (c.in-Err.ensures state.history stands.registry)))
+    is ∙ server_judges c.args.self.now settings state c.args.asked.now stands (Err c.in-Err.fault) (fails_known c.in-Err.fault _ known (c.in-Err.ensures state.history stands.registry)))
     c.refuse.ensures.verdict c.refuse.ensures.known

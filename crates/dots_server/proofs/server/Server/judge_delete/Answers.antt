@@ -10,6 +10,6 @@ returns-clause-ready c =
     if_both c.withdraw.result _ _ _ _
     (λ v is named short.
     subst (λ v. CanCarryOut v c.args.self.now) (sym is)
-    (withdrawal_acceptable c.args.self.now c.args.from c.args.mid (deleted c.args.from.exchange) c.requires.acts named short
+    (withdrawal_acceptable c.args.self.now c.args.from.now c.args.mid (deleted c.args.from.now.exchange) c.requires.acts named short
     (λ settings state stands. sym (c.is_taken.ensures settings state stands) ∙ c.if-is_taken.false)))
     c.withdraw.ensures.verdict c.withdraw.ensures.cuid c.withdraw.ensures.reply
