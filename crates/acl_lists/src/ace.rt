@@ -6,7 +6,7 @@ use ip_scope::Prefix;
 
 /// An entry of an access list: what it matches, and what becomes of a packet that matches (RFC 8519, section 4.2;
 /// RFC 8783, section 7.2).
-#[derive(Debug, Drop)]
+#[derive(Drop)]
 pub struct Ace {
     pub name: Name,
     /// Where packets come from; None matches every source.

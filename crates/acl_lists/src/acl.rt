@@ -9,7 +9,7 @@ use std::alloc::Global;
 pub type AceList = List<Ace>;
 
 /// An access list (RFC 8783, section 7.2).
-#[derive(Debug, Drop)]
+#[derive(Drop)]
 pub struct Acl {
     pub name: Name,
     /// The family of its packets, which its `type` says.
@@ -20,7 +20,7 @@ pub struct Acl {
 }
 
 /// When an access list is active: its `activation-type` (RFC 8783, section 7.2).
-#[derive(Clone, Copy, Debug, PartialEq, Eq)]
+#[derive(Clone, Copy)]
 pub enum Activation {
     /// While a mitigation of its client is live.
     WhenMitigating,

@@ -5,7 +5,7 @@ use dots_lists::{Name, NoMemory};
 use std::alloc::Global;
 
 /// A name for some targets, which later requests may use in their place (RFC 8783, section 6.1).
-#[derive(Debug, Drop)]
+#[derive(Drop)]
 pub struct Alias {
     pub name: Name,
     /// The targets, which name no further alias.

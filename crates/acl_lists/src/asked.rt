@@ -17,7 +17,7 @@ pub type ByteList = Bytes;
 pub type NameList = List<Name>;
 
 /// The targets that a request or an alias names, as they were named (RFC 9132, section 4.4.1; RFC 8783, section 6.1).
-#[derive(Debug, Drop)]
+#[derive(Drop)]
 pub struct Asked {
     /// `target-prefix`.
     pub prefixes: PrefixList,

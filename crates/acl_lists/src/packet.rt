@@ -1,7 +1,7 @@
 use ip_scope::Addr;
 
 /// What an access list and a filter see of a packet.
-#[derive(Clone, Copy, Debug, PartialEq, Eq)]
+#[derive(Clone, Copy)]
 pub struct Packet {
     pub source: Addr,
     pub destination: Addr,

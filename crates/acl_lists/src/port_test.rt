@@ -4,7 +4,7 @@ ghost use Rattle.acl_lists.specs.Matching.{port_passes};
 use ip_scope::PortRange;
 
 /// What an entry asks of a port (RFC 8519, section 4.2, `port-range-or-operator`).
-#[derive(Clone, Copy, Debug, PartialEq, Eq)]
+#[derive(Clone, Copy)]
 pub enum PortTest {
     /// Nothing is asked.
     Any,

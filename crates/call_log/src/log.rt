@@ -7,7 +7,7 @@ use dots_host::{Out, Sent, What};
 use std::marker::Model;
 
 /// The calls of a host so far, in order. It has no bytes.
-#[derive(Debug, Drop)]
+#[derive(Drop)]
 pub struct CallLog {
     pub ghost acts: { List Act } by { coded_list act_row.the_row.coded },
 }
@@ -19,7 +19,7 @@ impl Model for CallLog {
 }
 
 /// A call of a host.
-#[derive(Clone, Copy, Debug)]
+#[derive(Clone, Copy)]
 pub enum Call<'a> {
     /// It handed in an event, whose bytes stand at the front of the room, with a time in seconds beside it.
     Took { what: What, room: &'a [u8], at: u64 },

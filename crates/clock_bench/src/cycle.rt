@@ -6,7 +6,7 @@ ghost use Rattle.lifetime_clock.specs.Times.{count};
 use lifetime_clock::Deadlines;
 
 /// Times that all differ, and rise on the whole, so that a new one lands anywhere among those that are set.
-#[derive(Debug, Drop)]
+#[derive(Drop)]
 pub struct Times {
     /// How many were made.
     made: u64,
@@ -43,7 +43,7 @@ impl Times {
 }
 
 /// The keys that were answered, in their order.
-#[derive(Clone, Copy, Debug)]
+#[derive(Clone, Copy)]
 pub struct Order {
     pub answered: u32,
     pub sum: u64,

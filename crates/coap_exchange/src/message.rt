@@ -2,7 +2,7 @@ use dots_history::MessageKey;
 use dots_lists::Bytes;
 
 /// An accepted message of the signal channel, with its reply.
-#[derive(Debug, Drop)]
+#[derive(Drop)]
 pub struct Message {
     /// By which its repeats are known.
     pub key: MessageKey,

@@ -8,7 +8,7 @@ use dots_settings::{NO_DOMAIN, Role, Settings};
 use std::alloc::Global;
 
 /// A peer and a domain that it may act for.
-#[derive(Clone, Copy, Debug, PartialEq, Eq, Hash)]
+#[derive(Clone, Copy, PartialEq, Eq, Hash)]
 pub struct Pair {
     pub peer: u32,
     /// The domain by its number in the settings; 65,535 for a gateway's own session.

@@ -12,7 +12,7 @@ use std::collections::HashMap;
 use std::marker::Model;
 
 /// Each peer of the settings with each domain that it may act for, in the order of the settings. A pair is found at once, by its hash.
-#[derive(Debug, Drop)]
+#[derive(Drop)]
 pub struct Pairs {
     pairs: Vec<Pair>,
     /// The place of each pair.

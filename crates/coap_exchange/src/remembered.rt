@@ -18,7 +18,7 @@ use std::marker::Model;
 
 /// The last accepted messages of each peer and domain, by which repeats are known and get the same reply (RFC 7252,
 /// section 4.5).
-#[derive(Debug, Drop)]
+#[derive(Drop)]
 pub struct Remembered {
     pairs: Pairs,
     /// One for each pair, in their order.

@@ -15,7 +15,7 @@ use std::alloc::Global;
 use std::marker::Model;
 
 /// The last messages of one peer and domain, in the order in which they were accepted.
-#[derive(Debug, Drop)]
+#[derive(Drop)]
 pub struct Ring {
     pair: Pair,
     messages: Vec<Message>,

@@ -13,7 +13,7 @@ use std::alloc::Global;
 use std::marker::Model;
 
 /// What is to be done for a message whose timeout is over.
-#[derive(Debug, Drop)]
+#[derive(Drop)]
 pub enum Resend<'a> {
     /// Send these bytes again, which are those of the message.
     Again(&'a Bytes),
@@ -22,13 +22,13 @@ pub enum Resend<'a> {
 }
 
 /// There is no room for one more message.
-#[derive(Clone, Copy, Debug, PartialEq, Eq)]
+#[derive(Clone, Copy)]
 pub enum SendFault {
     Busy,
 }
 
 /// Messages that are sent again until they are acknowledged or given up (RFC 7252, section 4.2).
-#[derive(Debug, Drop)]
+#[derive(Drop)]
 pub struct Sender {
     sent: Vec<Sent>,
     room: usize,
@@ -46,7 +46,7 @@ impl Model for Sender {
 }
 
 /// What a timeout comes to.
-#[derive(Clone, Copy, Debug)]
+#[derive(Clone, Copy)]
 enum Turn {
     /// The message at this place is to be sent again.
     Again { place: usize },

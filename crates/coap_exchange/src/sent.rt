@@ -8,7 +8,7 @@ use std::marker::Model;
 const MAX_REPEATS: u8 = 3;
 
 /// A message that waits for its acknowledgement.
-#[derive(Debug, Drop)]
+#[derive(Drop)]
 pub struct Sent {
     bytes: Bytes,
     id: u16,

@@ -5,7 +5,7 @@ use std::error::Error;
 use std::fmt;
 
 /// The first fault of bytes that are no message, and the place where it is (RFC 7252, sections 3, 3.1 and 4.1).
-#[derive(Clone, Copy, Debug, PartialEq, Eq)]
+#[derive(Clone, Copy, Debug)]
 pub enum CoapFault {
     /// The bytes end too early.
     Short { at: usize },

@@ -4,7 +4,7 @@ use crate::options::Options;
 use std::marker::Model;
 
 /// A message that was decoded. What it hands out are parts of the bytes that it was decoded from.
-#[derive(Debug, Drop)]
+#[derive(Drop)]
 pub struct Message<'a> {
     kind: Kind,
     code: u8,

@@ -3,7 +3,7 @@ use crate::option_reading::read_option;
 use std::marker::Model;
 
 /// The options of a message in their order, seen as the list of those that are left.
-#[derive(Debug, Drop)]
+#[derive(Drop)]
 pub struct Options<'a> {
     pub(crate) previous: u16,
     pub(crate) rest: &'a [u8],

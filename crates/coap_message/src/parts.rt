@@ -1,7 +1,7 @@
 use crate::kind::Kind;
 
 /// An option that is to be written: its number, and how many bytes its value has.
-#[derive(Clone, Copy, Debug)]
+#[derive(Clone, Copy)]
 pub struct OptionPart {
     pub number: u16,
     /// At most 65,804.
@@ -9,7 +9,7 @@ pub struct OptionPart {
 }
 
 /// What a message is written from.
-#[derive(Clone, Copy, Debug)]
+#[derive(Clone, Copy)]
 pub struct Parts<'a> {
     pub kind: Kind,
     pub code: u8,

@@ -3,7 +3,7 @@ ghost use Rattle.std.specs.Prelude.{◌≡◌, ◌≤◌, length, Some, None, na
 use std::marker::Model;
 
 /// A token: at most 8 bytes (RFC 7252, section 5.3.1).
-#[derive(Clone, Copy, Debug)]
+#[derive(Clone, Copy)]
 pub struct Token {
     bytes: [u8; 8],
     size: usize,

@@ -13,7 +13,7 @@ use std::collections::HashMap;
 use std::marker::Model;
 
 /// A peer, and how many observers it may have.
-#[derive(Clone, Copy, Debug)]
+#[derive(Clone, Copy)]
 struct Chain {
     peer: u32,
     room: usize,
@@ -21,7 +21,7 @@ struct Chain {
 
 /// The keys of each peer's observers, in the order of registration. The chain of a peer is found at once, by its hash, so those of a
 /// peer are found without passing over the others, and one goes without passing over the others of its peer.
-#[derive(Debug, Drop)]
+#[derive(Drop)]
 pub struct Chains {
     chains: Vec<Chain>,
     /// The keys of each chain.

@@ -11,7 +11,7 @@ use std::marker::Model;
 const NUMBERS: u32 = 16_777_216;
 
 /// An observer with what it was told.
-#[derive(Debug, Drop)]
+#[derive(Drop)]
 pub struct Observed {
     observer: Observer,
     /// The number of its next notification.

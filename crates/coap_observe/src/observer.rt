@@ -3,7 +3,7 @@ use dots_heads::Content;
 use dots_lists::Name;
 
 /// Who observes what (RFC 7641; RFC 9132, section 4.4.2.1). A peer and a token are one observer.
-#[derive(Debug, Drop)]
+#[derive(Drop)]
 pub struct Observer {
     pub peer: u32,
     /// The domain of the client, by its number in the settings.

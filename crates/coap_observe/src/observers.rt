@@ -23,7 +23,7 @@ use std::alloc::Global;
 use std::marker::Model;
 
 /// A notification that is due.
-#[derive(Debug, Drop)]
+#[derive(Drop)]
 pub struct Notice<'a> {
     /// The place of the observer in the order of registration.
     pub place: usize,
@@ -35,7 +35,7 @@ pub struct Notice<'a> {
 }
 
 /// Observers of mitigations (RFC 7641; RFC 9132, section 4.4.2.1), in the order of their registration.
-#[derive(Debug, Drop)]
+#[derive(Drop)]
 pub struct Observers {
     roll: Roll,
     /// The keys of each peer's.

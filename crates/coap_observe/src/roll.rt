@@ -14,7 +14,7 @@ use std::alloc::Global;
 use std::marker::Model;
 
 /// Observers in the order of their registration, each under a key that it keeps. One comes and goes without passing over the others.
-#[derive(Debug, Drop)]
+#[derive(Drop)]
 pub struct Roll {
     ones: Slab<Observed>,
     order: Order,

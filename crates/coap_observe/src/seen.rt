@@ -14,7 +14,7 @@ use std::marker::Model;
 const MAX_SEEN: usize = 64;
 
 /// Mids with their statuses, in order.
-#[derive(Debug, Drop)]
+#[derive(Drop)]
 pub struct SeenList {
     items: ArrayVec<(u32, u8), MAX_SEEN>,
 }

@@ -8,7 +8,7 @@ use crate::live::{Mitigates, is_of, stands_for};
 use acl_lists::Asked;
 
 /// What the live mitigations of its client with its mid make of a mitigation request.
-#[derive(Clone, Copy, Debug, PartialEq, Eq)]
+#[derive(Clone, Copy)]
 pub enum MidJudgement {
     /// The client's name is in use by another peer: a live mitigation of the client has another one.
     Collision,

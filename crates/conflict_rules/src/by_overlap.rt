@@ -15,7 +15,7 @@ use dots_settings::Limits;
 use filter_rows::greatest_from;
 
 /// What the live mitigations of its domain make of a new mitigation.
-#[derive(Clone, Copy, Debug, PartialEq, Eq)]
+#[derive(Clone, Copy)]
 pub enum Judgement {
     /// A standing mitigation of the client overlaps and has a higher mid; this is the highest such mid.
     Higher { mid: u32 },
@@ -29,7 +29,7 @@ pub enum Judgement {
 }
 
 /// Whose live mitigations are as many as may be.
-#[derive(Clone, Copy, Debug, PartialEq, Eq)]
+#[derive(Clone, Copy)]
 pub enum Which {
     Client,
     Domain,

@@ -7,7 +7,7 @@ use dots_history::Put;
 use dots_lists::Text;
 
 /// A live mitigation of a domain: it isn't ended, and stands or is terminating (RFC 9132, section 4.4.4).
-#[derive(Debug, Drop)]
+#[derive(Drop)]
 pub struct Live {
     /// Who asked for it.
     pub peer: u32,

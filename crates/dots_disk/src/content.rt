@@ -6,7 +6,7 @@ use std::alloc::Global;
 use std::marker::Model;
 
 /// Bytes up to the highest place that was written, and zeros after them.
-#[derive(Debug, Drop)]
+#[derive(Drop)]
 pub struct Content {
     bytes: Vec<u8>,
 }

@@ -19,7 +19,7 @@ use std::marker::Model;
 ///
 /// It holds zeros above the highest place that was written. A write that finds no memory fails and changes nothing of what
 /// a read gives. No other call fails.
-#[derive(Debug, Drop)]
+#[derive(Drop)]
 pub struct LoggedDisk {
     size: u64,
     content: Content,

@@ -18,7 +18,7 @@ use std::marker::Model;
 ///
 /// It holds zeros above the highest place that was written. A call that finds no memory fails, changes nothing,
 /// and isn't recorded; from then on the acts are no longer told.
-#[derive(Debug, Drop)]
+#[derive(Drop)]
 pub struct MemoryDisk {
     alloc: Global,
     size: u64,

@@ -22,7 +22,7 @@ use std::collections::VecDeque;
 use std::marker::Model;
 
 /// An event that will be handed in.
-#[derive(Debug, Drop)]
+#[derive(Drop)]
 struct Planned {
     event: Event,
     at: u64,
@@ -60,7 +60,7 @@ fn first(coming: &mut VecDeque<Planned>) -> (Event, u64)
 ///
 /// A call that can't be recorded for want of memory fails, and from then on the acts are no longer told. When
 /// the events are used up, `next` answers `End` at time 0.
-#[derive(Debug, Drop)]
+#[derive(Drop)]
 pub struct MemoryHost {
     alloc: Global,
     coming: VecDeque<Planned>,

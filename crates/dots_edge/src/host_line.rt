@@ -4,14 +4,14 @@ ghost use Rattle.dots_edge.specs.HostLine.{key_of, line_value, same_thing};
 use ip_scope::{Addr, Family};
 
 /// An address and a port.
-#[derive(Clone, Copy, Debug)]
+#[derive(Clone, Copy)]
 pub struct Endpoint {
     pub address: Addr,
     pub port: u16,
 }
 
 /// What a line of the host file says.
-#[derive(Clone, Copy, Debug)]
+#[derive(Clone, Copy)]
 pub enum HostLine<'a> {
     /// `journal PATH`: the file of the journal.
     Journal {

@@ -29,7 +29,7 @@ const CONFIG: &[u8] = b"c=c";
 const STATE: &[u8] = b"c=n";
 
 /// What a message says before its body, as parts of it.
-#[derive(Clone, Copy, Debug)]
+#[derive(Clone, Copy)]
 pub struct Head<'a> {
     pub operation: Operation<'a>,
     pub content: Content,

@@ -16,7 +16,7 @@ use dots_lists::{Name, is_name};
 use std::alloc::Global;
 
 /// The methods that resources have (RFC 7252, section 5.8).
-#[derive(Clone, Copy, Debug, PartialEq, Eq)]
+#[derive(Clone, Copy)]
 pub enum Method {
     Get,
     Put,
@@ -24,7 +24,7 @@ pub enum Method {
 }
 
 /// The parameters of a path to a mitigation, as parts of the message.
-#[derive(Clone, Copy, Debug)]
+#[derive(Clone, Copy)]
 pub struct Parameters<'a> {
     pub cdid: Option<&'a [u8]>,
     pub cuid: &'a [u8],
@@ -32,7 +32,7 @@ pub struct Parameters<'a> {
 }
 
 /// What the method wants of the resource. A PUT and a DELETE have a mid or a sid.
-#[derive(Clone, Copy, Debug)]
+#[derive(Clone, Copy)]
 pub enum Operation<'a> {
     PutMitigation(Parameters<'a>),
     GetMitigation(Parameters<'a>),

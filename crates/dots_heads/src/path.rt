@@ -22,7 +22,7 @@ const CONFIG: &[u8] = b"config";
 const HEARTBEAT: &[u8] = b"hb";
 
 /// A resource, with the values of the parameters that stand in its path.
-#[derive(Clone, Copy, Debug)]
+#[derive(Clone, Copy)]
 pub enum Resource<'a> {
     Mitigation {
         cdid: Option<&'a [u8]>,
@@ -36,7 +36,7 @@ pub enum Resource<'a> {
 }
 
 /// The segments of a path that are still to be read.
-#[derive(Debug, Drop)]
+#[derive(Drop)]
 struct Segments<'a> {
     /// The next one.
     next: Option<&'a [u8]>,

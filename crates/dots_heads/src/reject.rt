@@ -11,7 +11,7 @@ use std::error::Error;
 use std::fmt;
 
 /// Why a message is no request: the first of these that applies, in this order.
-#[derive(Clone, Copy, Debug, PartialEq, Eq)]
+#[derive(Clone, Copy, Debug)]
 pub enum Reject {
     /// A critical option that isn't recognised, the first of this number (RFC 7252, section 5.4.1).
     Critical(u16),
@@ -36,7 +36,7 @@ pub enum Reject {
 }
 
 /// Why a body isn't that of a request: the first fault of its bytes, or else the first cause in the order of the keys.
-#[derive(Clone, Copy, Debug, PartialEq, Eq)]
+#[derive(Clone, Copy, Debug)]
 pub enum Cause {
     /// The bytes are no item of CBOR.
     Cbor(CborFault),

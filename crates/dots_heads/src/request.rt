@@ -1,7 +1,7 @@
 use dots_lists::Name;
 
 /// The parameters of a path to a mitigation (RFC 9132, section 4.4.1).
-#[derive(Debug, Drop)]
+#[derive(Drop)]
 pub struct MitigationPath {
     /// The domain for which a gateway asks. A client's own is left out, whatever it says.
     pub cdid: Option<Name>,
@@ -12,7 +12,7 @@ pub struct MitigationPath {
 }
 
 /// Which part of a mitigation a GET wants (RFC 9132, section 4.4.2).
-#[derive(Clone, Copy, Debug, PartialEq, Eq)]
+#[derive(Clone, Copy)]
 pub enum Content {
     /// `c=a`, and where there is no query.
     All,
@@ -23,7 +23,7 @@ pub enum Content {
 }
 
 /// What a GET says of notifications (RFC 7641, section 2).
-#[derive(Clone, Copy, Debug, PartialEq, Eq)]
+#[derive(Clone, Copy)]
 pub enum Observe {
     /// Nothing.
     No,

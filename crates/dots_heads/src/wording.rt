@@ -10,7 +10,7 @@ use std::fmt;
 pub const MAX_TEXT: usize = 28;
 
 /// A word, and a number behind some.
-#[derive(Clone, Copy, Debug)]
+#[derive(Clone, Copy)]
 pub struct Wording {
     word: &'static str,
     number: Option<u64>,

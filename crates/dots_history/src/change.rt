@@ -4,7 +4,7 @@ use acl_lists::{Acl, Alias};
 use dots_lists::Name;
 
 /// What an accepted request changes.
-#[derive(Debug, Drop)]
+#[derive(Drop)]
 pub enum Change {
     /// A mitigation is granted, or its lifetime anew (RFC 9132, section 4.4.1).
     Put(Put),

@@ -1,5 +1,5 @@
 /// A session configuration (RFC 9132, section 4.5.2).
-#[derive(Clone, Copy, Debug, PartialEq, Eq)]
+#[derive(Clone, Copy)]
 pub struct Config {
     /// While a mitigation is active.
     pub mitigating: Values,

@@ -2,7 +2,7 @@ use crate::change::Change;
 use dots_lists::{Bytes, Text};
 
 /// One accepted change.
-#[derive(Debug, Drop)]
+#[derive(Drop)]
 pub struct Entry {
     /// When it was accepted, in seconds.
     pub time: u64,
@@ -20,7 +20,7 @@ pub struct Entry {
 }
 
 /// The message that asked for a change, by which its repeats are known (RFC 7252, section 4.5).
-#[derive(Clone, Copy, Debug, PartialEq, Eq)]
+#[derive(Clone, Copy)]
 pub enum MessageKey {
     /// A request of the data channel; it has no Message ID.
     Http,

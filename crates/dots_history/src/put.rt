@@ -2,7 +2,7 @@ use acl_lists::{Asked, ByteList, PortList, PrefixList};
 use dots_lists::List;
 
 /// A mitigation, as granted (RFC 9132, section 4.4.1).
-#[derive(Debug, Drop)]
+#[derive(Drop)]
 pub struct Put {
     /// The number that the client gave it.
     pub mid: u32,
@@ -20,7 +20,7 @@ pub struct Put {
 pub type TargetList = List<Target>;
 
 /// Where traffic is to be scrubbed: what goes to an address of these prefixes, by these protocols, to these ports.
-#[derive(Debug, Drop)]
+#[derive(Drop)]
 pub struct Target {
     pub prefixes: PrefixList,
     /// None means every port.

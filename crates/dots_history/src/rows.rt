@@ -18,7 +18,7 @@ use ip_scope::Prefix;
 use std::alloc::Global;
 
 /// A row of a live mitigation: one prefix of one of its targets.
-#[derive(Clone, Copy, Debug, Drop)]
+#[derive(Clone, Copy, Drop)]
 pub struct LiveRow<'a> {
     /// The mitigation, whose domain, cuid and mid are the row's.
     pub put: &'a Entry,

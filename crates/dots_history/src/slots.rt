@@ -8,7 +8,7 @@ use std::alloc::Global;
 use std::marker::Model;
 
 /// A strictly rising list of slots, with room that is taken once.
-#[derive(Debug, Drop)]
+#[derive(Drop)]
 pub struct SlotList {
     slots: Vec<u32>,
     room: usize,

@@ -1,5 +1,5 @@
 /// What the entries after a mitigation have done to it.
-#[derive(Clone, Copy, Debug, PartialEq, Eq)]
+#[derive(Clone, Copy)]
 pub enum Status {
     /// A later mitigation of its client took its place.
     Ended,

@@ -14,7 +14,7 @@ use dots_lists::NoMemory;
 use std::alloc::Global;
 
 /// A live mitigation, and what was done to it.
-#[derive(Clone, Copy, Debug, Drop)]
+#[derive(Clone, Copy, Drop)]
 pub struct Mitigation<'a> {
     pub put: &'a Entry,
     pub status: Status,

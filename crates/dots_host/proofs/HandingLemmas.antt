@@ -1,16 +1,10 @@
--- One more call of a host over lists, recorded or not.
-use Rattle.std.proofs.Common.{◌≡◌, ℕ, Bool, true, List, [], ◌∷◌, ◌++◌, drop, refl, sym, ap, ◌∙◌}
+-- An event that a host over lists hands in.
+use Rattle.std.proofs.Common.{◌≡◌, ℕ, true, List, drop, sym, ap, ◌∙◌}
 use Rattle.std.proofs.lemmas.Bool.{false≢true}
 use Rattle.dots_host.specs.declared.event.Event.{Event}
 use Rattle.dots_host.specs.declared.event.Event.TheVariants as event
-use Rattle.dots_host.specs.declared.act.Act.{Act}
 use Rattle.dots_host.specs.declared.act.Act.TheVariants as act
-use Rattle.dots_host.specs.Memory.{Coming, Hosting, is_given, first_coming, HandsOne, Hands}
-
--- a call that was recorded
-pub handed : (old : Hosting) (whole : Bool) (acts : List Act) (later : List Coming) (call : Act) → whole ≡ old.whole → acts ≡ old.acts ++ call ∷ [] → HandsOne old.coming call later
-    → whole ≡ true → (old.whole ≡ true) × (more : List Act) × (acts ≡ old.acts ++ more) × Hands old.coming more later
-handed old whole acts later call same grown one is = (sym same ∙ is, call ∷ [], grown, (later, one, refl))
+use Rattle.dots_host.specs.Memory.{Coming, is_given, first_coming, HandsOne}
 
 of_parts : (coming : Coming) (event : Event) (at : ℕ) → event ≡ coming.event → at ≡ coming.at → coming ≡ record { event = event; at = at }
 of_parts coming event at e t = ap (λ x. with coming.at x) (sym e) ∙ ap (λ x. with x event) (sym t)

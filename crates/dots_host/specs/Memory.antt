@@ -1,7 +1,6 @@
 -- What contracts see of the memory forms.
-use Rattle.std.specs.Prelude.{◌≡◌, ℕ, nat_le, Bool, true, false, List, [], ◌∷◌, ◌++◌, length, drop, Option, Some, None}
+use Rattle.std.specs.Prelude.{◌≡◌, ℕ, nat_le, Bool, true, false, List, [], ◌∷◌, length, drop, Option, Some, None}
 use Rattle.dots_host.specs.declared.calls.Calls.{Calls}
-use Rattle.dots_host.specs.Calls.{no_calls}
 use Rattle.dots_host.specs.declared.event.Event.{Event}
 use Rattle.dots_host.specs.declared.event.Event.TheVariants as event
 use Rattle.dots_host.specs.declared.act.Act.{Act}
@@ -30,22 +29,6 @@ pub record Taped : Type 0 where
   pub acts : List Act
   pub whole : Bool
   pub room : ℕ
-
--- a host over lists: the events to come, the calls recorded so far, whether that is all of them, and its counts
-pub record Hosting : Type 0 where
-  pub coming : List Coming
-  pub acts : List Act
-  pub whole : Bool
-  pub calls : Calls
-  pub faults : ℕ
-
--- nothing comes, and no call was made
-abbrev pub empty_host : Hosting
-empty_host = record { coming = []; acts = []; whole = true; calls = no_calls; faults = 0 }
-
--- the event comes after all others, with the time beside it
-abbrev pub with_event : Hosting → Event → ℕ → Hosting
-with_event host event at = record host { coming = host.coming ++ (record { event = event; at = at }) ∷ [] }
 
 -- what a tape tells of a wire: its acts, where it has recorded each call
 abbrev pub told : Bool → List Act → Option (List Timed)
@@ -78,7 +61,3 @@ HandsOne coming _ later = later ≡ coming
 abbrev pub Hands : List Coming → List Act → List Coming → Type 0
 Hands coming [] later = later ≡ coming
 Hands coming (call ∷ calls) later = (mid : List Coming) × HandsOne coming call mid × Hands mid calls later
-
--- Where each call so far was recorded, those that were added handed out the events that were to come, in order.
-abbrev pub HandsOut : Hosting → Hosting → Type 0
-HandsOut old new = new.whole ≡ true → (old.whole ≡ true) × (more : List Act) × (new.acts ≡ old.acts ++ more) × Hands old.coming more new.coming

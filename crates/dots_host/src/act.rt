@@ -3,7 +3,7 @@ use crate::out::OwnedOut;
 use dots_lists::Bytes;
 
 /// A call of a host: an event taken, a send given, or a call of its disk.
-#[derive(Debug, Drop)]
+#[derive(Drop)]
 pub enum Act {
     /// An event was taken, with the time beside it in seconds.
     Took { event: Event, at: u64 },

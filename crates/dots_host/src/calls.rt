@@ -5,7 +5,7 @@ use dots_lists::{List, NoMemory};
 use std::alloc::Global;
 
 /// The calls of a memory form so far, counted from 1, and those that are to fail.
-#[derive(Debug, Drop)]
+#[derive(Drop)]
 pub struct Calls {
     pub made: u64,
     pub failing: List<u64>,

@@ -5,7 +5,7 @@ use crate::MAX_EVENT_BYTES;
 use dots_lists::Bytes;
 
 /// What came to a host. Connections are named by numbers that the host gives them.
-#[derive(Debug, Drop)]
+#[derive(Drop)]
 pub enum Event {
     /// A datagram from a peer, of at most [`MAX_EVENT_BYTES`] bytes.
     Datagram { from: u32, bytes: Bytes },
@@ -26,8 +26,8 @@ pub enum Event {
 }
 
 impl Event {
-    /// Whether it has at most [`MAX_EVENT_BYTES`] bytes and isn't `Failed`, so that it may be pushed
-    /// to a [`crate::MemoryHost`].
+    /// Whether it has at most [`MAX_EVENT_BYTES`] bytes and isn't `Failed`, so that a host over lists may
+    /// hand it in.
     pub fn is_given(&self) -> bool
         ensures { result ≡ is_given self.now }
     {
@@ -42,7 +42,7 @@ impl Event {
 }
 
 /// An event whose bytes, `len` of them, stand at the front of the room that [`crate::Wire::next`] was given.
-#[derive(Clone, Copy, Debug, PartialEq, Eq)]
+#[derive(Clone, Copy, PartialEq, Eq)]
 pub enum What {
     Datagram { from: u32, len: usize },
     Opened { conn: u32, from: u32 },
@@ -55,7 +55,7 @@ pub enum What {
 }
 
 /// An event and the time beside it, in seconds, below 2^48.
-#[derive(Clone, Copy, Debug, PartialEq, Eq)]
+#[derive(Clone, Copy, PartialEq, Eq)]
 pub struct Got {
     pub what: What,
     pub at: u64,

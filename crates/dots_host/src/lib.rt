@@ -14,8 +14,6 @@ mod calls;
 mod copying;
 mod event;
 mod failed;
-mod handing;
-mod memory_host;
 mod memory_sink;
 mod memory_source;
 mod out;
@@ -30,7 +28,6 @@ pub use act::Act;
 pub use dots_lists::{Bytes, NoMemory};
 pub use event::{Event, Got, What};
 pub use failed::Failed;
-pub use memory_host::MemoryHost;
 pub use memory_sink::MemorySink;
 pub use memory_source::MemorySource;
 pub use out::{Out, OwnedOut, Sent};
@@ -38,7 +35,7 @@ pub use sink::Sink;
 pub use source::Source;
 pub use standard::{StdSink, StdSource};
 pub use tape::Tape;
-pub use wire::{Host, Wire};
+pub use wire::Wire;
 pub use writing::write_all;
 
 /// The greatest number of bytes of a datagram or of a piece of a connection.

@@ -12,7 +12,7 @@ use std::alloc::Global;
 use std::marker::Model;
 
 /// A sink over a list of bytes, which tells what it holds. Want of memory is a failure of the write.
-#[derive(Debug, Drop)]
+#[derive(Drop)]
 pub struct MemorySink {
     held: Vec<u8>,
     calls: Calls,

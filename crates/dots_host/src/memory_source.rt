@@ -12,7 +12,7 @@ use std::alloc::Global;
 use std::marker::Model;
 
 /// A source over a list of bytes, which tells what it has left.
-#[derive(Debug, Drop)]
+#[derive(Drop)]
 pub struct MemorySource {
     bytes: Bytes,
     read: usize,

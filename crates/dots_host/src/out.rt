@@ -1,7 +1,7 @@
 use dots_lists::Bytes;
 
 /// What is sent: a datagram to a peer, bytes on a connection, or the end of a connection.
-#[derive(Clone, Copy, Debug)]
+#[derive(Clone, Copy)]
 pub enum Out<'a> {
     To { peer: u32, bytes: &'a [u8] },
     Conn { conn: u32, bytes: &'a [u8] },
@@ -9,7 +9,7 @@ pub enum Out<'a> {
 }
 
 /// A send that owns its bytes.
-#[derive(Debug, Drop)]
+#[derive(Drop)]
 pub enum OwnedOut {
     To { peer: u32, bytes: Bytes },
     Conn { conn: u32, bytes: Bytes },
@@ -17,7 +17,7 @@ pub enum OwnedOut {
 }
 
 /// Whether a send left.
-#[derive(Clone, Copy, Debug, PartialEq, Eq)]
+#[derive(Clone, Copy)]
 pub enum Sent {
     Done,
     /// It was lost on the way, which is no fault of the wire.

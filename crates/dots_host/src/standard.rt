@@ -10,7 +10,7 @@ use std::io::{Read, Write};
 
 /// A source over a reader of std, which tells what the reader tells of its bytes: for a file, nothing.
 /// Without a reader every read fails.
-#[derive(Debug, Drop)]
+#[derive(Drop)]
 pub struct StdSource<R> {
     reader: Option<R>,
     faults: u64,
@@ -59,7 +59,7 @@ impl<R: Read> Source for StdSource<R> {
 
 /// A sink over a writer of std, which tells what the writer tells of its bytes: for a file, nothing.
 /// It holds none back.
-#[derive(Debug, Drop)]
+#[derive(Drop)]
 pub struct StdSink<W> {
     writer: W,
     faults: u64,

@@ -12,7 +12,7 @@ use std::marker::Model;
 
 /// The calls of a memory host so far. Where a call can't be recorded for want of memory, the tape says from
 /// then on that it isn't whole.
-#[derive(Debug, Drop)]
+#[derive(Drop)]
 pub struct Tape {
     acts: Vec<Act>,
     whole: bool,

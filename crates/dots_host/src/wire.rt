@@ -53,6 +53,3 @@ pub trait Wire {
 
     ghost leads_then: { (old mid new : Self) → leads old mid → leads mid new → leads old new };
 }
-
-/// All of the outside that a server uses.
-pub trait Host: Wire {}

@@ -22,7 +22,7 @@ const MITIGATING_CONFIG: u8 = 32;
 const IDLE_CONFIG: u8 = 44;
 
 /// The keys of a configuration.
-#[derive(Clone, Copy, Debug, PartialEq, Eq)]
+#[derive(Clone, Copy)]
 pub enum ConfigKey {
     Mitigating,
     Idle,

@@ -12,7 +12,7 @@ use cbor_profile::Item;
 use dots_heads::Reject;
 
 /// The fields of a map that are still to be read, in the order of their keys.
-#[derive(Debug, Drop)]
+#[derive(Drop)]
 pub struct Fields<'a> {
     pairs: &'a [(Item, Item)],
 }

@@ -28,7 +28,7 @@ const ACK_RANDOM_FACTOR: u8 = 40;
 const PROBING_RATE: u8 = 50;
 
 /// The keys of the values.
-#[derive(Clone, Copy, Debug, PartialEq, Eq)]
+#[derive(Clone, Copy)]
 pub enum OfferKey {
     Interval,
     Missing,

@@ -18,14 +18,14 @@ const LOWER_PORT: u8 = 8;
 const UPPER_PORT: u8 = 9;
 
 /// The keys of a range.
-#[derive(Clone, Copy, Debug, PartialEq, Eq)]
+#[derive(Clone, Copy)]
 pub enum RangeKey {
     Lower,
     Upper,
 }
 
 /// What the fields of a range said so far.
-#[derive(Clone, Copy, Debug, PartialEq, Eq)]
+#[derive(Clone, Copy)]
 pub struct PortPair {
     pub lower: Option<u16>,
     pub upper: Option<u16>,

@@ -2,7 +2,7 @@ use acl_lists::Asked;
 use dots_heads::{Content, MitigationPath, Observe};
 
 /// What a message asks.
-#[derive(Debug, Drop)]
+#[derive(Drop)]
 pub enum Request {
     /// A mitigation is asked for (RFC 9132, section 4.4.1). The path has a mid.
     PutMitigation {
@@ -39,7 +39,7 @@ pub enum Request {
 }
 
 /// What a mitigation is asked for (RFC 9132, section 4.4.1).
-#[derive(Debug, Drop)]
+#[derive(Drop)]
 pub struct MitigationBody {
     /// The targets, with at least one prefix, name or alias.
     pub asked: Asked,
@@ -48,7 +48,7 @@ pub struct MitigationBody {
 }
 
 /// What a session is to be configured with (RFC 9132, section 4.5.2). At least one of the two offers something.
-#[derive(Clone, Copy, Debug, PartialEq, Eq)]
+#[derive(Clone, Copy)]
 pub struct ConfigBody {
     /// While a mitigation is active.
     pub mitigating: Offer,
@@ -57,7 +57,7 @@ pub struct ConfigBody {
 }
 
 /// The values that are given for a session; None where one isn't. They may be out of the range that is accepted.
-#[derive(Clone, Copy, Debug, PartialEq, Eq)]
+#[derive(Clone, Copy)]
 pub struct Offer {
     /// `heartbeat-interval`, in seconds.
     pub interval: Option<u64>,

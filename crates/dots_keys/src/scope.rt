@@ -29,7 +29,7 @@ const TRIGGER_MITIGATION: u8 = 45;
 const MAX_LIFETIME: u64 = 2147483647;
 
 /// The keys of a scope.
-#[derive(Clone, Copy, Debug, PartialEq, Eq)]
+#[derive(Clone, Copy)]
 pub enum ScopeKey {
     Prefixes,
     Ports,
@@ -41,7 +41,7 @@ pub enum ScopeKey {
 }
 
 /// What the fields of a scope said so far.
-#[derive(Debug, Drop)]
+#[derive(Drop)]
 pub struct Scope {
     pub asked: Asked,
     pub lifetime: Option<i32>,

@@ -11,7 +11,7 @@ use std::marker::Model;
 pub const MAX_NAME: usize = 64;
 
 /// 1 to 64 visible ASCII characters, `!` to `~`.
-#[derive(Debug, Drop)]
+#[derive(Drop)]
 pub struct Name {
     bytes: Vec<u8>,
 }

@@ -6,7 +6,7 @@ use std::marker::Model;
 use std::str;
 
 /// A text in UTF-8.
-#[derive(Debug, Drop)]
+#[derive(Drop)]
 pub struct Text {
     text: String,
 }

@@ -2,7 +2,7 @@ use crate::exchange::Exchange;
 use dots_lists::Name;
 
 /// Who asks for a client, and for which domain (RFC 9132, section 4.4.1).
-#[derive(Debug, Drop)]
+#[derive(Drop)]
 pub struct ClientRequest {
     pub peer: u32,
     /// The number of the domain in the settings.

@@ -1,5 +1,5 @@
 /// What is done with a message that asks nothing (RFC 7252, sections 4.2 and 4.3).
-#[derive(Clone, Copy, Debug, PartialEq, Eq)]
+#[derive(Clone, Copy)]
 pub enum Dismissal {
     /// Nothing is sent.
     Ignored,

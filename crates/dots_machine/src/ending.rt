@@ -5,7 +5,7 @@ use dots_settings::SettingsFault;
 use slot_journal::JournalFault;
 
 /// How a run ends.
-#[derive(Clone, Copy, Debug, PartialEq, Eq)]
+#[derive(Clone, Copy)]
 pub enum Ending {
     /// The words are no command.
     WrongWords,
@@ -26,7 +26,7 @@ pub enum Ending {
 }
 
 /// What came of a word that was to be shown.
-#[derive(Clone, Copy, Debug, PartialEq, Eq)]
+#[derive(Clone, Copy)]
 pub enum Showing {
     /// The lines of the message that it writes are written.
     Written,
@@ -37,7 +37,7 @@ pub enum Showing {
 }
 
 /// How the events of a host stop.
-#[derive(Clone, Copy, Debug, PartialEq, Eq)]
+#[derive(Clone, Copy)]
 pub enum Stop {
     /// End came.
     Ended,

@@ -4,7 +4,7 @@ ghost use Rattle.dots_machine.specs.Exchanges.{exchange_in, reply_kind};
 use coap_message::{Kind, Message, Token};
 
 /// What a reply takes from its request (RFC 7252, section 5.2).
-#[derive(Clone, Copy, Debug)]
+#[derive(Clone, Copy)]
 pub struct Exchange {
     pub kind: Kind,
     /// The Message ID.

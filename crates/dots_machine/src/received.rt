@@ -4,7 +4,7 @@ use dots_heads::Reject;
 use dots_keys::Request;
 
 /// What a datagram is.
-#[derive(Debug, Drop)]
+#[derive(Drop)]
 pub enum Received {
     /// It asks nothing.
     Dismissed(Dismissal),

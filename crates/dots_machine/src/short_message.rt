@@ -10,7 +10,7 @@ use std::marker::Model;
 pub const MAX_SHORT: usize = 64;
 
 /// A message of at most [`MAX_SHORT`] bytes, which takes no memory.
-#[derive(Debug, Drop)]
+#[derive(Drop)]
 pub struct ShortMessage {
     bytes: [u8; MAX_SHORT],
     size: usize,

@@ -2,7 +2,7 @@ ghost use Rattle.std.specs.Prelude.{◌≡◌, ◌≤◌, length};
 ghost use Rattle.dots_machine.specs.Targets.{target_text};
 
 /// Why a scope can't be asked for.
-#[derive(Clone, Copy, Debug, PartialEq, Eq)]
+#[derive(Clone, Copy)]
 pub enum TargetFault {
     /// It meets loopback, multicast or limited broadcast.
     NotATarget,

@@ -3,7 +3,7 @@ use dots_lists::Bytes;
 use installed_filters::Staged;
 
 /// What is decided on a datagram.
-#[derive(Debug, Drop)]
+#[derive(Drop)]
 pub enum Verdict {
     /// Nothing is sent and nothing changes.
     Silent,

@@ -32,7 +32,7 @@ use std::marker::Model;
 use std::mem;
 
 /// What a history comes to at a time.
-#[derive(Debug, Drop)]
+#[derive(Drop)]
 pub struct Registry {
     pub(crate) alloc: Global,
     pub(crate) live: LiveMitigations,

@@ -20,7 +20,7 @@ use std::io::{Read, Write};
 const NO_MEMORY: u8 = 4;
 
 /// What is left of a run of the program.
-#[derive(Debug, Drop)]
+#[derive(Drop)]
 pub struct Finished<F, I, O, R> {
     /// The exit status.
     pub status: u8,

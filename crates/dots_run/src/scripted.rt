@@ -14,7 +14,7 @@ use std::alloc::Global;
 const NO_MEMORY: u8 = 4;
 
 /// What is left of a run over a script.
-#[derive(Debug, Drop)]
+#[derive(Drop)]
 pub struct Scripted<P, K> {
     /// The exit status of the program.
     pub status: u8,

@@ -13,7 +13,7 @@ const BLOCK: usize = 32_768;
 
 /// Bytes that were read ahead of their use. Those that are left move to the front of the room only when the room
 /// behind them is used up.
-#[derive(Debug, Drop)]
+#[derive(Drop)]
 pub struct Block {
     room: Vec<u8>,
     start: usize,

@@ -18,10 +18,8 @@ use crate::block::Block;
 use crate::event_line::parse_event;
 use crate::lines::{Found, find_unskipped};
 use crate::send_line::{SEND_ROOM, write_line};
-use dots_disk::{Disk, LoggedDisk};
-use dots_host::{
-    Failed, Got, Host, MAX_EVENT_BYTES, NoMemory, Out, Sent, Sink, Source, What, Wire,
-};
+use dots_disk::{Disk, Host, LoggedDisk};
+use dots_host::{Failed, Got, MAX_EVENT_BYTES, NoMemory, Out, Sent, Sink, Source, What, Wire};
 use std::alloc::Global;
 use std::marker::Model;
 
@@ -33,7 +31,7 @@ pub const DISK_BYTES: u64 = 1_073_741_824;
 /// that exists in proofs alone.
 ///
 /// A write to the disk fails where no memory is found for it. No other call of the disk fails.
-#[derive(Debug, Drop)]
+#[derive(Drop)]
 pub struct ScriptHost<S, K> {
     source: S,
     block: Block,
@@ -269,9 +267,7 @@ impl<S: Source, K: Sink> Disk for ScriptHost<S, K> {
     }
 }
 
-impl<S: Source, K: Sink> Host for ScriptHost<S, K> {}
-
-impl<S: Source, K: Sink> dots_disk::Host for ScriptHost<S, K> {
+impl<S: Source, K: Sink> Host for ScriptHost<S, K> {
     ghost one_moment = { λ host. one_moment_logged host.disk };
 
     ghost disk_keeps = { λ old new keeps. (keeps_acts_logged old.disk new.disk keeps.disk, keeps.faults, script_leads S.left S.faults K.holds old new keeps) };

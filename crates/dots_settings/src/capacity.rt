@@ -2,7 +2,7 @@ ghost use Rattle.std.specs.Prelude.{◌≡◌};
 ghost use Rattle.dots_settings.specs.Capacity.{place_of, same_capacity, greatest_of, default_of, capacity_named};
 
 /// What a `capacity` line limits.
-#[derive(Clone, Copy, Debug)]
+#[derive(Clone, Copy)]
 pub enum Capacity {
     ClientMitigations,
     DomainMitigations,

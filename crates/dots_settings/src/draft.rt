@@ -12,7 +12,7 @@ use ip_scope::Prefix;
 use std::alloc::Global;
 
 /// A prefix of a domain, and the line that gives it.
-#[derive(Debug, Drop)]
+#[derive(Drop)]
 pub struct Scope {
     pub domain: Bytes,
     pub prefix: Prefix,
@@ -20,21 +20,21 @@ pub struct Scope {
 }
 
 /// A peer: a client of the domain, or a gateway where there is none.
-#[derive(Debug, Drop)]
+#[derive(Drop)]
 pub struct Peer {
     pub number: u32,
     pub domain: Option<Bytes>,
 }
 
 /// A prefix of a host name.
-#[derive(Debug, Drop)]
+#[derive(Drop)]
 pub struct Address {
     pub name: Bytes,
     pub prefix: Prefix,
 }
 
 /// A capacity that a line gives.
-#[derive(Clone, Copy, Debug)]
+#[derive(Clone, Copy)]
 pub struct Chosen {
     pub what: Capacity,
     pub limit: u32,

@@ -10,7 +10,7 @@ use std::error::Error;
 use std::fmt;
 
 /// Why there are no settings. Lines are counted from 1 on, those that are skipped too.
-#[derive(Clone, Copy, Debug, PartialEq, Eq)]
+#[derive(Clone, Copy, Debug)]
 pub enum SettingsFault {
     /// The line has none of the forms.
     Line { n: u32 },

@@ -7,7 +7,7 @@ use acl_lists::Packet;
 use ip_scope::Prefix;
 
 /// What a line of the settings says.
-#[derive(Clone, Copy, Debug)]
+#[derive(Clone, Copy)]
 pub enum Form<'a> {
     /// `domain NAME`
     Domain { name: &'a [u8] },

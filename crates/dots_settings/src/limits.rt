@@ -1,5 +1,5 @@
 /// How much a server takes on at a time.
-#[derive(Clone, Copy, Debug, PartialEq, Eq)]
+#[derive(Clone, Copy)]
 pub struct Limits {
     /// Live mitigations of one client: 1 to 64, by default 16.
     pub client_mitigations: u32,

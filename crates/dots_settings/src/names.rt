@@ -2,7 +2,7 @@ use acl_lists::PrefixList;
 use dots_lists::Name;
 
 /// A host name and its addresses.
-#[derive(Debug, Drop)]
+#[derive(Drop)]
 pub struct NameRow {
     /// With the spelling of its first line.
     pub name: Name,

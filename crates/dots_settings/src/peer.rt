@@ -2,7 +2,7 @@
 pub const NO_DOMAIN: u16 = 65_535;
 
 /// What a peer is in the settings.
-#[derive(Clone, Copy, Debug, PartialEq, Eq)]
+#[derive(Clone, Copy, PartialEq, Eq)]
 pub enum Role {
     /// The settings don't name it.
     Stranger,
@@ -13,7 +13,7 @@ pub enum Role {
 }
 
 /// A peer that the settings name.
-#[derive(Clone, Copy, Debug, PartialEq, Eq)]
+#[derive(Clone, Copy)]
 pub struct PeerRow {
     pub peer: u32,
     /// A client or a gateway.

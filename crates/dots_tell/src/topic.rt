@@ -1,5 +1,5 @@
 /// What is told without serving.
-#[derive(Clone, Copy, Debug, PartialEq, Eq)]
+#[derive(Clone, Copy)]
 pub enum Topic {
     /// What a settings file comes to, or its first fault and why it is one.
     Settings,

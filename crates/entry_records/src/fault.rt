@@ -4,7 +4,7 @@ use std::error::Error;
 use std::fmt;
 
 /// Why no entry was read from bytes.
-#[derive(Clone, Copy, Debug, PartialEq, Eq)]
+#[derive(Clone, Copy, Debug)]
 pub enum EntryFault {
     /// The bytes are no record. `at` is the place at which no record can go on: that of the first byte that no record
     /// with the bytes before it has, or the length where more bytes are needed.

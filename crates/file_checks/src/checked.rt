@@ -5,7 +5,7 @@ use dots_lists::{Bytes, NoMemory};
 use std::alloc::{AllocError, AllocFailed};
 
 /// What is told of a file, its lines.
-#[derive(Debug, Drop)]
+#[derive(Drop)]
 pub enum Checked {
     /// What the file comes to.
     Good(Bytes),
@@ -14,7 +14,7 @@ pub enum Checked {
 }
 
 /// Why nothing is told of a file.
-#[derive(Clone, Copy, Debug)]
+#[derive(Clone, Copy)]
 pub enum Unchecked {
     /// The source failed before the file was read.
     ReadFailed,

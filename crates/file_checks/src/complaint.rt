@@ -3,7 +3,7 @@ ghost use Rattle.std.specs.Prelude.{◌≡◌, Some, None};
 use crate::reason::Reason;
 
 /// What is to be mended in a line: why, and the field where, counted from 0, or the whole line.
-#[derive(Clone, Copy, Debug)]
+#[derive(Clone, Copy)]
 pub struct Complaint {
     pub reason: Reason,
     pub field: Option<usize>,

@@ -5,7 +5,7 @@ use dots_lists::NoMemory;
 use itoa::Buffer;
 
 /// Why a line of the settings or of a script is at fault.
-#[derive(Clone, Copy, Debug)]
+#[derive(Clone, Copy)]
 pub enum Reason {
     /// It begins with none of the nine words.
     Word,

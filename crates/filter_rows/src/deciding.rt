@@ -12,7 +12,7 @@ use dots_lists::Name;
 use ip_scope::Prefix;
 
 /// What becomes of a packet.
-#[derive(Clone, Copy, Debug, Drop)]
+#[derive(Clone, Copy, Drop)]
 pub enum Fate<'a> {
     /// No filter matches.
     Pass,

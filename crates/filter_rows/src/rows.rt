@@ -3,7 +3,7 @@ use dots_lists::Text;
 use ip_scope::Prefix;
 
 /// A row of a mitigation: one prefix of one of its targets (RFC 9132, section 4.4.1).
-#[derive(Debug, Drop)]
+#[derive(Drop)]
 pub struct ScrubRow {
     /// The domain of the client, by its number in the settings.
     pub domain: u16,
@@ -21,7 +21,7 @@ pub struct ScrubRow {
 }
 
 /// The row of an access list (RFC 8783, section 7.2).
-#[derive(Debug, Drop)]
+#[derive(Drop)]
 pub struct AclRow {
     /// The domain of the client, by its number in the settings.
     pub domain: u16,

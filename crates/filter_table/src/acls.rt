@@ -12,7 +12,7 @@ use std::alloc::Global;
 use std::marker::Model;
 
 /// The rows in order of place.
-#[derive(Debug, Drop)]
+#[derive(Drop)]
 pub struct Acls {
     held: Vec<HeldAcl>,
     room: usize,

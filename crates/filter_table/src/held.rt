@@ -5,7 +5,7 @@ use dots_lists::Text;
 use filter_rows::AclRow;
 
 /// The row of an access list as the table holds it.
-#[derive(Debug, Drop)]
+#[derive(Drop)]
 pub struct HeldAcl {
     /// Where it stands among the list rows: they are in order of place.
     pub place: u64,

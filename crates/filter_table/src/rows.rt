@@ -12,7 +12,7 @@ use filter_rows::{AclRow, ScrubRow};
 use std::marker::Model;
 
 /// The active rows of mitigations that are left.
-#[derive(Debug, Drop)]
+#[derive(Drop)]
 pub struct ScrubRows<'a> {
     left: &'a [Turn],
     rows: &'a [Option<ScrubRow>],
@@ -81,7 +81,7 @@ fn next_active<'a>(
 }
 
 /// The rows of access lists that are left.
-#[derive(Debug, Drop)]
+#[derive(Drop)]
 pub struct AclRows<'a> {
     left: &'a [HeldAcl],
 }

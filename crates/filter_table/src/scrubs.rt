@@ -23,7 +23,7 @@ use std::alloc::Global;
 use std::marker::Model;
 
 /// The rows by slot, the turns of those that are held, and their ranks.
-#[derive(Debug, Drop)]
+#[derive(Drop)]
 pub struct Scrubs {
     rows: Vec<Option<ScrubRow>>,
     turns: Vec<Turn>,

@@ -22,7 +22,7 @@ use std::marker::Model;
 ///
 /// A row of a mitigation stands in a slot of its own as long as it is held. Rows of mitigations and rows of access lists are
 /// each in order of place; a row that is put in at a place that others have stands behind those.
-#[derive(Debug, Drop)]
+#[derive(Drop)]
 pub struct FilterTable {
     scrubs: Scrubs,
     acls: Acls,

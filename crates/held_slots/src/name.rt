@@ -10,7 +10,7 @@ use std::marker::Model;
 const MAX_NAME: usize = 64;
 
 /// A name of at most 64 bytes, or none at all.
-#[derive(Debug, Drop)]
+#[derive(Drop)]
 pub struct ShortName {
     bytes: ArrayVec<u8, MAX_NAME>,
 }

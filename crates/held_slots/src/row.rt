@@ -8,7 +8,7 @@ use crate::name::ShortName;
 use dots_history::{Change, Entry};
 
 /// What an entry wrote that is held until a later one undoes it.
-#[derive(Debug, Drop)]
+#[derive(Drop)]
 pub enum Written {
     /// The client is registered (RFC 8783, section 5.1).
     Registration,
@@ -21,7 +21,7 @@ pub enum Written {
 }
 
 /// Something that is held, and the slot of the entry that wrote it.
-#[derive(Debug, Drop)]
+#[derive(Drop)]
 pub struct HeldSlot {
     /// Who wrote it.
     pub peer: u32,

@@ -15,7 +15,7 @@ use std::alloc::Global;
 use std::marker::Model;
 
 /// The slots of the entries that wrote what is held, in order of writing, and room for a number of them.
-#[derive(Debug, Drop)]
+#[derive(Drop)]
 pub struct HeldSlots {
     rows: Vec<HeldSlot>,
     room: usize,

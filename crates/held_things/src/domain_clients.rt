@@ -14,7 +14,7 @@ use std::alloc::Global;
 use std::marker::Model;
 
 /// The registered clients of a domain, in order of registration.
-#[derive(Debug, Drop)]
+#[derive(Drop)]
 pub struct DomainClients {
     rooms: Rooms,
     list: Vec<RegisteredClient>,

@@ -1,5 +1,5 @@
 /// What may be full.
-#[derive(Clone, Copy, Debug, PartialEq, Eq)]
+#[derive(Clone, Copy)]
 pub enum RoomKind {
     /// The registered clients of a domain.
     Client,

@@ -15,7 +15,7 @@ use std::alloc::Global;
 use std::marker::Model;
 
 /// A registered client with its aliases and access lists, each in order of writing, and room for so many.
-#[derive(Debug, Drop)]
+#[derive(Drop)]
 pub struct RegisteredClient {
     rooms: Rooms,
     /// Who registered it.

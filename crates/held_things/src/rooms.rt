@@ -1,5 +1,5 @@
 /// How much may be held.
-#[derive(Clone, Copy, Debug, PartialEq, Eq)]
+#[derive(Clone, Copy)]
 pub struct Rooms {
     /// Registered clients of a domain.
     pub clients: usize,

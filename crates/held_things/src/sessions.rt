@@ -9,7 +9,7 @@ use dots_settings::PeerRow;
 use std::alloc::Global;
 
 /// A peer of the settings, and the session configuration that is held of it, with its sid.
-#[derive(Clone, Copy, Debug, PartialEq, Eq)]
+#[derive(Clone, Copy)]
 pub struct Session {
     pub peer: u32,
     pub config: Option<(u32, Config)>,

@@ -23,7 +23,7 @@ use std::alloc::Global;
 use std::marker::Model;
 
 /// The registered clients of each domain with their aliases and access lists, and the session configuration of each peer.
-#[derive(Debug, Drop)]
+#[derive(Drop)]
 pub struct HeldThings {
     rooms: Rooms,
     /// By the number of the domain.

@@ -7,7 +7,7 @@ use dots_lists::{Bytes, List, NoMemory};
 use std::alloc::Global;
 
 /// A request with bytes of its own.
-#[derive(Debug, Drop)]
+#[derive(Drop)]
 pub struct OwnedRequest {
     pub method: Bytes,
     pub target: Bytes,

@@ -3,7 +3,7 @@ ghost use Rattle.http_cut.specs.Places.{place_behind, place_from, is_end};
 
 /// How far the head at the front of a stream came. It ends with the first empty line behind a line that isn't empty (RFC
 /// 9112, sections 2.1 and 2.2).
-#[derive(Clone, Copy, Debug)]
+#[derive(Clone, Copy)]
 pub(crate) enum Place {
     /// Empty lines alone came.
     Blank,

@@ -8,7 +8,7 @@ use http::StatusCode;
 use itoa::Buffer;
 
 /// The head of a reply without the bytes of its body.
-#[derive(Clone, Copy, Debug)]
+#[derive(Clone, Copy)]
 pub struct ReplyHead<'a> {
     /// The status, one of 200, 201, 204, 400, 404, 405, 409, 411, 413, 415, 500 and 503.
     pub status: u16,

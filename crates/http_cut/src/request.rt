@@ -1,7 +1,7 @@
 use crate::fault::HttpFault;
 
 /// A request at the front of a stream, in slices of the bytes that are held (RFC 9112, section 2.1).
-#[derive(Clone, Copy, Debug)]
+#[derive(Clone, Copy)]
 pub struct HttpRequest<'a> {
     pub method: &'a [u8],
     pub target: &'a [u8],
@@ -16,7 +16,7 @@ pub struct HttpRequest<'a> {
 }
 
 /// What stands at the front of a stream.
-#[derive(Clone, Copy, Debug)]
+#[derive(Clone, Copy)]
 pub enum Cut<'a> {
     /// A whole request.
     Request(HttpRequest<'a>),

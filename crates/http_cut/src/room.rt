@@ -8,7 +8,7 @@ use std::alloc::Global;
 pub(crate) const MOST_FIELDS: usize = 2_731;
 
 /// Room for the fields of a head. One serves all streams.
-#[derive(Debug, Drop)]
+#[derive(Drop)]
 pub struct HeadRoom {
     pub(crate) spans: Vec<HeaderSpan>,
     ghost sized: { vec_len spans ≡ 2731 },

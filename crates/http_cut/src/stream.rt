@@ -20,7 +20,7 @@ const GREATEST_HELD: usize = 16_384;
 /// it is cut into pieces. Where it is cut once behind each piece, a head is parsed once if the request came whole with the
 /// piece in which its head ended, and else three times at most. A request that is discarded costs the moving of what is held
 /// behind it.
-#[derive(Debug, Drop)]
+#[derive(Drop)]
 pub struct Stream {
     bytes: Vec<u8>,
     place: Place,

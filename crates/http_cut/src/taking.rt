@@ -14,7 +14,7 @@ use dots_lists::NoMemory;
 use std::alloc::Global;
 
 /// The requests of a stream, in their order, and how it goes on behind them.
-#[derive(Debug, Drop)]
+#[derive(Drop)]
 pub struct Taken {
     pub requests: RequestList,
     /// `NoMemory` where it isn't found for the request that is held then.

@@ -17,7 +17,7 @@ use std::marker::Model;
 const PREFIXES: u32 = 64;
 
 /// The rows of mitigations and those of access lists that are installed.
-#[derive(Debug, Drop)]
+#[derive(Drop)]
 pub struct InstalledFilters {
     table: FilterTable,
     next: u64,

@@ -13,7 +13,7 @@ use std::alloc::Global;
 use std::marker::Model;
 
 /// An entry whose rows can be installed without memory. Contracts see it as the entry.
-#[derive(Debug, Drop)]
+#[derive(Drop)]
 pub struct Staged {
     entry: Entry,
     scrubs: Vec<ScrubRow>,

@@ -4,7 +4,7 @@ ghost use Rattle.ip_scope.specs.Family.{width};
 use crate::family::Family;
 
 /// An address: a number below 2^32, or below 2^128.
-#[derive(Clone, Copy, Debug, PartialEq, Eq)]
+#[derive(Clone, Copy)]
 pub struct Addr {
     pub family: Family,
     pub number: u128,

@@ -2,7 +2,7 @@ use std::error::Error;
 use std::fmt;
 
 /// Why a text is no prefix.
-#[derive(Clone, Copy, Debug, PartialEq, Eq)]
+#[derive(Clone, Copy, Debug)]
 pub enum BadPrefix {
     /// It isn't an address, a slash and a length of one to three digits.
     NotPrefix,

@@ -7,7 +7,7 @@ use crate::family::Family;
 use std::marker::Model;
 
 /// A prefix: a family, a number whose host bits are zero, and a length of at most 32 or 128.
-#[derive(Clone, Copy, Debug, PartialEq, Eq)]
+#[derive(Clone, Copy)]
 pub struct Prefix {
     family: Family,
     number: u128,

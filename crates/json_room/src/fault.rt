@@ -3,7 +3,7 @@ use std::error::Error;
 use std::fmt;
 
 /// Why bytes weren't read as a value.
-#[derive(Clone, Copy, Debug, PartialEq, Eq)]
+#[derive(Clone, Copy, Debug)]
 pub enum JsonFault {
     /// They are no text of JSON, or one with a number that is too large or with too deep a value.
     NotJson,

@@ -23,7 +23,7 @@ use std::marker::Model;
 
 /// The slots of a journal in which the entries stand that a compaction keeps: for the live mitigations, for what is held, and as the last.
 /// Those of the remembered messages stand in their rings.
-#[derive(Debug, Drop)]
+#[derive(Drop)]
 pub struct KeptSlots {
     live: LiveSlots,
     held: HeldSlots,

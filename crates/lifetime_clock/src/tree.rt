@@ -293,7 +293,7 @@ impl Tree {
 }
 
 /// The entries with smaller keys, the branch of the key, and those with greater keys.
-#[derive(Debug, Drop)]
+#[derive(Drop)]
 pub struct Split {
     pub below: Tree,
     pub found: Option<Box<Branch>>,

@@ -19,7 +19,7 @@ use std::alloc::Global;
 use std::marker::Model;
 
 /// The live mitigations of each domain, standing and terminating ones, with room for as many as the settings say.
-#[derive(Debug, Drop)]
+#[derive(Drop)]
 pub struct LiveMitigations {
     tables: LiveTables,
     domains: u16,

@@ -8,7 +8,7 @@ use dots_history::Put;
 use std::marker::Model;
 
 /// A live mitigation, as it is read (RFC 9132, section 4.4.2).
-#[derive(Debug, Drop)]
+#[derive(Drop)]
 pub struct MitigationRow<'a> {
     pub put: &'a Put,
     /// Who asked for it.
@@ -20,7 +20,7 @@ pub struct MitigationRow<'a> {
 }
 
 /// The live mitigations of a client that are left.
-#[derive(Debug, Drop)]
+#[derive(Drop)]
 pub struct Mitigations<'a> {
     left: &'a [Row],
     cuid: &'a [u8],

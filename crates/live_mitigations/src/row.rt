@@ -25,7 +25,7 @@ const INDEFINITE: i32 = -1;
 
 /// A mitigation that is live, and what was done to it since it was put. Contracts see it as the entry that put it,
 /// without its message and reply, beside its status.
-#[derive(Debug, Drop)]
+#[derive(Drop)]
 pub struct Row {
     time: u64,
     peer: u32,

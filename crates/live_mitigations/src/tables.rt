@@ -15,7 +15,7 @@ use std::alloc::Global;
 use std::marker::Model;
 
 /// A list for each domain, and for each the first second at which one of its mitigations is over.
-#[derive(Debug, Drop)]
+#[derive(Drop)]
 pub(crate) struct LiveTables {
     lists: Vec<LiveList>,
     deadlines: Deadlines,

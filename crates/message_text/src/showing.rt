@@ -11,7 +11,7 @@ use hex_text::{MAX_BYTES, read_hex};
 use std::alloc::Global;
 
 /// What is shown of a word, its lines.
-#[derive(Debug, Drop)]
+#[derive(Drop)]
 pub enum Shown {
     /// The word writes a message: its kind, code, Message ID and token, its options, and its payload.
     Message(Bytes),

@@ -17,7 +17,7 @@ use std::alloc::Global;
 use std::marker::Model;
 
 /// The slots of the live mitigations of one domain, in order of their entries, and room for a number of them.
-#[derive(Debug, Drop)]
+#[derive(Drop)]
 pub(crate) struct DomainSlots {
     slots: Vec<MitigationSlots>,
     room: usize,

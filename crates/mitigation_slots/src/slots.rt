@@ -1,7 +1,7 @@
 //! The slots of a mitigation.
 
 /// The slots of a journal in which the entries stand by which a mitigation is live.
-#[derive(Debug, Drop)]
+#[derive(Drop)]
 pub struct MitigationSlots {
     /// That of the entry that put it.
     pub put: u32,

@@ -16,7 +16,7 @@ use std::alloc::Global;
 use std::marker::Model;
 
 /// The slots of the live mitigations of each domain, beside their rows in `live_mitigations` and in the same order.
-#[derive(Debug, Drop)]
+#[derive(Drop)]
 pub struct LiveSlots {
     domains: Vec<DomainSlots>,
 }

@@ -17,7 +17,7 @@ use ip_scope::{Addr, Family};
 use std::marker::Model;
 
 /// The slots of the ranks that cover an address, length by length.
-#[derive(Debug, Drop)]
+#[derive(Drop)]
 pub struct Covering<'a> {
     address: Addr,
     levels: &'a [Level],

@@ -5,7 +5,7 @@ ghost use Rattle.std.specs.List.{prefix_len, AllByRecursion};
 ghost use Rattle.prefix_ranks.specs.Levels.{one_more, one_less};
 
 /// A kind that has ranks, and how many.
-#[derive(Clone, Copy, Debug, Drop)]
+#[derive(Clone, Copy, Drop)]
 pub struct Level {
     pub kind: u16,
     pub len: usize,

@@ -9,7 +9,7 @@ use ip_scope::{Family, Prefix};
 
 /// What an order of prefixes looks at, the first that differs deciding. Other things with a kind and a number may stand in an
 /// order of their own.
-#[derive(Clone, Copy, Debug, Drop)]
+#[derive(Clone, Copy, Drop)]
 pub struct Rank {
     /// Of a prefix its family and length, as one number.
     pub kind: u16,

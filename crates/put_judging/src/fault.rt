@@ -3,7 +3,7 @@ use conflict_rules::Which;
 use dots_lists::NoMemory;
 
 /// Why a mitigation isn't granted.
-#[derive(Debug, Drop)]
+#[derive(Drop)]
 pub enum PutFault {
     /// The client's name is in use by another peer (RFC 9132, section 4.4.1.3: conflict-cause 3).
     Collision,

@@ -22,7 +22,7 @@ use lifetime_clock::grant;
 use std::alloc::Global;
 
 /// A mitigation that is granted.
-#[derive(Debug, Drop)]
+#[derive(Drop)]
 pub struct Judged {
     pub put: Put,
     /// Whether it refreshes one that stands.

@@ -31,7 +31,7 @@ pub const CUID_COLLISION: u8 = 3;
 pub const RETRY_AFTER: u8 = 120;
 
 /// A request that conflicts with what there is.
-#[derive(Debug, Drop)]
+#[derive(Drop)]
 pub struct Conflict {
     /// The mid that was asked for; None where a request has none.
     pub mid: Option<u32>,
@@ -39,7 +39,7 @@ pub struct Conflict {
 }
 
 /// What a request conflicts with.
-#[derive(Debug, Drop)]
+#[derive(Drop)]
 pub enum ConflictCause {
     /// With a mitigation of the same client, which has this higher mid and overlaps.
     Higher(u32),

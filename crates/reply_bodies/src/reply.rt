@@ -14,7 +14,7 @@ use dots_lists::{Bytes, NoMemory};
 use std::alloc::Global;
 
 /// A reply that has a body of CBOR.
-#[derive(Debug, Drop)]
+#[derive(Drop)]
 pub enum Reply<'a> {
     /// A mitigation is granted for so many seconds, or -1 for an indefinite time (RFC 9132, section 4.4.1.3).
     Granted { mid: u32, lifetime: i32 },

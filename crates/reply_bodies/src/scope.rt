@@ -17,7 +17,7 @@ use dots_lists::{List, NoMemory};
 use std::alloc::Global;
 
 /// A mitigation, and what of it is to be told.
-#[derive(Clone, Copy, Debug)]
+#[derive(Clone, Copy)]
 pub struct MitigationView<'a> {
     pub mid: u32,
     /// What its last request named.

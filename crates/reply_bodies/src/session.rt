@@ -20,7 +20,7 @@ use std::alloc::Global;
 pub const DECIMAL_FRACTION: u64 = 4;
 
 /// A configuration that a peer has.
-#[derive(Clone, Copy, Debug, PartialEq, Eq)]
+#[derive(Clone, Copy)]
 pub struct SessionView {
     /// The number under which the peer set it; None where it has the default.
     pub sid: Option<u32>,
@@ -31,7 +31,7 @@ pub struct SessionView {
 }
 
 /// The values for one state of a session.
-#[derive(Clone, Copy, Debug, PartialEq, Eq)]
+#[derive(Clone, Copy)]
 pub struct Current {
     /// `heartbeat-interval`, in seconds.
     pub interval: u64,

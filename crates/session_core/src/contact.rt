@@ -5,7 +5,7 @@ ghost use Rattle.session_core.specs.Contacts.{is_of, session_of, number_heard, s
 ghost use Rattle.session_core.specs.Beating.{turn_of, was_heard, session_after, id_after, beat_of, row_after};
 
 /// A session with a peer (RFC 9132, section 4.7). It begins when a message of the peer is heard.
-#[derive(Clone, Copy, Debug, PartialEq, Eq)]
+#[derive(Clone, Copy)]
 pub struct Session {
     /// When the peer was heard last, in seconds.
     pub heard: u64,
@@ -14,7 +14,7 @@ pub struct Session {
 }
 
 /// What is kept of a peer once it was heard.
-#[derive(Clone, Copy, Debug, PartialEq, Eq)]
+#[derive(Clone, Copy)]
 pub struct Contact {
     /// The Message ID of the next message that begins here.
     pub number: u16,
@@ -23,7 +23,7 @@ pub struct Contact {
 }
 
 /// A peer of the settings with what is kept of it.
-#[derive(Clone, Copy, Debug, PartialEq, Eq)]
+#[derive(Clone, Copy)]
 pub struct PeerContact {
     pub peer: u32,
     /// None until the peer is heard.
@@ -31,7 +31,7 @@ pub struct PeerContact {
 }
 
 /// A heartbeat that is to be sent (RFC 9132, section 4.7).
-#[derive(Clone, Copy, Debug, PartialEq, Eq)]
+#[derive(Clone, Copy)]
 pub struct Beat {
     pub peer: u32,
     /// Its Message ID.
@@ -41,7 +41,7 @@ pub struct Beat {
 }
 
 /// What time makes of a session.
-#[derive(Clone, Copy, Debug, PartialEq, Eq)]
+#[derive(Clone, Copy)]
 pub enum Turn {
     /// Nothing yet.
     Rests,

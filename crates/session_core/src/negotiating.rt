@@ -8,7 +8,7 @@ use dots_history::{Config, Values};
 use dots_keys::{ConfigBody, Offer};
 
 /// Why a configuration isn't taken.
-#[derive(Clone, Copy, Debug, PartialEq, Eq)]
+#[derive(Clone, Copy)]
 pub enum ConfigFault {
     /// The value of this key is out of its range.
     Range { key: u8 },

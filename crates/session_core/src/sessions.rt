@@ -16,7 +16,7 @@ use std::marker::Model;
 
 /// The sessions with the peers of the settings, in their order (RFC 9132, sections 4.5 and 4.7), and the Message IDs of the messages to
 /// them that begin here. The row of a peer is found at once, by its hash.
-#[derive(Debug, Drop)]
+#[derive(Drop)]
 pub struct Sessions {
     rows: Vec<PeerContact>,
     /// Where the row of each peer stands.

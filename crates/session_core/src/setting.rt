@@ -4,7 +4,7 @@ ghost use Rattle.std.specs.Prelude.{◌≡◌};
 ghost use Rattle.session_core.specs.Ranges.{key_of, default_of, is_within, is_accepted, is_refused, chosen};
 
 /// A value of a session configuration (RFC 9132, section 4.5.2), in the order of their keys.
-#[derive(Clone, Copy, Debug, PartialEq, Eq)]
+#[derive(Clone, Copy)]
 pub enum Setting {
     /// `heartbeat-interval`, in seconds.
     Interval,

@@ -8,7 +8,7 @@ use std::alloc::Global;
 use std::marker::Model;
 
 /// Slots below a room, each once at most, in an order.
-#[derive(Debug, Drop)]
+#[derive(Drop)]
 pub struct Order {
     /// The slot behind each; behind the room is the first one, and behind the last one is the room.
     behind: Vec<usize>,

@@ -11,7 +11,7 @@ use std::mem;
 
 /// Slots below a room, each once at most, in an order. Each has a position in a row of spots, and a new one gets the first position
 /// that wasn't given yet, so that positions rise along the order.
-#[derive(Debug, Drop)]
+#[derive(Drop)]
 pub struct Places {
     spots: Spots,
     /// The position of each slot that is there.

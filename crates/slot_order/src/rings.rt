@@ -11,7 +11,7 @@ use std::alloc::Global;
 use std::marker::Model;
 
 /// Where an order begins, and how many slots it has.
-#[derive(Clone, Copy, Debug)]
+#[derive(Clone, Copy)]
 struct Ring {
     /// The one behind it is the first slot, and the one before it is the last.
     start: usize,
@@ -19,7 +19,7 @@ struct Ring {
 }
 
 /// Several orders of slots below a room, each slot in one of them at most.
-#[derive(Debug, Drop)]
+#[derive(Drop)]
 pub struct Rings {
     /// The slot behind each; behind the start of an order is its first one, and behind its last one is the start.
     behind: Vec<usize>,

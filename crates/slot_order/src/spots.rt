@@ -10,7 +10,7 @@ use std::mem;
 
 /// A spot between those before it and those behind it.
 #[cycle(spots)]
-#[derive(Debug, Drop)]
+#[derive(Drop)]
 pub struct Fork {
     slot: Option<usize>,
     /// How many spots the tree has whose root this is, and how many of them have a slot.
@@ -23,7 +23,7 @@ pub struct Fork {
 /// Spots in a row, each of which has a slot or none. Each side of a fork is made with half of the other spots, and none is made later,
 /// so a call goes down as many levels as the logarithm of their number says.
 #[cycle(spots)]
-#[derive(Debug, Drop)]
+#[derive(Drop)]
 pub struct Spots {
     root: Option<Box<Fork>>,
 }

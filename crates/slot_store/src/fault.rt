@@ -3,7 +3,7 @@ use std::error::Error;
 use std::fmt;
 
 /// A call of the disk failed. The journal isn't used again after it, and the disk is recovered.
-#[derive(Clone, Copy, Debug, PartialEq, Eq)]
+#[derive(Clone, Copy, Debug)]
 pub struct DiskFault;
 
 impl fmt::Display for DiskFault {
@@ -25,7 +25,7 @@ impl From<Failed> for DiskFault {
 }
 
 /// Why a disk isn't opened.
-#[derive(Clone, Copy, Debug, PartialEq, Eq)]
+#[derive(Clone, Copy)]
 pub enum OpenFault {
     /// The disk has `found` bytes, and fewer than are needed.
     TooSmall { needed: u64, found: u64 },

@@ -13,7 +13,7 @@ use dots_disk::Disk;
 use dots_host::Failed;
 
 /// Which gates are looked for.
-#[derive(Clone, Copy, Debug, PartialEq, Eq)]
+#[derive(Clone, Copy)]
 pub enum Wanted {
     Open,
     NotOpen,

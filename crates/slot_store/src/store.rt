@@ -21,7 +21,7 @@ use std::alloc::Global;
 use std::marker::Model;
 
 /// A journal of records on a disk, in the half of its slots that the selector names.
-#[derive(Debug, Drop)]
+#[derive(Drop)]
 pub struct SlotStore {
     slots: u32,
     selector: u8,
