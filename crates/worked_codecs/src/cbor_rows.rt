@@ -1,6 +1,7 @@
 //! Items of CBOR (RFC 8949).
 
 use crate::cbor_examples::{DETERMINISTIC, FAULTS, OTHERS, UNSUPPORTED};
+use crate::tables::{Rows, all_hold};
 use cbor_profile::{CborFault, Item, ItemList, PairList, decode, encode, is_valid};
 use dots_lists::{Bytes, NoMemory};
 use std::alloc::Global;
@@ -9,55 +10,44 @@ use std::test::Fail;
 /// The deterministic encoding of what the bytes spell.
 fn written_again(alloc: Global, bytes: &[u8]) -> Result<Bytes, CborFault> {
     let item = decode(alloc, bytes)?;
-    encode(alloc, &item).map_err(CborFault::from)
+    match encode(alloc, &item) {
+        Ok(bytes) => Ok(bytes),
+        Err(_) => Err(CborFault::NoMemory),
+    }
 }
 
-/// Whether that is this in hexadecimal, or the words of the first fault are these.
-fn answers(alloc: Global, digits: &str, want: &str) -> Result<bool, Fail> {
+/// That in hexadecimal, or the words of the first fault.
+fn told(alloc: Global, digits: &str) -> Result<String, Fail> {
     let bytes = hex::decode(alloc, digits)?;
-    let said = match written_again(alloc, bytes.as_slice()) {
-        Ok(encoding) => hex::encode(alloc, encoding.items())?,
-        Err(fault) => format!(in alloc; "{fault}")?,
+    match written_again(alloc, bytes.as_slice()) {
+        Ok(encoding) => Ok(hex::encode(alloc, encoding.items())?),
+        Err(fault) => Ok(format!(in alloc; "{fault}")?),
+    }
+}
+
+fn is_told(alloc: Global, digits: &str, want: &str) -> Result<bool, Fail> {
+    Ok(told(alloc, digits)?.as_str() == want)
+}
+
+/// Whether each item in front of a row is answered with what stands behind them, or with itself where nothing does.
+pub fn are_answered(alloc: Global, row: &str) -> Result<bool, Fail> {
+    let (items, want) = match row.split_once(" = ") {
+        Some((items, want)) => (items, Some(want)),
+        None => (row, None),
     };
-    Ok(said.as_str() == want)
-}
-
-/// Whether the bytes in front of a row are answered with what stands behind them.
-fn holds(alloc: Global, row: &str) -> Result<bool, Fail> {
-    let (digits, want) = row.split_once(": ").ok_or("a row")?;
-    answers(alloc, digits, want)
+    let mut right = true;
+    for digits in items.split(' ') {
+        right &= is_told(alloc, digits, want.unwrap_or(digits))?;
+    }
+    Ok(right)
 }
 
 #[test]
-fn encodings_are_read_and_written(rt: HostRuntime) -> Result<(), Fail> {
-    for digits in DETERMINISTIC.split_whitespace() {
-        assert!(rt; answers(rt.alloc(), digits, digits)?, "at {digits}");
-    }
-    Ok(())
-}
-
-#[test]
-fn other_spellings_and_faults_are_told(rt: HostRuntime) -> Result<(), Fail> {
-    for table in [OTHERS, FAULTS] {
-        for row in table.lines() {
-            assert!(rt; holds(rt.alloc(), row)?, "at {row}");
-        }
-    }
-    Ok(())
-}
-
-#[test]
-fn floats_are_refused(rt: HostRuntime) -> Result<(), Fail> {
-    let want = "a float or another simple value at 0";
-    for digits in UNSUPPORTED.split_whitespace() {
-        assert!(rt; answers(rt.alloc(), digits, want)?, "at {digits}");
-    }
-    Ok(())
-}
-
-fn is_out_of_memory(alloc: Global, fault: CborFault) -> Result<bool, Fail> {
-    let text = format!(in alloc; "{fault}")?;
-    Ok(text.as_str() == "out of memory")
+fn items_are_read_and_written(rt: HostRuntime) -> Result<(), Fail> {
+    all_hold(&rt, rt.alloc(), Rows::Items, DETERMINISTIC)?;
+    all_hold(&rt, rt.alloc(), Rows::Items, OTHERS)?;
+    all_hold(&rt, rt.alloc(), Rows::Items, FAULTS)?;
+    all_hold(&rt, rt.alloc(), Rows::Items, UNSUPPORTED)
 }
 
 /// The value beside an unsigned key of a map.
@@ -75,25 +65,20 @@ fn first_at(item: &Item, key: u64) -> Option<&Item> {
     value_at(item, key)?.as_array()?.first()
 }
 
-/// Whether the first scope of a mitigation request has this lifetime, and its first prefix is this text.
-fn has_scope(alloc: Global, bytes: &[u8], lifetime: u64, prefix: &str) -> Result<bool, CborFault> {
-    let item = decode(alloc, bytes)?;
-    let scope = value_at(&item, 1).and_then(|scopes| first_at(scopes, 2));
-    let found = scope
-        .and_then(|scope| value_at(scope, 14))
-        .and_then(Item::as_unsigned);
-    let text = scope
-        .and_then(|scope| first_at(scope, 6))
-        .and_then(Item::as_text);
-    Ok(found == Some(lifetime) && text.is_some_and(|text| text.as_str() == prefix))
+/// The lifetime and the first prefix of the first scope of a mitigation request.
+fn first_scope(item: &Item) -> Option<(u64, &str)> {
+    let scope = first_at(value_at(item, 1)?, 2)?;
+    let lifetime = value_at(scope, 14)?.as_unsigned()?;
+    Some((lifetime, first_at(scope, 6)?.as_text()?.as_str()))
 }
 
-#[test]
-fn a_mitigation_request_is_a_map(rt: HostRuntime) -> Result<(), Fail> {
-    let request = b"\xa1\x01\xa1\x02\x81\xa2\x06\x81\x6c192.0.2.0/24\x0e\x19\x0e\x10";
-    assert!(rt; has_scope(rt.alloc(), request, 3600, "192.0.2.0/24")?);
-    assert!(rt; is_out_of_memory(rt.alloc(), CborFault::NoMemory)?);
-    Ok(())
+/// Whether the bytes are a map, in which a mitigation request has its first scope.
+fn is_request(alloc: Global, bytes: &[u8]) -> Result<bool, CborFault> {
+    let item = decode(alloc, bytes)?;
+    Ok(match first_scope(&item) {
+        Some((lifetime, prefix)) => lifetime == 3600 && prefix == "192.0.2.0/24",
+        None => false,
+    })
 }
 
 /// Whether an array of this one item is valid.
@@ -103,12 +88,21 @@ fn is_valid_alone(alloc: Global, item: Item) -> Result<bool, NoMemory> {
     Ok(is_valid(&Item::Array(items)))
 }
 
-/// Whether an array of the item that the digits spell is valid.
-fn is_valid_in_array(alloc: Global, digits: &str) -> Result<bool, Fail> {
+/// Whether the array of the item in front of a row is `valid`, or `invalid`.
+pub fn is_judged(alloc: Global, row: &str) -> Result<bool, Fail> {
+    let (digits, want) = row.split_once(" = ").ok_or("a row")?;
     let bytes = hex::decode(alloc, digits)?;
     let item = decode(alloc, bytes.as_slice())?;
-    Ok(is_valid_alone(alloc, item)?)
+    let valid = is_valid_alone(alloc, item)?;
+    Ok(valid == (want == "valid"))
 }
+
+/// Valid items nest sixteen deep.
+const ARRAYS: &str = "\
+81818181818181818181818181818100 = valid
+8181818181818181818181818181818100 = invalid
+d818c1c1c1c1c1c1c1c1c1c1c1c1c1c100 = valid
+c1c1c1c1c1c1c1c1c1c1c1c1c1c1c1c100 = invalid";
 
 /// Whether a map of two such keys is valid.
 fn is_valid_map(alloc: Global, keys: [u64; 2]) -> Result<bool, NoMemory> {
@@ -119,28 +113,18 @@ fn is_valid_map(alloc: Global, keys: [u64; 2]) -> Result<bool, NoMemory> {
     Ok(is_valid(&Item::Map(pairs)))
 }
 
-/// Valid items nest sixteen deep.
 #[test]
 fn arrays_are_valid(rt: HostRuntime) -> Result<(), Fail> {
-    for (digits, want) in [
-        ("81818181818181818181818181818100", true),
-        ("8181818181818181818181818181818100", false),
-        ("d818c1c1c1c1c1c1c1c1c1c1c1c1c1c100", true),
-        ("c1c1c1c1c1c1c1c1c1c1c1c1c1c1c1c100", false),
-    ] {
-        assert!(rt;
-            is_valid_in_array(rt.alloc(), digits)? == want,
-            "at {digits}"
-        );
-    }
-    Ok(())
+    all_hold(&rt, rt.alloc(), Rows::Arrays, ARRAYS)
 }
 
 /// The keys of valid items rise.
 #[test]
 fn maps_are_valid(rt: HostRuntime) -> Result<(), Fail> {
+    let request = b"\xa1\x01\xa1\x02\x81\xa2\x06\x81\x6c192.0.2.0/24\x0e\x19\x0e\x10";
+    assert!(rt; is_request(rt.alloc(), request)?);
     for (keys, want) in [([255, 256], true), ([256, 255], false), ([7, 7], false)] {
-        assert!(rt; is_valid_map(rt.alloc(), keys)? == want, "{keys:?}");
+        assert!(rt; is_valid_map(rt.alloc(), keys)? == want);
     }
     Ok(())
 }

@@ -1,30 +1,28 @@
 //! Lifetimes that are granted (RFC 9132, section 4.4.1), and deadlines.
 
+use crate::tables::{Rows, all_hold};
 use dots_lists::NoMemory;
 use lifetime_clock::{Deadlines, grant};
 use std::alloc::Global;
 use std::test::Fail;
 
-/// Whether this is granted of what is asked for.
-fn is_granted(asked: i32, ceiling: i32, indefinite: bool, want: i32) -> bool {
-    (asked == -1 || asked > 0) && grant(asked, ceiling, indefinite) == want
-}
+/// Seconds that are asked for, the ceiling, and whether indefinite lifetimes are granted, in front of what is granted.
+const GRANTS: &str = "\
+-1 3600 indefinite = -1
+-1 3600 bounded = 3600
+1 1 bounded = 1
+3599 3600 bounded = 3599
+3600 3600 indefinite = 3600
+3601 3600 indefinite = 3600";
 
-#[test]
-fn grants_up_to_the_ceiling(rt: HostRuntime) {
-    for (asked, ceiling, indefinite, want) in [
-        (-1, 3_600, true, -1),
-        (-1, 3_600, false, 3_600),
-        (1, 1, false, 1),
-        (3_599, 3_600, false, 3_599),
-        (3_600, 3_600, true, 3_600),
-        (3_601, 3_600, true, 3_600),
-    ] {
-        assert!(rt;
-            is_granted(asked, ceiling, indefinite, want),
-            "at {asked} of {ceiling}"
-        );
-    }
+/// Whether the seconds behind a row are granted.
+pub fn is_granted(row: &str) -> Result<bool, Fail> {
+    let (asked, rest) = row.split_once(' ').ok_or("a row")?;
+    let (ceiling, rest) = rest.split_once(' ').ok_or("a ceiling")?;
+    let (word, want) = rest.split_once(" = ").ok_or("a word")?;
+    let (asked, ceiling) = (asked.parse::<i32>()?, ceiling.parse::<i32>()?);
+    let want = want.parse::<i32>()?;
+    Ok((asked == -1 || asked > 0) && grant(asked, ceiling, word == "indefinite") == want)
 }
 
 /// The deadlines of the rows, set one after another, with as much room as there are rows.
@@ -42,59 +40,50 @@ pub fn clear_all(deadlines: &mut Deadlines, keys: &[u32]) {
     }
 }
 
-/// The keys that are due, at most so many, in the order in which they are handed out.
-fn take_due(
-    alloc: Global,
-    deadlines: &mut Deadlines,
-    most: usize,
-    now: u64,
-) -> Result<Vec<u32>, NoMemory> {
-    let mut keys = Vec::new(alloc);
-    for _ in 0..most {
-        match deadlines.due(now) {
-            Some(key) => keys.push(key)?,
-            None => break,
-        }
+/// Keys with their times, as they are set; keys that are then cleared; and a time, in front of the keys that are due at it.
+const DUE: &str = "\
+# no room
+; 7; 18446744073709551615 =
+# one, at its borders
+7@10; ; 9 =
+4294967295@18446744073709551615; ; 18446744073709551615 = 4294967295
+# the full room, in order of time
+3@20 1@30 2@10 0@40; ; 30 = 2 3 1
+# moved later, and earlier
+1@10 2@30 1@40 2@20; ; 40 = 2 1
+# cleared: one that isn't there, and one twice
+1@10 2@20 3@30; 9 1 1; 40 = 2 3";
+
+fn times_in(alloc: Global, text: &str) -> Result<Vec<(u32, u64)>, Fail> {
+    let mut rows = Vec::new(alloc);
+    for word in text.split_whitespace() {
+        let (key, at) = word.split_once('@').ok_or("a time")?;
+        rows.push((key.parse::<u32>()?, at.parse::<u64>()?))?;
     }
-    Ok(keys)
+    Ok(rows)
 }
 
-/// Whether these keys are handed out at a time, where these were set and then these cleared.
-fn hands_out(
-    alloc: Global,
-    set: &[(u32, u64)],
-    cleared: &[u32],
-    now: u64,
-    want: &[u32],
-) -> Result<bool, NoMemory> {
-    let mut deadlines = deadlines_of(alloc, set)?;
-    clear_all(&mut deadlines, cleared);
-    let most = set.len().saturating_add(1);
-    Ok(take_due(alloc, &mut deadlines, most, now).is_ok_and(|keys| keys.as_slice() == want))
+/// Whether these keys are due, one after the other, and then none, once the keys in front of them are cleared.
+fn hands_out(deadlines: &mut Deadlines, row: &str) -> Result<bool, Fail> {
+    let (cleared, rest) = row.split_once("; ").ok_or("keys that are cleared")?;
+    let (now, want) = rest.split_once(" =").ok_or("a time")?;
+    let now = now.parse::<u64>()?;
+    for word in cleared.split_whitespace() {
+        deadlines.clear(word.parse::<u32>()?);
+    }
+    let mut right = true;
+    for word in want.split_whitespace() {
+        right &= deadlines.due(now) == Some(word.parse::<u32>()?);
+    }
+    Ok(right && deadlines.due(now).is_none())
 }
 
-#[test]
-fn hands_out_what_is_due(rt: HostRuntime) -> Result<(), Fail> {
-    let rows: [(&[(u32, u64)], &[u32], u64, &[u32]); 6] = [
-        // no room
-        (&[], &[7], u64::MAX, &[]),
-        // one, at its borders
-        (&[(7, 10)], &[], 9, &[]),
-        (&[(u32::MAX, u64::MAX)], &[], u64::MAX, &[u32::MAX]),
-        // the full room, in order of time
-        (&[(3, 20), (1, 30), (2, 10), (0, 40)], &[], 30, &[2, 3, 1]),
-        // moved later, and earlier
-        (&[(1, 10), (2, 30), (1, 40), (2, 20)], &[], 40, &[2, 1]),
-        // cleared: one that isn't there, and one twice
-        (&[(1, 10), (2, 20), (3, 30)], &[9, 1, 1], 40, &[2, 3]),
-    ];
-    for (set, cleared, now, want) in rows {
-        assert!(rt;
-            hands_out(rt.alloc(), set, cleared, now, want)?,
-            "at {set:?}"
-        );
-    }
-    Ok(())
+/// Whether what is due is what a row says.
+pub fn is_due(alloc: Global, row: &str) -> Result<bool, Fail> {
+    let (set, rest) = row.split_once(';').ok_or("keys")?;
+    let set = times_in(alloc, set)?;
+    let mut deadlines = deadlines_of(alloc, set.as_slice())?;
+    hands_out(&mut deadlines, rest)
 }
 
 /// So many keys with rising times: each is so many more than the one before, modulo their count. A step of 1 makes them rise,
@@ -168,35 +157,39 @@ fn is_low(alloc: Global, step: u32) -> Result<bool, Fail> {
 
 /// For keys that rise, fall and come in turns, where keys are taken out at both ends and between, and where what is due is then
 /// handed out.
-#[test]
-fn the_tree_is_low(rt: HostRuntime) -> Result<(), Fail> {
-    for step in [1, 999, 617] {
-        assert!(rt; is_low(rt.alloc(), step)?, "by steps of {step}");
-    }
-    Ok(())
+pub fn is_low_by(alloc: Global, step: &str) -> Result<bool, Fail> {
+    is_low(alloc, step.parse::<u32>()?)
 }
 
-/// The keys of the rows.
-fn keys_of(alloc: Global, rows: &[(u32, u64)]) -> Result<Vec<u32>, NoMemory> {
-    let mut keys = Vec::new(alloc);
+/// Whether the keys of the rows, whose times rise, are handed out in their order.
+fn hands_out_all(deadlines: &mut Deadlines, rows: &[(u32, u64)]) -> bool {
+    let mut right = true;
     for (key, _) in rows {
-        keys.push(*key)?;
+        right &= deadlines.due(u64::MAX) == Some(*key);
     }
-    Ok(keys)
+    right && deadlines.due(u64::MAX).is_none()
 }
 
 /// Whether sixty thousand keys whose times rise are handed out in this order.
 fn keeps_the_order(alloc: Global, step: u32) -> Result<bool, NoMemory> {
     let rows = in_steps(alloc, 60_000, step)?;
-    let want = keys_of(alloc, rows.as_slice())?;
-    hands_out(alloc, rows.as_slice(), &[], u64::MAX, want.as_slice())
+    let mut deadlines = deadlines_of(alloc, rows.as_slice())?;
+    Ok(hands_out_all(&mut deadlines, rows.as_slice()))
 }
 
 /// Keys that rise or fall with their times. In a tree that isn't balanced the calls would nest too deep.
+pub fn keeps_many(alloc: Global, step: &str) -> Result<bool, Fail> {
+    Ok(keeps_the_order(alloc, step.parse::<u32>()?)?)
+}
+
+#[test]
+fn lifetimes_and_deadlines(rt: HostRuntime) -> Result<(), Fail> {
+    all_hold(&rt, rt.alloc(), Rows::Grants, GRANTS)?;
+    all_hold(&rt, rt.alloc(), Rows::Due, DUE)?;
+    all_hold(&rt, rt.alloc(), Rows::Low, "1\n999\n617")
+}
+
 #[test]
 fn many_keys_are_handed_out(rt: HostRuntime) -> Result<(), Fail> {
-    for step in [1, 59_999] {
-        assert!(rt; keeps_the_order(rt.alloc(), step)?, "by steps of {step}");
-    }
-    Ok(())
+    all_hold(&rt, rt.alloc(), Rows::Many, "1\n59999")
 }

@@ -1,6 +1,7 @@
 //! Deadlines beside a plain list that is scanned: both are given the same calls.
 
 use crate::clock_rows::deadlines_of;
+use crate::tables::{Rows, all_hold, words_of};
 use dots_lists::NoMemory;
 use lifetime_clock::Deadlines;
 use std::alloc::Global;
@@ -10,7 +11,7 @@ use std::test::Fail;
 const ROWS: u32 = 100;
 
 /// How keys and times go on: each below a bound, by a step.
-#[derive(Clone, Copy, Debug)]
+#[derive(Clone, Copy)]
 struct Going {
     keys: (u32, u32),
     times: (u64, u64),
@@ -27,87 +28,109 @@ fn rows_of(alloc: Global, of: Going) -> Result<Vec<(u32, u64)>, NoMemory> {
     Ok(rows)
 }
 
-fn clear(rows: &mut Vec<(u32, u64)>, key: u32) {
-    if let Some(place) = rows.iter().position(|row| row.0 == key) {
-        let _row = rows.swap_remove(place);
+/// Sets or clears the time of a key below 256.
+fn put(times: &mut [Option<u64>], key: u32, at: Option<u64>) {
+    if let Some(time) = times.get_mut(key as usize) {
+        *time = at;
     }
 }
 
-/// The list in which the rows were set one after another.
-fn scan_of(alloc: Global, rows: &[(u32, u64)]) -> Result<Vec<(u32, u64)>, NoMemory> {
-    let mut scan = Vec::new(alloc);
+/// The times of keys, where the rows were set one after another.
+fn list_of(rows: &[(u32, u64)]) -> [Option<u64>; 256] {
+    let mut times = [None; 256];
     for (key, at) in rows {
-        clear(&mut scan, *key);
-        scan.push((*key, *at))?;
+        put(&mut times, *key, Some(*at));
     }
-    Ok(scan)
+    times
 }
 
-fn least_time(rows: &[(u32, u64)]) -> u64 {
-    let mut least = u64::MAX;
-    for (_, at) in rows {
-        least = least.min(*at);
+fn least_time(times: &[Option<u64>]) -> Option<u64> {
+    let mut least = None;
+    for time in times {
+        least = match (least, *time) {
+            (Some(at), Some(other)) if at < other => Some(at),
+            (least, None) => least,
+            (_, time) => time,
+        };
     }
     least
 }
 
 /// Whether the key has a time that isn't later than now, and none has an earlier one.
-fn is_next(rows: &[(u32, u64)], key: u32, now: u64) -> bool {
-    match rows.iter().find(|row| row.0 == key) {
-        Some((_, at)) => *at <= now && *at == least_time(rows),
-        None => false,
+fn is_next(times: &[Option<u64>], key: u32, now: u64) -> bool {
+    match (times.get(key as usize), least_time(times)) {
+        (Some(Some(at)), Some(least)) => *at <= now && *at == least,
+        _ => false,
+    }
+}
+
+/// Whether no time is earlier than now, or now.
+fn is_none_due(times: &[Option<u64>], now: u64) -> bool {
+    match least_time(times) {
+        Some(at) => at > now,
+        None => true,
     }
 }
 
 /// Takes what is due out of both, and answers whether the list has the same.
-fn take_due(deadlines: &mut Deadlines, scan: &mut Vec<(u32, u64)>, now: u64) -> bool {
+fn take_due(deadlines: &mut Deadlines, times: &mut [Option<u64>], now: u64) -> bool {
     for _ in 0..=ROWS {
         match deadlines.due(now) {
-            Some(key) if is_next(scan.as_slice(), key, now) => clear(scan, key),
+            Some(key) if is_next(times, key, now) => put(times, key, None),
             Some(_) => return false,
-            None => return scan.is_empty() || least_time(scan.as_slice()) > now,
+            None => return is_none_due(times, now),
         }
     }
     false
 }
 
 /// Clears some keys in both, takes out what is due at one time after the other, and answers whether both had the same.
-fn is_same(deadlines: &mut Deadlines, scan: &mut Vec<(u32, u64)>) -> bool {
+fn is_same(deadlines: &mut Deadlines, times: &mut [Option<u64>]) -> bool {
     for key in [0, 5, 9, 50, 51, 200] {
         deadlines.clear(key);
-        clear(scan, key);
+        put(times, key, None);
     }
+    let mut same = true;
     for now in [0, 10, 11, 40, u64::MAX] {
-        if !take_due(deadlines, scan, now) {
-            return false;
-        }
+        same &= take_due(deadlines, times, now);
     }
-    scan.is_empty() && deadlines.due(u64::MAX).is_none()
+    same && least_time(times).is_none() && deadlines.due(u64::MAX).is_none()
 }
 
 fn agrees(alloc: Global, of: Going) -> Result<bool, NoMemory> {
     let rows = rows_of(alloc, of)?;
-    let mut scan = scan_of(alloc, rows.as_slice())?;
+    let mut times = list_of(rows.as_slice());
     let mut deadlines = deadlines_of(alloc, rows.as_slice())?;
-    Ok(is_same(&mut deadlines, &mut scan))
+    Ok(is_same(&mut deadlines, &mut times))
+}
+
+/// The bounds and the steps of keys and times.
+const GOING: &str = "\
+# keys that rise, fall and come in turns, to the full room
+100 1 100 1
+100 99 100 1
+100 37 100 61
+# equal times
+100 7 1 0
+100 63 3 1
+# keys that are moved earlier and later
+16 5 40 13
+10 3 40 39";
+
+/// Whether both have the same by a row.
+pub fn are_same(alloc: Global, row: &str) -> Result<bool, Fail> {
+    let words = words_of(alloc, row)?;
+    let [keys, key_step, times, time_step] = words.as_slice() else {
+        return Err(Fail::from("four numbers"));
+    };
+    let of = Going {
+        keys: (keys.parse::<u32>()?, key_step.parse::<u32>()?),
+        times: (times.parse::<u64>()?, time_step.parse::<u64>()?),
+    };
+    Ok(agrees(alloc, of)?)
 }
 
 #[test]
 fn deadlines_are_those_of_a_list(rt: HostRuntime) -> Result<(), Fail> {
-    for (keys, times) in [
-        // keys that rise, fall and come in turns, to the full room
-        ((100, 1), (100, 1)),
-        ((100, 99), (100, 1)),
-        ((100, 37), (100, 61)),
-        // equal times
-        ((100, 7), (1, 0)),
-        ((100, 63), (3, 1)),
-        // keys that are moved earlier and later
-        ((16, 5), (40, 13)),
-        ((10, 3), (40, 39)),
-    ] {
-        let of = Going { keys, times };
-        assert!(rt; agrees(rt.alloc(), of)?, "at {of:?}");
-    }
-    Ok(())
+    all_hold(&rt, rt.alloc(), Rows::Scans, GOING)
 }

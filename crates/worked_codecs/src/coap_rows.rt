@@ -3,6 +3,7 @@
 ghost use Rattle.std.specs.Prelude.{◌≤◌};
 ghost use Rattle.coap_message.specs.Parts.{IsValid};
 
+use crate::tables::{Rows, all_hold};
 use coap_message::{
     CoapFault, Kind, Message, OptionPart, Options, Parts, Token, decode, encode_into, encoded_len,
     salvage,
@@ -26,40 +27,40 @@ const HEADER: &[u8] = b"\x40\x01\x12\x34";
 /// Each number and each length is the last or the first with so long an extension. In the last two the extension of the delta
 /// comes first.
 const FORMS: &str = "\
-    12 0 c0\n\
-    13 0 d000\n\
-    268 0 d0ff\n\
-    269 0 e00000\n\
-    65535 0 e0fef2\n\
-    1 12 1c\n\
-    1 13 1d00\n\
-    1 268 1dff\n\
-    1 269 1e0000\n\
-    1 65804 1effff\n\
-    14 527 de010102\n\
-    1041 15 ed030402";
+12 0 c0
+13 0 d000
+268 0 d0ff
+269 0 e00000
+65535 0 e0fef2
+1 12 1c
+1 13 1d00
+1 268 1dff
+1 269 1e0000
+1 65804 1effff
+14 527 de010102
+1041 15 ed030402";
 
 /// One or two of each fault, in front of what is told of it, and where several are in one place.
 const FAULTS: &str = "\
-    890012: the bytes end too early at 3\n\
-    00011234: the version isn't 1 at 0\n\
-    89001234ff: the version isn't 1 at 0\n\
-    49001234ff: the token is longer than 8 bytes at 0\n\
-    4f030001: the token is longer than 8 bytes at 0\n\
-    42001234: an empty message has more than a header at 0\n\
-    40001234ff: an empty message has more than a header at 4\n\
-    48011234ff: the bytes end too early at 5\n\
-    40011234df: a nibble of an option is 15 at 4\n\
-    40011234f0: a nibble of an option is 15 at 4\n\
-    40030002b00f: a nibble of an option is 15 at 5\n\
-    40011234e000: the bytes end too early at 6\n\
-    40011234edffff: the bytes end too early at 7\n\
-    40011234e1ffff: an option's number is above 65535 at 4\n\
-    410300034ae0fef210: an option's number is above 65535 at 8\n\
-    40030003e0fef3: an option's number is above 65535 at 4\n\
-    50011236b261: the bytes end too early at 6\n\
-    40011235ff: no payload follows the marker at 4\n\
-    40011235b0ff: no payload follows the marker at 5";
+890012 = the bytes end too early at 3
+00011234 = the version isn't 1 at 0
+89001234ff = the version isn't 1 at 0
+49001234ff = the token is longer than 8 bytes at 0
+4f030001 = the token is longer than 8 bytes at 0
+42001234 = an empty message has more than a header at 0
+40001234ff = an empty message has more than a header at 4
+48011234ff = the bytes end too early at 5
+40011234df = a nibble of an option is 15 at 4
+40011234f0 = a nibble of an option is 15 at 4
+40030002b00f = a nibble of an option is 15 at 5
+40011234e000 = the bytes end too early at 6
+40011234edffff = the bytes end too early at 7
+40011234e1ffff = an option's number is above 65535 at 4
+410300034ae0fef210 = an option's number is above 65535 at 8
+40030003e0fef3 = an option's number is above 65535 at 4
+50011236b261 = the bytes end too early at 6
+40011235ff = no payload follows the marker at 4
+40011235b0ff = no payload follows the marker at 5";
 
 /// What is written of a CON GET with one option, whose value has so many zeros.
 fn written(alloc: Global, number: u16, size: usize) -> Result<Vec<u8>, Fail>
@@ -84,41 +85,36 @@ fn written(alloc: Global, number: u16, size: usize) -> Result<Vec<u8>, Fail>
     Ok(bytes)
 }
 
-/// The header, these bytes, and so many zeros.
-fn spelled(alloc: Global, front: &[u8], size: usize) -> Result<Vec<u8>, Fail> {
-    let mut bytes = Vec::new(alloc);
-    bytes.extend_from_slice(HEADER)?;
-    bytes.extend_from_slice(front)?;
-    bytes.extend_from_slice(vec![in alloc; 0; size]?.as_slice())?;
-    Ok(bytes)
+fn are_all(bytes: &[u8], want: u8) -> bool {
+    let mut right = true;
+    for byte in bytes {
+        right &= *byte == want;
+    }
+    right
 }
 
-/// The number, the length and the front of a row of forms.
-fn form_of(alloc: Global, row: &str) -> Result<(u16, usize, Vec<u8>), Fail> {
-    let (number, rest) = row.split_once(' ').ok_or("a number")?;
-    let (size, front) = rest.split_once(' ').ok_or("a length")?;
-    let number = number.parse::<u16>()?;
-    let size = size.parse::<usize>()?;
-    Ok((number, size, hex::decode(alloc, front)?))
+/// Whether the bytes are the header, these bytes, and then zeros alone, of which there are so many.
+fn is_spelled(bytes: &[u8], front: &[u8], size: usize) -> bool {
+    let Some(rest) = bytes.strip_prefix(HEADER) else {
+        return false;
+    };
+    match rest.strip_prefix(front) {
+        Some(zeros) => zeros.len() == size && are_all(zeros, 0),
+        None => false,
+    }
 }
 
 /// Whether what is written of the option of a row is spelled as the row says.
-fn is_written(alloc: Global, row: &str) -> Result<bool, Fail> {
-    let (number, size, front) = form_of(alloc, row)?;
+pub fn is_written(alloc: Global, row: &str) -> Result<bool, Fail> {
+    let (number, rest) = row.split_once(' ').ok_or("a number")?;
+    let (size, front) = rest.split_once(' ').ok_or("a length")?;
+    let (number, size) = (number.parse::<u16>()?, size.parse::<usize>()?);
     if size > 65_804 {
         return Err(Fail::from("a length that no option has"));
     }
-    let bytes = spelled(alloc, front.as_slice(), size)?;
-    let found = written(alloc, number, size)?;
-    Ok(found.as_slice() == bytes.as_slice())
-}
-
-#[test]
-fn writes_each_form_of_an_option(rt: HostRuntime) -> Result<(), Fail> {
-    for row in FORMS.lines() {
-        assert!(rt; is_written(rt.alloc(), row)?, "at {row}");
-    }
-    Ok(())
+    let front = hex::decode(alloc, front)?;
+    let bytes = written(alloc, number, size)?;
+    Ok(is_spelled(bytes.as_slice(), front.as_slice(), size))
 }
 
 /// Whether the next of the options has this number and this value.
@@ -131,13 +127,18 @@ fn is_next(options: &mut Options<'_>, number: u16, value: &str) -> bool {
 
 fn has_options(message: &Message<'_>) -> bool {
     let mut options = message.options();
-    is_next(&mut options, 11, ".well-known")
-        && is_next(&mut options, 11, "dots")
-        && is_next(&mut options, 11, "mitigate")
-        && is_next(&mut options, 11, "cuid=dz6pHjaADkaFTbjr0JGBpw")
-        && is_next(&mut options, 11, "mid=123")
-        && is_next(&mut options, 12, "\x01\x0f")
-        && options.next().is_none()
+    let mut right = true;
+    for (number, value) in [
+        (11, ".well-known"),
+        (11, "dots"),
+        (11, "mitigate"),
+        (11, "cuid=dz6pHjaADkaFTbjr0JGBpw"),
+        (11, "mid=123"),
+        (12, "\x01\x0f"),
+    ] {
+        right &= is_next(&mut options, number, value);
+    }
+    right && options.next().is_none()
 }
 
 fn has_parts(message: &Message<'_>) -> bool {
@@ -148,16 +149,17 @@ fn has_parts(message: &Message<'_>) -> bool {
         && message.payload() == &REQUEST[72..]
 }
 
-#[test]
-fn reads_a_request(rt: HostRuntime) -> Result<(), Fail> {
-    let message = decode(&REQUEST)?;
-    assert!(rt; has_options(&message));
-    assert!(rt; has_parts(&message));
-    Ok(())
+/// Whether the request is read as it was written.
+fn is_read() -> bool {
+    match decode(&REQUEST) {
+        Ok(message) => has_options(&message) && has_parts(&message),
+        Err(_) => false,
+    }
 }
 
-/// Whether what is told of the bytes that the digits spell is this, nothing where they are a message.
-fn is_told(alloc: Global, digits: &str, want: &str) -> Result<bool, Fail> {
+/// Whether what is told of the bytes of a row is what stands behind them, nothing where they are a message.
+pub fn is_told(alloc: Global, row: &str) -> Result<bool, Fail> {
+    let (digits, want) = row.split_once(" = ").ok_or("a row")?;
     let bytes = hex::decode(alloc, digits)?;
     let said = match decode(bytes.as_slice()).err() {
         Some(fault) => format!(in alloc; "{fault}")?,
@@ -166,34 +168,32 @@ fn is_told(alloc: Global, digits: &str, want: &str) -> Result<bool, Fail> {
     Ok(said.as_str() == want)
 }
 
-fn holds(alloc: Global, row: &str) -> Result<bool, Fail> {
-    let (digits, want) = row.split_once(": ").ok_or("a row")?;
-    is_told(alloc, digits, want)
-}
+/// What is salvaged of bytes, a kind and an id.
+const SALVAGED: &str = "\
+400112 = nothing
+f0011234 = nothing
+4f011234 = con 4660
+5001ff00f0 = non 65280
+610000ff = ack 255
+7000ffffff = rst 65535";
 
-#[test]
-fn names_the_first_fault(rt: HostRuntime) -> Result<(), Fail> {
-    for row in FAULTS.lines() {
-        assert!(rt; holds(rt.alloc(), row)?, "at {row}");
+fn word_of(kind: Kind) -> &'static str {
+    match kind {
+        Kind::Con => "con",
+        Kind::Non => "non",
+        Kind::Ack => "ack",
+        Kind::Rst => "rst",
     }
-    Ok(())
 }
 
-/// A fault deep inside, with its place.
-fn is_printed(alloc: Global) -> Result<bool, Fail> {
-    let fault = CoapFault::NumberTooLarge { at: 4_096 };
-    let text = format!(in alloc; "{fault}")?;
-    Ok(text.as_str() == "an option's number is above 65535 at 4096")
-}
-
-/// A kind and an id are salvaged of bytes that are no message.
-fn are_salvaged() -> bool {
-    salvage(b"\x40\x01\x12").is_none()
-        && salvage(b"\xf0\x01\x12\x34").is_none()
-        && salvage(b"\x4f\x01\x12\x34") == Some((Kind::Con, 0x1234))
-        && salvage(b"\x50\x01\xff\x00\xf0") == Some((Kind::Non, 0xff00))
-        && salvage(b"\x61\x00\x00\xff") == Some((Kind::Ack, 0x00ff))
-        && salvage(b"\x70\x00\xff\xff\xff") == Some((Kind::Rst, 0xffff))
+/// Whether what is salvaged of the bytes of a row is what stands behind them.
+pub fn is_salvaged(alloc: Global, row: &str) -> Result<bool, Fail> {
+    let (digits, want) = row.split_once(" = ").ok_or("a row")?;
+    let bytes = hex::decode(alloc, digits)?;
+    Ok(match salvage(bytes.as_slice()) {
+        Some((kind, id)) => want == format!(in alloc; "{} {id}", word_of(kind))?.as_str(),
+        None => want == "nothing",
+    })
 }
 
 /// Whether these parts take the bytes that are wanted at the front of the room, behind which it stays.
@@ -205,9 +205,7 @@ fn is_encoded(parts: &Parts<'_>, want: &[u8]) -> bool
     if len != want.len() || len > room.len() {
         return false;
     }
-    encode_into(parts, &mut room) == len
-        && room.starts_with(want)
-        && room[len..].iter().all(|byte| *byte == 0xee)
+    encode_into(parts, &mut room) == len && room.starts_with(want) && are_all(&room[len..], 0xee)
 }
 
 /// A reply with a token, an option and a payload.
@@ -247,13 +245,17 @@ fn is_header_written(kind: Kind, code: u8, token: &[u8], want: &[u8]) -> bool {
     is_encoded(&parts, want)
 }
 
+fn are_written() -> bool {
+    is_reply_written()
+        && Token::new(b"ninebytes").is_none()
+        && is_header_written(Kind::Ack, 0, b"", b"\x60\x00\x12\x34")
+        && is_header_written(Kind::Rst, 0xff, b"coltsabb", b"\x78\xff\x12\x34coltsabb")
+}
+
 #[test]
-fn writes_messages(rt: HostRuntime) -> Result<(), Fail> {
-    assert!(rt; is_reply_written());
-    assert!(rt; Token::new(b"ninebytes").is_none());
-    assert!(rt; is_header_written(Kind::Ack, 0, b"", b"\x60\x00\x12\x34"));
-    assert!(rt; is_header_written(Kind::Rst, 0xff, b"coltsabb", b"\x78\xff\x12\x34coltsabb"));
-    assert!(rt; are_salvaged());
-    assert!(rt; is_printed(rt.alloc())?);
-    Ok(())
+fn messages_are_read_and_written(rt: HostRuntime) -> Result<(), Fail> {
+    assert!(rt; is_read() && are_written());
+    all_hold(&rt, rt.alloc(), Rows::Options, FORMS)?;
+    all_hold(&rt, rt.alloc(), Rows::Messages, FAULTS)?;
+    all_hold(&rt, rt.alloc(), Rows::Salvaged, SALVAGED)
 }

@@ -1,8 +1,18 @@
-//! Worked bytes of the formats: messages of CoAP, items of CBOR, and hexadecimal text; and deadlines.
+//! Worked bytes and calls of the crates below the server: messages of CoAP, items of CBOR and hexadecimal text; deadlines; requests,
+//! replies and sessions of the signal channel; and streams of HTTP, requests and replies of the data channel.
 //!
-//! The expected values come from the RFCs, their examples and the protocol's documents, and not from the program.
+//! Each row is put to public calls. The expected values come from the RFCs, their examples and the protocol's documents, and not from
+//! the program.
+//!
+//! Rows are text: [`tables`] says who reads them.
 #![tactic(auto)]
 
+#[cfg(test)]
+mod alias_rows;
+#[cfg(test)]
+mod beat_rows;
+#[cfg(test)]
+mod body_rows;
 #[cfg(test)]
 mod cbor_examples;
 #[cfg(test)]
@@ -13,5 +23,31 @@ mod clock_rows;
 mod clock_scans;
 #[cfg(test)]
 mod coap_rows;
+#[cfg(test)]
+mod config_rows;
+#[cfg(test)]
+mod cut_rows;
+#[cfg(test)]
+mod data_asking;
+#[cfg(test)]
+mod exchange_rows;
+#[cfg(test)]
+mod head_rows;
+#[cfg(test)]
+mod json_rows;
+#[cfg(test)]
+mod list_rows;
+#[cfg(test)]
+mod path_rows;
+#[cfg(test)]
+mod plain_configs;
+#[cfg(test)]
+mod reply_rows;
+#[cfg(test)]
+mod request_rows;
+#[cfg(test)]
+mod stream_rows;
+#[cfg(test)]
+mod tables;
 #[cfg(test)]
 mod text_rows;

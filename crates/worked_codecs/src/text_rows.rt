@@ -1,5 +1,8 @@
-//! What is shown of the bytes of a message, and hexadecimal text.
+//! What is shown of the bytes of a message, hexadecimal text, and how faults are printed.
 
+use crate::tables::{Rows, all_hold};
+use cbor_profile::CborFault;
+use coap_message::CoapFault;
 use dots_lists::NoMemory;
 use hex_text::{MAX_BYTES, read_hex};
 use message_text::{Shown, show};
@@ -47,7 +50,7 @@ fn lines(alloc: Global, text: &str) -> Result<Vec<u8>, NoMemory> {
 }
 
 /// Whether the lines behind the mark are shown of the word of a row.
-fn is_shown(alloc: Global, row: &str) -> Result<bool, Fail> {
+pub fn is_shown(alloc: Global, row: &str) -> Result<bool, Fail> {
     let (word, want) = row.split_once(' ').ok_or("a row")?;
     let want = lines(alloc, want)?;
     let shown = show(alloc, word.as_bytes())?;
@@ -57,27 +60,34 @@ fn is_shown(alloc: Global, row: &str) -> Result<bool, Fail> {
     })
 }
 
-#[test]
-fn messages_and_faults_are_shown(rt: HostRuntime) -> Result<(), Fail> {
-    for row in WORDS.lines() {
-        assert!(rt; is_shown(rt.alloc(), row)?, "at {row}");
-    }
-    Ok(())
-}
+/// Pairs of digits and the bytes that are read of them, and texts of which none are read.
+const DIGITS: &str = "\
+0aFf = 0aff
+0g = none
+000 = none
+0x00 = none
+Aa09 = aa09";
 
-/// Whether the two bytes of two pairs of digits are read, and other texts aren't.
-fn are_read() -> bool {
+/// Whether the bytes behind a row are read of the digits in front.
+pub fn are_read(alloc: Global, row: &str) -> Result<bool, Fail> {
+    let (digits, want) = row.split_once(" = ").ok_or("a row")?;
     let mut room = [0; MAX_BYTES];
-    read_hex(b"0aFf", &mut room) == Some(2)
-        && room.starts_with(b"\x0a\xff")
-        && read_hex(b"0g", &mut room).is_none()
-        && read_hex(b"000", &mut room).is_none()
-        && read_hex(b"0x00", &mut room).is_none()
-        && read_hex(b"Aa09", &mut room) == Some(2)
-        && room.starts_with(b"\xaa\x09")
+    match read_hex(digits.as_bytes(), &mut room) {
+        Some(len) => Ok(hex::encode(alloc, &room[..len])?.as_str() == want),
+        None => Ok(want == "none"),
+    }
+}
+
+/// A fault without a place, and one deep inside, with its place.
+fn are_printed(alloc: Global) -> Result<bool, Fail> {
+    let deep = CoapFault::NumberTooLarge { at: 4_096 };
+    let text = format!(in alloc; "{}; {deep}", CborFault::NoMemory)?;
+    Ok(text.as_str() == "out of memory; an option's number is above 65535 at 4096")
 }
 
 #[test]
-fn pairs_of_digits_are_read(rt: HostRuntime) {
-    assert!(rt; are_read());
+fn messages_and_digits_are_read(rt: HostRuntime) -> Result<(), Fail> {
+    assert!(rt; are_printed(rt.alloc())?);
+    all_hold(&rt, rt.alloc(), Rows::Shown, WORDS)?;
+    all_hold(&rt, rt.alloc(), Rows::Digits, DIGITS)
 }

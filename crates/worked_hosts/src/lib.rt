@@ -1,11 +1,25 @@
-//! Worked calls of hosts: the memory forms, the adapters of std's readers and writers, and the host of a script.
+//! Worked calls of hosts: the memory forms, the adapters of std's readers and writers, the host of a script, and the host of real
+//! sockets and a real file, over loopback and in the folder that it is run in.
 //!
-//! The expected values come from the documents of scripts and of reports, and not from the program.
+//! What a socket or a file does no contract says, so each call is made here. The expected values come from the documents of scripts, of
+//! host files and of reports, and not from the program.
+//!
+//! Runs of a host are text: [`acts`] says how a line is read.
 #![tactic(auto)]
 
 #[cfg(test)]
-mod disks;
+mod acts;
+#[cfg(test)]
+mod around;
+#[cfg(test)]
+mod edges;
+#[cfg(test)]
+mod faults;
 #[cfg(test)]
 mod scripts;
 #[cfg(test)]
+mod set_clock;
+#[cfg(test)]
 mod streams;
+#[cfg(test)]
+mod words;

@@ -4,7 +4,6 @@ use dots_host::{
     Failed, MemorySink, MemorySource, NoMemory, Sink, Source, StdSink, StdSource, write_all,
 };
 use std::alloc::Global;
-use std::test::Fail;
 
 type Counts = [Result<usize, Failed>; 3];
 
@@ -18,56 +17,65 @@ fn reads<S: Source>(source: &mut S, want: &Counts, bytes: &[u8; 9]) -> bool {
         && room == *bytes
 }
 
-/// The same of a source over these bytes, of which the second call fails.
-fn memory_reads(
-    alloc: Global,
-    from: &[u8],
-    want: &Counts,
-    bytes: &[u8; 9],
-) -> Result<bool, NoMemory> {
-    let mut source = MemorySource::new(alloc, from)?;
+/// A source over these bytes, of which the second call fails.
+fn failing_source(alloc: Global, bytes: &[u8]) -> Result<MemorySource, NoMemory> {
+    let mut source = MemorySource::new(alloc, bytes)?;
     source.fail_at(2)?;
-    Ok(reads(&mut source, want, bytes))
+    Ok(source)
+}
+
+fn memory_reads(alloc: Global) -> bool {
+    let want = [Ok(3), Err(Failed), Ok(2)];
+    match failing_source(alloc, b"abcde") {
+        Ok(mut source) => reads(&mut source, &want, b"abc\0\0\0de\0"),
+        Err(_) => false,
+    }
+}
+
+fn reads_through() -> bool {
+    let mut source = StdSource::new(Some(b"abcde".as_slice()));
+    reads(&mut source, &[Ok(3), Ok(2), Ok(0)], b"abcde\0\0\0\0")
 }
 
 #[test]
-fn sources_give_their_bytes(rt: HostRuntime) -> Result<(), Fail> {
-    let want = [Ok(3), Err(Failed), Ok(2)];
-    assert!(rt; memory_reads(rt.alloc(), b"abcde", &want, b"abc\0\0\0de\0")?);
-    let mut source = StdSource::new(Some(b"abcde".as_slice()));
-    assert!(rt; reads(&mut source, &[Ok(3), Ok(2), Ok(0)], b"abcde\0\0\0\0"));
-    Ok(())
+fn sources_give_their_bytes(rt: HostRuntime) {
+    assert!(rt; memory_reads(rt.alloc()) && reads_through());
 }
 
 /// Whether three writes answer so.
 fn writes<K: Sink>(sink: &mut K, texts: [&[u8]; 3], want: &Counts) -> bool {
     let [first, second, third] = texts;
-    let [one, two, three] = want;
-    sink.write(first) == *one && sink.write(second) == *two && sink.write(third) == *three
+    [sink.write(first), sink.write(second), sink.write(third)] == *want
 }
 
 /// The texts of which three writes are made.
 const TEXTS: [&[u8]; 3] = [b"ab", b"xy", b"cde"];
 
-/// The same of a sink over a list, of which the second call fails, and whether it then holds these bytes.
-fn memory_writes(alloc: Global, want: &Counts, bytes: &[u8]) -> Result<bool, NoMemory> {
+/// A sink over a list, of which the second call fails.
+pub fn failing_sink(alloc: Global) -> Result<MemorySink, NoMemory> {
     let mut sink = MemorySink::new(alloc);
     sink.fail_at(2)?;
-    Ok(writes(&mut sink, TEXTS, want) && sink.bytes() == bytes)
+    Ok(sink)
+}
+
+fn memory_writes(alloc: Global) -> bool {
+    let want = [Ok(2), Err(Failed), Ok(3)];
+    match failing_sink(alloc) {
+        Ok(mut sink) => writes(&mut sink, TEXTS, &want) && sink.bytes() == b"abcde".as_slice(),
+        Err(_) => false,
+    }
 }
 
 /// The same of a writer over a list.
-fn writes_through(alloc: Global, want: &Counts, bytes: &[u8]) -> bool {
+fn writes_through(alloc: Global) -> bool {
     let mut held = Vec::new(alloc);
-    writes(&mut StdSink::new(&mut held), TEXTS, want) && held.as_slice() == bytes
+    let want = [Ok(2), Ok(2), Ok(3)];
+    writes(&mut StdSink::new(&mut held), TEXTS, &want) && held.as_slice() == b"abxycde".as_slice()
 }
 
 #[test]
-fn sinks_take_bytes(rt: HostRuntime) -> Result<(), Fail> {
-    let want = [Ok(2), Err(Failed), Ok(3)];
-    assert!(rt; memory_writes(rt.alloc(), &want, b"abcde")?);
-    assert!(rt; writes_through(rt.alloc(), &[Ok(2), Ok(2), Ok(3)], b"abxycde"));
-    Ok(())
+fn sinks_take_bytes(rt: HostRuntime) {
+    assert!(rt; memory_writes(rt.alloc()) && writes_through(rt.alloc()));
 }
 
 /// Whether a writer with room for three bytes takes these, and then no more.
@@ -89,6 +97,5 @@ fn is_filled() -> bool {
 /// A full writer takes 0 bytes of some, and that is a failure.
 #[test]
 fn a_full_writer_fails(rt: HostRuntime) {
-    assert!(rt; is_full());
-    assert!(rt; is_filled());
+    assert!(rt; is_full() && is_filled());
 }

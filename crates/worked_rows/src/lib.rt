@@ -1,15 +1,42 @@
-//! Worked rows: whole runs of the program, with the bytes that are expected of them.
+//! Worked rows: whole runs of the program, with the bytes that are expected of them; and settings files and prefixes, with what
+//! reading them says.
 //!
-//! Each row is run through `dots_run::run` over a script, as a user would. The expected bytes come from the protocol's documents
-//! and not from the program.
+//! Each run is made through `dots_run::run`, as a user would: over a script, over a disk in memory, and over real sockets and a real
+//! journal. What runs find on their disks, what they leave there, and what another run finds then, is told whichever call failed, and
+//! whatever a crash left. The expected bytes come from the protocol's documents, the RFCs and the layout of a journal, and not
+//! from the program.
 //!
 //! Rows are text: [`tables`] says how they are read, and [`texts`] has the names that stand in them.
 #![tactic(auto)]
 
 #[cfg(test)]
+mod acts;
+#[cfg(test)]
+mod alike;
+#[cfg(test)]
+mod checks;
+#[cfg(test)]
+mod crashes;
+#[cfg(test)]
 mod datagram_rows;
 #[cfg(test)]
+mod disk_rows;
+#[cfg(test)]
+mod disks;
+#[cfg(test)]
 mod domain_rows;
+#[cfg(test)]
+mod events;
+#[cfg(test)]
+mod faults;
+#[cfg(test)]
+mod files;
+#[cfg(test)]
+mod images;
+#[cfg(test)]
+mod journal_rows;
+#[cfg(test)]
+mod many;
 #[cfg(test)]
 mod mitigation_rows;
 #[cfg(test)]
@@ -17,7 +44,13 @@ mod name_rows;
 #[cfg(test)]
 mod option_rows;
 #[cfg(test)]
+mod plain_texts;
+#[cfg(test)]
+mod prefixes;
+#[cfg(test)]
 mod refusal_rows;
+#[cfg(test)]
+mod refusals;
 #[cfg(test)]
 mod repeat_rows;
 #[cfg(test)]
@@ -28,6 +61,10 @@ mod rows;
 mod runs;
 #[cfg(test)]
 mod script_rows;
+#[cfg(test)]
+mod scripted;
+#[cfg(test)]
+mod serving;
 #[cfg(test)]
 mod tables;
 #[cfg(test)]

@@ -1,14 +1,23 @@
-//! Runs of rows.
+//! Runs of the program.
 
-use crate::tables::Row;
+use dots_disk::Host;
 use dots_host::{MemorySink, MemorySource, NoMemory};
-use dots_run::{ScriptHost, run};
+use dots_run::run;
 use std::alloc::Global;
-use std::process::Abort;
-use std::test::Fail;
+
+/// What the program is run with.
+#[derive(Clone, Copy)]
+pub struct Asked<'a> {
+    /// The words of the command line.
+    pub words: &'a str,
+    /// What the source of the settings has.
+    pub settings: &'a [u8],
+    /// The number of the call to this source that fails, of those from 1 on.
+    pub failing: u64,
+}
 
 /// The words of a command line.
-fn words_of(alloc: Global, line: &str) -> Result<Vec<String>, NoMemory> {
+pub fn words_of(alloc: Global, line: &str) -> Result<Vec<String>, NoMemory> {
     let mut words = Vec::new(alloc);
     for word in line.split(' ') {
         words.push(String::from_str(alloc, word)?)?;
@@ -16,68 +25,28 @@ fn words_of(alloc: Global, line: &str) -> Result<Vec<String>, NoMemory> {
     Ok(words)
 }
 
-/// A source of these bytes, whose first read fails where that is asked for.
-fn source_of(alloc: Global, bytes: &[u8], is_failing: bool) -> Result<MemorySource, NoMemory> {
+/// A source of these bytes, where the call of this number fails, of those from 1 on.
+pub fn source_of(alloc: Global, bytes: &[u8], failing: u64) -> Result<MemorySource, NoMemory> {
     let mut source = MemorySource::new(alloc, bytes)?;
-    if is_failing {
-        source.fail_at(1)?;
-    }
+    source.fail_at(failing)?;
     Ok(source)
 }
 
-/// A sink whose first write fails where that is asked for.
-fn sink_of(alloc: Global, is_failing: bool) -> Result<MemorySink, NoMemory> {
+/// A sink where the call of this number fails, of those from 1 on.
+pub fn sink_of(alloc: Global, failing: u64) -> Result<MemorySink, NoMemory> {
     let mut sink = MemorySink::new(alloc);
-    if is_failing {
-        sink.fail_at(1)?;
-    }
+    sink.fail_at(failing)?;
     Ok(sink)
 }
 
-/// A host over a script, whose sends go to a list.
-fn host_of(alloc: Global, script: &[u8]) -> Result<ScriptHost<MemorySource, MemorySink>, NoMemory> {
-    let source = MemorySource::new(alloc, script)?;
-    ScriptHost::new(alloc, source, MemorySink::new(alloc))
-}
-
-/// Whether a run over these leaves what the row says.
-fn leaves(
+/// The status of a run over the host. What it reports is in the sink.
+pub fn run_over<H: Host>(
     alloc: Global,
-    row: &Row,
-    settings: &mut MemorySource,
-    host: &mut ScriptHost<MemorySource, MemorySink>,
+    asked: Asked,
+    host: &mut H,
     sink: &mut MemorySink,
-) -> Result<bool, NoMemory> {
-    let words = words_of(alloc, row.words.as_str())?;
-    let ended = run(alloc, words.as_slice(), settings, host, sink);
-    Ok(
-        ended == row.status
-            && host.sink().bytes() == row.sends.as_bytes()
-            && sink.bytes() == row.report.as_bytes(),
-    )
-}
-
-/// Whether the run of a row leaves what it says.
-fn goes(alloc: Global, row: &Row) -> Result<bool, NoMemory> {
-    let failing = row.failing.as_str();
-    let mut settings = source_of(alloc, row.settings.as_bytes(), failing == "read")?;
-    let mut sink = sink_of(alloc, failing == "write")?;
-    let mut host = host_of(alloc, row.script.as_bytes())?;
-    leaves(alloc, row, &mut settings, &mut host, &mut sink)
-}
-
-/// Whether the run of a row goes as it says; false also where it can't be read.
-fn holds(alloc: Global, head: &str, text: &str) -> Result<bool, NoMemory> {
-    let mut row = Row::new(alloc);
-    let is_read = row.take_all(head)? && row.take_all(text)?;
-    Ok(is_read && goes(alloc, &row)?)
-}
-
-/// Each row of the table runs as it says.
-pub fn all_hold(rt: &impl Abort, alloc: Global, table: &str) -> Result<(), Fail> {
-    let (head, rows) = table.split_once("\n\n").ok_or("a table")?;
-    for row in rows.split("\n\n") {
-        assert!(rt; holds(alloc, head, row)?, "at {row}");
-    }
-    Ok(())
+) -> Result<u8, NoMemory> {
+    let words = words_of(alloc, asked.words)?;
+    let mut settings = source_of(alloc, asked.settings, asked.failing)?;
+    Ok(run(alloc, words.as_slice(), &mut settings, host, sink))
 }

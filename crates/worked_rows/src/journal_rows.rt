@@ -1,0 +1,111 @@
+//! What runs leave on their disks, and what they are called for.
+
+/// An entry is written and synced in two calls, and its gate opened in two more. A compaction writes a record or closes a gate for
+/// each of 28 slots, syncs, and writes and syncs the selector. What is refused or comes again takes none, and a restart begins with a
+/// sync.
+pub const JOURNALS: &str = "\
+$ replay settings
+: domain net1
+: prefix net1 192.0.2.0/24
+: prefix net1 2001:db8:1::/48
+: client 0 net1
+: capacity remembered 1
+: capacity domain-mitigations 2
+: capacity client-mitigations 2
+: capacity clients 1
+: capacity aliases 1
+: capacity acls 1
+@ 466944
+
+# the bytes on the disk behind a request: the header, the selector and the zeros behind it, a slot, and the gate of the next
+<* 1
+>* 1
+= ROW
+% 2/3 2/2
++ 0 HEADER
++ 48 00000000000000000000000000000000
++ 8192 a5007e+00000000000003e8+CLIENT+0100010016+51410001+DONE+PUT+AT_1000
++ 16384 00
+
+# the 29th finds all 28 slots in use; one that is refused; a restart; and the last once more
+<* 29
+< at 1029 from 0 5103+001e+ASK_END
+< at 1030 restart
+< at 1031 from 0 5103+001d+ASK
+>* 29
+> to 0 5180+001e+INVALID
+> to 0 5144+001d+DONE
+= ROW
+% 2/3
+% 2/2 2/2 2/2 2/2 2/2 2/2 2/2 2/2 2/2 2/2 2/2 2/2 2/2 2/2
+% 2/2 2/2 2/2 2/2 2/2 2/2 2/2 2/2 2/2 2/2 2/2 2/2 2/2 2/2
+% 31/4 0/0 0/1 0/0
+
+# a hundred, a restart, and the last once more
+<* 100
+< at 1100 restart
+< at 1101 from 0 5103+0064+ASK
+>* 100
+> to 0 5144+0064+DONE
+= ROW
+
+# an entry of each kind, and two compactions: the first into the other half, by the 23rd request, the second back, by the 44th; a refresh
+# keeps the start
+* 0 HEADER
+* 8192 a5002b+AT_999+CLIENT+HTTP+07
+* 16384 a50046+AT_999+CLIENT+HTTP+ALIAS
+* 24576 a50038+AT_999+CLIENT+HTTP+ACL
+* 32768 a50068+AT_999+CLIENT+010009+0000+PUT_SECOND+AT_999
+* 40960 a5002f+AT_999+CLIENT+02000a+0000+WITHDRAW_SECOND
+* 49152 a50049+AT_999+SESSION+02000b+0000+CONFIG
+<* 44
+>* 44
+= ROW_SECOND
+= ROW
++ 48 00
++ 237568 a5002b+AT_999+CLIENT+HTTP+07
++ 245760 a50046+AT_999+CLIENT+HTTP+ALIAS
++ 253952 a50038+AT_999+CLIENT+HTTP+ACL
++ 262144 a50068+AT_999+CLIENT+010009+0000+PUT_SECOND+AT_999
++ 270336 a5002f+AT_999+CLIENT+02000a+0000+WITHDRAW_SECOND
++ 278528 a50049+AT_999+SESSION+02000b+0000+CONFIG
++ 286720 a5007e+00000000000003fd+CLIENT+0100160016+51440016+DONE+PUT+AT_1000
++ 294912 a5007e+00000000000003fe+CLIENT+0100170016+51440017+DONE+PUT+AT_1000
++ 8192 a5002b+AT_999+CLIENT+HTTP+07
++ 16384 a50046+AT_999+CLIENT+HTTP+ALIAS
++ 24576 a50038+AT_999+CLIENT+HTTP+ACL
++ 32768 a50068+AT_999+CLIENT+010009+0000+PUT_SECOND+AT_999
++ 40960 a5002f+AT_999+CLIENT+02000a+0000+WITHDRAW_SECOND
++ 49152 a50049+AT_999+SESSION+02000b+0000+CONFIG
++ 57344 a5007e+0000000000000412+CLIENT+01002b0016+5144002b+DONE+PUT+AT_1000
++ 65536 a5007e+0000000000000413+CLIENT+01002c0016+5144002c+DONE+PUT+AT_1000
++ 73728 00";
+
+/// `end` has a time beside it, and moves none; events that aren't served yet do.
+pub const TIMES: &str = "\
+$ replay settings
+: domain net1
+: prefix net1 192.0.2.0/24
+: prefix net1 2001:db8:1::/48
+: client 0 net1
+: capacity remembered 1
+: capacity domain-mitigations 2
+: capacity client-mitigations 2
+: capacity clients 1
+: capacity aliases 1
+: capacity acls 1
+@ 466944
+<* 1
+>* 1
+
+< at 9999 end
+= ROW
+
+< at 4599 opened
+= ROW
+
+< at 4600 opened
+
+< at 4600 piece 00
+
+< at 4600 closed";

@@ -1,0 +1,58 @@
+//! What the records of entries are read as.
+
+use crate::entries::push_words;
+use crate::words::{flag, tell_number};
+use dots_history::{Entry, is_within_bounds};
+use entry_records::{EntryFault, MAX_RECORD, entry_of, record_into, record_len};
+use std::alloc::Global;
+use std::test::Fail;
+
+/// How many bytes stand in front of the change in the rows with faults.
+const HEAD: usize = 23;
+
+/// Whether the record of the entry is these bytes.
+fn is_record(entry: &Entry, bytes: &[u8]) -> bool {
+    if !is_within_bounds(entry) {
+        return false;
+    }
+    let mut room = [0; MAX_RECORD];
+    let count = record_len(entry);
+    record_into(entry, &mut room);
+    &room[..count] == bytes
+}
+
+/// Whether the entry of these bytes is written as it was read.
+fn is_written(alloc: Global, bytes: &[u8]) -> Result<bool, EntryFault> {
+    let entry = entry_of(alloc, bytes)?;
+    Ok(is_record(&entry, bytes))
+}
+
+/// Whether the entry of these bytes is written as it was read, or the place of the first fault behind the head.
+fn tell_read(alloc: Global, told: &mut Vec<u8>, bytes: &[u8]) -> Result<(), Fail> {
+    match is_written(alloc, bytes) {
+        Ok(is_written) => {
+            told.push(flag(is_written))?;
+            Ok(())
+        }
+        Err(EntryFault::NotEntry { at }) if HEAD <= at => {
+            tell_number(alloc, told, (at - HEAD) as u64)
+        }
+        Err(_) => Err(Fail::from("a fault behind the head")),
+    }
+}
+
+fn tell_words(
+    alloc: Global,
+    told: &mut Vec<u8>,
+    bytes: &mut Vec<u8>,
+    words: &str,
+) -> Result<(), Fail> {
+    push_words(alloc, bytes, 0, words)?;
+    tell_read(alloc, told, bytes.as_slice())
+}
+
+/// The same of the bytes of these words.
+pub fn tell_record(alloc: Global, told: &mut Vec<u8>, words: &str) -> Result<(), Fail> {
+    let mut bytes = Vec::new(alloc);
+    tell_words(alloc, told, &mut bytes, words)
+}

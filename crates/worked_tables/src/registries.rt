@@ -1,0 +1,290 @@
+//! What a registry says, in letters: an alias and an access list are the first letters of their names.
+
+ghost use Rattle.std.specs.Prelude.{◌≡◌, ◌<◌, List, true};
+ghost use Rattle.dots_history.specs.declared.entry.Entry.{Entry};
+ghost use Rattle.dots_registry.specs.Standing.{StandsFor, IsOf, domains_of};
+
+use crate::packets::{letter, letters, packets};
+use crate::taking::take_all;
+use crate::words::{NONE, digit, number, small};
+use acl_lists::{Acl, Alias, Asked};
+use dots_heads::MitigationPath;
+use dots_keys::MitigationBody;
+use dots_lists::{Bytes, List, Name};
+use dots_registry::Registry;
+use dots_settings::Settings;
+use held_things::RoomKind;
+use ip_scope::parse_prefix;
+use put_judging::{Judged, PutFault};
+use std::alloc::Global;
+use std::test::Fail;
+
+fn name(alloc: Global, text: &str) -> Result<Name, Fail> {
+    match Name::new(alloc, text.as_bytes())? {
+        Some(name) => Ok(name),
+        None => Err(Fail::from("a name")),
+    }
+}
+
+/// The domain and the cuid of a client.
+fn client(word: &str) -> (u16, &'static [u8]) {
+    match word.as_bytes() {
+        [b'A'] => (0, b"a"),
+        [b'B'] => (0, b"b"),
+        _ => (1, b"a"),
+    }
+}
+
+fn tell_aliases(told: &mut Vec<u8>, aliases: &[Alias]) -> Result<(), Fail> {
+    for alias in aliases {
+        told.push(letter(&alias.name))?;
+    }
+    told.push(b' ')?;
+    Ok(())
+}
+
+fn tell_acls(told: &mut Vec<u8>, acls: &[Acl]) -> Result<(), Fail> {
+    for acl in acls {
+        told.push(letter(&acl.name))?;
+    }
+    told.push(b' ')?;
+    Ok(())
+}
+
+/// The number that is reached.
+fn room(registry: &Registry, domain: u16, cuid: &[u8], kind: RoomKind) -> u8 {
+    match registry.room_for(domain, cuid, kind) {
+        Some(number) => digit(number),
+        None => NONE,
+    }
+}
+
+/// The peer that registered the client.
+fn registrant(registry: &Registry, domain: u16, cuid: &[u8]) -> u8 {
+    match registry.registrant(domain, cuid) {
+        Some(peer) => digit(u64::from(peer)),
+        None => NONE,
+    }
+}
+
+/// The alias `web`.
+fn web(alloc: Global, registry: &Registry, domain: u16, cuid: &[u8]) -> Result<u8, Fail> {
+    let name = name(alloc, "web")?;
+    Ok(match registry.alias(domain, cuid, &name) {
+        Some(alias) => letter(&alias.name),
+        None => NONE,
+    })
+}
+
+/// The list `ok`.
+fn ok(alloc: Global, registry: &Registry, domain: u16, cuid: &[u8]) -> Result<u8, Fail> {
+    let name = name(alloc, "ok")?;
+    Ok(match registry.acl(domain, cuid, &name) {
+        Some(acl) => letter(&acl.name),
+        None => NONE,
+    })
+}
+
+/// Which numbers of clients, of aliases and of access lists are reached.
+fn rooms(registry: &Registry, domain: u16, cuid: &[u8]) -> [u8; 4] {
+    [
+        room(registry, domain, cuid, RoomKind::Client),
+        room(registry, domain, cuid, RoomKind::Alias),
+        room(registry, domain, cuid, RoomKind::Acl),
+        b' ',
+    ]
+}
+
+/// Who registered a client, its aliases and its access lists, which numbers are reached, and its alias `web` and its list `ok`.
+fn tell_held(
+    alloc: Global,
+    told: &mut Vec<u8>,
+    registry: &Registry,
+    word: &str,
+) -> Result<(), Fail> {
+    let (domain, cuid) = client(word);
+    told.extend_from_slice(&[registrant(registry, domain, cuid), b' '])?;
+    tell_aliases(told, registry.aliases(domain, cuid))?;
+    tell_acls(told, registry.acls(domain, cuid))?;
+    told.extend_from_slice(&rooms(registry, domain, cuid))?;
+    told.push(web(alloc, registry, domain, cuid)?)?;
+    told.push(ok(alloc, registry, domain, cuid)?)?;
+    Ok(())
+}
+
+/// The sid of the session configuration of a peer.
+fn sid(registry: &Registry, peer: u32) -> u8 {
+    match registry.config(peer) {
+        Some((sid, _)) => digit(u64::from(sid)),
+        None => NONE,
+    }
+}
+
+fn tell_sid(told: &mut Vec<u8>, registry: &Registry, peer: &str) -> Result<(), Fail> {
+    let peer = u32::from(small(peer)?);
+    told.push(sid(registry, peer))?;
+    Ok(())
+}
+
+/// The fates of packets at a second.
+fn tell_fates(
+    told: &mut Vec<u8>,
+    registry: &mut Registry,
+    settings: &Settings,
+    second: &str,
+) -> Result<(), Fail> {
+    let now = number(second)?;
+    if registry.time() <= now && now < u64::MAX {
+        registry.tick(now);
+    }
+    for packet in &packets() {
+        told.extend_from_slice(&letters(registry.filters().fate(packet, settings)))?;
+    }
+    Ok(())
+}
+
+/// Whether there is such a domain.
+fn has_domain(registry: &Registry, settings: &Settings, domain: u16) -> bool
+    requires { IsOf settings.now registry.now }
+    ensures { result ≡ true → domain < domains_of registry.now }
+{
+    domain < settings.domains()
+}
+
+/// A request for 192.0.2.128/25, for an hour.
+fn body(alloc: Global) -> Result<MitigationBody, Fail> {
+    let scope = parse_prefix(b"192.0.2.128/25").ok().ok_or("a prefix")?;
+    let mut prefixes = List::new(alloc);
+    prefixes.push(scope)?;
+    Ok(MitigationBody {
+        asked: Asked {
+            prefixes,
+            ports: List::new(alloc),
+            protocols: Bytes::new(alloc),
+            names: List::new(alloc),
+            aliases: List::new(alloc),
+        },
+        lifetime: 3600,
+    })
+}
+
+fn path(alloc: Global) -> Result<MitigationPath, Fail> {
+    Ok(MitigationPath {
+        cdid: None,
+        cuid: name(alloc, "a")?,
+        mid: Some(9),
+    })
+}
+
+/// The mid that is granted, or `c` where the client's name is in use.
+fn granted(judged: &Result<Judged, PutFault>) -> u8 {
+    match judged {
+        Ok(judged) => digit(u64::from(judged.put.mid)),
+        Err(PutFault::Collision) => b'c',
+        Err(_) => NONE,
+    }
+}
+
+/// What is granted to a peer that asks so in the first domain.
+fn judged(
+    registry: &Registry,
+    settings: &Settings,
+    path: &MitigationPath,
+    body: &MitigationBody,
+    peer: u32,
+) -> u8
+    requires { IsOf settings.now registry.now }
+{
+    if path.mid.is_none() || body.lifetime < 1 || !has_domain(registry, settings, 0) {
+        return NONE;
+    }
+    granted(&registry.judge_put(settings, path, body, peer, 0))
+}
+
+fn judge_path(
+    alloc: Global,
+    registry: &Registry,
+    settings: &Settings,
+    path: &MitigationPath,
+    peer: u32,
+) -> Result<u8, Fail>
+    requires { IsOf settings.now registry.now }
+{
+    let body = body(alloc)?;
+    Ok(judged(registry, settings, path, &body, peer))
+}
+
+/// What is granted to a peer that asks for mid 9 of the client A.
+fn judge(alloc: Global, registry: &Registry, settings: &Settings, peer: u32) -> Result<u8, Fail>
+    requires { IsOf settings.now registry.now }
+{
+    let path = path(alloc)?;
+    judge_path(alloc, registry, settings, &path, peer)
+}
+
+fn tell_judged(
+    alloc: Global,
+    told: &mut Vec<u8>,
+    registry: &Registry,
+    settings: &Settings,
+    peer: &str,
+) -> Result<(), Fail>
+    requires { IsOf settings.now registry.now }
+{
+    let peer = u32::from(small(peer)?);
+    let letter = judge(alloc, registry, settings, peer)?;
+    told.push(letter)?;
+    Ok(())
+}
+
+/// Tells what is asked: `held` of a client, `sid` of a peer, `judge` for a peer, or the fates at a second.
+fn tell(
+    alloc: Global,
+    told: &mut Vec<u8>,
+    registry: &mut Registry,
+    settings: &Settings,
+    question: &str,
+) -> Result<(), Fail>
+    requires { IsOf settings.now registry.old }
+{
+    let (what, of) = question.split_once(' ').ok_or("a question")?;
+    match what.as_bytes() {
+        [b'h', ..] => tell_held(alloc, told, registry, of),
+        [b's', ..] => tell_sid(told, registry, of),
+        [b'j', ..] => tell_judged(alloc, told, registry, settings, of),
+        _ => tell_fates(told, registry, settings, of),
+    }
+}
+
+fn tell_after(
+    alloc: Global,
+    told: &mut Vec<u8>,
+    registry: &mut Registry,
+    settings: &Settings,
+    entries: &str,
+    question: &str,
+) -> Result<(), Fail>
+    requires settings { IsOf settings.now registry.old }
+    requires stands { (entries : List Entry) × StandsFor registry.old entries }
+{
+    take_all(alloc, registry, settings, entries, told)?;
+    if question == "fit" {
+        return Ok(());
+    }
+    told.clear();
+    tell(alloc, told, registry, settings, question)
+}
+
+/// What is told after these entries, or which of them fit.
+pub fn tell_registry(
+    alloc: Global,
+    told: &mut Vec<u8>,
+    settings: &Settings,
+    asked: &str,
+) -> Result<(), Fail> {
+    let (entries, question) = asked.split_once(" ? ").ok_or("a question")?;
+    let mut registry = Registry::new(alloc, settings)?;
+    let went = tell_after(alloc, told, &mut registry, settings, entries, question);
+    registry.let_go();
+    went
+}
