@@ -27,10 +27,10 @@ fn main(rt: HostRuntime) -> ExitCode {
     if let Ok(list) = &words {
         if is_serve(list.as_slice()) {
             let served = run_sockets(rt.alloc(), list.as_slice(), opening, &rt, report);
-            return ExitCode::from(served.status);
+            return ExitCode::from(served.into_status());
         }
     }
     let sends = io::writer(&rt);
     let finished = run_program(rt.alloc(), &words, opening, rt.reader(), sends, report);
-    ExitCode::from(finished.status)
+    ExitCode::from(finished.into_status())
 }

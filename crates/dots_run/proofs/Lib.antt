@@ -1,9 +1,6 @@
 mod Commands
 mod Completeness
 mod HostText
-mod Keeping
-mod Turns
-mod Taking
 mod Blank
 mod Writing
 mod Serving

@@ -1,6 +1,4 @@
 pub mod Refusals
-pub mod Living
-pub mod Taking
 pub mod Outcomes
 pub mod Programs
 pub mod OverSockets

@@ -4,7 +4,6 @@
 #![tactic(auto)]
 
 mod again;
-mod events;
 mod outcome;
 mod program;
 mod refusals;

@@ -18,13 +18,13 @@ ghost use Rattle.dots_machine.specs.Endings.{status_of, has_hosted, Shows, Serve
 ghost use Rattle.dots_machine.specs.Machine.{State};
 ghost use Rattle.dots_machine.specs.Outside.{Outside};
 ghost use Rattle.dots_server.specs.Standing.{IsKept};
-ghost use Rattle.dots_run.specs.Living.{Came};
+ghost use Rattle.dots_events.specs.Living.{Came};
 ghost use Rattle.dots_run.specs.Refusals.{Counts, Wrote, WritesStop};
 
-use crate::events::take_events;
 use crate::refusals::write_refusal;
 use crate::words::{is_served, word_to_show};
 use dots_disk::Host;
+use dots_events::take_events;
 use dots_host::{MAX_EVENT_BYTES, Sink, Source, write_all};
 use dots_lists::NoMemory;
 use dots_machine::{Ending, Showing, Stop};
@@ -176,14 +176,25 @@ fn serve<H: Host, K: Sink>(server: Server, host: &mut H, report: &mut K) -> Endi
     let mut room = [0; MAX_EVENT_BYTES];
     match take_events(server, host, &mut room) {
         Ok(server) => match server.write_report(report) {
-            Ok(()) => return Ending::Served(Stop::Ended),
-            Err(_) => return Ending::ReportFailed,
+            Ok(()) => {
+                let_go(server);
+                return Ending::Served(Stop::Ended);
+            }
+            Err(_) => {
+                let_go(server);
+                return Ending::ReportFailed;
+            }
         },
         Err(how) => {
             write_stop(how, report);
             return Ending::Served(how);
         }
     }
+}
+
+/// Lets the server go.
+fn let_go(server: Server) {
+    let _settings = server.into_settings();
 }
 
 /// Where the disk wasn't recovered at a restart, why not; and else nothing.

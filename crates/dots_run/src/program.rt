@@ -34,6 +34,15 @@ pub struct Finished<F, I, O, R> {
     pub report: StdSink<R>,
 }
 
+impl<F: Drop, I: Drop, O: Drop, R: Drop> Finished<F, I, O, R> {
+    /// The exit status. All else is let go.
+    pub fn into_status(self) -> u8
+        ensures { result ≡ self.status }
+    {
+        self.status
+    }
+}
+
 /// Does all that the program does with the words of its command line, without its name: `opening` opens the file of the settings, the script is
 /// read from `input`, its sends are written to `sends`, and what is reported to `report`. A file that can't be opened, where `opening` gives
 /// None, fails when it is read. With `check-script` the script is checked and not served. Status 4 where no memory was found for the

@@ -46,6 +46,15 @@ pub struct Served<F, K, R> {
     pub report: StdSink<K>,
 }
 
+impl<F: Drop, K: Drop, R: Drop> Served<F, K, R> {
+    /// The exit status. All else is let go.
+    pub fn into_status(self) -> u8
+        ensures { result ≡ self.status }
+    {
+        self.status
+    }
+}
+
 /// Does all that the program does with the words `serve SETTINGS HOSTFILE`: `opening` opens both files by their names, the runtime opens
 /// the sockets and the journal that the host file names, and what is reported is written to `report`. A file that can't be
 /// opened, where `opening` gives None, fails when it is read. In place of a host file that can't be read, or has more than 65,536 bytes, stands one

@@ -1,12 +1,9 @@
 pub mod Acting
 pub mod Asked
 pub mod Accepting
-pub mod Bodies
-pub mod CommaTexts
 pub mod Keeping
 pub mod Beginning
 pub mod Turning
-pub mod Puts
 pub mod Received
 pub mod Reports
 pub mod Insides

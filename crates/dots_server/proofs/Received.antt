@@ -1,14 +1,11 @@
--- What is received, and what is decided on it.
-use Rattle.std.proofs.Common.{◌≡◌, ◌≢◌, ◌/◌, ◌==◌, ℕ, Bool, true, false, not, cond, List, Some, None, Result, Ok, Err, inl, inr, refl, ap, ◌∙◌, subst, arith}
+-- What is decided on what is received.
+use Rattle.std.proofs.Common.{◌≡◌, ℕ, Bool, false, List, Result, Ok, Err, inl, inr, refl, ap, ◌∙◌, subst}
 use Rattle.std.specs.Prelude.{IsOk}
-use Rattle.std.proofs.lemmas.Bool.Decides.{nat_tests}
-use Rattle.coap_message.specs.Message.{CoapMessage}
 use Rattle.dots_heads.specs.declared.reject.Reject.{Reject}
 use Rattle.dots_heads.specs.declared.reject.Reject.TheVariants as reject
 use Rattle.dots_keys.specs.declared.request.Request.{Request}
 use Rattle.dots_heads.specs.Heads.{Head, head_of}
 use Rattle.dots_keys.specs.Meaning.{ReadsAs, Means}
-use Rattle.dots_heads.specs.Results.{Fulfils}
 use Rattle.dots_settings.specs.Settings.{SettingsValue}
 use Rattle.dots_machine.specs.declared.exchange.Exchange.{Exchange}
 use Rattle.dots_machine.specs.declared.dismissal.Dismissal.{Dismissal}
@@ -19,38 +16,13 @@ use Rattle.dots_machine.specs.declared.verdict.Verdict.{Verdict}
 use Rattle.dots_machine.specs.declared.verdict.Verdict.TheVariants as verdict
 use Rattle.dots_settings.specs.Lookups.{role_of}
 use Rattle.dots_machine.specs.Domains.{is_gateway}
-use Rattle.dots_machine.specs.Exchanges.{exchange_in, may_ask, rejected, dismissed}
+use Rattle.dots_machine.specs.Exchanges.{exchange_in}
 use Rattle.dots_machine.specs.Requests.{received_as, IsReceived, unread, asks_nothing, meant}
 use Rattle.dots_machine.specs.Replies.{unavailable}
 use Rattle.dots_machine.specs.Machine.{State, is_stranger, Decides, by_rules, for_want_of_memory}
 use Rattle.dots_machine.proofs.Verdicts.{ruled}
-use Rattle.dots_server.specs.Receiving.{Lacks}
+use Rattle.dots_replies.specs.Receiving.{Lacks}
 use Rattle.dots_server.specs.Asking.{IsUnavailable, DecidesOn}
-
--- what isn't dismissed has the code of a request
-pub asks_code : (m : CoapMessage) → dismissed m ≡ None → (m.code / 32 ≡ 0) × (m.code ≢ 0)
-asks_code m is = by_test (m.code == 0) (may_ask m.kind) (m.code / 32 == 0) refl refl is
-  where
-    by_test : (empty asks class : Bool) → (m.code == 0) ≡ empty → (m.code / 32 == 0) ≡ class
-        → cond empty (Some (rejected m.kind m.identifier)) (cond (not asks) (Some dismissal.Ignored) (cond (not class) (Some (rejected m.kind m.identifier)) None)) ≡ None
-        → (m.code / 32 ≡ 0) × (m.code ≢ 0)
-    by_test true asks class e c s = absurd (cc s)
-    by_test false false class e c s = absurd (cc s)
-    by_test false true false e c s = absurd (cc s)
-    by_test false true true e c s = (grind (arith, nat_tests, c), grind (arith, nat_tests, e))
-
--- a fact of a refusal that isn't want of memory
-pub fulfilled : (e : Reject) (fact : Type 0) → e ≢ reject.NoMemory → Fulfils e fact → fact
-fulfilled (reject.Critical number) fact other known = known
-fulfilled reject.Path fact other known = known
-fulfilled reject.Method fact other known = known
-fulfilled reject.HopLimit fact other known = known
-fulfilled reject.Parameter fact other known = known
-fulfilled reject.Accept fact other known = known
-fulfilled reject.Format fact other known = known
-fulfilled reject.Query fact other known = known
-fulfilled (reject.Body cause) fact other known = known
-fulfilled reject.NoMemory fact other known = absurd (other refl)
 
 module _ (settings : SettingsValue) (state : State) (peer : ℕ) (datagram : List ℕ) (known : is_stranger (role_of settings peer) ≡ false) where
   abbrev gateway : Bool

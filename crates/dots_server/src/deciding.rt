@@ -9,17 +9,16 @@ ghost use Rattle.dots_machine.specs.Machine.{State, reject_verdict, dismissal_ve
 ghost use Rattle.dots_machine.specs.Domains.{domain_for};
 ghost use Rattle.dots_machine.specs.Verdicts.{asked_verdict, in_domain, with_mid, put_for, put_in, get_for, delete_for, delete_in};
 ghost use Rattle.dots_server.specs.Asking.{IsOwn, domain_asked, DecidesOn};
-ghost use Rattle.dots_server.specs.Receiving.{IsGrantable};
+ghost use Rattle.dots_replies.specs.Receiving.{IsGrantable};
 ghost use Rattle.dots_server.specs.Standing.{StandsFor, CanCarryOut};
 
-use crate::receiving::receive;
-use crate::replies::{bad_parameter, not_implemented, rejection, reset, unavailable};
 use crate::server::Server;
 use coap_message::Kind;
 use dots_heads::{Content, MitigationPath, Reject};
 use dots_keys::{MitigationBody, Request};
 use dots_lists::{Name, NoMemory};
 use dots_machine::{ClientRequest, Dismissal, Exchange, MitigationRequest, Received, Verdict};
+use dots_replies::{bad_parameter, not_implemented, receive, rejection, reset, unavailable};
 use dots_settings::Role;
 
 impl Server {

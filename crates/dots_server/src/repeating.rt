@@ -10,9 +10,9 @@ ghost use Rattle.dots_machine.specs.Verdicts.{repeated, in_domain, config_for};
 ghost use Rattle.dots_server.specs.Asking.{role_with, IsOwn};
 ghost use Rattle.dots_server.specs.Standing.{StandsFor, CanCarryOut};
 
-use crate::replies::not_implemented;
 use crate::server::Server;
 use dots_machine::{Exchange, ShortMessage, Verdict};
+use dots_replies::not_implemented;
 use dots_settings::NO_DOMAIN;
 
 impl Server {

@@ -1,0 +1,3 @@
+pub mod CommaTexts
+pub mod Puts
+pub mod Reports
