@@ -5,7 +5,7 @@ ghost use Rattle.serde_json.specs.Data.{Data};
 ghost use Rattle.serde_json.specs.Read.{read};
 ghost use Rattle.serde_json.specs.View.{view};
 ghost use Rattle.list_json.specs.Steps.{Gives};
-ghost use Rattle.dots_bench.specs.Sizes.{size_in};
+ghost use Rattle.dots_bench.specs.Sizes.{size_in, entries_in, prefixes_in};
 
 use anyhow::{Result, bail};
 use data_channel::{acl_body, alias_body};
@@ -41,14 +41,32 @@ fn read_body(alloc: Global, room: &mut JsonRoom, bytes: &[u8]) -> Option<u64>
     size_of(alloc, &value).ok()
 }
 
-/// How many entries the access list in a body has, or how many prefixes the alias in it.
+/// The size of the access list in a body, where it has one, and else of the alias.
 fn size_of(alloc: Global, body: &Value) -> Result<u64, ListFault>
     ensures { Gives result (size_in (view body.now)) }
 {
     if body.get("ietf-dots-data-channel:acl").is_some() {
-        let acl = acl_body(alloc, body)?;
-        return Ok(acl.aces.items().len() as u64);
+        return entries_in(alloc, body);
     }
-    let alias = alias_body(alloc, body)?;
-    Ok(alias.asked.prefixes.items().len() as u64)
+    prefixes_in(alloc, body)
+}
+
+/// How many entries the access list in a body has.
+fn entries_in(alloc: Global, body: &Value) -> Result<u64, ListFault>
+    ensures { Gives result (entries_in (view body.now)) }
+{
+    match acl_body(alloc, body) {
+        Ok(acl) => Ok(acl.aces.items().len() as u64),
+        Err(fault) => Err(fault),
+    }
+}
+
+/// How many prefixes the alias in a body has.
+fn prefixes_in(alloc: Global, body: &Value) -> Result<u64, ListFault>
+    ensures { Gives result (prefixes_in (view body.now)) }
+{
+    match alias_body(alloc, body) {
+        Ok(alias) => Ok(alias.asked.prefixes.items().len() as u64),
+        Err(fault) => Err(fault),
+    }
 }

@@ -17,17 +17,18 @@ fn prefix(text: &str) -> Result<Prefix> {
     }
 }
 
-/// The row of a line `PREFIX MID`.
-fn row(alloc: Global, line: &str) -> Result<ScrubRow> {
+/// The prefix and the mid of a line `PREFIX MID`.
+fn fields(line: &str) -> Result<(Prefix, u32)> {
     let Some((text, mid)) = line.split_once(' ') else {
         bail!("a row is a line PREFIX MID");
     };
     let prefix = prefix(text)?;
-    let mid = mid.parse::<u32>().context("reading a mid")?;
-    let Some(cuid) = Text::new(alloc, b"client")? else {
-        bail!("no text");
-    };
-    Ok(ScrubRow {
+    Ok((prefix, mid.parse::<u32>().context("reading a mid")?))
+}
+
+/// The row of a client for this prefix and mid.
+fn row(alloc: Global, cuid: Text, prefix: Prefix, mid: u32) -> ScrubRow {
+    ScrubRow {
         domain: 0,
         cuid,
         mid,
@@ -35,24 +36,27 @@ fn row(alloc: Global, line: &str) -> Result<ScrubRow> {
         ports: List::new(alloc),
         protocols: Bytes::new(alloc),
         active: true,
-    })
+    }
 }
 
-/// Puts the row at this place into the table, where it has room for it.
-fn has_installed(table: &mut FilterTable, place: u64, row: ScrubRow) -> bool {
-    if !table.has_scrub_room() {
-        return false;
+/// Puts the row of a line at this place into the table, where it has room for it.
+fn install(alloc: Global, table: &mut FilterTable, place: u64, line: &str) -> Result<()> {
+    let (prefix, mid) = fields(line)?;
+    ensure!(table.has_scrub_room(), "more rows than lines");
+    match Text::new(alloc, b"client")? {
+        Some(cuid) => {
+            table.install(place, row(alloc, cuid, prefix, mid));
+            Ok(())
+        }
+        None => bail!("no text"),
     }
-    table.install(place, row);
-    true
 }
 
 /// Puts the rows of these lines into the table, in their order.
 fn install_rows(alloc: Global, table: &mut FilterTable, text: &str) -> Result<()> {
     let mut place: u64 = 0;
     for line in text.lines() {
-        let row = row(alloc, line)?;
-        ensure!(has_installed(table, place, row), "more rows than lines");
+        install(alloc, table, place, line)?;
         place = place.wrapping_add(1);
     }
     Ok(())

@@ -1,24 +1,30 @@
-//! The program `dots_bench`: `codec CASEFILE REPS` decodes the bytes of each case of a file so often, and `filter ROWS PACKETS
-//! REPS` asks so often for the fate of each packet of a file by the rows of another. How long that takes is for the caller to
+//! The program `dots_bench`: `codec CASEFILE REPS` decodes the bytes of each case of a file so often; `filter ROWS PACKETS
+//! REPS` asks so often for the fate of each packet of a file by the rows of another; and `cycle KEYS REPS` gives each of so many keys a
+//! deadline, and then takes the key with the least time out and sets it anew, so often. How long that takes is for the caller to
 //! measure.
 //!
 //! A case is a line `KIND.NAME HEX`, with the kind `coap`, `cbor`, `json`, `http`, `whole` or `single`. `json` is a body of the data
 //! channel with an alias or an access list. The last three are bytes of a stream: `http` cuts a stream that holds them, `whole` takes them in one piece and cuts then, and `single` takes them one by
-//! one and cuts behind each. A row is a line `PREFIX MID`, a packet a line of an IPv4 address. For each case the program prints its name and what its decodes add up to. It ends with status 0 only where there is a case and every decode of every case went well.
+//! one and cuts behind each. A row is a line `PREFIX MID`, a packet a line of an IPv4 address. For each case the program prints its name and what its decodes add up to. A cycle prints
+//! the two numbers, how many of the dues were answered, and what the keys that were answered come to, in their order: no two deadlines
+//! have the same time, so that order is the only one. It ends with status 0 only where there is a case and every decode of every case went well.
 #![tactic(auto)]
 
 mod bodies;
 mod codec;
+mod cycle;
 mod filter;
 mod fronts;
 
 use anyhow::{Context, Result, bail, ensure};
 use codec::Codec;
+use lifetime_clock::Deadlines;
 use std::alloc::Global;
 use std::{env, fs};
 
 /// The command line.
-const USAGE: &str = "usage: dots_bench codec CASEFILE REPS | filter ROWS PACKETS REPS";
+const USAGE: &str =
+    "usage: dots_bench codec CASEFILE REPS | filter ROWS PACKETS REPS | cycle KEYS REPS";
 
 /// The decimal number of repetitions, at least one.
 fn parse_repetitions(word: &str) -> Result<u64> {
@@ -83,6 +89,25 @@ fn run_filter(rt: &HostRuntime, rows: &str, packets: &str, repetitions: &str) ->
     Ok(())
 }
 
+/// The decimal number of keys, at least one.
+fn parse_keys(word: &str) -> Result<u32> {
+    let keys = word.parse::<u32>().context(USAGE)?;
+    ensure!(keys != 0, "{USAGE}");
+    Ok(keys)
+}
+
+/// Sets deadlines and takes them out again, so often, and prints what was answered.
+fn run_cycles(rt: &HostRuntime, keys: &str, repetitions: &str) -> Result<()> {
+    let keys = parse_keys(keys)?;
+    let repetitions = repetitions.parse::<u32>().context(USAGE)?;
+    let mut deadlines = Deadlines::new(rt.alloc(), keys as usize)?;
+    let mut times = cycle::Times::new(keys, repetitions);
+    cycle::fill(&mut deadlines, keys, &mut times);
+    let order = cycle::repeat(&mut deadlines, repetitions, &mut times);
+    println!(rt; "{keys} {repetitions} {} {}", order.answered, order.sum)?;
+    Ok(())
+}
+
 /// Does what the words of the command line say.
 fn run(rt: &HostRuntime, words: &[String]) -> Result<()> {
     match words {
@@ -91,6 +116,9 @@ fn run(rt: &HostRuntime, words: &[String]) -> Result<()> {
         }
         [command, rows, packets, repetitions] if command.as_str() == "filter" => {
             run_filter(rt, rows.as_str(), packets.as_str(), repetitions.as_str())
+        }
+        [command, keys, repetitions] if command.as_str() == "cycle" => {
+            run_cycles(rt, keys.as_str(), repetitions.as_str())
         }
         _ => bail!("{USAGE}"),
     }
