@@ -129,9 +129,10 @@ fn refuse(_entries: EntryList, fault: JournalFault) -> JournalFault
 }
 
 /// Lets the tables go, for this fault.
-fn give_up(_registry: Registry, fault: JournalFault) -> JournalFault
+fn give_up(registry: Registry, fault: JournalFault) -> JournalFault
     ensures { result ≡ fault }
 {
+    registry.let_go();
     fault
 }
 

@@ -60,6 +60,11 @@ impl Ledger {
         self.registry.tick(now);
     }
 
+    /// Lets all of it go. The disk stays as it is.
+    pub fn let_go(self) {
+        self.registry.let_go();
+    }
+
     /// Accepts an entry that keeps the history calm: it is appended to the journal, and then it is in the tables. Where no slot is free,
     /// the journal is compacted before. It takes no memory.
     ///
@@ -181,8 +186,9 @@ impl Ledger {
 }
 
 /// Lets an entry go that wasn't appended, for this fault.
-fn refuse(_staged: Staged, fault: DiskFault) -> DiskFault
+fn refuse(staged: Staged, fault: DiskFault) -> DiskFault
     ensures { result ≡ fault }
 {
+    drop(staged);
     fault
 }

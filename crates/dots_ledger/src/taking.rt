@@ -62,10 +62,12 @@ fn take(
         → joins settings.now before entry ≡ false) }
 {
     if entry.time < registry.time() {
+        drop(entry);
         return Ok(false);
     }
     registry.tick(entry.time);
     if !joins(registry, settings, &entry) {
+        drop(entry);
         return Ok(false);
     }
     let staged = registry.stage(entry)?;

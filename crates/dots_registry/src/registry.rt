@@ -84,6 +84,11 @@ impl Registry {
         })
     }
 
+    /// Lets all of it go.
+    pub fn let_go(self) {
+        drop(self);
+    }
+
     /// Its time, in seconds.
     pub fn time(&self) -> u64
         ensures { result ≡ time_of self.now }

@@ -1,7 +1,9 @@
 //! What is to be mended in a line of the settings that has none of the forms.
 
 ghost use Rattle.std.specs.Prelude.{◌≡◌, map};
-ghost use Rattle.file_checks.specs.Complaints.{domain_complaint, prefix_complaint, client_complaint, gateway_complaint, name_complaint, ceiling_complaint, indefinite_complaint, capacity_complaint, ports_complaint, packet_complaint, complaint_by, in_second};
+ghost use Rattle.file_checks.specs.Complaints.{domain_complaint, prefix_complaint, client_complaint, gateway_complaint, name_complaint, ceiling_complaint, indefinite_complaint, capacity_complaint, ports_complaint, packet_complaint, complaint_by, in_second, unless};
+ghost use Rattle.file_checks.specs.Kinds.{is_address, is_decimal_up_to};
+ghost use Rattle.file_checks.specs.declared.reason.Reason.TheVariants as reason;
 
 use crate::complaint::Complaint;
 use crate::keyword::Keyword;
@@ -165,6 +167,20 @@ fn packet_complaint(fields: &[&[u8]]) -> Option<Complaint>
     else {
         return Some(Complaint::of_line(Reason::PacketFields));
     };
+    parts_complaint(source, destination, protocol, source_port, destination_port)
+}
+
+/// The complaint of the five fields behind `packet`.
+fn parts_complaint(
+    source: &[u8],
+    destination: &[u8],
+    protocol: &[u8],
+    source_port: &[u8],
+    destination_port: &[u8],
+) -> Option<Complaint>
+    ensures { result ≡ unless (is_address source.now) reason.Address 1 (unless (is_address destination.now) reason.Address 2
+        (unless (is_decimal_up_to 255 protocol.now) reason.Protocol 3 (ports_complaint source_port.now destination_port.now))) }
+{
     if !is_address(source) {
         return Some(Complaint::of_field(Reason::Address, 1));
     }

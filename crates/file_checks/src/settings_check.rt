@@ -5,6 +5,7 @@ ghost use Rattle.dots_host.specs.Causes.{Rose};
 ghost use Rattle.dots_settings.specs.File.{is_past, SettingsFail};
 ghost use Rattle.dots_settings.specs.Lines.{lines_of};
 ghost use Rattle.file_checks.specs.Checks.{ChecksSettings, complaint_line, quoted_part, number_of, lines_from, line_in, past_in, fault_report};
+ghost use Rattle.file_checks.specs.Summary.{summary};
 
 use crate::checked::{Checked, Unchecked};
 use crate::complaint::Complaint;
@@ -16,7 +17,7 @@ use crate::reason::add_reason;
 use crate::summary::summary;
 use dots_host::Source;
 use dots_lists::{Bytes, NoMemory};
-use dots_settings::{SettingsFault, read_settings};
+use dots_settings::{Settings, SettingsFault, read_settings};
 use itoa::Buffer;
 use std::alloc::Global;
 
@@ -49,7 +50,7 @@ fn check_content(alloc: Global, content: &[u8]) -> Result<Checked, NoMemory>
 {
     let mut source = Content { rest: content };
     match read_settings(alloc, &mut source) {
-        Ok(settings) => match summary(alloc, &settings) {
+        Ok(settings) => match summary_of(alloc, settings) {
             Ok(text) => return Ok(Checked::Good(text)),
             Err(NoMemory) => return Err(NoMemory),
         },
@@ -57,6 +58,13 @@ fn check_content(alloc: Global, content: &[u8]) -> Result<Checked, NoMemory>
         Err(SettingsFault::ReadFault) => unreachable!(),
         Err(fault) => return tell_fault(alloc, content, fault),
     }
+}
+
+/// The summary of settings, which are let go.
+fn summary_of(alloc: Global, settings: Settings) -> Result<Bytes, NoMemory>
+    ensures { IfOk result (λ text. text ≡ summary settings) }
+{
+    summary(alloc, &settings)
 }
 
 /// That the file has this fault.

@@ -124,6 +124,8 @@ impl DomainClients {
     {
         if let Some(place) = place_of(self.list.as_slice(), cuid) {
             change_in(&mut self.list, place, change);
+        } else {
+            drop(change);
         }
     }
 }

@@ -189,7 +189,7 @@ fn push_written(aliases: &mut Vec<Alias>, acls: &mut Vec<Acl>, change: Change)
         | Change::Register
         | Change::Deregister
         | Change::SetConfig { .. }
-        | Change::ClearConfig => {}
+        | Change::ClearConfig => drop(change),
     }
 }
 

@@ -258,6 +258,8 @@ fn change_domain(domains: &mut [DomainClients], entry: Entry)
     if place < domains.len() {
         let clients = &mut domains[place];
         clients.apply(entry.peer, entry.cuid, entry.change);
+    } else {
+        drop(entry);
     }
 }
 

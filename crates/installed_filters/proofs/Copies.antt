@@ -1,7 +1,7 @@
 -- The copies that an entry needs.
-use Rattle.std.proofs.Common.{◌≡◌, ℕ, List, [], ◌∷◌, ◌++◌, map, Option, Some, None, refl, sym, ap, ◌∙◌, append-nil, length, drop, ◌≤◌}
+use Rattle.std.proofs.Common.{◌≡◌, ℕ, List, [], ◌∷◌, ◌++◌, map, Option, Some, None, refl, sym, ap, ◌∙◌, append-nil, append_assoc, length, drop, get_or, ◌+◌, ◌<◌, ◌≤◌}
 use Rattle.std.specs.List.{flat_map}
-use Rattle.std.proofs.lemmas.List.{map-append, drop_all}
+use Rattle.std.proofs.lemmas.List.{map-append, drop_all, drop_more}
 use Rattle.ip_scope.specs.Prefix.{PrefixValue}
 use Rattle.filter_rows.specs.declared.rows.ScrubRow.{ScrubRow}
 use Rattle.dots_history.specs.declared.entry.Entry.{Entry}
@@ -43,3 +43,13 @@ copied_end e put i items is past all =
     ∙ all
     ∙ ap (λ c. rows_in e (targets_of c)) (sym is)
     ∙ sym (put_rows e)
+
+-- one target more
+pub copied_step : (e : Entry) (i : ℕ) (targets : List Target) (target : Target) (before after all : List ScrubRow) → i < length targets
+    → target ≡ get_or targets i target → after ≡ before ++ rows_of_target e target → before ++ rows_in e (drop i targets) ≡ all
+    → after ++ rows_in e (drop (i + 1) targets) ≡ all
+copied_step e i targets target before after all less at is so_far =
+    ap (λ rows. rows ++ rows_in e (drop (i + 1) targets)) is
+    ∙ append_assoc before (rows_of_target e target) (rows_in e (drop (i + 1) targets))
+    ∙ ap (λ ts. before ++ rows_in e ts) (ap (λ t. t ∷ drop (i + 1) targets) at ∙ sym (drop_more targets i target less))
+    ∙ so_far

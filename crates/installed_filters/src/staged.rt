@@ -1,7 +1,7 @@
 //! An entry with the copies that its rows need.
 
 ghost use Rattle.std.specs.Prelude.{◌≡◌, ◌++◌, ℕ, true, false, map, option_map, IfOk, OnOk, OnErr};
-ghost use Rattle.dots_history.specs.Rows.{acl_of, mid_of, targets_of};
+ghost use Rattle.dots_history.specs.Rows.{acl_of, mid_of, targets_of, plain_row};
 ghost use Rattle.dots_history.specs.declared.change.Change.TheVariants as change;
 ghost use Rattle.installed_filters.specs.Filters.{rows_put, rows_of_target, list_put, acl_row_with, needs_rows};
 
@@ -9,6 +9,7 @@ use acl_lists::Acl;
 use dots_history::{Change, Entry, Put, Target};
 use dots_lists::NoMemory;
 use filter_rows::{AclRow, ScrubRow};
+use ip_scope::Prefix;
 use std::alloc::Global;
 use std::marker::Model;
 
@@ -37,13 +38,17 @@ impl Staged {
         ensures value { IfOk result (λ staged. staged ≡ entry) }
         ensures no_memory { OnErr result (needs_rows entry.change ≡ true) }
     {
-        let scrubs = rows_put(alloc, &entry)?;
-        let list = list_put(alloc, &entry)?;
-        Ok(Staged {
-            entry,
-            scrubs,
-            list,
-        })
+        match copies(alloc, &entry) {
+            Ok((scrubs, list)) => Ok(Staged {
+                entry,
+                scrubs,
+                list,
+            }),
+            Err(fault) => {
+                drop(entry);
+                Err(fault)
+            }
+        }
     }
 
     /// The entry.
@@ -63,26 +68,29 @@ impl Staged {
     }
 }
 
-/// A row for each prefix of each target of the mitigation that the entry puts.
-fn rows_put(alloc: Global, entry: &Entry) -> Result<Vec<ScrubRow>, NoMemory>
-    ensures rows { IfOk result (λ rows. rows.items ≡ rows_put entry.now) }
+/// A row for each prefix of each target of the mitigation that the entry puts, and the row of the list that it writes.
+fn copies(alloc: Global, entry: &Entry) -> Result<(Vec<ScrubRow>, Option<AclRow>), NoMemory>
+    ensures scrubs { IfOk result (λ copies. copies.0.items ≡ rows_put entry.now) }
+    ensures list { IfOk result (λ copies. copies.1 ≡ list_put entry.now) }
     ensures no_memory { OnErr result (needs_rows entry.now.change ≡ true) }
 {
     match &entry.change {
-        Change::Put(put) => rows_of_put(alloc, entry, put),
+        Change::Put(put) => Ok((rows_of_put(alloc, entry, put)?, None)),
+        Change::SetAcl(acl) => {
+            let row = row_of_acl(alloc, entry, acl)?;
+            Ok((Vec::new(alloc), Some(row)))
+        }
         Change::Withdraw { .. }
         | Change::SetAlias(_)
         | Change::DropAlias { .. }
-        | Change::SetAcl(_)
         | Change::DropAcl { .. }
         | Change::Register
         | Change::Deregister
         | Change::SetConfig { .. }
-        | Change::ClearConfig => Ok(Vec::new(alloc)),
+        | Change::ClearConfig => Ok((Vec::new(alloc), None)),
     }
 }
 
-#[tactic(auto, using(crate::proofs::Copies::copied_end))]
 fn rows_of_put(alloc: Global, entry: &Entry, put: &Put) -> Result<Vec<ScrubRow>, NoMemory>
     requires { entry.now.change ≡ change.Put put.now }
     ensures { IfOk result (λ rows. rows.items ≡ rows_put entry.now) }
@@ -105,36 +113,29 @@ fn push_rows(
     ensures { OnOk result (rows.new.items ≡ rows.old.items ++ rows_of_target entry.now target.now) }
 {
     for prefix in target.prefixes.items() {
-        rows.push(ScrubRow {
-            domain: entry.domain,
-            cuid: entry.cuid.copy()?,
-            mid,
-            prefix: *prefix,
-            ports: target.ports.copy()?,
-            protocols: target.protocols.copy()?,
-            active: true,
-        })?;
+        rows.push(row_of_prefix(entry, mid, target, *prefix)?)?;
     }
     Ok(())
 }
 
-/// The row of the list that the entry writes.
-fn list_put(alloc: Global, entry: &Entry) -> Result<Option<AclRow>, NoMemory>
-    ensures row { IfOk result (λ row. row ≡ list_put entry.now) }
-    ensures no_memory { OnErr result (needs_rows entry.now.change ≡ true) }
+fn row_of_prefix(
+    entry: &Entry,
+    mid: u32,
+    target: &Target,
+    prefix: Prefix,
+) -> Result<ScrubRow, NoMemory>
+    requires { mid ≡ mid_of entry.now.change }
+    ensures { IfOk result (λ row. row ≡ plain_row (record { put = entry.now; target = target.now; prefix = prefix })) }
 {
-    match &entry.change {
-        Change::SetAcl(acl) => Ok(Some(row_of_acl(alloc, entry, acl)?)),
-        Change::Put(_)
-        | Change::Withdraw { .. }
-        | Change::SetAlias(_)
-        | Change::DropAlias { .. }
-        | Change::DropAcl { .. }
-        | Change::Register
-        | Change::Deregister
-        | Change::SetConfig { .. }
-        | Change::ClearConfig => Ok(None),
-    }
+    Ok(ScrubRow {
+        domain: entry.domain,
+        cuid: entry.cuid.copy()?,
+        mid,
+        prefix,
+        ports: target.ports.copy()?,
+        protocols: target.protocols.copy()?,
+        active: true,
+    })
 }
 
 /// A row that isn't active yet.

@@ -1,6 +1,6 @@
 //! The judgement of a request for a mitigation.
 
-ghost use Rattle.std.specs.Prelude.{◌≡◌, ◌≤◌, ◌<◌, map, length, slice_get, IfOk, Some};
+ghost use Rattle.std.specs.Prelude.{◌≡◌, ◌≤◌, ◌<◌, map, length, slice_get, IfOk, Ok, Some};
 ghost use Rattle.conflict_rules.specs.declared.live.Live.{Live};
 ghost use Rattle.dots_history.specs.Bounds.{prefix_count};
 ghost use Rattle.lifetime_clock.specs.Lifetime.{IsLifetime};
@@ -48,7 +48,7 @@ pub fn judge_put<T: Mitigates>(
     match judge_mid(live, request.peer, request.cuid, request.mid, request.asked) {
         MidJudgement::Collision => Err(PutFault::Collision),
         MidJudgement::Changed => Err(PutFault::Changed),
-        MidJudgement::Refresh { at } => Ok(refreshed(alloc, settings, put_at(live, at), request)?),
+        MidJudgement::Refresh { at } => refreshed(alloc, settings, put_at(live, at), request),
         MidJudgement::New => judge_new(alloc, settings, live, client.aliases, time, request),
     }
 }
@@ -67,9 +67,9 @@ fn refreshed(
     settings: &Settings,
     put: &Put,
     request: &PutRequest<'_>,
-) -> Result<Judged, NoMemory>
+) -> Result<Judged, PutFault>
     requires { IsLifetime request.now.lifetime }
-    ensures { IfOk result (λ judged. judged ≡ refreshed settings.now put.now request.now) }
+    ensures { Gives result (Ok (refreshed settings.now put.now request.now)) }
 {
     let targets = copy_of_targets(alloc, put.targets.items())?;
     Ok(Judged {

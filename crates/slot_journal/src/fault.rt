@@ -3,7 +3,7 @@ use std::error::Error;
 use std::fmt;
 
 /// Why a disk isn't recovered.
-#[derive(Clone, Copy, Debug, PartialEq, Eq)]
+#[derive(Clone, Copy, Debug)]
 pub enum JournalFault {
     /// The disk has `found` bytes, and fewer than are needed.
     TooSmall { needed: u64, found: u64 },

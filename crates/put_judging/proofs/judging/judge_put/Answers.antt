@@ -35,15 +35,17 @@ returns-in-Changed g c =
     (sym c.is_of_another.ensures ∙ c.if-is_of_another.false)
     (sym c.in-Changed.ensures)
 
-pub returns-in_ok-refreshed-in-Refresh : goal.returns-in_ok-refreshed-in-Refresh
-returns-in_ok-refreshed-in-Refresh g c =
+pub returns-in-Refresh : goal.returns-in-Refresh
+returns-in-Refresh g c =
     let there = at_place c.args.settings.now (map g.T.Mitigates.live c.args.live.now) c.args.client.now c.args.time
     (asked_by c.request.inside.peer c.request.inside.cuid.now c.request.inside.mid c.request.inside.asked.now c.request.inside.lifetime)
     (sym c.collides.ensures ∙ c.if-collides.false)
     (sym c.is_of_another.ensures ∙ c.if-is_of_another.false)
     c.in-Refresh.at
     (sym c.in-Refresh.ensures) in
-    ap (judge_put c.args.settings.now (map g.T.Mitigates.live c.args.live.now) c.args.client.now c.args.time) (sym c.request.view_is)
+    subst
+    (Gives c.refreshed.result)
+    (sym (ap (judge_put c.args.settings.now (map g.T.Mitigates.live c.args.live.now) c.args.client.now c.args.time) (sym c.request.view_is)
     ∙ refreshes c.args.settings.now (map g.T.Mitigates.live c.args.live.now) c.args.client.now c.args.time
     (asked_by c.request.inside.peer c.request.inside.cuid.now c.request.inside.mid c.request.inside.asked.now c.request.inside.lifetime)
     (sym c.collides.ensures ∙ c.if-collides.false)
@@ -53,8 +55,8 @@ returns-in_ok-refreshed-in-Refresh g c =
     (sym c.in-Refresh.ensures)
     there.1
     ∙ ap (λ (r : Request). Ok (refreshed c.args.settings.now there.0.put r)) c.request.view_is
-    ∙ ap (λ put. Ok (refreshed c.args.settings.now put c.args.request.now)) (sym (c.put_at.ensures there.0 there.1))
-    ∙ ap Ok (sym c.in_ok-refreshed-in-Refresh.ensures)
+    ∙ ap (λ put. Ok (refreshed c.args.settings.now put c.args.request.now)) (sym (c.put_at.ensures there.0 there.1))))
+    c.refreshed.ensures
 
 pub returns-in-New : goal.returns-in-New
 returns-in-New g c =
