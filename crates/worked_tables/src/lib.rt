@@ -3,7 +3,7 @@
 //! Each row is put to the public calls of a library: `registry_rows` to `dots_registry`, `history_rows` to the plain programs of
 //! `dots_history`, `dots_laws` and `acl_lists`, `judgement_rows` to `conflict_rules`, `exchange_rows` to `coap_observe` and
 //! `coap_exchange`, and `record_rows` to `entry_records` and `slot_journal`. The expected values come from the protocol's documents.
-//! What the whole program makes of requests stands in `worked_rows` and `worked_restarts`.
+//! What the whole program makes of requests stands in `worked_rows`.
 //!
 //! [`tables`] says how a table is read, [`entries`] how an entry is, and [`texts`] has the names that stand in them.
 #![tactic(auto)]

@@ -1,5 +1,5 @@
 //! Records in hexadecimal, each of an entry that is read and written as it was, or with the place of its first fault; and an append whose
-//! entry a crash lost. Journals on disks are in `worked_restarts`, through the whole program.
+//! entry a crash lost. Journals on disks are in `worked_rows`, through the whole program.
 
 use crate::tables::{Part, Table, all_hold};
 use std::test::Fail;
