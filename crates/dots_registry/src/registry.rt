@@ -74,13 +74,30 @@ impl Registry {
         ensures settings { IfOk result (λ registry. IsOf settings.now registry) }
         ensures time { IfOk result (λ registry. time_of registry ≡ 0) }
     {
+        let live = LiveMitigations::new(alloc, settings)?;
+        let held = match HeldThings::new(alloc, settings) {
+            Ok(held) => held,
+            Err(fault) => return Err(give_up(live, fault)),
+        };
+        let remembered = match Remembered::new(alloc, settings) {
+            Ok(remembered) => remembered,
+            Err(fault) => return Err(give_up((live, held), fault)),
+        };
+        let filters = match InstalledFilters::new(alloc, settings) {
+            Ok(filters) => filters,
+            Err(fault) => return Err(give_up((live, held, remembered), fault)),
+        };
+        let slots = match KeptSlots::new(alloc, settings) {
+            Ok(slots) => slots,
+            Err(fault) => return Err(give_up((live, held, remembered, filters), fault)),
+        };
         Ok(Registry {
             alloc,
-            live: LiveMitigations::new(alloc, settings)?,
-            held: HeldThings::new(alloc, settings)?,
-            remembered: Remembered::new(alloc, settings)?,
-            filters: InstalledFilters::new(alloc, settings)?,
-            slots: KeptSlots::new(alloc, settings)?,
+            live,
+            held,
+            remembered,
+            filters,
+            slots,
         })
     }
 
@@ -141,8 +158,10 @@ impl Registry {
         let (entry, scrubs, list) = staged.into_parts();
         self.tick(entry.time);
         if puts(&entry) {
+            drop(list);
             self.put(entry, scrubs, slot);
         } else {
+            drop(scrubs);
             self.write(entry, list, slot);
         }
     }
@@ -186,6 +205,12 @@ impl Registry {
         let entry = remember(&mut self.remembered, self.alloc, entry, slot);
         self.held.apply(entry);
     }
+}
+
+/// Lets tables go, for this fault.
+fn give_up<T: Drop>(tables: T, fault: NoMemory) -> NoMemory {
+    drop(tables);
+    fault
 }
 
 /// Whether the entry's client has a live mitigation, where its domain is one of these.

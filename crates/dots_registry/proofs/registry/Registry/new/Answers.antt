@@ -8,48 +8,48 @@ pub returns-clause-stands : goal.returns-clause-stands
 returns-clause-stands c =
     stands_first
     c.args.settings.now
-    c.in_ok-new.field-0
-    c.in_ok-new-2.field-0
-    c.in_ok-new-3.field-0
-    c.in_ok-new-4.field-0
-    c.in_ok-new-5.field-0
-    c.in_ok-new.ensures.stands
-    c.in_ok-new-2.ensures.stands
-    c.in_ok-new.ensures.limits
-    c.in_ok-new-3.ensures
-    c.in_ok-new-4.ensures.stands
+    c.in_ok-live.live
+    c.in-Ok.held
+    c.in-Ok-new.remembered
+    c.in-Ok-new-2.filters
+    c.in-Ok-new-3.slots
+    c.in_ok-live.ensures.stands
+    c.in-Ok.ensures.stands
+    c.in_ok-live.ensures.limits
+    c.in-Ok-new.ensures
+    c.in-Ok-new-2.ensures.stands
 
 pub returns-clause-settings : goal.returns-clause-settings
 returns-clause-settings c =
     is_of_first
     c.args.settings.now
-    c.in_ok-new.field-0
-    c.in_ok-new-2.field-0
-    c.in_ok-new-3.field-0
-    c.in_ok-new-4.field-0
-    c.in_ok-new-5.field-0
-    c.in_ok-new.ensures.domains
-    c.in_ok-new.ensures.limits
-    c.in_ok-new-2.ensures.sizes
-    c.in_ok-new-3.ensures
-    c.in_ok-new-4.ensures.room
+    c.in_ok-live.live
+    c.in-Ok.held
+    c.in-Ok-new.remembered
+    c.in-Ok-new-2.filters
+    c.in-Ok-new-3.slots
+    c.in_ok-live.ensures.domains
+    c.in_ok-live.ensures.limits
+    c.in-Ok.ensures.sizes
+    c.in-Ok-new.ensures
+    c.in-Ok-new-2.ensures.room
 
 pub returns-clause-filed : goal.returns-clause-filed
 returns-clause-filed c =
     filed_first
-    c.in_ok-new.field-0
-    c.in_ok-new-2.field-0
-    c.in_ok-new-3.field-0
-    c.in_ok-new-4.field-0
-    c.in_ok-new-5.field-0
+    c.in_ok-live.live
+    c.in-Ok.held
+    c.in-Ok-new.remembered
+    c.in-Ok-new-2.filters
+    c.in-Ok-new-3.slots
     c.args.settings.now
     (length c.args.settings.now.domains)
     c.args.settings.now.limits.domain_mitigations
-    c.in_ok-new.ensures.limits
-    c.in_ok-new-3.ensures
-    c.in_ok-new-5.ensures.tables
-    (ap (λ (r : HeldRows). r.rows) c.in_ok-new-5.ensures.rows)
-    c.in_ok-new-5.ensures.last
+    c.in_ok-live.ensures.limits
+    c.in-Ok-new.ensures
+    c.in-Ok-new-3.ensures.tables
+    (ap (λ (r : HeldRows). r.rows) c.in-Ok-new-3.ensures.rows)
+    c.in-Ok-new-3.ensures.last
     (returns-clause-stands c)
 
 pub invariant_of-result : goal.invariant_of-result
@@ -57,15 +57,15 @@ invariant_of-result c = record {
   filed = [];
   stands = returns-clause-filed c;
   room = slots_first_room
-      c.in_ok-new.field-0
-      c.in_ok-new-2.field-0
-      c.in_ok-new-3.field-0
-      c.in_ok-new-4.field-0
-      c.in_ok-new-5.field-0
+      c.in_ok-live.live
+      c.in-Ok.held
+      c.in-Ok-new.remembered
+      c.in-Ok-new-2.filters
+      c.in-Ok-new-3.slots
       c.args.settings.now
-      c.in_ok-new.ensures.domains
-      c.in_ok-new.ensures.limits
-      c.in_ok-new-2.ensures.sizes
-      c.in_ok-new-5.ensures.tables
-      (ap (λ (r : HeldRows). r.room) c.in_ok-new-5.ensures.rows);
+      c.in_ok-live.ensures.domains
+      c.in_ok-live.ensures.limits
+      c.in-Ok.ensures.sizes
+      c.in-Ok-new-3.ensures.tables
+      (ap (λ (r : HeldRows). r.room) c.in-Ok-new-3.ensures.rows);
 }
