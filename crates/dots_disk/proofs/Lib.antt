@@ -2,3 +2,4 @@ pub mod ContentLemmas
 pub mod DiskLemmas
 pub mod WrittenLemmas
 pub mod LoggedLemmas
+pub mod Walks

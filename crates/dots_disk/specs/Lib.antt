@@ -6,5 +6,6 @@ pub mod Stored
 pub mod StoredLaws
 pub mod Hosted
 pub mod HostedLaws
+pub mod LoggedCalls
 pub mod Logged
 pub mod LoggedLaws

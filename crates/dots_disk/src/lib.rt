@@ -7,6 +7,7 @@
 //! Read `specs/Media.antt` first, then [`Disk`] and [`Host`].
 #![tactic(auto)]
 
+mod call_log;
 mod calls;
 mod content;
 mod disk;
@@ -16,6 +17,7 @@ mod logged_disk;
 mod memory_disk;
 mod memory_host;
 
+pub use call_log::{Call, CallLog};
 pub use disk::Disk;
 pub use host::Host;
 pub use logged_disk::LoggedDisk;

@@ -7,9 +7,9 @@ ghost use Rattle.dots_disk.specs.Becoming.{Becomes, MayBecome, Stays};
 ghost use Rattle.dots_disk.specs.Logged.{zeros, with_call, media_since, acts_told, AddsCalls, KeepsLogged};
 ghost use Rattle.dots_disk.specs.LoggedLaws.{adds_calls_same, adds_calls_then};
 
+use crate::call_log::{Call, CallLog};
 use crate::content::Content;
 use crate::disk::Disk;
-use call_log::{Call, CallLog};
 use dots_host::{Failed, Got, NoMemory, Out, Sent};
 use std::alloc::Global;
 use std::marker::Model;

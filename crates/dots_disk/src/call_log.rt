@@ -1,3 +1,8 @@
+//! The calls of a host so far, in a log that exists in proofs alone.
+//!
+//! A [`CallLog`] takes no bytes, and keeping it takes no memory and no time. What a host does it can't know: a host keeps
+//! it beside each call, and says by its own invariant how what it holds follows from the calls in its log.
+
 ghost use Rattle.std.specs.Prelude.{◌≡◌, List, [], ◌∷◌, ◌++◌};
 ghost use Rattle.std.specs.Coded.{coded_list};
 ghost use Rattle.dots_host.specs.declared.act.Act.{Act};
@@ -34,7 +39,7 @@ pub enum Call<'a> {
 }
 
 impl CallLog {
-    ghost use Rattle.call_log.specs.Calls.{act_of};
+    ghost use Rattle.dots_disk.specs.LoggedCalls.{act_of};
 
     /// No call yet.
     pub fn new() -> CallLog

@@ -23,12 +23,12 @@ use denote.Triple.Entry.{alive}
 use denote.Triple.Spec.{Meets, triple_of}
 use denote.Triple.Table.{entered}
 use denote.Triple.Walked.{says, Stays, walk_of, ends_at, walk_Meets}
-use Rattle.call_log.proofs.Walks.{none, none_made}
-use Rattle.call_log.specs.contracts.log.CallLog as CallLog
-use Rattle.call_log.specs.contracts.log.CallLog.new as F
-use Rattle.call_log.specs.contracts.log.CallLog.new.Key.{name as #self}
-use Rattle.call_log.proofs.log.CallLog.new.Statement as stated
-use Rattle.call_log.proofs.log.CallLog.new.Code as code
+use Rattle.dots_disk.proofs.Walks.{none, none_made}
+use Rattle.dots_disk.specs.contracts.call_log.CallLog as CallLog
+use Rattle.dots_disk.specs.contracts.call_log.CallLog.new as F
+use Rattle.dots_disk.specs.contracts.call_log.CallLog.new.Key.{name as #self}
+use Rattle.dots_disk.proofs.call_log.CallLog.new.Statement as stated
+use Rattle.dots_disk.proofs.call_log.CallLog.new.Code as code
 
 abbrev function : Fn
 function = code.function

@@ -25,14 +25,14 @@ use denote.Triple.Entry.{alive}
 use denote.Triple.Spec.{Meets, triple_of}
 use denote.Triple.Table.{entered}
 use denote.Triple.Walked.{says, Stays, stay_dropped, walk_of, ends_at, walk_Meets, Goes-dropped}
-use Rattle.call_log.proofs.Walks.{none, none_made}
-use Rattle.call_log.specs.contracts.log.CallLog as CallLog
-use Rattle.call_log.specs.contracts.log.Call as Call
-use Rattle.call_log.specs.Calls.{act_of}
-use Rattle.call_log.specs.contracts.log.CallLog.after as F
-use Rattle.call_log.specs.contracts.log.CallLog.after.Key.{name as #self}
-use Rattle.call_log.proofs.log.CallLog.after.Statement as stated
-use Rattle.call_log.proofs.log.CallLog.after.Code as code
+use Rattle.dots_disk.proofs.Walks.{none, none_made}
+use Rattle.dots_disk.specs.contracts.call_log.CallLog as CallLog
+use Rattle.dots_disk.specs.contracts.call_log.Call as Call
+use Rattle.dots_disk.specs.LoggedCalls.{act_of}
+use Rattle.dots_disk.specs.contracts.call_log.CallLog.after as F
+use Rattle.dots_disk.specs.contracts.call_log.CallLog.after.Key.{name as #self}
+use Rattle.dots_disk.proofs.call_log.CallLog.after.Statement as stated
+use Rattle.dots_disk.proofs.call_log.CallLog.after.Code as code
 
 abbrev function : Fn
 function = code.function

@@ -2,8 +2,8 @@
 use Rattle.dots_host.specs.declared.act.Act.{Act}
 use Rattle.dots_host.specs.declared.act.Act.TheVariants as act
 use Rattle.dots_host.specs.Acts.{event_of, owned_of, is_done}
-use Rattle.call_log.specs.declared.log.Call.{Call}
-use Rattle.call_log.specs.declared.log.Call.TheVariants as call
+use Rattle.dots_disk.specs.declared.call_log.Call.{Call}
+use Rattle.dots_disk.specs.declared.call_log.Call.TheVariants as call
 
 abbrev pub act_of : Call → Act
 act_of (call.Took what room at) = act.Took (event_of what room.now) at
