@@ -1,4 +1,3 @@
-use dots_host::Failed;
 use std::error::Error;
 use std::fmt;
 
@@ -17,12 +16,6 @@ impl fmt::Display for DiskFault {
 }
 
 impl Error for DiskFault {}
-
-impl From<Failed> for DiskFault {
-    fn from(_: Failed) -> Self {
-        DiskFault
-    }
-}
 
 /// Why a disk isn't opened.
 #[derive(Clone, Copy)]

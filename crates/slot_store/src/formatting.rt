@@ -10,12 +10,13 @@ ghost use Rattle.slot_store.specs.Gates.{Sees};
 ghost use Rattle.slot_store.specs.Refusing.{RefusesGates, RefusesDisk, IsOpen, Caused};
 
 use crate::fault::OpenFault;
-use crate::gates::{Wanted, find_gate};
+use crate::gates::find_gate;
 use crate::header::{HEADER, check_header, header};
-use crate::layout::{OPEN, SLOT};
+use crate::layout::SLOT;
 use crate::opening::open_gate;
 use dots_disk::Disk;
 use dots_host::Failed;
+use slot_gates::{OPEN, Wanted};
 
 /// Refuses a disk without a header of whose gates one isn't zero.
 fn check_gates<D: Disk>(disk: &mut D, slots: u32) -> Result<(), OpenFault>

@@ -3,33 +3,15 @@
 ghost use Rattle.std.specs.Prelude.{◌≡◌, ℕ, ◌+◌, ◌*◌, ◌<◌, ◌≤◌, ◌^◌, IfOk, IfErr, MatchOption};
 ghost use Rattle.dots_host.specs.Causes.{HasCause};
 ghost use Rattle.dots_disk.specs.Becoming.{KeepsMedia};
-ghost use Rattle.slot_store.specs.Gates.{is_wanted, Sees, NoneIs, IsFirst};
+ghost use Rattle.slot_store.specs.Gates.{Sees, NoneIs, IsFirst};
 ghost use Rattle.slot_store.specs.Layout.{place_of, needed_of};
 ghost use Rattle.slot_store.specs.Refusing.{IsCount, Caused};
 
 use crate::fault::OpenFault;
-use crate::layout::{OPEN, SLOT, place_of};
+use crate::layout::{SLOT, place_of};
 use dots_disk::Disk;
 use dots_host::Failed;
-
-/// Which gates are looked for.
-#[derive(Clone, Copy)]
-pub enum Wanted {
-    Open,
-    NotOpen,
-    NotZero,
-}
-
-/// Whether a gate with this byte is one of those that are looked for.
-fn is_wanted(what: Wanted, byte: u8) -> bool
-    ensures { result ≡ is_wanted what byte }
-{
-    match what {
-        Wanted::Open => byte == OPEN,
-        Wanted::NotOpen => byte != OPEN,
-        Wanted::NotZero => byte != 0,
-    }
-}
+use slot_gates::{Wanted, is_wanted};
 
 /// The byte at the place.
 pub fn byte_at<D: Disk>(disk: &mut D, at: u64) -> Result<u8, Failed>

@@ -3,9 +3,6 @@
 ghost use Rattle.std.specs.Prelude.{◌≡◌, ◌<◌};
 ghost use Rattle.slot_store.specs.Layout.{place_of, needed_of};
 
-/// The byte of an open gate.
-pub const OPEN: u8 = 0xa5;
-
 /// The bytes of a slot: its gate, two bytes of length, and the record.
 pub const SLOT: usize = 8192;
 

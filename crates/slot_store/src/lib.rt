@@ -20,7 +20,8 @@ mod store;
 
 pub use fault::{DiskFault, OpenFault};
 pub use found::read_slot;
-pub use gates::{Wanted, find_gate};
+pub use gates::find_gate;
 pub use laws::one_list;
 pub use layout::{MAX_RECORD, SLOT};
+pub use slot_gates::Wanted;
 pub use store::SlotStore;

@@ -1,5 +1,5 @@
 use Rattle.std.proofs.Common.{◌∙◌, ap, sym, arith}
-use Rattle.slot_store.specs.Gates.{is_wanted}
+use Rattle.slot_gates.specs.Gates.{is_wanted}
 use Rattle.slot_store.proofs.Reading.{reads_then, sees_kept, none_more}
 use Rattle.slot_store.proofs.gates.find_gate.Goals as goal
 
