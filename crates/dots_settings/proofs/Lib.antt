@@ -1,4 +1,3 @@
-pub mod Splits
 pub mod Numbers
 pub mod Rows
 pub mod HostNames

@@ -5,7 +5,7 @@ ghost use Rattle.dots_settings.specs.declared.fault.SettingsFault.TheVariants as
 use arrayvec::ArrayString;
 use dots_lists::NoMemory;
 use itoa::Buffer;
-use std::alloc::{AllocError, AllocFailed};
+use std::alloc::AllocError;
 use std::error::Error;
 use std::fmt;
 
@@ -115,14 +115,6 @@ impl From<AllocError> for SettingsFault {
     ghost from_gives = { λ _ made. made ≡ fault.NoMemory };
 
     fn from(_: AllocError) -> Self {
-        SettingsFault::NoMemory
-    }
-}
-
-impl<T: Drop> From<AllocFailed<T>> for SettingsFault {
-    ghost from_gives = { λ _ made. made ≡ fault.NoMemory };
-
-    fn from(_: AllocFailed<T>) -> Self {
         SettingsFault::NoMemory
     }
 }

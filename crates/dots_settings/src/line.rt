@@ -4,12 +4,13 @@ ghost use Rattle.dots_settings.specs.Form.{ArePorts, is_domain_byte, is_domain_n
 ghost use Rattle.dots_settings.specs.Reading.{Reads, ReadsBehind};
 
 use crate::capacity::Capacity;
-use crate::fields::{five_fields, one_field, split_field, two_fields};
+use crate::fields::five_fields;
 use crate::form::Form;
 use crate::number::{limit_of, number_up_to, positive_up_to};
 use acl_lists::Packet;
 use dots_lists::is_name;
 use ip_scope::{Prefix, parse_address, parse_prefix};
+use line_fields::{one_field, split_field, two_fields};
 
 /// The greatest ceiling, in seconds.
 const MAX_CEILING: u32 = 604_800;

@@ -3,14 +3,14 @@
 ghost use Rattle.std.specs.Prelude.{◌≡◌, ◌≢◌, ℕ, ◌+◌, ◌^◌, ◌≤◌, List, [], ◌∷◌, ◌++◌, length, IfOk, IfErr, OnOk};
 ghost use Rattle.sha2.specs.Hashers.{Holds256};
 ghost use Rattle.dots_settings.specs.File.{SettingsAre, IsRefused, is_past};
-ghost use Rattle.dots_settings.specs.Lines.{is_skipped, lines_of};
+ghost use Rattle.dots_settings.specs.Lines.{lines_of};
 ghost use Rattle.dots_settings.specs.Taking.{TakesLine, RefusesLine};
 
 use crate::draft::Draft;
 use crate::fault::SettingsFault;
-use crate::fields::split_line;
 use crate::line::parse_line;
 use crate::settings::Settings;
+use line_fields::{is_skipped, split_line};
 use sha2::{Digest, Sha256};
 use std::alloc::Global;
 
@@ -93,14 +93,4 @@ fn is_past(content: &[u8], behind: &[u8]) -> bool
     ensures { result ≡ is_past content.now (lines_of behind.now) }
 {
     behind.is_empty() && content.len() > MAX_FILE
-}
-
-/// Whether the line is empty or begins with `#`.
-fn is_skipped(line: &[u8]) -> bool
-    ensures { result ≡ is_skipped line.now }
-{
-    match line {
-        [] => true,
-        [first, ..] => *first == b'#',
-    }
 }
