@@ -69,8 +69,8 @@ fn are_targets_within(targets: &[Target]) -> bool
     targets.iter().all(|target| is_target_within(target))
 }
 
-/// Whether the targets have at most the resolved prefixes of one mitigation.
-fn are_few(targets: &[Target]) -> bool
+/// Whether the targets have at most 64 prefixes together, the resolved prefixes of one mitigation.
+pub fn are_few(targets: &[Target]) -> bool
     ensures { result ≡ nat_le (prefix_count targets.now) 64 }
 {
     let mut left = MAX_RESOLVED;

@@ -8,7 +8,7 @@ pub struct Config {
 }
 
 /// The values of a session configuration.
-#[derive(Clone, Copy, Debug, PartialEq, Eq)]
+#[derive(Clone, Copy, PartialEq, Eq)]
 pub struct Values {
     /// `heartbeat-interval`, in seconds; 0 for no heartbeats.
     pub interval: u64,

@@ -111,8 +111,9 @@ fn undoes_acl(name: &Name, later: &Change) -> bool
     }
 }
 
+/// Whether a client leaves by the change.
 #[tactic(auto, unfolding(crate::specs::Entries::is_leave))]
-fn is_leave(change: &Change) -> bool
+pub fn is_leave(change: &Change) -> bool
     ensures { result ≡ is_leave change.now }
 {
     match change {
@@ -147,8 +148,9 @@ fn undoes_of_peer(earlier: &Change, later: &Change) -> bool
     }
 }
 
+/// Whether the change sets or deletes a session configuration.
 #[tactic(auto, unfolding(crate::specs::Entries::is_configuration))]
-fn is_configuration(change: &Change) -> bool
+pub fn is_configuration(change: &Change) -> bool
     ensures { result ≡ is_configuration change.now }
 {
     match change {

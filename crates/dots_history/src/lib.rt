@@ -29,14 +29,14 @@ mod slots;
 mod status;
 mod views;
 
-pub use bounds::is_within_bounds;
+pub use bounds::{are_few, is_within_bounds};
 pub use change::Change;
 pub use config::{Config, Values};
 pub use entry::{Entry, MessageKey};
-pub use holding::{is_held, is_still_held, undoes};
+pub use holding::{is_configuration, is_held, is_leave, is_still_held, undoes};
 pub use keeping::{is_named, places_to_keep};
 pub use lives::{is_granted_at, is_live, is_live_after, runs, status_after, step};
-pub use overlap::overlaps;
+pub use overlap::{meets_some, overlaps, share_name, some_target_meets};
 pub use packet_fate::fate_of_packet;
 pub use put::{Put, Target, TargetList};
 pub use relations::{ends, is_same_client, is_signal, put_of, signals, withdraws};

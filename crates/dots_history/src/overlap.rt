@@ -25,7 +25,8 @@ fn targets_meet(a: &Put, b: &Put) -> bool
     some_target_meets(a.targets.items(), b.targets.items())
 }
 
-fn some_target_meets(targets: &[Target], others: &[Target]) -> bool
+/// Whether a prefix of the one's targets meets one of the other's.
+pub fn some_target_meets(targets: &[Target], others: &[Target]) -> bool
     ensures { result ≡ some_prefix (λ prefix. some_prefix (meets prefix) others.now) targets.now }
 {
     targets
@@ -39,7 +40,8 @@ fn some_meets(prefixes: &[Prefix], targets: &[Target]) -> bool
     prefixes.iter().any(|prefix| meets_some(prefix, targets))
 }
 
-fn meets_some(prefix: &Prefix, targets: &[Target]) -> bool
+/// Whether the prefix meets one of the targets.
+pub fn meets_some(prefix: &Prefix, targets: &[Target]) -> bool
     ensures { result ≡ some_prefix (meets prefix.now) targets.now }
 {
     targets
@@ -60,7 +62,8 @@ fn share_alias(a: &Put, b: &Put) -> bool
     share_name(a.asked.aliases.items(), b.asked.aliases.items())
 }
 
-fn share_name(names: &[Name], others: &[Name]) -> bool
+/// Whether a name is among both.
+pub fn share_name(names: &[Name], others: &[Name]) -> bool
     ensures { result ≡ list_any (λ name. list_any (bytes_eq name) others.now) names.now }
 {
     names.iter().any(|name| is_among(name, others))

@@ -1,6 +1,6 @@
 //! The rows of the filter table.
 
-ghost use Rattle.std.specs.Prelude.{◌≡◌, ◌++◌, true, IfOk, map, option_copied, flat_map};
+ghost use Rattle.std.specs.Prelude.{◌≡◌, ◌++◌, true, IfOk, OnOk, map, option_copied, flat_map};
 ghost use Rattle.std.specs.List.{list_any};
 ghost use Rattle.dots_history.specs.Entries.{option_any};
 ghost use Rattle.dots_history.specs.Rows.{rows_of, scrub_rows, list_rows, is_mitigating, is_active, targets_of, acl_of};
@@ -38,27 +38,26 @@ pub fn scrub_rows<'a>(
     let mut list = Vec::new(alloc);
     for (place, put) in entries.iter().enumerate() {
         if is_live_after(t, put, &entries[place + 1..]) {
-            list.extend_from_slice(rows_of(alloc, put)?.as_slice())?;
+            push_rows(&mut list, put)?;
         }
     }
     Ok(list)
 }
 
-/// The rows of one mitigation, in order of the targets and their prefixes.
-fn rows_of<'a>(alloc: Global, put: &'a Entry) -> Result<Vec<LiveRow<'a>>, NoMemory>
-    ensures { IfOk result (λ list. map row_of list.items ≡ rows_of put.now) }
+/// Puts the rows of one mitigation behind the others, in order of the targets and their prefixes.
+fn push_rows<'a>(rows: &mut Vec<LiveRow<'a>>, put: &'a Entry) -> Result<(), NoMemory>
+    ensures { OnOk result (map row_of rows.new.items ≡ map row_of rows.old.items ++ rows_of put.now) }
 {
-    let mut list = Vec::new(alloc);
     for target in targets_of(&put.change) {
         for prefix in target.prefixes.items() {
-            list.push(LiveRow {
+            rows.push(LiveRow {
                 put,
                 target,
                 prefix,
             })?;
         }
     }
-    Ok(list)
+    Ok(())
 }
 
 /// The targets of a change, where it is a mitigation.
