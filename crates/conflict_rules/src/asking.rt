@@ -9,7 +9,7 @@ use dots_lists::Name;
 use ip_scope::{PortRange, Prefix};
 
 /// What a request lists as a set.
-pub(crate) trait Listed {
+trait Listed {
     ghost same: { Self → Self → Bool };
 
     fn is_same(&self, other: &Self) -> bool
@@ -58,7 +58,7 @@ fn are_among<T: Listed>(items: &[T], others: &[T]) -> bool
 }
 
 /// Whether the item is among the others.
-pub(crate) fn is_among<T: Listed>(item: &T, others: &[T]) -> bool
+fn is_among<T: Listed>(item: &T, others: &[T]) -> bool
     ensures { result ≡ list_any (T.same item.now) others.now }
 {
     others.iter().any(|other| item.is_same(other))

@@ -35,21 +35,11 @@ pub enum Which {
     Domain,
 }
 
-/// How many prefixes the targets of a mitigation may have together.
-const MAX_RESOLVED: usize = 64;
-
 /// Whether the targets have at most 64 prefixes together, as [`judge_overlap`] wants it.
 pub fn are_few(targets: &TargetList) -> bool
     ensures { result ≡ nat_le (prefix_count targets.now) 64 }
 {
-    let mut left = MAX_RESOLVED;
-    for target in targets.items() {
-        match left.checked_sub(target.prefixes.items().len()) {
-            Some(rest) => left = rest,
-            None => return false,
-        }
-    }
-    true
+    dots_history::are_few(targets.items())
 }
 
 /// Judges a new mitigation, of which `targets` is what was asked for, by the live mitigations of its domain: whether it

@@ -5,8 +5,7 @@ ghost use Rattle.dots_history.specs.Bounds.{prefix_count};
 ghost use Rattle.conflict_rules.specs.ByOverlap.{meets_another, resolved, bits, meeting};
 
 use crate::live::{Mitigates, stands_against};
-use crate::request::meets_some;
-use dots_history::Target;
+use dots_history::{Target, meets_some};
 use ip_scope::Prefix;
 
 /// The number whose bit i is set exactly where the resolved prefix i meets a standing mitigation of another client.

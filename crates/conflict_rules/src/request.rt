@@ -1,16 +1,11 @@
 //! When a live mitigation overlaps with a request.
 
-ghost use Rattle.std.specs.Prelude.{◌≡◌, true, false, bytes_eq};
-ghost use Rattle.std.specs.List.{list_any};
-ghost use Rattle.ip_scope.specs.Prefix.{meets};
-ghost use Rattle.dots_history.specs.Entries.{some_prefix, overlaps, replaces, targets_meet, share_alias};
+ghost use Rattle.std.specs.Prelude.{◌≡◌, true, false};
+ghost use Rattle.dots_history.specs.Entries.{overlaps, replaces, targets_meet, share_alias};
 ghost use Rattle.dots_history.specs.declared.change.Change.TheVariants as change;
 
-use crate::asking::is_among;
 use acl_lists::Asked;
-use dots_history::{Put, Target, TargetList};
-use dots_lists::Name;
-use ip_scope::{Prefix, meets};
+use dots_history::{Put, TargetList, share_name, some_target_meets};
 use std::marker::Model;
 
 /// A request as a mitigation, by what counts for an overlap. Contracts see it as the mitigation that it asks for.
@@ -55,39 +50,4 @@ impl Request<'_> {
     {
         put.mid == self.mid || self.overlaps_own(put)
     }
-}
-
-fn some_target_meets(targets: &[Target], others: &[Target]) -> bool
-    ensures { result ≡ some_prefix (λ prefix. some_prefix (meets prefix) others.now) targets.now }
-{
-    targets
-        .iter()
-        .any(|target| some_meets(target.prefixes.items(), others))
-}
-
-fn some_meets(prefixes: &[Prefix], targets: &[Target]) -> bool
-    ensures { result ≡ list_any (λ prefix. some_prefix (meets prefix) targets.now) prefixes.now }
-{
-    prefixes.iter().any(|prefix| meets_some(prefix, targets))
-}
-
-/// Whether the prefix meets one of the targets.
-pub(crate) fn meets_some(prefix: &Prefix, targets: &[Target]) -> bool
-    ensures { result ≡ some_prefix (meets prefix.now) targets.now }
-{
-    targets
-        .iter()
-        .any(|target| meets_any(prefix, target.prefixes.items()))
-}
-
-fn meets_any(prefix: &Prefix, list: &[Prefix]) -> bool
-    ensures { result ≡ list_any (meets prefix.now) list.now }
-{
-    list.iter().any(|other| meets(prefix, other))
-}
-
-fn share_name(names: &[Name], others: &[Name]) -> bool
-    ensures { result ≡ list_any (λ name. list_any (bytes_eq name) others.now) names.now }
-{
-    names.iter().any(|name| is_among(name, others))
 }
