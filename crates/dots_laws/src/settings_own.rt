@@ -2,13 +2,12 @@
 
 ghost use Rattle.std.specs.Prelude.{◌≡◌};
 ghost use Rattle.std.specs.List.{list_all};
-ghost use Rattle.dots_history.specs.Entries.{is_configuration};
 ghost use Rattle.dots_history.specs.declared.change.Change.TheVariants as change;
 ghost use Rattle.dots_settings.specs.Lookups.{role_of, prefixes_of, addresses_of};
 ghost use Rattle.dots_laws.specs.Calm.{may_act, may_configure, all_inside, name_inside, destination_inside, change_inside, is_of_settings, came_rightly, is_http};
 
 use acl_lists::{Ace, Alias};
-use dots_history::{Change, Entry, MessageKey, Target, is_signal};
+use dots_history::{Change, Entry, MessageKey, Target, is_configuration, is_signal};
 use dots_lists::Name;
 use dots_settings::{NO_DOMAIN, Role, Settings};
 use ip_scope::{Prefix, inside_any};
@@ -39,23 +38,6 @@ fn is_http(key: MessageKey) -> bool
     match key {
         MessageKey::Http => true,
         MessageKey::Non(_) | MessageKey::Con(_) => false,
-    }
-}
-
-#[tactic(auto, unfolding(dots_history::specs::Entries::is_configuration))]
-fn is_configuration(change: &Change) -> bool
-    ensures { result ≡ is_configuration change.now }
-{
-    match change {
-        Change::SetConfig { .. } | Change::ClearConfig => true,
-        Change::Put(_)
-        | Change::Withdraw { .. }
-        | Change::SetAlias(_)
-        | Change::DropAlias { .. }
-        | Change::SetAcl(_)
-        | Change::DropAcl { .. }
-        | Change::Register
-        | Change::Deregister => false,
     }
 }
 
