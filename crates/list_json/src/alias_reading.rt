@@ -65,13 +65,13 @@ fn range_of(value: &Value) -> Result<PortRange, ListFault>
 fn prefixes_of(alloc: Global, alias: &AliasMembers<'_>) -> Result<PrefixList, ListFault>
     ensures { Gives result (items_in the.TargetPrefix 16 (prefix_of the.TargetPrefix) (found alias.now.prefixes)) }
 {
-    let mut prefixes = List::new(alloc);
     let Some(value) = alias.prefixes else {
-        return Ok(prefixes);
+        return Ok(List::new(alloc));
     };
     let Some(items) = few_items(value, MAX_TARGETS) else {
         return Err(ListFault::Invalid(Member::TargetPrefix));
     };
+    let mut prefixes = List::new(alloc);
     for item in items {
         prefixes.push(prefix_of(Member::TargetPrefix, item)?)?;
     }
@@ -82,13 +82,13 @@ fn prefixes_of(alloc: Global, alias: &AliasMembers<'_>) -> Result<PrefixList, Li
 fn ports_of(alloc: Global, alias: &AliasMembers<'_>) -> Result<PortList, ListFault>
     ensures { Gives result (items_in the.TargetPortRange 16 range_of (found alias.now.ports)) }
 {
-    let mut ports = List::new(alloc);
     let Some(value) = alias.ports else {
-        return Ok(ports);
+        return Ok(List::new(alloc));
     };
     let Some(items) = few_items(value, MAX_TARGETS) else {
         return Err(ListFault::Invalid(Member::TargetPortRange));
     };
+    let mut ports = List::new(alloc);
     for item in items {
         ports.push(range_of(item)?)?;
     }
@@ -99,13 +99,13 @@ fn ports_of(alloc: Global, alias: &AliasMembers<'_>) -> Result<PortList, ListFau
 fn protocols_of(alloc: Global, alias: &AliasMembers<'_>) -> Result<ByteList, ListFault>
     ensures { Gives result (items_in the.TargetProtocol 16 (protocol_of the.TargetProtocol) (found alias.now.protocols)) }
 {
-    let mut protocols = Bytes::new(alloc);
     let Some(value) = alias.protocols else {
-        return Ok(protocols);
+        return Ok(Bytes::new(alloc));
     };
     let Some(items) = few_items(value, MAX_TARGETS) else {
         return Err(ListFault::Invalid(Member::TargetProtocol));
     };
+    let mut protocols = Bytes::new(alloc);
     for item in items {
         protocols.push(protocol_of(Member::TargetProtocol, item)?)?;
     }
@@ -116,13 +116,13 @@ fn protocols_of(alloc: Global, alias: &AliasMembers<'_>) -> Result<ByteList, Lis
 fn names_of(alloc: Global, alias: &AliasMembers<'_>) -> Result<NameList, ListFault>
     ensures { Gives result (items_in the.TargetFqdn 8 (name_of the.TargetFqdn) (found alias.now.names)) }
 {
-    let mut names = List::new(alloc);
     let Some(value) = alias.names else {
-        return Ok(names);
+        return Ok(List::new(alloc));
     };
     let Some(items) = few_items(value, MAX_NAMES) else {
         return Err(ListFault::Invalid(Member::TargetFqdn));
     };
+    let mut names = List::new(alloc);
     for item in items {
         names.push(name_of(alloc, Member::TargetFqdn, item)?)?;
     }

@@ -110,13 +110,13 @@ fn entry_of(alloc: Global, family: Family, value: &Value) -> Result<Ace, ListFau
 fn own_entries(alloc: Global, family: Family, aces: &Value) -> Result<AceList, ListFault>
     ensures { Gives result (items_in the.Ace 32 (entry_of family) (get (codes "ace") (view aces.now))) }
 {
-    let mut entries = List::new(alloc);
     let Some(value) = aces.get("ace") else {
-        return Ok(entries);
+        return Ok(List::new(alloc));
     };
     let Some(items) = few_items(value, MAX_ENTRIES) else {
         return Err(ListFault::Invalid(Member::Ace));
     };
+    let mut entries = List::new(alloc);
     for item in items {
         match entry_of(alloc, family, item) {
             Ok(entry) => entries.push(entry)?,
