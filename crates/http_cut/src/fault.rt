@@ -2,7 +2,7 @@ use std::error::Error;
 use std::fmt;
 
 /// Why a stream is refused. Its connection is closed behind the reply.
-#[derive(Clone, Copy, Debug, PartialEq, Eq)]
+#[derive(Clone, Copy, Debug)]
 pub enum HttpFault {
     /// The bytes begin with no head of at most 8,192 bytes, or the head has two Content-Length fields or one that isn't
     /// 1 to 10 digits (RFC 9112, sections 2.2 and 6.3): status 400.

@@ -1,7 +1,7 @@
 use crate::fault::HttpFault;
 
 /// How a stream goes on behind the requests that were taken from it.
-#[derive(Clone, Copy, Debug, PartialEq, Eq)]
+#[derive(Clone, Copy)]
 pub enum StreamEnd {
     /// More bytes are waited for.
     Waits,

@@ -41,7 +41,7 @@ fn are_puts(requests: &[OwnedRequest]) -> bool {
 /// Whether the requests in these pieces are the PUT of a client and that of its alias, and more is waited for.
 fn gives_puts(alloc: Global, stream: &mut Stream, room: &mut HeadRoom, pieces: &[&[u8]]) -> bool {
     let taken = take_requests(alloc, stream, room, pieces);
-    taken.end == Ok(StreamEnd::Waits) && are_puts(taken.requests.items())
+    matches!(taken.end, Ok(StreamEnd::Waits)) && are_puts(taken.requests.items())
 }
 
 fn are_puts_in(alloc: Global, room: &mut HeadRoom, pieces: &[&[u8]]) -> Result<bool, NoMemory> {
