@@ -1,8 +1,8 @@
 ghost use Rattle.std.specs.Prelude.{◌≡◌};
 ghost use Rattle.file_checks.specs.declared.checked.Unchecked.TheVariants as unchecked;
 
-use dots_lists::{Bytes, NoMemory};
-use std::alloc::{AllocError, AllocFailed};
+use dots_lists::Bytes;
+use std::alloc::AllocError;
 
 /// What is told of a file, its lines.
 #[derive(Drop)]
@@ -22,26 +22,10 @@ pub enum Unchecked {
     NoMemory,
 }
 
-impl From<NoMemory> for Unchecked {
-    ghost from_gives = { λ _ made. made ≡ unchecked.NoMemory };
-
-    fn from(_: NoMemory) -> Self {
-        Unchecked::NoMemory
-    }
-}
-
 impl From<AllocError> for Unchecked {
     ghost from_gives = { λ _ made. made ≡ unchecked.NoMemory };
 
     fn from(_: AllocError) -> Self {
-        Unchecked::NoMemory
-    }
-}
-
-impl<T: Drop> From<AllocFailed<T>> for Unchecked {
-    ghost from_gives = { λ _ made. made ≡ unchecked.NoMemory };
-
-    fn from(_: AllocFailed<T>) -> Self {
         Unchecked::NoMemory
     }
 }

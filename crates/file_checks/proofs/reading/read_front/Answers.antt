@@ -1,6 +1,5 @@
-use Rattle.std.proofs.Common.{◌≡◌, [], length, arith, append-nil, vec_len}
+use Rattle.std.proofs.Common.{◌≡◌, [], length, sym, arith, append-nil, vec_len}
 use Rattle.std.proofs.KnownBytes.{Consumes-trans}
-use Rattle.std.proofs.lemmas.Grind.{common_steps}
 use Rattle.dots_settings.proofs.Bytes.{read_to_end, read_enough}
 use Rattle.file_checks.proofs.Wholes.{read_whole}
 use Rattle.file_checks.proofs.reading.read_front.Goals as goal
@@ -9,12 +8,12 @@ pub returns-then-count-eq0-clause-bytes : goal.returns-then-count-eq0-clause-byt
 returns-then-count-eq0-clause-bytes g c =
     let none = rw c.if-count-eq0.true at c.in-Ok.ensures.bytes.0 in
     let all = rw append-nil at (Consumes-trans _ _ _ c.loop-block.bytes.items [] c.loop-block.invariant.read none) in
-    let size : length c.loop-block.bytes.items ≡ vec_len c.loop-block.bytes = grind (arith, common_steps) in
+    let size : length c.loop-block.bytes.items ≡ vec_len c.loop-block.bytes = sym c.loop-block.bytes.ok.0 in
     read_to_end _ _ c.loop-block.bytes.items c.args.most all (c.in-Ok.ensures.bytes.1 c.if-count-eq0.true (omega arith)) (omega (arith, c.len.ensures, size))
 
 pub returns-clause-bytes : goal.returns-clause-bytes
 returns-clause-bytes g c =
-    let size : length c.loop-block.bytes.items ≡ vec_len c.loop-block.bytes = grind (arith, common_steps) in
+    let size : length c.loop-block.bytes.items ≡ vec_len c.loop-block.bytes = sym c.loop-block.bytes.ok.0 in
     rw c.truncate.ensures.items (read_enough _ _ c.loop-block.bytes.items c.args.most c.loop-block.invariant.read (omega (arith, c.len.ensures, size)))
 
 pub returns-then-count-eq0-clause-whole : goal.returns-then-count-eq0-clause-whole
