@@ -1,21 +1,28 @@
 -- What is spelled is read.
 use Rattle.std.proofs.Common.{◌≡◌, ℕ, zero, suc, ◌+◌, ◌*◌, ◌-◌, ◌/◌, ◌%◌, ◌<◌, ◌≤◌, true, false, List, [], ◌∷◌, ◌++◌, length, Option, Ok, refl, sym, ap, ◌∙◌, arith, append_assoc}
 use Rattle.std.specs.Prelude.{◌==◌}
+use Rattle.std.specs.Int.{Width, byte_len, from_be_bytes}
 use Rattle.std.proofs.lemmas.Bool.{lt-ltb, le-ltb, ne_eqb, eq-eqb, and_from}
 use Rattle.std.proofs.lemmas.List.{take_at, drop_at, length-append}
 use Rattle.std.proofs.lemmas.Str.{is_utf8-from_IsUtf8}
-use Rattle.cbor_profile.specs.declared.head.Major.{Major}
-use Rattle.cbor_profile.specs.declared.head.Major.TheVariants as major_type
+use Rattle.cbor_items.specs.declared.major.Major.{Major}
+use Rattle.cbor_items.specs.declared.major.Major.TheVariants as major_type
 use Rattle.cbor_profile.specs.declared.head.Start.TheVariants as start
-use Rattle.cbor_profile.specs.Parts.{number_of}
-use Rattle.cbor_profile.specs.Tree.{Tree, unsigned, negative, byte_string, text, array, mapping, tag, boolean, null, Trees, no_items, item, items_of, count}
+use Rattle.cbor_items.specs.Parts.{number_of}
+use Rattle.cbor_items.specs.Tree.{Tree, unsigned, negative, byte_string, text, array, mapping, tag, boolean, null, Trees, no_items, item, items_of, count}
 use Rattle.cbor_profile.specs.Spelling.{width, begin, break, IsArgument, itself, follows, IsHead, Fits, AreParts, SpellsString, SpellsItems, SpellsPairs, SpellsPlain}
-use Rattle.cbor_profile.specs.Reading.{parts_of, Read, ◌>>=◌, argument_at, content_at, checked, string_at, is_part, parts_at, items_at, open_items_at, pair_at, pairs_at, open_pairs_at, value_at, indefinite_at, item_at, start_of, start_with, has_key, put, begun_at}
-use Rattle.cbor_profile.proofs.Heads.{number_reads}
+use Rattle.cbor_items.specs.Keys.{has_key, put}
+use Rattle.cbor_profile.specs.Reading.{parts_of, Read, ◌>>=◌, number_at, argument_at, content_at, checked, string_at, is_part, parts_at, items_at, open_items_at, pair_at, pairs_at, open_pairs_at, value_at, indefinite_at, item_at, start_of, start_with, begun_at}
 use Rattle.cbor_profile.proofs.Firsts.{HasArgument, start_at, item_begins, value_begins, open_begins, info_small, Starts, Starts-append}
 use Rattle.cbor_profile.proofs.Ordered.{Runs}
 
 -- ---- heads and strings
+
+-- a number of so many bytes, which stand in front
+number_reads : (end : ℕ) (w : Width) (bytes rest : List ℕ) → length bytes ≡ byte_len w → number_at end w (bytes ++ rest) ≡ Ok (from_be_bytes w bytes, rest)
+number_reads end w bytes rest len =
+    let long = le-ltb (length (bytes ++ rest)) (byte_len w) (omega (arith, length-append bytes rest)) in
+    rw (long, take_at bytes rest (byte_len w) len, drop_at bytes rest (byte_len w) len) refl
 
 pub argument_again : (end info n : ℕ) (following rest : List ℕ) → IsArgument info n following → argument_at end info (following ++ rest) ≡ Ok (n, rest)
 unfolding argument_at

@@ -1,32 +1,26 @@
 -- The keys of pairs, as items and by the order of their encodings.
-use Rattle.std.proofs.Common.{◌≡◌, ℕ, Bool, true, false, cond, List, [], ◌∷◌, ◌++◌, refl, sym, ap, subst, ◌∙◌, inl, inr}
+use Rattle.std.proofs.Common.{◌≡◌, ℕ, true, false, cond, List, [], ◌∷◌, ◌++◌, refl, sym, ap, subst, ◌∙◌, inl, inr}
 use Rattle.std.specs.Prelude.{◌⊎◌, IsPermutation}
 use Rattle.std.specs.List.{AllByRecursion}
 use Rattle.std.specs.declared.cmp.Ordering.{Ordering}
 use Rattle.std.specs.declared.cmp.Ordering.TheVariants.{Less, Equal, Greater}
-use Rattle.std.specs.Ordering.{nat_cmp, is_eq}
-use Rattle.std.specs.Cmp.Lexicographic.{slice_cmp}
+use Rattle.std.specs.Ordering.{is_eq}
 use Rattle.std.proofs.lemmas.Bool.{cases_Bool}
-use Rattle.std.proofs.lemmas.Map.Text.{is_eq-slice_cmp}
-use Rattle.std.proofs.lemmas.Slice.Eq.{bytes_eq-Decides}
 use Rattle.std.proofs.lemmas.List.Elements.{All-from_recursion, recursion_from_All}
 use Rattle.std.proofs.lemmas.List.Sorted.{All-permutation, IsPermutation-sym}
-use Rattle.cbor_profile.specs.Tree.{Tree}
-use Rattle.cbor_profile.specs.Canon.{canon}
-use Rattle.cbor_profile.specs.Valid.{IsSound}
+use Rattle.cbor_items.specs.Tree.{Tree}
+use Rattle.cbor_items.specs.Canon.{canon}
+use Rattle.cbor_items.specs.Valid.{IsSound}
 use Rattle.cbor_profile.specs.Breaking.{HasKey, AreDistinct}
-use Rattle.cbor_profile.specs.Reading.{key_order, has_key, put}
-use Rattle.cbor_profile.proofs.Ordered.{order_self, put_permutes, Runs}
+use Rattle.cbor_items.specs.Keys.{key_order, has_key, put}
+use Rattle.cbor_items.proofs.Compared.{same_from_order}
+use Rattle.cbor_items.proofs.KeyOrder.{order_self}
+use Rattle.cbor_items.proofs.Places.{KeySound, or_true}
+use Rattle.cbor_profile.proofs.Ordered.{put_permutes, Runs}
 use Rattle.cbor_profile.proofs.Spellings.{one_spelling}
-
-pub same_from_order : (a b : List ℕ) → slice_cmp nat_cmp a b ≡ Equal → a ≡ b
-same_from_order a b e = (bytes_eq-Decides a b).0 (sym (is_eq-slice_cmp a b) ∙ ap is_eq e)
 
 pub same_key : (a b : Tree) → IsSound a → IsSound b → key_order a b ≡ Equal → a ≡ b
 same_key a b f g e = (one_spelling a b [] [] f g (ap (λ (l : List ℕ). l ++ []) (same_from_order (canon a) (canon b) e))).0
-
-abbrev pub KeySound : Tree × Tree → Type 0
-KeySound p = IsSound p.0
 
 -- ---- which keys there are
 
@@ -64,10 +58,6 @@ false_true e = cc
 pub has_true_key : (ps : List (Tree × Tree)) (k : Tree) → AllByRecursion KeySound ps → IsSound k → has_key k ps ≡ true → HasKey ps k
 has_true_key [] k all sound e = absurd (false_true e)
 has_true_key (p ∷ ps) k all sound e = has_step (key_order p.0 k) p.0 k ps refl all.0 sound e (has_true_key ps k all.1 sound)
-
-pub or_true : (b c : Bool) → c ≡ true → cond b true c ≡ true
-or_true true c e = refl
-or_true false c e = e
 
 pub key_has_true : (ps : List (Tree × Tree)) (k : Tree) → HasKey ps k → has_key k ps ≡ true
 key_has_true [] k is = absurd is

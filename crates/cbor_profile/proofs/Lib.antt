@@ -1,12 +1,9 @@
 pub mod Again
-pub mod AtEncodings
 pub mod Beginnings
 pub mod Broken
-pub mod Compared
 pub mod Decoded
 pub mod Faults
 pub mod Firsts
-pub mod Heads
 pub mod Inside
 pub mod Keys
 pub mod Levels
@@ -17,7 +14,6 @@ pub mod Ordered
 pub mod Paired
 pub mod PartFaults
 pub mod Parts
-pub mod Places
 pub mod Readings
 pub mod Refusals
 pub mod Refused
@@ -28,5 +24,3 @@ pub mod Spelled
 pub mod Spellings
 pub mod Taken
 pub mod Texts
-pub mod Views
-pub mod Written

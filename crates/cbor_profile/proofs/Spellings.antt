@@ -1,16 +1,15 @@
--- The deterministic encoding is a spelling, and no encoding is the front of another.
-use Rattle.std.proofs.Common.{◌≡◌, ℕ, zero, suc, ◌+◌, ◌^◌, ◌<◌, ◌≤◌, List, [], ◌∷◌, ◌++◌, length, refl, sym, ap, ◌∙◌, inl, inr, append_assoc, arith, true, false}
+-- The deterministic encoding is a spelling, and of one item.
+use Rattle.std.proofs.Common.{◌≡◌, ℕ, zero, suc, ◌+◌, ◌^◌, ◌<◌, ◌≤◌, List, [], ◌∷◌, ◌++◌, length, refl, sym, ap, ◌∙◌, inl, inr, arith, true, false}
 use Rattle.std.proofs.lemmas.Nat.{from_be_bytes-to_be_bytes_2, from_be_bytes-to_be_bytes_4, from_be_bytes-to_be_bytes_8}
 use Rattle.std.proofs.lemmas.List.Sorted.{IsPermutation-refl}
-use Rattle.cbor_profile.specs.Tree.{Tree, unsigned, negative, byte_string, text, array, mapping, tag, boolean, null, Trees, no_items, item, Pairs, no_pairs, pair, count, pair_count, pairs_of}
-use Rattle.cbor_profile.specs.Head.{head, information, following}
-use Rattle.cbor_profile.specs.Canon.{canon, canon_items, canon_pairs}
-use Rattle.cbor_profile.specs.Parts.{number_of, major, argument, content}
-use Rattle.cbor_profile.specs.Valid.{IsSound, AreSound, ArePairsSound, depth, items_depth, pairs_depth}
+use Rattle.cbor_items.specs.Tree.{Tree, unsigned, negative, byte_string, text, array, mapping, tag, boolean, null, Trees, no_items, item, Pairs, no_pairs, pair, count, pair_count, pairs_of}
+use Rattle.cbor_items.specs.Head.{head, information, following}
+use Rattle.cbor_items.specs.Canon.{canon, canon_items, canon_pairs}
+use Rattle.cbor_items.specs.Valid.{IsSound, AreSound, ArePairsSound, depth, items_depth, pairs_depth}
 use Rattle.cbor_profile.specs.Spelling.{IsArgument, itself, follows, IsHead, Fits, SpellsString, Holds, SpellsItems, SpellsPairs, SpellsPlain, SpellsNest, SpellsWithin}
 use Rattle.cbor_profile.specs.Reading.{item_at}
 use Rattle.cbor_profile.proofs.Results.{ok_is}
-use Rattle.cbor_profile.proofs.Heads.{Size, none, one, two, four, eight, size_of}
+use Rattle.cbor_items.proofs.Heads.{Size, none, one, two, four, eight, size_of}
 use Rattle.cbor_profile.proofs.Nested.{within_again}
 
 argument_spells : (n info : ℕ) (bytes : List ℕ) → n < 2 ^ 64 → Size n info bytes → IsArgument info n bytes
@@ -104,28 +103,3 @@ one_spelling a b x y f g e =
     let there = within_again levels 0 (canon b) b y (canon_spells b levels g (omega arith)) in
     let both = ok_is (a, x) (b, y) (sym here ∙ ap (item_at levels 0) e ∙ there) in
     (ap (λ (p : Tree × List ℕ). p.0) both, ap (λ (p : Tree × List ℕ). p.1) both)
-
-pub argument_fits : (t : Tree) → IsSound t → argument t < 2 ^ 64
-argument_fits (unsigned n) h = h
-argument_fits (negative n) h = h
-argument_fits (byte_string bytes) h = h
-argument_fits (text bytes) h = h.0
-argument_fits (array ts) h = h.0
-argument_fits (mapping ps) h = h.0
-argument_fits (tag n t) h = h.0
-argument_fits (boolean true) h = omega arith
-argument_fits (boolean false) h = omega arith
-argument_fits null h = omega arith
-
--- an encoding in its parts, whatever follows
-pub in_parts : (t : Tree) (rest : List ℕ) → canon t ++ rest ≡ head (number_of (major t)) (argument t) ++ (content t ++ rest)
-in_parts (unsigned n) rest = refl
-in_parts (negative n) rest = refl
-in_parts (byte_string bytes) rest = append_assoc (head 2 (length bytes)) bytes rest
-in_parts (text bytes) rest = append_assoc (head 3 (length bytes)) bytes rest
-in_parts (array ts) rest = append_assoc (head 4 (count ts)) (canon_items ts) rest
-in_parts (mapping ps) rest = append_assoc (head 5 (pair_count ps)) (canon_pairs ps) rest
-in_parts (tag n t) rest = append_assoc (head 6 n) (canon t) rest
-in_parts (boolean true) rest = refl
-in_parts (boolean false) rest = refl
-in_parts null rest = refl

@@ -1,13 +1,5 @@
 pub mod Breaking
-pub mod Canon
 pub mod FaultText
-pub mod Gathering
-pub mod Head
-pub mod Kind
-pub mod Parts
 pub mod Reading
 pub mod Spelling
-pub mod Tree
-pub mod Valid
-pub mod View
 pub mod Within

@@ -3,19 +3,19 @@
 use Rattle.std.specs.Prelude.{◌≡◌, ℕ, zero, suc, ◌-◌, ◌/◌, ◌%◌, Bool, true, false, not, ◌&&◌, List, [], ◌∷◌, ◌++◌, length, take, drop, Option, Some, None, Result, Ok, Err, nat_lt, nat_le, ◌==◌, if◌then◌else◌}
 use Rattle.std.specs.Int.{Width, byte_len, from_be_bytes}
 use Rattle.std.specs.Str.{is_utf8}
-use Rattle.std.specs.Ordering.{nat_cmp, is_lt, is_eq}
-use Rattle.std.specs.declared.cmp.Ordering.{Ordering}
-use Rattle.std.specs.Cmp.Lexicographic.{slice_cmp}
+use Rattle.std.specs.Borrow.{Bor}
 use Rattle.cbor_profile.specs.declared.fault.CborFault.{CborFault}
 use Rattle.cbor_profile.specs.declared.fault.CborFault.TheVariants.{Short, Reserved, NotUtf8, Duplicate, Unsupported, Deep, Trailing, NoMemory}
-use Rattle.cbor_profile.specs.declared.head.Major.{Major}
-use Rattle.cbor_profile.specs.declared.head.Major.TheVariants as major_type
+use Rattle.cbor_items.specs.declared.major.Major.{Major}
+use Rattle.cbor_items.specs.declared.major.Major.TheVariants as major_type
 use Rattle.cbor_profile.specs.declared.head.Start.{Start}
 use Rattle.cbor_profile.specs.declared.head.Start.TheVariants as start
-use Rattle.cbor_profile.specs.Tree.{Tree, unsigned, negative, byte_string, text, array, mapping, tag, boolean, null, items_of, pairs_of}
-use Rattle.cbor_profile.specs.Canon.{canon}
+use Rattle.cbor_items.specs.Tree.{Tree, unsigned, negative, byte_string, text, array, mapping, tag, boolean, null, items_of, pairs_of}
+use Rattle.cbor_items.specs.Keys.{has_key, put}
+use Rattle.cbor_items.specs.View.{tree_of}
+use Rattle.cbor_items.specs.declared.item.Item.{Item}
 use Rattle.cbor_profile.specs.Spelling.{width, break}
-use Rattle.cbor_profile.specs.Parts.{number_of}
+use Rattle.cbor_items.specs.Parts.{number_of}
 
 infixl 10 ◌>>=◌
 abbrev pub ◌>>=◌ : {A B : Type 0} → Result A CborFault → (A → Result B CborFault) → Result B CborFault
@@ -34,6 +34,10 @@ Gives view (Err e) read = Fails e read
 -- what is read, and the bytes behind it
 abbrev pub Read : Type 0 → Type 0
 Read A = Result (A × List ℕ) CborFault
+
+-- an item that was read as its tree, with the bytes behind it
+abbrev pub item_read : Item × Bor (List ℕ) → Tree × List ℕ
+item_read read = (tree_of read.0, read.1.now)
 
 -- ---- heads
 
@@ -126,18 +130,6 @@ open_items_at read (suc fuel) end (first ∷ bytes) =
     if first == break then Ok ([], bytes)
     else read (first ∷ bytes) >>= λ item.
     open_items_at read fuel end item.1 >>= λ others. Ok (item.0 ∷ others.0, others.1)
-
-abbrev pub key_order : Tree → Tree → Ordering
-key_order a b = slice_cmp nat_cmp (canon a) (canon b)
-
-abbrev pub has_key : Tree → List (Tree × Tree) → Bool
-has_key key [] = false
-has_key key (p ∷ ps) = if is_eq (key_order p.0 key) then true else has_key key ps
-
--- a pair in front of the first greater key
-abbrev pub put : Tree → Tree → List (Tree × Tree) → List (Tree × Tree)
-put key value [] = (key, value) ∷ []
-put key value (p ∷ ps) = if is_lt (key_order p.0 key) then p ∷ put key value ps else (key, value) ∷ p ∷ ps
 
 -- the pairs in order, with the next key and its value
 unfoldable pub pair_at : (List ℕ → Read Tree) → ℕ → List (Tree × Tree) → List ℕ → Read (List (Tree × Tree))

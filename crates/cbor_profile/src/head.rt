@@ -1,57 +1,12 @@
 //! What the first byte of an item says (RFC 8949, section 3).
 
-ghost use Rattle.std.specs.Prelude.{◌≡◌, ◌<◌, ◌/◌, IsTrue};
-ghost use Rattle.cbor_profile.specs.Parts.{number_of};
+ghost use Rattle.std.specs.Prelude.{◌≡◌, ◌/◌};
 ghost use Rattle.cbor_profile.specs.Reading.{major_of, simple_start, sized_start, start_with, start_of};
+
+use cbor_items::Major;
 
 /// The first byte of an indefinite length's end (section 3.2.1).
 pub(crate) const BREAK: u8 = 0xff;
-
-/// The major type of an item (section 3.1).
-#[derive(Clone, Copy)]
-pub(crate) enum Major {
-    Unsigned,
-    Negative,
-    Bytes,
-    Text,
-    Array,
-    Map,
-    Tag,
-    Simple,
-}
-
-impl Major {
-    fn of_number(number: u8) -> Self
-        ensures { result ≡ major_of number }
-    {
-        match number {
-            0 => Major::Unsigned,
-            1 => Major::Negative,
-            2 => Major::Bytes,
-            3 => Major::Text,
-            4 => Major::Array,
-            5 => Major::Map,
-            6 => Major::Tag,
-            _ => Major::Simple,
-        }
-    }
-
-    pub(crate) fn number(self) -> u8
-        ensures value { result ≡ number_of self }
-        ensures below { result < 8 }
-    {
-        match self {
-            Major::Unsigned => 0,
-            Major::Negative => 1,
-            Major::Bytes => 2,
-            Major::Text => 3,
-            Major::Array => 4,
-            Major::Map => 5,
-            Major::Tag => 6,
-            Major::Simple => 7,
-        }
-    }
-}
 
 /// What an item begins with.
 #[derive(Clone, Copy)]
@@ -70,8 +25,23 @@ pub(crate) enum Start {
 pub(crate) fn start_of(first: u8) -> Start
     ensures { result ≡ start_of first }
 {
-    let major = Major::of_number(first / 32);
-    start_with(major, first % 32)
+    start_with(major_of(first / 32), first % 32)
+}
+
+/// The major type of this number.
+fn major_of(number: u8) -> Major
+    ensures { result ≡ major_of number }
+{
+    match number {
+        0 => Major::Unsigned,
+        1 => Major::Negative,
+        2 => Major::Bytes,
+        3 => Major::Text,
+        4 => Major::Array,
+        5 => Major::Map,
+        6 => Major::Tag,
+        _ => Major::Simple,
+    }
 }
 
 #[tactic(auto, unfolding(crate::specs::Reading::start_with))]

@@ -1,14 +1,13 @@
 //! Whether an item is valid.
 
 ghost use Rattle.std.specs.Prelude.{◌<◌, ◌^◌, ◌↔◌, [], length, IsTrue, IsUtf8, IfSome, map};
-ghost use Rattle.cbor_profile.specs.Canon.{canon};
-ghost use Rattle.cbor_profile.specs.Valid.{IsValid, IsSound, IsBefore};
-ghost use Rattle.cbor_profile.specs.View.{tree_of, items_of, pairs_of};
+ghost use Rattle.cbor_items.specs.Canon.{canon};
+ghost use Rattle.cbor_items.specs.Valid.{IsValid, IsSound, IsBefore};
+ghost use Rattle.cbor_items.specs.View.{tree_of, items_of, pairs_of};
 ghost use Rattle.cbor_profile.specs.Within.{IsWithin, AreWithin, ArePairsWithin, canon_of};
 
-use crate::item::Item;
-use crate::order::compare;
 use crate::reading::MAX_DEPTH;
+use cbor_items::{Item, compare};
 use dots_lists::{Bytes, Text};
 
 /// Whether the arrays and maps of the item nest at most [`MAX_DEPTH`] deep, and the keys of each map rise in
@@ -28,8 +27,8 @@ fn is_within(item: &Item, levels: u8) -> bool
         Item::Unsigned(number) | Item::Negative(number) => is_sound_number(*number),
         Item::Bytes(bytes) => is_sound_string(bytes),
         Item::Text(text) => is_sound_text(text),
-        Item::Array(list) => levels > 0 && are_within(list.items.as_slice(), levels - 1),
-        Item::Map(list) => levels > 0 && are_pairs_within(list.items.as_slice(), levels - 1),
+        Item::Array(list) => levels > 0 && are_within(list.items(), levels - 1),
+        Item::Map(list) => levels > 0 && are_pairs_within(list.items(), levels - 1),
         Item::Tag(number, inner) => {
             is_sound_number(*number) && levels > 0 && is_within(inner, levels - 1)
         }

@@ -1,7 +1,7 @@
 -- The replies: messages with the Message ID and the token of the request (RFC 7252, section 5.2; RFC 9132, section 4.4).
 use Rattle.std.specs.Prelude.{ℕ, ◌/◌, ◌%◌, Bool, true, false, List, [], ◌∷◌, ◌++◌, codes, map, Option}
-use Rattle.cbor_profile.specs.Canon.{canon}
-use Rattle.cbor_profile.specs.Tree.{Tree, unsigned}
+use Rattle.cbor_items.specs.Canon.{canon}
+use Rattle.cbor_items.specs.Tree.{Tree, unsigned}
 use Rattle.coap_message.specs.declared.codes.TheConstants.{EMPTY, CREATED, DELETED, CHANGED, CONTENT, BAD_REQUEST, NOT_FOUND, CONFLICT, INTERNAL_SERVER_ERROR, NOT_IMPLEMENTED, SERVICE_UNAVAILABLE}
 use Rattle.coap_message.specs.declared.option_numbers.TheConstants.{CONTENT_FORMAT}
 use Rattle.coap_message.specs.declared.TheConstants.{DOTS_CBOR}

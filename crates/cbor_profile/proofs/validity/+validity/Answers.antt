@@ -1,8 +1,8 @@
 use Rattle.std.proofs.Common.{true≢false, refl, sym, arith}
 use Rattle.cbor_profile.specs.Within.{canon_of}
-use Rattle.cbor_profile.specs.View.{tree_of}
+use Rattle.cbor_items.specs.View.{tree_of}
 use Rattle.cbor_profile.proofs.Levels.{array_within, within_array, map_within, within_map, within_at, items_on, pairs_on, pairs_left}
-use Rattle.cbor_profile.proofs.Views.{array_is, map_is, items_are, pairs_are}
+use Rattle.cbor_items.proofs.Views.{array_is, map_is}
 use Rattle.cbor_profile.proofs.validity.+validity.Goals as goal
 
 pub are_within-returns-then-not-is_within : goal.are_within-returns-then-not-is_within
@@ -13,17 +13,16 @@ are_within-returns-then-not-is_within t c = (
 
 pub is_within-returns-then-levels-gt0 : goal.is_within-returns-then-levels-gt0
 is_within-returns-then-levels-gt0 t c =
-    let is = array_is c.args.item.now c.in-Array.list c.as_slice.result.now c.in-Array.is (items_are c.in-Array.list c.as_slice.result.now c.as_slice.ensures.value) in (
-      λ yes. array_within c.args.levels (tree_of c.args.item.now) c.as_slice.result.now is c.if-levels-gt0.true (omega arith) (c.are_within.ensures.0 yes),
-      λ within. c.are_within.ensures.1 (within_array c.args.levels (tree_of c.args.item.now) c.as_slice.result.now is within),
+    let is = array_is c.args.item.now c.in-Array.list c.items.result.now c.in-Array.is c.items.ensures in (
+      λ yes. array_within c.args.levels (tree_of c.args.item.now) c.items.result.now is c.if-levels-gt0.true (omega arith) (c.are_within.ensures.0 yes),
+      λ within. c.are_within.ensures.1 (within_array c.args.levels (tree_of c.args.item.now) c.items.result.now is within),
     )
 
 pub is_within-returns-then-levels-gt0-2 : goal.is_within-returns-then-levels-gt0-2
 is_within-returns-then-levels-gt0-2 t c =
-    let is = map_is c.args.item.now c.in-Map.list c.as_slice-then-levels-gt0-2.result.now c.in-Map.is
-    (pairs_are c.in-Map.list c.as_slice-then-levels-gt0-2.result.now c.as_slice-then-levels-gt0-2.ensures.value) in (
-      λ yes. map_within c.args.levels (tree_of c.args.item.now) c.as_slice-then-levels-gt0-2.result.now is c.if-levels-gt0-2.true (omega arith) (c.are_pairs_within.ensures.0 yes),
-      λ within. c.are_pairs_within.ensures.1 (within_map c.args.levels (tree_of c.args.item.now) c.as_slice-then-levels-gt0-2.result.now is within),
+    let is = map_is c.args.item.now c.in-Map.list c.items-then-levels-gt0-2.result.now c.in-Map.is c.items-then-levels-gt0-2.ensures in (
+      λ yes. map_within c.args.levels (tree_of c.args.item.now) c.items-then-levels-gt0-2.result.now is c.if-levels-gt0-2.true (omega arith) (c.are_pairs_within.ensures.0 yes),
+      λ within. c.are_pairs_within.ensures.1 (within_map c.args.levels (tree_of c.args.item.now) c.items-then-levels-gt0-2.result.now is within),
     )
 
 pub are_within-loop-item-preserved : goal.are_within-loop-item-preserved

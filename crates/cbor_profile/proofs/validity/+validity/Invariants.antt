@@ -1,10 +1,20 @@
-use Rattle.std.proofs.Common.{[], drop}
+use Rattle.std.proofs.Common.{◌+◌, ◌*◌, [], drop}
 use Rattle.std.specs.Prelude.{IfSome}
-use Rattle.cbor_profile.specs.Valid.{IsSound}
-use Rattle.cbor_profile.specs.View.{tree_of}
+use Rattle.cbor_items.specs.Valid.{IsSound}
+use Rattle.cbor_items.specs.View.{tree_of}
 use Rattle.cbor_profile.specs.Within.{AreWithin, ArePairsWithin, canon_of}
-use Rattle.cbor_profile.proofs.Views.{items_view, pairs_view}
+use Rattle.cbor_items.proofs.Views.{items_view, pairs_view}
 use Rattle.cbor_profile.proofs.validity.+validity.Given as goal
+
+-- A part nests one level less.
+abbrev pub decreases-is_within : goal.decreases-is_within
+decreases-is_within l = 2 * l.levels
+
+abbrev pub decreases-are_within : goal.decreases-are_within
+decreases-are_within l = 2 * l.levels + 1
+
+abbrev pub decreases-are_pairs_within : goal.decreases-are_pairs_within
+decreases-are_pairs_within l = 2 * l.levels + 1
 
 abbrev pub invariant-are_within-loop-item : goal.invariant-are_within-loop-item
 invariant-are_within-loop-item l = AreWithin l.levels (items_view (drop l.item-index l.items)) → AreWithin l.levels (items_view l.items)
