@@ -54,20 +54,35 @@ fn prefix_bytes(prefix: Prefix) -> [u8; 18] {
 }
 
 /// One prefix and nothing else is asked for, and it is the one target.
-fn push_request(bytes: &mut Vec<u8>, word: &str) -> Result<(), Fail> {
-    let prefix = prefix_bytes(scope(word)?);
-    bytes.push(1)?;
-    bytes.extend_from_slice(&prefix)?;
-    bytes.extend_from_slice(&[0, 0, 0, 0, 1, 1])?;
-    bytes.extend_from_slice(&prefix)?;
-    bytes.extend_from_slice(&[0, 0])?;
+fn request_bytes(prefix: Prefix) -> [u8; 45] {
+    let prefix = prefix_bytes(prefix);
+    let mut bytes = [0; 45];
+    bytes[0] = 1;
+    bytes[1..19].copy_from_slice(&prefix);
+    bytes[23] = 1;
+    bytes[24] = 1;
+    bytes[25..43].copy_from_slice(&prefix);
+    bytes
+}
+
+fn push_bytes(bytes: &mut Vec<u8>, part: &[u8]) -> Result<(), Fail> {
+    bytes.extend_from_slice(part)?;
     Ok(())
 }
 
-fn push_word(alloc: Global, bytes: &mut Vec<u8>, word: &str) -> Result<(), Fail> {
-    let part = hex::decode(alloc, meaning(word))?;
-    bytes.extend_from_slice(part.as_slice())?;
-    Ok(())
+fn push_digits(alloc: Global, bytes: &mut Vec<u8>, digits: &str) -> Result<(), Fail> {
+    let part = hex::decode(alloc, digits)?;
+    push_bytes(bytes, part.as_slice())
+}
+
+fn push_word(alloc: Global, bytes: &mut Vec<u8>, second: u64, word: &str) -> Result<(), Fail> {
+    if word == "NOW" {
+        return push_bytes(bytes, &second.to_be_bytes());
+    }
+    if word.contains('/') {
+        return push_bytes(bytes, &request_bytes(scope(word)?));
+    }
+    push_digits(alloc, bytes, meaning(word))
 }
 
 /// The bytes of these words at a second.
@@ -78,13 +93,7 @@ pub fn push_words(
     words: &str,
 ) -> Result<(), Fail> {
     for word in words.split(' ') {
-        if word == "NOW" {
-            bytes.extend_from_slice(&second.to_be_bytes())?;
-        } else if word.contains('/') {
-            push_request(bytes, word)?;
-        } else {
-            push_word(alloc, bytes, word)?;
-        }
+        push_word(alloc, bytes, second, word)?;
     }
     Ok(())
 }

@@ -2,7 +2,8 @@
 
 use crate::entries::{push_entries, scope};
 use crate::packets::{letters, packets, v4};
-use crate::words::{NONE, digit, flag, number, tell_number};
+use crate::told::Told;
+use crate::words::{NONE, digit, flag, number};
 use acl_lists::{Acl, Alias, Packet, PrefixList, ace_matches};
 use dots_history::{
     Change, Entry, ends, fate_of_packet, held, is_live_after, is_within_bounds, list_rows,
@@ -80,94 +81,86 @@ fn matches(acl: &Acl, domain: &str, packet: Packet) -> Result<bool, Fail> {
 
 /// Whether the one entry of the list matches the packet, whether it does where the domain ends before its destination, and whether it
 /// matches one without ports.
-fn tell_matches_of(told: &mut Vec<u8>, acl: &Acl) -> Result<(), Fail> {
+fn tell_matches_of(told: &mut Told, acl: &Acl) -> Result<(), Fail> {
     for (domain, ports) in &[
         ("192.0.2.0/24", Some((123, 80))),
         ("192.0.2.0/26", Some((123, 80))),
         ("192.0.2.0/24", None),
     ] {
-        told.push(flag(matches(acl, domain, packet(*ports))?))?;
+        told.push(flag(matches(acl, domain, packet(*ports))?));
     }
     Ok(())
 }
 
-fn tell_matches(told: &mut Vec<u8>, entries: &[Entry]) -> Result<(), Fail> {
+fn tell_matches(told: &mut Told, entries: &[Entry]) -> Result<(), Fail> {
     match only(entries)? {
         Change::SetAcl(acl) => tell_matches_of(told, acl),
         _ => Err(Fail::from("a list")),
     }
 }
 
+/// How many there are of what is named, whatever the time.
+fn count_of(alloc: Global, what: &str, entries: &[Entry]) -> Result<u64, Fail> {
+    match what {
+        "held" => Ok(held(alloc, entries)?.len() as u64),
+        "lists" => Ok(list_rows(alloc, entries)?.len() as u64),
+        "copied" => copied(alloc, entries),
+        _ => Err(Fail::from("a question")),
+    }
+}
+
 /// Tells what is so whatever the time.
 fn tell_whole(
     alloc: Global,
-    told: &mut Vec<u8>,
+    told: &mut Told,
     settings: &Settings,
     what: &str,
     entries: &[Entry],
 ) -> Result<(), Fail> {
-    let letter = match what {
-        "ended" => flag(is_ended(entries)),
-        "bounded" => flag(is_bounded(entries)),
-        "calm" => flag(is_calm(settings, entries)),
-        "held" => digit(held(alloc, entries)?.len() as u64),
-        "lists" => digit(list_rows(alloc, entries)?.len() as u64),
-        "copied" => digit(copied(alloc, entries)?),
+    match what {
+        "ended" => told.push(flag(is_ended(entries))),
+        "bounded" => told.push(flag(is_bounded(entries))),
+        "calm" => told.push(flag(is_calm(settings, entries))),
         "matches" => return tell_matches(told, entries),
-        _ => return Err(Fail::from("a question")),
-    };
-    told.push(letter)?;
-    Ok(())
-}
-
-/// When the message of this number that peer 0 repeats for domain 0 came, where so many are remembered.
-fn tell_one(
-    alloc: Global,
-    told: &mut Vec<u8>,
-    count: usize,
-    t: u64,
-    id: u16,
-    entries: &[Entry],
-) -> Result<(), Fail> {
-    match remembered(count, t, 0, 0, id, entries) {
-        Some(entry) => tell_number(alloc, told, entry.time)?,
-        None => told.push(NONE)?,
+        _ => told.push(digit(count_of(alloc, what, entries)?)),
     }
     Ok(())
 }
 
+/// When the message of this number that peer 0 repeats for domain 0 came, where so many are remembered.
+fn tell_one(told: &mut Told, count: usize, t: u64, id: u16, entries: &[Entry]) {
+    match remembered(count, t, 0, 0, id, entries) {
+        Some(entry) => told.push_number(entry.time),
+        None => told.push(NONE),
+    }
+}
+
 /// The same where one is remembered, and where two are.
-fn tell_came(
-    alloc: Global,
-    told: &mut Vec<u8>,
-    t: u64,
-    id: u16,
-    entries: &[Entry],
-) -> Result<(), Fail> {
-    tell_one(alloc, told, 1, t, id, entries)?;
-    told.push(b' ')?;
-    tell_one(alloc, told, 2, t, id, entries)
+fn tell_came(told: &mut Told, t: u64, id: u16, entries: &[Entry]) {
+    tell_one(told, 1, t, id, entries);
+    told.push(b' ');
+    tell_one(told, 2, t, id, entries);
 }
 
 /// The places that the view names, with one message remembered.
-fn tell_kept(alloc: Global, told: &mut Vec<u8>, t: u64, entries: &[Entry]) -> Result<(), Fail> {
+fn tell_kept(alloc: Global, told: &mut Told, t: u64, entries: &[Entry]) -> Result<(), Fail> {
     let places = places_to_keep(alloc, 1, t, entries)?;
     for place in places.as_slice() {
-        told.push(digit(*place as u64))?;
+        told.push(digit(*place as u64));
     }
     Ok(())
 }
 
 fn tell_fates_in(
     alloc: Global,
-    told: &mut Vec<u8>,
+    told: &mut Told,
     t: u64,
     domains: &[PrefixList],
     entries: &[Entry],
 ) -> Result<(), Fail> {
     for packet in &packets() {
         let fate = fate_of_packet(alloc, domains, t, entries, packet)?;
-        told.extend_from_slice(&letters(fate))?;
+        told.extend(&letters(fate));
     }
     Ok(())
 }
@@ -180,37 +173,43 @@ fn prefixes(alloc: Global) -> Result<PrefixList, Fail> {
 }
 
 /// The fates of packets, where domain 0 has one prefix.
-fn tell_fates(alloc: Global, told: &mut Vec<u8>, t: u64, entries: &[Entry]) -> Result<(), Fail> {
+fn tell_fates(alloc: Global, told: &mut Told, t: u64, entries: &[Entry]) -> Result<(), Fail> {
     let domains = [prefixes(alloc)?];
     tell_fates_in(alloc, told, t, &domains, entries)
 }
 
-/// Tells what is so at a time, or the last signal entries for as many messages.
+/// How many there are of what is named at a time, or of the last signal entries for as many messages.
+fn count_at(alloc: Global, what: &str, t: u64, entries: &[Entry]) -> Result<u64, Fail> {
+    match what {
+        "mitigations" => Ok(mitigations(alloc, t, entries)?.len() as u64),
+        "rows" => Ok(scrub_rows(alloc, t, entries)?.len() as u64),
+        "recent" => Ok(recent(alloc, t as usize, entries)?.len() as u64),
+        _ => Err(Fail::from("a question")),
+    }
+}
+
+/// Tells what is so at a time.
 fn tell_at(
     alloc: Global,
-    told: &mut Vec<u8>,
+    told: &mut Told,
     what: &str,
     t: u64,
     entries: &[Entry],
 ) -> Result<(), Fail> {
-    let letter = match what {
-        "live" => flag(is_live(t, entries)),
-        "mitigations" => digit(mitigations(alloc, t, entries)?.len() as u64),
-        "rows" => digit(scrub_rows(alloc, t, entries)?.len() as u64),
-        "recent" => digit(recent(alloc, t as usize, entries)?.len() as u64),
+    match what {
+        "live" => told.push(flag(is_live(t, entries))),
+        "330" => tell_came(told, t, 330, entries),
+        "331" => tell_came(told, t, 331, entries),
         "kept" => return tell_kept(alloc, told, t, entries),
-        "330" => return tell_came(alloc, told, t, 330, entries),
-        "331" => return tell_came(alloc, told, t, 331, entries),
         "fates" => return tell_fates(alloc, told, t, entries),
-        _ => return Err(Fail::from("a question")),
-    };
-    told.push(letter)?;
+        _ => told.push(digit(count_at(alloc, what, t, entries)?)),
+    }
     Ok(())
 }
 
 fn tell(
     alloc: Global,
-    told: &mut Vec<u8>,
+    told: &mut Told,
     settings: &Settings,
     question: &str,
     entries: &[Entry],
@@ -223,7 +222,7 @@ fn tell(
 
 fn tell_after(
     alloc: Global,
-    told: &mut Vec<u8>,
+    told: &mut Told,
     settings: &Settings,
     entries: &mut List<Entry>,
     asked: &str,
@@ -236,7 +235,7 @@ fn tell_after(
 /// What is said of entries.
 pub fn tell_history(
     alloc: Global,
-    told: &mut Vec<u8>,
+    told: &mut Told,
     settings: &Settings,
     asked: &str,
 ) -> Result<(), Fail> {

@@ -3,7 +3,8 @@
 //! A live mitigation is read as the entry that put it; one of second 0 was withdrawn, and is terminating.
 
 use crate::entries::{entry, scope};
-use crate::words::{flag, number, tell_number, two};
+use crate::told::Told;
+use crate::words::{flag, number, two};
 use conflict_rules::{
     Judgement, Live, MidJudgement, Which, are_few, collides, judge_mid, judge_overlap,
 };
@@ -89,17 +90,18 @@ fn judged(by: &str, request: &Live, live: &[Live]) -> Result<(&'static str, u64)
 }
 
 /// What is judged of the last of these by the others.
-fn tell_last(alloc: Global, told: &mut Vec<u8>, by: &str, list: &[Live]) -> Result<(), Fail> {
+fn tell_last(told: &mut Told, by: &str, list: &[Live]) -> Result<(), Fail> {
     let [live @ .., request] = list else {
         return Err(Fail::from("a request"));
     };
     let (word, number) = judged(by, request, live)?;
-    told.extend_from_slice(word.as_bytes())?;
-    tell_number(alloc, told, number)
+    told.extend(word.as_bytes());
+    told.push_number(number);
+    Ok(())
 }
 
 /// The mitigation that an entry puts.
-fn live_of(entry: Entry) -> Option<Live> {
+fn live_of(entry: Entry) -> Result<Live, Fail> {
     let Entry {
         time,
         peer,
@@ -108,27 +110,23 @@ fn live_of(entry: Entry) -> Option<Live> {
         ..
     } = entry;
     match change {
-        Change::Put(put) => Some(Live {
+        Change::Put(put) => Ok(Live {
             peer,
             cuid,
             put,
             standing: time > 0,
         }),
-        _ => None,
-    }
-}
-
-fn mitigation(alloc: Global, text: &str) -> Result<Live, Fail> {
-    match live_of(entry(alloc, text)?) {
-        Some(live) => Ok(live),
-        None => Err(Fail::from("a mitigation")),
+        other => {
+            drop(other);
+            Err(Fail::from("a mitigation"))
+        }
     }
 }
 
 /// Puts the mitigations of a text behind others.
 fn push_mitigations(alloc: Global, live: &mut List<Live>, texts: &str) -> Result<(), Fail> {
     for text in texts.split("; ") {
-        live.push(mitigation(alloc, text)?)?;
+        live.push(live_of(entry(alloc, text)?)?)?;
     }
     Ok(())
 }
@@ -146,19 +144,19 @@ fn target(alloc: Global) -> Result<Target, Fail> {
 
 fn tell_few_of(
     alloc: Global,
-    told: &mut Vec<u8>,
+    told: &mut Told,
     targets: &mut TargetList,
     count: u64,
 ) -> Result<(), Fail> {
     for _ in 0..count {
         targets.push(target(alloc)?)?;
     }
-    told.push(flag(are_few(targets)))?;
+    told.push(flag(are_few(targets)));
     Ok(())
 }
 
 /// Whether so many targets of one prefix are few.
-fn tell_few(alloc: Global, told: &mut Vec<u8>, count: u64) -> Result<(), Fail> {
+fn tell_few(alloc: Global, told: &mut Told, count: u64) -> Result<(), Fail> {
     let mut targets = List::new(alloc);
     tell_few_of(alloc, told, &mut targets, count)
 }
@@ -166,22 +164,22 @@ fn tell_few(alloc: Global, told: &mut Vec<u8>, count: u64) -> Result<(), Fail> {
 /// What is judged of the last of these mitigations, where the others are live.
 fn tell_request(
     alloc: Global,
-    told: &mut Vec<u8>,
+    told: &mut Told,
     by: &str,
     list: &mut List<Live>,
     texts: &str,
 ) -> Result<(), Fail> {
     push_mitigations(alloc, list, texts)?;
-    tell_last(alloc, told, by, list.items())
+    tell_last(told, by, list.items())
 }
 
-fn tell_requested(alloc: Global, told: &mut Vec<u8>, by: &str, texts: &str) -> Result<(), Fail> {
+fn tell_requested(alloc: Global, told: &mut Told, by: &str, texts: &str) -> Result<(), Fail> {
     let mut list = List::new(alloc);
     tell_request(alloc, told, by, &mut list, texts)
 }
 
 /// What is judged of a request, or whether so many targets are few.
-pub fn tell_judged(alloc: Global, told: &mut Vec<u8>, asked: &str) -> Result<(), Fail> {
+pub fn tell_judged(alloc: Global, told: &mut Told, asked: &str) -> Result<(), Fail> {
     match asked.split_once(" ? ") {
         Some((count, "few")) => tell_few(alloc, told, number(count)?),
         Some((texts, by)) => tell_requested(alloc, told, by, texts),

@@ -47,4 +47,6 @@ mod taking;
 #[cfg(test)]
 mod texts;
 #[cfg(test)]
+mod told;
+#[cfg(test)]
 mod words;

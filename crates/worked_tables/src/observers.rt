@@ -5,6 +5,7 @@
 //! observer that is due is `notify`ed, with this Message ID, by which its token and the number are told, with 0 where it is gone, or two dashes where none is due.
 
 use crate::plain_views::PlainViews;
+use crate::told::Told;
 use crate::words::{NONE, byte, digit, small, three, two};
 use coap_message::Token;
 use coap_observe::{Notice, Observer, Observers};
@@ -34,13 +35,14 @@ fn registered(observers: &mut Observers, views: &PlainViews<'_>, observer: Obser
     if observers.holds(observer.peer, observer.domain) {
         digit(u64::from(observers.register(observer, views).unwrap_or(0)))
     } else {
+        drop(observer);
         b'!'
     }
 }
 
 fn register(
     alloc: Global,
-    told: &mut Vec<u8>,
+    told: &mut Told,
     observers: &mut Observers,
     views: &PlainViews<'_>,
     step: &str,
@@ -48,7 +50,7 @@ fn register(
     let (peer, domain, token) = three(step)?;
     let observer = observer(alloc, u32::from(peer), domain, byte(token)?)?;
     let number = registered(observers, views, observer);
-    told.extend_from_slice(&[b'r', number])?;
+    told.extend(&[b'r', number]);
     Ok(())
 }
 
@@ -100,19 +102,19 @@ fn notified(observers: &mut Observers, views: &PlainViews<'_>, id: u16) -> [u8; 
 }
 
 fn notify(
-    told: &mut Vec<u8>,
+    told: &mut Told,
     observers: &mut Observers,
     views: &PlainViews<'_>,
     step: &str,
 ) -> Result<(), Fail> {
     let id = small(step)?;
-    told.extend_from_slice(&notified(observers, views, id))?;
+    told.extend(&notified(observers, views, id));
     Ok(())
 }
 
 fn take(
     alloc: Global,
-    told: &mut Vec<u8>,
+    told: &mut Told,
     observers: &mut Observers,
     views: &mut PlainViews<'static>,
     step: &str,
@@ -130,7 +132,7 @@ fn take(
 
 fn take_all(
     alloc: Global,
-    told: &mut Vec<u8>,
+    told: &mut Told,
     observers: &mut Observers,
     steps: &str,
 ) -> Result<(), Fail> {
@@ -143,7 +145,7 @@ fn take_all(
 
 pub fn tell_observers(
     alloc: Global,
-    told: &mut Vec<u8>,
+    told: &mut Told,
     settings: &Settings,
     steps: &str,
 ) -> Result<(), Fail> {

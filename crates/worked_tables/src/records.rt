@@ -1,7 +1,8 @@
 //! What the records of entries are read as.
 
 use crate::entries::push_words;
-use crate::words::{flag, tell_number};
+use crate::told::Told;
+use crate::words::flag;
 use dots_history::{Entry, is_within_bounds};
 use entry_records::{EntryFault, MAX_RECORD, entry_of, record_into, record_len};
 use std::alloc::Global;
@@ -28,22 +29,18 @@ fn is_written(alloc: Global, bytes: &[u8]) -> Result<bool, EntryFault> {
 }
 
 /// Whether the entry of these bytes is written as it was read, or the place of the first fault behind the head.
-fn tell_read(alloc: Global, told: &mut Vec<u8>, bytes: &[u8]) -> Result<(), Fail> {
+fn tell_read(alloc: Global, told: &mut Told, bytes: &[u8]) -> Result<(), Fail> {
     match is_written(alloc, bytes) {
-        Ok(is_written) => {
-            told.push(flag(is_written))?;
-            Ok(())
-        }
-        Err(EntryFault::NotEntry { at }) if HEAD <= at => {
-            tell_number(alloc, told, (at - HEAD) as u64)
-        }
-        Err(_) => Err(Fail::from("a fault behind the head")),
+        Ok(is_written) => told.push(flag(is_written)),
+        Err(EntryFault::NotEntry { at }) if HEAD <= at => told.push_number((at - HEAD) as u64),
+        Err(_) => return Err(Fail::from("a fault behind the head")),
     }
+    Ok(())
 }
 
 fn tell_words(
     alloc: Global,
-    told: &mut Vec<u8>,
+    told: &mut Told,
     bytes: &mut Vec<u8>,
     words: &str,
 ) -> Result<(), Fail> {
@@ -52,7 +49,7 @@ fn tell_words(
 }
 
 /// The same of the bytes of these words.
-pub fn tell_record(alloc: Global, told: &mut Vec<u8>, words: &str) -> Result<(), Fail> {
+pub fn tell_record(alloc: Global, told: &mut Told, words: &str) -> Result<(), Fail> {
     let mut bytes = Vec::new(alloc);
     tell_words(alloc, told, &mut bytes, words)
 }

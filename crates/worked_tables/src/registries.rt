@@ -6,6 +6,7 @@ ghost use Rattle.dots_registry.specs.Standing.{StandsFor, IsOf, domains_of};
 
 use crate::packets::{letter, letters, packets};
 use crate::taking::take_all;
+use crate::told::Told;
 use crate::words::{NONE, digit, number, small};
 use acl_lists::{Acl, Alias, Asked};
 use dots_heads::MitigationPath;
@@ -35,20 +36,18 @@ fn client(word: &str) -> (u16, &'static [u8]) {
     }
 }
 
-fn tell_aliases(told: &mut Vec<u8>, aliases: &[Alias]) -> Result<(), Fail> {
+fn tell_aliases(told: &mut Told, aliases: &[Alias]) {
     for alias in aliases {
-        told.push(letter(&alias.name))?;
+        told.push(letter(&alias.name));
     }
-    told.push(b' ')?;
-    Ok(())
+    told.push(b' ');
 }
 
-fn tell_acls(told: &mut Vec<u8>, acls: &[Acl]) -> Result<(), Fail> {
+fn tell_acls(told: &mut Told, acls: &[Acl]) {
     for acl in acls {
-        told.push(letter(&acl.name))?;
+        told.push(letter(&acl.name));
     }
-    told.push(b' ')?;
-    Ok(())
+    told.push(b' ');
 }
 
 /// The number that is reached.
@@ -98,17 +97,17 @@ fn rooms(registry: &Registry, domain: u16, cuid: &[u8]) -> [u8; 4] {
 /// Who registered a client, its aliases and its access lists, which numbers are reached, and its alias `web` and its list `ok`.
 fn tell_held(
     alloc: Global,
-    told: &mut Vec<u8>,
+    told: &mut Told,
     registry: &Registry,
     word: &str,
 ) -> Result<(), Fail> {
     let (domain, cuid) = client(word);
-    told.extend_from_slice(&[registrant(registry, domain, cuid), b' '])?;
-    tell_aliases(told, registry.aliases(domain, cuid))?;
-    tell_acls(told, registry.acls(domain, cuid))?;
-    told.extend_from_slice(&rooms(registry, domain, cuid))?;
-    told.push(web(alloc, registry, domain, cuid)?)?;
-    told.push(ok(alloc, registry, domain, cuid)?)?;
+    told.extend(&[registrant(registry, domain, cuid), b' ']);
+    tell_aliases(told, registry.aliases(domain, cuid));
+    tell_acls(told, registry.acls(domain, cuid));
+    told.extend(&rooms(registry, domain, cuid));
+    told.push(web(alloc, registry, domain, cuid)?);
+    told.push(ok(alloc, registry, domain, cuid)?);
     Ok(())
 }
 
@@ -120,15 +119,15 @@ fn sid(registry: &Registry, peer: u32) -> u8 {
     }
 }
 
-fn tell_sid(told: &mut Vec<u8>, registry: &Registry, peer: &str) -> Result<(), Fail> {
+fn tell_sid(told: &mut Told, registry: &Registry, peer: &str) -> Result<(), Fail> {
     let peer = u32::from(small(peer)?);
-    told.push(sid(registry, peer))?;
+    told.push(sid(registry, peer));
     Ok(())
 }
 
 /// The fates of packets at a second.
 fn tell_fates(
-    told: &mut Vec<u8>,
+    told: &mut Told,
     registry: &mut Registry,
     settings: &Settings,
     second: &str,
@@ -138,7 +137,7 @@ fn tell_fates(
         registry.tick(now);
     }
     for packet in &packets() {
-        told.extend_from_slice(&letters(registry.filters().fate(packet, settings)))?;
+        told.extend(&letters(registry.filters().fate(packet, settings)));
     }
     Ok(())
 }
@@ -224,7 +223,7 @@ fn judge(alloc: Global, registry: &Registry, settings: &Settings, peer: u32) -> 
 
 fn tell_judged(
     alloc: Global,
-    told: &mut Vec<u8>,
+    told: &mut Told,
     registry: &Registry,
     settings: &Settings,
     peer: &str,
@@ -232,15 +231,14 @@ fn tell_judged(
     requires { IsOf settings.now registry.now }
 {
     let peer = u32::from(small(peer)?);
-    let letter = judge(alloc, registry, settings, peer)?;
-    told.push(letter)?;
+    told.push(judge(alloc, registry, settings, peer)?);
     Ok(())
 }
 
 /// Tells what is asked: `held` of a client, `sid` of a peer, `judge` for a peer, or the fates at a second.
 fn tell(
     alloc: Global,
-    told: &mut Vec<u8>,
+    told: &mut Told,
     registry: &mut Registry,
     settings: &Settings,
     question: &str,
@@ -258,7 +256,7 @@ fn tell(
 
 fn tell_after(
     alloc: Global,
-    told: &mut Vec<u8>,
+    told: &mut Told,
     registry: &mut Registry,
     settings: &Settings,
     entries: &str,
@@ -278,7 +276,7 @@ fn tell_after(
 /// What is told after these entries, or which of them fit.
 pub fn tell_registry(
     alloc: Global,
-    told: &mut Vec<u8>,
+    told: &mut Told,
     settings: &Settings,
     asked: &str,
 ) -> Result<(), Fail> {

@@ -5,6 +5,7 @@
 //! first becomes 0 and the second 1; and a peer of a domain may `look` for the reply to a Message ID at a second, of which the byte is
 //! told.
 
+use crate::told::Told;
 use crate::words::{NONE, byte, digit, first, four, two};
 use coap_exchange::Remembered;
 use dots_history::MessageKey;
@@ -48,7 +49,7 @@ fn moved(remembered: &mut Remembered, step: &str) -> Result<(), Fail> {
     Ok(())
 }
 
-fn look(told: &mut Vec<u8>, remembered: &Remembered, step: &str) -> Result<(), Fail> {
+fn look(told: &mut Told, remembered: &Remembered, step: &str) -> Result<(), Fail> {
     let (peer, domain, id, now) = four(step)?;
     told.push(
         match remembered.look(u32::from(peer), domain, id, u64::from(now)) {
@@ -56,13 +57,13 @@ fn look(told: &mut Vec<u8>, remembered: &Remembered, step: &str) -> Result<(), F
             Some(_) => b'?',
             None => NONE,
         },
-    )?;
+    );
     Ok(())
 }
 
 fn take(
     alloc: Global,
-    told: &mut Vec<u8>,
+    told: &mut Told,
     remembered: &mut Remembered,
     step: &str,
 ) -> Result<(), Fail> {
@@ -77,7 +78,7 @@ fn take(
 
 fn take_all(
     alloc: Global,
-    told: &mut Vec<u8>,
+    told: &mut Told,
     remembered: &mut Remembered,
     steps: &str,
 ) -> Result<(), Fail> {
@@ -89,7 +90,7 @@ fn take_all(
 
 pub fn tell_repeats(
     alloc: Global,
-    told: &mut Vec<u8>,
+    told: &mut Told,
     settings: &Settings,
     steps: &str,
 ) -> Result<(), Fail> {

@@ -4,23 +4,24 @@
 //! `acknowledged`; and it is asked what there is to do `at` a time. The first two tell whether that went, and the last the byte of a
 //! message that is sent again behind an `m`, the Message ID of one that is given up behind an `x`, or two dashes.
 
+use crate::told::Told;
 use crate::words::{NONE, byte, digit, flag, number, small, three};
 use coap_exchange::{Resend, Sender};
 use dots_lists::Bytes;
 use std::alloc::Global;
 use std::test::Fail;
 
-fn send(alloc: Global, told: &mut Vec<u8>, sender: &mut Sender, step: &str) -> Result<(), Fail> {
+fn send(alloc: Global, told: &mut Told, sender: &mut Sender, step: &str) -> Result<(), Fail> {
     let (message, id, word) = three(step)?;
     let bytes = Bytes::from_slice(alloc, &[byte(message)?])?;
     let is_taken = sender.send(bytes, id, 10_000, u32::from(word)).is_ok();
-    told.push(flag(is_taken))?;
+    told.push(flag(is_taken));
     Ok(())
 }
 
-fn acknowledged(told: &mut Vec<u8>, sender: &mut Sender, step: &str) -> Result<(), Fail> {
+fn acknowledged(told: &mut Told, sender: &mut Sender, step: &str) -> Result<(), Fail> {
     let id = small(step)?;
-    told.push(flag(sender.acknowledged(id)))?;
+    told.push(flag(sender.acknowledged(id)));
     Ok(())
 }
 
@@ -36,13 +37,13 @@ fn due(sender: &mut Sender, now: u64) -> [u8; 2] {
     }
 }
 
-fn at(told: &mut Vec<u8>, sender: &mut Sender, step: &str) -> Result<(), Fail> {
+fn at(told: &mut Told, sender: &mut Sender, step: &str) -> Result<(), Fail> {
     let now = number(step)?;
-    told.extend_from_slice(&due(sender, now))?;
+    told.extend(&due(sender, now));
     Ok(())
 }
 
-fn take(alloc: Global, told: &mut Vec<u8>, sender: &mut Sender, step: &str) -> Result<(), Fail> {
+fn take(alloc: Global, told: &mut Told, sender: &mut Sender, step: &str) -> Result<(), Fail> {
     let (verb, step) = step.split_once(' ').ok_or("a step")?;
     match verb {
         "send" => send(alloc, told, sender, step),
@@ -54,7 +55,7 @@ fn take(alloc: Global, told: &mut Vec<u8>, sender: &mut Sender, step: &str) -> R
 
 fn take_all(
     alloc: Global,
-    told: &mut Vec<u8>,
+    told: &mut Told,
     sender: &mut Sender,
     steps: &str,
 ) -> Result<(), Fail> {
@@ -65,7 +66,7 @@ fn take_all(
 }
 
 /// What the steps tell where two messages may wait.
-pub fn tell_sender(alloc: Global, told: &mut Vec<u8>, steps: &str) -> Result<(), Fail> {
+pub fn tell_sender(alloc: Global, told: &mut Told, steps: &str) -> Result<(), Fail> {
     let mut sender = Sender::new(alloc, 2)?;
     take_all(alloc, told, &mut sender, steps)
 }

@@ -4,6 +4,7 @@ ghost use Rattle.std.specs.Prelude.{◌≡◌, ◌≤◌, true};
 ghost use Rattle.slot_store.specs.Layout.{needed_of};
 
 use crate::entries::entry;
+use crate::told::Told;
 use crate::words::digit;
 use dots_disk::{Disk, MemoryDisk};
 use dots_history::{Entry, is_within_bounds};
@@ -32,10 +33,10 @@ fn appended(
     if !has_room(journal, disk) || journal.used() == journal.slots() || !is_within_bounds(entry) {
         return None;
     }
-    match survives_crash(alloc, settings, journal, disk, left, entry) {
-        Ok((Ok(slot), entries)) => Some((slot, entries.items().len())),
-        _ => None,
-    }
+    let (slot, entries) = survives_crash(alloc, settings, journal, disk, left, entry).ok()?;
+    let count = entries.items().len();
+    drop(entries);
+    Some((slot.ok()?, count))
 }
 
 fn survivor(
@@ -69,11 +70,11 @@ fn survivor_of(
 /// The slot of the entry of these words, and how many entries are recovered where a crash lost it.
 pub fn tell_survivor(
     alloc: Global,
-    told: &mut Vec<u8>,
+    told: &mut Told,
     settings: &Settings,
     words: &str,
 ) -> Result<(), Fail> {
     let (slot, count) = survivor_of(alloc, settings, words)?.ok_or("a survivor")?;
-    told.extend_from_slice(&[digit(u64::from(slot)), digit(count as u64)])?;
+    told.extend(&[digit(u64::from(slot)), digit(count as u64)]);
     Ok(())
 }

@@ -13,6 +13,7 @@ use crate::repeats::tell_repeats;
 use crate::senders::tell_sender;
 use crate::survivors::tell_survivor;
 use crate::texts::{SETTINGS, TIGHT};
+use crate::told::Told;
 use dots_settings::Settings;
 use std::alloc::Global;
 use std::process::Abort;
@@ -43,7 +44,7 @@ fn settings_of(part: Part) -> &'static str {
 
 fn tell(
     alloc: Global,
-    told: &mut Vec<u8>,
+    told: &mut Told,
     settings: &Settings,
     part: Part,
     asked: &str,
@@ -68,9 +69,9 @@ fn is_told(
     asked: &str,
     want: &str,
 ) -> Result<bool, Fail> {
-    let mut told = Vec::new(alloc);
+    let mut told = Told::new();
     tell(alloc, &mut told, settings, part, asked)?;
-    Ok(told.as_slice() == want.as_bytes())
+    Ok(told.spells(want))
 }
 
 /// The same with the settings of the part.

@@ -5,6 +5,8 @@ ghost use Rattle.dots_history.specs.declared.entry.Entry.{Entry};
 ghost use Rattle.dots_registry.specs.Standing.{StandsFor, IsOf};
 
 use crate::entries::entry;
+use crate::told::Told;
+use crate::words::flag;
 use dots_history::Entry;
 use dots_registry::Registry;
 use dots_settings::Settings;
@@ -19,6 +21,7 @@ fn take(registry: &mut Registry, settings: &Settings, entry: Entry) -> Result<bo
     ensures stands { (entries : List Entry) × StandsFor registry.new entries }
 {
     if !registry.fits(settings, &entry) {
+        drop(entry);
         return Ok(false);
     }
     let staged = registry.stage(entry)?;
@@ -32,7 +35,7 @@ pub fn take_all(
     registry: &mut Registry,
     settings: &Settings,
     entries: &str,
-    fit: &mut Vec<u8>,
+    fit: &mut Told,
 ) -> Result<(), Fail>
     requires settings { IsOf settings.now registry.old }
     requires stands { (entries : List Entry) × StandsFor registry.old entries }
@@ -41,8 +44,7 @@ pub fn take_all(
 {
     for text in entries.split("; ") {
         let entry = entry(alloc, text)?;
-        let fits = take(registry, settings, entry)?;
-        fit.push(if fits { b'y' } else { b'n' })?;
+        fit.push(flag(take(registry, settings, entry)?));
     }
     Ok(())
 }

@@ -1,6 +1,5 @@
 //! Numbers in rows, and answers in letters: a number of one digit is that digit, and what there isn't is a dash.
 
-use std::alloc::Global;
 use std::test::Fail;
 
 pub const NONE: u8 = b'-';
@@ -13,13 +12,6 @@ pub fn digit(number: u64) -> u8 {
 /// Whether something holds.
 pub fn flag(holds: bool) -> u8 {
     if holds { b'y' } else { b'n' }
-}
-
-/// Tells all digits of a number.
-pub fn tell_number(alloc: Global, told: &mut Vec<u8>, number: u64) -> Result<(), Fail> {
-    let text = format!(in alloc; "{number}")?;
-    told.extend_from_slice(text.as_bytes())?;
-    Ok(())
 }
 
 pub fn number(word: &str) -> Result<u64, Fail> {
