@@ -5,6 +5,7 @@
 
 use crate::texts::NAMES;
 use crate::words::number;
+use acl_lists::PrefixList;
 use dots_history::Entry;
 use dots_host::MemorySource;
 use dots_lists::List;
@@ -41,6 +42,14 @@ pub fn scope(word: &str) -> Result<Prefix, Fail> {
     }
 }
 
+/// A list of one prefix.
+pub fn prefixes(alloc: Global, word: &str) -> Result<PrefixList, Fail> {
+    let scope = scope(word)?;
+    let mut prefixes = List::new(alloc);
+    prefixes.push(scope)?;
+    Ok(prefixes)
+}
+
 /// The bytes of a prefix: the version, the length and the lowest address.
 fn prefix_bytes(prefix: Prefix) -> [u8; 18] {
     let mut bytes = [0; 18];
@@ -70,6 +79,10 @@ fn push_bytes(bytes: &mut Vec<u8>, part: &[u8]) -> Result<(), Fail> {
     Ok(())
 }
 
+fn push_request(bytes: &mut Vec<u8>, word: &str) -> Result<(), Fail> {
+    push_bytes(bytes, &request_bytes(scope(word)?))
+}
+
 fn push_digits(alloc: Global, bytes: &mut Vec<u8>, digits: &str) -> Result<(), Fail> {
     let part = hex::decode(alloc, digits)?;
     push_bytes(bytes, part.as_slice())
@@ -77,12 +90,12 @@ fn push_digits(alloc: Global, bytes: &mut Vec<u8>, digits: &str) -> Result<(), F
 
 fn push_word(alloc: Global, bytes: &mut Vec<u8>, second: u64, word: &str) -> Result<(), Fail> {
     if word == "NOW" {
-        return push_bytes(bytes, &second.to_be_bytes());
+        push_bytes(bytes, &second.to_be_bytes())
+    } else if word.contains('/') {
+        push_request(bytes, word)
+    } else {
+        push_digits(alloc, bytes, meaning(word))
     }
-    if word.contains('/') {
-        return push_bytes(bytes, &request_bytes(scope(word)?));
-    }
-    push_digits(alloc, bytes, meaning(word))
 }
 
 /// The bytes of these words at a second.
@@ -109,13 +122,17 @@ fn entry_at(alloc: Global, second: u64, record: &[u8]) -> Result<Entry, Fail> {
     }
 }
 
-/// The entry of these words.
-pub fn entry(alloc: Global, text: &str) -> Result<Entry, Fail> {
-    let (second, words) = text.split_once(' ').ok_or("a second")?;
-    let second = number(second)?;
+/// The entry of these words at a second.
+fn entry_of_words(alloc: Global, second: u64, words: &str) -> Result<Entry, Fail> {
     let mut record = Vec::from_slice(alloc, &[0; 8])?;
     push_words(alloc, &mut record, second, words)?;
     entry_at(alloc, second, record.as_slice())
+}
+
+/// The entry of a second and these words.
+pub fn entry(alloc: Global, text: &str) -> Result<Entry, Fail> {
+    let (second, words) = text.split_once(' ').ok_or("a second")?;
+    entry_of_words(alloc, number(second)?, words)
 }
 
 /// Puts the entries of a text behind others.

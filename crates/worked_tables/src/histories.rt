@@ -1,6 +1,6 @@
 //! What the plain programs say of a history.
 
-use crate::entries::{push_entries, scope};
+use crate::entries::{prefixes, push_entries, scope};
 use crate::packets::{letters, packets, v4};
 use crate::told::Told;
 use crate::words::{NONE, digit, flag, number};
@@ -50,7 +50,9 @@ fn only(entries: &[Entry]) -> Result<&Change, Fail> {
 /// How many prefixes the copy of an alias has.
 fn copied_of(alloc: Global, alias: &Alias) -> Result<u64, Fail> {
     let copy = alias.copy(alloc)?;
-    Ok(copy.asked.prefixes.items().len() as u64)
+    let count = copy.asked.prefixes.items().len();
+    drop(copy);
+    Ok(count as u64)
 }
 
 fn copied(alloc: Global, entries: &[Entry]) -> Result<u64, Fail> {
@@ -165,16 +167,9 @@ fn tell_fates_in(
     Ok(())
 }
 
-fn prefixes(alloc: Global) -> Result<PrefixList, Fail> {
-    let scope = scope("192.0.2.0/24")?;
-    let mut prefixes = List::new(alloc);
-    prefixes.push(scope)?;
-    Ok(prefixes)
-}
-
 /// The fates of packets, where domain 0 has one prefix.
 fn tell_fates(alloc: Global, told: &mut Told, t: u64, entries: &[Entry]) -> Result<(), Fail> {
-    let domains = [prefixes(alloc)?];
+    let domains = [prefixes(alloc, "192.0.2.0/24")?];
     tell_fates_in(alloc, told, t, &domains, entries)
 }
 

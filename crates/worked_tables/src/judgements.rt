@@ -2,7 +2,7 @@
 //!
 //! A live mitigation is read as the entry that put it; one of second 0 was withdrawn, and is terminating.
 
-use crate::entries::{entry, scope};
+use crate::entries::{entry, prefixes};
 use crate::told::Told;
 use crate::words::{flag, number, two};
 use conflict_rules::{
@@ -132,11 +132,8 @@ fn push_mitigations(alloc: Global, live: &mut List<Live>, texts: &str) -> Result
 }
 
 fn target(alloc: Global) -> Result<Target, Fail> {
-    let scope = scope("192.0.2.0/24")?;
-    let mut prefixes = List::new(alloc);
-    prefixes.push(scope)?;
     Ok(Target {
-        prefixes,
+        prefixes: prefixes(alloc, "192.0.2.0/24")?,
         ports: List::new(alloc),
         protocols: Bytes::new(alloc),
     })
@@ -180,9 +177,10 @@ fn tell_requested(alloc: Global, told: &mut Told, by: &str, texts: &str) -> Resu
 
 /// What is judged of a request, or whether so many targets are few.
 pub fn tell_judged(alloc: Global, told: &mut Told, asked: &str) -> Result<(), Fail> {
-    match asked.split_once(" ? ") {
-        Some((count, "few")) => tell_few(alloc, told, number(count)?),
-        Some((texts, by)) => tell_requested(alloc, told, by, texts),
-        None => Err(Fail::from("a question")),
+    let (texts, by) = asked.split_once(" ? ").ok_or("a question")?;
+    if by == "few" {
+        tell_few(alloc, told, number(texts)?)
+    } else {
+        tell_requested(alloc, told, by, texts)
     }
 }

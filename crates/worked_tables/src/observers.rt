@@ -150,5 +150,7 @@ pub fn tell_observers(
     steps: &str,
 ) -> Result<(), Fail> {
     let mut observers = Observers::new(alloc, settings)?;
-    take_all(alloc, told, &mut observers, steps)
+    let went = take_all(alloc, told, &mut observers, steps);
+    drop(observers);
+    went
 }

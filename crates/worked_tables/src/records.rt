@@ -25,7 +25,9 @@ fn is_record(entry: &Entry, bytes: &[u8]) -> bool {
 /// Whether the entry of these bytes is written as it was read.
 fn is_written(alloc: Global, bytes: &[u8]) -> Result<bool, EntryFault> {
     let entry = entry_of(alloc, bytes)?;
-    Ok(is_record(&entry, bytes))
+    let is_record = is_record(&entry, bytes);
+    drop(entry);
+    Ok(is_record)
 }
 
 /// Whether the entry of these bytes is written as it was read, or the place of the first fault behind the head.

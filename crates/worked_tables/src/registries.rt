@@ -4,6 +4,7 @@ ghost use Rattle.std.specs.Prelude.{◌≡◌, ◌<◌, List, true};
 ghost use Rattle.dots_history.specs.declared.entry.Entry.{Entry};
 ghost use Rattle.dots_registry.specs.Standing.{StandsFor, IsOf, domains_of};
 
+use crate::entries::prefixes;
 use crate::packets::{letter, letters, packets};
 use crate::taking::take_all;
 use crate::told::Told;
@@ -15,7 +16,6 @@ use dots_lists::{Bytes, List, Name};
 use dots_registry::Registry;
 use dots_settings::Settings;
 use held_things::RoomKind;
-use ip_scope::parse_prefix;
 use put_judging::{Judged, PutFault};
 use std::alloc::Global;
 use std::test::Fail;
@@ -66,22 +66,28 @@ fn registrant(registry: &Registry, domain: u16, cuid: &[u8]) -> u8 {
     }
 }
 
-/// The alias `web`.
-fn web(alloc: Global, registry: &Registry, domain: u16, cuid: &[u8]) -> Result<u8, Fail> {
-    let name = name(alloc, "web")?;
-    Ok(match registry.alias(domain, cuid, &name) {
+fn alias_letter(alias: Option<&Alias>) -> u8 {
+    match alias {
         Some(alias) => letter(&alias.name),
         None => NONE,
-    })
+    }
 }
 
-/// The list `ok`.
-fn ok(alloc: Global, registry: &Registry, domain: u16, cuid: &[u8]) -> Result<u8, Fail> {
-    let name = name(alloc, "ok")?;
-    Ok(match registry.acl(domain, cuid, &name) {
+fn acl_letter(acl: Option<&Acl>) -> u8 {
+    match acl {
         Some(acl) => letter(&acl.name),
         None => NONE,
-    })
+    }
+}
+
+/// The alias `web` and the list `ok`.
+fn named(alloc: Global, registry: &Registry, domain: u16, cuid: &[u8]) -> Result<[u8; 2], Fail> {
+    let web = name(alloc, "web")?;
+    let ok = name(alloc, "ok")?;
+    Ok([
+        alias_letter(registry.alias(domain, cuid, &web)),
+        acl_letter(registry.acl(domain, cuid, &ok)),
+    ])
 }
 
 /// Which numbers of clients, of aliases and of access lists are reached.
@@ -95,19 +101,13 @@ fn rooms(registry: &Registry, domain: u16, cuid: &[u8]) -> [u8; 4] {
 }
 
 /// Who registered a client, its aliases and its access lists, which numbers are reached, and its alias `web` and its list `ok`.
-fn tell_held(
-    alloc: Global,
-    told: &mut Told,
-    registry: &Registry,
-    word: &str,
-) -> Result<(), Fail> {
+fn tell_held(alloc: Global, told: &mut Told, registry: &Registry, word: &str) -> Result<(), Fail> {
     let (domain, cuid) = client(word);
     told.extend(&[registrant(registry, domain, cuid), b' ']);
     tell_aliases(told, registry.aliases(domain, cuid));
     tell_acls(told, registry.acls(domain, cuid));
     told.extend(&rooms(registry, domain, cuid));
-    told.push(web(alloc, registry, domain, cuid)?);
-    told.push(ok(alloc, registry, domain, cuid)?);
+    told.extend(&named(alloc, registry, domain, cuid)?);
     Ok(())
 }
 
@@ -152,9 +152,7 @@ fn has_domain(registry: &Registry, settings: &Settings, domain: u16) -> bool
 
 /// A request for 192.0.2.128/25, for an hour.
 fn body(alloc: Global) -> Result<MitigationBody, Fail> {
-    let scope = parse_prefix(b"192.0.2.128/25").ok().ok_or("a prefix")?;
-    let mut prefixes = List::new(alloc);
-    prefixes.push(scope)?;
+    let prefixes = prefixes(alloc, "192.0.2.128/25")?;
     Ok(MitigationBody {
         asked: Asked {
             prefixes,
@@ -197,7 +195,10 @@ fn judged(
     if path.mid.is_none() || body.lifetime < 1 || !has_domain(registry, settings, 0) {
         return NONE;
     }
-    granted(&registry.judge_put(settings, path, body, peer, 0))
+    let judged = registry.judge_put(settings, path, body, peer, 0);
+    let letter = granted(&judged);
+    drop(judged);
+    letter
 }
 
 fn judge_path(
@@ -210,7 +211,9 @@ fn judge_path(
     requires { IsOf settings.now registry.now }
 {
     let body = body(alloc)?;
-    Ok(judged(registry, settings, path, &body, peer))
+    let letter = judged(registry, settings, path, &body, peer);
+    drop(body);
+    Ok(letter)
 }
 
 /// What is granted to a peer that asks for mid 9 of the client A.
@@ -246,10 +249,10 @@ fn tell(
     requires { IsOf settings.now registry.old }
 {
     let (what, of) = question.split_once(' ').ok_or("a question")?;
-    match what.as_bytes() {
-        [b'h', ..] => tell_held(alloc, told, registry, of),
-        [b's', ..] => tell_sid(told, registry, of),
-        [b'j', ..] => tell_judged(alloc, told, registry, settings, of),
+    match what {
+        "held" => tell_held(alloc, told, registry, of),
+        "sid" => tell_sid(told, registry, of),
+        "judge" => tell_judged(alloc, told, registry, settings, of),
         _ => tell_fates(told, registry, settings, of),
     }
 }

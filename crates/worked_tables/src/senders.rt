@@ -53,12 +53,7 @@ fn take(alloc: Global, told: &mut Told, sender: &mut Sender, step: &str) -> Resu
     }
 }
 
-fn take_all(
-    alloc: Global,
-    told: &mut Told,
-    sender: &mut Sender,
-    steps: &str,
-) -> Result<(), Fail> {
+fn take_all(alloc: Global, told: &mut Told, sender: &mut Sender, steps: &str) -> Result<(), Fail> {
     for step in steps.split("; ") {
         take(alloc, told, sender, step)?;
     }

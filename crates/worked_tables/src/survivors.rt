@@ -64,7 +64,9 @@ fn survivor_of(
     words: &str,
 ) -> Result<Option<(u32, usize)>, Fail> {
     let entry = entry(alloc, words)?;
-    Ok(survivor_of_nothing(alloc, settings, &entry))
+    let survivor = survivor_of_nothing(alloc, settings, &entry);
+    drop(entry);
+    Ok(survivor)
 }
 
 /// The slot of the entry of these words, and how many entries are recovered where a crash lost it.

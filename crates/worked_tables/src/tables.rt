@@ -77,7 +77,9 @@ fn is_told(
 /// The same with the settings of the part.
 fn is_answer(alloc: Global, part: Part, asked: &str, want: &str) -> Result<bool, Fail> {
     let settings = settings(alloc, settings_of(part))?;
-    is_told(alloc, &settings, part, asked, want)
+    let is_told = is_told(alloc, &settings, part, asked, want);
+    drop(settings);
+    is_told
 }
 
 fn holds(alloc: Global, part: Part, head: &str, row: &str) -> Result<bool, Fail> {
