@@ -79,10 +79,6 @@ fn push_bytes(bytes: &mut Vec<u8>, part: &[u8]) -> Result<(), Fail> {
     Ok(())
 }
 
-fn push_request(bytes: &mut Vec<u8>, word: &str) -> Result<(), Fail> {
-    push_bytes(bytes, &request_bytes(scope(word)?))
-}
-
 fn push_digits(alloc: Global, bytes: &mut Vec<u8>, digits: &str) -> Result<(), Fail> {
     let part = hex::decode(alloc, digits)?;
     push_bytes(bytes, part.as_slice())
@@ -90,12 +86,12 @@ fn push_digits(alloc: Global, bytes: &mut Vec<u8>, digits: &str) -> Result<(), F
 
 fn push_word(alloc: Global, bytes: &mut Vec<u8>, second: u64, word: &str) -> Result<(), Fail> {
     if word == "NOW" {
-        push_bytes(bytes, &second.to_be_bytes())
-    } else if word.contains('/') {
-        push_request(bytes, word)
-    } else {
-        push_digits(alloc, bytes, meaning(word))
+        return push_bytes(bytes, &second.to_be_bytes());
     }
+    if word.contains('/') {
+        return push_bytes(bytes, &request_bytes(scope(word)?));
+    }
+    push_digits(alloc, bytes, meaning(word))
 }
 
 /// The bytes of these words at a second.
@@ -122,17 +118,13 @@ fn entry_at(alloc: Global, second: u64, record: &[u8]) -> Result<Entry, Fail> {
     }
 }
 
-/// The entry of these words at a second.
-fn entry_of_words(alloc: Global, second: u64, words: &str) -> Result<Entry, Fail> {
+/// The entry of these words.
+pub fn entry(alloc: Global, text: &str) -> Result<Entry, Fail> {
+    let (second, words) = text.split_once(' ').ok_or("a second")?;
+    let second = number(second)?;
     let mut record = Vec::from_slice(alloc, &[0; 8])?;
     push_words(alloc, &mut record, second, words)?;
     entry_at(alloc, second, record.as_slice())
-}
-
-/// The entry of a second and these words.
-pub fn entry(alloc: Global, text: &str) -> Result<Entry, Fail> {
-    let (second, words) = text.split_once(' ').ok_or("a second")?;
-    entry_of_words(alloc, number(second)?, words)
 }
 
 /// Puts the entries of a text behind others.

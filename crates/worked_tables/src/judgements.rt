@@ -177,10 +177,9 @@ fn tell_requested(alloc: Global, told: &mut Told, by: &str, texts: &str) -> Resu
 
 /// What is judged of a request, or whether so many targets are few.
 pub fn tell_judged(alloc: Global, told: &mut Told, asked: &str) -> Result<(), Fail> {
-    let (texts, by) = asked.split_once(" ? ").ok_or("a question")?;
-    if by == "few" {
-        tell_few(alloc, told, number(texts)?)
-    } else {
-        tell_requested(alloc, told, by, texts)
+    match asked.split_once(" ? ") {
+        Some((count, "few")) => tell_few(alloc, told, number(count)?),
+        Some((texts, by)) => tell_requested(alloc, told, by, texts),
+        None => Err(Fail::from("a question")),
     }
 }

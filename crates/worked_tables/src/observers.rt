@@ -150,7 +150,5 @@ pub fn tell_observers(
     steps: &str,
 ) -> Result<(), Fail> {
     let mut observers = Observers::new(alloc, settings)?;
-    let went = take_all(alloc, told, &mut observers, steps);
-    drop(observers);
-    went
+    take_all(alloc, told, &mut observers, steps)
 }

@@ -77,9 +77,7 @@ fn is_told(
 /// The same with the settings of the part.
 fn is_answer(alloc: Global, part: Part, asked: &str, want: &str) -> Result<bool, Fail> {
     let settings = settings(alloc, settings_of(part))?;
-    let is_told = is_told(alloc, &settings, part, asked, want);
-    drop(settings);
-    is_told
+    is_told(alloc, &settings, part, asked, want)
 }
 
 fn holds(alloc: Global, part: Part, head: &str, row: &str) -> Result<bool, Fail> {
