@@ -42,39 +42,20 @@ fn front(room: &Room, len: usize) -> &[u8] {
     room.get(..len).unwrap_or(&[])
 }
 
-fn asked<'a>(event: &'a str, bytes: &'a [u8]) -> Parts<'a> {
-    (word(event, 0), number(event, 1), number(event, 2), bytes)
-}
-
 /// When the next event comes, where it is this.
 fn next<W: Wire>(wire: &mut W, event: &str, bytes: &[u8]) -> Option<u64> {
     let mut room: Room = [0; MAX_EVENT_BYTES];
     let got = wire.next(&mut room);
-    if parts(got.what, &room) == asked(event, bytes) {
+    let asked = (word(event, 0), number(event, 1), number(event, 2), bytes);
+    if parts(got.what, &room) == asked {
         Some(got.at)
     } else {
         None
     }
 }
 
-fn is_next_at<W: Wire>(wire: &mut W, clock: &SetClock<'_>, words: &str, bytes: &[u8]) -> bool {
-    let second = number(words, 0);
-    let (_, event) = first_word(words);
-    clock.set(second);
-    next(wire, event, bytes) == Some(second)
-}
-
-fn is_next_after<W: Wire>(wire: &mut W, words: &str, bytes: &[u8]) -> bool {
-    let (_, event) = first_word(words);
-    match next(wire, event, bytes) {
-        Some(at) => at > number(words, 0),
-        None => false,
-    }
-}
-
-fn is_within<W: Wire>(wire: &mut W, words: &str, bytes: &[u8]) -> bool {
-    let (_, event) = first_word(words);
-    for _ in 0..number(words, 0) {
+fn is_within<W: Wire>(wire: &mut W, count: u64, event: &str, bytes: &[u8]) -> bool {
+    for _ in 0..count {
         if next(wire, event, bytes).is_some() {
             return true;
         }
@@ -154,11 +135,16 @@ fn comes<W: Wire>(
     words: &str,
     bytes: &[u8],
 ) -> bool {
+    let (_, event) = first_word(words);
+    let number = number(words, 0);
     match act {
         "next" => next(wire, words, bytes).is_some(),
-        "at" => is_next_at(wire, clock, words, bytes),
-        "after" => is_next_after(wire, words, bytes),
-        "within" => is_within(wire, words, bytes),
+        "at" => {
+            clock.set(number);
+            next(wire, event, bytes) == Some(number)
+        }
+        "after" => next(wire, event, bytes).unwrap_or(0) > number,
+        "within" => is_within(wire, number, event, bytes),
         _ => false,
     }
 }
@@ -179,15 +165,7 @@ fn goes_among<H: Host>(host: &mut H, around: &mut Around<'_>, words: &str, bytes
     let (act, rest) = first_word(words);
     match around.goes(act, rest, bytes) {
         Some(went) => went,
-        None => goes(host, around.clock(), act, rest, bytes),
-    }
-}
-
-/// How often an act is done, and the act.
-fn repeated(words: &str) -> (u64, &str) {
-    match words.strip_prefix("times ") {
-        Some(rest) => (number(rest, 0), first_word(rest).1),
-        None => (1, words),
+        None => goes(host, around.clock, act, rest, bytes),
     }
 }
 
@@ -197,7 +175,10 @@ fn goes_each_time<H: Host>(
     words: &str,
     bytes: &[u8],
 ) -> bool {
-    let (count, words) = repeated(words);
+    let (count, words) = match words.strip_prefix("times ") {
+        Some(rest) => (number(rest, 0), first_word(rest).1),
+        None => (1, words),
+    };
     for _ in 0..count {
         if !goes_among(host, around, words, bytes) {
             return false;
@@ -208,7 +189,7 @@ fn goes_each_time<H: Host>(
 
 fn line_goes<H: Host>(host: &mut H, around: &mut Around<'_>, line: &str) -> bool {
     let (words, text) = line.split_once(" = ").unwrap_or((line, ""));
-    match bytes_of(around.alloc(), text) {
+    match bytes_of(around.rt.alloc(), text) {
         Some(bytes) => goes_each_time(host, around, words, bytes.as_slice()),
         None => false,
     }

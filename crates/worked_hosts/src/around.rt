@@ -5,7 +5,6 @@ use crate::set_clock::SetClock;
 use crate::words::{first_word, number, word};
 use dots_disk::Disk;
 use dots_edge::FileSocketHost;
-use std::alloc::Global;
 use std::fs;
 use std::io::{Read, Write};
 use std::net::{Ipv4Addr, Net, SocketAddr, TcpStream, UdpSocket};
@@ -26,10 +25,12 @@ fn local(port: u16) -> SocketAddr {
 /// - `second` and a host file: a second host of this file writes nothing
 #[derive(Drop)]
 pub struct Around<'a> {
-    rt: &'a HostRuntime,
-    clock: &'a SetClock<'a>,
-    http: u16,
-    signal: u16,
+    pub rt: &'a HostRuntime,
+    pub clock: &'a SetClock<'a>,
+    /// The port on which the host accepts connections.
+    pub http: u16,
+    /// The port on which the host receives datagrams.
+    pub signal: u16,
     one: Option<UdpSocket>,
     other: Option<UdpSocket>,
     streams: Vec<TcpStream>,
@@ -37,13 +38,6 @@ pub struct Around<'a> {
 
 fn bound(rt: &HostRuntime) -> Option<UdpSocket> {
     UdpSocket::bind(rt, local(0)).ok()
-}
-
-fn port_of(socket: &UdpSocket) -> u16 {
-    match socket.local_addr() {
-        Ok(address) => address.port(),
-        Err(_) => 0,
-    }
 }
 
 /// Whether a datagram of these bytes, at most eight, is received.
@@ -117,7 +111,11 @@ fn is_shut<D: Disk>(disk: &mut D) -> bool {
 
 fn is_second_shut(rt: &HostRuntime, file: &str) -> bool {
     match FileSocketHost::open(rt.alloc(), rt, file.as_bytes()) {
-        Ok(mut host) => is_shut(&mut host),
+        Ok(mut host) => {
+            let is_shut = is_shut(&mut host);
+            drop(host);
+            is_shut
+        }
         Err(_) => false,
     }
 }
@@ -126,45 +124,20 @@ impl<'a> Around<'a> {
     /// A peer with two ports.
     pub fn new(rt: &'a HostRuntime, clock: &'a SetClock<'a>) -> Around<'a> {
         Around {
-            one: bound(rt),
-            other: bound(rt),
-            ..Around::alone(rt, clock)
-        }
-    }
-
-    /// Nobody.
-    pub fn alone(rt: &'a HostRuntime, clock: &'a SetClock<'a>) -> Around<'a> {
-        Around {
             rt,
             clock,
             http: 0,
             signal: 0,
-            one: None,
-            other: None,
+            one: bound(rt),
+            other: bound(rt),
             streams: Vec::new(rt.alloc()),
         }
     }
 
-    pub fn alloc(&self) -> Global {
-        self.rt.alloc()
-    }
-
-    pub fn clock(&self) -> &'a SetClock<'a> {
-        self.clock
-    }
-
     /// The first of the peer's ports.
-    pub fn port(&self) -> u16 {
-        match &self.one {
-            Some(socket) => port_of(socket),
-            None => 0,
-        }
-    }
-
-    /// The ports of the host are these.
-    pub fn set_ports(&mut self, http: u16, signal: u16) {
-        self.http = http;
-        self.signal = signal;
+    pub fn port(&self) -> Option<u16> {
+        let address = self.one.as_ref()?.local_addr().ok()?;
+        Some(address.port())
     }
 
     fn connect(&mut self) -> bool {
@@ -174,11 +147,6 @@ impl<'a> Around<'a> {
         }
     }
 
-    fn leave(&mut self) -> bool {
-        self.streams.clear();
-        true
-    }
-
     fn stream_goes(&mut self, act: &str, bytes: &[u8]) -> bool {
         match self.streams.first_mut() {
             Some(stream) => stream_goes(stream, act, bytes),
@@ -186,12 +154,13 @@ impl<'a> Around<'a> {
         }
     }
 
-    fn socket(&self, number: u64) -> &Option<UdpSocket> {
-        if number == 0 { &self.one } else { &self.other }
-    }
-
     fn socket_goes(&self, words: &str, bytes: &[u8]) -> bool {
-        match self.socket(number(words, 0)) {
+        let socket = if number(words, 0) == 0 {
+            &self.one
+        } else {
+            &self.other
+        };
+        match socket {
             Some(socket) => socket_goes(socket, word(words, 1), bytes, self.signal),
             None => false,
         }
@@ -205,7 +174,10 @@ impl<'a> Around<'a> {
     pub fn goes(&mut self, act: &str, words: &str, bytes: &[u8]) -> Option<bool> {
         match act {
             "connect" => Some(self.connect()),
-            "leave" => Some(self.leave()),
+            "leave" => {
+                self.streams.clear();
+                Some(true)
+            }
             "stream" => Some(self.stream_goes(words, bytes)),
             "socket" => Some(self.socket_goes(words, bytes)),
             "file" => Some(file_goes(self.rt, words)),

@@ -15,7 +15,8 @@ fn goes_on<R: Files<File = File> + Net + Clock + Drop>(
     around: &mut Around<'_>,
     acts: &str,
 ) -> bool {
-    around.set_ports(host.http_port(), host.signal_port());
+    around.http = host.http_port();
+    around.signal = host.signal_port();
     all_go(host, around, acts)
 }
 
@@ -26,31 +27,39 @@ fn goes_over<R: Files<File = File> + Net + Clock + Drop>(
     file: &str,
     acts: &str,
 ) -> bool {
-    match FileSocketHost::open(around.alloc(), of, file.as_bytes()) {
-        Ok(mut host) => goes_on(&mut host, around, acts),
+    match FileSocketHost::open(around.rt.alloc(), of, file.as_bytes()) {
+        Ok(mut host) => {
+            let goes = goes_on(&mut host, around, acts);
+            drop(host);
+            goes
+        }
         Err(_) => false,
     }
 }
 
 /// The host file of this text, `;` standing for a line feed and `PORT` for the first port of the peer.
 fn host_file(around: &Around<'_>, text: &str) -> Option<String> {
-    let alloc = around.alloc();
-    let port = format!(in alloc; "{}", around.port()).ok()?;
+    let alloc = around.rt.alloc();
+    let port = around.port()?;
+    let digits = format!(in alloc; "{port}").ok()?;
     let lines = lines_of(alloc, text)?;
-    lines.as_str().replace(alloc, "PORT", port.as_str()).ok()
+    lines.as_str().replace(alloc, "PORT", digits.as_str()).ok()
 }
 
 fn goes_among(around: &mut Around<'_>, text: &str, acts: &str) -> bool {
     match host_file(around, text) {
-        Some(file) => goes_over(around.clock(), around, file.as_str(), acts),
+        Some(file) => goes_over(around.clock, around, file.as_str(), acts),
         None => false,
     }
 }
 
-fn goes(rt: &HostRuntime, text: &str, acts: &str) -> bool {
+fn row_goes(rt: &HostRuntime, row: &str) -> bool {
+    let (text, acts) = row.split_once('\n').unwrap_or((row, ""));
     let clock = SetClock::new(rt);
     let mut around = Around::new(rt, &clock);
-    goes_among(&mut around, text, acts)
+    let goes = goes_among(&mut around, text, acts);
+    drop(around);
+    goes
 }
 
 /// Rows: a host file, and acts over its host.
@@ -195,13 +204,6 @@ file worked_hosts_journal_cut cut 2
 no read 0 = abc
 no sync
 file worked_hosts_journal_cut remove";
-
-fn row_goes(rt: &HostRuntime, row: &str) -> bool {
-    match row.split_once('\n') {
-        Some((text, acts)) => goes(rt, text, acts),
-        None => false,
-    }
-}
 
 #[test]
 fn rows_of_the_edge(rt: HostRuntime) {

@@ -17,17 +17,13 @@ fn reads<S: Source>(source: &mut S, want: &Counts, bytes: &[u8; 9]) -> bool {
         && room == *bytes
 }
 
-/// A source over these bytes, of which the second call fails.
-fn failing_source(alloc: Global, bytes: &[u8]) -> Result<MemorySource, NoMemory> {
-    let mut source = MemorySource::new(alloc, bytes)?;
-    source.fail_at(2)?;
-    Ok(source)
-}
-
+/// A source in memory, of which the second call fails.
 fn memory_reads(alloc: Global) -> bool {
     let want = [Ok(3), Err(Failed), Ok(2)];
-    match failing_source(alloc, b"abcde") {
-        Ok(mut source) => reads(&mut source, &want, b"abc\0\0\0de\0"),
+    match MemorySource::new(alloc, b"abcde") {
+        Ok(mut source) => {
+            source.fail_at(2).is_ok() && reads(&mut source, &want, b"abc\0\0\0de\0")
+        }
         Err(_) => false,
     }
 }
@@ -35,11 +31,6 @@ fn memory_reads(alloc: Global) -> bool {
 fn reads_through() -> bool {
     let mut source = StdSource::new(Some(b"abcde".as_slice()));
     reads(&mut source, &[Ok(3), Ok(2), Ok(0)], b"abcde\0\0\0\0")
-}
-
-#[test]
-fn sources_give_their_bytes(rt: HostRuntime) {
-    assert!(rt; memory_reads(rt.alloc()) && reads_through());
 }
 
 /// Whether three writes answer so.
@@ -73,11 +64,6 @@ fn writes_through(alloc: Global) -> bool {
     writes(&mut StdSink::new(&mut held), TEXTS, &want) && held.as_slice() == b"abxycde".as_slice()
 }
 
-#[test]
-fn sinks_take_bytes(rt: HostRuntime) {
-    assert!(rt; memory_writes(rt.alloc()) && writes_through(rt.alloc()));
-}
-
 /// Whether a writer with room for three bytes takes these, and then no more.
 fn is_full() -> bool {
     let mut room = [0; 3];
@@ -96,6 +82,9 @@ fn is_filled() -> bool {
 
 /// A full writer takes 0 bytes of some, and that is a failure.
 #[test]
-fn a_full_writer_fails(rt: HostRuntime) {
-    assert!(rt; is_full() && is_filled());
+fn sources_give_their_bytes_and_sinks_take_them(rt: HostRuntime) {
+    let alloc = rt.alloc();
+    assert!(rt; memory_reads(alloc) && reads_through(), "sources");
+    assert!(rt; memory_writes(alloc) && writes_through(alloc), "sinks");
+    assert!(rt; is_full() && is_filled(), "full writers");
 }
