@@ -4,7 +4,6 @@ use crate::acts::all_go;
 use crate::around::Around;
 use crate::set_clock::SetClock;
 use crate::streams::failing_sink;
-use crate::words::lines_of;
 use dots_host::{MemorySource, NoMemory, Sink, StdSink};
 use dots_script::ScriptHost;
 use std::alloc::Global;
@@ -45,65 +44,100 @@ fn goes_and_sends(rt: &HostRuntime, script: &str, acts: &str, sent: &str) -> boo
     goes(rt, script, StdSink::new(&mut held), acts) && held.as_slice() == sent.as_bytes()
 }
 
-/// The same, `;` standing for a line feed.
-fn all_hold(rt: &HostRuntime, script: &str, acts: &str, sent: &str) -> bool {
-    match (lines_of(rt.alloc(), script), lines_of(rt.alloc(), sent)) {
-        (Some(script), Some(sent)) => goes_and_sends(rt, script.as_str(), acts, sent.as_str()),
-        _ => false,
-    }
-}
-
-/// Rows: a script, acts over its host, and behind `sent` the lines that it sends.
+/// Rows stand apart by `==`. Each has a script, acts over its host, and the lines that it sends, with `--` between them. An empty line
+/// in front of a mark ends the line above it.
 const ROWS: &str = "\
-# comment;;at 1000 from 0 50030002;at 281474976710655 from 4294967295 aAfF;
+# comment
+
+at 1000 from 0 50030002
+at 281474976710655 from 4294967295 aAfF
+
+--
 at 1000 from 0 = 0x50030002
 at 281474976710655 from 4294967295 = 0xaaff
+==
+at 0 from 7 00
+#
 
-at 0 from 7 00;#;
+--
 at 0 from 7 = 0x00
 at 0 end
+==
+at 1000 from 0 aaff
 
-at 1000 from 0 aaff;;at 1001 tick;
-at 1000 from 0 = 0xaaff
 at 1001 tick
 
-at 0 tick;# comment;at 281474976710655 tick;
+--
+at 1000 from 0 = 0xaaff
+at 1001 tick
+==
 at 0 tick
+# comment
 at 281474976710655 tick
 
-at 1001 tick;at 1000 from 0 aaff;
+--
+at 0 tick
+at 281474976710655 tick
+==
+at 1001 tick
+at 1000 from 0 aaff
+
+--
 at 1001 tick
 at 1000 from 0 = 0xaaff
-
-at 7 tick;at 8 tick
+==
+at 7 tick
+at 8 tick
+--
 at 7 tick
 at 0 failed
-
-at 1000 from 0 aaff;# comment;at 1001 restart;
-at 1000 from 0 = 0xaaff
+==
+at 1000 from 0 aaff
+# comment
 at 1001 restart
 
-at 0 restart;at 281474976710655 restart;
+--
+at 1000 from 0 = 0xaaff
+at 1001 restart
+==
 at 0 restart
 at 281474976710655 restart
 
-at 7 restart;at 8 restart x;
+--
+at 0 restart
+at 281474976710655 restart
+==
+at 7 restart
+at 8 restart x
+
+--
 at 7 restart
 at 0 failed
-
+==
 # A send is a line.
+--
 ok to 0 = 0x50a10002
-sent to 0 50a10002;
+--
+to 0 50a10002
 
+==
 # So are bytes of a connection.
+--
 ok conn 4294967295 = 0xc0
-sent conn 4294967295 c0;
+--
+conn 4294967295 c0
 
+==
 # So is its end.
+--
 ok close 10
-sent close 10;
+--
+close 10
 
-at 7 tick;
+==
+at 7 tick
+
+--
 # A disk of 2^30 bytes, which was zeros, holds what is written to it while calls of the wire come between, and zeros around that and at
 # its end.
 size 1073741824
@@ -114,115 +148,177 @@ ok sync
 size 1073741824
 ok read 8191 = 0x00444f545300
 ok read 1073741820 = 0x00000000
-sent close 1;
+--
+close 1
 
+==
 at 1 from 0 00
+--
 # The rest are faults, and a fault stays: a line that lacks its line feed, a number with leading zeros, half a byte, no byte, a time of 49
 # bits, a tick or a restart with no time, in capitals or with something around it, and other words.
 times 2 at 0 failed
-
+==
 # comment
+--
 times 2 at 0 failed
+==
+at 01 from 0 00
 
-at 01 from 0 00;
+--
 times 2 at 0 failed
+==
+at 1 from 0 0
 
-at 1 from 0 0;
+--
 times 2 at 0 failed
+==
+at 1 from 0\x20
 
-at 1 from 0 ;
+--
 times 2 at 0 failed
+==
+at 281474976710656 from 0 00
 
-at 281474976710656 from 0 00;
+--
 times 2 at 0 failed
-
+==
 at 1 tick
+--
 times 2 at 0 failed
+==
+at 281474976710656 tick
 
-at 281474976710656 tick;
+--
 times 2 at 0 failed
+==
+at 01 tick
 
-at 01 tick;
+--
 times 2 at 0 failed
+==
+at tick
 
-at tick;
+--
 times 2 at 0 failed
+==
+at 1 tick\x20
 
-at 1 tick ;
+--
 times 2 at 0 failed
+==
+at 1  tick
 
-at 1  tick;
+--
 times 2 at 0 failed
+==
+at 1 tick 0
 
-at 1 tick 0;
+--
 times 2 at 0 failed
+==
+at 1 ticks
 
-at 1 ticks;
+--
 times 2 at 0 failed
+==
+at 1 tic
 
-at 1 tic;
+--
 times 2 at 0 failed
+==
+at 1 TICK
 
-at 1 TICK;
+--
 times 2 at 0 failed
+==
+at 1 tickfrom 0 00
 
-at 1 tickfrom 0 00;
+--
 times 2 at 0 failed
+==
+at 1\x20
 
-at 1 ;
+--
 times 2 at 0 failed
+==
+at 1
 
-at 1;
+--
 times 2 at 0 failed
+==
+at 1 tock
 
-at 1 tock;
+--
 times 2 at 0 failed
-
+==
 at 1 restart
+--
 times 2 at 0 failed
+==
+at 281474976710656 restart
 
-at 281474976710656 restart;
+--
 times 2 at 0 failed
+==
+at restart
 
-at restart;
+--
 times 2 at 0 failed
+==
+at 1 restart\x20
 
-at 1 restart ;
+--
 times 2 at 0 failed
+==
+at 1  restart
 
-at 1  restart;
+--
 times 2 at 0 failed
+==
+at 1 restart x
 
-at 1 restart x;
+--
 times 2 at 0 failed
+==
+at 1 restarts
 
-at 1 restarts;
+--
 times 2 at 0 failed
+==
+at 1 restar
 
-at 1 restar;
+--
 times 2 at 0 failed
+==
+at 1 RESTART
 
-at 1 RESTART;
+--
 times 2 at 0 failed
+==
+at 1 open 5 0
 
-at 1 open 5 0;
+--
 times 2 at 0 failed
+==
+at 1 piece 5 00
 
-at 1 piece 5 00;
+--
 times 2 at 0 failed
+==
+at 1 close 5
 
-at 1 close 5;
+--
 times 2 at 0 failed";
 
 fn row_goes(rt: &HostRuntime, row: &str) -> bool {
-    let (script, rest) = row.split_once('\n').unwrap_or((row, ""));
-    let (acts, sent) = rest.split_once("\nsent ").unwrap_or((rest, ""));
-    all_hold(rt, script, acts, sent)
+    let (script, rest) = row.split_once("\n--\n").unwrap_or((row, ""));
+    let (acts, sent) = rest.split_once("\n--\n").unwrap_or((rest, ""));
+    goes_and_sends(rt, script, acts, sent)
 }
 
 #[test]
 fn rows_of_scripts(rt: HostRuntime) {
-    for row in ROWS.split("\n\n") {
+    for row in ROWS.split("\n==\n") {
         assert!(rt; row_goes(&rt, row), "at {row}");
     }
 }

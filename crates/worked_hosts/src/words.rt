@@ -21,11 +21,6 @@ pub fn number(words: &str, place: usize) -> u64 {
     word(words, place).parse::<u64>().unwrap_or(NO_NUMBER)
 }
 
-/// The text with a line feed in place of each `;`.
-pub fn lines_of(alloc: Global, text: &str) -> Option<String> {
-    text.replace(alloc, ";", "\n").ok()
-}
-
 /// The bytes of a text: `FULL` are as many as an event has at most, `LONG` one more, and behind `0x` stands hexadecimal.
 pub fn bytes_of(alloc: Global, text: &str) -> Option<Vec<u8>> {
     match text {
