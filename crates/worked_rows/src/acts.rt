@@ -5,7 +5,7 @@ use std::alloc::Global;
 use std::fmt::Write;
 
 /// The lines of the sends, where each was done.
-fn sends_of(alloc: Global, acts: &[Act]) -> Option<String> {
+pub fn sends_of(alloc: Global, acts: &[Act]) -> Option<String> {
     let mut text = String::new(alloc);
     for act in acts {
         match act {
@@ -24,7 +24,7 @@ fn sends_of(alloc: Global, acts: &[Act]) -> Option<String> {
 }
 
 /// How many writes and syncs there are before the first event, and behind each event.
-fn calls_of(alloc: Global, acts: &[Act]) -> Option<String> {
+pub fn calls_of(alloc: Global, acts: &[Act]) -> Option<String> {
     let mut text = String::new(alloc);
     let mut writes: u32 = 0;
     let mut syncs: u32 = 0;
@@ -41,20 +41,4 @@ fn calls_of(alloc: Global, acts: &[Act]) -> Option<String> {
         }
     }
     Some(text)
-}
-
-/// Whether these are the lines of the sends.
-pub fn has_sends(alloc: Global, acts: &[Act], lines: &str) -> bool {
-    match sends_of(alloc, acts) {
-        Some(sends) => sends.as_str() == lines,
-        None => false,
-    }
-}
-
-/// Whether there are so many writes and syncs; any where nothing is said.
-pub fn has_calls(alloc: Global, acts: &[Act], counts: &str) -> bool {
-    match calls_of(alloc, acts) {
-        Some(calls) => counts.is_empty() || calls.as_str() == counts,
-        None => false,
-    }
 }

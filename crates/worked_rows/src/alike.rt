@@ -50,7 +50,11 @@ fn stands<'a>(
 /// Whether a server that gets the request of the client accepts it.
 fn accepts(rt: &HostRuntime, client: &UdpSocket) -> bool {
     match FileSocketHost::open(rt.alloc(), rt, HOST_FILE) {
-        Ok(mut host) => stands(rt, client, &mut host),
+        Ok(mut host) => {
+            let stands = stands(rt, client, &mut host);
+            drop(host);
+            stands
+        }
         Err(_) => false,
     }
 }

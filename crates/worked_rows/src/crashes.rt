@@ -2,16 +2,13 @@
 
 use crate::disks::host_over;
 use crate::events::push_all;
-use crate::images::{WAYS, image_after};
-use crate::many::push_requests;
+use crate::images::{WAYS, image_after, image_of};
 use crate::runs::{Asked, run_over};
-use crate::tables::push_lines;
+use crate::tables::Row;
 use crate::texts::{BOTH_ROWS, FIRST_ROW, TWO, TWO_BYTES};
 use dots_disk::MemoryHost;
 use dots_host::{Act, Event, MemorySink, OwnedOut};
 use std::alloc::Global;
-use std::process::Abort;
-use std::test::Fail;
 
 /// More calls than a run of a plan makes.
 const MANY: u64 = 1000;
@@ -19,9 +16,8 @@ const MANY: u64 = 1000;
 /// Requests over a journal.
 #[derive(Clone, Copy)]
 struct Plan<'a> {
-    /// How often the first request was accepted before, so that the journal has as many entries.
-    before: &'a str,
-    events: &'a str,
+    /// What the disk holds before, and the events.
+    row: Row<'a>,
     /// What is reported where none of the requests is accepted, where the first is, and so on.
     reports: &'a [&'a str],
     /// The half of the disk that is in use in the end.
@@ -30,19 +26,51 @@ struct Plan<'a> {
 
 /// Two requests over a disk that wasn't formatted, and a restart between them.
 const OVER_NOTHING: Plan<'static> = Plan {
-    before: "0",
-    events: "\
-at 2000 from 0 5103+0001+ASK
-at 2001 restart
-at 2001 from 0 5103+0002+ASK_SECOND",
+    row: Row {
+        lines: "\
+< at 2000 from 0 5103+0001+ASK
+< at 2001 restart
+< at 2001 from 0 5103+0002+ASK_SECOND",
+    },
     reports: &["", FIRST_ROW, BOTH_ROWS],
     half: 0,
 };
 
-/// A request over a journal that is compacted for it.
+/// A request over a journal that is compacted for it: the first request was accepted 28 times, so that each slot has an entry.
 const OVER_FULL: Plan<'static> = Plan {
-    before: "28",
-    events: "at 2000 from 0 5103+001d+ASK_SECOND",
+    row: Row {
+        lines: "\
+< at 2000 from 0 5103+001d+ASK_SECOND
+* 0 HEADER
+* 8192 a5007e+00000000000003e8+CLIENT+0100010016+51410001+DONE+PUT+AT_1000
+* 16384 a5007e+00000000000003e9+CLIENT+0100020016+51440002+DONE+PUT+AT_1000
+* 24576 a5007e+00000000000003ea+CLIENT+0100030016+51440003+DONE+PUT+AT_1000
+* 32768 a5007e+00000000000003eb+CLIENT+0100040016+51440004+DONE+PUT+AT_1000
+* 40960 a5007e+00000000000003ec+CLIENT+0100050016+51440005+DONE+PUT+AT_1000
+* 49152 a5007e+00000000000003ed+CLIENT+0100060016+51440006+DONE+PUT+AT_1000
+* 57344 a5007e+00000000000003ee+CLIENT+0100070016+51440007+DONE+PUT+AT_1000
+* 65536 a5007e+00000000000003ef+CLIENT+0100080016+51440008+DONE+PUT+AT_1000
+* 73728 a5007e+00000000000003f0+CLIENT+0100090016+51440009+DONE+PUT+AT_1000
+* 81920 a5007e+00000000000003f1+CLIENT+01000a0016+5144000a+DONE+PUT+AT_1000
+* 90112 a5007e+00000000000003f2+CLIENT+01000b0016+5144000b+DONE+PUT+AT_1000
+* 98304 a5007e+00000000000003f3+CLIENT+01000c0016+5144000c+DONE+PUT+AT_1000
+* 106496 a5007e+00000000000003f4+CLIENT+01000d0016+5144000d+DONE+PUT+AT_1000
+* 114688 a5007e+00000000000003f5+CLIENT+01000e0016+5144000e+DONE+PUT+AT_1000
+* 122880 a5007e+00000000000003f6+CLIENT+01000f0016+5144000f+DONE+PUT+AT_1000
+* 131072 a5007e+00000000000003f7+CLIENT+0100100016+51440010+DONE+PUT+AT_1000
+* 139264 a5007e+00000000000003f8+CLIENT+0100110016+51440011+DONE+PUT+AT_1000
+* 147456 a5007e+00000000000003f9+CLIENT+0100120016+51440012+DONE+PUT+AT_1000
+* 155648 a5007e+00000000000003fa+CLIENT+0100130016+51440013+DONE+PUT+AT_1000
+* 163840 a5007e+00000000000003fb+CLIENT+0100140016+51440014+DONE+PUT+AT_1000
+* 172032 a5007e+00000000000003fc+CLIENT+0100150016+51440015+DONE+PUT+AT_1000
+* 180224 a5007e+00000000000003fd+CLIENT+0100160016+51440016+DONE+PUT+AT_1000
+* 188416 a5007e+00000000000003fe+CLIENT+0100170016+51440017+DONE+PUT+AT_1000
+* 196608 a5007e+00000000000003ff+CLIENT+0100180016+51440018+DONE+PUT+AT_1000
+* 204800 a5007e+0000000000000400+CLIENT+0100190016+51440019+DONE+PUT+AT_1000
+* 212992 a5007e+0000000000000401+CLIENT+01001a0016+5144001a+DONE+PUT+AT_1000
+* 221184 a5007e+0000000000000402+CLIENT+01001b0016+5144001b+DONE+PUT+AT_1000
+* 229376 a5007e+0000000000000403+CLIENT+01001c0016+5144001c+DONE+PUT+AT_1000",
+    },
     reports: &[FIRST_ROW, BOTH_ROWS],
     half: 1,
 };
@@ -84,22 +112,6 @@ impl Failing {
             Act::Read { .. } | Act::Wrote { .. } | Act::Synced { .. } => 6,
         }
     }
-
-    /// Whether this call, where it fails, leaves ranges that are being written.
-    fn leaves_ranges(self, act: &Act) -> bool {
-        self.onwards && matches!(act, Act::Wrote { .. } | Act::Synced { .. })
-    }
-
-    /// Whether the disk is to be looked at after a run that ended with this status, and whose first call that failed is this one. Where the
-    /// run ended at the call that failed alone, the disk is as where every later call fails; and where that call came behind a read, and
-    /// writes nothing, the disk is as before the read.
-    fn is_new(self, acts: &[Act], failed: &Act, status: u8) -> bool {
-        if !self.onwards {
-            return status == 0;
-        }
-        let before = acts.get((self.call as usize).saturating_sub(2));
-        self.leaves_ranges(failed) || !matches!(before, Some(Act::Read { .. }))
-    }
 }
 
 /// How many requests are accepted after these acts: at least up to the last whose acceptance was told, 2.01 or 2.04, and at most
@@ -130,26 +142,32 @@ impl<'a> Plan<'a> {
     /// Whether this is reported where a number of requests in the range are accepted.
     fn has_report(&self, report: &[u8], range: (usize, usize)) -> bool {
         let (least, most) = range;
-        for (index, text) in self.reports.iter().enumerate() {
-            if least <= index && index <= most && text.as_bytes() == report {
+        let reports = self.reports.get(least..most.saturating_add(1));
+        for text in reports.unwrap_or(&[]) {
+            if text.as_bytes() == report {
                 return true;
             }
         }
         false
     }
+}
 
-    /// Whether a run that ended with this status reports what all requests leave, where it came to its end, and else nothing.
-    fn is_reported(&self, status: u8, report: &[u8]) -> bool {
-        let all = self.reports.len().saturating_sub(1);
-        match status {
-            0 => self.has_report(report, (all, all)),
-            _ => report.is_empty(),
-        }
+/// Whether a run that ended with this status reports what both requests leave, where it came to its end, and else nothing.
+fn is_reported(status: u8, report: &[u8]) -> bool {
+    match status {
+        0 => report == BOTH_ROWS.as_bytes(),
+        _ => report.is_empty(),
     }
 }
 
-/// The status of a run under the settings with two mitigations. What it reports is in the sink.
-fn replayed(alloc: Global, host: &mut MemoryHost, sink: &mut MemorySink) -> Option<u8> {
+/// The status of a run of these events over the host, under the settings with two mitigations. What it reports is in the sink.
+fn replayed(
+    alloc: Global,
+    events: &str,
+    host: &mut MemoryHost,
+    sink: &mut MemorySink,
+) -> Option<u8> {
+    push_all(alloc, host, events)?;
     let asked = Asked {
         words: "replay settings",
         settings: TWO.as_bytes(),
@@ -158,36 +176,31 @@ fn replayed(alloc: Global, host: &mut MemoryHost, sink: &mut MemorySink) -> Opti
     run_over(alloc, asked, host, sink).ok()
 }
 
-/// The status of a run without events over this image. What it reports is in the sink.
-fn status_over(alloc: Global, image: &[u8], sink: &mut MemorySink) -> Option<u8> {
-    let mut host = host_over(alloc, TWO_BYTES, image)?;
-    replayed(alloc, &mut host, sink)
-}
-
 /// Whether a run without events over this image ends well, and reports what is left where so many requests are accepted.
 fn is_found(alloc: Global, plan: &Plan, image: &[u8], range: (usize, usize)) -> bool {
-    let mut sink = MemorySink::new(alloc);
-    status_over(alloc, image, &mut sink) == Some(0) && plan.has_report(sink.bytes(), range)
+    match host_over(alloc, TWO_BYTES, image) {
+        Some(mut host) => {
+            let mut sink = MemorySink::new(alloc);
+            let is_well = replayed(alloc, "", &mut host, &mut sink) == Some(0);
+            drop(host);
+            is_well && plan.has_report(sink.bytes(), range)
+        }
+        None => false,
+    }
 }
 
-/// The same of each image that a crash leaves behind these calls over a disk that held the image before.
-fn is_found_each_way(
-    alloc: Global,
-    plan: &Plan,
-    before: &[u8],
-    acts: &[Act],
-    range: (usize, usize),
-) -> bool {
+/// The same of what stands on the disk of the host, which held the image before, and of each image that a crash leaves behind its calls.
+fn is_found_each_way(alloc: Global, plan: &Plan, before: &[u8], host: &MemoryHost) -> bool {
+    let acts = host.acts();
+    let range = range_of(acts);
+    let mut all = is_found(alloc, plan, host.image(), range);
     for way in WAYS {
-        let found = match image_after(alloc, TWO_BYTES as usize, before, acts, way) {
+        all &= match image_after(alloc, before, acts, way) {
             Some(image) => is_found(alloc, plan, image.as_slice(), range),
             None => false,
         };
-        if !found {
-            return false;
-        }
     }
-    true
+    all
 }
 
 /// What came of the run over the host, which ended with this status.
@@ -199,42 +212,18 @@ fn found_after(
     host: &MemoryHost,
     status: u8,
 ) -> Found {
-    let acts = host.acts();
-    let Some(failed) = acts.get((failing.call as usize).saturating_sub(1)) else {
-        let image = host.image();
-        if status == 0 && image.len() > 48 && image[48] % 2 == plan.half {
+    let number = (failing.call as usize).saturating_sub(1);
+    let is_as_wanted = match host.acts().get(number) {
+        Some(failed) => status == failing.status(failed),
+        None if status == 0 && host.image().get(48) == Some(&plan.half) => {
             return Found::NothingFailed;
         }
-        return Found::Lost;
+        None => false,
     };
-    if !host.whole() || status != failing.status(failed) {
-        return Found::Lost;
-    }
-    if !failing.is_new(acts, failed, status) {
+    if is_as_wanted && host.whole() && is_found_each_way(alloc, plan, before, host) {
         return Found::Survived;
     }
-    let range = range_of(acts);
-    if !is_found(alloc, plan, host.image(), range) {
-        return Found::Lost;
-    }
-    if failing.leaves_ranges(failed) && !is_found_each_way(alloc, plan, before, acts, range) {
-        return Found::Lost;
-    }
-    Found::Survived
-}
-
-/// The status of a run of these events over the host, whose calls fail. What it reports is in the sink.
-fn run_failing(
-    alloc: Global,
-    events: &str,
-    failing: Failing,
-    host: &mut MemoryHost,
-    sink: &mut MemorySink,
-) -> Option<u8> {
-    if !push_all(alloc, host, events) || !failing.arrange(host) {
-        return None;
-    }
-    replayed(alloc, host, sink)
+    Found::Lost
 }
 
 /// What comes of the plan over the host, which holds the image from before.
@@ -245,123 +234,65 @@ fn judged(
     events: &str,
     failing: Failing,
     host: &mut MemoryHost,
-    sink: &mut MemorySink,
-) -> Option<Found> {
-    let status = run_failing(alloc, events, failing, host, sink)?;
-    if !plan.is_reported(status, sink.bytes()) {
-        return Some(Found::Lost);
+) -> Found {
+    if !failing.arrange(host) {
+        return Found::Lost;
     }
-    Some(found_after(alloc, plan, before, failing, host, status))
-}
-
-/// What comes of the plan over the image from before.
-fn judged_over(
-    alloc: Global,
-    plan: &Plan,
-    before: &[u8],
-    events: &str,
-    failing: Failing,
-    sink: &mut MemorySink,
-) -> Option<Found> {
-    let mut host = host_over(alloc, TWO_BYTES, before)?;
-    judged(alloc, plan, before, events, failing, &mut host, sink)
+    let mut sink = MemorySink::new(alloc);
+    match replayed(alloc, events, host, &mut sink) {
+        Some(status) if is_reported(status, sink.bytes()) => {
+            found_after(alloc, plan, before, failing, host, status)
+        }
+        _ => Found::Lost,
+    }
 }
 
 /// What comes of the plan over the image from before, with calls that fail.
-fn outcome(
-    alloc: Global,
-    plan: &Plan,
-    before: &[u8],
-    events: &str,
-    failing: Failing,
-) -> Option<Found> {
-    let mut sink = MemorySink::new(alloc);
-    judged_over(alloc, plan, before, events, failing, &mut sink)
-}
-
-/// What the disk holds after these events came over the host.
-fn image_after_events(
-    alloc: Global,
-    events: &str,
-    host: &mut MemoryHost,
-    sink: &mut MemorySink,
-) -> Option<Vec<u8>> {
-    if !push_all(alloc, host, events) || replayed(alloc, host, sink).is_none() {
-        return None;
+fn outcome(alloc: Global, plan: &Plan, before: &[u8], events: &str, failing: Failing) -> Found {
+    match host_over(alloc, TWO_BYTES, before) {
+        Some(mut host) => {
+            let found = judged(alloc, plan, before, events, failing, &mut host);
+            drop(host);
+            found
+        }
+        None => Found::Lost,
     }
-    Vec::from_slice(alloc, host.image()).ok()
 }
 
-/// What a disk holds that held nothing, after these events.
-fn image_over_nothing(alloc: Global, events: &str, sink: &mut MemorySink) -> Option<Vec<u8>> {
-    let mut host = host_over(alloc, TWO_BYTES, &[])?;
-    image_after_events(alloc, events, &mut host, sink)
-}
-
-/// What the disk holds after the first request was accepted so often.
-fn journal(alloc: Global, count: &str) -> Option<Vec<u8>> {
-    if count == "0" {
-        return Some(Vec::new(alloc));
-    }
-    let mut events = String::new(alloc);
-    push_requests(&mut events, count).ok()?;
-    let mut sink = MemorySink::new(alloc);
-    image_over_nothing(alloc, events.as_str(), &mut sink)
-}
-
-/// The first call whose failure isn't survived, and 0 where each is.
-fn first_lost_among(
-    alloc: Global,
-    plan: &Plan,
-    before: &[u8],
-    events: &str,
-    onwards: bool,
-) -> Option<u64> {
+/// Whether each call of the plan over the image from before may fail.
+fn survives_over(alloc: Global, plan: &Plan, before: &[u8], events: &str, onwards: bool) -> bool {
     for call in 1..MANY {
         let failing = Failing { call, onwards };
-        match outcome(alloc, plan, before, events, failing)? {
+        match outcome(alloc, plan, before, events, failing) {
             Found::Survived => {}
-            Found::Lost => return Some(call),
-            Found::NothingFailed => return Some(0),
+            Found::Lost => return false,
+            Found::NothingFailed => return true,
         }
     }
-    None
-}
-
-/// The same over the journal and the events of the plan.
-fn first_lost(alloc: Global, plan: &Plan, onwards: bool) -> Option<u64> {
-    let mut events = String::new(alloc);
-    push_lines(&mut events, plan.events).ok()?;
-    let before = journal(alloc, plan.before)?;
-    first_lost_among(alloc, plan, before.as_slice(), events.as_str(), onwards)
+    false
 }
 
 /// Whichever call fails, alone or with all behind it, what is found is what the first of the requests leave, among which each is whose
 /// acceptance was told.
-fn survives(rt: &impl Abort, alloc: Global, plan: &Plan, onwards: bool) {
-    assert!(rt; first_lost(alloc, plan, onwards) == Some(0));
+fn survives(alloc: Global, plan: &Plan, onwards: bool) -> Option<bool> {
+    let lines = plan.row.text(alloc, "*")?;
+    let events = plan.row.text(alloc, "<")?;
+    let before = image_of(alloc, TWO_BYTES as usize, lines.as_str())?;
+    Some(survives_over(alloc, plan, before.as_slice(), events.as_str(), onwards))
+}
+
+/// Whether both plans survive.
+fn both_survive(alloc: Global, onwards: bool) -> bool {
+    survives(alloc, &OVER_NOTHING, onwards) == Some(true)
+        && survives(alloc, &OVER_FULL, onwards) == Some(true)
 }
 
 #[test]
-fn a_call_over_a_new_disk(rt: HostRuntime) -> Result<(), Fail> {
-    survives(&rt, rt.alloc(), &OVER_NOTHING, false);
-    Ok(())
+fn a_call_that_fails(rt: HostRuntime) {
+    assert!(rt; both_survive(rt.alloc(), false));
 }
 
 #[test]
-fn all_calls_over_a_new_disk(rt: HostRuntime) -> Result<(), Fail> {
-    survives(&rt, rt.alloc(), &OVER_NOTHING, true);
-    Ok(())
-}
-
-#[test]
-fn a_call_over_a_full_journal(rt: HostRuntime) -> Result<(), Fail> {
-    survives(&rt, rt.alloc(), &OVER_FULL, false);
-    Ok(())
-}
-
-#[test]
-fn all_calls_over_a_full_journal(rt: HostRuntime) -> Result<(), Fail> {
-    survives(&rt, rt.alloc(), &OVER_FULL, true);
-    Ok(())
+fn all_calls_that_fail(rt: HostRuntime) {
+    assert!(rt; both_survive(rt.alloc(), true));
 }

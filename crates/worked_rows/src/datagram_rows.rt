@@ -2,7 +2,7 @@
 
 pub const DATAGRAMS: &str = "\
 $ replay settings
-&
+:&
 
 # Messages that ask for nothing that is served; a stranger, 77, is never answered.
 # a ping, and a confirmable message that can't be read

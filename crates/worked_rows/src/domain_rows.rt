@@ -2,7 +2,7 @@
 
 pub const DOMAINS: &str = "\
 $ replay settings
-&
+:&
 
 # A gateway names the domain by `cdid`; without one, or with that of no domain, it asks for none. A client asks for its own domain,
 # whatever its `cdid` says.

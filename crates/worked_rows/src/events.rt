@@ -7,11 +7,15 @@ use std::alloc::Global;
 /// An event with bytes: `from` with a peer and a datagram, or `piece` with those of a connection.
 fn event_with_bytes(alloc: Global, words: &str) -> Option<Event> {
     let (front, digits) = words.rsplit_once(' ')?;
+    let from = match front {
+        "piece" => 0,
+        _ => front.strip_prefix("from ")?.parse::<u32>().ok()?,
+    };
     let bytes = Bytes::from_vec(hex::decode(alloc, digits).ok()?);
-    match front {
-        "from 0" => Some(Event::Datagram { from: 0, bytes }),
-        "piece" => Some(Event::Piece { conn: 1, bytes }),
-        _ => None,
+    if front == "piece" {
+        Some(Event::Piece { conn: 1, bytes })
+    } else {
+        Some(Event::Datagram { from, bytes })
     }
 }
 
@@ -25,28 +29,25 @@ fn event_of(alloc: Global, words: &str) -> Option<Event> {
     }
 }
 
-/// Lets the event of a line come, as `at 1000 restart`, and answers whether that could be done.
-fn push(alloc: Global, host: &mut MemoryHost, line: &str) -> bool {
-    let Some(rest) = line.strip_prefix("at ") else {
-        return false;
-    };
-    let Some((time, words)) = rest.split_once(' ') else {
-        return false;
-    };
-    let Ok(at) = time.parse::<u64>() else {
-        return false;
-    };
-    match event_of(alloc, words) {
-        Some(event) => event.is_given() && at < 1 << 48 && host.push(event, at).is_ok(),
-        None => false,
+/// Lets the event of a line come, as `at 1000 restart`, where that can be done.
+fn push(alloc: Global, host: &mut MemoryHost, line: &str) -> Option<()> {
+    let (time, words) = line.strip_prefix("at ")?.split_once(' ')?;
+    let at = time.parse::<u64>().ok()?;
+    if at >= 1 << 48 {
+        return None;
     }
+    let event = event_of(alloc, words)?;
+    if !event.is_given() {
+        drop(event);
+        return None;
+    }
+    host.push(event, at).ok()
 }
 
-/// Lets the events of these lines come, and answers whether that could be done.
-pub fn push_all(alloc: Global, host: &mut MemoryHost, events: &str) -> bool {
-    let mut all = true;
+/// Lets the events of these lines come, where that can be done.
+pub fn push_all(alloc: Global, host: &mut MemoryHost, events: &str) -> Option<()> {
     for line in events.lines() {
-        all = push(alloc, host, line) && all;
+        push(alloc, host, line)?;
     }
-    all
+    Some(())
 }

@@ -80,71 +80,41 @@ fn tear_all(disk: &mut [u8], acts: &[Act], way: Way) -> bool {
     all
 }
 
-/// What a crash behind these calls leaves in this way of a disk of this size that held the image before them. Of a write that failed
-/// anything may stand on the disk.
-pub fn image_after(
-    alloc: Global,
-    size: usize,
-    before: &[u8],
-    acts: &[Act],
-    way: Way,
-) -> Option<Vec<u8>> {
-    let mut image = vec![in alloc; 0u8; size].ok()?;
-    if put(image.as_mut_slice(), 0, before) && tear_all(image.as_mut_slice(), acts, way) {
+/// What a crash behind these calls leaves in this way of a disk that held the image before them. Of a write that failed anything may
+/// stand on the disk.
+pub fn image_after(alloc: Global, before: &[u8], acts: &[Act], way: Way) -> Option<Vec<u8>> {
+    let mut image = Vec::from_slice(alloc, before).ok()?;
+    if tear_all(image.as_mut_slice(), acts, way) {
         Some(image)
     } else {
         None
     }
 }
 
-/// The place of a line, past every disk where it has none, and the digits of its bytes.
-fn range_of(line: &str) -> (usize, &str) {
+/// The place of a line, past every disk where it has none, and its bytes.
+fn placed(alloc: Global, line: &str) -> Option<(usize, Vec<u8>)> {
     let (place, digits) = line.split_once(' ').unwrap_or((line, ""));
-    (place.parse::<usize>().unwrap_or(usize::MAX), digits)
-}
-
-/// Puts the bytes of a line on the disk, and answers whether they have a place there.
-fn put_line(alloc: Global, disk: &mut [u8], line: &str) -> bool {
-    let (at, digits) = range_of(line);
-    match hex::decode(alloc, digits) {
-        Ok(bytes) => put(disk, at, bytes.as_slice()),
-        Err(_) => false,
-    }
-}
-
-/// Puts the bytes of these lines on the disk, and answers whether they have their places there.
-fn put_lines(alloc: Global, disk: &mut [u8], lines: &str) -> bool {
-    let mut all = true;
-    for line in lines.lines() {
-        all &= put_line(alloc, disk, line);
-    }
-    all
+    let bytes = hex::decode(alloc, digits).ok()?;
+    Some((place.parse::<usize>().unwrap_or(usize::MAX), bytes))
 }
 
 /// A disk of this size that holds the bytes of these lines, and zeros around them.
 pub fn image_of(alloc: Global, size: usize, lines: &str) -> Option<Vec<u8>> {
     let mut image = vec![in alloc; 0u8; size].ok()?;
-    if put_lines(alloc, image.as_mut_slice(), lines) {
-        Some(image)
-    } else {
-        None
+    let mut all = true;
+    for line in lines.lines() {
+        let (at, bytes) = placed(alloc, line)?;
+        all &= put(image.as_mut_slice(), at, bytes.as_slice());
     }
-}
-
-/// Whether the bytes of a line stand on the disk.
-fn stands(alloc: Global, image: &[u8], line: &str) -> bool {
-    let (at, digits) = range_of(line);
-    match hex::decode(alloc, digits) {
-        Ok(bytes) => at <= image.len() && image[at..].starts_with(bytes.as_slice()),
-        Err(_) => false,
-    }
+    if all { Some(image) } else { None }
 }
 
 /// Whether the bytes of each line stand on the disk.
-pub fn holds_all(alloc: Global, image: &[u8], lines: &str) -> bool {
+pub fn holds_all(alloc: Global, image: &[u8], lines: &str) -> Option<bool> {
     let mut all = true;
     for line in lines.lines() {
-        all = stands(alloc, image, line) && all;
+        let (at, bytes) = placed(alloc, line)?;
+        all &= at <= image.len() && image[at..].starts_with(bytes.as_slice());
     }
-    all
+    Some(all)
 }

@@ -109,3 +109,36 @@ $ replay settings
 < at 4600 piece 00
 
 < at 4600 closed";
+
+/// The header of a journal under the settings of most rows has their digest. Packets, empty lines and comments leave it as it is, and
+/// the last line may lack its line feed. The gateway asks in the first domain, the client in its own, and a stranger isn't answered.
+pub const DIGESTS: &str = "\
+$ replay settings
+@ 34381824
+< at 1000 from 3 START+CDID_NET1+CUID+MID_123+NET1
+< at 1000 from 2 START+CUID+MID_123+NET2
+< at 1000 from 4 START+CUID+MID_123+NET2
+> to 3 REPLY
+> to 2 REPLY
+= ROW
+= scrub net2 dz6pHjaADkaFTbjr0JGBpw 123 198.51.100.0/25 any any
++ 0 a5444f54534a4e4c0100000000000832+DIGEST_SETTINGS
+
+:&
+
+: # more
+:
+: packet 203.0.113.5 192.0.2.9 17 4000 53
+: domain net1
+: prefix net1 192.0.2.0/24
+: prefix net1 2001:db8:1::/48
+: domain net2
+: prefix net2 198.51.100.0/24
+: client 0 net1
+: client 1 net1
+: client 2 net2
+: gateway 3
+: packet 2001:db8::1 2001:db8:1::1 58 - -
+:| ceiling 86400
+= packet 1 scrubbed 123
+= packet 2 pass";

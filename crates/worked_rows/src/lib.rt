@@ -1,5 +1,5 @@
-//! Worked rows: whole runs of the program, with the bytes that are expected of them; and settings files and prefixes, with what
-//! reading them says.
+//! Worked rows: whole runs of the program, with the bytes that are expected of them; and prefixes and texts, with what reading them
+//! says.
 //!
 //! Each run is made through `dots_run::run`, as a user would: over a script, over a disk in memory, and over real sockets and a real
 //! journal. What runs find on their disks, what they leave there, and what another run finds then, is told whichever call failed, and
@@ -29,8 +29,6 @@ mod domain_rows;
 mod events;
 #[cfg(test)]
 mod faults;
-#[cfg(test)]
-mod files;
 #[cfg(test)]
 mod images;
 #[cfg(test)]

@@ -2,7 +2,7 @@
 
 pub const MITIGATIONS: &str = "\
 $ replay settings
-&
+:&
 
 # Of two mitigations of a client that overlap the one with the higher mid stays; the lower one may not be asked for beside it.
 < at 1000 from 0 REQUEST
@@ -170,7 +170,7 @@ $ replay settings
 /// With a sample packet.
 pub const FATES: &str = "\
 $ replay settings
-&
+:&
 : packet 198.18.0.1 192.0.2.9 17 4000 53
 
 # A packet is scrubbed while the mitigation lives, withdrawn or not, and not longer.

@@ -33,6 +33,16 @@ $ replay settings
 = packet 1 pass
 = packet 2 pass
 
+# two lines of a name, whose letters stand in another case in each
+: name WWW.example 192.0.2.1/32
+: name www.Example 192.0.2.2/32
+< at 1000 from 0 HEAD+MID_123+12010fffa101a10281+a20b816b7777772e4558414d504c450e190e10
+> to 0 REPLY
+= scrub net1 dz6pHjaADkaFTbjr0JGBpw 123 192.0.2.1/32 any any
+= scrub net1 dz6pHjaADkaFTbjr0JGBpw 123 192.0.2.2/32 any any
+= packet 1 pass
+= packet 2 pass
+
 # names whose address may not be asked for
 < at 1000 from 0 HEAD+MID_123+12010fffa101a10281+a20b816f6f75742e6578616d706c652e6e65740e190e10
 > to 0 OUTSIDE_DOMAIN
@@ -79,7 +89,7 @@ $ replay settings
 
 pub const LIFETIMES: &str = "\
 $ replay settings
-&
+:&
 
 # A lifetime is cut to the ceiling.
 # invalid 14

@@ -2,7 +2,7 @@
 
 pub const OPTIONS: &str = "\
 $ replay settings
-&
+:&
 
 # What is wrong with the path, the method and the options of a request decides in this order; then it is looked at the body.
 # parameters in another order

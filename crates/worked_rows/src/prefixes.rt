@@ -3,7 +3,7 @@
 use ip_scope::{BadPrefix, MAX_PREFIX_TEXT, parse_prefix, write_prefix};
 
 /// Prefixes, and how they are written (RFC 4291, sections 2.2 and 2.3; RFC 5952, section 4), or which fault they have.
-pub const PREFIXES: &str = "
+const PREFIXES: &str = "\
 0.0.0.0/0|0.0.0.0/0
 192.0.2.7/24|192.0.2.0/24
 255.255.255.255/32|255.255.255.255/32
@@ -46,7 +46,8 @@ ffff:ffff:ffff:ffff:ffff:ffff:255.255.255.255/128|ffff:ffff:ffff:ffff:ffff:ffff:
 ::/0/0|no prefix";
 
 /// Whether a text is read as a prefix that is written so, or has this fault.
-pub fn is_written(text: &str, want: &str) -> bool {
+fn holds(row: &str) -> bool {
+    let (text, want) = row.split_once('|').unwrap_or((row, ""));
     let mut into = [0; MAX_PREFIX_TEXT];
     match parse_prefix(text.as_bytes()) {
         Ok(prefix) => {
@@ -55,5 +56,12 @@ pub fn is_written(text: &str, want: &str) -> bool {
         }
         Err(BadPrefix::Length) => want == "length",
         Err(BadPrefix::NotPrefix) => want == "no prefix",
+    }
+}
+
+#[test]
+fn prefixes_are_read_and_written(rt: HostRuntime) {
+    for row in PREFIXES.lines() {
+        assert!(rt; holds(row), "at {row}");
     }
 }

@@ -2,7 +2,7 @@
 
 pub const REFUSALS: &str = "\
 $ replay settings
-&
+:&
 
 # Of several prefixes the first at fault decides, and of one prefix that it is no target.
 < at 1000 from 0 HEAD+MID_123+BODY+816f3139382e35312e3130302e302f3234+LIFETIME

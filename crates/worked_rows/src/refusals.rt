@@ -42,7 +42,11 @@ fn is_left_alone(rt: &HostRuntime, host_file: &[u8]) -> bool {
 fn is_kept_out(rt: &HostRuntime) -> bool {
     let host_file = b"journal worked_rows_locked\nevents 0\n";
     match FileSocketHost::open(rt.alloc(), rt, host_file) {
-        Ok(_first) => is_left_alone(rt, host_file),
+        Ok(first) => {
+            let is_alone = is_left_alone(rt, host_file);
+            drop(first);
+            is_alone
+        }
         Err(_) => false,
     }
 }

@@ -2,7 +2,7 @@
 
 pub const REPEATS: &str = "\
 $ replay settings
-&
+:&
 
 # A repeat gets the same bytes, and the times are those of the first: of a non-confirmable message for 145 seconds and of a
 # confirmable one for 247. After that the same message asks for a refresh.

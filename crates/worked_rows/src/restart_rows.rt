@@ -2,7 +2,7 @@
 
 pub const RESTARTS: &str = "\
 $ replay settings
-&
+:&
 
 # The time after a restart is that of the restart or of the last entry, whichever is later, and nothing else of the time before is
 # kept. So it may fall, and what had ended stands again.

@@ -1,5 +1,6 @@
 //! Runs of the program.
 
+use crate::tables::Row;
 use dots_disk::Host;
 use dots_host::{MemorySink, MemorySource, NoMemory};
 use dots_run::run;
@@ -26,7 +27,7 @@ pub fn words_of(alloc: Global, line: &str) -> Result<Vec<String>, NoMemory> {
 }
 
 /// A source of these bytes, where the call of this number fails, of those from 1 on.
-pub fn source_of(alloc: Global, bytes: &[u8], failing: u64) -> Result<MemorySource, NoMemory> {
+fn source_of(alloc: Global, bytes: &[u8], failing: u64) -> Result<MemorySource, NoMemory> {
     let mut source = MemorySource::new(alloc, bytes)?;
     source.fail_at(failing)?;
     Ok(source)
@@ -49,4 +50,21 @@ pub fn run_over<H: Host>(
     let words = words_of(alloc, asked.words)?;
     let mut settings = source_of(alloc, asked.settings, asked.failing)?;
     Ok(run(alloc, words.as_slice(), &mut settings, host, sink))
+}
+
+/// Whether a run of the row over the host ends with its status, and reports what it says.
+pub fn run_of<H: Host>(
+    alloc: Global,
+    row: Row,
+    host: &mut H,
+    sink: &mut MemorySink,
+) -> Option<bool> {
+    let settings = row.text(alloc, ":")?;
+    let asked = Asked {
+        words: row.word("$ "),
+        settings: settings.as_bytes(),
+        failing: row.number("! read "),
+    };
+    let status = run_over(alloc, asked, host, sink).ok()?;
+    Some(u64::from(status) == row.number("? ") && row.has(alloc, "=", sink.bytes()))
 }

@@ -2,7 +2,7 @@
 
 pub const SCRIPTS: &str = "\
 $ replay settings
-&
+:&
 
 # A mitigation ends 3600 s after it was accepted, at that second, and the time doesn't fall.
 < at 1000 from 0 REQUEST
@@ -41,7 +41,7 @@ $ replay settings
 ? 5
 
 # the report can't be written
-! write
+! write 1
 < at 1000 from 0 REQUEST
 > to 0 REPLY
 ? 9";

@@ -1,6 +1,6 @@
 //! Runs over scripts.
 
-use crate::runs::run_over;
+use crate::runs::run_of;
 use crate::tables::Row;
 use dots_host::{MemorySink, MemorySource, NoMemory};
 use dots_run::ScriptHost;
@@ -15,18 +15,20 @@ fn host_of(alloc: Global, script: &str) -> Result<Scripted, NoMemory> {
 }
 
 /// Whether a run of the row over the host goes as it says.
-fn leaves(
-    alloc: Global,
-    row: &Row,
-    host: &mut Scripted,
-    sink: &mut MemorySink,
-) -> Result<bool, NoMemory> {
-    let status = run_over(alloc, row.asked(), host, sink)?;
-    Ok(row.ends_so(status, sink) && host.sink().bytes() == row.sends.as_bytes())
+fn leaves(alloc: Global, row: Row, host: &mut Scripted, sink: &mut MemorySink) -> bool {
+    run_of(alloc, row, host, sink) == Some(true) && row.has(alloc, ">", host.sink().bytes())
+}
+
+/// Whether a run of the row over this script goes as it says.
+fn goes_over(alloc: Global, row: Row, script: &str, sink: &mut MemorySink) -> Option<bool> {
+    let mut host = host_of(alloc, script).ok()?;
+    let goes = leaves(alloc, row, &mut host, sink);
+    drop(host);
+    Some(goes)
 }
 
 /// Whether a run of the row over its script goes as it says.
-pub fn goes_over_script(alloc: Global, row: &Row, sink: &mut MemorySink) -> Result<bool, NoMemory> {
-    let mut host = host_of(alloc, row.events.as_str())?;
-    leaves(alloc, row, &mut host, sink)
+pub fn goes_over_script(alloc: Global, row: Row, sink: &mut MemorySink) -> Option<bool> {
+    let script = row.text(alloc, "<")?;
+    goes_over(alloc, row, script.as_str(), sink)
 }

@@ -2,7 +2,7 @@
 
 pub const WORDS: &str = "\
 $ replay settings
-&
+:&
 < at 1000 from 0 50030002
 
 # words that are none
@@ -40,15 +40,15 @@ $ show -4
 
 # the first read fails
 $ replay settings
-! read
+! read 1
 ? 5
 
 $ check settings
-! read
+! read 1
 ? 5
 
 $ check settings
-! write
+! write 1
 ? 9
 
 # what the settings come to
@@ -106,7 +106,7 @@ $ help
 =   70  the program isn't built yet, and can't be built: what stands above says why
 
 $ help
-! write
+! write 1
 ? 9
 
 $ version
@@ -122,7 +122,7 @@ $ show 4001123790
 = option 9 -
 
 $ show 40001234
-! write
+! write 1
 ? 9
 
 $ show 40011235ff
@@ -130,7 +130,7 @@ $ show 40011235ff
 ? 1
 
 $ show 40011235ff
-! write
+! write 1
 ? 1
 
 $ show 400
@@ -192,7 +192,7 @@ $ check-script
 
 # a fault stays one
 $ check-script
-! write
+! write 1
 : at 1000 from 0 50030002
 : at 1000 frm 0 5003";
 
@@ -207,5 +207,5 @@ $ check-script
 # two events with a line between them that is skipped
 = events: 2
 
-! read
+! read 1
 ? 5";

@@ -53,8 +53,8 @@ scrub net1 dz6pHjaADkaFTbjr0JGBpw 124 2001:db8:1::/64 any any
 /// REQUEST is the datagram of a request for 192.0.2.0/24 with mid 123, lifetime 3600 s and Message ID 1, in hexadecimal, REPLY its reply,
 /// 2.01 with mid 123 and 3600 s, and ROW the line of its filter. HEAD is the datagram up to its mid, and START up to its path. CUID, MID_123 and MID_124 are options of the path. BODY stands
 /// between the mid and the array of the prefixes, and LIFETIME behind that. NET1 and NET2 are the rest behind the mid for
-/// 192.0.2.0/24 and for 198.51.100.0/25. INSIDE and OUTSIDE are the texts of 192.0.2.0/24 and of 198.51.100.0/24, and CDID_NET2
-/// and CDID_NET9 options in front of the cuid. B_7 is the parameters of a client `b` and mid 7.
+/// 192.0.2.0/24 and for 198.51.100.0/25. INSIDE and OUTSIDE are the texts of 192.0.2.0/24 and of 198.51.100.0/24, and CDID_NET1,
+/// CDID_NET2 and CDID_NET9 options in front of the cuid. B_7 is the parameters of a client `b` and mid 7.
 ///
 /// The replies are those with the code and the payload that their names say: NO_PATH 4.04 with `path`, NO_PARAMETER 4.00 with
 /// `path parameter`, HOP_LIMIT 4.00 with `hop limit`, NO_CBOR 4.00 with `cbor`, QUERY 4.00 with `query`, NOT_A_TARGET,
@@ -65,8 +65,8 @@ scrub net1 dz6pHjaADkaFTbjr0JGBpw 124 2001:db8:1::/64 any any
 ///
 /// ASK is REQUEST behind its Message ID, and DONE its reply. ASK_SECOND is the same request for 2001:db8:1::/64 with mid 124, and
 /// ASK_END that of ASK with a lifetime of 0, to which the payload
-/// INVALID belongs, `invalid 14`. DIGEST is SHA-256 of the lines of [`TWO`], DIGEST_ORDER of the same with the client in its second line, and
-/// DIGEST_CEILING of the same with the ceiling 86399 behind them. HEADER is the header of a journal under [`TWO`] up to its selector.
+/// INVALID belongs, `invalid 14`. DIGEST is SHA-256 of the lines of [`TWO`], DIGEST_ORDER of the same with the client in its second line,
+/// DIGEST_CEILING of the same with the ceiling 86399 behind them, and DIGEST_SETTINGS of the lines of [`SETTINGS`]. HEADER is the header of a journal under [`TWO`] up to its selector.
 ///
 /// The others are parts of a record: a time, a peer with its domain and cuid, the key and the reply of what came by HTTP, and a change
 /// with its fields. A put has the mid 123, 124 or 125, for 192.0.2.0/24, for 2001:db8:1::/64, for 2001:db8:1:1::/64 or for 198.51.100.1/32, which
@@ -87,6 +87,7 @@ NET1 12010fffa101a10281a206816c3139322e302e322e302f32340e190e10
 NET2 12010fffa101a10281a206816f3139382e35312e3130302e302f32350e190e10
 INSIDE 6c3139322e302e322e302f3234
 OUTSIDE 6f3139382e35312e3130302e302f3234
+CDID_NET1 09636469643d6e657431
 CDID_NET2 09636469643d6e657432
 CDID_NET9 09636469643d6e657439
 B_7 06637569643d62056d69643d37
@@ -116,6 +117,7 @@ ROW_SECOND scrub net1 dz6pHjaADkaFTbjr0JGBpw 124 2001:db8:1::/64 any any
 DIGEST 2a262545a31576ee08e48a397ce4546e6a80cb6d0af8557982d69918576ca6ca
 DIGEST_ORDER cbbc3c7aa21dc6e49a4a45eefeb255e5d3ac4f088d8c668d9e9b429a5bb2fe49
 DIGEST_CEILING e204728998f4c60f27b53867268d385f05be1b5f3bd85775035c9e54296f937e
+DIGEST_SETTINGS aca3d8fd380b26663e8648e0464e1053125e776e649076c7a7dad445250c44f2
 HEADER a5444f54534a4e4c010000000000001c2a262545a31576ee08e48a397ce4546e6a80cb6d0af8557982d69918576ca6ca
 AT_5 0000000000000005
 AT_6 0000000000000006
