@@ -1,12 +1,12 @@
 //! When heartbeats are sent (RFC 9132, section 4.7).
 
 use crate::plain_configs::PlainConfigs;
-use crate::tables::{Rows, all_hold, words_of};
+use crate::row::Row;
+use crate::tables::{Rows, all_hold};
 use dots_host::MemorySource;
 use dots_settings::{Settings, read_settings};
-use session_core::{Beat, Sessions};
+use session_core::Sessions;
 use std::alloc::Global;
-use std::test::Fail;
 
 /// Peers 2 and 0 are clients, and peer 3, which stands between them, is a gateway.
 const SETTINGS: &[u8] =
@@ -32,35 +32,38 @@ heard 0 1000; heard 3 1001; heard 2 1002; next 1016: 3 1001 heard; next 1016; ne
 # Message IDs begin with the time of the first hearing, in 16 bits, and rise by one.
 number 0; heard 0 65535; number 0: 65535; number 0: 0; heard 0 70000; number 0: 1; heard 2 65541; number 2: 5; heard 1 1000: stranger; number 1";
 
-fn hear(sessions: &mut Sessions, peer: u32, now: u64) -> &'static str {
+fn hear(alloc: Global, sessions: &mut Sessions, step: &mut Row<'_>) -> Option<String> {
+    let peer = step.number::<u32>(" ");
+    let now = step.number::<u64>(" ");
     if sessions.holds(peer) {
         sessions.heard(peer, now);
-        return "";
+        return Some(String::new(alloc));
     }
-    "stranger"
+    String::from_str(alloc, "stranger").ok()
 }
 
-fn number(sessions: &mut Sessions, peer: u32) -> Option<u16> {
+fn number(alloc: Global, sessions: &mut Sessions, step: &mut Row<'_>) -> Option<String> {
+    let peer = step.number::<u32>(" ");
     if sessions.has_begun(peer) {
-        return Some(sessions.number(peer));
+        let id = sessions.number(peer);
+        return format!(in alloc; "{id}").ok();
     }
-    None
+    Some(String::new(alloc))
 }
 
-fn id_text(alloc: Global, id: Option<u16>) -> Result<String, Fail> {
-    match id {
-        Some(id) => Ok(format!(in alloc; "{id}")?),
-        None => Ok(String::new(alloc)),
-    }
-}
-
-fn beat_text(alloc: Global, beat: Option<Beat>) -> Result<String, Fail> {
-    match beat {
+fn beat(
+    alloc: Global,
+    sessions: &mut Sessions,
+    configs: &PlainConfigs,
+    step: &mut Row<'_>,
+) -> Option<String> {
+    let now = step.number::<u64>(" ");
+    match sessions.next_beat(configs, now) {
         Some(beat) => {
             let word = if beat.heard { "heard" } else { "silent" };
-            Ok(format!(in alloc; "{} {} {word}", beat.peer, beat.id)?)
+            format!(in alloc; "{} {} {word}", beat.peer, beat.id).ok()
         }
-        None => Ok(String::new(alloc)),
+        None => Some(String::new(alloc)),
     }
 }
 
@@ -69,61 +72,51 @@ fn take(
     alloc: Global,
     sessions: &mut Sessions,
     configs: &mut PlainConfigs,
-    step: &str,
-) -> Result<String, Fail> {
-    let words = words_of(alloc, step)?;
-    match words.as_slice() {
-        ["heard", peer, now] => {
-            let shown = hear(sessions, peer.parse::<u32>()?, now.parse::<u64>()?);
-            Ok(String::from_str(alloc, shown)?)
+    step: &mut Row<'_>,
+) -> Option<String> {
+    match step.text(" ") {
+        "heard" => hear(alloc, sessions, step),
+        "number" => number(alloc, sessions, step),
+        "next" => beat(alloc, sessions, configs, step),
+        "by" => {
+            configs.interval = step.number::<u64>(" ");
+            configs.missing = step.number::<u64>(" ");
+            Some(String::new(alloc))
         }
-        ["number", peer] => id_text(alloc, number(sessions, peer.parse::<u32>()?)),
-        ["by", interval, missing] => {
-            *configs = PlainConfigs {
-                interval: interval.parse::<u64>()?,
-                missing: missing.parse::<u64>()?,
-            };
-            Ok(String::new(alloc))
-        }
-        ["next", now] => beat_text(alloc, sessions.next_beat(configs, now.parse::<u64>()?)),
-        _ => Err(Fail::from("a step")),
+        _ => None,
     }
 }
 
 /// Whether each step of a row shows what stands behind it.
-fn show_all(alloc: Global, sessions: &mut Sessions, row: &str) -> Result<bool, Fail> {
+fn show_all(alloc: Global, sessions: &mut Sessions, row: &Row<'_>) -> Option<bool> {
     let mut configs = PlainConfigs {
         interval: 30,
         missing: 15,
     };
     let mut right = true;
-    for step in row.split("; ") {
-        let (step, want) = step.split_once(": ").unwrap_or((step, ""));
-        right &= take(alloc, sessions, &mut configs, step)?.as_str() == want;
+    for step in row.rest().split("; ") {
+        let mut step = Row::new(step, ": ");
+        let shown = take(alloc, sessions, &mut configs, &mut step)?;
+        right &= shown.as_str() == step.want() && step.is_read();
     }
-    Ok(right)
+    Some(right)
 }
 
-fn settings(alloc: Global) -> Result<Settings, Fail> {
-    let mut source = MemorySource::new(alloc, SETTINGS)?;
-    match read_settings(alloc, &mut source) {
-        Ok(settings) => Ok(settings),
-        Err(_) => Err(Fail::from("settings")),
-    }
-}
-
-fn show_of(alloc: Global, settings: &Settings, row: &str) -> Result<bool, Fail> {
-    let mut sessions = Sessions::new(alloc, settings)?;
+fn show_of(alloc: Global, settings: &Settings, row: &Row<'_>) -> Option<bool> {
+    let mut sessions = Sessions::new(alloc, settings).ok()?;
     show_all(alloc, &mut sessions, row)
 }
 
 /// Whether the steps of a row show what they are to.
-pub fn are_shown(alloc: Global, row: &str) -> Result<bool, Fail> {
-    let settings = settings(alloc)?;
-    show_of(alloc, &settings, row)
+pub fn are_shown(alloc: Global, row: &Row<'_>) -> Option<bool> {
+    let mut source = MemorySource::new(alloc, SETTINGS).ok()?;
+    let settings = read_settings(alloc, &mut source).ok()?;
+    let shown = show_of(alloc, &settings, row);
+    drop(settings);
+    shown
 }
 
 #[test]
-fn heartbeats_are_sent(rt: HostRuntime) -> Result<(), Fail> {
-    all_hold(&rt, rt.alloc(), Rows::Beats, BEATS)
+fn heartbeats_are_sent(rt: HostRuntime) {
+    all_hold(&rt, rt.alloc(), Rows::Beats, BEATS);
 }

@@ -1,53 +1,45 @@
 //! Items of CBOR (RFC 8949).
 
 use crate::cbor_examples::{DETERMINISTIC, FAULTS, OTHERS, UNSUPPORTED};
+use crate::row::Row;
 use crate::tables::{Rows, all_hold};
 use cbor_profile::{CborFault, Item, ItemList, PairList, decode, encode, is_valid};
-use dots_lists::{Bytes, NoMemory};
+use dots_lists::Bytes;
 use std::alloc::Global;
-use std::test::Fail;
 
 /// The deterministic encoding of what the bytes spell.
 fn written_again(alloc: Global, bytes: &[u8]) -> Result<Bytes, CborFault> {
     let item = decode(alloc, bytes)?;
-    match encode(alloc, &item) {
-        Ok(bytes) => Ok(bytes),
-        Err(_) => Err(CborFault::NoMemory),
-    }
+    let encoding = encode(alloc, &item);
+    drop(item);
+    Ok(encoding?)
 }
 
 /// That in hexadecimal, or the words of the first fault.
-fn told(alloc: Global, digits: &str) -> Result<String, Fail> {
-    let bytes = hex::decode(alloc, digits)?;
-    match written_again(alloc, bytes.as_slice()) {
-        Ok(encoding) => Ok(hex::encode(alloc, encoding.items())?),
-        Err(fault) => Ok(format!(in alloc; "{fault}")?),
+fn told(alloc: Global, bytes: &[u8]) -> Option<String> {
+    match written_again(alloc, bytes) {
+        Ok(encoding) => hex::encode(alloc, encoding.items()).ok(),
+        Err(fault) => format!(in alloc; "{fault}").ok(),
     }
-}
-
-fn is_told(alloc: Global, digits: &str, want: &str) -> Result<bool, Fail> {
-    Ok(told(alloc, digits)?.as_str() == want)
 }
 
 /// Whether each item in front of a row is answered with what stands behind them, or with itself where nothing does.
-pub fn are_answered(alloc: Global, row: &str) -> Result<bool, Fail> {
-    let (items, want) = match row.split_once(" = ") {
-        Some((items, want)) => (items, Some(want)),
-        None => (row, None),
-    };
+pub fn are_answered(alloc: Global, row: &mut Row<'_>) -> Option<bool> {
     let mut right = true;
-    for digits in items.split(' ') {
-        right &= is_told(alloc, digits, want.unwrap_or(digits))?;
+    for digits in row.rest().split(' ') {
+        let bytes = row.bytes(alloc, digits);
+        let told = told(alloc, bytes.as_slice())?;
+        right &= told.as_str() == row.want_or(digits);
     }
-    Ok(right)
+    Some(right)
 }
 
 #[test]
-fn items_are_read_and_written(rt: HostRuntime) -> Result<(), Fail> {
-    all_hold(&rt, rt.alloc(), Rows::Items, DETERMINISTIC)?;
-    all_hold(&rt, rt.alloc(), Rows::Items, OTHERS)?;
-    all_hold(&rt, rt.alloc(), Rows::Items, FAULTS)?;
-    all_hold(&rt, rt.alloc(), Rows::Items, UNSUPPORTED)
+fn items_are_read_and_written(rt: HostRuntime) {
+    all_hold(&rt, rt.alloc(), Rows::Items, DETERMINISTIC);
+    all_hold(&rt, rt.alloc(), Rows::Items, OTHERS);
+    all_hold(&rt, rt.alloc(), Rows::Items, FAULTS);
+    all_hold(&rt, rt.alloc(), Rows::Items, UNSUPPORTED);
 }
 
 /// The value beside an unsigned key of a map.
@@ -73,28 +65,26 @@ fn first_scope(item: &Item) -> Option<(u64, &str)> {
 }
 
 /// Whether the bytes are a map, in which a mitigation request has its first scope.
-fn is_request(alloc: Global, bytes: &[u8]) -> Result<bool, CborFault> {
-    let item = decode(alloc, bytes)?;
-    Ok(match first_scope(&item) {
-        Some((lifetime, prefix)) => lifetime == 3600 && prefix == "192.0.2.0/24",
-        None => false,
-    })
+fn is_request(alloc: Global, bytes: &[u8]) -> bool {
+    match decode(alloc, bytes) {
+        Ok(item) => matches!(first_scope(&item), Some((3600, "192.0.2.0/24"))),
+        Err(_) => false,
+    }
 }
 
 /// Whether an array of this one item is valid.
-fn is_valid_alone(alloc: Global, item: Item) -> Result<bool, NoMemory> {
+fn is_valid_alone(alloc: Global, item: Item) -> Option<bool> {
     let mut items = ItemList::new(alloc);
-    items.push(item)?;
-    Ok(is_valid(&Item::Array(items)))
+    items.push(item).ok()?;
+    Some(is_valid(&Item::Array(items)))
 }
 
 /// Whether the array of the item in front of a row is `valid`, or `invalid`.
-pub fn is_judged(alloc: Global, row: &str) -> Result<bool, Fail> {
-    let (digits, want) = row.split_once(" = ").ok_or("a row")?;
-    let bytes = hex::decode(alloc, digits)?;
-    let item = decode(alloc, bytes.as_slice())?;
-    let valid = is_valid_alone(alloc, item)?;
-    Ok(valid == (want == "valid"))
+pub fn is_judged(alloc: Global, row: &mut Row<'_>) -> Option<bool> {
+    let digits = row.rest();
+    let bytes = row.bytes(alloc, digits);
+    let item = decode(alloc, bytes.as_slice()).ok()?;
+    Some(is_valid_alone(alloc, item)? == (row.want() == "valid"))
 }
 
 /// Valid items nest sixteen deep.
@@ -104,27 +94,26 @@ const ARRAYS: &str = "\
 d818c1c1c1c1c1c1c1c1c1c1c1c1c1c100 = valid
 c1c1c1c1c1c1c1c1c1c1c1c1c1c1c1c100 = invalid";
 
-/// Whether a map of two such keys is valid.
-fn is_valid_map(alloc: Global, keys: [u64; 2]) -> Result<bool, NoMemory> {
+/// Whether a map of the keys in front of a row is `valid`, or `invalid`.
+pub fn is_map_judged(alloc: Global, row: &mut Row<'_>) -> Option<bool> {
     let mut pairs = PairList::new(alloc);
-    for key in keys {
-        pairs.push((Item::Unsigned(key), Item::Null))?;
+    for word in row.rest().split(' ') {
+        let key = row.read::<u64>(word);
+        pairs.push((Item::Unsigned(key), Item::Null)).ok()?;
     }
-    Ok(is_valid(&Item::Map(pairs)))
-}
-
-#[test]
-fn arrays_are_valid(rt: HostRuntime) -> Result<(), Fail> {
-    all_hold(&rt, rt.alloc(), Rows::Arrays, ARRAYS)
+    Some(is_valid(&Item::Map(pairs)) == (row.want() == "valid"))
 }
 
 /// The keys of valid items rise.
+const MAPS: &str = "\
+255 256 = valid
+256 255 = invalid
+7 7 = invalid";
+
 #[test]
-fn maps_are_valid(rt: HostRuntime) -> Result<(), Fail> {
+fn items_are_valid(rt: HostRuntime) {
     let request = b"\xa1\x01\xa1\x02\x81\xa2\x06\x81\x6c192.0.2.0/24\x0e\x19\x0e\x10";
-    assert!(rt; is_request(rt.alloc(), request)?);
-    for (keys, want) in [([255, 256], true), ([256, 255], false), ([7, 7], false)] {
-        assert!(rt; is_valid_map(rt.alloc(), keys)? == want);
-    }
-    Ok(())
+    assert!(rt; is_request(rt.alloc(), request));
+    all_hold(&rt, rt.alloc(), Rows::Arrays, ARRAYS);
+    all_hold(&rt, rt.alloc(), Rows::Maps, MAPS);
 }

@@ -1,10 +1,10 @@
 //! Lifetimes that are granted (RFC 9132, section 4.4.1), and deadlines.
 
+use crate::row::Row;
 use crate::tables::{Rows, all_hold};
 use dots_lists::NoMemory;
 use lifetime_clock::{Deadlines, grant};
 use std::alloc::Global;
-use std::test::Fail;
 
 /// Seconds that are asked for, the ceiling, and whether indefinite lifetimes are granted, in front of what is granted.
 const GRANTS: &str = "\
@@ -16,13 +16,12 @@ const GRANTS: &str = "\
 3601 3600 indefinite = 3600";
 
 /// Whether the seconds behind a row are granted.
-pub fn is_granted(row: &str) -> Result<bool, Fail> {
-    let (asked, rest) = row.split_once(' ').ok_or("a row")?;
-    let (ceiling, rest) = rest.split_once(' ').ok_or("a ceiling")?;
-    let (word, want) = rest.split_once(" = ").ok_or("a word")?;
-    let (asked, ceiling) = (asked.parse::<i32>()?, ceiling.parse::<i32>()?);
-    let want = want.parse::<i32>()?;
-    Ok((asked == -1 || asked > 0) && grant(asked, ceiling, word == "indefinite") == want)
+pub fn is_granted(row: &mut Row<'_>) -> bool {
+    let asked = row.number::<i32>(" ");
+    let ceiling = row.number::<i32>(" ");
+    let indefinite = row.rest() == "indefinite";
+    let want = row.read_want::<i32>();
+    (asked == -1 || asked > 0) && grant(asked, ceiling, indefinite) == want
 }
 
 /// The deadlines of the rows, set one after another, with as much room as there are rows.
@@ -34,18 +33,13 @@ pub fn deadlines_of(alloc: Global, rows: &[(u32, u64)]) -> Result<Deadlines, NoM
     Ok(deadlines)
 }
 
-pub fn clear_all(deadlines: &mut Deadlines, keys: &[u32]) {
-    for key in keys {
-        deadlines.clear(*key);
-    }
-}
-
-/// Keys with their times, as they are set; keys that are then cleared; and a time, in front of the keys that are due at it.
+/// Keys with their times, as they are set; keys that are then cleared; and a time, in front of the keys that are due at it,
+/// where there are some.
 const DUE: &str = "\
 # no room
-; 7; 18446744073709551615 =
+; 7; 18446744073709551615
 # one, at its borders
-7@10; ; 9 =
+7@10; ; 9
 4294967295@18446744073709551615; ; 18446744073709551615 = 4294967295
 # the full room, in order of time
 3@20 1@30 2@10 0@40; ; 30 = 2 3 1
@@ -54,36 +48,35 @@ const DUE: &str = "\
 # cleared: one that isn't there, and one twice
 1@10 2@20 3@30; 9 1 1; 40 = 2 3";
 
-fn times_in(alloc: Global, text: &str) -> Result<Vec<(u32, u64)>, Fail> {
-    let mut rows = Vec::new(alloc);
-    for word in text.split_whitespace() {
-        let (key, at) = word.split_once('@').ok_or("a time")?;
-        rows.push((key.parse::<u32>()?, at.parse::<u64>()?))?;
+fn times_in(alloc: Global, row: &mut Row<'_>) -> Option<Vec<(u32, u64)>> {
+    let mut times = Vec::new(alloc);
+    for word in row.text("; ").split_whitespace() {
+        let (key, at) = word.split_once('@').unwrap_or((word, ""));
+        times
+            .push((row.read::<u32>(key), row.read::<u64>(at)))
+            .ok()?;
     }
-    Ok(rows)
+    Some(times)
 }
 
 /// Whether these keys are due, one after the other, and then none, once the keys in front of them are cleared.
-fn hands_out(deadlines: &mut Deadlines, row: &str) -> Result<bool, Fail> {
-    let (cleared, rest) = row.split_once("; ").ok_or("keys that are cleared")?;
-    let (now, want) = rest.split_once(" =").ok_or("a time")?;
-    let now = now.parse::<u64>()?;
-    for word in cleared.split_whitespace() {
-        deadlines.clear(word.parse::<u32>()?);
+fn hands_out(deadlines: &mut Deadlines, row: &mut Row<'_>) -> bool {
+    for word in row.text("; ").split_whitespace() {
+        deadlines.clear(row.read::<u32>(word));
     }
+    let now = row.number::<u64>(" ");
     let mut right = true;
-    for word in want.split_whitespace() {
-        right &= deadlines.due(now) == Some(word.parse::<u32>()?);
+    for word in row.want().split_whitespace() {
+        right &= deadlines.due(now) == Some(row.read::<u32>(word));
     }
-    Ok(right && deadlines.due(now).is_none())
+    right && deadlines.due(now).is_none()
 }
 
 /// Whether what is due is what a row says.
-pub fn is_due(alloc: Global, row: &str) -> Result<bool, Fail> {
-    let (set, rest) = row.split_once(';').ok_or("keys")?;
-    let set = times_in(alloc, set)?;
-    let mut deadlines = deadlines_of(alloc, set.as_slice())?;
-    hands_out(&mut deadlines, rest)
+pub fn is_due(alloc: Global, row: &mut Row<'_>) -> Option<bool> {
+    let times = times_in(alloc, row)?;
+    let mut deadlines = deadlines_of(alloc, times.as_slice()).ok()?;
+    Some(hands_out(&mut deadlines, row))
 }
 
 /// So many keys with rising times: each is so many more than the one before, modulo their count. A step of 1 makes them rise,
@@ -113,53 +106,59 @@ fn nesting(text: &str) -> u32 {
 }
 
 /// The levels of the tree that the deadlines stand in, of which each is a bracket in what `Debug` prints.
-fn levels(alloc: Global, deadlines: &Deadlines) -> Result<u32, Fail> {
-    let text = format!(in alloc; "{deadlines:?}")?;
-    Ok(nesting(text.as_str()))
+fn levels(alloc: Global, deadlines: &Deadlines) -> Option<u32> {
+    let text = format!(in alloc; "{deadlines:?}").ok()?;
+    Some(nesting(text.as_str()))
 }
 
-/// The levels that are left where these were set, these keys were cleared, and so many keys were then handed out.
-fn levels_left(
-    alloc: Global,
-    set: &[(u32, u64)],
-    cleared: &[u32],
-    taken: usize,
-) -> Result<u32, Fail> {
-    let mut deadlines = deadlines_of(alloc, set)?;
-    clear_all(&mut deadlines, cleared);
+/// Clears the keys below 300, from 700 on below 1000, and each second one between them.
+fn clear_at_both_ends(deadlines: &mut Deadlines) {
+    for key in 0..1_000u32 {
+        if key < 300 || key >= 700 || key % 2 == 0 {
+            deadlines.clear(key);
+        }
+    }
+}
+
+/// The levels that are left of a thousand deadlines where keys were cleared, if any are, and so many were then handed out.
+fn levels_left(alloc: Global, step: u32, clears: bool, taken: u32) -> Option<u32> {
+    let rows = in_steps(alloc, 1_000, step).ok()?;
+    let mut deadlines = deadlines_of(alloc, rows.as_slice()).ok()?;
+    if clears {
+        clear_at_both_ends(&mut deadlines);
+    }
     for _ in 0..taken {
         let _key = deadlines.due(u64::MAX);
     }
     levels(alloc, &deadlines)
 }
 
-/// The keys below 300, from 700 on below 1000, and each second one between them.
-fn at_both_ends(alloc: Global) -> Result<Vec<u32>, NoMemory> {
-    let mut keys = Vec::new(alloc);
-    for key in 0..1_000u32 {
-        if key < 300 || key >= 700 || key % 2 == 0 {
-            keys.push(key)?;
-        }
-    }
-    Ok(keys)
+/// Whether so many levels are left as a row says.
+pub fn is_low(alloc: Global, row: &mut Row<'_>) -> Option<bool> {
+    let step = row.number::<u32>(" ");
+    let clears = row.text(" ") == "fewer";
+    let taken = row.number::<u32>(" ");
+    let least = row.number::<u32>(" ");
+    let most = row.number::<u32>(" ");
+    let levels = levels_left(alloc, step, clears, taken)?;
+    Some((least..=most).contains(&levels))
 }
 
+/// Keys that rise, fall and come in turns by their step; `all` of them, or `fewer` once keys are taken out at both ends and between;
+/// how many are then handed out; and the least and the most levels.
+///
 /// A tree in which no side of a branch is more than a level higher than the other has 10 to 14 levels for 1000 branches, 8 to 10
 /// for 200, and 7 to 9 for 100.
-fn is_low(alloc: Global, step: u32) -> Result<bool, Fail> {
-    let set = in_steps(alloc, 1_000, step)?;
-    let cleared = at_both_ends(alloc)?;
-    let whole = levels_left(alloc, set.as_slice(), &[], 0)?;
-    let fewer = levels_left(alloc, set.as_slice(), cleared.as_slice(), 0)?;
-    let later = levels_left(alloc, set.as_slice(), cleared.as_slice(), 100)?;
-    Ok((10..=14).contains(&whole) && (8..=10).contains(&fewer) && (7..=9).contains(&later))
-}
-
-/// For keys that rise, fall and come in turns, where keys are taken out at both ends and between, and where what is due is then
-/// handed out.
-pub fn is_low_by(alloc: Global, step: &str) -> Result<bool, Fail> {
-    is_low(alloc, step.parse::<u32>()?)
-}
+const LOW: &str = "\
+1 all 0 10 14
+1 fewer 0 8 10
+1 fewer 100 7 9
+999 all 0 10 14
+999 fewer 0 8 10
+999 fewer 100 7 9
+617 all 0 10 14
+617 fewer 0 8 10
+617 fewer 100 7 9";
 
 /// Whether the keys of the rows, whose times rise, are handed out in their order.
 fn hands_out_all(deadlines: &mut Deadlines, rows: &[(u32, u64)]) -> bool {
@@ -170,26 +169,19 @@ fn hands_out_all(deadlines: &mut Deadlines, rows: &[(u32, u64)]) -> bool {
     right && deadlines.due(u64::MAX).is_none()
 }
 
-/// Whether sixty thousand keys whose times rise are handed out in this order.
-fn keeps_the_order(alloc: Global, step: u32) -> Result<bool, NoMemory> {
-    let rows = in_steps(alloc, 60_000, step)?;
-    let mut deadlines = deadlines_of(alloc, rows.as_slice())?;
-    Ok(hands_out_all(&mut deadlines, rows.as_slice()))
-}
-
-/// Keys that rise or fall with their times. In a tree that isn't balanced the calls would nest too deep.
-pub fn keeps_many(alloc: Global, step: &str) -> Result<bool, Fail> {
-    Ok(keeps_the_order(alloc, step.parse::<u32>()?)?)
+/// Whether sixty thousand keys that rise or fall with their times, by the step of a row, are handed out in this order. In a tree that
+/// isn't balanced the calls would nest too deep.
+pub fn keeps_many(alloc: Global, row: &mut Row<'_>) -> Option<bool> {
+    let step = row.number::<u32>(" ");
+    let rows = in_steps(alloc, 60_000, step).ok()?;
+    let mut deadlines = deadlines_of(alloc, rows.as_slice()).ok()?;
+    Some(hands_out_all(&mut deadlines, rows.as_slice()))
 }
 
 #[test]
-fn lifetimes_and_deadlines(rt: HostRuntime) -> Result<(), Fail> {
-    all_hold(&rt, rt.alloc(), Rows::Grants, GRANTS)?;
-    all_hold(&rt, rt.alloc(), Rows::Due, DUE)?;
-    all_hold(&rt, rt.alloc(), Rows::Low, "1\n999\n617")
-}
-
-#[test]
-fn many_keys_are_handed_out(rt: HostRuntime) -> Result<(), Fail> {
-    all_hold(&rt, rt.alloc(), Rows::Many, "1\n59999")
+fn lifetimes_and_deadlines(rt: HostRuntime) {
+    all_hold(&rt, rt.alloc(), Rows::Grants, GRANTS);
+    all_hold(&rt, rt.alloc(), Rows::Due, DUE);
+    all_hold(&rt, rt.alloc(), Rows::Low, LOW);
+    all_hold(&rt, rt.alloc(), Rows::Many, "1\n59999");
 }

@@ -1,11 +1,11 @@
 //! Deadlines beside a plain list that is scanned: both are given the same calls.
 
 use crate::clock_rows::deadlines_of;
-use crate::tables::{Rows, all_hold, words_of};
+use crate::row::Row;
+use crate::tables::{Rows, all_hold};
 use dots_lists::NoMemory;
 use lifetime_clock::Deadlines;
 use std::alloc::Global;
-use std::test::Fail;
 
 /// How many times deadlines are set.
 const ROWS: u32 = 100;
@@ -118,19 +118,15 @@ const GOING: &str = "\
 10 3 40 39";
 
 /// Whether both have the same by a row.
-pub fn are_same(alloc: Global, row: &str) -> Result<bool, Fail> {
-    let words = words_of(alloc, row)?;
-    let [keys, key_step, times, time_step] = words.as_slice() else {
-        return Err(Fail::from("four numbers"));
-    };
+pub fn are_same(alloc: Global, row: &mut Row<'_>) -> Option<bool> {
     let of = Going {
-        keys: (keys.parse::<u32>()?, key_step.parse::<u32>()?),
-        times: (times.parse::<u64>()?, time_step.parse::<u64>()?),
+        keys: (row.number::<u32>(" "), row.number::<u32>(" ")),
+        times: (row.number::<u64>(" "), row.number::<u64>(" ")),
     };
-    Ok(agrees(alloc, of)?)
+    agrees(alloc, of).ok()
 }
 
 #[test]
-fn deadlines_are_those_of_a_list(rt: HostRuntime) -> Result<(), Fail> {
-    all_hold(&rt, rt.alloc(), Rows::Scans, GOING)
+fn deadlines_are_those_of_a_list(rt: HostRuntime) {
+    all_hold(&rt, rt.alloc(), Rows::Scans, GOING);
 }

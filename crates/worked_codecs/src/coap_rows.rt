@@ -3,13 +3,12 @@
 ghost use Rattle.std.specs.Prelude.{◌≤◌};
 ghost use Rattle.coap_message.specs.Parts.{IsValid};
 
-use crate::tables::{Rows, all_hold};
+use crate::row::Row;
+use crate::tables::{Rows, Told, all_hold};
 use coap_message::{
-    CoapFault, Kind, Message, OptionPart, Options, Parts, Token, decode, encode_into, encoded_len,
-    salvage,
+    Kind, Message, OptionPart, Options, Parts, Token, decode, encode_into, encoded_len, salvage,
 };
-use std::alloc::Global;
-use std::test::Fail;
+use std::alloc::{AllocError, Global};
 
 /// A NON PUT with six options and a payload.
 const REQUEST: [u8; 97] = *b"\x51\x03\x00\x01\x4a\xbb.well-known\x04dots\x08mitigate\
@@ -27,18 +26,18 @@ const HEADER: &[u8] = b"\x40\x01\x12\x34";
 /// Each number and each length is the last or the first with so long an extension. In the last two the extension of the delta
 /// comes first.
 const FORMS: &str = "\
-12 0 c0
-13 0 d000
-268 0 d0ff
-269 0 e00000
-65535 0 e0fef2
-1 12 1c
-1 13 1d00
-1 268 1dff
-1 269 1e0000
-1 65804 1effff
-14 527 de010102
-1041 15 ed030402";
+12 0 = c0
+13 0 = d000
+268 0 = d0ff
+269 0 = e00000
+65535 0 = e0fef2
+1 12 = 1c
+1 13 = 1d00
+1 268 = 1dff
+1 269 = 1e0000
+1 65804 = 1effff
+14 527 = de010102
+1041 15 = ed030402";
 
 /// One or two of each fault, in front of what is told of it, and where several are in one place.
 const FAULTS: &str = "\
@@ -63,7 +62,7 @@ const FAULTS: &str = "\
 40011235b0ff = no payload follows the marker at 5";
 
 /// What is written of a CON GET with one option, whose value has so many zeros.
-fn written(alloc: Global, number: u16, size: usize) -> Result<Vec<u8>, Fail>
+fn written(alloc: Global, number: u16, size: usize) -> Result<Vec<u8>, AllocError>
     requires { size ≤ 65804 }
 {
     let values = vec![in alloc; 0; size]?;
@@ -105,16 +104,16 @@ fn is_spelled(bytes: &[u8], front: &[u8], size: usize) -> bool {
 }
 
 /// Whether what is written of the option of a row is spelled as the row says.
-pub fn is_written(alloc: Global, row: &str) -> Result<bool, Fail> {
-    let (number, rest) = row.split_once(' ').ok_or("a number")?;
-    let (size, front) = rest.split_once(' ').ok_or("a length")?;
-    let (number, size) = (number.parse::<u16>()?, size.parse::<usize>()?);
+pub fn is_written(alloc: Global, row: &mut Row<'_>) -> Option<bool> {
+    let number = row.number::<u16>(" ");
+    let size = row.number::<usize>(" ");
+    let digits = row.want();
+    let front = row.bytes(alloc, digits);
     if size > 65_804 {
-        return Err(Fail::from("a length that no option has"));
+        return None;
     }
-    let front = hex::decode(alloc, front)?;
-    let bytes = written(alloc, number, size)?;
-    Ok(is_spelled(bytes.as_slice(), front.as_slice(), size))
+    let bytes = written(alloc, number, size).ok()?;
+    Some(is_spelled(bytes.as_slice(), front.as_slice(), size))
 }
 
 /// Whether the next of the options has this number and this value.
@@ -157,15 +156,14 @@ fn is_read() -> bool {
     }
 }
 
-/// Whether what is told of the bytes of a row is what stands behind them, nothing where they are a message.
-pub fn is_told(alloc: Global, row: &str) -> Result<bool, Fail> {
-    let (digits, want) = row.split_once(" = ").ok_or("a row")?;
-    let bytes = hex::decode(alloc, digits)?;
-    let said = match decode(bytes.as_slice()).err() {
-        Some(fault) => format!(in alloc; "{fault}")?,
-        None => String::new(alloc),
-    };
-    Ok(said.as_str() == want)
+/// What is told of the fault of the bytes of a row; None where they are a message.
+pub fn fault_of(alloc: Global, row: &mut Row<'_>) -> Option<String> {
+    let digits = row.rest();
+    let bytes = row.bytes(alloc, digits);
+    match decode(bytes.as_slice()) {
+        Ok(_) => None,
+        Err(fault) => format!(in alloc; "{fault}").ok(),
+    }
 }
 
 /// What is salvaged of bytes, a kind and an id.
@@ -186,14 +184,14 @@ fn word_of(kind: Kind) -> &'static str {
     }
 }
 
-/// Whether what is salvaged of the bytes of a row is what stands behind them.
-pub fn is_salvaged(alloc: Global, row: &str) -> Result<bool, Fail> {
-    let (digits, want) = row.split_once(" = ").ok_or("a row")?;
-    let bytes = hex::decode(alloc, digits)?;
-    Ok(match salvage(bytes.as_slice()) {
-        Some((kind, id)) => want == format!(in alloc; "{} {id}", word_of(kind))?.as_str(),
-        None => want == "nothing",
-    })
+/// What is salvaged of the bytes of a row.
+pub fn salvaged(alloc: Global, row: &mut Row<'_>) -> Option<String> {
+    let digits = row.rest();
+    let bytes = row.bytes(alloc, digits);
+    match salvage(bytes.as_slice()) {
+        Some((kind, id)) => format!(in alloc; "{} {id}", word_of(kind)).ok(),
+        None => String::from_str(alloc, "nothing").ok(),
+    }
 }
 
 /// Whether these parts take the bytes that are wanted at the front of the room, behind which it stays.
@@ -253,9 +251,9 @@ fn are_written() -> bool {
 }
 
 #[test]
-fn messages_are_read_and_written(rt: HostRuntime) -> Result<(), Fail> {
+fn messages_are_read_and_written(rt: HostRuntime) {
     assert!(rt; is_read() && are_written());
-    all_hold(&rt, rt.alloc(), Rows::Options, FORMS)?;
-    all_hold(&rt, rt.alloc(), Rows::Messages, FAULTS)?;
-    all_hold(&rt, rt.alloc(), Rows::Salvaged, SALVAGED)
+    all_hold(&rt, rt.alloc(), Rows::Options, FORMS);
+    all_hold(&rt, rt.alloc(), Rows::Told(Told::Messages), FAULTS);
+    all_hold(&rt, rt.alloc(), Rows::Told(Told::Salvaged), SALVAGED);
 }

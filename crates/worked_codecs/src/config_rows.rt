@@ -1,11 +1,11 @@
 //! Which configurations of sessions are taken (RFC 9132, section 4.5.2).
 
-use crate::tables::{Rows, all_hold, words_of};
+use crate::row::Row;
+use crate::tables::{Rows, Told, all_hold};
 use dots_history::{Config, Values};
 use dots_keys::{ConfigBody, Offer};
 use session_core::{ConfigFault, negotiate};
 use std::alloc::Global;
-use std::test::Fail;
 
 /// What is held in the rows, under whatever `sid`.
 const HELD: Values = Values {
@@ -38,17 +38,17 @@ fn put(offer: &mut Offer, key: &str, value: u64) {
     }
 }
 
-/// The values that a word offers, each behind its key; `-` offers none.
-fn offer(word: &str) -> Result<Offer, Fail> {
+/// The values that the next word offers, each behind its key; `-` offers none.
+fn offer(row: &mut Row<'_>) -> Offer {
     let mut offer = NOTHING;
-    if word == "-" {
-        return Ok(offer);
+    let word = row.text(" ");
+    if word != "-" {
+        for part in word.split(',') {
+            let (key, value) = part.split_once(':').unwrap_or((part, ""));
+            put(&mut offer, key, row.read::<u64>(value));
+        }
     }
-    for part in word.split(',') {
-        let (key, value) = part.split_once(':').ok_or("a value")?;
-        put(&mut offer, key, value.parse::<u64>()?);
-    }
-    Ok(offer)
+    offer
 }
 
 fn judged(held: Option<u32>, sid: u32, body: &ConfigBody) -> Result<Config, ConfigFault> {
@@ -62,32 +62,20 @@ fn judged(held: Option<u32>, sid: u32, body: &ConfigBody) -> Result<Config, Conf
     }
 }
 
-/// What becomes of a configuration.
-fn outcome(alloc: Global, held: Option<u32>, sid: u32, body: &ConfigBody) -> Result<String, Fail> {
-    match judged(held, sid, body) {
-        Ok(_) => Ok(String::from_str(alloc, "taken")?),
-        Err(ConfigFault::Range { key }) => Ok(format!(in alloc; "range {key}")?),
-        Err(ConfigFault::OlderSid { kept }) => Ok(format!(in alloc; "older {kept}")?),
-    }
-}
-
-/// Whether what becomes of a configuration stands behind its row: the `sid` that is held, the one that is given, and what is offered
-/// for a mitigation and for idle times.
-pub fn is_judged(alloc: Global, row: &str) -> Result<bool, Fail> {
-    let (front, want) = row.split_once(" = ").ok_or("a row")?;
-    let words = words_of(alloc, front)?;
-    let [held, sid, mitigating, idle] = words.as_slice() else {
-        return Err(Fail::from("four words"));
-    };
-    let held = match *held {
-        "-" => None,
-        held => Some(held.parse::<u32>()?),
-    };
+/// What becomes of the configuration of a row: the `sid` that is held, the one that is given, and what is offered for a mitigation and
+/// for idle times.
+pub fn outcome(alloc: Global, row: &mut Row<'_>) -> Option<String> {
+    let held = row.number_or_none();
+    let sid = row.number::<u32>(" ");
     let body = ConfigBody {
-        mitigating: offer(mitigating)?,
-        idle: offer(idle)?,
+        mitigating: offer(row),
+        idle: offer(row),
     };
-    Ok(outcome(alloc, held, sid.parse::<u32>()?, &body)?.as_str() == want)
+    match judged(held, sid, &body) {
+        Ok(_) => String::from_str(alloc, "taken").ok(),
+        Err(ConfigFault::Range { key }) => format!(in alloc; "range {key}").ok(),
+        Err(ConfigFault::OlderSid { kept }) => format!(in alloc; "older {kept}").ok(),
+    }
 }
 
 /// Each value is taken from the least to the greatest of its range, in both halves, and refused with its key beside it.
@@ -214,10 +202,10 @@ fn are_defaults() -> bool {
 }
 
 #[test]
-fn configurations_are_judged(rt: HostRuntime) -> Result<(), Fail> {
+fn configurations_are_judged(rt: HostRuntime) {
     assert!(rt; are_defaults());
-    all_hold(&rt, rt.alloc(), Rows::Configs, RANGES)?;
-    all_hold(&rt, rt.alloc(), Rows::Configs, ZERO)?;
-    all_hold(&rt, rt.alloc(), Rows::Configs, FIRST)?;
-    all_hold(&rt, rt.alloc(), Rows::Configs, LOWER)
+    all_hold(&rt, rt.alloc(), Rows::Told(Told::Configs), RANGES);
+    all_hold(&rt, rt.alloc(), Rows::Told(Told::Configs), ZERO);
+    all_hold(&rt, rt.alloc(), Rows::Told(Told::Configs), FIRST);
+    all_hold(&rt, rt.alloc(), Rows::Told(Told::Configs), LOWER);
 }

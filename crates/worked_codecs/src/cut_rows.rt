@@ -1,9 +1,10 @@
 //! What stands at the front of some bytes (RFC 9112, sections 2.2 and 6).
 
-use crate::tables::{Rows, all_hold, unescaped};
+use crate::connection::Connection;
+use crate::row::Row;
+use crate::tables::{Rows, Told, all_hold, unescaped};
 use http_cut::{Cut, HeadRoom, HttpRequest, Stream};
 use std::alloc::Global;
-use std::test::Fail;
 
 /// Bytes, and what is seen at their front and then at the front of what is left behind a first request.
 const FRONTS: &str = "\
@@ -13,12 +14,17 @@ PUT / HTTP/1.1%0d%0aContent-Length: 2%0d%0a%0d%0aa = more, more
 PUT / HTTP/1.1%0d%0aContent-Length: 8193%0d%0a%0d%0a = body too long, body too long";
 
 /// The length of a request at the front, or the fault.
-fn view_of(alloc: Global, cut: &Cut) -> Result<String, Fail> {
+fn view_of(alloc: Global, cut: &Cut) -> Option<String> {
     match cut {
-        Cut::Request(request) => Ok(format!(in alloc; "{}", request.length)?),
-        Cut::More => Ok(String::from_str(alloc, "more")?),
-        Cut::Refused(fault) => Ok(format!(in alloc; "{fault}")?),
+        Cut::Request(request) => format!(in alloc; "{}", request.length).ok(),
+        Cut::More => String::from_str(alloc, "more").ok(),
+        Cut::Refused(fault) => format!(in alloc; "{fault}").ok(),
     }
+}
+
+fn front_of(alloc: Global, connection: &mut Connection) -> Option<String> {
+    let cut = connection.stream.cut(&mut connection.room);
+    view_of(alloc, &cut)
 }
 
 fn discard_first(stream: &mut Stream, room: &mut HeadRoom) {
@@ -34,31 +40,20 @@ fn take_bytewise(stream: &mut Stream, bytes: &[u8]) {
     }
 }
 
-/// What is seen of these bytes, which come one by one.
-fn fronts(
-    alloc: Global,
-    stream: &mut Stream,
-    room: &mut HeadRoom,
-    bytes: &[u8],
-) -> Result<String, Fail> {
-    take_bytewise(stream, bytes);
-    let first = view_of(alloc, &stream.cut(room))?;
-    discard_first(stream, room);
-    let second = view_of(alloc, &stream.cut(room))?;
-    Ok(format!(in alloc; "{first}, {second}")?)
+/// What is seen of what came.
+fn fronts(alloc: Global, connection: &mut Connection) -> Option<String> {
+    let first = front_of(alloc, connection)?;
+    discard_first(&mut connection.stream, &mut connection.room);
+    let second = front_of(alloc, connection)?;
+    format!(in alloc; "{first}, {second}").ok()
 }
 
-fn seen(alloc: Global, room: &mut HeadRoom, bytes: &[u8]) -> Result<String, Fail> {
-    let mut stream = Stream::new(alloc)?;
-    fronts(alloc, &mut stream, room, bytes)
-}
-
-/// Whether what is seen of the bytes of a row is what stands behind them.
-pub fn are_seen(alloc: Global, row: &str) -> Result<bool, Fail> {
-    let (text, want) = row.split_once(" = ").ok_or("a row")?;
-    let bytes = unescaped(alloc, text)?;
-    let mut room = HeadRoom::new(alloc)?;
-    Ok(seen(alloc, &mut room, bytes.as_slice())?.as_str() == want)
+/// What is seen of the bytes of a row, which come one by one.
+pub fn seen(alloc: Global, row: &Row<'_>) -> Option<String> {
+    let bytes = unescaped(alloc, row.rest())?;
+    let mut connection = Connection::new(alloc)?;
+    take_bytewise(&mut connection.stream, bytes.as_slice());
+    fronts(alloc, &mut connection)
 }
 
 /// A request whose fields have blanks, capitals, parameters and several values, with the front of the next.
@@ -81,27 +76,18 @@ fn has_its_parts(request: &HttpRequest) -> bool {
         && are(request.body, b"xy")
 }
 
-fn gives_its_parts(stream: &mut Stream, room: &mut HeadRoom) -> bool {
-    let _count = stream.take(REQUEST);
-    match stream.cut(room) {
-        Cut::Request(request) => has_its_parts(&request),
-        _ => false,
+/// Whether the parts of the request are handed out.
+fn are_handed_out(alloc: Global) -> Option<bool> {
+    let mut connection = Connection::new(alloc)?;
+    let _count = connection.stream.take(REQUEST);
+    match connection.stream.cut(&mut connection.room) {
+        Cut::Request(request) => Some(has_its_parts(&request)),
+        _ => None,
     }
 }
 
-fn hands_out_parts(alloc: Global, room: &mut HeadRoom) -> Result<bool, Fail> {
-    let mut stream = Stream::new(alloc)?;
-    Ok(gives_its_parts(&mut stream, room))
-}
-
-/// Whether the parts of the request are handed out.
-fn are_handed_out(alloc: Global) -> Result<bool, Fail> {
-    let mut room = HeadRoom::new(alloc)?;
-    hands_out_parts(alloc, &mut room)
-}
-
 #[test]
-fn requests_stand_in_front(rt: HostRuntime) -> Result<(), Fail> {
-    assert!(rt; are_handed_out(rt.alloc())?);
-    all_hold(&rt, rt.alloc(), Rows::Fronts, FRONTS)
+fn requests_stand_in_front(rt: HostRuntime) {
+    assert!(rt; matches!(are_handed_out(rt.alloc()), Some(true)));
+    all_hold(&rt, rt.alloc(), Rows::Told(Told::Fronts), FRONTS);
 }

@@ -1,15 +1,14 @@
 //! What a message asks, as text.
 //!
-//! A row has a message and, behind bars, what is told of the message.
+//! A row has the head of a message and, behind a bar, its body.
 
+use crate::row::Row;
 use acl_lists::{Acl, Alias};
 use data_channel::{RestReject, RestRequest, location_of, read_rest_once};
-use dots_lists::NoMemory;
 use http_cut::HttpRequest;
 use list_json::{acl_value, alias_value};
 use std::alloc::Global;
 use std::str;
-use std::test::Fail;
 
 /// The path of the root.
 const ROOT: &str = "/restconf/data/ietf-dots-data-channel:dots-data";
@@ -35,67 +34,70 @@ fn kind_of(request: &RestRequest) -> &'static str {
     }
 }
 
-fn text_of_alias(alloc: Global, alias: &Alias) -> Result<String, NoMemory> {
-    let value = alias_value(alloc, alias)?;
-    Ok(value.to_string(alloc)?)
+fn text_of_alias(alloc: Global, alias: &Alias) -> Option<String> {
+    let value = alias_value(alloc, alias).ok()?;
+    value.to_string(alloc).ok()
 }
 
-fn text_of_acl(alloc: Global, acl: &Acl) -> Result<String, NoMemory> {
-    let value = acl_value(alloc, acl)?;
-    Ok(value.to_string(alloc)?)
+fn text_of_acl(alloc: Global, acl: &Acl) -> Option<String> {
+    let value = acl_value(alloc, acl).ok()?;
+    value.to_string(alloc).ok()
 }
 
 /// The alias or the access list of a request as JSON, or nothing.
-fn printed(alloc: Global, request: &RestRequest) -> Result<String, NoMemory> {
+fn printed(alloc: Global, request: &RestRequest) -> Option<String> {
     match request {
         RestRequest::PutAlias { alias, .. } => text_of_alias(alloc, alias),
         RestRequest::PostAlias { alias, .. } => text_of_alias(alloc, alias),
         RestRequest::PutAcl { acl, .. } => text_of_acl(alloc, acl),
         RestRequest::PostAcl { acl, .. } => text_of_acl(alloc, acl),
-        _ => Ok(String::new(alloc)),
+        _ => Some(String::new(alloc)),
     }
 }
 
 /// What a request asks, where below the root, and behind a bar with which alias or access list.
-fn told(alloc: Global, request: &RestRequest) -> Result<String, Fail> {
-    let path = location_of(alloc, request)?;
-    let place = str::from_utf8(path.items())?
-        .strip_prefix(ROOT)
-        .unwrap_or("");
+fn told(alloc: Global, request: &RestRequest) -> Option<String> {
+    let path = location_of(alloc, request).ok()?;
     let body = printed(alloc, request)?;
+    let place = str::from_utf8(path.items()).unwrap_or("");
+    let place = place.strip_prefix(ROOT).unwrap_or("");
     let kind = kind_of(request);
-    Ok(format!(in alloc; "{kind} {place}|{body}")?)
+    format!(in alloc; "{kind} {place}|{body}").ok()
 }
 
 /// What a message is refused with, and the methods of a resource that has others.
-fn refused(alloc: Global, reject: RestReject) -> Result<String, Fail> {
+fn refused(alloc: Global, reject: RestReject) -> Option<String> {
     match reject {
         RestReject::Method { allow } => {
             let methods = allow.text();
-            Ok(format!(in alloc; "Method {methods}")?)
+            format!(in alloc; "Method {methods}").ok()
         }
-        other => Ok(format!(in alloc; "{other:?}")?),
+        other => format!(in alloc; "{other:?}").ok(),
     }
 }
 
 /// What a message asks, or is refused with.
-pub fn answer(alloc: Global, request: &HttpRequest) -> Result<String, Fail> {
+pub fn answer(alloc: Global, request: &HttpRequest) -> Option<String> {
     match read_rest_once(alloc, request) {
-        Ok(asked) => told(alloc, &asked),
+        Ok(asked) => {
+            let told = told(alloc, &asked);
+            drop(asked);
+            told
+        }
         Err(reject) => refused(alloc, reject),
     }
 }
 
 /// What a message asks that has this body. Its head is a method, a path below the root and, where it is another than that of YANG data in
 /// JSON, the media type, or a dash for none.
-fn asked(alloc: Global, head: &str, body: &str) -> Result<String, Fail> {
-    let (method, rest) = head.split_once(' ').ok_or("a method")?;
+fn asked(alloc: Global, head: &str, body: &str) -> Option<String> {
+    let (method, rest) = head.split_once(' ').unwrap_or((head, ""));
     let (below, media) = match rest.split_once(' ') {
         Some((below, "-")) => (below, None),
         Some((below, media)) => (below, Some(media.as_bytes())),
         None => (rest, Some(JSON.as_bytes())),
     };
-    let target = format!(in alloc; "{ROOT}{below}")?;
+    let target = format!(in alloc; "{ROOT}{below}").ok()?;
     let request = HttpRequest {
         method: method.as_bytes(),
         target: target.as_bytes(),
@@ -105,6 +107,12 @@ fn asked(alloc: Global, head: &str, body: &str) -> Result<String, Fail> {
         length: 0,
     };
     answer(alloc, &request)
+}
+
+/// What the message of a row asks, or is refused with.
+pub fn asked_by(alloc: Global, row: &mut Row<'_>) -> Option<String> {
+    let head = row.text("|");
+    asked(alloc, head, row.rest())
 }
 
 /// What stands round a row of members: the head, what stands before and after the members in the body, and what stands before and after
@@ -127,19 +135,12 @@ fn is_joined(text: &str, front: &str, want: &str, back: &str) -> bool {
     }
 }
 
-/// Whether what is told of the message of a row is all that stands behind its second bar.
-pub fn is_told(alloc: Global, row: &str) -> Result<bool, Fail> {
-    let (head, rest) = row.split_once('|').ok_or("a head")?;
-    let (body, want) = rest.split_once('|').ok_or("a body")?;
-    Ok(asked(alloc, head, body)?.as_str() == want)
-}
-
-/// Whether what is told of the members of a row is all that stands behind its bar, with what stands round both.
-pub fn is_told_in(alloc: Global, form: Form<'_>, row: &str) -> Result<bool, Fail> {
-    let (members, want) = row.split_once('|').ok_or("members")?;
+/// Whether what is told of the members of a row is what is wanted, with what stands round both.
+pub fn is_told_in(alloc: Global, form: Form<'_>, row: &Row<'_>) -> Option<bool> {
     let (front, back) = form.body;
-    let body = format!(in alloc; "{front}{members}{back}")?;
+    let members = row.rest();
+    let body = format!(in alloc; "{front}{members}{back}").ok()?;
     let told = asked(alloc, form.head, &body)?;
     let (front, back) = form.told;
-    Ok(is_joined(&told, front, want, back))
+    Some(is_joined(&told, front, row.want(), back))
 }

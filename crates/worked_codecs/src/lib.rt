@@ -26,6 +26,8 @@ mod coap_rows;
 #[cfg(test)]
 mod config_rows;
 #[cfg(test)]
+mod connection;
+#[cfg(test)]
 mod cut_rows;
 #[cfg(test)]
 mod data_asking;
@@ -45,6 +47,8 @@ mod plain_configs;
 mod reply_rows;
 #[cfg(test)]
 mod request_rows;
+#[cfg(test)]
+mod row;
 #[cfg(test)]
 mod stream_rows;
 #[cfg(test)]

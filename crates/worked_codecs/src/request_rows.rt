@@ -1,10 +1,10 @@
 //! Messages of the signal channel: what they ask, and what they are refused with (RFC 9132, sections 4.4 to 4.7 and 6).
 
-use crate::tables::{Rows, all_hold, unescaped};
+use crate::row::Row;
+use crate::tables::{Rows, Told, all_hold, unescaped};
 use coap_message::{Message, decode};
 use dots_keys::{Content, MAX_TEXT, Observe, Reject, Request, read_request};
-use std::alloc::{AllocError, Global};
-use std::test::Fail;
+use std::alloc::Global;
 
 /// What stands for a name in a row.
 ///
@@ -99,10 +99,10 @@ fn meaning(word: &str) -> &str {
 }
 
 /// The bytes that the words of a row spell.
-fn datagram(alloc: Global, words: &str) -> Result<Vec<u8>, AllocError> {
+fn datagram(alloc: Global, words: &str) -> Option<Vec<u8>> {
     let mut text = String::new(alloc);
     for word in words.split(' ') {
-        text.push_str(meaning(word))?;
+        text.push_str(meaning(word)).ok()?;
     }
     unescaped(alloc, &text)
 }
@@ -157,35 +157,6 @@ fn name_of(request: &Request) -> &'static str {
     "asked"
 }
 
-/// The name of what a message asks, or what it is refused with; None where it is no request.
-fn asked(
-    alloc: Global,
-    message: &Message<'_>,
-    gateway: bool,
-) -> Option<Result<&'static str, Reject>> {
-    let code = message.code();
-    if code == 0 || code / 32 != 0 {
-        return None;
-    }
-    Some(match read_request(alloc, message, gateway) {
-        Ok(request) => Ok(name_of(&request)),
-        Err(reject) => Err(reject),
-    })
-}
-
-fn has_code(reject: &Reject, want: &str) -> bool {
-    let code = match want {
-        "4.00" => 0x80,
-        "4.02" => 0x82,
-        "4.04" => 0x84,
-        "4.05" => 0x85,
-        "4.06" => 0x86,
-        "4.15" => 0x8f,
-        _ => 0,
-    };
-    reject.code() == code
-}
-
 /// Whether the text that is put to the front of bytes is this.
 fn puts(reject: &Reject, want: &str) -> bool {
     let mut text = [0; MAX_TEXT];
@@ -193,33 +164,47 @@ fn puts(reject: &Reject, want: &str) -> bool {
     &text[..len] == want.as_bytes()
 }
 
-/// Whether a refusal has this code and this text, and is printed so too.
-fn is_refusal(alloc: Global, reject: Reject, want: &str) -> Result<bool, Fail> {
-    let (code, text) = want.split_once(' ').ok_or("a code")?;
-    let shown = format!(in alloc; "{reject}")?;
-    Ok(shown.as_str() == text && puts(&reject, text) && has_code(&reject, code))
+/// The code of a refusal and its text, which is printed as it is put to the front of bytes.
+fn refusal(alloc: Global, reject: &Reject) -> Option<String> {
+    let text = format!(in alloc; "{reject}").ok()?;
+    if !puts(reject, &text) {
+        return None;
+    }
+    let code = reject.code();
+    format!(in alloc; "{}.{:02} {text}", code / 32, code % 32).ok()
 }
 
-/// Whether the message of a row asks what stands behind it, or is refused so. `gateway` stands in front of a message from a gateway.
-pub fn is_answered(alloc: Global, row: &str) -> Result<bool, Fail> {
-    let (words, want) = row.split_once(" = ").ok_or("a row")?;
+/// The name of what a message asks, or what it is refused with; None where it is no request.
+fn asked(alloc: Global, message: &Message<'_>, gateway: bool) -> Option<String> {
+    let code = message.code();
+    if code == 0 || code / 32 != 0 {
+        return None;
+    }
+    match read_request(alloc, message, gateway) {
+        Ok(request) => String::from_str(alloc, name_of(&request)).ok(),
+        Err(reject) => refusal(alloc, &reject),
+    }
+}
+
+/// What the message of a row asks, or is refused with. `gateway` stands in front of a message from a gateway.
+pub fn answer(alloc: Global, row: &mut Row<'_>) -> Option<String> {
+    let words = row.rest();
     let (gateway, words) = match words.strip_prefix("gateway ") {
         Some(words) => (true, words),
         None => (false, words),
     };
     let bytes = datagram(alloc, words)?;
-    let message = decode(bytes.as_slice())?;
-    match asked(alloc, &message, gateway).ok_or("a request")? {
-        Ok(name) => Ok(name == want),
-        Err(reject) => is_refusal(alloc, reject, want),
+    match decode(bytes.as_slice()) {
+        Ok(message) => asked(alloc, &message, gateway),
+        Err(_) => None,
     }
 }
 
 #[test]
-fn requests_are_read_or_refused(rt: HostRuntime) -> Result<(), Fail> {
-    all_hold(&rt, rt.alloc(), Rows::Requests, HEADS)?;
-    all_hold(&rt, rt.alloc(), Rows::Requests, PATHS)?;
-    all_hold(&rt, rt.alloc(), Rows::Requests, BODIES)?;
-    all_hold(&rt, rt.alloc(), Rows::Requests, SCOPES)?;
-    all_hold(&rt, rt.alloc(), Rows::Requests, CONFIGS)
+fn requests_are_read_or_refused(rt: HostRuntime) {
+    all_hold(&rt, rt.alloc(), Rows::Told(Told::Requests), HEADS);
+    all_hold(&rt, rt.alloc(), Rows::Told(Told::Requests), PATHS);
+    all_hold(&rt, rt.alloc(), Rows::Told(Told::Requests), BODIES);
+    all_hold(&rt, rt.alloc(), Rows::Told(Told::Requests), SCOPES);
+    all_hold(&rt, rt.alloc(), Rows::Told(Told::Requests), CONFIGS);
 }

@@ -1,10 +1,10 @@
 //! The requests of whole streams, and how these go on.
 
-use crate::tables::{Rows, all_hold, unescaped};
-use dots_lists::NoMemory;
+use crate::connection::Connection;
+use crate::row::Row;
+use crate::tables::{Rows, Told, all_hold, unescaped};
 use http_cut::{HeadRoom, OwnedRequest, Stream, StreamEnd, Taken, take_requests};
 use std::alloc::Global;
-use std::test::Fail;
 
 fn are(bytes: &[u8], want: &[u8]) -> bool {
     bytes == want
@@ -41,32 +41,35 @@ fn are_puts(requests: &[OwnedRequest]) -> bool {
 /// Whether the requests in these pieces are the PUT of a client and that of its alias, and more is waited for.
 fn gives_puts(alloc: Global, stream: &mut Stream, room: &mut HeadRoom, pieces: &[&[u8]]) -> bool {
     let taken = take_requests(alloc, stream, room, pieces);
-    matches!(taken.end, Ok(StreamEnd::Waits)) && are_puts(taken.requests.items())
+    matches!(&taken.end, Ok(StreamEnd::Waits)) && are_puts(taken.requests.items())
 }
 
-fn are_puts_in(alloc: Global, room: &mut HeadRoom, pieces: &[&[u8]]) -> Result<bool, NoMemory> {
-    let mut stream = Stream::new(alloc)?;
-    Ok(gives_puts(alloc, &mut stream, room, pieces))
+fn are_puts_in(alloc: Global, room: &mut HeadRoom, pieces: &[&[u8]]) -> bool {
+    match Stream::new(alloc) {
+        Ok(mut stream) => gives_puts(alloc, &mut stream, room, pieces),
+        Err(_) => false,
+    }
 }
 
 /// The PUTs of a client and of its alias.
 const PUTS: &[u8] =
     b"PUT /restconf/data/ietf-dots-data-channel:dots-data/dots-client=dz6pHjaADkaFTbjr0JGBpw HTTP/1.1\r\nHost: dots.example\r\nContent-Type: application/yang-data+json\r\nContent-Length: 74\r\n\r\n{\"ietf-dots-data-channel:dots-client\":[{\"cuid\":\"dz6pHjaADkaFTbjr0JGBpw\"}]}PUT /restconf/data/ietf-dots-data-channel:dots-data/dots-client=dz6pHjaADkaFTbjr0JGBpw/aliases/alias=web HTTP/1.1\r\nHost: dots.example\r\nContent-Type: application/yang-data+json\r\nContent-Length: 83\r\n\r\n{\"ietf-dots-data-channel:alias\":[{\"name\":\"web\",\"target-prefix\":[\"192.0.2.80/32\"]}]}";
 
-/// Whether they are the same byte by byte, and in two pieces cut at each place. The first such cut leaves them in one piece.
-fn are_puts_however_cut(alloc: Global, room: &mut HeadRoom) -> Result<bool, Fail> {
-    let single = PUTS.chunks(1).collect::<Vec<&[u8]>>(alloc)?;
-    let mut right = are_puts_in(alloc, room, single.as_slice())?;
+/// Whether they are the same in two pieces, cut at each place. The first such cut leaves them in one piece.
+fn are_puts_in_two(alloc: Global, room: &mut HeadRoom) -> bool {
+    let mut right = true;
     for at in 0..PUTS.len() {
         let (front, back) = PUTS.split_at(at);
-        right &= are_puts_in(alloc, room, &[front, back])?;
+        right &= are_puts_in(alloc, room, &[front, back]);
     }
-    Ok(right)
+    right
 }
 
-fn are_puts_always(alloc: Global) -> Result<bool, Fail> {
-    let mut room = HeadRoom::new(alloc)?;
-    are_puts_however_cut(alloc, &mut room)
+/// Whether they are the same however they are cut, byte by byte too.
+fn are_puts_however_cut(alloc: Global) -> Option<bool> {
+    let single = PUTS.chunks(1).collect::<Vec<&[u8]>>(alloc).ok()?;
+    let mut room = HeadRoom::new(alloc).ok()?;
+    Some(are_puts_in(alloc, &mut room, single.as_slice()) && are_puts_in_two(alloc, &mut room))
 }
 
 /// Two pieces of a stream, how many requests they have, and how it goes on (RFC 9112, sections 2.2, 6.3 and 9.6, and the bounds on heads
@@ -81,51 +84,44 @@ GET / HTTP/1.0%0d%0a%0d%0aGET / HTTP/1.1%0d%0a%0d%0a| = 1 closes
 PUT / HTTP/1.1%0d%0aContent-Length: 8192%0d%0a%0d%0a|8192 = 1 waits";
 
 /// The bytes of a piece.
-fn piece(alloc: Global, text: &str) -> Result<Vec<u8>, Fail> {
+fn piece(alloc: Global, text: &str) -> Option<Vec<u8>> {
     match text.parse::<usize>() {
-        Ok(count) => Ok(vec![in alloc; b'A'; count]?),
-        Err(_) => Ok(unescaped(alloc, text)?),
+        Ok(count) => vec![in alloc; b'A'; count].ok(),
+        Err(_) => unescaped(alloc, text),
     }
 }
 
 /// How many requests were taken, and how the stream goes on.
-fn told(alloc: Global, taken: &Taken) -> Result<String, Fail> {
+fn told_of(alloc: Global, taken: &Taken) -> Option<String> {
     let count = taken.requests.items().len();
     match &taken.end {
-        Ok(StreamEnd::Waits) => Ok(format!(in alloc; "{count} waits")?),
-        Ok(StreamEnd::Closes) => Ok(format!(in alloc; "{count} closes")?),
-        Ok(StreamEnd::Refused(fault)) => Ok(format!(in alloc; "{count} {fault}")?),
-        Err(_) => Err(Fail::from("memory")),
+        Ok(StreamEnd::Waits) => format!(in alloc; "{count} waits").ok(),
+        Ok(StreamEnd::Closes) => format!(in alloc; "{count} closes").ok(),
+        Ok(StreamEnd::Refused(fault)) => format!(in alloc; "{count} {fault}").ok(),
+        Err(_) => None,
     }
 }
 
-fn told_of(
-    alloc: Global,
-    stream: &mut Stream,
-    room: &mut HeadRoom,
-    pieces: &[&[u8]],
-) -> Result<String, Fail> {
-    let taken = take_requests(alloc, stream, room, pieces);
-    told(alloc, &taken)
+fn told_in(alloc: Global, pieces: &[&[u8]]) -> Option<String> {
+    let mut connection = Connection::new(alloc)?;
+    let taken = take_requests(
+        alloc,
+        &mut connection.stream,
+        &mut connection.room,
+        pieces,
+    );
+    told_of(alloc, &taken)
 }
 
-fn told_in(alloc: Global, room: &mut HeadRoom, pieces: &[&[u8]]) -> Result<String, Fail> {
-    let mut stream = Stream::new(alloc)?;
-    told_of(alloc, &mut stream, room, pieces)
-}
-
-/// Whether the stream of a row goes on as it says.
-pub fn goes_on(alloc: Global, row: &str) -> Result<bool, Fail> {
-    let (pieces, want) = row.split_once(" = ").ok_or("a row")?;
-    let (front, back) = pieces.split_once('|').ok_or("two pieces")?;
-    let (front, back) = (piece(alloc, front)?, piece(alloc, back)?);
-    let mut room = HeadRoom::new(alloc)?;
-    let pieces = [front.as_slice(), back.as_slice()];
-    Ok(told_in(alloc, &mut room, &pieces)?.as_str() == want)
+/// How the stream of a row goes on.
+pub fn told(alloc: Global, row: &mut Row<'_>) -> Option<String> {
+    let front = piece(alloc, row.text("|"))?;
+    let back = piece(alloc, row.rest())?;
+    told_in(alloc, &[front.as_slice(), back.as_slice()])
 }
 
 #[test]
-fn streams_have_their_requests(rt: HostRuntime) -> Result<(), Fail> {
-    assert!(rt; are_puts_always(rt.alloc())?);
-    all_hold(&rt, rt.alloc(), Rows::Streams, STREAMS)
+fn streams_have_their_requests(rt: HostRuntime) {
+    assert!(rt; matches!(are_puts_however_cut(rt.alloc()), Some(true)));
+    all_hold(&rt, rt.alloc(), Rows::Told(Told::Streams), STREAMS);
 }

@@ -1,97 +1,130 @@
 //! Tables of rows in text.
 
 use crate::data_asking::{self, Form};
+use crate::row::Row;
 use crate::{
     beat_rows, body_rows, cbor_rows, clock_rows, clock_scans, coap_rows, config_rows, cut_rows,
-    reply_rows, request_rows, stream_rows, text_rows,
+    exchange_rows, reply_rows, request_rows, stream_rows, text_rows,
 };
+use dots_lists::Name;
 use percent_encoding::percent_decode;
-use std::alloc::{AllocError, Global};
+use std::alloc::Global;
 use std::process::Abort;
-use std::test::Fail;
 
 /// What the rows of a table are about.
 #[derive(Clone, Copy)]
 pub enum Rows<'a> {
-    /// Items of CBOR, and arrays of one item.
+    /// Rows of which a text is told.
+    Told(Told),
+    /// Items of CBOR, arrays of one item, and maps.
     Items,
     Arrays,
-    /// Messages of CoAP, what is salvaged of bytes, and forms of options.
-    Messages,
-    Salvaged,
+    Maps,
+    /// Forms of options in messages of CoAP.
     Options,
-    /// What is shown of the bytes of a message, and pairs of digits.
-    Shown,
-    Digits,
     /// Lifetimes and deadlines: what is granted and what is due, how low their tree is, how many it takes, and a list beside them.
     Grants,
     Due,
     Low,
     Many,
     Scans,
-    /// Requests and replies of the signal channel, and its sessions: their configurations and their heartbeats.
-    Requests,
-    Replies,
-    Configs,
+    /// Heartbeats of the signal channel.
     Beats,
-    /// Streams of HTTP, and what stands at their front.
-    Fronts,
-    Streams,
-    /// Messages of the data channel, those with these members in their bodies, and bodies of replies.
-    Data,
+    /// Messages of the data channel with these members in their bodies, and bodies of replies.
     Members(Form<'a>),
     Bodies,
 }
 
-fn holds(alloc: Global, rows: Rows<'_>, row: &str) -> Result<bool, Fail> {
+#[derive(Clone, Copy)]
+pub enum Told {
+    /// Messages of CoAP, and what is salvaged of bytes.
+    Messages,
+    Salvaged,
+    /// Pairs of digits.
+    Digits,
+    /// Requests and replies of the signal channel, and the configurations of its sessions.
+    Requests,
+    Replies,
+    Configs,
+    /// What stands at the front of a stream of HTTP, how streams go on, and what their messages ask.
+    Fronts,
+    Streams,
+    Exchanges,
+    /// Messages of the data channel.
+    Data,
+}
+
+/// What is told of the front of a row; None where it isn't there, or memory runs out.
+fn text_of(alloc: Global, what: Told, row: &mut Row<'_>) -> Option<String> {
+    match what {
+        Told::Messages => coap_rows::fault_of(alloc, row),
+        Told::Salvaged => coap_rows::salvaged(alloc, row),
+        Told::Digits => text_rows::read(alloc, row),
+        Told::Requests => request_rows::answer(alloc, row),
+        Told::Replies => reply_rows::spelled(alloc, row),
+        Told::Configs => config_rows::outcome(alloc, row),
+        Told::Fronts => cut_rows::seen(alloc, row),
+        Told::Streams => stream_rows::told(alloc, row),
+        Told::Exchanges => exchange_rows::asked(alloc, row),
+        Told::Data => data_asking::asked_by(alloc, row),
+    }
+}
+
+/// Whether what is told of the front of a row is what is wanted.
+fn is_told(alloc: Global, what: Told, row: &mut Row<'_>) -> bool {
+    match text_of(alloc, what, row) {
+        Some(text) => text.as_str() == row.want(),
+        None => false,
+    }
+}
+
+/// Whether the row is right; None where memory runs out.
+fn is_right(alloc: Global, rows: Rows<'_>, row: &mut Row<'_>) -> Option<bool> {
     match rows {
+        Rows::Told(what) => Some(is_told(alloc, what, row)),
         Rows::Items => cbor_rows::are_answered(alloc, row),
         Rows::Arrays => cbor_rows::is_judged(alloc, row),
-        Rows::Messages => coap_rows::is_told(alloc, row),
-        Rows::Salvaged => coap_rows::is_salvaged(alloc, row),
+        Rows::Maps => cbor_rows::is_map_judged(alloc, row),
         Rows::Options => coap_rows::is_written(alloc, row),
-        Rows::Shown => text_rows::is_shown(alloc, row),
-        Rows::Digits => text_rows::are_read(alloc, row),
-        Rows::Grants => clock_rows::is_granted(row),
+        Rows::Grants => Some(clock_rows::is_granted(row)),
         Rows::Due => clock_rows::is_due(alloc, row),
-        Rows::Low => clock_rows::is_low_by(alloc, row),
+        Rows::Low => clock_rows::is_low(alloc, row),
         Rows::Many => clock_rows::keeps_many(alloc, row),
         Rows::Scans => clock_scans::are_same(alloc, row),
-        Rows::Requests => request_rows::is_answered(alloc, row),
-        Rows::Replies => reply_rows::is_spelled(alloc, row),
-        Rows::Configs => config_rows::is_judged(alloc, row),
         Rows::Beats => beat_rows::are_shown(alloc, row),
-        Rows::Fronts => cut_rows::are_seen(alloc, row),
-        Rows::Streams => stream_rows::goes_on(alloc, row),
-        Rows::Data => data_asking::is_told(alloc, row),
         Rows::Members(form) => data_asking::is_told_in(alloc, form, row),
         Rows::Bodies => body_rows::is_shown(alloc, row),
     }
 }
 
-/// Each row holds. One that begins with `#` and a blank is a remark.
-pub fn all_hold(rt: &impl Abort, alloc: Global, rows: Rows<'_>, table: &str) -> Result<(), Fail> {
-    for row in table.lines() {
-        assert!(rt;
-            row.starts_with("# ") || holds(alloc, rows, row)?,
-            "at {row}"
-        );
+fn holds(alloc: Global, rows: Rows<'_>, text: &str) -> bool {
+    let mut row = Row::new(text, " = ");
+    matches!(is_right(alloc, rows, &mut row), Some(true)) && row.is_read()
+}
+
+/// Each row holds: it stands in a line, or between lines of three equal signs. One that begins with `#` and a blank is a remark.
+pub fn all_hold(rt: &impl Abort, alloc: Global, rows: Rows<'_>, table: &str) {
+    let between = match rows {
+        Rows::Told(Told::Exchanges) => "\n===\n",
+        _ => "\n",
+    };
+    for row in table.split(between) {
+        assert!(rt; row.starts_with("# ") || holds(alloc, rows, row), "at {row}");
     }
-    Ok(())
 }
 
 /// The bytes that a text spells, in which a percent sign and two digits are a byte.
-pub fn unescaped(alloc: Global, text: &str) -> Result<Vec<u8>, AllocError> {
+pub fn unescaped(alloc: Global, text: &str) -> Option<Vec<u8>> {
     let mut bytes = Vec::new(alloc);
-    percent_decode(text.as_bytes()).append_to(&mut bytes)?;
-    Ok(bytes)
+    percent_decode(text.as_bytes())
+        .append_to(&mut bytes)
+        .ok()?;
+    Some(bytes)
 }
 
-/// The words of a text, which stand apart by blanks.
-pub fn words_of<'a>(alloc: Global, text: &'a str) -> Result<Vec<&'a str>, AllocError> {
-    let mut words = Vec::new(alloc);
-    for word in text.split(' ') {
-        words.push(word)?;
+pub fn name(alloc: Global, text: &str) -> Option<Name> {
+    match Name::new(alloc, text.as_bytes()) {
+        Ok(name) => name,
+        Err(_) => None,
     }
-    Ok(words)
 }

@@ -64,6 +64,8 @@ mod scripted;
 #[cfg(test)]
 mod serving;
 #[cfg(test)]
+mod shown_rows;
+#[cfg(test)]
 mod tables;
 #[cfg(test)]
 mod telling_rows;

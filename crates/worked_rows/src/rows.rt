@@ -16,6 +16,7 @@ use crate::restart_rows::RESTARTS;
 use crate::runs::sink_of;
 use crate::script_rows::SCRIPTS;
 use crate::scripted::goes_over_script;
+use crate::shown_rows::SHOWN;
 use crate::tables::Row;
 use crate::telling_rows::{EVENTS, FAULTS, WORDS};
 use dots_host::MemorySink;
@@ -81,6 +82,7 @@ fn runs_of_commands(rt: HostRuntime) {
     all_hold(&rt, alloc, WORDS);
     all_hold(&rt, alloc, FAULTS);
     all_hold(&rt, alloc, EVENTS);
+    all_hold(&rt, alloc, SHOWN);
     all_hold(&rt, alloc, checks::SETTINGS);
     all_hold(&rt, alloc, checks::SCRIPTS);
     all_hold(&rt, alloc, FAULTY);
