@@ -66,7 +66,11 @@ fn prefixes_in(alloc: Global, body: &Value) -> Result<u64, ListFault>
     ensures { Gives result (prefixes_in (view body.now)) }
 {
     match alias_body(alloc, body) {
-        Ok(alias) => Ok(alias.asked.prefixes.items().len() as u64),
+        Ok(alias) => {
+            let count = alias.asked.prefixes.items().len() as u64;
+            drop(alias);
+            Ok(count)
+        }
         Err(fault) => Err(fault),
     }
 }

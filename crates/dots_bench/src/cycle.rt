@@ -3,11 +3,13 @@
 ghost use Rattle.std.specs.Prelude.{◌≡◌, ◌≤◌};
 ghost use Rattle.lifetime_clock.specs.Times.{count};
 
+use dots_lists::NoMemory;
 use lifetime_clock::Deadlines;
+use std::alloc::Global;
 
 /// Times that all differ, and rise on the whole, so that a new one lands anywhere among those that are set.
 #[derive(Drop)]
-pub struct Times {
+struct Times {
     /// How many were made.
     made: u64,
     /// How many will be.
@@ -19,7 +21,7 @@ pub struct Times {
 
 impl Times {
     /// For so many keys, and so many deadlines after theirs.
-    pub fn new(keys: u32, repetitions: u32) -> Times {
+    fn new(keys: u32, repetitions: u32) -> Times {
         Times {
             made: 0,
             all: u64::from(keys) + u64::from(repetitions),
@@ -28,7 +30,7 @@ impl Times {
         }
     }
 
-    pub fn next_time(&mut self) -> u64 {
+    fn next_time(&mut self) -> u64 {
         self.state = self
             .state
             .wrapping_mul(1_664_525)
@@ -50,7 +52,7 @@ pub struct Order {
 }
 
 /// Gives each key below `keys` a time.
-pub fn fill(deadlines: &mut Deadlines, keys: u32, times: &mut Times)
+fn fill(deadlines: &mut Deadlines, keys: u32, times: &mut Times)
     requires { (count deadlines.old ≡ 0) × (deadlines.old.room ≡ keys) }
     ensures room { count deadlines.new ≤ deadlines.new.room }
 {
@@ -60,7 +62,7 @@ pub fn fill(deadlines: &mut Deadlines, keys: u32, times: &mut Times)
 }
 
 /// Takes the key with the least time out and gives it another, so often.
-pub fn repeat(deadlines: &mut Deadlines, repetitions: u32, times: &mut Times) -> Order
+fn repeat(deadlines: &mut Deadlines, repetitions: u32, times: &mut Times) -> Order
     requires { count deadlines.old ≤ deadlines.old.room }
     ensures bound { result.answered ≤ repetitions }
 {
@@ -76,4 +78,12 @@ pub fn repeat(deadlines: &mut Deadlines, repetitions: u32, times: &mut Times) ->
         }
     }
     order
+}
+
+/// Sets deadlines for so many keys, and takes them out again so often.
+pub fn run(alloc: Global, keys: u32, repetitions: u32) -> Result<Order, NoMemory> {
+    let mut deadlines = Deadlines::new(alloc, keys as usize)?;
+    let mut times = Times::new(keys, repetitions);
+    fill(&mut deadlines, keys, &mut times);
+    Ok(repeat(&mut deadlines, repetitions, &mut times))
 }

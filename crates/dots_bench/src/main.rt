@@ -18,7 +18,6 @@ mod fronts;
 
 use anyhow::{Context, Result, bail, ensure};
 use codec::Codec;
-use lifetime_clock::Deadlines;
 use std::alloc::Global;
 use std::{env, fs};
 
@@ -67,9 +66,12 @@ fn run_lines(rt: &HostRuntime, text: &str, repetitions: u64) -> Result<()> {
 }
 
 /// Runs the cases of a file.
-fn run_cases(rt: &HostRuntime, file: &str, repetitions: &str) -> Result<()> {
-    let repetitions = parse_repetitions(repetitions)?;
-    let text = fs::read_to_string(rt, file).context("reading the case file")?;
+fn run_cases(rt: &HostRuntime, words: &[String]) -> Result<()> {
+    let [file, repetitions] = words else {
+        bail!("{USAGE}");
+    };
+    let repetitions = parse_repetitions(repetitions.as_str())?;
+    let text = fs::read_to_string(rt, file.as_str()).context("reading the case file")?;
     run_lines(rt, text.as_str(), repetitions)
 }
 
@@ -82,9 +84,12 @@ fn sum_of_files(rt: &HostRuntime, rows: &str, packets: &str, repetitions: u64) -
 }
 
 /// The same, and prints the sum.
-fn run_filter(rt: &HostRuntime, rows: &str, packets: &str, repetitions: &str) -> Result<()> {
-    let repetitions = parse_repetitions(repetitions)?;
-    let sum = sum_of_files(rt, rows, packets, repetitions)?;
+fn run_filter(rt: &HostRuntime, words: &[String]) -> Result<()> {
+    let [rows, packets, repetitions] = words else {
+        bail!("{USAGE}");
+    };
+    let repetitions = parse_repetitions(repetitions.as_str())?;
+    let sum = sum_of_files(rt, rows.as_str(), packets.as_str(), repetitions)?;
     println!(rt; "sum {sum}")?;
     Ok(())
 }
@@ -97,29 +102,26 @@ fn parse_keys(word: &str) -> Result<u32> {
 }
 
 /// Sets deadlines and takes them out again, so often, and prints what was answered.
-fn run_cycles(rt: &HostRuntime, keys: &str, repetitions: &str) -> Result<()> {
-    let keys = parse_keys(keys)?;
-    let repetitions = repetitions.parse::<u32>().context(USAGE)?;
-    let mut deadlines = Deadlines::new(rt.alloc(), keys as usize)?;
-    let mut times = cycle::Times::new(keys, repetitions);
-    cycle::fill(&mut deadlines, keys, &mut times);
-    let order = cycle::repeat(&mut deadlines, repetitions, &mut times);
+fn run_cycles(rt: &HostRuntime, words: &[String]) -> Result<()> {
+    let [keys, repetitions] = words else {
+        bail!("{USAGE}");
+    };
+    let keys = parse_keys(keys.as_str())?;
+    let repetitions = repetitions.as_str().parse::<u32>().context(USAGE)?;
+    let order = cycle::run(rt.alloc(), keys, repetitions)?;
     println!(rt; "{keys} {repetitions} {} {}", order.answered, order.sum)?;
     Ok(())
 }
 
 /// Does what the words of the command line say.
 fn run(rt: &HostRuntime, words: &[String]) -> Result<()> {
-    match words {
-        [command, file, repetitions] if command.as_str() == "codec" => {
-            run_cases(rt, file.as_str(), repetitions.as_str())
-        }
-        [command, rows, packets, repetitions] if command.as_str() == "filter" => {
-            run_filter(rt, rows.as_str(), packets.as_str(), repetitions.as_str())
-        }
-        [command, keys, repetitions] if command.as_str() == "cycle" => {
-            run_cycles(rt, keys.as_str(), repetitions.as_str())
-        }
+    let [command, words @ ..] = words else {
+        bail!("{USAGE}");
+    };
+    match command.as_str() {
+        "codec" => run_cases(rt, words),
+        "filter" => run_filter(rt, words),
+        "cycle" => run_cycles(rt, words),
         _ => bail!("{USAGE}"),
     }
 }
