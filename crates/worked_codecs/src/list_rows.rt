@@ -173,6 +173,11 @@ fn access_lists(rt: HostRuntime) {
 #[test]
 fn at_most_32_entries(rt: HostRuntime) -> Result<(), Fail> {
     all_hold(&rt, rt.alloc(), Rows::Members(ENTRIES), &most(rt.alloc())?);
-    all_hold(&rt, rt.alloc(), Rows::Members(BAD_ENTRIES), &too_many(rt.alloc())?);
+    all_hold(
+        &rt,
+        rt.alloc(),
+        Rows::Members(BAD_ENTRIES),
+        &too_many(rt.alloc())?,
+    );
     Ok(())
 }

@@ -70,13 +70,7 @@ fn nothing_asked(alloc: Global) -> Asked {
 }
 
 /// Asks for what stands behind a mark, too.
-fn ask(
-    alloc: Global,
-    asked: &mut Asked,
-    row: &mut Row<'_>,
-    mark: &str,
-    word: &str,
-) -> Option<()> {
+fn ask(alloc: Global, asked: &mut Asked, row: &mut Row<'_>, mark: &str, word: &str) -> Option<()> {
     match mark {
         "p" => asked.prefixes.push(prefix(word)?).ok(),
         "r" => asked.ports.push(range(row, word)?).ok(),

@@ -42,7 +42,11 @@ impl<'a> Row<'a> {
 
     /// What is wanted, or this where nothing is.
     pub fn want_or(&self, other: &'a str) -> &'a str {
-        if self.want.is_empty() { other } else { self.want }
+        if self.want.is_empty() {
+            other
+        } else {
+            self.want
+        }
     }
 
     pub fn is_read(&self) -> bool {

@@ -104,12 +104,7 @@ fn told_of(alloc: Global, taken: &Taken) -> Option<String> {
 
 fn told_in(alloc: Global, pieces: &[&[u8]]) -> Option<String> {
     let mut connection = Connection::new(alloc)?;
-    let taken = take_requests(
-        alloc,
-        &mut connection.stream,
-        &mut connection.room,
-        pieces,
-    );
+    let taken = take_requests(alloc, &mut connection.stream, &mut connection.room, pieces);
     told_of(alloc, &taken)
 }
 

@@ -109,16 +109,17 @@ pub fn all_hold(rt: &impl Abort, alloc: Global, rows: Rows<'_>, table: &str) {
         _ => "\n",
     };
     for row in table.split(between) {
-        assert!(rt; row.starts_with("# ") || holds(alloc, rows, row), "at {row}");
+        assert!(rt;
+            row.starts_with("# ") || holds(alloc, rows, row),
+            "at {row}"
+        );
     }
 }
 
 /// The bytes that a text spells, in which a percent sign and two digits are a byte.
 pub fn unescaped(alloc: Global, text: &str) -> Option<Vec<u8>> {
     let mut bytes = Vec::new(alloc);
-    percent_decode(text.as_bytes())
-        .append_to(&mut bytes)
-        .ok()?;
+    percent_decode(text.as_bytes()).append_to(&mut bytes).ok()?;
     Some(bytes)
 }
 
