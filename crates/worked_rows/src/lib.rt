@@ -7,6 +7,9 @@
 //! from the program.
 //!
 //! Rows are text: [`tables`] says how they are read, and [`texts`] has the names that stand in them.
+//!
+//! Calls that no run makes as they are made here stand in two modules of their own: [`hosts`] has those of hosts, and [`registry`] those of the
+//! registry's libraries. A crate of tests is linked and checked with all that it reaches, so one crate is cheaper than three.
 #![tactic(auto)]
 
 #[cfg(test)]
@@ -30,6 +33,8 @@ mod events;
 #[cfg(test)]
 mod faults;
 #[cfg(test)]
+mod hosts;
+#[cfg(test)]
 mod images;
 #[cfg(test)]
 mod journal_rows;
@@ -49,6 +54,8 @@ mod prefixes;
 mod refusal_rows;
 #[cfg(test)]
 mod refusals;
+#[cfg(test)]
+mod registry;
 #[cfg(test)]
 mod repeat_rows;
 #[cfg(test)]

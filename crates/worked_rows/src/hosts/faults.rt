@@ -1,0 +1,90 @@
+//! What host files say, and their faults.
+
+use crate::hosts::words::{number, word};
+use dots_edge::{HostFault, read_host_file};
+use std::alloc::Global;
+
+/// Rows stand apart by `==`. The first line of each is how many lines say something, or the fault and its line, and the others are the
+/// host file.
+const FILES: &str = "\
+said 8
+# all of them
+journal /var/lib/dots/journal
+
+signal [::]:4646
+http 127.0.0.1:0
+peer 0 192.0.2.1
+peer 0 2001:db8::1
+peer 4294967294 [2001:db8::2]:65535
+peer 7 192.0.2.2:1
+events 9999999999999999999
+==
+line 1
+?
+==
+line 3
+# c
+
+journal
+==
+line 1
+journal a b
+==
+line 1
+signal 127.0.0.1
+==
+line 1
+signal ::1:5
+==
+line 1
+signal [127.0.0.1]:5
+==
+line 1
+signal 127.0.0.1:65536
+==
+line 1
+http 127.0.0.1:05
+==
+line 1
+peer 4294967295 10.0.0.1
+==
+twice 2
+peer 0 10.0.0.1
+peer 1 ::ffff:10.0.0.1
+==
+twice 2
+journal a
+journal b
+==
+twice 2
+signal 127.0.0.1:0
+signal [::1]:0
+==
+twice 2
+events 1
+events 1
+==
+line 1
+events -1";
+
+/// What a host file has, and its number.
+fn found(alloc: Global, file: &str) -> (&'static str, u64) {
+    match read_host_file(alloc, file.as_bytes()) {
+        Ok(lines) => ("said", lines.len() as u64),
+        Err(HostFault::Line { n }) => ("line", n),
+        Err(HostFault::Twice { n }) => ("twice", n),
+        Err(HostFault::NoMemory) => ("memory", 0),
+    }
+}
+
+fn holds(alloc: Global, row: &str) -> bool {
+    let (want, file) = row.split_once('\n').unwrap_or((row, ""));
+    found(alloc, file) == (word(want, 0), number(want, 1))
+}
+
+#[test]
+fn host_files_are_read(rt: HostRuntime) {
+    for row in FILES.split("\n==\n") {
+        assert!(rt; holds(rt.alloc(), row), "at {row}");
+    }
+}

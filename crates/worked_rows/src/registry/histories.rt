@@ -1,0 +1,239 @@
+//! What the plain programs say of a history.
+
+use crate::registry::entries::{prefixes, push_entries, scope};
+use crate::registry::packets::{letters, packets, v4};
+use crate::registry::told::Told;
+use crate::registry::words::{NONE, digit, flag, number};
+use acl_lists::{Acl, Alias, Packet, PrefixList, ace_matches};
+use dots_history::{
+    Change, Entry, ends, fate_of_packet, held, is_live_after, is_within_bounds, list_rows,
+    mitigations, places_to_keep, recent, remembered, scrub_rows,
+};
+use dots_laws::is_calm;
+use dots_lists::List;
+use dots_settings::Settings;
+use std::alloc::Global;
+use std::test::Fail;
+
+/// Whether the first of these is live after the others.
+fn is_live(t: u64, entries: &[Entry]) -> bool {
+    match entries {
+        [first, later @ ..] => is_live_after(t, first, later),
+        [] => false,
+    }
+}
+
+/// Whether the second of these ends the first.
+fn is_ended(entries: &[Entry]) -> bool {
+    match entries {
+        [first, second] => ends(first, second),
+        _ => false,
+    }
+}
+
+/// Whether the last of these is within bounds.
+fn is_bounded(entries: &[Entry]) -> bool {
+    match entries {
+        [.., last] => is_within_bounds(last),
+        [] => false,
+    }
+}
+
+/// The change of the one entry.
+fn only(entries: &[Entry]) -> Result<&Change, Fail> {
+    match entries {
+        [entry] => Ok(&entry.change),
+        _ => Err(Fail::from("one entry")),
+    }
+}
+
+/// How many prefixes the copy of an alias has.
+fn copied_of(alloc: Global, alias: &Alias) -> Result<u64, Fail> {
+    let copy = alias.copy(alloc)?;
+    let count = copy.asked.prefixes.items().len();
+    drop(copy);
+    Ok(count as u64)
+}
+
+fn copied(alloc: Global, entries: &[Entry]) -> Result<u64, Fail> {
+    match only(entries)? {
+        Change::SetAlias(alias) => copied_of(alloc, alias),
+        _ => Err(Fail::from("an alias")),
+    }
+}
+
+/// A packet of UDP from port 123 of 203.0.113.7 to port 80 of 192.0.2.80, with its ports or without.
+fn packet(ports: Option<(u16, u16)>) -> Packet {
+    Packet {
+        source: v4(0xcb00_7107),
+        destination: v4(0xc000_0250),
+        protocol: 17,
+        ports,
+    }
+}
+
+/// Whether the one entry of the list matches the packet, where the domain has this prefix.
+fn matches(acl: &Acl, domain: &str, packet: Packet) -> Result<bool, Fail> {
+    let domain = [scope(domain)?];
+    match acl.aces.items() {
+        [ace] => Ok(ace_matches(acl, ace, &domain, &packet)),
+        _ => Err(Fail::from("one entry")),
+    }
+}
+
+/// Whether the one entry of the list matches the packet, whether it does where the domain ends before its destination, and whether it
+/// matches one without ports.
+fn tell_matches_of(told: &mut Told, acl: &Acl) -> Result<(), Fail> {
+    for (domain, ports) in &[
+        ("192.0.2.0/24", Some((123, 80))),
+        ("192.0.2.0/26", Some((123, 80))),
+        ("192.0.2.0/24", None),
+    ] {
+        told.push(flag(matches(acl, domain, packet(*ports))?));
+    }
+    Ok(())
+}
+
+fn tell_matches(told: &mut Told, entries: &[Entry]) -> Result<(), Fail> {
+    match only(entries)? {
+        Change::SetAcl(acl) => tell_matches_of(told, acl),
+        _ => Err(Fail::from("a list")),
+    }
+}
+
+/// How many there are of what is named, whatever the time.
+fn count_of(alloc: Global, what: &str, entries: &[Entry]) -> Result<u64, Fail> {
+    match what {
+        "held" => Ok(held(alloc, entries)?.len() as u64),
+        "lists" => Ok(list_rows(alloc, entries)?.len() as u64),
+        "copied" => copied(alloc, entries),
+        _ => Err(Fail::from("a question")),
+    }
+}
+
+/// Tells what is so whatever the time.
+fn tell_whole(
+    alloc: Global,
+    told: &mut Told,
+    settings: &Settings,
+    what: &str,
+    entries: &[Entry],
+) -> Result<(), Fail> {
+    match what {
+        "ended" => told.push(flag(is_ended(entries))),
+        "bounded" => told.push(flag(is_bounded(entries))),
+        "calm" => told.push(flag(is_calm(settings, entries))),
+        "matches" => return tell_matches(told, entries),
+        _ => told.push(digit(count_of(alloc, what, entries)?)),
+    }
+    Ok(())
+}
+
+/// When the message of this number that peer 0 repeats for domain 0 came, where so many are remembered.
+fn tell_one(told: &mut Told, count: usize, t: u64, id: u16, entries: &[Entry]) {
+    match remembered(count, t, 0, 0, id, entries) {
+        Some(entry) => told.push_number(entry.time),
+        None => told.push(NONE),
+    }
+}
+
+/// The same where one is remembered, and where two are.
+fn tell_came(told: &mut Told, t: u64, id: u16, entries: &[Entry]) {
+    tell_one(told, 1, t, id, entries);
+    told.push(b' ');
+    tell_one(told, 2, t, id, entries);
+}
+
+/// The places that the view names, with one message remembered.
+fn tell_kept(alloc: Global, told: &mut Told, t: u64, entries: &[Entry]) -> Result<(), Fail> {
+    let places = places_to_keep(alloc, 1, t, entries)?;
+    for place in places.as_slice() {
+        told.push(digit(*place as u64));
+    }
+    Ok(())
+}
+
+fn tell_fates_in(
+    alloc: Global,
+    told: &mut Told,
+    t: u64,
+    domains: &[PrefixList],
+    entries: &[Entry],
+) -> Result<(), Fail> {
+    for packet in &packets() {
+        let fate = fate_of_packet(alloc, domains, t, entries, packet)?;
+        told.extend(&letters(fate));
+    }
+    Ok(())
+}
+
+/// The fates of packets, where domain 0 has one prefix.
+fn tell_fates(alloc: Global, told: &mut Told, t: u64, entries: &[Entry]) -> Result<(), Fail> {
+    let domains = [prefixes(alloc, "192.0.2.0/24")?];
+    tell_fates_in(alloc, told, t, &domains, entries)
+}
+
+/// How many there are of what is named at a time, or of the last signal entries for as many messages.
+fn count_at(alloc: Global, what: &str, t: u64, entries: &[Entry]) -> Result<u64, Fail> {
+    match what {
+        "mitigations" => Ok(mitigations(alloc, t, entries)?.len() as u64),
+        "rows" => Ok(scrub_rows(alloc, t, entries)?.len() as u64),
+        "recent" => Ok(recent(alloc, t as usize, entries)?.len() as u64),
+        _ => Err(Fail::from("a question")),
+    }
+}
+
+/// Tells what is so at a time.
+fn tell_at(
+    alloc: Global,
+    told: &mut Told,
+    what: &str,
+    t: u64,
+    entries: &[Entry],
+) -> Result<(), Fail> {
+    match what {
+        "live" => told.push(flag(is_live(t, entries))),
+        "330" => tell_came(told, t, 330, entries),
+        "331" => tell_came(told, t, 331, entries),
+        "kept" => return tell_kept(alloc, told, t, entries),
+        "fates" => return tell_fates(alloc, told, t, entries),
+        _ => told.push(digit(count_at(alloc, what, t, entries)?)),
+    }
+    Ok(())
+}
+
+fn tell(
+    alloc: Global,
+    told: &mut Told,
+    settings: &Settings,
+    question: &str,
+    entries: &[Entry],
+) -> Result<(), Fail> {
+    match question.split_once(' ') {
+        Some((what, t)) => tell_at(alloc, told, what, number(t)?, entries),
+        None => tell_whole(alloc, told, settings, question, entries),
+    }
+}
+
+fn tell_after(
+    alloc: Global,
+    told: &mut Told,
+    settings: &Settings,
+    entries: &mut List<Entry>,
+    asked: &str,
+) -> Result<(), Fail> {
+    let (texts, question) = asked.split_once(" ? ").ok_or("a question")?;
+    push_entries(alloc, entries, texts)?;
+    tell(alloc, told, settings, question, entries.items())
+}
+
+/// What is said of entries.
+pub fn tell_history(
+    alloc: Global,
+    told: &mut Told,
+    settings: &Settings,
+    asked: &str,
+) -> Result<(), Fail> {
+    let mut entries = List::new(alloc);
+    tell_after(alloc, told, settings, &mut entries, asked)
+}

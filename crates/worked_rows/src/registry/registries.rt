@@ -1,0 +1,291 @@
+//! What a registry says, in letters: an alias and an access list are the first letters of their names.
+
+ghost use Rattle.std.specs.Prelude.{◌≡◌, ◌<◌, List, true};
+ghost use Rattle.dots_history.specs.declared.entry.Entry.{Entry};
+ghost use Rattle.dots_registry.specs.Standing.{StandsFor, IsOf, domains_of};
+
+use crate::registry::entries::prefixes;
+use crate::registry::packets::{letter, letters, packets};
+use crate::registry::taking::take_all;
+use crate::registry::told::Told;
+use crate::registry::words::{NONE, digit, number, small};
+use acl_lists::{Acl, Alias, Asked};
+use dots_heads::MitigationPath;
+use dots_keys::MitigationBody;
+use dots_lists::{Bytes, List, Name};
+use dots_registry::Registry;
+use dots_settings::Settings;
+use held_things::RoomKind;
+use put_judging::{Judged, PutFault};
+use std::alloc::Global;
+use std::test::Fail;
+
+fn name(alloc: Global, text: &str) -> Result<Name, Fail> {
+    match Name::new(alloc, text.as_bytes())? {
+        Some(name) => Ok(name),
+        None => Err(Fail::from("a name")),
+    }
+}
+
+/// The domain and the cuid of a client.
+fn client(word: &str) -> (u16, &'static [u8]) {
+    match word.as_bytes() {
+        [b'A'] => (0, b"a"),
+        [b'B'] => (0, b"b"),
+        _ => (1, b"a"),
+    }
+}
+
+fn tell_aliases(told: &mut Told, aliases: &[Alias]) {
+    for alias in aliases {
+        told.push(letter(&alias.name));
+    }
+    told.push(b' ');
+}
+
+fn tell_acls(told: &mut Told, acls: &[Acl]) {
+    for acl in acls {
+        told.push(letter(&acl.name));
+    }
+    told.push(b' ');
+}
+
+/// The number that is reached.
+fn room(registry: &Registry, domain: u16, cuid: &[u8], kind: RoomKind) -> u8 {
+    match registry.room_for(domain, cuid, kind) {
+        Some(number) => digit(number),
+        None => NONE,
+    }
+}
+
+/// The peer that registered the client.
+fn registrant(registry: &Registry, domain: u16, cuid: &[u8]) -> u8 {
+    match registry.registrant(domain, cuid) {
+        Some(peer) => digit(u64::from(peer)),
+        None => NONE,
+    }
+}
+
+fn alias_letter(alias: Option<&Alias>) -> u8 {
+    match alias {
+        Some(alias) => letter(&alias.name),
+        None => NONE,
+    }
+}
+
+fn acl_letter(acl: Option<&Acl>) -> u8 {
+    match acl {
+        Some(acl) => letter(&acl.name),
+        None => NONE,
+    }
+}
+
+/// The alias `web` and the list `ok`.
+fn named(alloc: Global, registry: &Registry, domain: u16, cuid: &[u8]) -> Result<[u8; 2], Fail> {
+    let web = name(alloc, "web")?;
+    let ok = name(alloc, "ok")?;
+    Ok([
+        alias_letter(registry.alias(domain, cuid, &web)),
+        acl_letter(registry.acl(domain, cuid, &ok)),
+    ])
+}
+
+/// Which numbers of clients, of aliases and of access lists are reached.
+fn rooms(registry: &Registry, domain: u16, cuid: &[u8]) -> [u8; 4] {
+    [
+        room(registry, domain, cuid, RoomKind::Client),
+        room(registry, domain, cuid, RoomKind::Alias),
+        room(registry, domain, cuid, RoomKind::Acl),
+        b' ',
+    ]
+}
+
+/// Who registered a client, its aliases and its access lists, which numbers are reached, and its alias `web` and its list `ok`.
+fn tell_held(alloc: Global, told: &mut Told, registry: &Registry, word: &str) -> Result<(), Fail> {
+    let (domain, cuid) = client(word);
+    told.extend(&[registrant(registry, domain, cuid), b' ']);
+    tell_aliases(told, registry.aliases(domain, cuid));
+    tell_acls(told, registry.acls(domain, cuid));
+    told.extend(&rooms(registry, domain, cuid));
+    told.extend(&named(alloc, registry, domain, cuid)?);
+    Ok(())
+}
+
+/// The sid of the session configuration of a peer.
+fn sid(registry: &Registry, peer: u32) -> u8 {
+    match registry.config(peer) {
+        Some((sid, _)) => digit(u64::from(sid)),
+        None => NONE,
+    }
+}
+
+fn tell_sid(told: &mut Told, registry: &Registry, peer: &str) -> Result<(), Fail> {
+    let peer = u32::from(small(peer)?);
+    told.push(sid(registry, peer));
+    Ok(())
+}
+
+/// The fates of packets at a second.
+fn tell_fates(
+    told: &mut Told,
+    registry: &mut Registry,
+    settings: &Settings,
+    second: &str,
+) -> Result<(), Fail> {
+    let now = number(second)?;
+    if registry.time() <= now && now < u64::MAX {
+        registry.tick(now);
+    }
+    for packet in &packets() {
+        told.extend(&letters(registry.filters().fate(packet, settings)));
+    }
+    Ok(())
+}
+
+/// Whether there is such a domain.
+fn has_domain(registry: &Registry, settings: &Settings, domain: u16) -> bool
+    requires { IsOf settings.now registry.now }
+    ensures { result ≡ true → domain < domains_of registry.now }
+{
+    domain < settings.domains()
+}
+
+/// A request for 192.0.2.128/25, for an hour.
+fn body(alloc: Global) -> Result<MitigationBody, Fail> {
+    let prefixes = prefixes(alloc, "192.0.2.128/25")?;
+    Ok(MitigationBody {
+        asked: Asked {
+            prefixes,
+            ports: List::new(alloc),
+            protocols: Bytes::new(alloc),
+            names: List::new(alloc),
+            aliases: List::new(alloc),
+        },
+        lifetime: 3600,
+    })
+}
+
+fn path(alloc: Global) -> Result<MitigationPath, Fail> {
+    Ok(MitigationPath {
+        cdid: None,
+        cuid: name(alloc, "a")?,
+        mid: Some(9),
+    })
+}
+
+/// The mid that is granted, or `c` where the client's name is in use.
+fn granted(judged: &Result<Judged, PutFault>) -> u8 {
+    match judged {
+        Ok(judged) => digit(u64::from(judged.put.mid)),
+        Err(PutFault::Collision) => b'c',
+        Err(_) => NONE,
+    }
+}
+
+/// What is granted to a peer that asks so in the first domain.
+fn judged(
+    registry: &Registry,
+    settings: &Settings,
+    path: &MitigationPath,
+    body: &MitigationBody,
+    peer: u32,
+) -> u8
+    requires { IsOf settings.now registry.now }
+{
+    if path.mid.is_none() || body.lifetime < 1 || !has_domain(registry, settings, 0) {
+        return NONE;
+    }
+    let judged = registry.judge_put(settings, path, body, peer, 0);
+    let letter = granted(&judged);
+    drop(judged);
+    letter
+}
+
+fn judge_path(
+    alloc: Global,
+    registry: &Registry,
+    settings: &Settings,
+    path: &MitigationPath,
+    peer: u32,
+) -> Result<u8, Fail>
+    requires { IsOf settings.now registry.now }
+{
+    let body = body(alloc)?;
+    let letter = judged(registry, settings, path, &body, peer);
+    drop(body);
+    Ok(letter)
+}
+
+/// What is granted to a peer that asks for mid 9 of the client A.
+fn judge(alloc: Global, registry: &Registry, settings: &Settings, peer: u32) -> Result<u8, Fail>
+    requires { IsOf settings.now registry.now }
+{
+    let path = path(alloc)?;
+    judge_path(alloc, registry, settings, &path, peer)
+}
+
+fn tell_judged(
+    alloc: Global,
+    told: &mut Told,
+    registry: &Registry,
+    settings: &Settings,
+    peer: &str,
+) -> Result<(), Fail>
+    requires { IsOf settings.now registry.now }
+{
+    let peer = u32::from(small(peer)?);
+    told.push(judge(alloc, registry, settings, peer)?);
+    Ok(())
+}
+
+/// Tells what is asked: `held` of a client, `sid` of a peer, `judge` for a peer, or the fates at a second.
+fn tell(
+    alloc: Global,
+    told: &mut Told,
+    registry: &mut Registry,
+    settings: &Settings,
+    question: &str,
+) -> Result<(), Fail>
+    requires { IsOf settings.now registry.old }
+{
+    let (what, of) = question.split_once(' ').ok_or("a question")?;
+    match what {
+        "held" => tell_held(alloc, told, registry, of),
+        "sid" => tell_sid(told, registry, of),
+        "judge" => tell_judged(alloc, told, registry, settings, of),
+        _ => tell_fates(told, registry, settings, of),
+    }
+}
+
+fn tell_after(
+    alloc: Global,
+    told: &mut Told,
+    registry: &mut Registry,
+    settings: &Settings,
+    entries: &str,
+    question: &str,
+) -> Result<(), Fail>
+    requires settings { IsOf settings.now registry.old }
+    requires stands { (entries : List Entry) × StandsFor registry.old entries }
+{
+    take_all(alloc, registry, settings, entries, told)?;
+    if question == "fit" {
+        return Ok(());
+    }
+    told.clear();
+    tell(alloc, told, registry, settings, question)
+}
+
+/// What is told after these entries, or which of them fit.
+pub fn tell_registry(
+    alloc: Global,
+    told: &mut Told,
+    settings: &Settings,
+    asked: &str,
+) -> Result<(), Fail> {
+    let (entries, question) = asked.split_once(" ? ").ok_or("a question")?;
+    let mut registry = Registry::new(alloc, settings)?;
+    let went = tell_after(alloc, told, &mut registry, settings, entries, question);
+    registry.let_go();
+    went
+}

@@ -1,0 +1,50 @@
+//! A registry that takes entries which fit it.
+
+ghost use Rattle.std.specs.Prelude.{List};
+ghost use Rattle.dots_history.specs.declared.entry.Entry.{Entry};
+ghost use Rattle.dots_registry.specs.Standing.{StandsFor, IsOf};
+
+use crate::registry::entries::entry;
+use crate::registry::told::Told;
+use crate::registry::words::flag;
+use dots_history::Entry;
+use dots_registry::Registry;
+use dots_settings::Settings;
+use std::alloc::Global;
+use std::test::Fail;
+
+/// Takes an entry, and says whether it fits; one that doesn't changes nothing.
+fn take(registry: &mut Registry, settings: &Settings, entry: Entry) -> Result<bool, Fail>
+    requires settings { IsOf settings.now registry.old }
+    requires stands { (entries : List Entry) × StandsFor registry.old entries }
+    ensures settings { IsOf settings.now registry.new }
+    ensures stands { (entries : List Entry) × StandsFor registry.new entries }
+{
+    if !registry.fits(settings, &entry) {
+        drop(entry);
+        return Ok(false);
+    }
+    let staged = registry.stage(entry)?;
+    registry.apply(staged, 0);
+    Ok(true)
+}
+
+/// Takes the entries of these words, and says of each by a letter whether it fits.
+pub fn take_all(
+    alloc: Global,
+    registry: &mut Registry,
+    settings: &Settings,
+    entries: &str,
+    fit: &mut Told,
+) -> Result<(), Fail>
+    requires settings { IsOf settings.now registry.old }
+    requires stands { (entries : List Entry) × StandsFor registry.old entries }
+    ensures settings { IsOf settings.now registry.new }
+    ensures stands { (entries : List Entry) × StandsFor registry.new entries }
+{
+    for text in entries.split("; ") {
+        let entry = entry(alloc, text)?;
+        fit.push(flag(take(registry, settings, entry)?));
+    }
+    Ok(())
+}

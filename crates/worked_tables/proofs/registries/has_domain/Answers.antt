@@ -1,7 +1,0 @@
-use Rattle.std.proofs.Common.{◌<◌, sym, subst, ◌∙◌}
-use Rattle.std.proofs.lemmas.Bool.{ltb-true}
-use Rattle.worked_tables.proofs.registries.has_domain.Goals as goal
-
-pub returns : goal.returns
-returns c = λ is.
-    subst (λ n. c.args.domain < n) (c.domains.ensures.number ∙ sym c.requires.domains) (ltb-true c.args.domain c.domains.result is)
