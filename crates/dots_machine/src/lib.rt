@@ -8,7 +8,7 @@
 //! domains stay apart), `Turns` (a run by turns), `Adding` (when an entry is added), `Isolation` (what becomes of a domain over a run),
 //! `Orderly` (which mitigations stand beside each other), `Report`, `Commands`, `Outside` (what stood before and after) and `Endings`
 //! (statuses). A run of the machine over the acts of a host is that of `dots_host`. The words are those of RFC 7252, RFC 8949 and
-//! RFC 9132. The code here is the types that the definitions speak of, and the laws [`one_verdict`], [`one_state`], [`one_answer`],
+//! RFC 9132. The code here is the types that the definitions speak of, which scopes may be asked for, and the laws [`one_verdict`], [`one_state`], [`one_answer`],
 //! [`domains_stay_apart`], [`repeats_are_answered`], [`entries_are_accepted`], [`domains_are_isolated`] and [`mitigations_stand_apart`]. Read [`Received`] and
 //! [`Verdict`] first.
 #![tactic(auto)]
@@ -20,6 +20,7 @@ mod exchange;
 mod law;
 mod mitigation_request;
 mod received;
+mod scopes;
 mod short_message;
 mod target;
 mod verdict;
@@ -34,6 +35,7 @@ pub use law::{
 };
 pub use mitigation_request::MitigationRequest;
 pub use received::Received;
+pub use scopes::scope_fault;
 pub use short_message::{MAX_SHORT, ShortMessage};
 pub use target::TargetFault;
 pub use verdict::Verdict;

@@ -3,11 +3,11 @@ use Rattle.std.proofs.Common.{◌≡◌, ◌≢◌, ℕ, ◌⊎◌, inl, inr, Bo
 use Rattle.std.proofs.lemmas.Bool.Decides.{nat_tests}
 use Rattle.std.specs.Prelude.{bytes_eq, is_some}
 use Rattle.dots_machine.specs.Commands.{is_word, is_replay, is_serve, is_served, is_show, is_command}
-use Rattle.dots_tell.specs.declared.told.Told.{Told}
-use Rattle.dots_tell.specs.declared.told.Told.TheVariants as told
-use Rattle.dots_tell.specs.declared.topic.Topic.{Topic}
-use Rattle.dots_tell.specs.declared.topic.Topic.TheVariants as topic
-use Rattle.dots_tell.specs.Telling.{told_status, has_source}
+use Rattle.dots_run.specs.declared.told.Told.{Told}
+use Rattle.dots_run.specs.declared.told.Told.TheVariants as told
+use Rattle.dots_run.specs.declared.topic.Topic.{Topic}
+use Rattle.dots_run.specs.declared.topic.Topic.TheVariants as topic
+use Rattle.dots_run.specs.Telling.{told_status, has_source}
 use Rattle.dots_run.proofs.Commands.{served_by}
 use Rattle.dots_run.specs.Topics.{is_check, is_alone, is_check_script, topic_of, is_known}
 

@@ -1,3 +1,6 @@
+mod Scripts
+mod Once
+mod Endings
 mod Commands
 mod Completeness
 mod HostText

@@ -1,3 +1,5 @@
+pub mod Usage
+pub mod Telling
 pub mod Refusals
 pub mod Outcomes
 pub mod Programs

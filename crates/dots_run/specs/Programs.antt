@@ -5,9 +5,9 @@ use Rattle.dots_machine.specs.declared.ending.Ending.{Ending}
 use Rattle.dots_machine.specs.Commands.{second_of}
 use Rattle.dots_machine.specs.Endings.{status_of, Behaves, GivesSettings, IsReady}
 use Rattle.dots_machine.specs.Outside.{Outside, SourceFailed, ReportFailed}
-use Rattle.dots_tell.specs.declared.told.Told.{Told}
-use Rattle.dots_tell.specs.declared.topic.Topic.{Topic}
-use Rattle.dots_tell.specs.Telling.{told_status, Tells}
+use Rattle.dots_run.specs.declared.told.Told.{Told}
+use Rattle.dots_run.specs.declared.topic.Topic.{Topic}
+use Rattle.dots_run.specs.Telling.{told_status, Tells}
 use Rattle.dots_run.specs.Outcomes.{Outcome}
 use Rattle.dots_run.specs.Scripted.{JoinsTexts}
 use Rattle.dots_run.specs.Topics.{topic_of, names_settings}

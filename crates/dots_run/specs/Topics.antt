@@ -1,7 +1,7 @@
 -- Which words ask for what is told without serving.
 use Rattle.std.specs.Prelude.{ℕ, List, [], ◌∷◌, Bool, false, ◌&&◌, ◌||◌, if◌then◌else◌, bytes_eq, codes, Option, Some, None, is_some}
-use Rattle.dots_tell.specs.declared.topic.Topic.{Topic}
-use Rattle.dots_tell.specs.declared.topic.Topic.TheVariants as topic
+use Rattle.dots_run.specs.declared.topic.Topic.{Topic}
+use Rattle.dots_run.specs.declared.topic.Topic.TheVariants as topic
 use Rattle.dots_machine.specs.Commands.{is_word, is_served, is_command}
 
 -- `check SETTINGS`

@@ -5,16 +5,16 @@ ghost use Rattle.dots_host.specs.Causes.{Rose};
 ghost use Rattle.dots_machine.specs.declared.ending.Ending as endings;
 ghost use Rattle.dots_machine.specs.Commands.{is_served, is_show, second_of};
 ghost use Rattle.dots_machine.specs.Endings.{status_of, has_hosted, Behaves, GivesFault, IsReady, IsReadable};
-ghost use Rattle.dots_tell.specs.declared.topic.Topic as topics;
-ghost use Rattle.dots_tell.specs.declared.told.Told as tolds;
-ghost use Rattle.dots_tell.specs.Telling.{told_status, Tells, IsSound, IsAtFault};
+ghost use Rattle.dots_run.specs.declared.topic.Topic as topics;
+ghost use Rattle.dots_run.specs.declared.told.Told as tolds;
+ghost use Rattle.dots_run.specs.Telling.{told_status, Tells, IsSound, IsAtFault};
 ghost use Rattle.dots_run.specs.Topics.{is_check, is_check_script, topic_of, is_known};
 
 use crate::outcome::run_machine;
 use crate::topics::topic_of;
 use dots_disk::Host;
 use dots_host::{Sink, Source};
-use dots_tell::tell;
+use crate::telling::tell;
 use std::alloc::Global;
 
 /// Does all that the program does, and answers its exit status.

@@ -9,7 +9,6 @@
 mod deciding;
 mod mitigations;
 mod repeating;
-mod scopes;
 mod server;
 
 pub use server::{ReportFault, Server};

@@ -23,11 +23,12 @@ ghost use Rattle.dots_machine.specs.Verdicts.{put_verdict, is_taken, stands_as, 
 ghost use Rattle.live_mitigations.specs.Reading.{Shown, row_view};
 ghost use Rattle.dots_server.specs.Standing.{StandsFor, CanCarryOut};
 
-use crate::scopes::scope_fault;
 use crate::server::Server;
 use dots_history::{Change, Entry};
 use dots_lists::{List, NoMemory};
-use dots_machine::{ClientRequest, Exchange, MitigationRequest, ShortMessage, Verdict};
+use dots_machine::{
+    ClientRequest, Exchange, MitigationRequest, ShortMessage, Verdict, scope_fault,
+};
 use dots_registry::Registry;
 use dots_replies::{
     absent, at_capacity, bad_request, bad_target, conflicting, copies, deleted, entry_of, granting,

@@ -1,6 +1,6 @@
 use Rattle.std.proofs.Common.{◌∙◌, map, string_bytes, inl, sym, subst}
 use Rattle.dots_host.specs.Causes.{Rose}
-use Rattle.dots_tell.specs.Telling.{Tells, IsSound, IsAtFault}
+use Rattle.dots_run.specs.Telling.{Tells, IsSound, IsAtFault}
 use Rattle.dots_run.proofs.Asking.{never_served, no_show, no_source, one_topic, topic_is_known, known_without, no_topic, never_two, status_unread, status_unwritten, status_sound, status_at_fault, status_heard}
 use Rattle.dots_run.proofs.running.run.Goals as goal
 

@@ -1,7 +1,7 @@
 //! The texts that no file decides.
 
 ghost use Rattle.std.specs.Prelude.{◌≡◌};
-ghost use Rattle.dots_tell.specs.Usage.{usage_text, version_text};
+ghost use Rattle.dots_run.specs.Usage.{usage_text, version_text};
 
 /// How the program is called: the commands, what an exit status means and what to do then, and where the documents are.
 #[tactic(auto, unfolding(crate::specs::Usage::usage_text))]

@@ -6,9 +6,9 @@ ghost use Rattle.ip_scope.specs.Family.{width};
 ghost use Rattle.ip_scope.specs.Prefix.{prefix_of, meets};
 ghost use Rattle.dots_machine.specs.Targets.{is_target, prefix_fault, first_fault, fault_of_addresses, name_fault, scope_fault};
 
+use crate::target::TargetFault;
 use acl_lists::Asked;
 use dots_lists::Name;
-use dots_machine::TargetFault;
 use dots_settings::Settings;
 use ip_scope::{Addr, Family, Prefix, inside_any, meets};
 

@@ -8,10 +8,10 @@ use Rattle.file_checks.specs.declared.checked.Checked.{Checked}
 use Rattle.file_checks.specs.declared.checked.Checked.TheVariants as checked
 use Rattle.file_checks.specs.Checks.{ChecksSettings, ChecksScript, fault_report}
 use Rattle.file_checks.specs.Summary.{summary}
-use Rattle.dots_tell.specs.declared.topic.Topic.{Topic}
-use Rattle.dots_tell.specs.declared.topic.Topic.TheVariants as topic
-use Rattle.dots_tell.specs.Telling.{Comes, IsOf}
-use Rattle.dots_tell.proofs.Scripts.{one_check}
+use Rattle.dots_run.specs.declared.topic.Topic.{Topic}
+use Rattle.dots_run.specs.declared.topic.Topic.TheVariants as topic
+use Rattle.dots_run.specs.Telling.{Comes, IsOf}
+use Rattle.dots_run.proofs.Scripts.{one_check}
 
 one_settings_check : (file : List ℕ) (one other : Checked) → ChecksSettings file one → ChecksSettings file other → one ≡ other
 one_settings_check file (checked.Good text) (checked.Good other) (settings, are, text_is) (settings', are', other_is) =

@@ -3,8 +3,8 @@
 ghost use Rattle.std.specs.Prelude.{◌≡◌, ◌⊎◌, false, Ok, IfSome};
 ghost use Rattle.dots_host.specs.Causes.{Rose};
 ghost use Rattle.file_checks.specs.declared.checked.Checked.TheVariants as checked;
-ghost use Rattle.dots_tell.specs.declared.told.Told.TheVariants as told;
-ghost use Rattle.dots_tell.specs.Telling.{has_source, Reports, Tells, IsSound, IsAtFault};
+ghost use Rattle.dots_run.specs.declared.told.Told.TheVariants as told;
+ghost use Rattle.dots_run.specs.Telling.{has_source, Reports, Tells, IsSound, IsAtFault};
 
 use crate::texts::{usage, version};
 use crate::told::Told;

@@ -2,9 +2,9 @@ use Rattle.std.proofs.Common.{Ok, sym, ap, subst}
 use Rattle.dots_host.specs.Causes.{Rose}
 use Rattle.file_checks.specs.declared.checked.Checked.TheVariants as checked
 use Rattle.file_checks.specs.Checks.{ChecksSettings, ChecksScript}
-use Rattle.dots_tell.specs.Telling.{Finds}
-use Rattle.dots_tell.proofs.Endings.{checks, ends_well, ends_at_fault}
-use Rattle.dots_tell.proofs.telling.tell.Goals as goal
+use Rattle.dots_run.specs.Telling.{Finds}
+use Rattle.dots_run.proofs.Endings.{checks, ends_well, ends_at_fault}
+use Rattle.dots_run.proofs.telling.tell.Goals as goal
 
 pub returns-in-Settings-clause-sound : goal.returns-in-Settings-clause-sound
 returns-in-Settings-clause-sound g c =

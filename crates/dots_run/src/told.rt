@@ -1,5 +1,5 @@
 ghost use Rattle.std.specs.Prelude.{◌≡◌};
-ghost use Rattle.dots_tell.specs.Telling.{told_status};
+ghost use Rattle.dots_run.specs.Telling.{told_status};
 
 /// How telling ended.
 #[derive(Clone, Copy)]

@@ -6,13 +6,13 @@ use Rattle.file_checks.specs.declared.checked.Checked.TheVariants as checked
 use Rattle.file_checks.specs.declared.checked.Unchecked.{Unchecked}
 use Rattle.file_checks.specs.declared.checked.Unchecked.TheVariants as unchecked
 use Rattle.file_checks.specs.Checks.{ChecksSettings, ChecksScript}
-use Rattle.dots_tell.specs.declared.topic.Topic.{Topic}
-use Rattle.dots_tell.specs.declared.topic.Topic.TheVariants as topic
-use Rattle.dots_tell.specs.declared.told.Told.{Told}
-use Rattle.dots_tell.specs.declared.told.Told.TheVariants as told
-use Rattle.dots_tell.specs.Usage.{usage_text, version_text}
-use Rattle.dots_tell.specs.Telling.{Checks, Finds, Reports, Tells, Comes, IsOf, IsSound, IsAtFault}
-use Rattle.dots_tell.proofs.Once.{one_text}
+use Rattle.dots_run.specs.declared.topic.Topic.{Topic}
+use Rattle.dots_run.specs.declared.topic.Topic.TheVariants as topic
+use Rattle.dots_run.specs.declared.told.Told.{Told}
+use Rattle.dots_run.specs.declared.told.Told.TheVariants as told
+use Rattle.dots_run.specs.Usage.{usage_text, version_text}
+use Rattle.dots_run.specs.Telling.{Checks, Finds, Reports, Tells, Comes, IsOf, IsSound, IsAtFault}
+use Rattle.dots_run.proofs.Once.{one_text}
 
 -- what a call that checks says of its answer
 pub checks : (check : List ℕ → Checked → Type 0) (left : Option (List ℕ)) (failed : Type 0) (found : Result Checked Unchecked) → IfOk found (λ told. IfSome left (λ bytes. check bytes told))

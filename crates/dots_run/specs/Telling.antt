@@ -7,11 +7,11 @@ use Rattle.file_checks.specs.declared.checked.Checked.TheVariants as checked
 use Rattle.file_checks.specs.declared.checked.Unchecked.{Unchecked}
 use Rattle.file_checks.specs.declared.checked.Unchecked.TheVariants as unchecked
 use Rattle.file_checks.specs.Checks.{ChecksSettings, ChecksScript}
-use Rattle.dots_tell.specs.declared.topic.Topic.{Topic}
-use Rattle.dots_tell.specs.declared.topic.Topic.TheVariants as topic
-use Rattle.dots_tell.specs.declared.told.Told.{Told}
-use Rattle.dots_tell.specs.declared.told.Told.TheVariants as told
-use Rattle.dots_tell.specs.Usage.{usage_text, version_text}
+use Rattle.dots_run.specs.declared.topic.Topic.{Topic}
+use Rattle.dots_run.specs.declared.topic.Topic.TheVariants as topic
+use Rattle.dots_run.specs.declared.told.Told.{Told}
+use Rattle.dots_run.specs.declared.told.Told.TheVariants as told
+use Rattle.dots_run.specs.Usage.{usage_text, version_text}
 
 abbrev pub told_status : Told → ℕ
 told_status told.Written = 0

@@ -1,3 +1,0 @@
-mod Scripts
-mod Once
-mod Endings

@@ -1,5 +1,0 @@
-use Rattle.dots_tell.proofs.Once.{one_text}
-use Rattle.dots_tell.proofs.laws.one_text.Goals as goal
-
-pub returns : goal.returns
-returns c = one_text
