@@ -2,7 +2,7 @@
 use Rattle.std.proofs.Common.{◌≡◌, ℕ, ◌+◌, ◌<◌, ◌≤◌, Bool, true, false, List, [], ◌∷◌, ◌++◌, length, refl, sym, ap, subst, ◌∙◌, append_assoc, append-nil, length-append, arith}
 use Rattle.std.specs.Bool.{MatchBool}
 use Rattle.std.specs.List.{list_any}
-use Rattle.line_fields.specs.Lines.{lines_of, is_skipped}
+use Rattle.plain_text.specs.Lines.{lines_of, is_skipped}
 use Rattle.dots_edge.specs.HostLine.{LineValue, Says, same_thing}
 use Rattle.dots_edge.specs.HostFile.{AreSaid, AreOnce, Stand, HasFault, FileFails, IsRefused, Takes}
 use Rattle.dots_edge.specs.declared.host_fault.HostFault.{HostFault}

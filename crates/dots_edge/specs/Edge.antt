@@ -1,6 +1,6 @@
 -- What contracts see of a host of real sockets and a real file.
 use Rattle.std.specs.Prelude.{◌≡◌, ℕ, ◌-◌, Bool, List, Option, Some, None}
-use Rattle.line_fields.specs.Lines.{lines_of}
+use Rattle.plain_text.specs.Lines.{lines_of}
 use Rattle.dots_edge.specs.HostLine.{LineValue}
 use Rattle.dots_edge.specs.HostFile.{Stand}
 use Rattle.dots_edge.specs.Found.{events_in, has_journal}

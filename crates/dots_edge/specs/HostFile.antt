@@ -2,7 +2,7 @@
 use Rattle.std.specs.Prelude.{◌≡◌, ℕ, ◌+◌, true, false, List, [], ◌∷◌, ◌++◌, length, ⊤}
 use Rattle.std.specs.Bool.{MatchBool}
 use Rattle.std.specs.List.{list_any}
-use Rattle.line_fields.specs.Lines.{lines_of, is_skipped}
+use Rattle.plain_text.specs.Lines.{lines_of, is_skipped}
 use Rattle.dots_edge.specs.HostLine.{LineValue, Says, same_thing}
 use Rattle.dots_edge.specs.declared.host_fault.HostFault.{HostFault}
 use Rattle.dots_edge.specs.declared.host_fault.HostFault.TheVariants as fault

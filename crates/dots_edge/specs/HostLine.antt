@@ -4,7 +4,7 @@ use Rattle.ip_scope.specs.declared.address.Addr.{Addr}
 use Rattle.ip_scope.specs.declared.family.Family.{Family}
 use Rattle.ip_scope.specs.declared.family.Family.TheVariants.{V4, V6}
 use Rattle.ip_scope.specs.PrefixText.{IsAddressText}
-use Rattle.line_fields.specs.Lines.{fields_of}
+use Rattle.plain_text.specs.Lines.{fields_of}
 use Rattle.dots_edge.specs.declared.host_line.Endpoint.{Endpoint}
 use Rattle.dots_edge.specs.declared.host_line.HostLine.{HostLine}
 use Rattle.dots_edge.specs.declared.host_line.HostLine.TheVariants as line

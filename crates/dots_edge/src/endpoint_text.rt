@@ -7,9 +7,9 @@ ghost use Rattle.ip_scope.specs.declared.family.Family.TheVariants as family;
 ghost use Rattle.dots_edge.specs.HostLine.{IsHostText, IsEndpointText};
 
 use crate::host_line::Endpoint;
-use decimal_text::parse_decimal;
 use ip_scope::{Addr, Family, parse_address};
 use memchr::memrchr;
+use plain_text::parse_decimal;
 
 /// What stands between an address and a port.
 const COLON: u8 = b':';

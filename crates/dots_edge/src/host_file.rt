@@ -2,14 +2,14 @@
 
 ghost use Rattle.std.specs.Prelude.{◌≡◌, map, IfOk, IfErr, OnOk};
 ghost use Rattle.std.specs.List.{list_any};
-ghost use Rattle.line_fields.specs.Lines.{lines_of};
+ghost use Rattle.plain_text.specs.Lines.{lines_of};
 ghost use Rattle.dots_edge.specs.HostLine.{line_value, same_thing};
 ghost use Rattle.dots_edge.specs.HostFile.{Stand, HasFault, IsRefused, Takes};
 
 use crate::host_fault::HostFault;
 use crate::host_line::{HostLine, same_thing};
 use crate::host_lines::parse_line;
-use line_fields::{is_skipped, split_line};
+use plain_text::{is_skipped, split_line};
 use std::alloc::Global;
 
 /// What the lines of a host file say, in order, or the fault of the first line that has one. Empty lines and lines

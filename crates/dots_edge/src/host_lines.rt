@@ -6,9 +6,8 @@ ghost use Rattle.dots_edge.specs.HostLine.{IsPeerText, Reads, ReadsBehind};
 
 use crate::endpoint_text::endpoint_of;
 use crate::host_line::HostLine;
-use decimal_text::parse_decimal;
 use ip_scope::{Addr, parse_address};
-use line_fields::{one_field, split_field, two_fields};
+use plain_text::{one_field, parse_decimal, split_field, two_fields};
 
 /// The number of all addresses that no line names. No peer has it.
 pub const STRANGER: u32 = u32::MAX;

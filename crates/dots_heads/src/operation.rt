@@ -11,8 +11,8 @@ ghost use Rattle.dots_heads.specs.Results.{Gives, Reads};
 use crate::path::Resource;
 use crate::reject::Reject;
 use crate::request::MitigationPath;
-use decimal_text::value_of;
 use dots_lists::{Name, is_name};
+use plain_text::value_of;
 use std::alloc::Global;
 
 /// The methods that resources have (RFC 7252, section 5.8).

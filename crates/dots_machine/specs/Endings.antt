@@ -23,7 +23,7 @@ use Rattle.dots_history.specs.declared.entry.Entry.{Entry}
 use Rattle.dots_laws.specs.Fits.{is_calm}
 use Rattle.dots_ledger.specs.Beginning.{RefusesLedger, IsFailure}
 use Rattle.hex.specs.Hex.{encode_lower}
-use Rattle.hex_text.specs.HexText.{IsHex}
+use Rattle.plain_text.specs.HexText.{IsHex}
 use Rattle.coap_message.specs.Message.{CoapMessage, IsMessage, spelling}
 use Rattle.message_text.specs.declared.showing.Shown.TheVariants as shown
 use Rattle.message_text.specs.Showing.{IsShown}

@@ -11,10 +11,10 @@ ghost use Rattle.dots_run.specs.Telling.{told_status, Tells, IsSound, IsAtFault}
 ghost use Rattle.dots_run.specs.Topics.{is_check, is_check_script, topic_of, is_known};
 
 use crate::outcome::run_machine;
+use crate::telling::tell;
 use crate::topics::topic_of;
 use dots_disk::Host;
 use dots_host::{Sink, Source};
-use crate::telling::tell;
 use std::alloc::Global;
 
 /// Does all that the program does, and answers its exit status.

@@ -3,8 +3,8 @@
 ghost use Rattle.std.specs.Prelude.{◌≡◌, map, string_bytes};
 ghost use Rattle.dots_run.specs.Topics.{is_check, is_alone, is_check_script, topic_of};
 
-use crate::words::is_word;
 use crate::topic::Topic;
+use crate::words::is_word;
 
 /// The topic that the words ask for: `check SETTINGS`, `check-script`, `help` and `version` have one.
 pub fn topic_of(words: &[String]) -> Option<Topic>

@@ -4,7 +4,7 @@ use Rattle.std.proofs.lemmas.Fmt.{decimal_injective}
 use Rattle.std.proofs.lemmas.List.{append_cancel_left}
 use Rattle.std.specs.Char.{digit_value}
 use Rattle.std.specs.Str.Parse.{AllDigits}
-use Rattle.decimal_text.proofs.Decimals.{IsDecimal-decimal}
+use Rattle.plain_text.proofs.Decimals.{IsDecimal-decimal}
 use Rattle.dots_host.specs.declared.event.Event.{Event}
 use Rattle.dots_host.specs.declared.event.Event.TheVariants as event
 use Rattle.dots_script.specs.Script.{IsDatagram, SaysEvent, IsEventLine, IsSkipped}

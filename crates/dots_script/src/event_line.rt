@@ -5,9 +5,8 @@ ghost use Rattle.dots_host.specs.declared.TheConstants.{MAX_EVENT_BYTES};
 ghost use Rattle.dots_script.specs.Script.{IsDatagram, SaysEvent, IsEventLine};
 ghost use Rattle.dots_script.specs.Words.{HasNoSpace, IsAfterNumber};
 
-use decimal_text::parse_decimal;
 use dots_host::{Got, MAX_EVENT_BYTES, What};
-use hex_text::read_hex;
+use plain_text::{parse_decimal, read_hex};
 
 /// The event of a script line and the time beside it, the event's bytes at the front of the room. Where there is
 /// none, what then stands in the room isn't said.

@@ -1,7 +1,7 @@
 ghost use Rattle.std.specs.Prelude.{◌≡◌, ◌≢◌, ℕ, List, [], ◌∷◌, MatchOption};
 ghost use Rattle.dots_settings.specs.Lines.{fields_of};
 
-use line_fields::{split_field, two_fields};
+use plain_text::{split_field, two_fields};
 
 /// The fields of a line that is five.
 pub fn five_fields(line: &[u8]) -> Option<(&[u8], &[u8], &[u8], &[u8], &[u8])>

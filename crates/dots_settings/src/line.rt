@@ -10,7 +10,7 @@ use crate::number::{limit_of, number_up_to, positive_up_to};
 use acl_lists::Packet;
 use dots_lists::is_name;
 use ip_scope::{Prefix, parse_address, parse_prefix};
-use line_fields::{one_field, split_field, two_fields};
+use plain_text::{one_field, split_field, two_fields};
 
 /// The greatest ceiling, in seconds.
 const MAX_CEILING: u32 = 604_800;

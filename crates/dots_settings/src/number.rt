@@ -4,7 +4,7 @@ ghost use Rattle.std.specs.List.{list_all};
 ghost use Rattle.dots_settings.specs.Form.{is_number, IsLimit};
 
 use crate::capacity::Capacity;
-use decimal_text::parse_decimal;
+use plain_text::parse_decimal;
 
 /// The number, at most `most`, that the text writes with no leading zeros.
 pub fn number_up_to(text: &[u8], most: u64) -> Option<u64>

@@ -10,7 +10,7 @@ use crate::draft::Draft;
 use crate::fault::SettingsFault;
 use crate::line::parse_line;
 use crate::settings::Settings;
-use line_fields::{is_skipped, split_line};
+use plain_text::{is_skipped, split_line};
 use sha2::{Digest, Sha256};
 use std::alloc::Global;
 

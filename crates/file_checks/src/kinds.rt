@@ -7,8 +7,8 @@ ghost use Rattle.dots_settings.specs.Form.{is_number, is_domain_byte, is_domain_
 ghost use Rattle.file_checks.specs.Kinds.{is_decimal_up_to, is_positive_up_to, is_address, is_capacity, is_yes_or_no, is_dash, is_datagram};
 
 use crate::faults::greatest_limit;
-use decimal_text::parse_decimal;
 use ip_scope::parse_address;
+use plain_text::parse_decimal;
 
 /// Whether the text is a number up to this one in decimal, with no leading zeros.
 pub fn is_decimal_up_to(most: u64, text: &[u8]) -> bool

@@ -1,6 +1,6 @@
 -- What is shown of a word that is to write a message in hexadecimal.
 use Rattle.std.specs.Prelude.{◌≡◌, ◌⊎◌, ℕ, List, codes}
-use Rattle.hex_text.specs.HexText.{IsHex}
+use Rattle.plain_text.specs.HexText.{IsHex}
 use Rattle.coap_message.specs.declared.fault.CoapFault.{CoapFault}
 use Rattle.coap_message.specs.Message.{CoapMessage, IsMessage, spelling}
 use Rattle.coap_message.specs.Breaks.{Breaks}

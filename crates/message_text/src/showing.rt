@@ -7,7 +7,7 @@ use crate::message_lines::{add_fault, add_message};
 use crate::pieces::add;
 use coap_message::decode;
 use dots_lists::{Bytes, NoMemory};
-use hex_text::{MAX_BYTES, read_hex};
+use plain_text::{MAX_BYTES, read_hex};
 use std::alloc::Global;
 
 /// What is shown of a word, its lines.

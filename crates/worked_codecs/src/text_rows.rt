@@ -4,8 +4,8 @@ use crate::row::Row;
 use crate::tables::{Rows, Told, all_hold};
 use cbor_profile::CborFault;
 use coap_message::CoapFault;
-use hex_text::{MAX_BYTES, read_hex};
 use message_text::{Shown, show};
+use plain_text::{MAX_BYTES, read_hex};
 use std::alloc::Global;
 
 /// Pairs of digits and the bytes that are read of them, and texts of which none are read.

@@ -1,4 +1,4 @@
-use Rattle.line_fields.specs.Lines.{fields_of}
+use Rattle.plain_text.specs.Lines.{fields_of}
 use Rattle.dots_edge.proofs.Endpoints.{no_signal}
 use Rattle.dots_edge.proofs.host_lines.signal_of.Goals as goal
 

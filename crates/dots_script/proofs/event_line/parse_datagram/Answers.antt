@@ -1,5 +1,5 @@
 use Rattle.std.proofs.Common.{arith, refl, sym, subst, List, ℕ}
-use Rattle.hex_text.specs.HexText.{IsHex}
+use Rattle.plain_text.specs.HexText.{IsHex}
 use Rattle.dots_script.proofs.EventLines.{from_of, from_is}
 use Rattle.dots_script.proofs.event_line.parse_datagram.Goals as goal
 

@@ -1,4 +1,4 @@
-use Rattle.line_fields.proofs.Splits.{no_space_anywhere, first_space}
+use Rattle.plain_text.proofs.Splits.{no_space_anywhere, first_space}
 use Rattle.file_checks.proofs.fields.split_field.Goals as goal
 
 pub returns-in_err-end-clause-fields : goal.returns-in_err-end-clause-fields

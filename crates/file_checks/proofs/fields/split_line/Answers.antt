@@ -1,6 +1,6 @@
 use Rattle.std.proofs.Common.{◌<◌, length, arith}
 use Rattle.std.proofs.lemmas.Grind.{common_steps}
-use Rattle.line_fields.proofs.Splits.{no_feed_anywhere, first_feed}
+use Rattle.plain_text.proofs.Splits.{no_feed_anywhere, first_feed}
 use Rattle.file_checks.proofs.fields.split_line.Goals as goal
 
 pub returns-in-Some-clause-lines : goal.returns-in-Some-clause-lines
