@@ -3,7 +3,7 @@ use Rattle.std.specs.Prelude.{◌≡◌, ℕ, true, List, [], ◌∷◌, ◌++�
 use Rattle.dots_host.specs.declared.event.Event.{Event}
 use Rattle.dots_host.specs.declared.act.Act.{Act}
 use Rattle.dots_host.specs.Memory.{Coming, Hands}
-use Rattle.dots_disk.specs.declared.calls.Calls.{Calls}
+use Rattle.dots_host.specs.declared.calls.Calls.{Calls}
 use Rattle.dots_disk.specs.Stored.{Stored, GoesOn}
 
 -- the events to come, the disk, the calls, and how often the wire failed

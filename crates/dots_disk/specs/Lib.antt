@@ -1,7 +1,6 @@
 pub mod Media
 pub mod Becoming
 pub mod Beside
-pub mod Calls
 pub mod Stored
 pub mod StoredLaws
 pub mod Hosted

@@ -8,7 +8,6 @@
 #![tactic(auto)]
 
 mod call_log;
-mod calls;
 mod content;
 mod disk;
 mod handing;

@@ -25,6 +25,7 @@ mod wire;
 mod writing;
 
 pub use act::Act;
+pub use calls::Calls;
 pub use dots_lists::{Bytes, NoMemory};
 pub use event::{Event, Got, What};
 pub use failed::Failed;
