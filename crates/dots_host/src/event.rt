@@ -42,7 +42,7 @@ impl Event {
 }
 
 /// An event whose bytes, `len` of them, stand at the front of the room that [`crate::Wire::next`] was given.
-#[derive(Clone, Copy, PartialEq, Eq)]
+#[derive(Clone, Copy)]
 pub enum What {
     Datagram { from: u32, len: usize },
     Opened { conn: u32, from: u32 },
@@ -55,7 +55,7 @@ pub enum What {
 }
 
 /// An event and the time beside it, in seconds, below 2^48.
-#[derive(Clone, Copy, PartialEq, Eq)]
+#[derive(Clone, Copy)]
 pub struct Got {
     pub what: What,
     pub at: u64,
