@@ -66,49 +66,61 @@ loop-turn-preserved g c = record {
 
 -- ---- the end
 
-pub returns-in-End-clause-came : goal.returns-in-End-clause-came
-returns-in-End-clause-came g c = λ settings start held first rests_first.
-    let (state, few, kept, rests, grown, trace, lives) = c.loop-turn.invariant.lives settings start held first rests_first in
-    let host = c.loop-turn.host in
-    let came = c.next-got.new.self in
-    let at = c.next-got.result.at in
-    let keeps = (g.met.H.Host.wire_keeps host came c.next-got.ensures.beside).0 in
-    let held_on = rests_kept c.loop-turn.server settings state few state.time (g.H.Disk.media host) kept (timely c.loop-turn.server settings state few kept) rests in (
-      resting state,
-      record {
-        settled = refl;
-        trace = trace ++ (state ∷ []);
-        told = stopped settings start state state c.loop-turn._turn (g.H.Wire.moment host) at event.End [] trace (g.H.Disk.media c.args.host.now) (g.H.Disk.media host) (g.H.Disk.media came) (refl, refl)
-            (g.met.H.Host.one_moment host) held_on keeps (g.H.Disk.media came) stop.Ended _ _ _ _ _ lives (λ front goes. (front, _, at, refl, refl, goes)) (rw c.in-End.is at c.next-got.ensures.acts)
-            (keeps_same (g.H.Wire.acts came)) (begins (g.H.Disk.media came) (HoldsTurn settings state state));
-        grows = grown;
-        own = kept.stands.stands.own;
-        found = tt;
-      },
-      kept.stands.stands,
-    )
+pub returns-in-End : goal.returns-in-End
+returns-in-End g c = record {
+  came = λ settings start held first rests_first.
+      let (state, few, kept, rests, grown, trace, lives) = c.loop-turn.invariant.lives settings start held first rests_first in
+      let host = c.loop-turn.host in
+      let came = c.next-got.new.self in
+      let at = c.next-got.result.at in
+      let keeps = (g.met.H.Host.wire_keeps host came c.next-got.ensures.beside).0 in
+      let held_on = rests_kept c.loop-turn.server settings state few state.time (g.H.Disk.media host) kept (timely c.loop-turn.server settings state few kept) rests in (
+        resting state,
+        record {
+          settled = refl;
+          trace = trace ++ (state ∷ []);
+          told = stopped settings start state state c.loop-turn._turn (g.H.Wire.moment host) at event.End [] trace (g.H.Disk.media c.args.host.now) (g.H.Disk.media host) (g.H.Disk.media came) (refl, refl)
+              (g.met.H.Host.one_moment host) held_on keeps (g.H.Disk.media came) stop.Ended _ _ _ _ _ lives (λ front goes. (front, _, at, refl, refl, goes)) (rw c.in-End.is at c.next-got.ensures.acts)
+              (keeps_same (g.H.Wire.acts came)) (begins (g.H.Disk.media came) (HoldsTurn settings state state));
+          grows = grown;
+          own = kept.stands.stands.own;
+          found = tt;
+        },
+        kept.stands.stands,
+      );
+  settings = c.loop-turn.invariant.settings;
+  stopped = tt;
+  leads = g.met.H.Wire.leads_then _ _ _ c.loop-turn.invariant.leads c.next-got.ensures.leads;
+  later = omega (arith, c.next-got.ensures.later, c.loop-turn.invariant.later);
+}
 
-pub returns-in-Failed-clause-came : goal.returns-in-Failed-clause-came
-returns-in-Failed-clause-came g c = λ settings start held first rests_first.
-    let (state, few, kept, rests, grown, trace, lives) = c.loop-turn.invariant.lives settings start held first rests_first in
-    let host = c.loop-turn.host in
-    let came = c.next-got.new.self in
-    let at = c.next-got.result.at in
-    let keeps = (g.met.H.Host.wire_keeps host came c.next-got.ensures.beside).0 in
-    let held_on = rests_kept c.loop-turn.server settings state few state.time (g.H.Disk.media host) kept (timely c.loop-turn.server settings state few kept) rests in (
-      resting state,
-      record {
-        settled = refl;
-        trace = trace ++ (state ∷ []);
-        told = stopped settings start state state c.loop-turn._turn (g.H.Wire.moment host) at event.Failed [] trace (g.H.Disk.media c.args.host.now) (g.H.Disk.media host) (g.H.Disk.media came) (refl, refl)
-            (g.met.H.Host.one_moment host) held_on keeps (g.H.Disk.media came) stop.NextFailed _ _ _ _ _ lives (λ front goes. (front, _, at, refl, refl, goes)) (rw c.in-Failed.is at c.next-got.ensures.acts)
-            (keeps_same (g.H.Wire.acts came)) (begins (g.H.Disk.media came) (HoldsTurn settings state state));
-        grows = grown;
-        own = kept.stands.stands.own;
-        found = tt;
-      },
-      tt,
-    )
+pub returns-in-Failed : goal.returns-in-Failed
+returns-in-Failed g c = record {
+  came = λ settings start held first rests_first.
+      let (state, few, kept, rests, grown, trace, lives) = c.loop-turn.invariant.lives settings start held first rests_first in
+      let host = c.loop-turn.host in
+      let came = c.next-got.new.self in
+      let at = c.next-got.result.at in
+      let keeps = (g.met.H.Host.wire_keeps host came c.next-got.ensures.beside).0 in
+      let held_on = rests_kept c.loop-turn.server settings state few state.time (g.H.Disk.media host) kept (timely c.loop-turn.server settings state few kept) rests in (
+        resting state,
+        record {
+          settled = refl;
+          trace = trace ++ (state ∷ []);
+          told = stopped settings start state state c.loop-turn._turn (g.H.Wire.moment host) at event.Failed [] trace (g.H.Disk.media c.args.host.now) (g.H.Disk.media host) (g.H.Disk.media came) (refl, refl)
+              (g.met.H.Host.one_moment host) held_on keeps (g.H.Disk.media came) stop.NextFailed _ _ _ _ _ lives (λ front goes. (front, _, at, refl, refl, goes)) (rw c.in-Failed.is at c.next-got.ensures.acts)
+              (keeps_same (g.H.Wire.acts came)) (begins (g.H.Disk.media came) (HoldsTurn settings state state));
+          grows = grown;
+          own = kept.stands.stands.own;
+          found = tt;
+        },
+        tt,
+      );
+  settings = tt;
+  stopped = rose_since _ _ _ c.loop-turn.invariant.later (rw c.in-Failed.is at c.next-got.ensures.cause);
+  leads = g.met.H.Wire.leads_then _ _ _ c.loop-turn.invariant.leads c.next-got.ensures.leads;
+  later = omega (arith, c.next-got.ensures.later, c.loop-turn.invariant.later);
+}
 
 -- the disk failed in the middle of an event, or wasn't recovered at a restart
 pub returns-in_err-server-in_default-clause-came : goal.returns-in_err-server-in_default-clause-came
@@ -161,21 +173,36 @@ returns-in_err-server-in_default-clause-stopped g c =
     c.in_err-server-in_default.ensures.stopped
     )
 
-pub returns-in-Failed-clause-leads : goal.returns-in-Failed-clause-leads
-returns-in-Failed-clause-leads g c = g.met.H.Wire.leads_then _ _ _ c.loop-turn.invariant.leads c.next-got.ensures.leads
+pub returns-in_err-server-in_default-clause-settings : goal.returns-in_err-server-in_default-clause-settings
+returns-in_err-server-in_default-clause-settings g c =
+    let p = err_from_is_err_and c.from_residual.result c.from_residual.ensures.1 in
+    rw p.1 tt
+
+pub returns-in_err-server-in_default-clause-leads : goal.returns-in_err-server-in_default-clause-leads
+returns-in_err-server-in_default-clause-leads g c =
+    g.met.H.Wire.leads_then _ _ _ (g.met.H.Wire.leads_then _ _ _ c.loop-turn.invariant.leads c.next-got.ensures.leads) c.take_one.ensures.leads
+
+pub returns-in_err-server-in_default-clause-later : goal.returns-in_err-server-in_default-clause-later
+returns-in_err-server-in_default-clause-later g c = omega (arith, c.next-got.ensures.later, c.take_one.ensures.wire, c.loop-turn.invariant.later)
 
 -- the loop has run out
-pub returns-clause-came : goal.returns-clause-came
-returns-clause-came g c = λ settings start held first rests_first.
-    let (state, few, kept, rests, grown, trace, lives) = c.loop-turn.invariant.lives settings start held first rests_first in (
-      resting state,
-      record {
-        settled = refl;
-        trace = trace;
-        told = ran_out settings start state c.loop-turn._turn trace (g.H.Disk.media c.args.host.now) (g.H.Disk.media c.loop-turn.host) _ _ (omega (arith, c.loop-turn-test.false, c.loop-turn.auto._turn-end)) lives;
-        grows = grown;
-        own = kept.stands.stands.own;
-        found = tt;
-      },
-      tt,
-    )
+pub returns : goal.returns
+returns g c = record {
+  came = λ settings start held first rests_first.
+      let (state, few, kept, rests, grown, trace, lives) = c.loop-turn.invariant.lives settings start held first rests_first in (
+        resting state,
+        record {
+          settled = refl;
+          trace = trace;
+          told = ran_out settings start state c.loop-turn._turn trace (g.H.Disk.media c.args.host.now) (g.H.Disk.media c.loop-turn.host) _ _ (omega (arith, c.loop-turn-test.false, c.loop-turn.auto._turn-end)) lives;
+          grows = grown;
+          own = kept.stands.stands.own;
+          found = tt;
+        },
+        tt,
+      );
+  settings = tt;
+  stopped = tt;
+  leads = c.loop-turn.invariant.leads;
+  later = c.loop-turn.invariant.later;
+}

@@ -1,29 +1,51 @@
 use Rattle.std.proofs.Common.{◌≤◌, sym, subst}
 use Rattle.slot_store.specs.Layout.{needed_of}
-use Rattle.dots_events.proofs.Taking.{restart_took, restart_stops}
+use Rattle.dots_host.specs.Causes.{Rose}
+use Rattle.dots_server.specs.Standing.{ServerValue}
+use Rattle.dots_events.proofs.Taking.{restart_took, restart_stops, recover_stops}
 use Rattle.dots_events.proofs.events.take_one.Goals as goal
 
 -- ---- a restart
 
-pub returns-in-Ok-clause-done : goal.returns-in-Ok-clause-done
-returns-in-Ok-clause-done g c = λ settings state entries kept rests.
+pub returns-in-Ok : goal.returns-in-Ok
+returns-in-Ok g c =
     let host = c.args.host.now in
     let left = c.restart.new.host in
-    let found = c.in-Ok.ensures.restarted settings state entries kept rests in
-    rw c.in-Restart.is (
-    restart_took settings state c.args.got.now.at c.args.server entries kept (g.H.Disk.media host) (g.H.Disk.media left) (g.H.Wire.acts host) (g.H.Wire.acts left)
-    (g.met.H.Host.disk_keeps host left c.restart.ensures.beside).0 (c.restart.ensures.moments settings state entries kept) c.in-Ok.server (g.H.Wire.moment left) (g.met.H.Host.one_moment left) found.0 found.1
-    )
+    let keeps = g.met.H.Host.disk_keeps host left c.restart.ensures.beside in record {
+      done = λ settings state entries kept rests.
+          let found = c.in-Ok.ensures.restarted settings state entries kept rests in
+          rw c.in-Restart.is (
+          restart_took settings state c.args.got.now.at c.args.server entries kept (g.H.Disk.media host) (g.H.Disk.media left) (g.H.Wire.acts host) (g.H.Wire.acts left)
+          keeps.0 (c.restart.ensures.moments settings state entries kept) c.in-Ok.server (g.H.Wire.moment left) (g.met.H.Host.one_moment left) found.0 found.1
+          );
+      failed = tt;
+      settings = c.in-Ok.ensures.settings;
+      size = subst (λ slots. needed_of slots ≤ g.H.Disk.extent left) (sym c.in-Ok.ensures.slots) c.in-Ok.ensures.size;
+      stopped = tt;
+      leads = keeps.2;
+      wire = keeps.1;
+      disk = c.in-Ok.ensures.cause;
+    }
 
-pub returns-in-Err-clause-failed : goal.returns-in-Err-clause-failed
-returns-in-Err-clause-failed g c = λ settings state entries kept rests.
+pub returns-in-Err : goal.returns-in-Err
+returns-in-Err g c =
     let host = c.args.host.now in
     let left = c.restart.new.host in
-    let large = subst (λ slots. needed_of slots ≤ g.H.Disk.extent host) kept.stands.slots c.requires.size in
-    rw c.in-Restart.is (
-    restart_stops settings state c.args.got.now.at c.args.server entries kept (g.H.Disk.media host) (g.H.Disk.media left) (g.H.Wire.acts host) (g.H.Wire.acts left)
-    (g.met.H.Host.disk_keeps host left c.restart.ensures.beside).0 (c.restart.ensures.moments settings state entries kept) c.in-Err.fault (c.in-Err.ensures.found settings state entries kept rests large)
-    )
+    let keeps = g.met.H.Host.disk_keeps host left c.restart.ensures.beside in record {
+      done = tt;
+      failed = λ settings state entries kept rests.
+          let large = subst (λ slots. needed_of slots ≤ g.H.Disk.extent host) kept.stands.slots c.requires.size in
+          rw c.in-Restart.is (
+          restart_stops settings state c.args.got.now.at c.args.server entries kept (g.H.Disk.media host) (g.H.Disk.media left) (g.H.Wire.acts host) (g.H.Wire.acts left)
+          keeps.0 (c.restart.ensures.moments settings state entries kept) c.in-Err.fault (c.in-Err.ensures.found settings state entries kept rests large)
+          );
+      settings = tt;
+      size = tt;
+      stopped = recover_stops ServerValue c.in-Err.fault (Rose (g.H.Wire.faults host) (g.H.Wire.faults left)) (g.H.Disk.faults host) (g.H.Disk.faults left) c.in-Err.ensures.cause;
+      leads = keeps.2;
+      wire = keeps.1;
+      disk = tt;
+    }
 
 -- ---- another event
 
