@@ -1,4 +1,4 @@
-use Rattle.std.proofs.Common.{[], ◌∷◌, refl, sym, ap, ◌∙◌, subst}
+use Rattle.std.proofs.Common.{arith, [], ◌∷◌, refl, sym, ap, ◌∙◌, subst}
 use Rattle.dots_host.specs.declared.out.OwnedOut.TheVariants as owned
 use Rattle.dots_host.specs.Runs.{Added, Gives}
 use Rattle.dots_settings.specs.declared.limits.Limits.{Limits}
@@ -47,6 +47,18 @@ returns-in-Told-clause-done g c = λ settings state entries kept.
       unwritten settings state state (owned.To c.args.peer c.in-Told.reply ∷ []) (journal.StandsFor c.args.self.now.journal settings entries) (g.H.Disk.media host) (g.H.Disk.media new) (g.H.Wire.moment host)
           (g.H.Wire.acts host) (g.H.Wire.acts new) (g.met.H.Host.one_moment host) gives c.send_to-in-Told.ensures.media,
     )
+
+pub returns-in-Silent-clause-cause : goal.returns-in-Silent-clause-cause
+returns-in-Silent-clause-cause g c = record { later = omega arith; same = refl; rose = tt }
+
+pub returns-in-Silent-clause-leads : goal.returns-in-Silent-clause-leads
+returns-in-Silent-clause-leads g c = g.met.H.Wire.leads_same c.args.host.now
+
+pub returns-in-Reply-clause-cause : goal.returns-in-Reply-clause-cause
+returns-in-Reply-clause-cause g c = record { later = omega (arith, c.send_to.ensures.disk); same = c.send_to.ensures.disk; rose = tt }
+
+pub returns-in-Told-clause-cause : goal.returns-in-Told-clause-cause
+returns-in-Told-clause-cause g c = record { later = omega (arith, c.send_to-in-Told.ensures.disk); same = c.send_to-in-Told.ensures.disk; rose = tt }
 
 -- ---- an entry is accepted
 
@@ -135,3 +147,21 @@ returns-in-Accept-clause-done g c = λ settings state entries kept.
             sends = c.send_to-in-Accept.ensures.media;
           }),
     )
+
+pub returns-in-Accept-clause-cause : goal.returns-in-Accept-clause-cause
+returns-in-Accept-clause-cause g c =
+    let same = c.send_to-in-Accept.ensures.disk ∙ c.in_ok-accept-in-Accept.ensures.cause.same in
+    record { later = omega (arith, same); same = same; rose = tt }
+
+pub returns-in-Accept-clause-wire : goal.returns-in-Accept-clause-wire
+returns-in-Accept-clause-wire g c = c.send_to-in-Accept.ensures.wire ∙ (g.met.H.Host.disk_keeps c.args.host.now c.accept.new.disk c.accept.ensures.beside).1
+
+pub returns-in-Accept-clause-leads : goal.returns-in-Accept-clause-leads
+returns-in-Accept-clause-leads g c =
+    g.met.H.Wire.leads_then _ _ _ (g.met.H.Host.disk_keeps c.args.host.now c.accept.new.disk c.accept.ensures.beside).2 c.send_to-in-Accept.ensures.leads
+
+pub returns-in_err-accept-in-Accept-clause-wire : goal.returns-in_err-accept-in-Accept-clause-wire
+returns-in_err-accept-in-Accept-clause-wire g c = (g.met.H.Host.disk_keeps c.args.host.now c.accept.new.disk c.accept.ensures.beside).1
+
+pub returns-in_err-accept-in-Accept-clause-leads : goal.returns-in_err-accept-in-Accept-clause-leads
+returns-in_err-accept-in-Accept-clause-leads g c = (g.met.H.Host.disk_keeps c.args.host.now c.accept.new.disk c.accept.ensures.beside).2
