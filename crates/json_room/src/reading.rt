@@ -1,10 +1,11 @@
 //! From bytes to a value, in one pass over the tokens.
 
-ghost use Rattle.std.specs.Prelude.{◌≡◌, ◌<◌, length, None, Some, IfOk, OnOk, Err, IsUtf8};
-ghost use Rattle.json.specs.Json.{value, items, members};
-ghost use Rattle.serde_json.specs.Data.{no_members};
-ghost use Rattle.serde_json.specs.Read.{of_json, of_items, of_members, converted, read as value_of};
-ghost use Rattle.serde_json.specs.View.{view, items_view, members_view};
+ghost use Rattle.std.specs.Prelude.{◌≡◌, ◌≢◌, ◌<◌, ◌≤◌, ◌∷◌, length, None, Some, IfOk, OnOk, Err, IsUtf8, option_map, string_bytes};
+ghost use Rattle.json.specs.Json.{value};
+ghost use Rattle.json.specs.Token.Token.{begin_array, begin_object};
+ghost use Rattle.serde_json.specs.Data.{string, number, put};
+ghost use Rattle.serde_json.specs.Read.{of_json, number_of, converted, read as value_of};
+ghost use Rattle.serde_json.specs.View.{view, members_view};
 
 use crate::fault::JsonFault;
 use crate::number::number_in;
@@ -55,6 +56,27 @@ fn read_text(alloc: Global, text: &str, scratch: &mut Scratch) -> Result<Value, 
     Ok(value)
 }
 
+/// A text as a value.
+#[inline(always)]
+fn text_value(alloc: Global, text: &str) -> Result<Value, JsonFault>
+    ensures ok { IfOk result (λ v. view v ≡ string text.now) }
+    ensures err { result ≢ Err JsonFault.NotJson }
+{
+    Ok(Value::String(String::from_str(alloc, text)?))
+}
+
+/// A number as a value, where it is in range.
+#[inline(always)]
+fn number_value(text: &str) -> Result<Value, JsonFault>
+    ensures ok { IfOk result (λ v. option_map number (number_of text.now) ≡ Some (view v)) }
+    ensures err { result ≡ Err JsonFault.NotJson → number_of text.now ≡ None }
+{
+    match number_in(text) {
+        Some(number) => Ok(Value::Number(number)),
+        None => Err(JsonFault::NotJson),
+    }
+}
+
 /// The value that comes next.
 #[cycle(read)]
 #[inline(always)]
@@ -64,72 +86,70 @@ fn read(alloc: Global, reader: &mut Reader<'_>, depth: usize) -> Result<Value, J
     ensures shorter { OnOk result (length reader.new < length reader.old) }
     ensures err { result ≡ Err JsonFault.NotJson → converted of_json (value depth reader.old) ≡ None }
 {
-    let token = reader.next().ok_or(JsonFault::NotJson)?;
+    let Some(token) = reader.next() else {
+        return Err(JsonFault::NotJson);
+    };
     match token {
-        Token::String(text) => Ok(Value::String(String::from_str(alloc, text)?)),
-        Token::Number(text) => match number_in(text) {
-            Some(number) => Ok(Value::Number(number)),
-            None => Err(JsonFault::NotJson),
-        },
+        Token::String(text) => text_value(alloc, text),
+        Token::Number(text) => number_value(text),
         Token::Bool(b) => Ok(Value::Bool(b)),
         Token::Null => Ok(Value::Null),
+        Token::BeginArray => read_array(alloc, reader, depth),
+        Token::BeginObject => read_object(alloc, reader, depth),
         Token::EndObject | Token::EndArray | Token::Key(_) | Token::Bad => Err(JsonFault::NotJson),
-        Token::BeginArray => {
-            if depth == 0 {
-                return Err(JsonFault::NotJson);
-            }
-            Ok(Value::Array(read_items(alloc, reader, depth - 1)?))
-        }
-        Token::BeginObject => {
-            if depth == 0 {
-                return Err(JsonFault::NotJson);
-            }
-            Ok(Value::Object(read_members(alloc, reader, depth - 1)?))
-        }
     }
 }
 
-/// The items up to the end of an array.
+/// The array that has begun, up to its end.
 #[cycle(read)]
 #[inline(never)]
-fn read_items(alloc: Global, reader: &mut Reader<'_>, depth: usize) -> Result<Vec<Value>, JsonFault>
+fn read_array(alloc: Global, reader: &mut Reader<'_>, depth: usize) -> Result<Value, JsonFault>
     ensures ok { IfOk result
-        (λ v. converted of_items (items (value depth) (length reader.old) reader.old)
-        ≡ Some (items_view v.items, reader.new)) }
-    ensures shorter { OnOk result (length reader.new < length reader.old) }
+        (λ v. converted of_json (value depth (begin_array ∷ reader.old)) ≡ Some (view v, reader.new)) }
+    ensures shorter { OnOk result (length reader.new ≤ length reader.old) }
     ensures err { result ≡ Err JsonFault.NotJson
-        → converted of_items (items (value depth) (length reader.old) reader.old) ≡ None }
+        → converted of_json (value depth (begin_array ∷ reader.old)) ≡ None }
 {
+    if depth == 0 {
+        return Err(JsonFault::NotJson);
+    }
     let mut found = Vec::new(alloc);
     'items: while !reader.take_end_array() {
-        let item = read(alloc, reader, depth)?;
+        let item = read(alloc, reader, depth - 1)?;
         found.push(item)?;
     }
-    Ok(found)
+    Ok(Value::Array(found))
 }
 
-/// The members up to the end of an object. Of those with one name the last counts.
+/// The object that has begun, up to its end. Of the members with one name the last counts.
 #[cycle(read)]
 #[inline(never)]
-fn read_members(
-    alloc: Global,
-    reader: &mut Reader<'_>,
-    depth: usize,
-) -> Result<Map<String, Value>, JsonFault>
+fn read_object(alloc: Global, reader: &mut Reader<'_>, depth: usize) -> Result<Value, JsonFault>
     ensures ok { IfOk result
-        (λ m. converted (λ ms. of_members ms no_members)
-        (members (value depth) (length reader.old) reader.old)
-        ≡ Some (members_view m.entries, reader.new)) }
-    ensures shorter { OnOk result (length reader.new < length reader.old) }
+        (λ v. converted of_json (value depth (begin_object ∷ reader.old)) ≡ Some (view v, reader.new)) }
+    ensures shorter { OnOk result (length reader.new ≤ length reader.old) }
     ensures err { result ≡ Err JsonFault.NotJson
-        → converted (λ ms. of_members ms no_members)
-        (members (value depth) (length reader.old) reader.old) ≡ None }
+        → converted of_json (value depth (begin_object ∷ reader.old)) ≡ None }
 {
+    if depth == 0 {
+        return Err(JsonFault::NotJson);
+    }
     let mut found = Map::new(alloc);
     'members: while let Some(name) = reader.next_key()? {
         let key = String::from_str(alloc, name)?;
-        let member = read(alloc, reader, depth)?;
-        drop(found.insert(key, member)?);
+        let member = read(alloc, reader, depth - 1)?;
+        put(&mut found, key, member)?;
     }
-    Ok(found)
+    Ok(Value::Object(found))
+}
+
+/// Puts a member at its name, in place of one that has the name.
+#[inline(always)]
+fn put(found: &mut Map<String, Value>, name: String, member: Value) -> Result<(), JsonFault>
+    ensures ok { OnOk result (members_view found.new.entries
+        ≡ put (string_bytes name) (view member) (members_view found.old.entries)) }
+    ensures err { result ≢ Err JsonFault.NotJson }
+{
+    drop(found.insert(name, member)?);
+    Ok(())
 }
