@@ -7,7 +7,7 @@ use Rattle.acl_lists.specs.declared.alias.Alias.{Alias}
 use Rattle.serde_json.specs.Data.{Data, string, array, Members, no_members, member, put}
 use Rattle.serde_json.specs.View.{items_of}
 use Rattle.list_json.specs.AliasPrinting.{number_data, prefix_data, range_data, with_items}
-use Rattle.list_json.specs.Putting.{put_items}
+use Rattle.list_json.specs.Putting.{put_items, put_asked}
 
 -- the name stands before those of the members
 abbrev pub IsBefore : List ℕ → Members → Type 0
@@ -66,3 +66,12 @@ alias_members alias protocols prefixes ranges names all p q r s t =
     let r' = r ∙ ap (put_items (codes "target-port-range") (map range_data alias.asked.ports)) q' ∙ put_items_first (codes "target-port-range") range_data alias.asked.ports (prefix_members alias) (before_prefixes (codes "target-port-range") alias refl refl) in
     let s' = s ∙ ap (put_items (codes "target-fqdn") (map string alias.asked.names)) r' ∙ put_items_first (codes "target-fqdn") string alias.asked.names (range_members alias) (before_ranges (codes "target-fqdn") alias refl refl refl) in
     t ∙ ap (put (codes "name") (string alias.name)) s' ∙ put_first (codes "name") (string alias.name) (name_members alias) (before_names alias)
+
+pub alias_put : (alias : Alias) → put (codes "name") (string alias.name) (put_asked alias.asked no_members) ≡ member (codes "name") (string alias.name) (name_members alias)
+alias_put alias =
+    let asked = alias.asked in
+    let protocols = put_items (codes "target-protocol") (map number_data asked.protocols) no_members in
+    let prefixes = put_items (codes "target-prefix") (map prefix_data asked.prefixes) protocols in
+    let ranges = put_items (codes "target-port-range") (map range_data asked.ports) prefixes in
+    let names = put_items (codes "target-fqdn") (map string asked.names) ranges in
+    alias_members alias protocols prefixes ranges names (put (codes "name") (string alias.name) names) refl refl refl refl refl

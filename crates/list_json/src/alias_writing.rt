@@ -1,12 +1,13 @@
 //! Aliases as JSON (RFC 8783, section 6.1).
 
-ghost use Rattle.std.specs.Prelude.{◌≡◌, map, IfOk};
-ghost use Rattle.serde_json.specs.Data.{string};
-ghost use Rattle.serde_json.specs.View.{view};
+ghost use Rattle.std.specs.Prelude.{◌≡◌, codes, map, IfOk, OnOk};
+ghost use Rattle.serde_json.specs.Data.{string, put};
+ghost use Rattle.serde_json.specs.View.{view, members_view};
 ghost use Rattle.list_json.specs.AliasPrinting.{number_data, prefix_data, range_data, alias_data};
+ghost use Rattle.list_json.specs.Putting.{put_asked};
 
-use crate::writing::{name_value, number_value, prefix_value, put_items};
-use acl_lists::Alias;
+use crate::writing::{name_value, number_value, prefix_value, put_items, put_name};
+use acl_lists::{Alias, Asked};
 use dots_lists::{Name, NoMemory};
 use ip_scope::{PortRange, Prefix};
 use serde_json::{Map, Value, put};
@@ -72,20 +73,42 @@ fn protocol_values(alloc: Global, protocols: &[u8]) -> Result<Vec<Value>, NoMemo
     Ok(values)
 }
 
+/// Puts what is asked, each array where it has an item.
+fn put_asked(
+    members: &mut Map<String, Value>,
+    alloc: Global,
+    asked: &Asked,
+) -> Result<(), NoMemory>
+    ensures { OnOk result (members_view members.new.entries ≡ put_asked asked.now (members_view members.old.entries)) }
+{
+    let protocols = protocol_values(alloc, asked.protocols.items())?;
+    put_items(members, alloc, "target-protocol", protocols)?;
+    let prefixes = prefix_values(alloc, asked.prefixes.items())?;
+    put_items(members, alloc, "target-prefix", prefixes)?;
+    let ranges = range_values(alloc, asked.ports.items())?;
+    put_items(members, alloc, "target-port-range", ranges)?;
+    let names = name_values(alloc, asked.names.items())?;
+    put_items(members, alloc, "target-fqdn", names)
+}
+
+/// Puts the members of an alias.
+fn put_alias(
+    members: &mut Map<String, Value>,
+    alloc: Global,
+    alias: &Alias,
+) -> Result<(), NoMemory>
+    ensures { OnOk result (members_view members.new.entries
+        ≡ put (codes "name") (string alias.now.name) (put_asked alias.now.asked (members_view members.old.entries))) }
+{
+    put_asked(members, alloc, &alias.asked)?;
+    put_name(members, alloc, &alias.name)
+}
+
 /// An alias as JSON: the members that say something.
 pub fn alias_value(alloc: Global, alias: &Alias) -> Result<Value, NoMemory>
     ensures { IfOk result (λ value. view value ≡ alias_data alias.now) }
 {
-    let asked = &alias.asked;
     let mut members = Map::new(alloc);
-    let protocols = protocol_values(alloc, asked.protocols.items())?;
-    put_items(&mut members, alloc, "target-protocol", protocols)?;
-    let prefixes = prefix_values(alloc, asked.prefixes.items())?;
-    put_items(&mut members, alloc, "target-prefix", prefixes)?;
-    let ranges = range_values(alloc, asked.ports.items())?;
-    put_items(&mut members, alloc, "target-port-range", ranges)?;
-    let names = name_values(alloc, asked.names.items())?;
-    put_items(&mut members, alloc, "target-fqdn", names)?;
-    put(&mut members, alloc, "name", name_value(alloc, &alias.name)?)?;
+    put_alias(&mut members, alloc, alias)?;
     Ok(Value::Object(members))
 }

@@ -1,14 +1,15 @@
 //! Access lists as JSON (RFC 8783, section 7.2; RFC 8519, section 4.2).
 
-ghost use Rattle.std.specs.Prelude.{◌≡◌, map, option_map, IfOk};
+ghost use Rattle.std.specs.Prelude.{◌≡◌, map, option_map, IfOk, OnOk};
 ghost use Rattle.serde_json.specs.View.{view, members_view};
 ghost use Rattle.list_json.specs.AliasPrinting.{number_data, prefix_data};
 ghost use Rattle.list_json.specs.ListPrinting.{option_data, operator_data, test_data, transport_members, transport_name, untested, header_members, entry_header, entry_transport, matches_members, forwarding_text, actions_data, entry_data, family_text, activation_text, aces_data, acl_data};
 ghost use Rattle.list_json.specs.Lists.{header_name};
+ghost use Rattle.list_json.specs.Putting.{put_list};
 
 use crate::alias_writing::range_value;
 use crate::matches::{destination_name, header_name, source_name};
-use crate::writing::{name_value, number_value, prefix_value, put_object, put_value};
+use crate::writing::{name_value, number_value, prefix_value, put_member, put_name, put_object, put_text, put_value};
 use acl_lists::{Ace, Acl, Activation, PortTest};
 use dots_lists::NoMemory;
 use ip_scope::{Family, Prefix};
@@ -202,17 +203,31 @@ fn activation_text(activation: Activation) -> &'static str
     }
 }
 
+/// Puts the members of an access list.
+fn put_list(
+    members: &mut Map<String, Value>,
+    alloc: Global,
+    acl: &Acl,
+) -> Result<(), NoMemory>
+    ensures { OnOk result (members_view members.new.entries ≡ put_list acl.now (members_view members.old.entries)) }
+{
+    put_text(members, alloc, "type", family_text(acl.family))?;
+    put_name(members, alloc, &acl.name)?;
+    put_text(
+        members,
+        alloc,
+        "activation-type",
+        activation_text(acl.activation),
+    )?;
+    let aces = aces_value(alloc, acl.family, acl.aces.items())?;
+    put_member(members, alloc, "aces", aces)
+}
+
 /// An access list as JSON: the members that say something, and always its activation.
 pub fn acl_value(alloc: Global, acl: &Acl) -> Result<Value, NoMemory>
     ensures { IfOk result (λ value. view value ≡ acl_data acl.now) }
 {
     let mut members = Map::new(alloc);
-    let family = Value::try_from_str(alloc, family_text(acl.family))?;
-    put(&mut members, alloc, "type", family)?;
-    put(&mut members, alloc, "name", name_value(alloc, &acl.name)?)?;
-    let activation = Value::try_from_str(alloc, activation_text(acl.activation))?;
-    put(&mut members, alloc, "activation-type", activation)?;
-    let aces = aces_value(alloc, acl.family, acl.aces.items())?;
-    put(&mut members, alloc, "aces", aces)?;
+    put_list(&mut members, alloc, acl)?;
     Ok(Value::Object(members))
 }

@@ -1,7 +1,7 @@
 //! Values of JSON, and members that are put into an object.
 
-ghost use Rattle.std.specs.Prelude.{◌≡◌, map, option_map, IfOk, OnOk, IsUtf8};
-ghost use Rattle.serde_json.specs.Data.{string};
+ghost use Rattle.std.specs.Prelude.{◌≡◌, map, option_map, IfOk, OnOk, IsUtf8, codes};
+ghost use Rattle.serde_json.specs.Data.{string, put};
 ghost use Rattle.serde_json.specs.View.{view, members_view};
 ghost use Rattle.list_json.specs.AliasPrinting.{number_data, prefix_data};
 ghost use Rattle.list_json.specs.Putting.{put_items, put_value, put_object};
@@ -45,6 +45,49 @@ pub fn number_value(number: u16) -> Value
     Value::from(number)
 }
 
+/// Puts a value at this name.
+pub fn put_member(
+    members: &mut Map<String, Value>,
+    alloc: Global,
+    name: &str,
+    value: Value,
+) -> Result<(), NoMemory>
+    ensures { OnOk result (members_view members.new.entries
+        ≡ put name.now (view value) (members_view members.old.entries)) }
+{
+    match put(members, alloc, name, value) {
+        Ok(()) => Ok(()),
+        Err(_) => Err(NoMemory),
+    }
+}
+
+/// Puts a text at this name.
+pub fn put_text(
+    members: &mut Map<String, Value>,
+    alloc: Global,
+    name: &str,
+    text: &str,
+) -> Result<(), NoMemory>
+    ensures { OnOk result (members_view members.new.entries
+        ≡ put name.now (string text.now) (members_view members.old.entries)) }
+{
+    let value = Value::try_from_str(alloc, text)?;
+    put_member(members, alloc, name, value)
+}
+
+/// Puts a name at `name`.
+pub fn put_name(
+    members: &mut Map<String, Value>,
+    alloc: Global,
+    name: &Name,
+) -> Result<(), NoMemory>
+    ensures { OnOk result (members_view members.new.entries
+        ≡ put (codes "name") (string name.now) (members_view members.old.entries)) }
+{
+    let value = name_value(alloc, name)?;
+    put_member(members, alloc, "name", value)
+}
+
 /// Puts an array at this name, where it has an item.
 pub fn put_items(
     members: &mut Map<String, Value>,
@@ -58,8 +101,7 @@ pub fn put_items(
     if items.is_empty() {
         return Ok(());
     }
-    put(members, alloc, name, Value::Array(items))?;
-    Ok(())
+    put_member(members, alloc, name, Value::Array(items))
 }
 
 /// Puts a value at this name, where there is one.
@@ -72,10 +114,10 @@ pub fn put_value(
     ensures { OnOk result (members_view members.new.entries
         ≡ put_value name.now (option_map view value) (members_view members.old.entries)) }
 {
-    if let Some(value) = value {
-        put(members, alloc, name, value)?;
+    match value {
+        Some(value) => put_member(members, alloc, name, value),
+        None => Ok(()),
     }
-    Ok(())
 }
 
 /// Puts an object at this name, where it has a member.
@@ -91,6 +133,5 @@ pub fn put_object(
     if object.is_empty() {
         return Ok(());
     }
-    put(members, alloc, name, Value::Object(object))?;
-    Ok(())
+    put_member(members, alloc, name, Value::Object(object))
 }
