@@ -62,10 +62,10 @@ fn range_of(value: &Value) -> Result<PortRange, ListFault>
 }
 
 /// The member `target-prefix`: at most 16 texts of prefixes.
-fn prefixes_of(alloc: Global, alias: &AliasMembers<'_>) -> Result<PrefixList, ListFault>
-    ensures { Gives result (items_in the.TargetPrefix 16 (prefix_of the.TargetPrefix) (found alias.now.prefixes)) }
+fn prefixes_of(alloc: Global, member: Option<&Value>) -> Result<PrefixList, ListFault>
+    ensures { Gives result (items_in the.TargetPrefix 16 (prefix_of the.TargetPrefix) (found member.entry)) }
 {
-    let Some(value) = alias.prefixes else {
+    let Some(value) = member else {
         return Ok(List::new(alloc));
     };
     let Some(items) = few_items(value, MAX_TARGETS) else {
@@ -73,16 +73,19 @@ fn prefixes_of(alloc: Global, alias: &AliasMembers<'_>) -> Result<PrefixList, Li
     };
     let mut prefixes = List::new(alloc);
     for item in items {
-        prefixes.push(prefix_of(Member::TargetPrefix, item)?)?;
+        match prefix_of(Member::TargetPrefix, item) {
+            Ok(prefix) => prefixes.push(prefix)?,
+            Err(fault) => return Err(fault),
+        }
     }
     Ok(prefixes)
 }
 
 /// The member `target-port-range`: at most 16 ranges of ports.
-fn ports_of(alloc: Global, alias: &AliasMembers<'_>) -> Result<PortList, ListFault>
-    ensures { Gives result (items_in the.TargetPortRange 16 range_of (found alias.now.ports)) }
+fn ports_of(alloc: Global, member: Option<&Value>) -> Result<PortList, ListFault>
+    ensures { Gives result (items_in the.TargetPortRange 16 range_of (found member.entry)) }
 {
-    let Some(value) = alias.ports else {
+    let Some(value) = member else {
         return Ok(List::new(alloc));
     };
     let Some(items) = few_items(value, MAX_TARGETS) else {
@@ -90,16 +93,19 @@ fn ports_of(alloc: Global, alias: &AliasMembers<'_>) -> Result<PortList, ListFau
     };
     let mut ports = List::new(alloc);
     for item in items {
-        ports.push(range_of(item)?)?;
+        match range_of(item) {
+            Ok(range) => ports.push(range)?,
+            Err(fault) => return Err(fault),
+        }
     }
     Ok(ports)
 }
 
 /// The member `target-protocol`: at most 16 numbers of protocols.
-fn protocols_of(alloc: Global, alias: &AliasMembers<'_>) -> Result<ByteList, ListFault>
-    ensures { Gives result (items_in the.TargetProtocol 16 (protocol_of the.TargetProtocol) (found alias.now.protocols)) }
+fn protocols_of(alloc: Global, member: Option<&Value>) -> Result<ByteList, ListFault>
+    ensures { Gives result (items_in the.TargetProtocol 16 (protocol_of the.TargetProtocol) (found member.entry)) }
 {
-    let Some(value) = alias.protocols else {
+    let Some(value) = member else {
         return Ok(Bytes::new(alloc));
     };
     let Some(items) = few_items(value, MAX_TARGETS) else {
@@ -107,16 +113,19 @@ fn protocols_of(alloc: Global, alias: &AliasMembers<'_>) -> Result<ByteList, Lis
     };
     let mut protocols = Bytes::new(alloc);
     for item in items {
-        protocols.push(protocol_of(Member::TargetProtocol, item)?)?;
+        match protocol_of(Member::TargetProtocol, item) {
+            Ok(protocol) => protocols.push(protocol)?,
+            Err(fault) => return Err(fault),
+        }
     }
     Ok(protocols)
 }
 
 /// The member `target-fqdn`: at most 8 names.
-fn names_of(alloc: Global, alias: &AliasMembers<'_>) -> Result<NameList, ListFault>
-    ensures { Gives result (items_in the.TargetFqdn 8 (name_of the.TargetFqdn) (found alias.now.names)) }
+fn names_of(alloc: Global, member: Option<&Value>) -> Result<NameList, ListFault>
+    ensures { Gives result (items_in the.TargetFqdn 8 (name_of the.TargetFqdn) (found member.entry)) }
 {
-    let Some(value) = alias.names else {
+    let Some(value) = member else {
         return Ok(List::new(alloc));
     };
     let Some(items) = few_items(value, MAX_NAMES) else {
@@ -124,7 +133,10 @@ fn names_of(alloc: Global, alias: &AliasMembers<'_>) -> Result<NameList, ListFau
     };
     let mut names = List::new(alloc);
     for item in items {
-        names.push(name_of(alloc, Member::TargetFqdn, item)?)?;
+        match name_of(alloc, Member::TargetFqdn, item) {
+            Ok(name) => names.push(name)?,
+            Err(fault) => return Err(fault),
+        }
     }
     Ok(names)
 }
@@ -154,10 +166,10 @@ fn targets_of(alloc: Global, alias: &AliasMembers<'_>) -> Result<Asked, ListFaul
     ensures { Gives result (targets_from (found alias.now.prefixes) (found alias.now.ports)
         (found alias.now.protocols) (found alias.now.names)) }
 {
-    let prefixes = prefixes_of(alloc, alias)?;
-    let ports = ports_of(alloc, alias)?;
-    let protocols = protocols_of(alloc, alias)?;
-    let names = names_of(alloc, alias)?;
+    let prefixes = prefixes_of(alloc, alias.prefixes)?;
+    let ports = ports_of(alloc, alias.ports)?;
+    let protocols = protocols_of(alloc, alias.protocols)?;
+    let names = names_of(alloc, alias.names)?;
     with_target(Asked {
         prefixes,
         ports,

@@ -74,11 +74,7 @@ fn protocol_values(alloc: Global, protocols: &[u8]) -> Result<Vec<Value>, NoMemo
 }
 
 /// Puts what is asked, each array where it has an item.
-fn put_asked(
-    members: &mut Map<String, Value>,
-    alloc: Global,
-    asked: &Asked,
-) -> Result<(), NoMemory>
+fn put_asked(members: &mut Map<String, Value>, alloc: Global, asked: &Asked) -> Result<(), NoMemory>
     ensures { OnOk result (members_view members.new.entries ≡ put_asked asked.now (members_view members.old.entries)) }
 {
     let protocols = protocol_values(alloc, asked.protocols.items())?;
@@ -92,11 +88,7 @@ fn put_asked(
 }
 
 /// Puts the members of an alias.
-fn put_alias(
-    members: &mut Map<String, Value>,
-    alloc: Global,
-    alias: &Alias,
-) -> Result<(), NoMemory>
+fn put_alias(members: &mut Map<String, Value>, alloc: Global, alias: &Alias) -> Result<(), NoMemory>
     ensures { OnOk result (members_view members.new.entries
         ≡ put (codes "name") (string alias.now.name) (put_asked alias.now.asked (members_view members.old.entries))) }
 {

@@ -1,33 +1,39 @@
 //! Access lists as JSON (RFC 8783, section 7.2; RFC 8519, section 4.2).
 
-ghost use Rattle.std.specs.Prelude.{◌≡◌, map, option_map, IfOk, OnOk};
+ghost use Rattle.std.specs.Prelude.{◌≡◌, Some, map, option_map, IfOk, OnOk};
 ghost use Rattle.serde_json.specs.View.{view, members_view};
-ghost use Rattle.list_json.specs.AliasPrinting.{number_data, prefix_data};
+ghost use Rattle.list_json.specs.AliasPrinting.{number_data, prefix_data, range_data};
 ghost use Rattle.list_json.specs.ListPrinting.{option_data, operator_data, test_data, transport_members, transport_name, untested, header_members, entry_header, entry_transport, matches_members, forwarding_text, actions_data, entry_data, family_text, activation_text, aces_data, acl_data};
 ghost use Rattle.list_json.specs.Lists.{header_name};
 ghost use Rattle.list_json.specs.Putting.{put_list};
 
 use crate::alias_writing::range_value;
 use crate::matches::{destination_name, header_name, source_name};
-use crate::writing::{name_value, number_value, prefix_value, put_member, put_name, put_object, put_text, put_value};
+use crate::writing::{
+    number_value, prefix_value, put_member, put_name, put_object, put_text, put_value,
+};
 use acl_lists::{Ace, Acl, Activation, PortTest};
 use dots_lists::NoMemory;
-use ip_scope::{Family, Prefix};
+use ip_scope::{Family, PortRange, Prefix};
 use serde_json::{Map, Value, put};
 use std::alloc::Global;
 
-fn operator_value(alloc: Global, operator: &str, port: u16) -> Result<Value, NoMemory>
-    ensures { IfOk result (λ value. view value ≡ operator_data operator.now port) }
+fn operator_value(alloc: Global, operator: &str, port: u16) -> Result<Option<Value>, NoMemory>
+    ensures { IfOk result (λ value. option_map view value ≡ Some (operator_data operator.now port)) }
 {
     let mut members = Map::new(alloc);
-    put(&mut members, alloc, "port", number_value(port))?;
-    put(
-        &mut members,
-        alloc,
-        "operator",
-        Value::try_from_str(alloc, operator)?,
-    )?;
-    Ok(Value::Object(members))
+    put_member(&mut members, alloc, "port", number_value(port))?;
+    put_text(&mut members, alloc, "operator", operator)?;
+    Ok(Some(Value::Object(members)))
+}
+
+fn ports_value(alloc: Global, range: &PortRange) -> Result<Option<Value>, NoMemory>
+    ensures { IfOk result (λ value. option_map view value ≡ Some (range_data range.now)) }
+{
+    match range_value(alloc, range) {
+        Ok(value) => Ok(Some(value)),
+        Err(fault) => Err(fault),
+    }
 }
 
 /// What is asked of a port, where something is.
@@ -36,11 +42,11 @@ fn test_value(alloc: Global, test: &PortTest) -> Result<Option<Value>, NoMemory>
 {
     match test {
         PortTest::Any => Ok(None),
-        PortTest::Eq(port) => Ok(Some(operator_value(alloc, "eq", *port)?)),
-        PortTest::Neq(port) => Ok(Some(operator_value(alloc, "neq", *port)?)),
-        PortTest::Lte(port) => Ok(Some(operator_value(alloc, "lte", *port)?)),
-        PortTest::Gte(port) => Ok(Some(operator_value(alloc, "gte", *port)?)),
-        PortTest::Range(range) => Ok(Some(range_value(alloc, range)?)),
+        PortTest::Eq(port) => operator_value(alloc, "eq", *port),
+        PortTest::Neq(port) => operator_value(alloc, "neq", *port),
+        PortTest::Lte(port) => operator_value(alloc, "lte", *port),
+        PortTest::Gte(port) => operator_value(alloc, "gte", *port),
+        PortTest::Range(range) => ports_value(alloc, range),
     }
 }
 
@@ -144,8 +150,7 @@ fn actions_value(alloc: Global, accept: bool) -> Result<Value, NoMemory>
     ensures { IfOk result (λ value. view value ≡ actions_data accept) }
 {
     let mut members = Map::new(alloc);
-    let forwarding = Value::try_from_str(alloc, forwarding_text(accept))?;
-    put(&mut members, alloc, "forwarding", forwarding)?;
+    put_text(&mut members, alloc, "forwarding", forwarding_text(accept))?;
     Ok(Value::Object(members))
 }
 
@@ -153,15 +158,11 @@ fn entry_value(alloc: Global, family: Family, entry: &Ace) -> Result<Value, NoMe
     ensures { IfOk result (λ value. view value ≡ entry_data family entry.now) }
 {
     let mut members = Map::new(alloc);
-    put(&mut members, alloc, "name", name_value(alloc, &entry.name)?)?;
+    put_name(&mut members, alloc, &entry.name)?;
     let matches = matches_map(alloc, family, entry)?;
     put_object(&mut members, alloc, "matches", matches)?;
-    put(
-        &mut members,
-        alloc,
-        "actions",
-        actions_value(alloc, entry.accept)?,
-    )?;
+    let actions = actions_value(alloc, entry.accept)?;
+    put_member(&mut members, alloc, "actions", actions)?;
     Ok(Value::Object(members))
 }
 
@@ -204,11 +205,7 @@ fn activation_text(activation: Activation) -> &'static str
 }
 
 /// Puts the members of an access list.
-fn put_list(
-    members: &mut Map<String, Value>,
-    alloc: Global,
-    acl: &Acl,
-) -> Result<(), NoMemory>
+fn put_list(members: &mut Map<String, Value>, alloc: Global, acl: &Acl) -> Result<(), NoMemory>
     ensures { OnOk result (members_view members.new.entries ≡ put_list acl.now (members_view members.old.entries)) }
 {
     put_text(members, alloc, "type", family_text(acl.family))?;

@@ -5,4 +5,4 @@ use Rattle.list_json.proofs.Arrays.{one_more}
 use Rattle.list_json.proofs.alias_reading.protocols_of.Goals as goal
 
 pub loop-item-preserved : goal.loop-item-preserved
-loop-item-preserved c = rw c.in_ok-push.ensures.ok (one_more (protocol_of the.TargetProtocol) _ c.loop-item.item-index c.item-item.result c.loop-item.protocols _ c.loop-item-test.true c.item-item.is (sym c.in_ok-protocol_of.ensures) c.loop-item.invariant)
+loop-item-preserved c = rw c.in_ok-push-in-Ok.ensures.ok (one_more (protocol_of the.TargetProtocol) _ c.loop-item.item-index c.item-item.result c.loop-item.protocols _ c.loop-item-test.true c.item-item.is (sym c.in-Ok.ensures) c.loop-item.invariant)

@@ -12,13 +12,13 @@ pub returns : goal.returns
 returns c =
     let entry = c.args.entry.now in
     let family = c.args.family in
-    let one = members_view c.put.new.map.entries in
+    let one = members_view c.put_name.new.members.entries in
     let two = members_view c.put_object.new.members.entries in
-    let three = members_view c.put-2.new.map.entries in
+    let three = members_view c.put_member.new.members.entries in
     let p : one ≡ put (codes "name") (string entry.name) no_members =
-    c.in_ok-put.ensures.ok ∙ rw (c.in_ok-name_value.ensures, c.new-members.ensures.empty) refl in
+    c.in_ok-put_name.ensures ∙ ap (λ es. put (codes "name") (string entry.name) (members_view es)) c.new-members.ensures.empty in
     let q : two ≡ put_object (codes "matches") (matches_members family entry) one =
     c.in_ok-put_object.ensures ∙ rw c.in_ok-matches.ensures refl in
     let r : three ≡ put (codes "actions") (actions_data entry.accept) two =
-    c.in_ok-put-2.ensures.ok ∙ rw c.in_ok-actions_value.ensures refl in
-    view-Object c.put-2.new.map ∙ ap object (entry_put (actions_data entry.accept) (matches_members family entry) (string entry.name) one two three p q r)
+    c.in_ok-put_member.ensures ∙ rw c.in_ok-actions.ensures refl in
+    view-Object c.put_member.new.members ∙ ap object (entry_put (actions_data entry.accept) (matches_members family entry) (string entry.name) one two three p q r)
