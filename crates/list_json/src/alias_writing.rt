@@ -18,7 +18,10 @@ fn name_values(alloc: Global, names: &[Name]) -> Result<Vec<Value>, NoMemory>
 {
     let mut values = Vec::new(alloc);
     for name in names {
-        values.push(name_value(alloc, name)?)?;
+        match name_value(alloc, name) {
+            Ok(value) => values.push(value)?,
+            Err(fault) => return Err(fault),
+        }
     }
     Ok(values)
 }
@@ -48,7 +51,10 @@ fn range_values(alloc: Global, ranges: &[PortRange]) -> Result<Vec<Value>, NoMem
 {
     let mut values = Vec::new(alloc);
     for range in ranges {
-        values.push(range_value(alloc, range)?)?;
+        match range_value(alloc, range) {
+            Ok(value) => values.push(value)?,
+            Err(fault) => return Err(fault),
+        }
     }
     Ok(values)
 }
@@ -58,7 +64,10 @@ fn prefix_values(alloc: Global, prefixes: &[Prefix]) -> Result<Vec<Value>, NoMem
 {
     let mut values = Vec::new(alloc);
     for prefix in prefixes {
-        values.push(prefix_value(alloc, prefix)?)?;
+        match prefix_value(alloc, prefix) {
+            Ok(value) => values.push(value)?,
+            Err(fault) => return Err(fault),
+        }
     }
     Ok(values)
 }

@@ -171,7 +171,10 @@ fn entry_values(alloc: Global, family: Family, entries: &[Ace]) -> Result<Vec<Va
 {
     let mut values = Vec::new(alloc);
     for entry in entries {
-        values.push(entry_value(alloc, family, entry)?)?;
+        match entry_value(alloc, family, entry) {
+            Ok(value) => values.push(value)?,
+            Err(fault) => return Err(fault),
+        }
     }
     Ok(values)
 }

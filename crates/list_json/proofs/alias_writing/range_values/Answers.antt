@@ -4,4 +4,4 @@ use Rattle.list_json.proofs.Arrays.{one_written}
 use Rattle.list_json.proofs.alias_writing.range_values.Goals as goal
 
 pub loop-range-preserved : goal.loop-range-preserved
-loop-range-preserved c = rw c.in_ok-push.ensures.items (one_written range_data view c.args.ranges.now c.loop-range.range-index c.range-item.result c.loop-range.values.items _ c.loop-range-test.true c.range-item.is c.in_ok-range_value.ensures c.loop-range.invariant)
+loop-range-preserved c = rw c.in_ok-push-in-Ok.ensures.items (one_written range_data view c.args.ranges.now c.loop-range.range-index c.range-item.result c.loop-range.values.items _ c.loop-range-test.true c.range-item.is c.in-Ok.ensures c.loop-range.invariant)
