@@ -1,4 +1,5 @@
-use Rattle.std.proofs.Common.{◌≡◌, ℕ, true, [], ◌∷◌, ◌++◌, sym, subst}
+use Rattle.std.proofs.Common.{◌≡◌, ◌∙◌, ℕ, ap, true, [], ◌∷◌, ◌++◌, sym, subst}
+use Rattle.dots_host.specs.Causes.{HasCause}
 use Rattle.dots_disk.specs.Becoming.{Leaves}
 use Rattle.dots_registry.specs.Standing.{time_of, number_remembered}
 use Rattle.slot_store.proofs.Steps.{leaves_then}
@@ -96,3 +97,21 @@ returns-in-Ok-clause-refused g c =
     let made = c.in-Ok.ensures.compacted settings history entries stands in
     (made.0, subst (λ (l : LedgerValue). StandsFor l settings history made.0) (sym same) made.1))
     c.append.ensures.same
+
+-- ---- what else both calls leave
+
+pub returns-in-Err-clause-cause : goal.returns-in-Err-clause-cause
+returns-in-Err-clause-cause g c = record { later = c.in-Err.ensures.cause.later; same = tt; rose = c.in-Err.ensures.cause.rose }
+
+pub returns-in-Err-clause-still : goal.returns-in-Err-clause-still
+returns-in-Err-clause-still g c = c.make_room.ensures.time
+
+pub returns-in-Ok-clause-cause : goal.returns-in-Ok-clause-cause
+returns-in-Ok-clause-cause g c =
+    subst (λ (n : ℕ). HasCause n (g.D.Disk.faults c.append.new.disk) c.append.result) c.in-Ok.ensures.cause.same c.append.ensures.cause
+
+pub returns-in-Ok-clause-still : goal.returns-in-Ok-clause-still
+returns-in-Ok-clause-still g c = err_as c.append.result _ _ (λ same. ap (λ (l : LedgerValue). time_of l.registry) same ∙ c.make_room.ensures.time) c.append.ensures.same
+
+pub returns-in-Ok-clause-beside : goal.returns-in-Ok-clause-beside
+returns-in-Ok-clause-beside g c = g.met.D.Disk.beside_then _ _ _ c.make_room.ensures.beside c.append.ensures.beside
