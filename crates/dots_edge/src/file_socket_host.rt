@@ -1,10 +1,12 @@
-ghost use Rattle.std.specs.Prelude.{◌≡◌, ◌+◌, ◌≤◌, ◌<◌, ◌^◌, map, length, true, false, None, Some, is_some, IfOk, OnOk, OnErr, IfSome, ⊤};
+ghost use Rattle.std.specs.Prelude.{◌≡◌, ◌+◌, ◌≤◌, ◌<◌, ◌^◌, List, map, length, true, false, None, Some, is_some, IfOk, OnOk, OnErr, IfSome, ⊤};
 ghost use Rattle.dots_host.specs.Causes.{Rose, HasCause};
 ghost use Rattle.dots_host.specs.Acts.{IsWithin, OnFailed, OnEvent};
 ghost use Rattle.dots_host.specs.declared.TheConstants.{MAX_EVENT_BYTES};
 ghost use Rattle.dots_edge.specs.Edge.{disk_bytes, one_fewer, KeepsWire, KeepsDisk, IsAsSaid};
-ghost use Rattle.dots_edge.specs.HostLine.{line_value};
-ghost use Rattle.dots_edge.specs.Found.{has_journal};
+ghost use Rattle.line_fields.specs.Lines.{lines_of};
+ghost use Rattle.dots_edge.specs.HostLine.{LineValue, line_value};
+ghost use Rattle.dots_edge.specs.HostFile.{Stand};
+ghost use Rattle.dots_edge.specs.Found.{events_in, has_journal};
 ghost use Rattle.std.proofs.Common.{ap, refl};
 ghost use Rattle.dots_edge.specs.EdgeLaws.{keeps_wire_same, keeps_wire_then, keeps_disk_same, keeps_disk_then};
 
@@ -39,6 +41,15 @@ pub struct FileSocketHost<R> {
     disk_faults: u64,
 }
 
+/// What a host file names, once it is open.
+#[derive(Drop)]
+struct Opened {
+    ends: Option<Ends>,
+    journal: Option<Journal>,
+    /// How many events are to come, where that is said.
+    left: Option<u64>,
+}
+
 impl<R> Model for FileSocketHost<R> {
     ghost use Rattle.std.specs.Prelude.{is_some};
     ghost use Rattle.dots_edge.specs.Edge.{Edge};
@@ -58,38 +69,30 @@ impl<R: Files<File = File> + Net + Clock + Drop> FileSocketHost<R> {
         ensures shut { IfOk result (λ host. host.opened ≡ false → host.journaled ≡ false) }
         ensures faults { IfOk result (λ host. (host.wire ≡ 0) × (host.disk ≡ 0)) }
     {
-        let lines = match read_host_file(alloc, text) {
-            Ok(lines) => lines,
-            Err(HostFault::NoMemory) => return Err(NoMemory),
-            Err(_) => return Ok(FileSocketHost::closed(rt)),
-        };
-        let rooms = Rooms::new(alloc, lines.as_slice())?;
-        let (ends, journal) = match open_all(&rt, lines.as_slice(), rooms) {
-            Ok((ends, journal)) => (Some(ends), journal),
-            Err(_) => (None, None),
-        };
-        Ok(FileSocketHost {
+        match open_said(alloc, &rt, text) {
+            Ok(opened) => Ok(FileSocketHost::of(rt, opened)),
+            Err(_) => Err(NoMemory),
+        }
+    }
+
+    /// The host of what was opened.
+    fn of(rt: R, opened: Opened) -> FileSocketHost<R>
+        ensures opened { result.opened ≡ is_some opened.ends }
+        ensures journaled { result.journaled ≡ is_some opened.journal }
+        ensures left { result.left ≡ opened.left }
+        ensures faults { (result.wire ≡ 0) × (result.disk ≡ 0) }
+    {
+        let Opened {
+            ends,
+            journal,
+            left,
+        } = opened;
+        FileSocketHost {
             rt,
             ends,
             journal,
             seconds: Seconds::new(),
-            left: events_in(lines.as_slice()),
-            wire_faults: 0,
-            disk_faults: 0,
-        })
-    }
-
-    /// A host of which every call fails.
-    fn closed(rt: R) -> FileSocketHost<R>
-        ensures shut { (result.opened ≡ false) × (result.journaled ≡ false) }
-        ensures faults { (result.wire ≡ 0) × (result.disk ≡ 0) }
-    {
-        FileSocketHost {
-            rt,
-            ends: None,
-            journal: None,
-            seconds: Seconds::new(),
-            left: None,
+            left,
             wire_faults: 0,
             disk_faults: 0,
         }
@@ -111,32 +114,6 @@ impl<R: Files<File = File> + Net + Clock + Drop> FileSocketHost<R> {
         }
     }
 
-    /// The next event, or None where the wire failed.
-    fn next_event(&mut self, into: &mut [u8]) -> Option<What>
-        requires { length into.old ≡ MAX_EVENT_BYTES }
-        ensures within { IfSome result (λ what. IsWithin what MAX_EVENT_BYTES) }
-        ensures event { IfSome result (λ what. OnFailed what ⊥) }
-        ensures kept { self.new ≡ record self.old { left = self.new.left } }
-        ensures shut { self.old.opened ≡ false → result ≡ None }
-        ensures ends { self.old.opened ≡ true → self.old.left ≡ Some 0 → result ≡ Some What.End }
-        ensures counted { IfSome result (λ _. self.new.left ≡ one_fewer self.old.left) }
-        ensures failed { result ≡ None → self.new.left ≡ self.old.left }
-    {
-        let Some(ends) = &mut self.ends else {
-            return None;
-        };
-        if self.left == Some(0) {
-            return Some(What::End);
-        }
-        match ends.next(&self.rt, into) {
-            Ok(what) => {
-                self.left = one_fewer(self.left);
-                Some(what)
-            }
-            Err(_) => None,
-        }
-    }
-
     /// Counts a fault of the disk where a call wasn't done.
     fn settle(&mut self, done: bool) -> Result<(), Failed>
         ensures told { OnOk result (done ≡ true) }
@@ -151,17 +128,71 @@ impl<R: Files<File = File> + Net + Clock + Drop> FileSocketHost<R> {
     }
 }
 
+/// Opens what the text of a host file names, or nothing where it has a fault.
+fn open_said<R: Files<File = File> + Net>(
+    alloc: Global,
+    rt: &R,
+    text: &[u8],
+) -> Result<Opened, NoMemory>
+    ensures said { IfOk result (λ opened. is_some opened.ends ≡ true → (values : List LineValue) × Stand (lines_of text.now) values
+        × (opened.left ≡ events_in values) × (is_some opened.journal ≡ has_journal values)) }
+    ensures shut { IfOk result (λ opened. is_some opened.ends ≡ false → is_some opened.journal ≡ false) }
+{
+    match read_host_file(alloc, text) {
+        Ok(lines) => open_lines(alloc, rt, lines.as_slice()),
+        Err(HostFault::NoMemory) => Err(NoMemory),
+        Err(_) => Ok(Opened {
+            ends: None,
+            journal: None,
+            left: None,
+        }),
+    }
+}
+
+/// Opens what the lines name, or nothing where a part of it can't be opened.
+fn open_lines<R: Files<File = File> + Net>(
+    alloc: Global,
+    rt: &R,
+    lines: &[HostLine<'_>],
+) -> Result<Opened, NoMemory>
+    ensures journaled { IfOk result (λ opened. is_some opened.ends ≡ true → is_some opened.journal ≡ has_journal (map line_value lines.now)) }
+    ensures shut { IfOk result (λ opened. is_some opened.ends ≡ false → is_some opened.journal ≡ false) }
+    ensures left { IfOk result (λ opened. opened.left ≡ events_in (map line_value lines.now)) }
+{
+    let rooms = Rooms::new(alloc, lines)?;
+    let left = events_in(lines);
+    match open_all(rt, lines) {
+        Ok((sockets, journal)) => Ok(Opened {
+            ends: Some(Ends::new(sockets, rooms)),
+            journal,
+            left,
+        }),
+        Err(_) => {
+            drop(rooms);
+            Ok(Opened {
+                ends: None,
+                journal: None,
+                left,
+            })
+        }
+    }
+}
+
 /// Binds the sockets and opens the journal that the lines name.
 fn open_all<R: Files<File = File> + Net>(
     rt: &R,
     lines: &[HostLine<'_>],
-    rooms: Rooms,
-) -> io::Result<(Ends, Option<Journal>)>
+) -> io::Result<(Sockets, Option<Journal>)>
     ensures { IfOk result (λ all. is_some all.1 ≡ has_journal (map line_value lines.now)) }
 {
     let sockets = Sockets::bind(rt, lines)?;
-    let journal = open_journal(rt, journal_in(lines))?;
-    Ok((Ends::new(sockets, rooms), journal))
+    match open_journal(rt, journal_in(lines)) {
+        Ok(journal) => Ok((sockets, journal)),
+        Err(error) => {
+            drop(sockets);
+            Err(error)
+        }
+    }
 }
 
 fn open_journal<R: Files<File = File>>(rt: &R, path: Option<&str>) -> io::Result<Option<Journal>>
@@ -170,6 +201,37 @@ fn open_journal<R: Files<File = File>>(rt: &R, path: Option<&str>) -> io::Result
     match path {
         Some(path) => Ok(Some(Journal::open(rt, path)?)),
         None => Ok(None),
+    }
+}
+
+/// The next event, or None where the wire failed. None is to come any more where none is left.
+fn next_event<R: Clock>(
+    ends: &mut Option<Ends>,
+    left: &mut Option<u64>,
+    rt: &R,
+    into: &mut [u8],
+) -> Option<What>
+    requires { length into.old ≡ MAX_EVENT_BYTES }
+    ensures within { IfSome result (λ what. IsWithin what MAX_EVENT_BYTES) }
+    ensures event { IfSome result (λ what. OnFailed what ⊥) }
+    ensures opened { is_some ends.new ≡ is_some ends.old }
+    ensures shut { is_some ends.old ≡ false → result ≡ None }
+    ensures ends { is_some ends.old ≡ true → left.old ≡ Some 0 → result ≡ Some What.End }
+    ensures counted { IfSome result (λ _. left.new ≡ one_fewer left.old) }
+    ensures failed { result ≡ None → left.new ≡ left.old }
+{
+    let Some(ends) = ends else {
+        return None;
+    };
+    if let Some(0) = *left {
+        return Some(What::End);
+    }
+    match ends.next(rt, into) {
+        Ok(what) => {
+            *left = one_fewer(*left);
+            Some(what)
+        }
+        Err(_) => None,
     }
 }
 
@@ -221,7 +283,7 @@ impl<R: Files<File = File> + Net + Clock + Drop> Wire for FileSocketHost<R> {
         // A time is never below the one before.
         ensures time { (self.new.last ≡ result.at) × (self.old.last ≤ result.at) }
     {
-        let what = self.next_event(into);
+        let what = next_event(&mut self.ends, &mut self.left, &self.rt, into);
         let at = self.seconds.read(&self.rt);
         match what {
             Some(what) => Got { what, at },

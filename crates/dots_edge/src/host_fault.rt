@@ -6,7 +6,7 @@ use std::error::Error;
 use std::fmt;
 
 /// Why a host file can't be used. Lines are counted from 1 on, those that are skipped too.
-#[derive(Clone, Copy, Debug, PartialEq, Eq)]
+#[derive(Clone, Copy, Debug)]
 pub enum HostFault {
     /// The line has none of the forms.
     Line { n: u64 },

@@ -33,13 +33,10 @@ impl Journal {
             .write(true)
             .create(true)
             .open(rt, path)?;
-        file.try_lock()?;
-        let made = file.metadata()?.len();
-        if made == 0 {
-            file.sync_all()?;
-            File::open(rt, folder_of(path))?.sync_all()?;
+        match lock(&file, rt, path) {
+            Ok(made) => Ok(Journal { file, made }),
+            Err(error) => Err(error),
         }
-        Ok(Journal { file, made })
     }
 
     /// Reads the bytes from the place `at` on.
@@ -90,6 +87,22 @@ impl Journal {
         }
         Ok(())
     }
+}
+
+/// Locks the file of the path, and answers how long it is. Where it is empty, its entry in the folder is synced.
+fn lock<R: Files<File = File>>(file: &File, rt: &R, path: &str) -> io::Result<u64> {
+    file.try_lock()?;
+    let made = file.metadata()?.len();
+    if made == 0 {
+        file.sync_all()?;
+        sync_folder(rt, folder_of(path))?;
+    }
+    Ok(made)
+}
+
+fn sync_folder<R: Files<File = File>>(rt: &R, path: &str) -> io::Result<()> {
+    let folder = File::open(rt, path)?;
+    folder.sync_all()
 }
 
 /// The folder in which the file of the path stands.

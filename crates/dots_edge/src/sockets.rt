@@ -58,14 +58,18 @@ impl Sockets {
     pub fn bind(net: &impl Net, lines: &[HostLine<'_>]) -> io::Result<Sockets> {
         let poll = Poll::new(net)?;
         let at = signal_in(lines);
-        let signal = bind_signal(net, &poll, at)?;
-        let http = bind_http(net, &poll, http_in(lines))?;
-        Ok(Sockets {
-            poll,
-            signal,
-            maps: is_v6(at),
-            http,
-        })
+        match bind_both(net, &poll, at, http_in(lines)) {
+            Ok((signal, http)) => Ok(Sockets {
+                poll,
+                signal,
+                maps: is_v6(at),
+                http,
+            }),
+            Err(error) => {
+                drop(poll);
+                Err(error)
+            }
+        }
     }
 
     /// The port on which datagrams are received, or 0.
@@ -147,14 +151,30 @@ impl Sockets {
     }
 }
 
-fn bind_signal(net: &impl Net, poll: &Poll, at: Option<Endpoint>) -> io::Result<Option<UdpSocket>> {
-    let Some(at) = at else {
-        return Ok(None);
+fn bind_both(
+    net: &impl Net,
+    poll: &Poll,
+    signal: Option<Endpoint>,
+    http: Option<Endpoint>,
+) -> io::Result<(Option<UdpSocket>, Option<TcpListener>)> {
+    let signal = match signal {
+        Some(at) => Some(bind_signal(net, poll, at)?),
+        None => None,
     };
+    match bind_http(net, poll, http) {
+        Ok(http) => Ok((signal, http)),
+        Err(error) => {
+            drop(signal);
+            Err(error)
+        }
+    }
+}
+
+fn bind_signal(net: &impl Net, poll: &Poll, at: Endpoint) -> io::Result<UdpSocket> {
     let mut socket = UdpSocket::bind(net, socket_address(at))?;
     poll.registry()
         .register(&mut socket, Token(SIGNAL), Interest::READABLE)?;
-    Ok(Some(socket))
+    Ok(socket)
 }
 
 fn bind_http(net: &impl Net, poll: &Poll, at: Option<Endpoint>) -> io::Result<Option<TcpListener>> {
@@ -167,16 +187,16 @@ fn bind_http(net: &impl Net, poll: &Poll, at: Option<Endpoint>) -> io::Result<Op
     Ok(Some(listener))
 }
 
-fn port_of(address: io::Result<SocketAddr>) -> u16 {
-    match address {
-        Ok(address) => address.port(),
-        Err(_) => 0,
-    }
-}
-
 fn is_v6(at: Option<Endpoint>) -> bool {
     match at {
         Some(at) => socket_address(at).is_ipv6(),
         None => false,
+    }
+}
+
+fn port_of(address: io::Result<SocketAddr>) -> u16 {
+    match address {
+        Ok(address) => address.port(),
+        Err(_) => 0,
     }
 }
