@@ -1,10 +1,11 @@
 -- How far a host file has been read, from line to line.
-use Rattle.std.proofs.Common.{◌≡◌, ℕ, ◌+◌, ◌<◌, ◌≤◌, Bool, true, false, List, [], ◌∷◌, ◌++◌, length, refl, sym, ap, subst, ◌∙◌, append_assoc, append-nil, length-append, arith}
+use Rattle.std.proofs.Common.{◌≡◌, ℕ, ◌+◌, ◌<◌, ◌≤◌, Bool, true, false, Result, Ok, Err, List, [], ◌∷◌, ◌++◌, length, refl, sym, ap, subst, ◌∙◌, append_assoc, append-nil, length-append, arith}
+use Rattle.std.specs.Prelude.{OnOk, IfErr}
 use Rattle.std.specs.Bool.{MatchBool}
 use Rattle.std.specs.List.{list_any}
 use Rattle.plain_text.specs.Lines.{lines_of, is_skipped}
 use Rattle.dots_edge.specs.HostLine.{LineValue, Says, same_thing}
-use Rattle.dots_edge.specs.HostFile.{AreSaid, AreOnce, Stand, HasFault, FileFails, IsRefused, Takes}
+use Rattle.dots_edge.specs.HostFile.{AreSaid, AreOnce, Stand, HasFault, IsAdded, FileFails, IsRefused, Takes}
 use Rattle.dots_edge.specs.declared.host_fault.HostFault.{HostFault}
 use Rattle.dots_edge.specs.declared.host_fault.HostFault.TheVariants as fault
 
@@ -102,3 +103,16 @@ pub read_whole : (file rest : List ℕ) (number : ℕ) (values : List LineValue)
 read_whole file rest number values read none =
     let all : lines_of file ≡ read.lines = read.split ∙ ap (λ xs. read.lines ++ xs) none ∙ append-nil read.lines in
     subst (λ (xs : List (List ℕ)). Stand xs values) (sym all) read.stand
+
+-- a line that says something was added to what stood, or has the fault
+pub added : (line : List ℕ) (value : LineValue) (number : ℕ) (old new : List LineValue) (result : Result (Unit {0}) HostFault) → false ≡ is_skipped line → Says line value
+    → IsAdded value number old new result → OnOk result (Takes line old new)
+added line value number old new (Ok done) unskipped says are = rw (sym unskipped) (value, says, are.0, are.1)
+added line value number old new (Err fault) unskipped says are = tt
+
+pub not_added : (line : List ℕ) (value : LineValue) (number : ℕ) (old new : List LineValue) (result : Result (Unit {0}) HostFault) → false ≡ is_skipped line → Says line value
+    → IsAdded value number old new result → IfErr result (HasFault old number line)
+not_added line value number old new (Ok done) unskipped says are = tt
+not_added line value number old new (Err (fault.Line n)) unskipped says are = absurd are
+not_added line value number old new (Err (fault.Twice n)) unskipped says are = (are.0, sym unskipped, value, says, are.1)
+not_added line value number old new (Err fault.NoMemory) unskipped says are = tt

@@ -1,5 +1,5 @@
 -- What a host file says, or the fault of its first line that has one.
-use Rattle.std.specs.Prelude.{◌≡◌, ℕ, ◌+◌, true, false, List, [], ◌∷◌, ◌++◌, length, ⊤}
+use Rattle.std.specs.Prelude.{◌≡◌, ℕ, ◌+◌, true, false, List, [], ◌∷◌, ◌++◌, length, ⊤, Result, Ok, Err}
 use Rattle.std.specs.Bool.{MatchBool}
 use Rattle.std.specs.List.{list_any}
 use Rattle.plain_text.specs.Lines.{lines_of, is_skipped}
@@ -36,6 +36,13 @@ abbrev pub Takes : List ℕ → List LineValue → List LineValue → Type 0
 Takes line old new = MatchBool (is_skipped line)
     (new ≡ old)
     ((value : LineValue) × Says line value × (list_any (λ other. same_thing other value) old ≡ false) × (new ≡ old ++ value ∷ []))
+
+-- adding what a line of this number says: none before it says the same thing, or one does, or memory ran out
+abbrev pub IsAdded : LineValue → ℕ → List LineValue → List LineValue → Result (Unit {0}) HostFault → Type 0
+IsAdded value number old new (Ok done) = (list_any (λ other. same_thing other value) old ≡ false) × (new ≡ old ++ value ∷ [])
+IsAdded value number old new (Err (fault.Line n)) = ⊥
+IsAdded value number old new (Err (fault.Twice n)) = (n ≡ number) × (list_any (λ other. same_thing other value) old ≡ true)
+IsAdded value number old new (Err fault.NoMemory) = ⊤
 
 -- the lines before this one stand, and it has the fault
 pub record FileFails (file : List ℕ) (told : HostFault) : Type 0 where

@@ -56,10 +56,10 @@ pub struct Rooms {
 
 impl Rooms {
     pub fn new(alloc: Global, lines: &[HostLine<'_>]) -> Result<Rooms, NoMemory> {
-        let connections = Connections::new(alloc)?;
-        let peers = Peers::new(alloc, lines)?;
-        let events = Events::with_capacity(alloc, TOLD_AT_ONCE)?;
         let datagram = vec![in alloc; 0u8; ROOM]?;
+        let connections = Connections::new(alloc)?;
+        let events = Events::with_capacity(alloc, TOLD_AT_ONCE)?;
+        let peers = Peers::new(alloc, lines)?;
         Ok(Rooms {
             connections,
             peers,

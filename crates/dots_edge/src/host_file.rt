@@ -4,7 +4,7 @@ ghost use Rattle.std.specs.Prelude.{◌≡◌, map, IfOk, IfErr, OnOk};
 ghost use Rattle.std.specs.List.{list_any};
 ghost use Rattle.plain_text.specs.Lines.{lines_of};
 ghost use Rattle.dots_edge.specs.HostLine.{line_value, same_thing};
-ghost use Rattle.dots_edge.specs.HostFile.{Stand, HasFault, IsRefused, Takes};
+ghost use Rattle.dots_edge.specs.HostFile.{Stand, HasFault, IsAdded, IsRefused, Takes};
 
 use crate::host_fault::HostFault;
 use crate::host_line::{HostLine, same_thing};
@@ -39,14 +39,27 @@ fn take_line<'a>(said: &mut Vec<HostLine<'a>>, number: u64, text: &'a [u8]) -> R
     if is_skipped(text) {
         return Ok(());
     }
-    let Some(line) = parse_line(text) else {
-        return Err(HostFault::Line { n: number });
-    };
+    match parse_line(text) {
+        Some(line) => add_line(said, number, line),
+        None => Err(HostFault::Line { n: number }),
+    }
+}
+
+/// Adds a line of this number to those before it, where none of them says the same thing.
+fn add_line<'a>(
+    said: &mut Vec<HostLine<'a>>,
+    number: u64,
+    line: HostLine<'a>,
+) -> Result<(), HostFault>
+    ensures { IsAdded (line_value line.entry) number (map line_value said.old.items) (map line_value said.new.items) result }
+{
     if is_said(said.as_slice(), &line) {
         return Err(HostFault::Twice { n: number });
     }
-    said.push(line)?;
-    Ok(())
+    match said.push(line) {
+        Ok(()) => Ok(()),
+        Err(_) => Err(HostFault::NoMemory),
+    }
 }
 
 /// Whether one of the lines says the same thing.

@@ -1,6 +1,6 @@
 //! The forms of a host file's lines.
 
-ghost use Rattle.std.specs.Prelude.{◌≡◌, ◌≢◌, ℕ, List, [], ◌-◌, ◌^◌, ◌<◌, codes, decimal, Option, MatchOption, IsUtf8};
+ghost use Rattle.std.specs.Prelude.{◌≡◌, ◌≢◌, ℕ, List, [], ◌-◌, ◌^◌, ◌<◌, bytes_eq, codes, decimal, Option, MatchOption, IsUtf8};
 ghost use Rattle.ip_scope.specs.declared.address.Addr.{Addr};
 ghost use Rattle.dots_edge.specs.HostLine.{IsPeerText, Reads, ReadsBehind};
 
@@ -17,22 +17,29 @@ pub fn parse_line(line: &[u8]) -> Option<HostLine<'_>>
     ensures { Reads line.now result }
 {
     let (word, fields) = split_field(line)?;
-    if word == b"journal".as_slice() {
+    if is_word(word, b"journal") {
         return journal_of(fields);
     }
-    if word == b"signal".as_slice() {
+    if is_word(word, b"signal") {
         return signal_of(fields);
     }
-    if word == b"http".as_slice() {
+    if is_word(word, b"http") {
         return http_of(fields);
     }
-    if word == b"peer".as_slice() {
+    if is_word(word, b"peer") {
         return peer_of(fields);
     }
-    if word == b"events".as_slice() {
+    if is_word(word, b"events") {
         return events_of(fields);
     }
     None
+}
+
+/// Whether the field is this word.
+fn is_word(field: &[u8], word: &[u8]) -> bool
+    ensures { result ≡ bytes_eq field.now word.now }
+{
+    field == word
 }
 
 fn journal_of(fields: &[u8]) -> Option<HostLine<'_>>

@@ -161,8 +161,11 @@ fn bind_both(
         Some(at) => Some(bind_signal(net, poll, at)?),
         None => None,
     };
-    match bind_http(net, poll, http) {
-        Ok(http) => Ok((signal, http)),
+    let Some(at) = http else {
+        return Ok((signal, None));
+    };
+    match bind_http(net, poll, at) {
+        Ok(http) => Ok((signal, Some(http))),
         Err(error) => {
             drop(signal);
             Err(error)
@@ -177,14 +180,11 @@ fn bind_signal(net: &impl Net, poll: &Poll, at: Endpoint) -> io::Result<UdpSocke
     Ok(socket)
 }
 
-fn bind_http(net: &impl Net, poll: &Poll, at: Option<Endpoint>) -> io::Result<Option<TcpListener>> {
-    let Some(at) = at else {
-        return Ok(None);
-    };
+fn bind_http(net: &impl Net, poll: &Poll, at: Endpoint) -> io::Result<TcpListener> {
     let mut listener = TcpListener::bind(net, socket_address(at))?;
     poll.registry()
         .register(&mut listener, Token(HTTP), Interest::READABLE)?;
-    Ok(Some(listener))
+    Ok(listener)
 }
 
 fn is_v6(at: Option<Endpoint>) -> bool {
