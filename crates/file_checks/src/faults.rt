@@ -7,7 +7,7 @@ ghost use Rattle.file_checks.specs.Complaints.{twice_complaint, unknown_complain
 
 use crate::complaint::Complaint;
 use crate::complaints::complaint_by;
-use crate::fields::field_at;
+use crate::fields::{field_at, is_word};
 use crate::keyword::{Keyword, keyword_of};
 use crate::reason::Reason;
 use dots_settings::SettingsFault;
@@ -103,25 +103,25 @@ fn range_complaint(name: &[u8]) -> Complaint
 pub fn greatest_limit(name: &[u8]) -> Option<u32>
     ensures { result ≡ option_map greatest_of (capacity_named name.now) }
 {
-    if name == b"client-mitigations".as_slice() {
+    if is_word(name, b"client-mitigations") {
         return Some(64);
     }
-    if name == b"domain-mitigations".as_slice() {
+    if is_word(name, b"domain-mitigations") {
         return Some(64);
     }
-    if name == b"clients".as_slice() {
+    if is_word(name, b"clients") {
         return Some(8);
     }
-    if name == b"aliases".as_slice() {
+    if is_word(name, b"aliases") {
         return Some(16);
     }
-    if name == b"acls".as_slice() {
+    if is_word(name, b"acls") {
         return Some(8);
     }
-    if name == b"remembered".as_slice() {
+    if is_word(name, b"remembered") {
         return Some(64);
     }
-    if name == b"observers".as_slice() {
+    if is_word(name, b"observers") {
         return Some(8);
     }
     None

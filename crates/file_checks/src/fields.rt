@@ -1,6 +1,6 @@
 //! The fields of a line.
 
-ghost use Rattle.std.specs.Prelude.{◌≡◌, [], ◌∷◌, ◌<◌, length, map, slice_get, unwrap_or, IfOk, IfSome, MatchOption};
+ghost use Rattle.std.specs.Prelude.{◌≡◌, [], ◌∷◌, ◌<◌, bytes_eq, length, map, slice_get, unwrap_or, IfOk, IfSome, MatchOption};
 ghost use Rattle.dots_settings.specs.Lines.{fields_of, lines_of};
 
 use dots_lists::NoMemory;
@@ -29,6 +29,13 @@ fn split_field(line: &[u8]) -> Option<(&[u8], &[u8])>
 {
     let end = memchr(b' ', line)?;
     Some((&line[..end], &line[end + 1..]))
+}
+
+/// Whether the field is this word.
+pub fn is_word(field: &[u8], word: &[u8]) -> bool
+    ensures { result ≡ bytes_eq field.now word.now }
+{
+    field == word
 }
 
 /// The field at a place, counted from 0; no bytes where there is none.

@@ -1,6 +1,8 @@
 ghost use Rattle.std.specs.Prelude.{◌≡◌};
 ghost use Rattle.file_checks.specs.Keyword.{keyword_of};
 
+use crate::fields::is_word;
+
 /// The first word of a line of the settings.
 #[derive(Clone, Copy)]
 pub enum Keyword {
@@ -19,31 +21,31 @@ pub enum Keyword {
 pub fn keyword_of(word: &[u8]) -> Option<Keyword>
     ensures { result ≡ keyword_of word.now }
 {
-    if word == b"domain".as_slice() {
+    if is_word(word, b"domain") {
         return Some(Keyword::Domain);
     }
-    if word == b"prefix".as_slice() {
+    if is_word(word, b"prefix") {
         return Some(Keyword::Prefix);
     }
-    if word == b"client".as_slice() {
+    if is_word(word, b"client") {
         return Some(Keyword::Client);
     }
-    if word == b"gateway".as_slice() {
+    if is_word(word, b"gateway") {
         return Some(Keyword::Gateway);
     }
-    if word == b"name".as_slice() {
+    if is_word(word, b"name") {
         return Some(Keyword::Name);
     }
-    if word == b"ceiling".as_slice() {
+    if is_word(word, b"ceiling") {
         return Some(Keyword::Ceiling);
     }
-    if word == b"indefinite".as_slice() {
+    if is_word(word, b"indefinite") {
         return Some(Keyword::Indefinite);
     }
-    if word == b"capacity".as_slice() {
+    if is_word(word, b"capacity") {
         return Some(Keyword::Capacity);
     }
-    if word == b"packet".as_slice() {
+    if is_word(word, b"packet") {
         return Some(Keyword::Packet);
     }
     None

@@ -7,6 +7,7 @@ ghost use Rattle.dots_settings.specs.Form.{is_number, is_domain_byte, is_domain_
 ghost use Rattle.file_checks.specs.Kinds.{is_decimal_up_to, is_positive_up_to, is_address, is_capacity, is_yes_or_no, is_dash, is_datagram};
 
 use crate::faults::greatest_limit;
+use crate::fields::is_word;
 use ip_scope::parse_address;
 use plain_text::parse_decimal;
 
@@ -26,7 +27,7 @@ pub fn is_positive_up_to(most: u64, text: &[u8]) -> bool
     requires { most < 10 ^ 19 }
     ensures { result ≡ is_positive_up_to most text.now }
 {
-    is_decimal_up_to(most, text) && text != b"0".as_slice()
+    is_decimal_up_to(most, text) && !is_word(text, b"0")
 }
 
 /// Whether the text is a number of any size with no leading zeros.
@@ -91,14 +92,14 @@ pub fn is_capacity(name: &[u8]) -> bool
 pub fn is_yes_or_no(text: &[u8]) -> bool
     ensures { result ≡ is_yes_or_no text.now }
 {
-    text == b"yes".as_slice() || text == b"no".as_slice()
+    is_word(text, b"yes") || is_word(text, b"no")
 }
 
 /// Whether the text stands for no port.
 pub fn is_dash(text: &[u8]) -> bool
     ensures { result ≡ is_dash text.now }
 {
-    text == b"-".as_slice()
+    is_word(text, b"-")
 }
 
 /// Whether the text is 1 to 4,096 bytes in hexadecimal.

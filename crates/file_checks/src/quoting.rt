@@ -1,6 +1,6 @@
 //! Fields in quotation marks.
 
-ghost use Rattle.std.specs.Prelude.{◌≡◌, ◌<◌, ◌++◌, length, take, flat_map, OnOk};
+ghost use Rattle.std.specs.Prelude.{◌≡◌, ◌<◌, ◌++◌, codes, length, take, flat_map, OnOk};
 ghost use Rattle.file_checks.specs.Quoting.{escaped, hex_digit, in_quotes, quoted};
 
 use dots_lists::NoMemory;
@@ -17,6 +17,15 @@ pub fn add_quoted(text: &mut Vec<u8>, field: &[u8]) -> Result<(), NoMemory>
     }
     add_in_quotes(text, front_of(field))?;
     text.extend_from_slice(b"...")?;
+    Ok(())
+}
+
+/// Adds the field in quotation marks, and ends the line.
+pub fn end_quoted(text: &mut Vec<u8>, field: &[u8]) -> Result<(), NoMemory>
+    ensures { OnOk result (text.new.items ≡ text.old.items ++ quoted field.now ++ codes "\n") }
+{
+    add_quoted(text, field)?;
+    text.extend_from_slice(b"\n")?;
     Ok(())
 }
 

@@ -1,6 +1,6 @@
 //! What is told of a script.
 
-ghost use Rattle.std.specs.Prelude.{◌≡◌, ◌+◌, ◌<◌, ◌≤◌, ◌++◌, List, ℕ, length, IfOk, IfSome, IfNone, OnOk, IsTrue, ◌↔◌, ◌⊎◌};
+ghost use Rattle.std.specs.Prelude.{◌≡◌, ◌+◌, ◌<◌, ◌≤◌, ◌++◌, List, ℕ, codes, decimal, length, map, IfOk, IfSome, IfNone, OnOk, IsTrue, ◌↔◌, ◌⊎◌};
 ghost use Rattle.dots_host.specs.Causes.{Rose};
 ghost use Rattle.dots_host.specs.Memory.{Coming};
 ghost use Rattle.dots_host.specs.declared.TheConstants.{MAX_EVENT_BYTES};
@@ -9,10 +9,13 @@ ghost use Rattle.dots_script.specs.Accounts.{LineSays};
 ghost use Rattle.dots_script.specs.Lines.{IsLine, IsTooLong, IsUnended, IsFault, with_feed};
 ghost use Rattle.dots_script.specs.Script.{IsSkipped};
 ghost use Rattle.file_checks.specs.Checks.{ChecksScript, complaint_line, script_report, has_feed, line_in};
+ghost use Rattle.file_checks.specs.Quoting.{quoted};
 
 use crate::checked::{Checked, Unchecked};
+use crate::complaint::Complaint;
 use crate::fields::{fields_of, split_line};
-use crate::quoting::add_quoted;
+use crate::pieces::add_head;
+use crate::quoting::end_quoted;
 use crate::reading::read_whole;
 use crate::script_complaints::script_complaint;
 use crate::settings_check::add_complaint;
@@ -20,7 +23,6 @@ use crate::summary::add_count;
 use dots_host::{MAX_EVENT_BYTES, Source};
 use dots_lists::{Bytes, NoMemory};
 use dots_script::{MAX_LINE_BYTES, parse_event};
-use itoa::Buffer;
 use memchr::memchr;
 use std::alloc::Global;
 
@@ -119,15 +121,28 @@ fn script_report(alloc: Global, number: u64, rest: &[u8]) -> Result<Bytes, NoMem
     let line = first_line(rest);
     let fields = fields_of(alloc, line)?;
     let complaint = script_complaint(has_feed(rest), line, fields.as_slice());
-    let mut buffer = Buffer::new();
     let mut text = Vec::new(alloc);
-    text.extend_from_slice(b"script line ")?;
-    text.extend_from_slice(buffer.format(number).as_bytes())?;
-    text.extend_from_slice(b": ")?;
-    add_quoted(&mut text, line)?;
-    text.extend_from_slice(b"\n")?;
-    add_complaint(&mut text, number, complaint, line, fields.as_slice())?;
-    Ok(Bytes::from_vec(text))
+    match add_report(&mut text, number, complaint, line, fields.as_slice()) {
+        Ok(()) => Ok(Bytes::from_vec(text)),
+        Err(NoMemory) => Err(NoMemory),
+    }
+}
+
+/// Adds the line of this number, and why it is at fault.
+fn add_report(
+    text: &mut Vec<u8>,
+    number: u64,
+    complaint: Complaint,
+    line: &[u8],
+    fields: &[&[u8]],
+) -> Result<(), NoMemory>
+    ensures { OnOk result (text.new.items ≡ text.old.items
+        ++ codes "script line " ++ decimal number ++ codes ": " ++ quoted line.now ++ codes "\n"
+        ++ complaint_line number complaint line.now (map (λ field. field.now) fields.now)) }
+{
+    add_head(text, b"script line ", number)?;
+    end_quoted(text, line)?;
+    add_complaint(text, number, complaint, line, fields)
 }
 
 /// The first line of a text; no bytes where there is none.

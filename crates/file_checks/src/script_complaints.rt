@@ -5,6 +5,7 @@ ghost use Rattle.dots_settings.specs.Lines.{fields_of};
 ghost use Rattle.file_checks.specs.ScriptComplaints.{datagram_complaint, tick_complaint, restart_complaint, complaint_by_word, event_complaint, script_complaint};
 
 use crate::complaint::Complaint;
+use crate::fields::is_word;
 use crate::kinds::{is_datagram, is_decimal_up_to};
 use crate::reason::Reason;
 
@@ -38,7 +39,7 @@ fn event_complaint(fields: &[&[u8]]) -> Option<Complaint>
     let [at, seconds, word, rest @ ..] = fields else {
         return Some(Complaint::of_line(Reason::EventFields));
     };
-    if *at != b"at".as_slice() {
+    if !is_word(at, b"at") {
         return Some(Complaint::of_field(Reason::At, 0));
     }
     if !is_decimal_up_to(MAX_SECONDS, seconds) {
@@ -52,13 +53,13 @@ fn event_complaint(fields: &[&[u8]]) -> Option<Complaint>
 fn complaint_by_word(word: &[u8], fields: &[&[u8]]) -> Option<Complaint>
     ensures { result ≡ complaint_by_word word.now (map (λ field. field.now) fields.now) }
 {
-    if word == b"from".as_slice() {
+    if is_word(word, b"from") {
         return datagram_complaint(fields);
     }
-    if word == b"tick".as_slice() {
+    if is_word(word, b"tick") {
         return tick_complaint(fields);
     }
-    if word == b"restart".as_slice() {
+    if is_word(word, b"restart") {
         return restart_complaint(fields);
     }
     Some(Complaint::of_field(Reason::EventWord, 2))

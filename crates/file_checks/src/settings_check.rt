@@ -11,14 +11,14 @@ use crate::checked::{Checked, Unchecked};
 use crate::complaint::Complaint;
 use crate::faults::complaint_of;
 use crate::fields::{field_at, fields_of, split_line};
-use crate::quoting::add_quoted;
+use crate::pieces::add_head;
+use crate::quoting::end_quoted;
 use crate::reading::{Content, read_front};
 use crate::reason::add_reason;
 use crate::summary::summary;
 use dots_host::Source;
 use dots_lists::{Bytes, NoMemory};
 use dots_settings::{Settings, SettingsFault, read_settings};
-use itoa::Buffer;
 use std::alloc::Global;
 
 /// The greatest size of a file, in bytes.
@@ -158,15 +158,10 @@ pub fn add_complaint(
     ensures { OnOk result (text.new.items ≡ text.old.items
         ++ complaint_line number complaint line.now (map (λ field. field.now) fields.now)) }
 {
-    let mut buffer = Buffer::new();
-    text.extend_from_slice(b"line ")?;
-    text.extend_from_slice(buffer.format(number).as_bytes())?;
-    text.extend_from_slice(b": ")?;
+    add_head(text, b"line ", number)?;
     add_reason(text, complaint.reason)?;
     text.extend_from_slice(b": ")?;
-    add_quoted(text, quoted_part(complaint.field, line, fields))?;
-    text.extend_from_slice(b"\n")?;
-    Ok(())
+    end_quoted(text, quoted_part(complaint.field, line, fields))
 }
 
 /// What is quoted: the field of this place, or the whole line.
