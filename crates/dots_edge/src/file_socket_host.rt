@@ -113,19 +113,6 @@ impl<R: Files<File = File> + Net + Clock + Drop> FileSocketHost<R> {
             None => 0,
         }
     }
-
-    /// Counts a fault of the disk where a call wasn't done.
-    fn settle(&mut self, done: bool) -> Result<(), Failed>
-        ensures told { OnOk result (done ≡ true) }
-        ensures cause { HasCause self.old.disk self.new.disk result }
-        ensures kept { self.new ≡ record self.old { disk = self.new.disk } }
-    {
-        if done {
-            return Ok(());
-        }
-        self.disk_faults = self.disk_faults.saturating_add(1);
-        Err(Failed)
-    }
 }
 
 /// Opens what the text of a host file names, or nothing where it has a fault.
@@ -233,6 +220,26 @@ fn next_event<R: Clock>(
         }
         Err(_) => None,
     }
+}
+
+/// Whether a call was done.
+fn is_done(result: io::Result<()>) -> bool {
+    match result {
+        Ok(()) => true,
+        Err(_) => false,
+    }
+}
+
+/// Counts a fault where a call wasn't done.
+fn settle(faults: &mut u64, done: bool) -> Result<(), Failed>
+    ensures told { OnOk result (done ≡ true) }
+    ensures cause { HasCause faults.old faults.new result }
+{
+    if done {
+        return Ok(());
+    }
+    *faults = faults.saturating_add(1);
+    Err(Failed)
 }
 
 /// One event fewer, where they are counted.
@@ -344,10 +351,10 @@ impl<R: Files<File = File> + Net + Clock + Drop> Disk for FileSocketHost<R> {
         ensures no_journal { self.old.journaled ≡ false → OnOk result ⊥ }
     {
         let done = match &self.journal {
-            Some(journal) => journal.read(at, into).is_ok(),
+            Some(journal) => is_done(journal.read(at, into)),
             None => false,
         };
-        self.settle(done)
+        settle(&mut self.disk_faults, done)
     }
 
     fn write_at(&mut self, at: u64, bytes: &[u8]) -> Result<(), Failed>
@@ -362,10 +369,10 @@ impl<R: Files<File = File> + Net + Clock + Drop> Disk for FileSocketHost<R> {
         ensures no_journal { self.old.journaled ≡ false → OnOk result ⊥ }
     {
         let done = match &mut self.journal {
-            Some(journal) => journal.write(at, bytes).is_ok(),
+            Some(journal) => is_done(journal.write(at, bytes)),
             None => false,
         };
-        self.settle(done)
+        settle(&mut self.disk_faults, done)
     }
 
     fn sync(&mut self) -> Result<(), Failed>
@@ -379,10 +386,10 @@ impl<R: Files<File = File> + Net + Clock + Drop> Disk for FileSocketHost<R> {
         ensures no_journal { self.old.journaled ≡ false → OnOk result ⊥ }
     {
         let done = match &self.journal {
-            Some(journal) => journal.sync().is_ok(),
+            Some(journal) => is_done(journal.sync()),
             None => false,
         };
-        self.settle(done)
+        settle(&mut self.disk_faults, done)
     }
 }
 

@@ -1,6 +1,8 @@
 ghost use Rattle.std.specs.Prelude.{◌≡◌};
 ghost use Rattle.dots_settings.specs.Capacity.{place_of, same_capacity, greatest_of, default_of, capacity_named};
 
+use crate::fields::is_word;
+
 /// What a `capacity` line limits.
 #[derive(Clone, Copy)]
 pub enum Capacity {
@@ -18,25 +20,25 @@ impl Capacity {
     pub fn named(name: &[u8]) -> Option<Capacity>
         ensures { result ≡ capacity_named name.now }
     {
-        if name == b"client-mitigations".as_slice() {
+        if is_word(name, b"client-mitigations") {
             return Some(Capacity::ClientMitigations);
         }
-        if name == b"domain-mitigations".as_slice() {
+        if is_word(name, b"domain-mitigations") {
             return Some(Capacity::DomainMitigations);
         }
-        if name == b"clients".as_slice() {
+        if is_word(name, b"clients") {
             return Some(Capacity::Clients);
         }
-        if name == b"aliases".as_slice() {
+        if is_word(name, b"aliases") {
             return Some(Capacity::Aliases);
         }
-        if name == b"acls".as_slice() {
+        if is_word(name, b"acls") {
             return Some(Capacity::Acls);
         }
-        if name == b"remembered".as_slice() {
+        if is_word(name, b"remembered") {
             return Some(Capacity::Remembered);
         }
-        if name == b"observers".as_slice() {
+        if is_word(name, b"observers") {
             return Some(Capacity::Observers);
         }
         None

@@ -1,6 +1,8 @@
 //! The settings that a draft comes to, once every line has been read.
 
-ghost use Rattle.std.specs.Prelude.{◌≡◌, ◌≤◌, [], length, map, filter, position, bytes_eq, IfOk};
+ghost use Rattle.std.specs.Prelude.{◌≡◌, ◌≤◌, [], length, map, filter, position, bytes_eq, ℕ, Vec, IfOk, OnOk};
+ghost use Rattle.std.specs.declared.alloc.Global.{Global};
+ghost use Rattle.indexmap.specs.IndexMap.{insert_entry};
 ghost use Rattle.dots_settings.specs.Admitting.{draft_value, AreDistinct};
 ghost use Rattle.dots_settings.specs.Draft.{same_name};
 ghost use Rattle.dots_settings.specs.File.{IsSound};
@@ -14,7 +16,7 @@ use crate::names::NameRow;
 use crate::peer::{PeerRow, Role};
 use crate::settings::Settings;
 use acl_lists::PrefixList;
-use dots_lists::{List, NoMemory};
+use dots_lists::{List, Name, NoMemory};
 use indexmap::IndexMap;
 use ip_scope::Prefix;
 use std::alloc::{AllocError, Global};
@@ -22,25 +24,54 @@ use std::alloc::{AllocError, Global};
 /// The ceiling where no line gives one, in seconds.
 const DEFAULT_CEILING: u32 = 86_400;
 
+/// The rows of the settings.
+#[derive(Drop)]
+struct Rows {
+    domains: IndexMap<Vec<u8>, PrefixList>,
+    peers: Vec<PeerRow>,
+    names: Vec<NameRow>,
+}
+
 impl Draft {
     /// The settings, with this digest.
     pub fn finish(self, digest: [u8; 32]) -> Result<Settings, NoMemory>
         requires { IsSound (draft_value self) }
         ensures { IfOk result (λ settings. settings ≡ settings_by (draft_value self) digest) }
     {
-        let domains = self.make_domains()?;
+        let limits = self.make_limits();
+        match self.make_rows() {
+            Ok(rows) => Ok(Settings {
+                domains: rows.domains,
+                peers: rows.peers,
+                names: rows.names,
+                ceiling: self.ceiling.unwrap_or(DEFAULT_CEILING),
+                indefinite: self.indefinite.unwrap_or(false),
+                limits,
+                packets: self.packets,
+                digest,
+            }),
+            Err(NoMemory) => {
+                drop(self);
+                Err(NoMemory)
+            }
+        }
+    }
+
+    fn make_rows(&self) -> Result<Rows, NoMemory>
+        requires distinct { AreDistinct [] (draft_value self.now).domains }
+        requires few { length (draft_value self.now).domains ≤ 16 }
+        ensures domains { IfOk result (λ rows.
+            map domain_value rows.domains.entries ≡ map (domain_of (draft_value self.now)) (draft_value self.now).domains) }
+        ensures peers { IfOk result (λ rows. rows.peers.items ≡ map (peer_row_of (draft_value self.now)) (draft_value self.now).peers) }
+        ensures names { IfOk result (λ rows. rows.names.items ≡ map (name_row_of (draft_value self.now)) (draft_value self.now).names) }
+    {
         let peers = self.make_peers()?;
         let names = self.make_names()?;
-        let limits = self.make_limits();
-        Ok(Settings {
+        let domains = self.make_domains()?;
+        Ok(Rows {
             domains,
             peers,
             names,
-            ceiling: self.ceiling.unwrap_or(DEFAULT_CEILING),
-            indefinite: self.indefinite.unwrap_or(false),
-            limits,
-            packets: self.packets,
-            digest,
         })
     }
 
@@ -51,10 +82,27 @@ impl Draft {
     {
         let mut domains = IndexMap::new(self.alloc);
         for name in &self.domains {
-            let prefixes = self.make_prefixes(name.items())?;
-            domains.insert(Vec::from_slice(self.alloc, name.items())?, prefixes)?;
+            if let Err(NoMemory) = self.add_domain(&mut domains, name.items()) {
+                drop(domains);
+                return Err(NoMemory);
+            }
         }
         Ok(domains)
+    }
+
+    /// Adds the domain of this name.
+    fn add_domain(
+        &self,
+        domains: &mut IndexMap<Vec<u8>, PrefixList>,
+        name: &[u8],
+    ) -> Result<(), NoMemory>
+        ensures { OnOk result ((key : Vec ℕ Global) × (key.items ≡ name.now) × (domains.new.entries
+            ≡ insert_entry (λ x y. bytes_eq x.items y.items) domains.old.entries key (draft_prefixes (draft_value self.now) name.now))) }
+    {
+        let key = Vec::from_slice(self.alloc, name)?;
+        let prefixes = self.make_prefixes(name)?;
+        drop(domains.insert(key, prefixes)?);
+        Ok(())
     }
 
     fn make_prefixes(&self, name: &[u8]) -> Result<PrefixList, NoMemory>
@@ -104,11 +152,18 @@ impl Draft {
     {
         let mut names = Vec::new(self.alloc);
         for fqdn in &self.names {
-            let prefixes = self.make_addresses(fqdn.bytes())?;
-            let name = fqdn.copy()?;
-            names.push(NameRow { name, prefixes })?;
+            let row = self.make_name(fqdn)?;
+            names.push(row)?;
         }
         Ok(names)
+    }
+
+    fn make_name(&self, fqdn: &Name) -> Result<NameRow, NoMemory>
+        ensures { IfOk result (λ row. row ≡ name_row_of (draft_value self.now) fqdn.now) }
+    {
+        let name = fqdn.copy()?;
+        let prefixes = self.make_addresses(fqdn.bytes())?;
+        Ok(NameRow { name, prefixes })
     }
 
     fn make_addresses(&self, fqdn: &[u8]) -> Result<PrefixList, NoMemory>

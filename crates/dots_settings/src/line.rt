@@ -4,7 +4,7 @@ ghost use Rattle.dots_settings.specs.Form.{ArePorts, is_domain_byte, is_domain_n
 ghost use Rattle.dots_settings.specs.Reading.{Reads, ReadsBehind};
 
 use crate::capacity::Capacity;
-use crate::fields::five_fields;
+use crate::fields::{five_fields, is_word};
 use crate::form::Form;
 use crate::number::{limit_of, number_up_to, positive_up_to};
 use acl_lists::Packet;
@@ -20,31 +20,31 @@ pub fn parse_line(line: &[u8]) -> Option<Form<'_>>
     ensures { Reads line.now result }
 {
     let (word, fields) = split_field(line)?;
-    if word == b"domain".as_slice() {
+    if is_word(word, b"domain") {
         return domain_of(fields);
     }
-    if word == b"prefix".as_slice() {
+    if is_word(word, b"prefix") {
         return prefix_of(fields);
     }
-    if word == b"client".as_slice() {
+    if is_word(word, b"client") {
         return client_of(fields);
     }
-    if word == b"gateway".as_slice() {
+    if is_word(word, b"gateway") {
         return gateway_of(fields);
     }
-    if word == b"name".as_slice() {
+    if is_word(word, b"name") {
         return name_of(fields);
     }
-    if word == b"ceiling".as_slice() {
+    if is_word(word, b"ceiling") {
         return ceiling_of(fields);
     }
-    if word == b"indefinite".as_slice() {
+    if is_word(word, b"indefinite") {
         return indefinite_of(fields);
     }
-    if word == b"capacity".as_slice() {
+    if is_word(word, b"capacity") {
         return capacity_of(fields);
     }
-    if word == b"packet".as_slice() {
+    if is_word(word, b"packet") {
         return packet_of(fields);
     }
     None
@@ -113,10 +113,10 @@ fn indefinite_of(fields: &[u8]) -> Option<Form<'_>>
     ensures { ReadsBehind (codes "indefinite") fields.now result }
 {
     let word = one_field(fields)?;
-    if word == b"yes".as_slice() {
+    if is_word(word, b"yes") {
         return Some(Form::Indefinite { granted: true });
     }
-    if word == b"no".as_slice() {
+    if is_word(word, b"no") {
         return Some(Form::Indefinite { granted: false });
     }
     None
@@ -161,7 +161,7 @@ fn ports_of(source: &[u8], destination: &[u8]) -> Option<Option<(u16, u16)>>
     ensures { MatchOption result ((ports : Option (ℕ × ℕ)) → ¬ (ArePorts source.now destination.now ports))
         (λ ports. ArePorts source.now destination.now ports) }
 {
-    if source == b"-".as_slice() && destination == b"-".as_slice() {
+    if is_word(source, b"-") && is_word(destination, b"-") {
         return Some(None);
     }
     let source = number_up_to(source, 65_535)?;

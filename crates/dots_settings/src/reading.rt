@@ -42,9 +42,12 @@ pub fn settings_of(alloc: Global, content: &[u8]) -> Result<Settings, SettingsFa
     while let Some((line, behind)) = split_line(rest) {
         taken.number += 1;
         if is_past(content, behind) {
-            return Err(SettingsFault::Capacity { n: taken.number });
+            let n = taken.number;
+            drop(taken);
+            return Err(SettingsFault::Capacity { n });
         }
         if let Err(fault) = taken.take(line) {
+            drop(taken);
             return Err(fault);
         }
         rest = behind;

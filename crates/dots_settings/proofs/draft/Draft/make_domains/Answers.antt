@@ -10,6 +10,7 @@ loop-name-preserved c =
     let within : c.loop-name.name-index < length c.args.self.now.domains.items = omega (arith, ap length items) in
     let at : c.name-item.result ≡ get_or c.args.self.now.domains.items c.loop-name.name-index c.name-item.result =
     c.name-item.is ∙ ap (λ xs. get_or xs c.loop-name.name-index c.name-item.result) items in
-    domain_inserted (draft_value c.args.self.now) c.loop-name.name-index c.loop-name.domains.entries c.insert.new.self.entries c.in_ok-from_slice.field-0 c.name-item.result c.in_ok-prefixes.prefixes
-    c.requires within at (c.in_ok-from_slice.ensures.items ∙ c.items-in-loop-name.ensures) (c.in_ok-prefixes.ensures ∙ ap (draft_prefixes (draft_value c.args.self.now)) c.items.ensures)
-    c.loop-name.invariant c.in_ok-insert.ensures.entries
+    let draft = draft_value c.args.self.now in
+    let added = c.in_default.ensures in
+    domain_inserted draft c.loop-name.name-index c.loop-name.domains.entries c.add_domain.new.domains.entries added.0 c.name-item.result (draft_prefixes draft c.items.result.now)
+    c.requires within at (added.1 ∙ c.items.ensures) (ap (draft_prefixes draft) c.items.ensures) c.loop-name.invariant added.2
