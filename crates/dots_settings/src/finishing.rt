@@ -1,7 +1,6 @@
 //! The settings that a draft comes to, once every line has been read.
 
-ghost use Rattle.std.specs.Prelude.{◌≡◌, ◌≤◌, [], length, map, filter, position, bytes_eq, ℕ, Vec, IfOk, OnOk};
-ghost use Rattle.std.specs.declared.alloc.Global.{Global};
+ghost use Rattle.std.specs.Prelude.{◌≡◌, ◌≤◌, [], length, map, filter, position, bytes_eq, IfOk, OnOk};
 ghost use Rattle.indexmap.specs.IndexMap.{insert_entry};
 ghost use Rattle.dots_settings.specs.Admitting.{draft_value, AreDistinct};
 ghost use Rattle.dots_settings.specs.Draft.{same_name};
@@ -82,7 +81,8 @@ impl Draft {
     {
         let mut domains = IndexMap::new(self.alloc);
         for name in &self.domains {
-            if let Err(NoMemory) = self.add_domain(&mut domains, name.items()) {
+            let key = Vec::from_slice(self.alloc, name.items())?;
+            if let Err(NoMemory) = self.add_domain(&mut domains, key) {
                 drop(domains);
                 return Err(NoMemory);
             }
@@ -90,18 +90,17 @@ impl Draft {
         Ok(domains)
     }
 
-    /// Adds the domain of this name.
+    /// Adds the domain of which this is the name.
     fn add_domain(
         &self,
         domains: &mut IndexMap<Vec<u8>, PrefixList>,
-        name: &[u8],
+        name: Vec<u8>,
     ) -> Result<(), NoMemory>
-        ensures { OnOk result ((key : Vec ℕ Global) × (key.items ≡ name.now) × (domains.new.entries
-            ≡ insert_entry (λ x y. bytes_eq x.items y.items) domains.old.entries key (draft_prefixes (draft_value self.now) name.now))) }
+        ensures { OnOk result (domains.new.entries
+            ≡ insert_entry (λ x y. bytes_eq x.items y.items) domains.old.entries name (draft_prefixes (draft_value self.now) name.items)) }
     {
-        let key = Vec::from_slice(self.alloc, name)?;
-        let prefixes = self.make_prefixes(name)?;
-        drop(domains.insert(key, prefixes)?);
+        let prefixes = self.make_prefixes(name.as_slice())?;
+        drop(domains.insert(name, prefixes)?);
         Ok(())
     }
 

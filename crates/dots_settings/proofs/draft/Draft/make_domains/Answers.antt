@@ -11,6 +11,7 @@ loop-name-preserved c =
     let at : c.name-item.result ≡ get_or c.args.self.now.domains.items c.loop-name.name-index c.name-item.result =
     c.name-item.is ∙ ap (λ xs. get_or xs c.loop-name.name-index c.name-item.result) items in
     let draft = draft_value c.args.self.now in
-    let added = c.in_default.ensures in
-    domain_inserted draft c.loop-name.name-index c.loop-name.domains.entries c.add_domain.new.domains.entries added.0 c.name-item.result (draft_prefixes draft c.items.result.now)
-    c.requires within at (added.1 ∙ c.items.ensures) (ap (draft_prefixes draft) c.items.ensures) c.loop-name.invariant added.2
+    let key = c.in_ok-key.key in
+    let named = c.in_ok-key.ensures.items ∙ c.items.ensures in
+    domain_inserted draft c.loop-name.name-index c.loop-name.domains.entries c.add_domain.new.domains.entries key c.name-item.result (draft_prefixes draft key.items) c.requires within at named
+    (ap (draft_prefixes draft) named) c.loop-name.invariant c.in_default.ensures
