@@ -223,8 +223,8 @@ fn next_event<R: Clock>(
 }
 
 /// Whether a call was done.
-fn is_done(result: io::Result<()>) -> bool {
-    match result {
+fn is_done(told: io::Result<()>) -> bool {
+    match told {
         Ok(()) => true,
         Err(_) => false,
     }
