@@ -3,7 +3,7 @@ ghost use Rattle.dots_host.specs.Causes.{Rose, HasCause};
 ghost use Rattle.dots_host.specs.Acts.{IsWithin, OnFailed, OnEvent};
 ghost use Rattle.dots_host.specs.declared.TheConstants.{MAX_EVENT_BYTES};
 ghost use Rattle.dots_edge.specs.Edge.{disk_bytes, one_fewer, KeepsWire, KeepsDisk, IsAsSaid};
-ghost use Rattle.line_fields.specs.Lines.{lines_of};
+ghost use Rattle.plain_text.specs.Lines.{lines_of};
 ghost use Rattle.dots_edge.specs.HostLine.{LineValue, line_value};
 ghost use Rattle.dots_edge.specs.HostFile.{Stand};
 ghost use Rattle.dots_edge.specs.Found.{events_in, has_journal};
