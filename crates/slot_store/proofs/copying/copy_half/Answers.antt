@@ -38,3 +38,23 @@ pub returns-clause-copied : goal.returns-clause-copied
 returns-clause-copied g c = λ seen rests.
     let all : c.loop-slot.slot ≡ c.args.slots = omega arith in
     half_done _ _ _ c.args.slots c.args.half c.args.keep.now seen c.loop-slot.slot all rests (c.loop-slot.invariant.copied seen rests) c.in_ok-sync.ensures.ok
+
+-- ---- beside the disk
+
+pub returns-in_err-size-clause-beside : goal.returns-in_err-size-clause-beside
+returns-in_err-size-clause-beside g c = g.met.D.Disk.beside_then _ _ _ c.loop-slot.invariant.beside c.in_err-size.ensures.beside
+
+pub returns-in_err-write_at-clause-beside : goal.returns-in_err-write_at-clause-beside
+returns-in_err-write_at-clause-beside g c =
+    g.met.D.Disk.beside_then _ _ _ (g.met.D.Disk.beside_then _ _ _ c.loop-slot.invariant.beside c.in_ok-size.ensures.beside) c.in_err-write_at.ensures.beside
+
+pub returns-in_err-sync-clause-beside : goal.returns-in_err-sync-clause-beside
+returns-in_err-sync-clause-beside g c = g.met.D.Disk.beside_then _ _ _ c.loop-slot.invariant.beside c.in_err-sync.ensures.beside
+
+pub returns-clause-beside : goal.returns-clause-beside
+returns-clause-beside g c = g.met.D.Disk.beside_then _ _ _ c.loop-slot.invariant.beside c.in_ok-sync.ensures.beside
+
+pub returns-clause-cause : goal.returns-clause-cause
+returns-clause-cause g c =
+    let same = c.in_ok-sync.ensures.cause.same ∙ c.loop-slot.invariant.faults in
+    record { later = omega (arith, same); same = same; rose = tt }
