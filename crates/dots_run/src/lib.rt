@@ -16,10 +16,10 @@ mod running;
 mod scripted;
 mod sockets;
 mod telling;
-mod texts;
 mod told;
 mod topic;
 mod topics;
+mod wording;
 mod words;
 
 pub use again::run_again;

@@ -6,9 +6,9 @@ ghost use Rattle.file_checks.specs.declared.checked.Checked.TheVariants as check
 ghost use Rattle.dots_run.specs.declared.told.Told.TheVariants as told;
 ghost use Rattle.dots_run.specs.Telling.{has_source, Reports, Tells, IsSound, IsAtFault};
 
-use crate::texts::{usage, version};
 use crate::told::Told;
 use crate::topic::Topic;
+use crate::wording::{usage, version};
 use dots_host::{Sink, Source, write_all};
 use file_checks::{Checked, Unchecked, check_script, check_settings};
 use std::alloc::Global;
