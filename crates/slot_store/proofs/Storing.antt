@@ -1,13 +1,19 @@
 -- What the calls of a store leave at each moment.
-use Rattle.std.proofs.Common.{◌≡◌, inl, ℕ, ◌+◌, ◌%◌, ◌<◌, ◌≤◌, List, [], ◌∷◌, ◌++◌, length, Option, sym, ap, subst, ◌∙◌, arith}
+use Rattle.std.proofs.Common.{zero, suc, ◌≡◌, inl, ℕ, ◌+◌, ◌%◌, ◌<◌, ◌≤◌, List, [], ◌∷◌, ◌++◌, length, Option, sym, ap, subst, ◌∙◌, arith}
 use Rattle.std.proofs.lemmas.List.{length_push}
 use Rattle.dots_disk.specs.Media.{Media}
 use Rattle.dots_disk.specs.Becoming.{Leaves, RestsWith}
-use Rattle.slot_store.specs.Layout.{place_of}
+use Rattle.slot_store.specs.Layout.{place_of, needed_of}
 use Rattle.slot_store.specs.Standing.{JournalValue, Stands, HoldsEither, sized}
 use Rattle.slot_store.specs.Opening.{IsOpening, IsOpened, Is}
 use Rattle.slot_store.proofs.Steps.{leaves_as, seen_at_rest, rests_as}
 use Rattle.slot_store.proofs.Appending.{behind_header, either, one_more}
+
+-- a slot of a half ends where the disk does, at the latest
+pub slot_fits : (slots half slot : ℕ) → half < 2 → slot < slots → place_of slots half slot + 8192 ≤ needed_of slots
+slot_fits slots zero slot half under = omega arith
+slot_fits slots (suc zero) slot half under = omega arith
+slot_fits slots (suc (suc n)) slot half under = absurd (omega arith)
 
 -- the slot behind the records, by what the store knows
 next_place : (store : JournalValue) (digest : List ℕ) (records : List (List ℕ)) (seen : ℕ → ℕ) (at : ℕ) → at ≡ place_of store.slots (store.selector % 2) store.used → Stands store digest records seen
