@@ -1,18 +1,41 @@
 use Rattle.std.proofs.Common.{arith, ◌∙◌, ◌≡◌, ◌≤◌, length, take}
 use Rattle.std.proofs.lemmas.List.{length-take}
+use Rattle.std.proofs.lemmas.Result.{err_from_is_err_and}
 use Rattle.slot_store.proofs.CopyStages.{copy_reads, copy_torn, copy_more, copy_unsynced, half_left, half_done}
 use Rattle.slot_store.proofs.copying.copy_half.Goals as goal
 
-pub returns-in_err-size-clause-moments : goal.returns-in_err-size-clause-moments
-returns-in_err-size-clause-moments g c = λ seen rests. (copy_reads _ _ _ c.args.slots c.args.half c.args.keep.now seen c.loop-slot.slot (c.loop-slot.invariant.copied seen rests) c.in_err-size.ensures.keeps).leaves
+pub returns-in_err-size : goal.returns-in_err-size
+returns-in_err-size g c =
+    let p = err_from_is_err_and c.from_residual.result c.from_residual.ensures.1 in
+    let same = c.loop-slot.invariant.faults in
+    let later = c.in_err-size.ensures.cause.later in
+    let rose = c.in_err-size.ensures.cause.rose in
+    record {
+      moments = λ seen rests. (copy_reads _ _ _ c.args.slots c.args.half c.args.keep.now seen c.loop-slot.slot (c.loop-slot.invariant.copied seen rests) c.in_err-size.ensures.keeps).leaves;
+      copied = rw p.1 tt;
+      extent = c.in_err-size.ensures.extent ∙ c.loop-slot.invariant.extent;
+      cause = record { later = omega (arith, same, later); same = rw p.1 tt; rose = rw p.1 (omega (arith, same, rose)) };
+      beside = g.met.D.Disk.beside_then _ _ _ c.loop-slot.invariant.beside c.in_err-size.ensures.beside;
+    }
 
-pub returns-in_err-write_at-clause-moments : goal.returns-in_err-write_at-clause-moments
-returns-in_err-write_at-clause-moments g c = λ seen rests.
-    let taken = length-take c.in_ok-size.size c.fill_slot.new.room in
-    let low = c.in_ok-size.ensures.enough.fits in
-    let size : length (take c.in_ok-size.size c.fill_slot.new.room) ≤ 8192 = omega arith in
-    copy_torn _ _ _ c.args.slots c.args.half c.args.keep.now seen c.loop-slot.slot c.place_of-at.result _ (omega arith) size c.place_of-at.ensures
-    (copy_reads _ _ _ c.args.slots c.args.half c.args.keep.now seen c.loop-slot.slot (c.loop-slot.invariant.copied seen rests) c.in_ok-size.ensures.keeps) c.in_err-write_at.ensures.err
+pub returns-in_err-write_at : goal.returns-in_err-write_at
+returns-in_err-write_at g c =
+    let p = err_from_is_err_and c.from_residual-in_err-write_at.result c.from_residual-in_err-write_at.ensures.1 in
+    let same = c.in_ok-size.ensures.cause.same ∙ c.loop-slot.invariant.faults in
+    let later = c.in_err-write_at.ensures.cause.later in
+    let rose = c.in_err-write_at.ensures.cause.rose in
+    record {
+      moments = λ seen rests.
+          let taken = length-take c.in_ok-size.size c.fill_slot.new.room in
+          let low = c.in_ok-size.ensures.enough.fits in
+          let size : length (take c.in_ok-size.size c.fill_slot.new.room) ≤ 8192 = omega arith in
+          copy_torn _ _ _ c.args.slots c.args.half c.args.keep.now seen c.loop-slot.slot c.place_of-at.result _ (omega arith) size c.place_of-at.ensures
+          (copy_reads _ _ _ c.args.slots c.args.half c.args.keep.now seen c.loop-slot.slot (c.loop-slot.invariant.copied seen rests) c.in_ok-size.ensures.keeps) c.in_err-write_at.ensures.err;
+      copied = rw p.1 tt;
+      extent = c.in_err-write_at.ensures.extent ∙ c.in_ok-size.ensures.extent ∙ c.loop-slot.invariant.extent;
+      cause = record { later = omega (arith, same, later); same = rw p.1 tt; rose = rw p.1 (omega (arith, same, rose)) };
+      beside = g.met.D.Disk.beside_then _ _ _ (g.met.D.Disk.beside_then _ _ _ c.loop-slot.invariant.beside c.in_ok-size.ensures.beside) c.in_err-write_at.ensures.beside;
+    }
 
 pub loop-slot-preserved : goal.loop-slot-preserved
 loop-slot-preserved g c = record {
@@ -26,35 +49,28 @@ loop-slot-preserved g c = record {
       c.in_ok-size.ensures.keeps c.in_ok-size.ensures.copy c.in_ok-write_at.ensures.ok;
 }
 
-pub returns-in_err-sync-clause-moments : goal.returns-in_err-sync-clause-moments
-returns-in_err-sync-clause-moments g c = λ seen rests. copy_unsynced _ _ _ c.args.slots c.args.half c.args.keep.now seen c.loop-slot.slot (c.loop-slot.invariant.copied seen rests) c.in_err-sync.ensures.err
+pub returns-in_err-sync : goal.returns-in_err-sync
+returns-in_err-sync g c =
+    let p = err_from_is_err_and c.from_residual-in_err-sync.result c.from_residual-in_err-sync.ensures.1 in
+    let same = c.loop-slot.invariant.faults in
+    let later = c.in_err-sync.ensures.cause.later in
+    let rose = c.in_err-sync.ensures.cause.rose in
+    record {
+      moments = λ seen rests. copy_unsynced _ _ _ c.args.slots c.args.half c.args.keep.now seen c.loop-slot.slot (c.loop-slot.invariant.copied seen rests) c.in_err-sync.ensures.err;
+      copied = rw p.1 tt;
+      extent = c.in_err-sync.ensures.extent ∙ c.loop-slot.invariant.extent;
+      cause = record { later = omega (arith, same, later); same = rw p.1 tt; rose = rw p.1 (omega (arith, same, rose)) };
+      beside = g.met.D.Disk.beside_then _ _ _ c.loop-slot.invariant.beside c.in_err-sync.ensures.beside;
+    }
 
-pub returns-clause-moments : goal.returns-clause-moments
-returns-clause-moments g c = λ seen rests.
+pub returns : goal.returns
+returns g c =
     let all : c.loop-slot.slot ≡ c.args.slots = omega arith in
-    half_left _ _ _ c.args.slots c.args.half c.args.keep.now seen c.loop-slot.slot all (c.loop-slot.invariant.copied seen rests) c.in_ok-sync.ensures.ok
-
-pub returns-clause-copied : goal.returns-clause-copied
-returns-clause-copied g c = λ seen rests.
-    let all : c.loop-slot.slot ≡ c.args.slots = omega arith in
-    half_done _ _ _ c.args.slots c.args.half c.args.keep.now seen c.loop-slot.slot all rests (c.loop-slot.invariant.copied seen rests) c.in_ok-sync.ensures.ok
-
--- ---- beside the disk
-
-pub returns-in_err-size-clause-beside : goal.returns-in_err-size-clause-beside
-returns-in_err-size-clause-beside g c = g.met.D.Disk.beside_then _ _ _ c.loop-slot.invariant.beside c.in_err-size.ensures.beside
-
-pub returns-in_err-write_at-clause-beside : goal.returns-in_err-write_at-clause-beside
-returns-in_err-write_at-clause-beside g c =
-    g.met.D.Disk.beside_then _ _ _ (g.met.D.Disk.beside_then _ _ _ c.loop-slot.invariant.beside c.in_ok-size.ensures.beside) c.in_err-write_at.ensures.beside
-
-pub returns-in_err-sync-clause-beside : goal.returns-in_err-sync-clause-beside
-returns-in_err-sync-clause-beside g c = g.met.D.Disk.beside_then _ _ _ c.loop-slot.invariant.beside c.in_err-sync.ensures.beside
-
-pub returns-clause-beside : goal.returns-clause-beside
-returns-clause-beside g c = g.met.D.Disk.beside_then _ _ _ c.loop-slot.invariant.beside c.in_ok-sync.ensures.beside
-
-pub returns-clause-cause : goal.returns-clause-cause
-returns-clause-cause g c =
     let same = c.in_ok-sync.ensures.cause.same ∙ c.loop-slot.invariant.faults in
-    record { later = omega (arith, same); same = same; rose = tt }
+    record {
+      moments = λ seen rests. half_left _ _ _ c.args.slots c.args.half c.args.keep.now seen c.loop-slot.slot all (c.loop-slot.invariant.copied seen rests) c.in_ok-sync.ensures.ok;
+      copied = λ seen rests. half_done _ _ _ c.args.slots c.args.half c.args.keep.now seen c.loop-slot.slot all rests (c.loop-slot.invariant.copied seen rests) c.in_ok-sync.ensures.ok;
+      extent = c.in_ok-sync.ensures.extent ∙ c.loop-slot.invariant.extent;
+      cause = record { later = omega (arith, same); same = same; rose = tt };
+      beside = g.met.D.Disk.beside_then _ _ _ c.loop-slot.invariant.beside c.in_ok-sync.ensures.beside;
+    }
