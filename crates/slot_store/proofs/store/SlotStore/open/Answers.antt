@@ -1,4 +1,4 @@
-use Rattle.std.proofs.Common.{refl}
+use Rattle.std.proofs.Common.{refl, ◌∙◌, arith}
 use Rattle.std.proofs.lemmas.Result.{err_from_is_err_and}
 use Rattle.slot_store.specs.Layout.{HoldsRecords}
 use Rattle.slot_store.proofs.Steps.{begins}
@@ -51,3 +51,74 @@ pub returns-in_err-used-clause-unwritten : goal.returns-in_err-used-clause-unwri
 returns-in_err-used-clause-unwritten g c =
     let p = err_from_is_err_and c.from_residual-in_err-used.result c.from_residual-in_err-used.ensures.1 in
     rw (p.1, p.2, c.in_err-used.ensures.fault) (λ seen other rests. absurd (other refl))
+
+pub returns-in_default-clause-moments : goal.returns-in_default-clause-moments
+returns-in_default-clause-moments g c = λ seen records rests holds. begins _ (λ image. HoldsRecords c.args.slots c.args.digest.now image records)
+
+pub returns-in_err-selector-clause-moments : goal.returns-in_err-selector-clause-moments
+returns-in_err-selector-clause-moments g c = c.in_err-selector.ensures.moments
+
+pub returns-in_err-selector-clause-opened : goal.returns-in_err-selector-clause-opened
+returns-in_err-selector-clause-opened g c =
+    let p = err_from_is_err_and c.from_residual.result c.from_residual.ensures.1 in
+    rw p.1 tt
+
+pub returns-in_err-selector-clause-size : goal.returns-in_err-selector-clause-size
+returns-in_err-selector-clause-size g c =
+    let p = err_from_is_err_and c.from_residual.result c.from_residual.ensures.1 in
+    rw p.1 tt
+
+pub returns-in_err-selector-clause-known : goal.returns-in_err-selector-clause-known
+returns-in_err-selector-clause-known g c =
+    let p = err_from_is_err_and c.from_residual.result c.from_residual.ensures.1 in
+    rw p.1 tt
+
+pub returns-in_err-selector-clause-cause : goal.returns-in_err-selector-clause-cause
+returns-in_err-selector-clause-cause g c =
+    let p = err_from_is_err_and c.from_residual.result c.from_residual.ensures.1 in
+    rw (p.1, p.2) c.in_err-selector.ensures.cause
+
+pub returns-in_err-selector-clause-extent : goal.returns-in_err-selector-clause-extent
+returns-in_err-selector-clause-extent g c = c.in_err-selector.ensures.extent
+
+pub returns-in_err-selector-clause-beside : goal.returns-in_err-selector-clause-beside
+returns-in_err-selector-clause-beside g c = c.in_err-selector.ensures.beside
+
+pub returns-in_err-used-clause-opened : goal.returns-in_err-used-clause-opened
+returns-in_err-used-clause-opened g c =
+    let p = err_from_is_err_and c.from_residual-in_err-used.result c.from_residual-in_err-used.ensures.1 in
+    rw p.1 tt
+
+pub returns-in_err-used-clause-size : goal.returns-in_err-used-clause-size
+returns-in_err-used-clause-size g c =
+    let p = err_from_is_err_and c.from_residual-in_err-used.result c.from_residual-in_err-used.ensures.1 in
+    rw p.1 tt
+
+pub returns-in_err-used-clause-known : goal.returns-in_err-used-clause-known
+returns-in_err-used-clause-known g c =
+    let p = err_from_is_err_and c.from_residual-in_err-used.result c.from_residual-in_err-used.ensures.1 in
+    rw p.1 tt
+
+pub returns-in_err-used-clause-extent : goal.returns-in_err-used-clause-extent
+returns-in_err-used-clause-extent g c = c.in_err-used.ensures.extent ∙ c.in_ok-selector.ensures.extent
+
+pub returns-in_err-used-clause-cause : goal.returns-in_err-used-clause-cause
+returns-in_err-used-clause-cause g c =
+    let p = err_from_is_err_and c.from_residual-in_err-used.result c.from_residual-in_err-used.ensures.1 in
+    let same = c.in_ok-selector.ensures.cause in
+    let rose = rw c.in_err-used.ensures.fault at c.in_err-used.ensures.cause in
+    rw (p.1, p.2, c.in_err-used.ensures.fault) (omega (arith, same, rose))
+
+pub returns-clause-size : goal.returns-clause-size
+returns-clause-size g c =
+    let needed = c.needed_of-needed.ensures in
+    let found = c.size-found.ensures in
+    let large = c.if-found-needed.false in
+    let extent = c.in_ok-used.ensures.extent ∙ c.in_ok-selector.ensures.extent in
+    (refl, omega (arith, needed, found, large, extent))
+
+pub returns-clause-extent : goal.returns-clause-extent
+returns-clause-extent g c = c.in_ok-used.ensures.extent ∙ c.in_ok-selector.ensures.extent
+
+pub returns-clause-cause : goal.returns-clause-cause
+returns-clause-cause g c = c.in_ok-used.ensures.cause ∙ c.in_ok-selector.ensures.cause
