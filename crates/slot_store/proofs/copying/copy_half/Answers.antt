@@ -1,8 +1,29 @@
-use Rattle.std.proofs.Common.{arith, ◌∙◌, ◌≡◌, ◌≤◌, length, take}
+use Rattle.std.proofs.Common.{arith, refl, ◌∙◌, ◌≡◌, ◌-◌, ◌<◌, ◌≤◌, length, take}
 use Rattle.std.proofs.lemmas.List.{length-take}
 use Rattle.std.proofs.lemmas.Result.{err_from_is_err_and}
-use Rattle.slot_store.proofs.CopyStages.{copy_reads, copy_torn, copy_more, copy_unsynced, half_left, half_done}
+use Rattle.slot_store.proofs.Storing.{slot_fits}
+use Rattle.slot_store.proofs.CopyStages.{copy_begins, copy_reads, copy_torn, copy_more, copy_unsynced, half_left, half_done}
 use Rattle.slot_store.proofs.copying.copy_half.Goals as goal
+
+pub loop-slot-init : goal.loop-slot-init
+loop-slot-init g c = record {
+  extent = refl;
+  faults = refl;
+  beside = g.met.D.Disk.beside_same _;
+  copied = λ seen rests. copy_begins _ c.args.slots c.args.half c.args.keep.now seen rests;
+}
+
+pub write_at-requires : goal.write_at-requires
+write_at-requires g c =
+    let other : 1 - c.args.half < 2 = omega arith in
+    let under : c.loop-slot.slot < c.args.slots = c.loop-slot-test.true in
+    let fits = slot_fits c.args.slots (1 - c.args.half) c.loop-slot.slot other under in
+    let at = c.place_of-at.ensures in
+    let taken = length-take c.in_ok-size.size c.fill_slot.new.room in
+    let low = c.in_ok-size.ensures.enough.fits in
+    let extent = c.in_ok-size.ensures.extent ∙ c.loop-slot.invariant.extent in
+    let size = c.requires.size in
+    omega (arith, fits, at, taken, low, extent, size)
 
 pub returns-in_err-size : goal.returns-in_err-size
 returns-in_err-size g c =

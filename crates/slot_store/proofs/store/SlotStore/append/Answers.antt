@@ -32,6 +32,12 @@ open_gate-requires g c =
     let bytes = ap length c.put_sized-size.ensures.bytes in
     record { room = omega (arith, at, fits, size, short, bytes); small = omega arith }
 
+pub slice_bounds-open_gate-end : goal.slice_bounds-open_gate-end
+slice_bounds-open_gate-end g c =
+    let bytes = ap length c.put_sized-size.ensures.bytes in
+    let size = c.put_sized-size.ensures.size in
+    omega (arith, bytes, size)
+
 pub overflow_add-self : goal.overflow_add-self
 overflow_add-self g c =
     let used = ap (λ (store : JournalValue). store.used) c.self.view_is in
@@ -78,3 +84,6 @@ returns-in-Err g c =
       cause = record { later = c.in-Err.ensures.cause.later; same = tt; rose = c.in-Err.ensures.cause.rose };
       beside = c.in-Err.ensures.beside;
     }
+
+pub invariant_of-self-in-Err : goal.invariant_of-self-in-Err
+invariant_of-self-in-Err g c = (grind (arith, elements), c.self.invariant.1)

@@ -67,3 +67,6 @@ returns-in-Err g c = record {
   cause = record { later = c.in-Err.ensures.cause.later; same = tt; rose = c.in-Err.ensures.cause.rose };
   beside = c.in-Err.ensures.beside;
 }
+
+pub invariant_of-self-in-Err : goal.invariant_of-self-in-Err
+invariant_of-self-in-Err g c = (grind (arith, elements), c.self.invariant.1)
