@@ -1,10 +1,10 @@
-use Rattle.std.proofs.Common.{◌≡◌, [], ◌∷◌, ◌++◌, true, sym, ap, subst, arith}
+use Rattle.std.proofs.Common.{◌≡◌, [], ◌∷◌, ◌++◌, true, sym, ap, subst, ◌∙◌, arith}
 use Rattle.dots_disk.specs.Becoming.{Leaves, RestsWith}
 use Rattle.dots_history.specs.declared.entry.Entry.{Entry}
-use Rattle.dots_registry.specs.Standing.{time_of}
+use Rattle.dots_registry.specs.Standing.{RegistryValue, time_of}
 use Rattle.slot_store.specs.Standing.{JournalValue}
 use Rattle.slot_journal.specs.Held as journal
-use Rattle.dots_ledger.specs.Standing.{LedgerValue, StandsFor, CanAccept, joins_at}
+use Rattle.dots_ledger.specs.Standing.{LedgerValue, StandsFor, IsStanding, CanAccept, joins_at}
 use Rattle.dots_ledger.specs.Crashes.{HoldsOne}
 use Rattle.dots_ledger.proofs.Standing.{most_same, fits_in, stands_more}
 use Rattle.dots_ledger.proofs.ledger.Ledger.append.Goals as goal
@@ -13,22 +13,6 @@ pub apply-requires : goal.apply-requires
 apply-requires g c =
     let can = subst (λ (l : LedgerValue). CanAccept l c.args.staged) (sym c.self.view_is) c.requires.can in
     fits_in (record { registry = c.self.inside.registry; journal = c.self.inside.journal }) can.settings can.history can.entries c.args.staged can.stands can.joins
-
-pub returns-in-Ok-clause-moments : goal.returns-in-Ok-clause-moments
-returns-in-Ok-clause-moments g c = λ settings history entries stands rests.
-    subst
-    (λ (e : Entry). Leaves (g.D.Disk.media c.args.disk.now) (g.D.Disk.media c.append.new.disk) (HoldsOne settings entries (entries ++ e ∷ [])))
-    c.entry.ensures
-    (c.append.ensures.moments settings entries
-    (subst (λ (l : LedgerValue). RestsWith (g.D.Disk.media c.args.disk.now) (journal.StandsFor l.journal settings entries)) (sym c.self.view_is) rests))
-
-pub returns-in-Err-clause-moments : goal.returns-in-Err-clause-moments
-returns-in-Err-clause-moments g c = λ settings history entries stands rests.
-    subst
-    (λ (e : Entry). Leaves (g.D.Disk.media c.args.disk.now) (g.D.Disk.media c.append.new.disk) (HoldsOne settings entries (entries ++ e ∷ [])))
-    c.entry.ensures
-    (c.append.ensures.moments settings entries
-    (subst (λ (l : LedgerValue). RestsWith (g.D.Disk.media c.args.disk.now) (journal.StandsFor l.journal settings entries)) (sym c.self.view_is) rests))
 
 pub invariant_of-self : goal.invariant_of-self
 invariant_of-self g c =
@@ -60,29 +44,82 @@ invariant_of-self g c =
       omega (arith, most, room),
     )
 
-pub returns-in-Ok-clause-appended : goal.returns-in-Ok-clause-appended
-returns-in-Ok-clause-appended g c = λ settings history entries stands joins. (
-  stands_more
-      c.in-Ok.slot
-      c.args.staged
-      (record { registry = c.self.inside.registry; journal = c.self.inside.journal })
-      (record { registry = c.apply.new.self; journal = c.append.new.self })
-      (ap (λ (j : JournalValue). j.used) c.in-Ok.ensures.next)
-      (ap (λ (j : JournalValue). j.slots) c.in-Ok.ensures.next)
-      c.in-Ok.ensures.slot
-      c.apply.ensures.time
-      c.apply.ensures.stands
-      c.apply.ensures.filed
-      c.apply.ensures.settings
-      settings
-      history
-      entries
-      (subst (λ (l : LedgerValue). StandsFor l settings history entries) (sym c.self.view_is) stands)
-      (subst (λ (l : LedgerValue). joins_at settings (time_of l.registry) history c.args.staged ≡ true) (sym c.self.view_is) joins),
-  λ rests.
+pub append-requires-clause-room : goal.append-requires-clause-room
+append-requires-clause-room g c =
+    let used = ap (λ (l : LedgerValue). l.journal.used) c.self.view_is in
+    let slots = ap (λ (l : LedgerValue). l.journal.slots) c.self.view_is in
+    let room = c.requires.room in
+    omega (arith, used, slots, room)
+
+pub append-requires-clause-size : goal.append-requires-clause-size
+append-requires-clause-size g c =
+    let slots = ap (λ (l : LedgerValue). l.journal.slots) c.self.view_is in
+    let size = c.requires.size in
+    omega (arith, slots, size)
+
+pub returns-in-Ok : goal.returns-in-Ok
+returns-in-Ok g c = record {
+  moments = λ settings history entries stands rests.
       subst
-      (λ (e : Entry). RestsWith (g.D.Disk.media c.append.new.disk) (journal.StandsFor c.append.new.self settings (entries ++ e ∷ [])))
+      (λ (e : Entry). Leaves (g.D.Disk.media c.args.disk.now) (g.D.Disk.media c.append.new.disk) (HoldsOne settings entries (entries ++ e ∷ [])))
       c.entry.ensures
-      (c.in-Ok.ensures.rests settings entries
-      (subst (λ (l : LedgerValue). RestsWith (g.D.Disk.media c.args.disk.now) (journal.StandsFor l.journal settings entries)) (sym c.self.view_is) rests)),
-)
+      (c.append.ensures.moments settings entries
+      (subst (λ (l : LedgerValue). RestsWith (g.D.Disk.media c.args.disk.now) (journal.StandsFor l.journal settings entries)) (sym c.self.view_is) rests));
+  appended = λ settings history entries stands joins. (
+    stands_more
+        c.in-Ok.slot
+        c.args.staged
+        (record { registry = c.self.inside.registry; journal = c.self.inside.journal })
+        (record { registry = c.apply.new.self; journal = c.append.new.self })
+        (ap (λ (j : JournalValue). j.used) c.in-Ok.ensures.next)
+        (ap (λ (j : JournalValue). j.slots) c.in-Ok.ensures.next)
+        c.in-Ok.ensures.slot
+        c.apply.ensures.time
+        c.apply.ensures.stands
+        c.apply.ensures.filed
+        c.apply.ensures.settings
+        settings
+        history
+        entries
+        (subst (λ (l : LedgerValue). StandsFor l settings history entries) (sym c.self.view_is) stands)
+        (subst (λ (l : LedgerValue). joins_at settings (time_of l.registry) history c.args.staged ≡ true) (sym c.self.view_is) joins),
+    λ rests.
+        subst
+        (λ (e : Entry). RestsWith (g.D.Disk.media c.append.new.disk) (journal.StandsFor c.append.new.self settings (entries ++ e ∷ [])))
+        c.entry.ensures
+        (c.in-Ok.ensures.rests settings entries
+        (subst (λ (l : LedgerValue). RestsWith (g.D.Disk.media c.args.disk.now) (journal.StandsFor l.journal settings entries)) (sym c.self.view_is) rests)),
+  );
+  same = tt;
+  time = c.apply.ensures.time;
+  slots = ap (λ (j : JournalValue). j.slots) c.in-Ok.ensures.next ∙ ap (λ (l : LedgerValue). l.journal.slots) c.self.view_is;
+  extent = c.in-Ok.ensures.extent;
+  cause = record { later = c.in-Ok.ensures.cause.later; same = c.in-Ok.ensures.cause.same; rose = tt };
+  beside = c.in-Ok.ensures.beside;
+}
+
+-- the tables beside a journal
+abbrev beside_tables : RegistryValue → JournalValue → LedgerValue
+beside_tables tables store = record { registry = tables; journal = store }
+
+pub invariant_of-self-in-Err : goal.invariant_of-self-in-Err
+invariant_of-self-in-Err g c = (subst IsStanding (sym (ap (beside_tables c.self.inside.registry) c.in-Err.ensures.same)) c.self.invariant.0, c.self.invariant.1)
+
+pub returns-in-Err : goal.returns-in-Err
+returns-in-Err g c =
+    let same = ap (beside_tables c.self.inside.registry) c.in-Err.ensures.same ∙ c.self.view_is in
+    record {
+      moments = λ settings history entries stands rests.
+          subst
+          (λ (e : Entry). Leaves (g.D.Disk.media c.args.disk.now) (g.D.Disk.media c.append.new.disk) (HoldsOne settings entries (entries ++ e ∷ [])))
+          c.entry.ensures
+          (c.append.ensures.moments settings entries
+          (subst (λ (l : LedgerValue). RestsWith (g.D.Disk.media c.args.disk.now) (journal.StandsFor l.journal settings entries)) (sym c.self.view_is) rests));
+      appended = tt;
+      same = same;
+      time = tt;
+      slots = ap (λ (l : LedgerValue). l.journal.slots) same;
+      extent = c.in-Err.ensures.extent;
+      cause = record { later = c.in-Err.ensures.cause.later; same = tt; rose = c.in-Err.ensures.cause.rose };
+      beside = c.in-Err.ensures.beside;
+    }
