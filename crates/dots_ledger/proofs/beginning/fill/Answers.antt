@@ -8,73 +8,70 @@ use Rattle.dots_ledger.proofs.beginning.fill.Goals as goal
 
 -- ---- where the journal isn't recovered
 
-pub returns-in_err-journal-clause-refused : goal.returns-in_err-journal-clause-refused
-returns-in_err-journal-clause-refused g c =
+pub returns-in_err-journal : goal.returns-in_err-journal
+returns-in_err-journal g c =
     let p = err_from_is_err_and c.from_residual.result c.from_residual.ensures.1 in
-    rw (p.1, p.2) (λ seen sees. refuses_more c.args.settings.now (g.D.Disk.extent c.args.disk.now) seen _ _ (c.in_err-journal.ensures.refused seen sees))
-
-pub returns-in_err-journal-clause-complete : goal.returns-in_err-journal-clause-complete
-returns-in_err-journal-clause-complete g c =
-    let p = err_from_is_err_and c.from_residual.result c.from_residual.ensures.1 in
-    rw (p.1, p.2) (λ seen entries sees holds calm size.
-    fails_alone c.args.settings.now (g.D.Disk.extent c.args.disk.now) seen (g.D.Disk.media c.args.disk.now) entries _
-    (refuses_more c.args.settings.now (g.D.Disk.extent c.args.disk.now) seen (g.D.Disk.media c.args.disk.now) _ (c.in_err-journal.ensures.refused seen sees)) holds calm size)
-
-pub returns-in_err-journal-clause-unwritten : goal.returns-in_err-journal-clause-unwritten
-returns-in_err-journal-clause-unwritten g c =
-    let p = err_from_is_err_and c.from_residual.result c.from_residual.ensures.1 in
-    rw (p.1, p.2) (λ seen other rests. inl (c.in_err-journal.ensures.unwritten seen other rests))
+    record {
+      moments = c.in_err-journal.ensures.moments;
+      recovered = rw p.1 tt;
+      size = rw p.1 tt;
+      refused = rw (p.1, p.2) (λ seen sees. refuses_more c.args.settings.now (g.D.Disk.extent c.args.disk.now) seen _ _ (c.in_err-journal.ensures.refused seen sees));
+      complete = rw (p.1, p.2) (λ seen entries sees holds calm size.
+          fails_alone c.args.settings.now (g.D.Disk.extent c.args.disk.now) seen (g.D.Disk.media c.args.disk.now) entries _
+          (refuses_more c.args.settings.now (g.D.Disk.extent c.args.disk.now) seen (g.D.Disk.media c.args.disk.now) _ (c.in_err-journal.ensures.refused seen sees)) holds calm size);
+      unwritten = rw (p.1, p.2) (λ seen other rests. inl (c.in_err-journal.ensures.unwritten seen other rests));
+      extent = c.in_err-journal.ensures.extent;
+      cause = rw (p.1, p.2) c.in_err-journal.ensures.cause;
+      beside = c.in_err-journal.ensures.beside;
+    }
 
 -- ---- where its entries aren't taken
 
 pub place-at-requires : goal.place-at-requires
 place-at-requires g c = let slots = c.in_ok-journal.ensures.size.0 in omega (arith, slots)
 
-pub returns-then-many-used-clause-refused : goal.returns-then-many-used-clause-refused
-returns-then-many-used-clause-refused g c = λ seen sees.
-    let same = used_many _ c.args.settings.now c.in_ok-journal.journal c.in_ok-journal.entries (c.in_ok-journal.ensures.recovered seen sees).1 in
+pub returns-then-many-used : goal.returns-then-many-used
+returns-then-many-used g c =
     let many = ap length c.items-many.ensures in
-    absurd (c.if-many-used.true (many ∙ sym same ∙ sym c.used-used.ensures.used))
+    let other = c.if-many-used.true in
+    let used = c.used-used.ensures.used in
+    record {
+      moments = c.in_ok-journal.ensures.moments;
+      recovered = tt;
+      size = tt;
+      refused = λ seen sees.
+          let same = used_many _ c.args.settings.now c.in_ok-journal.journal c.in_ok-journal.entries (c.in_ok-journal.ensures.recovered seen sees).1 in
+          absurd (other (many ∙ sym same ∙ sym used));
+      complete = λ seen entries sees holds calm size.
+          let same = used_many _ c.args.settings.now c.in_ok-journal.journal c.in_ok-journal.entries (c.in_ok-journal.ensures.recovered seen sees).1 in
+          absurd (other (many ∙ sym same ∙ sym used));
+      unwritten = λ seen gone rests. inr (c.in_ok-journal.entries, (c.in_ok-journal.ensures.recovered seen (sees_at_rest _ seen rests)).0);
+      extent = c.in_ok-journal.ensures.extent;
+      cause = rw c.refuse.ensures c.in_ok-journal.ensures.cause;
+      beside = c.in_ok-journal.ensures.beside;
+    }
 
-pub returns-then-many-used-clause-complete : goal.returns-then-many-used-clause-complete
-returns-then-many-used-clause-complete g c = λ seen entries sees holds calm size.
-    let same = used_many _ c.args.settings.now c.in_ok-journal.journal c.in_ok-journal.entries (c.in_ok-journal.ensures.recovered seen sees).1 in
-    let many = ap length c.items-many.ensures in
-    absurd (c.if-many-used.true (many ∙ sym same ∙ sym c.used-used.ensures.used))
-
-pub returns-then-many-used-clause-unwritten : goal.returns-then-many-used-clause-unwritten
-returns-then-many-used-clause-unwritten g c = λ seen other rests. inr (c.in_ok-journal.entries, (c.in_ok-journal.ensures.recovered seen (sees_at_rest _ seen rests)).0)
-
-pub returns-then-many-used-clause-cause : goal.returns-then-many-used-clause-cause
-returns-then-many-used-clause-cause g c = rw c.refuse.ensures c.in_ok-journal.ensures.cause
-
-pub returns-in_err-take_all-clause-refused : goal.returns-in_err-take_all-clause-refused
-returns-in_err-take_all-clause-refused g c =
+pub returns-in_err-take_all : goal.returns-in_err-take_all
+returns-in_err-take_all g c =
     let p = err_from_is_err_and c.from_residual-in_err-take_all.result c.from_residual-in_err-take_all.ensures.1 in
-    rw (p.1, p.2) (λ seen sees.
-    let found = c.in_ok-journal.ensures.recovered seen sees in
-    refuses_stray c.args.settings.now (g.D.Disk.extent c.args.disk.now) seen _ c.in_ok-journal.journal c.in_ok-journal.entries _
-    c.in_ok-journal.ensures.size.0 found.0 found.1 c.in_err-take_all.ensures.refused)
-
-pub returns-in_err-take_all-clause-complete : goal.returns-in_err-take_all-clause-complete
-returns-in_err-take_all-clause-complete g c =
-    let p = err_from_is_err_and c.from_residual-in_err-take_all.result c.from_residual-in_err-take_all.ensures.1 in
-    rw (p.1, p.2) (λ seen entries sees holds calm size.
-    let found = c.in_ok-journal.ensures.recovered seen sees in
-    fails_alone c.args.settings.now (g.D.Disk.extent c.args.disk.now) seen _ entries _
-    (refuses_stray c.args.settings.now (g.D.Disk.extent c.args.disk.now) seen _ c.in_ok-journal.journal c.in_ok-journal.entries _
-    c.in_ok-journal.ensures.size.0 found.0 found.1 c.in_err-take_all.ensures.refused)
-    holds calm size)
-
-pub returns-in_err-take_all-clause-unwritten : goal.returns-in_err-take_all-clause-unwritten
-returns-in_err-take_all-clause-unwritten g c =
-    let p = err_from_is_err_and c.from_residual-in_err-take_all.result c.from_residual-in_err-take_all.ensures.1 in
-    rw (p.1, p.2) (λ seen other rests. inr (c.in_ok-journal.entries, (c.in_ok-journal.ensures.recovered seen (sees_at_rest _ seen rests)).0))
-
-pub returns-in_err-take_all-clause-cause : goal.returns-in_err-take_all-clause-cause
-returns-in_err-take_all-clause-cause g c =
-    let p = err_from_is_err_and c.from_residual-in_err-take_all.result c.from_residual-in_err-take_all.ensures.1 in
-    rw (p.1, p.2) (caused_entries JournalValue c.args.settings.now c.in_ok-journal.journal c.in_ok-journal.entries _ _ _ c.in_err-take_all.ensures.refused c.in_ok-journal.ensures.cause)
+    let extent = g.D.Disk.extent c.args.disk.now in
+    record {
+      moments = c.in_ok-journal.ensures.moments;
+      recovered = rw p.1 tt;
+      size = rw p.1 tt;
+      refused = rw (p.1, p.2) (λ seen sees.
+          let found = c.in_ok-journal.ensures.recovered seen sees in
+          refuses_stray c.args.settings.now extent seen _ c.in_ok-journal.journal c.in_ok-journal.entries _ c.in_ok-journal.ensures.size.0 found.0 found.1 c.in_err-take_all.ensures.refused);
+      complete = rw (p.1, p.2) (λ seen entries sees holds calm size.
+          let found = c.in_ok-journal.ensures.recovered seen sees in
+          fails_alone c.args.settings.now extent seen _ entries _
+          (refuses_stray c.args.settings.now extent seen _ c.in_ok-journal.journal c.in_ok-journal.entries _ c.in_ok-journal.ensures.size.0 found.0 found.1 c.in_err-take_all.ensures.refused)
+          holds calm size);
+      unwritten = rw (p.1, p.2) (λ seen other rests. inr (c.in_ok-journal.entries, (c.in_ok-journal.ensures.recovered seen (sees_at_rest _ seen rests)).0));
+      extent = c.in_ok-journal.ensures.extent;
+      cause = rw (p.1, p.2) (caused_entries JournalValue c.args.settings.now c.in_ok-journal.journal c.in_ok-journal.entries _ _ _ c.in_err-take_all.ensures.refused c.in_ok-journal.ensures.cause);
+      beside = c.in_ok-journal.ensures.beside;
+    }
 
 pub take_all-requires-clause-used : goal.take_all-requires-clause-used
 take_all-requires-clause-used g c = sym c.used-used.ensures.used ∙ sym c.if-many-used.false ∙ ap length c.items-many.ensures
@@ -99,24 +96,34 @@ tick-requires-clause-bounded g c =
     c.requires.early
     (c.max-now.ensures ∙ ap (max c.args.at) c.time.ensures)
 
-pub returns-clause-recovered : goal.returns-clause-recovered
-returns-clause-recovered g c = record {
-  entries = c.in_ok-journal.entries;
-  each = c.in_ok-journal.ensures.each;
-  stands = stands_begun
-      c.args.settings.now
-      c.in_ok-journal.entries
-      c.take_all.new.registry
-      (record { registry = c.tick.new.self; journal = c.in_ok-journal.journal })
-      c.in_ok-take_all.ensures.taken
-      (c.tick.ensures.settings c.args.settings.now)
-      c.tick.ensures.stands
-      c.tick.ensures.filed
-      (sym c.used-used.ensures.used ∙ sym c.if-many-used.false ∙ ap length c.items-many.ensures)
-      c.in_ok-journal.ensures.size.0
-      c.requires.fewer;
-  time = c.tick.ensures.time
-      ∙ time_begun c.args.settings.now c.in_ok-journal.entries c.take_all.new.registry c.args.at c.time.result c.max-now.result c.in_ok-take_all.ensures.taken c.time.ensures c.max-now.ensures;
-  held = λ seen sees. (c.in_ok-journal.ensures.recovered seen sees).0;
-  rests = λ seen sees. (c.in_ok-journal.ensures.recovered seen sees).1;
+pub returns : goal.returns
+returns g c = record {
+  moments = c.in_ok-journal.ensures.moments;
+  recovered = record {
+    entries = c.in_ok-journal.entries;
+    each = c.in_ok-journal.ensures.each;
+    stands = stands_begun
+        c.args.settings.now
+        c.in_ok-journal.entries
+        c.take_all.new.registry
+        (record { registry = c.tick.new.self; journal = c.in_ok-journal.journal })
+        c.in_ok-take_all.ensures.taken
+        (c.tick.ensures.settings c.args.settings.now)
+        c.tick.ensures.stands
+        c.tick.ensures.filed
+        (sym c.used-used.ensures.used ∙ sym c.if-many-used.false ∙ ap length c.items-many.ensures)
+        c.in_ok-journal.ensures.size.0
+        c.requires.fewer;
+    time = c.tick.ensures.time
+        ∙ time_begun c.args.settings.now c.in_ok-journal.entries c.take_all.new.registry c.args.at c.time.result c.max-now.result c.in_ok-take_all.ensures.taken c.time.ensures c.max-now.ensures;
+    held = λ seen sees. (c.in_ok-journal.ensures.recovered seen sees).0;
+    rests = λ seen sees. (c.in_ok-journal.ensures.recovered seen sees).1;
+  };
+  size = c.in_ok-journal.ensures.size;
+  refused = tt;
+  complete = tt;
+  unwritten = tt;
+  extent = c.in_ok-journal.ensures.extent;
+  cause = c.in_ok-journal.ensures.cause;
+  beside = c.in_ok-journal.ensures.beside;
 }

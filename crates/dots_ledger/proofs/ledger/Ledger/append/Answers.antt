@@ -1,12 +1,14 @@
 use Rattle.std.proofs.Common.{◌≡◌, [], ◌∷◌, ◌++◌, true, sym, ap, subst, ◌∙◌, arith}
+use Rattle.std.specs.Prelude.{IsTrue}
 use Rattle.dots_disk.specs.Becoming.{Leaves, RestsWith}
 use Rattle.dots_history.specs.declared.entry.Entry.{Entry}
+use Rattle.dots_history.specs.Bounds.{within_bounds}
 use Rattle.dots_registry.specs.Standing.{RegistryValue, time_of}
 use Rattle.slot_store.specs.Standing.{JournalValue}
 use Rattle.slot_journal.specs.Held as journal
 use Rattle.dots_ledger.specs.Standing.{LedgerValue, StandsFor, IsStanding, CanAccept, joins_at}
 use Rattle.dots_ledger.specs.Crashes.{HoldsOne}
-use Rattle.dots_ledger.proofs.Standing.{most_same, fits_in, stands_more}
+use Rattle.dots_ledger.proofs.Standing.{most_same, joins_parts, fits_in, stands_more}
 use Rattle.dots_ledger.proofs.ledger.Ledger.append.Goals as goal
 
 pub apply-requires : goal.apply-requires
@@ -50,6 +52,11 @@ append-requires-clause-room g c =
     let slots = ap (λ (l : LedgerValue). l.journal.slots) c.self.view_is in
     let room = c.requires.room in
     omega (arith, used, slots, room)
+
+pub append-requires-clause-within : goal.append-requires-clause-within
+append-requires-clause-within g c =
+    let can = c.requires.can in
+    subst (λ (e : Entry). IsTrue (within_bounds e)) (sym c.entry.ensures) (joins_parts can.settings (time_of c.args.self.now.registry) can.history c.args.staged can.joins).0
 
 pub append-requires-clause-size : goal.append-requires-clause-size
 append-requires-clause-size g c =
