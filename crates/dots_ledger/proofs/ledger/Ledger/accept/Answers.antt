@@ -9,22 +9,6 @@ use Rattle.dots_ledger.proofs.Answering.{ok_as, err_as}
 use Rattle.dots_ledger.proofs.Images.{leaves_compacting, leaves_appending}
 use Rattle.dots_ledger.proofs.ledger.Ledger.accept.Goals as goal
 
-pub returns-in-Err-clause-moments : goal.returns-in-Err-clause-moments
-returns-in-Err-clause-moments g c = λ settings history entries stands joins rests.
-    leaves_compacting
-    (g.D.Disk.media c.args.disk.now)
-    (g.D.Disk.media c.make_room.new.disk)
-    c.args.self.now
-    settings
-    history
-    entries
-    c.args.staged
-    stands
-    (c.make_room.ensures.moments settings history entries stands rests)
-
-pub returns-in-Err-clause-refused : goal.returns-in-Err-clause-refused
-returns-in-Err-clause-refused g c = λ settings history entries stands. (entries, subst (λ (l : LedgerValue). StandsFor l settings history entries) (sym c.in-Err.ensures.same) stands)
-
 pub append-requires-clause-can : goal.append-requires-clause-can
 append-requires-clause-can g c =
     let can = c.requires.can in
@@ -37,81 +21,91 @@ append-requires-clause-can g c =
       joins = subst (λ (t : ℕ). joins_at can.settings t can.history c.args.staged ≡ true) (sym c.make_room.ensures.time) can.joins;
     }
 
-pub returns-in-Ok-clause-moments : goal.returns-in-Ok-clause-moments
-returns-in-Ok-clause-moments g c = λ settings history entries stands joins rests.
-    let start = g.D.Disk.media c.args.disk.now in
-    let mid = g.D.Disk.media c.make_room.new.disk in
-    let end = g.D.Disk.media c.append.new.disk in
-    let n = number_remembered c.args.self.now.registry in
-    let t = time_of c.args.self.now.registry in
-    let later = time_of c.make_room.new.self.registry in
-    let made = c.in-Ok.ensures.compacted settings history entries stands in
-    leaves_then
-    start
-    mid
-    end
-    (HoldsEither settings n t history c.args.staged)
-    (leaves_compacting start mid c.args.self.now settings history entries c.args.staged stands (c.make_room.ensures.moments settings history entries stands rests))
-    (subst
-    (λ (u : ℕ). Leaves mid end (HoldsEither settings n u history c.args.staged))
-    c.make_room.ensures.time
-    (subst
-    (λ (k : ℕ). Leaves mid end (HoldsEither settings k later history c.args.staged))
-    c.make_room.ensures.number
-    (leaves_appending
-    mid
-    end
-    c.make_room.new.self
-    settings
-    history
-    made.0
-    c.args.staged
-    made.1
-    (subst (λ (u : ℕ). joins_at settings u history c.args.staged ≡ true) (sym c.make_room.ensures.time) joins)
-    (c.append.ensures.moments settings history made.0 made.1 (made.2 rests)))))
+pub returns-in-Err : goal.returns-in-Err
+returns-in-Err g c = record {
+  moments = λ settings history entries stands joins rests.
+      leaves_compacting
+      (g.D.Disk.media c.args.disk.now)
+      (g.D.Disk.media c.make_room.new.disk)
+      c.args.self.now
+      settings
+      history
+      entries
+      c.args.staged
+      stands
+      (c.make_room.ensures.moments settings history entries stands rests);
+  accepted = tt;
+  refused = λ settings history entries stands. (entries, subst (λ (l : LedgerValue). StandsFor l settings history entries) (sym c.in-Err.ensures.same) stands);
+  time = tt;
+  still = c.make_room.ensures.time;
+  slots = c.make_room.ensures.slots;
+  extent = c.in-Err.ensures.extent;
+  cause = record { later = c.in-Err.ensures.cause.later; same = tt; rose = c.in-Err.ensures.cause.rose };
+  beside = c.in-Err.ensures.beside;
+}
 
-pub returns-in-Ok-clause-accepted : goal.returns-in-Ok-clause-accepted
-returns-in-Ok-clause-accepted g c =
-    ok_as
-    c.append.result
-    _
-    _
-    (λ goes settings history entries stands joins.
-    let made = c.in-Ok.ensures.compacted settings history entries stands in
-    let end = goes
-    settings
-    history
-    made.0
-    made.1
-    (subst (λ (u : ℕ). joins_at settings u history c.args.staged ≡ true) (sym c.make_room.ensures.time) joins) in
-    (made.0 ++ c.args.staged ∷ [], end.0, λ rests. end.1 (made.2 rests)))
-    c.append.ensures.appended
-
-pub returns-in-Ok-clause-refused : goal.returns-in-Ok-clause-refused
-returns-in-Ok-clause-refused g c =
-    err_as
-    c.append.result
-    _
-    _
-    (λ same settings history entries stands.
-    let made = c.in-Ok.ensures.compacted settings history entries stands in
-    (made.0, subst (λ (l : LedgerValue). StandsFor l settings history made.0) (sym same) made.1))
-    c.append.ensures.same
-
--- ---- what else both calls leave
-
-pub returns-in-Err-clause-cause : goal.returns-in-Err-clause-cause
-returns-in-Err-clause-cause g c = record { later = c.in-Err.ensures.cause.later; same = tt; rose = c.in-Err.ensures.cause.rose }
-
-pub returns-in-Err-clause-still : goal.returns-in-Err-clause-still
-returns-in-Err-clause-still g c = c.make_room.ensures.time
-
-pub returns-in-Ok-clause-cause : goal.returns-in-Ok-clause-cause
-returns-in-Ok-clause-cause g c =
-    subst (λ (n : ℕ). HasCause n (g.D.Disk.faults c.append.new.disk) c.append.result) c.in-Ok.ensures.cause.same c.append.ensures.cause
-
-pub returns-in-Ok-clause-still : goal.returns-in-Ok-clause-still
-returns-in-Ok-clause-still g c = err_as c.append.result _ _ (λ same. ap (λ (l : LedgerValue). time_of l.registry) same ∙ c.make_room.ensures.time) c.append.ensures.same
-
-pub returns-in-Ok-clause-beside : goal.returns-in-Ok-clause-beside
-returns-in-Ok-clause-beside g c = g.met.D.Disk.beside_then _ _ _ c.make_room.ensures.beside c.append.ensures.beside
+pub returns-in-Ok : goal.returns-in-Ok
+returns-in-Ok g c = record {
+  moments = λ settings history entries stands joins rests.
+      let start = g.D.Disk.media c.args.disk.now in
+      let mid = g.D.Disk.media c.make_room.new.disk in
+      let end = g.D.Disk.media c.append.new.disk in
+      let n = number_remembered c.args.self.now.registry in
+      let t = time_of c.args.self.now.registry in
+      let later = time_of c.make_room.new.self.registry in
+      let made = c.in-Ok.ensures.compacted settings history entries stands in
+      leaves_then
+      start
+      mid
+      end
+      (HoldsEither settings n t history c.args.staged)
+      (leaves_compacting start mid c.args.self.now settings history entries c.args.staged stands (c.make_room.ensures.moments settings history entries stands rests))
+      (subst
+      (λ (u : ℕ). Leaves mid end (HoldsEither settings n u history c.args.staged))
+      c.make_room.ensures.time
+      (subst
+      (λ (k : ℕ). Leaves mid end (HoldsEither settings k later history c.args.staged))
+      c.make_room.ensures.number
+      (leaves_appending
+      mid
+      end
+      c.make_room.new.self
+      settings
+      history
+      made.0
+      c.args.staged
+      made.1
+      (subst (λ (u : ℕ). joins_at settings u history c.args.staged ≡ true) (sym c.make_room.ensures.time) joins)
+      (c.append.ensures.moments settings history made.0 made.1 (made.2 rests)))));
+  accepted =
+      ok_as
+      c.append.result
+      _
+      _
+      (λ goes settings history entries stands joins.
+      let made = c.in-Ok.ensures.compacted settings history entries stands in
+      let end = goes
+      settings
+      history
+      made.0
+      made.1
+      (subst (λ (u : ℕ). joins_at settings u history c.args.staged ≡ true) (sym c.make_room.ensures.time) joins) in
+      (made.0 ++ c.args.staged ∷ [], end.0, λ rests. end.1 (made.2 rests)))
+      c.append.ensures.appended;
+  refused =
+      err_as
+      c.append.result
+      _
+      _
+      (λ same settings history entries stands.
+      let made = c.in-Ok.ensures.compacted settings history entries stands in
+      (made.0, subst (λ (l : LedgerValue). StandsFor l settings history made.0) (sym same) made.1))
+      c.append.ensures.same;
+  time = c.append.ensures.time;
+  still = err_as c.append.result _ _ (λ same. ap (λ (l : LedgerValue). time_of l.registry) same ∙ c.make_room.ensures.time) c.append.ensures.same;
+  slots = c.append.ensures.slots ∙ c.make_room.ensures.slots;
+  extent = c.append.ensures.extent ∙ c.make_room.ensures.extent;
+  cause =
+      subst (λ (n : ℕ). HasCause n (g.D.Disk.faults c.append.new.disk) c.append.result) c.in-Ok.ensures.cause.same c.append.ensures.cause;
+  beside = g.met.D.Disk.beside_then _ _ _ c.make_room.ensures.beside c.append.ensures.beside;
+}
