@@ -1,4 +1,4 @@
-use Rattle.std.proofs.Common.{arith, sym}
+use Rattle.std.proofs.Common.{arith, sym, refl}
 use Rattle.std.proofs.lemmas.Result.{err_from_is_err_and}
 use Rattle.slot_store.specs.Layout.{HoldsRecords}
 use Rattle.slot_store.specs.Opening.{Is}
@@ -7,30 +7,45 @@ use Rattle.slot_store.proofs.Reading.{reads_none}
 use Rattle.slot_store.proofs.OpenLemmas.{found_byte, gate_closed, holds_formatted, header_seen, header_refuses, gates_refuse, open_formatted, open_as_it_was}
 use Rattle.slot_store.proofs.formatting.open_found.Goals as goal
 
-pub returns-clause-moments : goal.returns-clause-moments
-returns-clause-moments g c = λ seen records rests read holds. begins _ (λ image. HoldsRecords c.args.slots c.args.digest.now image records)
+pub returns : goal.returns
+returns g c = record {
+  moments = λ seen records rests read holds. begins _ (λ image. HoldsRecords c.args.slots c.args.digest.now image records);
+  opened = λ seen rests read.
+      open_as_it_was _ c.args.slots c.args.digest.now seen _ (header_seen c.args.slots c.args.digest.now seen c.args.found.now read c.in_ok-check_header.ensures.ok) (sym (found_byte seen c.args.found.now 48 read (omega arith))) rests;
+  refused = tt;
+  unwritten = tt;
+  extent = refl;
+  cause = refl;
+  beside = g.met.D.Disk.beside_same _;
+}
 
-pub returns-clause-opened : goal.returns-clause-opened
-returns-clause-opened g c = λ seen rests read.
-    open_as_it_was _ c.args.slots c.args.digest.now seen _ (header_seen c.args.slots c.args.digest.now seen c.args.found.now read c.in_ok-check_header.ensures.ok) (sym (found_byte seen c.args.found.now 48 read (omega arith))) rests
+pub returns-then-gate : goal.returns-then-gate
+returns-then-gate g c = record {
+  moments = λ seen records rests read holds.
+      holds_formatted _ _ _ c.args.slots c.args.digest.now seen records (begins _ (Is seen)) (gate_closed seen c.args.found.now read c.if-gate.true) holds (c.in_ok-format.ensures.moments seen rests);
+  opened = λ seen rests read.
+      let gate = gate_closed seen c.args.found.now read c.if-gate.true in
+      open_formatted _ c.args.slots c.args.digest.now seen (c.in_ok-format.ensures.blank seen rests gate) (c.in_ok-format.ensures.formatted seen rests gate);
+  refused = tt;
+  unwritten = tt;
+  extent = c.in_ok-format.ensures.extent;
+  cause = c.in_ok-format.ensures.cause;
+  beside = c.in_ok-format.ensures.beside;
+}
 
-pub returns-then-gate-clause-moments : goal.returns-then-gate-clause-moments
-returns-then-gate-clause-moments g c = λ seen records rests read holds.
-    holds_formatted _ _ _ c.args.slots c.args.digest.now seen records (begins _ (Is seen)) (gate_closed seen c.args.found.now read c.if-gate.true) holds (c.in_ok-format.ensures.moments seen rests)
-
-pub returns-then-gate-clause-opened : goal.returns-then-gate-clause-opened
-returns-then-gate-clause-opened g c = λ seen rests read.
-    let gate = gate_closed seen c.args.found.now read c.if-gate.true in
-    open_formatted _ c.args.slots c.args.digest.now seen (c.in_ok-format.ensures.blank seen rests gate) (c.in_ok-format.ensures.formatted seen rests gate)
-
-pub returns-in_err-format-clause-moments : goal.returns-in_err-format-clause-moments
-returns-in_err-format-clause-moments g c = λ seen records rests read holds.
-    holds_formatted _ _ _ c.args.slots c.args.digest.now seen records (begins _ (Is seen)) (gate_closed seen c.args.found.now read c.if-gate.true) holds (c.in_err-format.ensures.moments seen rests)
-
-pub returns-in_err-format-clause-refused : goal.returns-in_err-format-clause-refused
-returns-in_err-format-clause-refused g c =
+pub returns-in_err-format : goal.returns-in_err-format
+returns-in_err-format g c =
     let p = err_from_is_err_and c.from_residual.result c.from_residual.ensures.1 in
-    rw (p.1, p.2) (λ seen rests read. gates_refuse c.args.slots c.args.digest.now seen _ (gate_closed seen c.args.found.now read c.if-gate.true) (c.in_err-format.ensures.refused seen rests))
+    record {
+      moments = λ seen records rests read holds.
+          holds_formatted _ _ _ c.args.slots c.args.digest.now seen records (begins _ (Is seen)) (gate_closed seen c.args.found.now read c.if-gate.true) holds (c.in_err-format.ensures.moments seen rests);
+      opened = rw p.1 tt;
+      refused = rw (p.1, p.2) (λ seen rests read. gates_refuse c.args.slots c.args.digest.now seen _ (gate_closed seen c.args.found.now read c.if-gate.true) (c.in_err-format.ensures.refused seen rests));
+      unwritten = rw (p.1, p.2) c.in_err-format.ensures.unwritten;
+      extent = c.in_err-format.ensures.extent;
+      cause = rw (p.1, p.2) c.in_err-format.ensures.cause;
+      beside = c.in_err-format.ensures.beside;
+    }
 
 pub returns-in_err-check_header-clause-moments : goal.returns-in_err-check_header-clause-moments
 returns-in_err-check_header-clause-moments g c = λ seen records rests read holds. begins _ (λ image. HoldsRecords c.args.slots c.args.digest.now image records)
@@ -39,11 +54,6 @@ pub returns-in_err-check_header-clause-refused : goal.returns-in_err-check_heade
 returns-in_err-check_header-clause-refused g c =
     let p = err_from_is_err_and c.from_residual-in_err-check_header.result c.from_residual-in_err-check_header.ensures.1 in
     rw (p.1, p.2) (λ seen rests read. header_refuses c.args.slots c.args.digest.now seen c.args.found.now _ read c.if-gate.false c.in_err-check_header.ensures.err)
-
-pub returns-in_err-format-clause-unwritten : goal.returns-in_err-format-clause-unwritten
-returns-in_err-format-clause-unwritten g c =
-    let p = err_from_is_err_and c.from_residual.result c.from_residual.ensures.1 in
-    rw (p.1, p.2) c.in_err-format.ensures.unwritten
 
 pub returns-in_err-check_header-clause-unwritten : goal.returns-in_err-check_header-clause-unwritten
 returns-in_err-check_header-clause-unwritten g c =
