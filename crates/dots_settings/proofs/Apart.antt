@@ -13,7 +13,8 @@ use Rattle.dots_settings.specs.Row.{Row}
 use Rattle.dots_settings.specs.Draft.{DraftValue, draft_of, domain_in, scope_in, forms_by}
 use Rattle.dots_settings.specs.Faults.{fault_of, is_twice, is_unknown, is_overlap, overlap_of, overlap_or_limit, is_too_much}
 use Rattle.dots_settings.specs.File.{AreFaultless}
-use Rattle.dots_settings.specs.Settings.{DomainValue, AreApart, domain_of, draft_prefixes}
+use Rattle.dots_settings.specs.declared.domains.DomainRow.{DomainRow}
+use Rattle.dots_settings.specs.Settings.{AreApart, domain_of, draft_prefixes}
 use Rattle.dots_settings.specs.Admitting.{AreDistinct}
 use Rattle.dots_settings.proofs.Drafts.{not_twice}
 
@@ -255,8 +256,8 @@ apart_domains draft distinct apart one other first second a b differ at_first at
     let named_a = some_mapped (domain_of draft) (slice_get draft.domains one) first (sym (slice_get-map (domain_of draft) draft.domains one) ∙ at_first) in
     let named_b = some_mapped (domain_of draft) (slice_get draft.domains other) second (sym (slice_get-map (domain_of draft) draft.domains other) ∙ at_second) in
     let names : bytes_eq named_a.0 named_b.0 ≡ false = names_differ [] draft.domains distinct named_a.0 named_b.0 one other differ named_a.1 named_b.1 in
-    let within_a : Contains (draft_prefixes draft named_a.0) a = subst (λ (d : DomainValue). Contains d.prefixes a) (sym named_a.2) in_a in
-    let within_b : Contains (draft_prefixes draft named_b.0) b = subst (λ (d : DomainValue). Contains d.prefixes b) (sym named_b.2) in_b in
+    let within_a : Contains (draft_prefixes draft named_a.0) a = subst (λ (d : DomainRow). Contains d.prefixes a) (sym named_a.2) in_a in
+    let within_b : Contains (draft_prefixes draft named_b.0) b = subst (λ (d : DomainRow). Contains d.prefixes b) (sym named_b.2) in_b in
     let scope_a = scope_of draft.scopes named_a.0 a within_a in
     let scope_b = scope_of draft.scopes named_b.0 b within_b in
     let domains : bytes_eq scope_a.0.domain scope_b.0.domain ≡ false = (λ i. bytes_eq (scope_a.2 i) (scope_b.2 i)) ∙ names in

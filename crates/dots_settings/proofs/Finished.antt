@@ -14,7 +14,8 @@ use Rattle.dots_settings.specs.declared.peer.PeerRow.{PeerRow}
 use Rattle.dots_settings.specs.declared.peer.Role.TheVariants as role
 use Rattle.dots_settings.specs.Draft.{DraftValue, same_name}
 use Rattle.dots_settings.specs.Faults.{is_gateway}
-use Rattle.dots_settings.specs.Settings.{DomainValue, domain_of, draft_prefixes, draft_role, peer_row_of, name_row_of, draft_addresses, IsNoStranger, is_gateway_role}
+use Rattle.dots_settings.specs.declared.domains.DomainRow.{DomainRow}
+use Rattle.dots_settings.specs.Settings.{domain_of, draft_prefixes, draft_role, peer_row_of, name_row_of, draft_addresses, IsNoStranger, is_gateway_role}
 use Rattle.dots_settings.proofs.Whole.{IsWhole, IsDeclared, at_name, all_then}
 
 pub mapped_length : {A B : Type 0} (f : A → B) (xs : List A) → length (map f xs) ≡ length xs
@@ -39,7 +40,7 @@ mapped_all f P (x ∷ xs) all = (all.0, mapped_all f P xs all.1)
 -- ---- domains
 
 pub domains_once : (draft : DraftValue) → IsWhole draft → (name : List ℕ) → count_by (λ domain. bytes_eq name domain.name) (map (domain_of draft) draft.domains) ≤ 1
-domains_once draft whole name = subst (λ (n : ℕ). n ≤ 1) (sym (mapped_count (domain_of draft) (λ (d : DomainValue). bytes_eq name d.name) draft.domains)) (whole.domains name)
+domains_once draft whole name = subst (λ (n : ℕ). n ≤ 1) (sym (mapped_count (domain_of draft) (λ (d : DomainRow). bytes_eq name d.name) draft.domains)) (whole.domains name)
 
 prefix_count : (draft : DraftValue) (name : List ℕ) → length (draft_prefixes draft name) ≡ count_by (λ (scope : Scope). bytes_eq scope.domain name) draft.scopes
 prefix_count draft name =

@@ -4,7 +4,6 @@ pub mod HostNames
 pub mod Drafts
 pub mod Bytes
 pub mod Capacities
-pub mod Domains
 pub mod ReadTo
 pub mod Takes
 pub mod Apart

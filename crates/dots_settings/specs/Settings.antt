@@ -1,6 +1,5 @@
 -- The settings that the rows of a file give.
-use Rattle.std.specs.Prelude.{Vec, ◌≡◌, ◌≢◌, ℕ, ◌<◌, ◌≤◌, ⊤, Bool, true, false, if◌then◌else◌, List, [], ◌∷◌, ◌++◌, length, map, filter, position, bytes_eq, count_by, ◌==◌, slice_get, unwrap_or, Option, Some, None, Contains}
-use Rattle.std.specs.declared.alloc.Global.{Global}
+use Rattle.std.specs.Prelude.{◌≡◌, ◌≢◌, ℕ, ◌<◌, ◌≤◌, ⊤, Bool, true, false, if◌then◌else◌, List, [], ◌∷◌, ◌++◌, length, map, filter, position, bytes_eq, count_by, ◌==◌, slice_get, unwrap_or, Option, Some, None, Contains}
 use Rattle.std.specs.List.{find, flat_map, AllByRecursion}
 use Rattle.std.specs.Option.{option_map}
 use Rattle.sha2.specs.Sha256.{sha256}
@@ -8,6 +7,7 @@ use Rattle.ip_scope.specs.Prefix.{PrefixValue, meets}
 use Rattle.acl_lists.specs.declared.packet.Packet.{Packet}
 use Rattle.dots_settings.specs.declared.capacity.Capacity.{Capacity}
 use Rattle.dots_settings.specs.declared.capacity.Capacity.TheVariants as capacities
+use Rattle.dots_settings.specs.declared.domains.DomainRow.{DomainRow}
 use Rattle.dots_settings.specs.declared.limits.Limits.{Limits}
 use Rattle.dots_settings.specs.declared.peer.PeerRow.{PeerRow}
 use Rattle.dots_settings.specs.declared.peer.Role.{Role}
@@ -19,13 +19,9 @@ use Rattle.dots_settings.specs.Row.{Row}
 use Rattle.dots_settings.specs.declared.draft.Peer.{Peer}
 use Rattle.dots_settings.specs.Draft.{DraftValue, same_name, draft_of}
 
-pub record DomainValue : Type 0 where
-  pub name : List ℕ
-  pub prefixes : List PrefixValue
-
 pub record SettingsValue : Type 0 where
   -- a domain has its place here as its number
-  pub domains : List DomainValue
+  pub domains : List DomainRow
   pub peers : List PeerRow
   pub names : List NameRow
   -- in seconds
@@ -39,7 +35,7 @@ pub record SettingsValue : Type 0 where
 abbrev pub draft_prefixes : DraftValue → List ℕ → List PrefixValue
 draft_prefixes draft name = map (λ scope. scope.prefix) (filter (λ scope. bytes_eq scope.domain name) draft.scopes)
 
-abbrev pub domain_of : DraftValue → List ℕ → DomainValue
+abbrev pub domain_of : DraftValue → List ℕ → DomainRow
 domain_of draft name = record { name = name; prefixes = draft_prefixes draft name }
 
 -- the number of a client's domain; each is declared, so none is a stranger
@@ -101,14 +97,10 @@ settings_of rows = settings_by (draft_of rows) (sha256 (digest_text rows))
 -- ---- what holds of all settings
 
 -- no prefix of a domain meets one of another
-abbrev pub AreApart : List DomainValue → Type 0
-AreApart domains = (one other : ℕ) (first second : DomainValue) (a b : PrefixValue) → one ≢ other
+abbrev pub AreApart : List DomainRow → Type 0
+AreApart domains = (one other : ℕ) (first second : DomainRow) (a b : PrefixValue) → one ≢ other
     → slice_get domains one ≡ Some first → slice_get domains other ≡ Some second
     → Contains first.prefixes a → Contains second.prefixes b → meets a b ≡ false
-
--- of what a map of the domains has
-abbrev pub domain_value : Vec ℕ Global × List PrefixValue → DomainValue
-domain_value entry = record { name = entry.0.items; prefixes = entry.1 }
 
 -- a client is of one of so many domains
 abbrev pub IsKnown : ℕ → Role → Type 0

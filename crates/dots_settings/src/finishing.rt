@@ -1,13 +1,13 @@
 //! The settings that a draft comes to, once every line has been read.
 
-ghost use Rattle.std.specs.Prelude.{◌≡◌, ◌≤◌, [], length, map, filter, position, bytes_eq, IfOk, OnOk};
-ghost use Rattle.indexmap.specs.IndexMap.{insert_entry};
-ghost use Rattle.dots_settings.specs.Admitting.{draft_value, AreDistinct};
+ghost use Rattle.std.specs.Prelude.{◌≡◌, ◌≤◌, length, map, filter, position, bytes_eq, IfOk};
+ghost use Rattle.dots_settings.specs.Admitting.{draft_value};
 ghost use Rattle.dots_settings.specs.Draft.{same_name};
 ghost use Rattle.dots_settings.specs.File.{IsSound};
-ghost use Rattle.dots_settings.specs.Settings.{settings_by, draft_prefixes, draft_addresses, name_row_of, peer_row_of, draft_role, limit_of, limits_of, domain_of, domain_value};
+ghost use Rattle.dots_settings.specs.Settings.{settings_by, draft_prefixes, draft_addresses, name_row_of, peer_row_of, draft_role, limit_of, limits_of, domain_of};
 
 use crate::capacity::Capacity;
+use crate::domains::DomainRow;
 use crate::draft::{Address, Draft, Peer, Scope};
 use crate::judging::is_same_name;
 use crate::limits::Limits;
@@ -15,8 +15,7 @@ use crate::names::NameRow;
 use crate::peer::{PeerRow, Role};
 use crate::settings::Settings;
 use acl_lists::PrefixList;
-use dots_lists::{List, Name, NoMemory};
-use indexmap::IndexMap;
+use dots_lists::{Bytes, List, Name, NoMemory};
 use ip_scope::Prefix;
 use std::alloc::{AllocError, Global};
 
@@ -26,7 +25,7 @@ const DEFAULT_CEILING: u32 = 86_400;
 /// The rows of the settings.
 #[derive(Drop)]
 struct Rows {
-    domains: IndexMap<Vec<u8>, PrefixList>,
+    domains: Vec<DomainRow>,
     peers: Vec<PeerRow>,
     names: Vec<NameRow>,
 }
@@ -57,10 +56,8 @@ impl Draft {
     }
 
     fn make_rows(&self) -> Result<Rows, NoMemory>
-        requires distinct { AreDistinct [] (draft_value self.now).domains }
-        requires few { length (draft_value self.now).domains ≤ 16 }
-        ensures domains { IfOk result (λ rows.
-            map domain_value rows.domains.entries ≡ map (domain_of (draft_value self.now)) (draft_value self.now).domains) }
+        requires { length (draft_value self.now).domains ≤ 16 }
+        ensures domains { IfOk result (λ rows. rows.domains.items ≡ map (domain_of (draft_value self.now)) (draft_value self.now).domains) }
         ensures peers { IfOk result (λ rows. rows.peers.items ≡ map (peer_row_of (draft_value self.now)) (draft_value self.now).peers) }
         ensures names { IfOk result (λ rows. rows.names.items ≡ map (name_row_of (draft_value self.now)) (draft_value self.now).names) }
     {
@@ -74,34 +71,23 @@ impl Draft {
         })
     }
 
-    fn make_domains(&self) -> Result<IndexMap<Vec<u8>, PrefixList>, NoMemory>
-        requires { AreDistinct [] (draft_value self.now).domains }
-        ensures { IfOk result (λ domains.
-            map domain_value domains.entries ≡ map (domain_of (draft_value self.now)) (draft_value self.now).domains) }
+    fn make_domains(&self) -> Result<Vec<DomainRow>, NoMemory>
+        ensures { IfOk result (λ domains. domains.items ≡ map (domain_of (draft_value self.now)) (draft_value self.now).domains) }
     {
-        let mut domains = IndexMap::new(self.alloc);
+        let mut domains = Vec::new(self.alloc);
         for name in &self.domains {
-            let key = Vec::from_slice(self.alloc, name.items())?;
-            if let Err(NoMemory) = self.add_domain(&mut domains, key) {
-                drop(domains);
-                return Err(NoMemory);
-            }
+            let row = self.make_domain(name)?;
+            domains.push(row)?;
         }
         Ok(domains)
     }
 
-    /// Adds the domain of which this is the name.
-    fn add_domain(
-        &self,
-        domains: &mut IndexMap<Vec<u8>, PrefixList>,
-        name: Vec<u8>,
-    ) -> Result<(), NoMemory>
-        ensures { OnOk result (domains.new.entries
-            ≡ insert_entry (λ x y. bytes_eq x.items y.items) domains.old.entries name (draft_prefixes (draft_value self.now) name.items)) }
+    fn make_domain(&self, name: &Bytes) -> Result<DomainRow, NoMemory>
+        ensures { IfOk result (λ row. row ≡ domain_of (draft_value self.now) name.now) }
     {
-        let prefixes = self.make_prefixes(name.as_slice())?;
-        drop(domains.insert(name, prefixes)?);
-        Ok(())
+        let prefixes = self.make_prefixes(name.items())?;
+        let name = name.copy()?;
+        Ok(DomainRow { name, prefixes })
     }
 
     fn make_prefixes(&self, name: &[u8]) -> Result<PrefixList, NoMemory>

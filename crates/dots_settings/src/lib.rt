@@ -1,7 +1,7 @@
 //! The settings of a server: what the lines of its settings file say.
 //!
 //! [`read_settings`] reads the file whole and answers its [`Settings`], or the [`SettingsFault`] of its first line that
-//! has one. The domains are kept in an ordered map by name; a domain's number is its place in the file's order.
+//! has one. A domain's number is its place in the file's order.
 //! [`Settings`] and its readers take no memory once they are made.
 //!
 //! Contracts speak of the bytes of the file. Start reading at `specs/Form.antt`, which has the nine forms of a line;
@@ -10,6 +10,7 @@
 #![tactic(auto)]
 
 mod capacity;
+mod domains;
 mod draft;
 mod fault;
 mod fields;
@@ -26,6 +27,7 @@ mod reading;
 mod settings;
 mod source;
 
+pub use domains::DomainRow;
 pub use fault::{MAX_FAULT_LINE, SettingsFault};
 pub use limits::Limits;
 pub use names::NameRow;

@@ -6,19 +6,19 @@ ghost use Rattle.dots_settings.specs.Settings.{AreApart, AreLimits, IsKnown, IsS
 ghost use Rattle.dots_settings.specs.Lookups.{role_of, prefixes_of, addresses_of};
 ghost use Rattle.dots_settings.specs.declared.peer.Role.TheVariants as role;
 
+use crate::domains::DomainRow;
 use crate::judging::is_same_name;
 use crate::limits::Limits;
 use crate::names::NameRow;
 use crate::peer::{PeerRow, Role};
-use acl_lists::{Packet, PrefixList};
-use indexmap::IndexMap;
+use acl_lists::Packet;
 use ip_scope::Prefix;
 use std::marker::Model;
 
 /// What the settings file of a server says. Domains are numbered from 0, in the file's order.
 #[derive(Drop)]
 pub struct Settings {
-    pub(crate) domains: IndexMap<Vec<u8>, PrefixList>,
+    pub(crate) domains: Vec<DomainRow>,
     pub(crate) peers: Vec<PeerRow>,
     pub(crate) names: Vec<NameRow>,
     pub(crate) ceiling: u32,
@@ -29,13 +29,12 @@ pub struct Settings {
 }
 
 impl Model for Settings {
-    ghost use Rattle.std.specs.Prelude.{map};
-    ghost use Rattle.dots_settings.specs.Settings.{SettingsValue, IsSettings, domain_value};
+    ghost use Rattle.dots_settings.specs.Settings.{SettingsValue, IsSettings};
 
     ghost Value = { SettingsValue };
 
     ghost view = { λ s. record {
-      domains = map domain_value s.domains.entries;
+      domains = s.domains.items;
       peers = s.peers.items;
       names = s.names.items;
       ceiling = s.ceiling;
@@ -46,7 +45,7 @@ impl Model for Settings {
     } };
 
     ghost invariant = { λ s. IsSettings (record {
-      domains = map domain_value s.domains.entries;
+      domains = s.domains.items;
       peers = s.peers.items;
       names = s.names.items;
       ceiling = s.ceiling;
@@ -73,10 +72,7 @@ impl Settings {
         ensures value { option_map (λ domain. domain.name) (slice_get self.now.domains domain) ≡ Some result.now }
         ensures valid { IsSettings self.now }
     {
-        match self.domains.get_index(usize::from(domain)) {
-            Some((name, _)) => name.as_slice(),
-            None => unreachable!(),
-        }
+        self.domains[usize::from(domain)].name.items()
     }
 
     /// The prefixes of a domain, in the file's order.
@@ -85,10 +81,7 @@ impl Settings {
         ensures value { option_map (λ domain. domain.prefixes) (slice_get self.now.domains domain) ≡ Some result.now }
         ensures valid { IsSettings self.now }
     {
-        match self.domains.get_index(usize::from(domain)) {
-            Some((_, prefixes)) => prefixes.items(),
-            None => unreachable!(),
-        }
+        self.domains[usize::from(domain)].prefixes.items()
     }
 
     /// The prefixes of a domain, in the file's order; none where there is no domain of this number.
@@ -109,7 +102,7 @@ impl Settings {
         ensures within { IfSome result (λ number. number < length self.now.domains) }
         ensures valid { IsSettings self.now }
     {
-        let number = self.domains.get_index_of(name)?;
+        let number = place_named(&self.domains, name)?;
         Some(number as u16)
     }
 
@@ -202,4 +195,13 @@ fn row_named<'a>(rows: &'a [NameRow], fqdn: &[u8]) -> Option<&'a NameRow>
     ensures { option_copied result ≡ find (λ row. same_name fqdn.now row.name) rows.now }
 {
     rows.iter().find(|row| is_same_name(fqdn, row.name.bytes()))
+}
+
+/// The place of the domain of this name.
+fn place_named(domains: &[DomainRow], name: &[u8]) -> Option<usize>
+    ensures { result ≡ position (λ domain. bytes_eq name.now domain.name) domains.now }
+{
+    domains
+        .iter()
+        .position(|domain| name == domain.name.items())
 }

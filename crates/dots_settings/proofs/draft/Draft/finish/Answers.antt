@@ -1,11 +1,11 @@
 use Rattle.std.proofs.Common.{sym, subst}
 use Rattle.dots_settings.specs.Admitting.{draft_value}
 use Rattle.dots_settings.specs.Settings.{IsSettings}
-use Rattle.dots_settings.proofs.Sound.{sound_distinct, sound_few, sound_settings}
+use Rattle.dots_settings.proofs.Sound.{sound_few, sound_settings}
 use Rattle.dots_settings.proofs.draft.Draft.finish.Goals as goal
 
 pub make_rows-requires : goal.make_rows-requires
-make_rows-requires c = record { distinct = sound_distinct (draft_value c.args.self) c.requires; few = sound_few (draft_value c.args.self) c.requires }
+make_rows-requires c = sound_few (draft_value c.args.self) c.requires
 
 pub invariant_of-result : goal.invariant_of-result
 invariant_of-result c = subst IsSettings
