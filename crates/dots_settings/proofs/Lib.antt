@@ -15,3 +15,4 @@ pub mod Files
 pub mod OneForm
 pub mod OneFile
 pub mod Lookups
+mod Words

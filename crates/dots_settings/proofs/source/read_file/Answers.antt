@@ -1,6 +1,6 @@
 use Rattle.std.proofs.Common.{◌≡◌, [], length, rules, sym, ◌∙◌, arith, append-nil, vec_len}
 use Rattle.std.proofs.KnownBytes.{Consumes-trans}
-use Rattle.dots_settings.proofs.Bytes.{read_to_end, read_enough, through_to_end, through_enough}
+use Rattle.dots_settings.proofs.Bytes.{read_to_end, read_enough, through_to_end, through_enough, less_left}
 use Rattle.dots_settings.proofs.source.read_file.Goals as goal
 
 pub returns-then-count-eq0-clause-bytes : goal.returns-then-count-eq0-clause-bytes
@@ -52,3 +52,6 @@ returns-then-count-eq0-clause-later g c = rw c.loop-block.invariant.same at c.in
 
 pub returns-clause-same : goal.returns-clause-same
 returns-clause-same g c = c.loop-block.invariant.same
+
+pub loop-block-smaller : goal.loop-block-smaller
+loop-block-smaller g c = less_left 65537 _ _ c.in-Ok.count _ c.in_ok-extend_from_slice.ensures.len c.in-Ok.ensures.bound.1 c.if-count-eq0.false (rw c.len.ensures at c.loop-block-test.true)
