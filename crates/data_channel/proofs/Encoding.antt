@@ -1,11 +1,13 @@
 -- The path of a resource stays in its line, and is short.
-use Rattle.std.proofs.Common.{◌≡◌, ℕ, ◌*◌, ◌≤◌, true, false, Bool, List, [], ◌∷◌, ◌++◌, length, length-append, All, refl, inl, inr, arith}
+use Rattle.std.proofs.Common.{◌≡◌, ℕ, ◌+◌, ◌*◌, ◌<◌, ◌≤◌, true, false, Bool, List, [], ◌∷◌, ◌++◌, length, take, get_or, length-append, append_assoc, append-nil, All, refl, sym, ap, ◌∙◌, inl, inr, arith}
 use Rattle.std.specs.Prelude.{codes, ◌&&◌, nat_le, if◌then◌else◌}
 use Rattle.std.specs.Char.{is_ascii_graphic}
 use Rattle.dots_lists.specs.Name.{is_name}
 use Rattle.std.specs.List.{list_all}
 use Rattle.std.proofs.lemmas.Bool.{and_parts, and_from}
 use Rattle.std.proofs.lemmas.Bool.Decides.{nat_tests}
+use Rattle.std.proofs.lemmas.List.{take_more}
+use Rattle.std.proofs.lemmas.Grind.{flat_map-append}
 use Rattle.std.proofs.lemmas.List.Elements.{All-head, All-tail}
 use Rattle.http_cut.specs.Requests.{is_other}
 use Rattle.http_cut.specs.Reply.{is_in_line}
@@ -73,3 +75,12 @@ front_length = refl
 pub path_length : (cuid fixed name : List ℕ) → length cuid ≤ 64 → length fixed ≤ 15 → length name ≤ 64 → length (path_to cuid fixed name) ≤ 700
 path_length cuid fixed name one two three =
     omega (arith, front_length, length-append (root ++ codes "/dots-client=") (encoded cuid), length-append (root ++ codes "/dots-client=" ++ encoded cuid) fixed, length-append (root ++ codes "/dots-client=" ++ encoded cuid ++ fixed) (encoded name), encoded_length cuid, encoded_length name, one, two, three)
+
+-- ---- one byte more
+
+pub byte_added : (front name done : List ℕ) (i : ℕ) → i < length name → done ≡ front ++ encoded (take i name) → done ++ encode_byte (get_or name i 0) ≡ front ++ encoded (take (i + 1) name)
+byte_added front name done i few before =
+    let byte = get_or name i 0 in
+    let more : encoded (take (i + 1) name) ≡ encoded (take i name) ++ encode_byte byte =
+    ap encoded (take_more name i 0 few) ∙ flat_map-append encode_byte (take i name) (byte ∷ []) ∙ ap (λ (y : List ℕ). encoded (take i name) ++ y) (append-nil (encode_byte byte)) in
+    ap (λ (y : List ℕ). y ++ encode_byte byte) before ∙ append_assoc front (encoded (take i name)) (encode_byte byte) ∙ ap (λ (y : List ℕ). front ++ y) (sym more)

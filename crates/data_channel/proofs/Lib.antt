@@ -5,3 +5,4 @@ pub mod Encoding
 pub mod Fronts
 pub mod Grammar
 pub mod Meaning
+mod Putting

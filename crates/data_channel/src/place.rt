@@ -140,8 +140,8 @@ fn below_client<'a>(client: &'a [u8], below: &'a [u8]) -> Option<Place<'a>>
 fn client_place(rest: &[u8]) -> Option<Place<'_>>
     ensures { option_map place_view result ≡ client_place rest.now }
 {
-    let end = place_of_first(rest, b'/');
-    below_client(&rest[..end], &rest[end..])
+    let (client, below) = rest.split_at(place_of_first(rest, b'/'));
+    below_client(client, below)
 }
 
 fn below_root(below: &[u8]) -> Option<Place<'_>>

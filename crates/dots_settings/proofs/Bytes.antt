@@ -1,5 +1,5 @@
 -- The bytes of a source that are read.
-use Rattle.std.proofs.Common.{◌≡◌, ◌≤◌, ◌<◌, ◌+◌, ◌^◌, ℕ, List, inl, inr, ◌++◌, length, take, Option, Some, None, IfSome, sym, ap, ◌∙◌, arith, append-nil}
+use Rattle.std.proofs.Common.{◌≡◌, ◌≤◌, ◌<◌, ◌+◌, ◌-◌, ◌^◌, ℕ, List, inl, inr, ◌++◌, length, take, Option, Some, None, IfSome, sym, ap, ◌∙◌, arith, append-nil}
 use Rattle.std.proofs.lemmas.List.{take_all, take-append-le}
 use Rattle.std.specs.Io.KnownBytes.{Consumes, IsAtEnd}
 use Rattle.dots_settings.specs.File.{IsReadThrough}
@@ -28,3 +28,7 @@ pub through_enough : (old new : Option (List ℕ)) (bytes : List ℕ) → Consum
 through_enough None new bytes c long = tt
 through_enough (Some xs) None bytes c long = absurd c
 through_enough (Some xs) (Some ys) bytes c long = record { read = bytes; split = c; enough = inr long }
+
+-- less is left to read where something was
+pub less_left : (most old new count size : ℕ) → new ≡ old + size → count ≡ size → (count ≡ 0 → ⊥) → old < most → most - new < most - old
+less_left most old new count size is came some few = omega arith

@@ -14,3 +14,4 @@ pub mod Files
 pub mod OneForm
 pub mod OneFile
 pub mod Lookups
+mod Words

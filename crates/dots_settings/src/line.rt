@@ -67,8 +67,10 @@ fn prefix_of(fields: &[u8]) -> Option<Form<'_>>
     if !is_domain_name(name) {
         return None;
     }
-    let prefix = parse_prefix(text).ok()?;
-    Some(Form::Prefix { name, prefix })
+    match parse_prefix(text) {
+        Ok(prefix) => Some(Form::Prefix { name, prefix }),
+        Err(_) => None,
+    }
 }
 
 fn client_of(fields: &[u8]) -> Option<Form<'_>>
@@ -97,8 +99,10 @@ fn name_of(fields: &[u8]) -> Option<Form<'_>>
     if !is_name(fqdn) {
         return None;
     }
-    let prefix = parse_prefix(text).ok()?;
-    Some(Form::Name { fqdn, prefix })
+    match parse_prefix(text) {
+        Ok(prefix) => Some(Form::Name { fqdn, prefix }),
+        Err(_) => None,
+    }
 }
 
 fn ceiling_of(fields: &[u8]) -> Option<Form<'_>>

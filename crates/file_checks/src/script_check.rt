@@ -43,7 +43,6 @@ pub fn check_script<S: Source>(alloc: Global, source: &mut S) -> Result<Checked,
 }
 
 /// The same of these bytes.
-#[tactic(auto, using(crate::proofs::Passing::passed_none, crate::proofs::Passing::passes, crate::proofs::Passing::passed_all, crate::proofs::Passing::passed_fault))]
 fn check_lines(alloc: Global, script: &[u8]) -> Result<Checked, NoMemory>
     ensures { IfOk result (ChecksScript script.now) }
 {
