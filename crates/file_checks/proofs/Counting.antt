@@ -3,7 +3,7 @@ use Rattle.std.proofs.Common.{◌≡◌, ℕ, ◌+◌, ◌≤◌, zero, suc, add
 use Rattle.std.specs.Prelude.{slice_get}
 use Rattle.std.specs.Option.{option_map}
 use Rattle.ip_scope.specs.Prefix.{PrefixValue}
-use Rattle.dots_settings.specs.Settings.{DomainValue}
+use Rattle.dots_settings.specs.declared.domains.DomainRow.{DomainRow}
 use Rattle.file_checks.specs.Summary.{prefixes_line}
 
 abbrev rest_of : {A : Type 0} → List A → List A
@@ -32,7 +32,7 @@ drop_beyond zero m (x ∷ xs) none few = absurd (cc none)
 drop_beyond (suc n) zero (x ∷ xs) none few = absurd (omega (arith, few))
 drop_beyond (suc n) (suc m) (x ∷ xs) none few = drop_beyond n m xs none (omega (arith, few))
 
-take_by : (n : ℕ) (domains : List DomainValue) (name : List ℕ) (prefixes : List PrefixValue) → option_map (λ domain. domain.name) (slice_get domains n) ≡ Some name
+take_by : (n : ℕ) (domains : List DomainRow) (name : List ℕ) (prefixes : List PrefixValue) → option_map (λ domain. domain.name) (slice_get domains n) ≡ Some name
     → option_map (λ domain. domain.prefixes) (slice_get domains n) ≡ Some prefixes
     → flat_map prefixes_line (take (suc n) domains) ≡ flat_map prefixes_line (take n domains) ++ prefixes_line (record { name = name; prefixes = prefixes })
 take_by n [] name prefixes is are = absurd (cc is)
@@ -46,7 +46,7 @@ take_by (suc n) (domain ∷ domains) name prefixes is are =
     ∙ sym (append_assoc (prefixes_line domain) (flat_map prefixes_line (take n domains)) (prefixes_line (record { name = name; prefixes = prefixes })))
 
 -- the lines of the domains, with one more
-pub one_more : (n : ℕ) (domains : List DomainValue) (name : List ℕ) (prefixes : List PrefixValue) (old new front : List ℕ)
+pub one_more : (n : ℕ) (domains : List DomainRow) (name : List ℕ) (prefixes : List PrefixValue) (old new front : List ℕ)
     → option_map (λ domain. domain.name) (slice_get domains n) ≡ Some name → option_map (λ domain. domain.prefixes) (slice_get domains n) ≡ Some prefixes
     → new ≡ old ++ prefixes_line (record { name = name; prefixes = prefixes }) → old ≡ front ++ flat_map prefixes_line (take n domains)
     → new ≡ front ++ flat_map prefixes_line (take (n + 1) domains)

@@ -3,14 +3,15 @@ use Rattle.std.specs.Prelude.{ℕ, Bool, true, false, List, ◌++◌, length, fl
 use Rattle.dots_settings.specs.declared.limits.Limits.{Limits}
 use Rattle.dots_settings.specs.declared.peer.Role.{Role}
 use Rattle.dots_settings.specs.declared.peer.Role.TheVariants as role
-use Rattle.dots_settings.specs.Settings.{SettingsValue, DomainValue}
+use Rattle.dots_settings.specs.Settings.{SettingsValue}
+use Rattle.dots_settings.specs.declared.domains.DomainRow.{DomainRow}
 
 -- `what: N`
 abbrev pub count_line : List ℕ → ℕ → List ℕ
 count_line what number = what ++ codes ": " ++ decimal number ++ codes "\n"
 
 -- `prefixes of NAME: N`
-abbrev pub prefixes_line : DomainValue → List ℕ
+abbrev pub prefixes_line : DomainRow → List ℕ
 prefixes_line domain = codes "prefixes of " ++ domain.name ++ codes ": " ++ decimal (length domain.prefixes) ++ codes "\n"
 
 abbrev pub is_client : Role → Bool
