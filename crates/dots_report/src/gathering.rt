@@ -1,6 +1,6 @@
 //! Writing texts to a sink, in blocks.
 
-ghost use Rattle.std.specs.Prelude.{◌≡◌, ◌≤◌, ◌+◌, ◌⊎◌, ℕ, List, [], ◌++◌, length, flat_map, true, false, OnOk, OnErr};
+ghost use Rattle.std.specs.Prelude.{◌≡◌, ◌≤◌, ◌<◌, ◌+◌, ◌⊎◌, ℕ, List, [], ◌++◌, length, flat_map, true, false, OnOk, OnErr};
 ghost use Rattle.std.specs.Io.KnownBytes.{Appends};
 ghost use Rattle.dots_host.specs.Causes.{HasCause};
 ghost use Rattle.dots_host.specs.Writing.{AppendsBeginning};
@@ -54,8 +54,10 @@ impl Gatherer {
         self.size = end;
     }
 
+    /// Whether the block has room for the bytes.
     fn has_room(&self, bytes: &[u8]) -> bool
-        ensures { result ≡ true → length self.now.block + length bytes.now ≤ BLOCK }
+        ensures room { result ≡ true → length self.now.block + length bytes.now ≤ BLOCK }
+        ensures none { result ≡ false → BLOCK < length self.now.block + length bytes.now }
     {
         bytes.len() <= BLOCK - self.size
     }
