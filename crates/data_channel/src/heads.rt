@@ -32,32 +32,19 @@ fn resource_of(alloc: Global, place: &Place) -> Result<Resource, RestReject>
 {
     match place.kind {
         Kind::Root => Ok(Resource::Root),
-        Kind::Client => match name_in_path(alloc, place.client) {
-            Ok(cuid) => Ok(Resource::Client(cuid)),
-            Err(reject) => Err(reject),
-        },
-        Kind::Aliases => match name_in_path(alloc, place.client) {
-            Ok(cuid) => Ok(Resource::Aliases(cuid)),
-            Err(reject) => Err(reject),
-        },
-        Kind::Alias => match name_in_path(alloc, place.client) {
-            Ok(cuid) => match name_in_path(alloc, place.name) {
-                Ok(name) => Ok(Resource::Alias(cuid, name)),
-                Err(reject) => Err(reject),
-            },
-            Err(reject) => Err(reject),
-        },
-        Kind::Acls => match name_in_path(alloc, place.client) {
-            Ok(cuid) => Ok(Resource::Acls(cuid)),
-            Err(reject) => Err(reject),
-        },
-        Kind::Acl => match name_in_path(alloc, place.client) {
-            Ok(cuid) => match name_in_path(alloc, place.name) {
-                Ok(name) => Ok(Resource::Acl(cuid, name)),
-                Err(reject) => Err(reject),
-            },
-            Err(reject) => Err(reject),
-        },
+        Kind::Client => Ok(Resource::Client(name_in_path(alloc, place.client)?)),
+        Kind::Aliases => Ok(Resource::Aliases(name_in_path(alloc, place.client)?)),
+        Kind::Alias => {
+            let cuid = name_in_path(alloc, place.client)?;
+            let name = name_in_path(alloc, place.name)?;
+            Ok(Resource::Alias(cuid, name))
+        }
+        Kind::Acls => Ok(Resource::Acls(name_in_path(alloc, place.client)?)),
+        Kind::Acl => {
+            let cuid = name_in_path(alloc, place.client)?;
+            let name = name_in_path(alloc, place.name)?;
+            Ok(Resource::Acl(cuid, name))
+        }
     }
 }
 

@@ -49,10 +49,8 @@ fn answer(
     ensures { UnlessNoMemory result (IsAnswer wanted (request_view request.now).media request.now.body.now result) }
 {
     if is_yang_json(&request.media) {
-        return match json_of(alloc, room, request.body) {
-            Ok(value) => with_body(alloc, wanted, &value),
-            Err(reject) => Err(reject),
-        };
+        let value = json_of(alloc, room, request.body)?;
+        return with_body(alloc, wanted, &value);
     }
     Err(RestReject::Media)
 }

@@ -4,7 +4,7 @@ use Rattle.serde_json.specs.View.{view}
 use Rattle.data_channel.proofs.Answering.{value_answers}
 use Rattle.data_channel.proofs.reading.answer.Goals as goal
 
-pub returns-in-Ok : goal.returns-in-Ok
-returns-in-Ok c =
+pub returns-then-is_yang_json : goal.returns-then-is_yang_json
+returns-then-is_yang_json c =
     let media = option_map (λ media. media.now) c.args.request.now.media in
-    value_answers c.args.wanted media c.args.request.now.body.now (view c.in-Ok.value) c.with_body.result (sym c.is_yang_json.ensures ∙ c.if-is_yang_json.true) c.in-Ok.ensures.found c.with_body.ensures
+    value_answers c.args.wanted media c.args.request.now.body.now (view c.in_ok-value.value) c.with_body.result (sym c.is_yang_json.ensures ∙ c.if-is_yang_json.true) c.in_ok-value.ensures.found c.with_body.ensures
