@@ -19,8 +19,8 @@ loop-item-preserved c = rw c.in_ok-push-in-Ok.ensures.ok (one_more (prefix_of th
 pub returns-in-Err : goal.returns-in-Err
 returns-in-Err c =
     fails c.in-Err.fault _ (
-      few_read the.TargetPrefix 16 (prefix_of the.TargetPrefix) (view c.in-Some.value.now) (items_view c.in-Some-few_items.items.now) (sym (ap found c.in-Some.is)) c.in-Some-few_items.ensures
-      ∙ fault_read (prefix_of the.TargetPrefix) c.in-Some-few_items.items.now c.loop-item.item-index c.item-item.result c.loop-item.prefixes c.in-Err.fault c.loop-item-test.true c.item-item.is (sym c.in-Err.ensures) c.loop-item.invariant
+    few_read the.TargetPrefix 16 (prefix_of the.TargetPrefix) (view c.in-Some.value.now) (items_view c.in-Some-few_items.items.now) (sym (ap found c.in-Some.is)) c.in-Some-few_items.ensures
+    ∙ fault_read (prefix_of the.TargetPrefix) c.in-Some-few_items.items.now c.loop-item.item-index c.item-item.result c.loop-item.prefixes c.in-Err.fault c.loop-item-test.true c.item-item.is (sym c.in-Err.ensures) c.loop-item.invariant
     )
 
 pub returns : goal.returns

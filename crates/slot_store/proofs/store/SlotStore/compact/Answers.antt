@@ -38,7 +38,7 @@ returns-in-Ok g c =
     let next = ap (λ (store : JournalValue). record store { selector = other_selector store.selector; used = length c.args.keep.now }) c.self.view_is in
     let chosen = ap (λ (selector : ℕ). record { slots = c.self.inside.slots; selector = selector; used = length c.args.keep.now }) c.other_selector-selector.ensures in
     let moved = subst (λ (store : JournalValue). (seen : ℕ → ℕ) → RestsWith (g.D.Disk.media c.args.disk.now) (Is seen) → RestsWith (g.D.Disk.media c.move_half.new.disk) (IsMoved store.slots (store.selector % 2) c.args.keep.now seen (other_selector store.selector)))
-        c.self.view_is c.in-Ok.ensures.moved in
+    c.self.view_is c.in-Ok.ensures.moved in
     record {
       next = chosen ∙ next;
       same = tt;
