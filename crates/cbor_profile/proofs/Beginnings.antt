@@ -2,11 +2,11 @@
 use Rattle.std.proofs.Common.{◌≡◌, ℕ, suc, zero, ◌+◌, ◌*◌, ◌/◌, ◌%◌, ◌<◌, ◌≤◌, Bool, true, false, List, [], ◌∷◌, ◌++◌, refl, sym, ◌∙◌, subst, inl, inr, arith}
 use Rattle.std.specs.Prelude.{◌⊎◌}
 use Rattle.std.proofs.lemmas.Bool.{lt-ltb, le-ltb, le-leb, lt-leb, cases_lt, cases_eq, ne_eqb, eq-eqb}
-use Rattle.cbor_items.specs.declared.major.Major.{Major}
-use Rattle.cbor_items.specs.declared.major.Major.TheVariants as major_type
+use Rattle.cbor_profile.specs.declared.major.Major.{Major}
+use Rattle.cbor_profile.specs.declared.major.Major.TheVariants as major_type
 use Rattle.cbor_profile.specs.declared.head.Start.{Start}
 use Rattle.cbor_profile.specs.declared.head.Start.TheVariants as start
-use Rattle.cbor_items.specs.Parts.{number_of}
+use Rattle.cbor_profile.specs.Parts.{number_of}
 use Rattle.cbor_profile.specs.Reading.{major_of, simple_start, sized_start, start_with}
 use Rattle.cbor_profile.proofs.Firsts.{HasArgument}
 

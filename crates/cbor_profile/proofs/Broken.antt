@@ -5,11 +5,11 @@ use Rattle.std.proofs.lemmas.Bool.{cases_eq}
 use Rattle.std.proofs.lemmas.List.{length-append}
 use Rattle.cbor_profile.specs.declared.fault.CborFault.{CborFault}
 use Rattle.cbor_profile.specs.declared.fault.CborFault.TheVariants.{Short, Reserved, Unsupported, Deep}
-use Rattle.cbor_items.specs.declared.major.Major.{Major}
-use Rattle.cbor_items.specs.declared.major.Major.TheVariants as major_type
+use Rattle.cbor_profile.specs.declared.major.Major.{Major}
+use Rattle.cbor_profile.specs.declared.major.Major.TheVariants as major_type
 use Rattle.cbor_profile.specs.declared.head.Start.{Start}
-use Rattle.cbor_items.specs.Parts.{number_of}
-use Rattle.cbor_items.specs.Tree.{Tree, unsigned, negative, byte_string, text, array, mapping, tag, items_of, pairs_of}
+use Rattle.cbor_profile.specs.Parts.{number_of}
+use Rattle.cbor_profile.specs.Tree.{Tree, unsigned, negative, byte_string, text, array, mapping, tag, items_of, pairs_of}
 use Rattle.cbor_profile.specs.Spelling.{begin, SpellsWithin}
 use Rattle.cbor_profile.specs.Breaking.{IsReserved, IsUnsupported, IsNesting, BreaksPlain, BreaksNest, GoesOn, IsNumber, IsStringType, BreaksWithin}
 use Rattle.cbor_profile.specs.Reading.{parts_of, Read, ◌>>=◌, argument_at, string_at, parts_at, items_at, open_items_at, pairs_at, open_pairs_at, major_of, start_of, simple, value_at, indefinite_at, begun_at, item_at}

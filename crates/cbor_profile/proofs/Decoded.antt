@@ -3,10 +3,10 @@ use Rattle.std.proofs.Common.{◌≢◌, ℕ, List, Result, Ok, Err, refl, subst
 use Rattle.std.specs.Prelude.{IfOk, IfErr}
 use Rattle.cbor_profile.specs.declared.fault.CborFault.{CborFault}
 use Rattle.cbor_profile.specs.declared.fault.CborFault.TheVariants.{Short, Reserved, NotUtf8, Duplicate, Unsupported, Deep, Trailing, NoMemory}
-use Rattle.cbor_items.specs.declared.item.Item.{Item}
-use Rattle.cbor_items.specs.Tree.{Tree}
-use Rattle.cbor_items.specs.Valid.{IsValid}
-use Rattle.cbor_items.specs.View.{tree_of}
+use Rattle.cbor_profile.specs.declared.item.Item.{Item}
+use Rattle.cbor_profile.specs.Tree.{Tree}
+use Rattle.cbor_profile.specs.Valid.{IsValid}
+use Rattle.cbor_profile.specs.View.{tree_of}
 use Rattle.cbor_profile.specs.Spelling.{Spells}
 use Rattle.cbor_profile.specs.Breaking.{Refuses}
 use Rattle.cbor_profile.specs.Reading.{Gives, whole}

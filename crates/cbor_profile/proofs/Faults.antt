@@ -8,9 +8,9 @@ use Rattle.std.proofs.lemmas.List.{length-append, nil_from_length}
 use Rattle.std.proofs.lemmas.Str.{is_utf8-from_IsUtf8}
 use Rattle.cbor_profile.specs.declared.fault.CborFault.{CborFault}
 use Rattle.cbor_profile.specs.declared.fault.CborFault.TheVariants.{Short, Reserved, NotUtf8}
-use Rattle.cbor_items.specs.declared.major.Major.{Major}
-use Rattle.cbor_items.specs.declared.major.Major.TheVariants as major_type
-use Rattle.cbor_items.specs.Parts.{number_of}
+use Rattle.cbor_profile.specs.declared.major.Major.{Major}
+use Rattle.cbor_profile.specs.declared.major.Major.TheVariants as major_type
+use Rattle.cbor_profile.specs.Parts.{number_of}
 use Rattle.cbor_profile.specs.Spelling.{width, break, IsHead, AreParts}
 use Rattle.cbor_profile.specs.Breaking.{IsCut, BreaksString, BreaksPart}
 use Rattle.cbor_profile.specs.Reading.{Read, ◌>>=◌, argument_at, number_at, content_at, checked, string_at, is_part, parts_at}

@@ -3,12 +3,12 @@ use Rattle.std.proofs.Common.{◌≡◌, ℕ, suc, zero, ◌+◌, ◌*◌, ◌-�
 use Rattle.std.specs.Prelude.{◌==◌, ◌⊎◌}
 use Rattle.std.proofs.lemmas.Bool.{lt-ltb, cases_eq, ne_eqb}
 use Rattle.cbor_profile.specs.declared.fault.CborFault.TheVariants.{Short, Reserved}
-use Rattle.cbor_items.specs.declared.major.Major.{Major}
-use Rattle.cbor_items.specs.declared.major.Major.TheVariants as major_type
+use Rattle.cbor_profile.specs.declared.major.Major.{Major}
+use Rattle.cbor_profile.specs.declared.major.Major.TheVariants as major_type
 use Rattle.cbor_profile.specs.declared.head.Start.{Start}
 use Rattle.cbor_profile.specs.declared.head.Start.TheVariants as start
-use Rattle.cbor_items.specs.Parts.{number_of}
-use Rattle.cbor_items.specs.Tree.{Tree}
+use Rattle.cbor_profile.specs.Parts.{number_of}
+use Rattle.cbor_profile.specs.Tree.{Tree}
 use Rattle.cbor_profile.specs.Spelling.{break, IsArgument, itself, follows}
 use Rattle.cbor_profile.specs.Reading.{major_of, start_with, start_of, begun_at, value_at, indefinite_at, item_with, item_at, parts_of}
 use Rattle.cbor_profile.proofs.Results.{not_both}

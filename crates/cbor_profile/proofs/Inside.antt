@@ -3,14 +3,14 @@ use Rattle.std.proofs.Common.{◌≡◌, ℕ, zero, suc, ◌-◌, ◌/◌, ◌%�
 use Rattle.std.proofs.lemmas.Bool.{lt-ltb}
 use Rattle.cbor_profile.specs.declared.fault.CborFault.{CborFault}
 use Rattle.cbor_profile.specs.declared.fault.CborFault.TheVariants.{Short, Reserved, Unsupported}
-use Rattle.cbor_items.specs.declared.major.Major.{Major}
-use Rattle.cbor_items.specs.declared.major.Major.TheVariants as major_type
+use Rattle.cbor_profile.specs.declared.major.Major.{Major}
+use Rattle.cbor_profile.specs.declared.major.Major.TheVariants as major_type
 use Rattle.cbor_profile.specs.declared.head.Start.{Start}
-use Rattle.cbor_items.specs.declared.item.Item.{Unsigned}
+use Rattle.cbor_profile.specs.declared.item.Item.{Unsigned}
 use Rattle.cbor_profile.specs.declared.head.Start.TheVariants as start
-use Rattle.cbor_items.specs.Tree.{Tree, unsigned}
-use Rattle.cbor_items.specs.View.{tree_of}
-use Rattle.cbor_items.proofs.Views.{tree_of-Unsigned}
+use Rattle.cbor_profile.specs.Tree.{Tree, unsigned}
+use Rattle.cbor_profile.specs.View.{tree_of}
+use Rattle.cbor_profile.proofs.Views.{tree_of-Unsigned}
 use Rattle.cbor_profile.specs.Reading.{Gives, argument_at, value_at, indefinite_at, begun_at, start_with, start_of, item_with, item_at, parts_of}
 
 item_parts : (levels end : ℕ) (bytes : List ℕ) → item_at levels end bytes ≡ item_with (parts_of levels end) end bytes

@@ -8,14 +8,14 @@ use Rattle.std.specs.Ordering.{is_eq}
 use Rattle.std.proofs.lemmas.Bool.{cases_Bool}
 use Rattle.std.proofs.lemmas.List.Elements.{All-from_recursion, recursion_from_All}
 use Rattle.std.proofs.lemmas.List.Sorted.{All-permutation, IsPermutation-sym}
-use Rattle.cbor_items.specs.Tree.{Tree}
-use Rattle.cbor_items.specs.Canon.{canon}
-use Rattle.cbor_items.specs.Valid.{IsSound}
+use Rattle.cbor_profile.specs.Tree.{Tree}
+use Rattle.cbor_profile.specs.Canon.{canon}
+use Rattle.cbor_profile.specs.Valid.{IsSound}
 use Rattle.cbor_profile.specs.Breaking.{HasKey, AreDistinct}
-use Rattle.cbor_items.specs.Keys.{key_order, has_key, put}
-use Rattle.cbor_items.proofs.Compared.{same_from_order}
-use Rattle.cbor_items.proofs.KeyOrder.{order_self}
-use Rattle.cbor_items.proofs.Places.{KeySound, or_true}
+use Rattle.cbor_profile.specs.Keys.{key_order, has_key, put}
+use Rattle.cbor_profile.proofs.Compared.{same_from_order}
+use Rattle.cbor_profile.proofs.KeyOrder.{order_self}
+use Rattle.cbor_profile.proofs.Places.{KeySound, or_true}
 use Rattle.cbor_profile.proofs.Ordered.{put_permutes, Runs}
 use Rattle.cbor_profile.proofs.Spellings.{one_spelling}
 

@@ -1,12 +1,12 @@
 -- What is within some levels, by its parts.
 use Rattle.std.proofs.Common.{◌≡◌, ℕ, zero, suc, ◌+◌, ◌-◌, ◌^◌, ◌<◌, ◌≤◌, List, [], ◌∷◌, length, get_or, drop, sym, subst, arith}
-use Rattle.cbor_items.specs.declared.item.Item.{Item}
-use Rattle.cbor_items.specs.Tree.{Tree, array, mapping}
-use Rattle.cbor_items.specs.Valid.{IsBefore, items_depth}
-use Rattle.cbor_items.specs.Canon.{canon}
-use Rattle.cbor_items.specs.View.{tree_of}
+use Rattle.cbor_profile.specs.declared.item.Item.{Item}
+use Rattle.cbor_profile.specs.Tree.{Tree, array, mapping}
+use Rattle.cbor_profile.specs.Valid.{IsBefore, items_depth}
+use Rattle.cbor_profile.specs.Canon.{canon}
+use Rattle.cbor_profile.specs.View.{tree_of}
 use Rattle.cbor_profile.specs.Within.{IsWithin, AreWithin, ArePairsWithin}
-use Rattle.cbor_items.proofs.Views.{items_view, pairs_view, dropped, count_is, pair_count_is}
+use Rattle.cbor_profile.proofs.Views.{items_view, pairs_view, dropped, count_is, pair_count_is}
 
 pub array_within : (levels : ℕ) (t : Tree) (xs : List Item) → t ≡ array (items_view xs) → 0 < levels → length xs < 2 ^ 64 → AreWithin (levels - 1) (items_view xs) → IsWithin levels t
 array_within levels t xs is lt short h =

@@ -1,14 +1,14 @@
 -- A reading of a string or of parts, as one of the item that they make.
 use Rattle.std.proofs.Common.{◌≡◌, ℕ, List, Ok, sym, ap, ◌∙◌}
 use Rattle.cbor_profile.specs.declared.fault.CborFault.{CborFault}
-use Rattle.cbor_items.specs.declared.item.Item.{Bytes, Text, Array, Map}
-use Rattle.cbor_items.specs.declared.item.ItemList.{ItemList}
-use Rattle.cbor_items.specs.declared.item.PairList.{PairList}
-use Rattle.cbor_items.specs.Tree.{Tree, byte_string, text}
-use Rattle.cbor_items.specs.View.{tree_of, trees, tree_pairs}
+use Rattle.cbor_profile.specs.declared.item.Item.{Bytes, Text, Array, Map}
+use Rattle.cbor_profile.specs.declared.item.ItemList.{ItemList}
+use Rattle.cbor_profile.specs.declared.item.PairList.{PairList}
+use Rattle.cbor_profile.specs.Tree.{Tree, byte_string, text}
+use Rattle.cbor_profile.specs.View.{tree_of, trees, tree_pairs}
 use Rattle.cbor_profile.specs.Reading.{Read, Fails, as_bytes, as_text, as_array, as_map}
 use Rattle.cbor_profile.proofs.Loops.{fails_then}
-use Rattle.cbor_items.proofs.Views.{tree_of-Bytes, tree_of-Text, tree_of-Array, tree_of-Map}
+use Rattle.cbor_profile.proofs.Views.{tree_of-Bytes, tree_of-Text, tree_of-Array, tree_of-Map}
 
 made : (t u : Tree) (rest : List ℕ) (read : Read Tree) → read ≡ Ok (u, rest) → t ≡ u → read ≡ Ok (t, rest)
 made t u rest read good is = good ∙ ap (λ (t : Tree). Ok (t, rest)) (sym is)

@@ -2,8 +2,8 @@
 use Rattle.std.proofs.Common.{◌≡◌, ℕ, zero, suc, List, [], ◌∷◌, ◌++◌, length, Some, Ok, refl, sym, ap, ◌∙◌, subst, inl, inr, arith, append_assoc}
 use Rattle.std.specs.Prelude.{◌⊎◌}
 use Rattle.std.proofs.lemmas.List.{append-nil}
-use Rattle.cbor_items.specs.declared.major.Major.TheVariants as major_type
-use Rattle.cbor_items.specs.Tree.{Tree, unsigned, negative, byte_string, text, array, mapping, tag, boolean, null, Trees, Pairs, count}
+use Rattle.cbor_profile.specs.declared.major.Major.TheVariants as major_type
+use Rattle.cbor_profile.specs.Tree.{Tree, unsigned, negative, byte_string, text, array, mapping, tag, boolean, null, Trees, Pairs, count}
 use Rattle.cbor_profile.specs.Spelling.{begin, break, SpellsItems, SpellsPairs, Holds, IsInOrder, SpellsPlain, SpellsNest, SpellsWithin}
 use Rattle.cbor_profile.specs.Reading.{Read, argument_at, items_at, pairs_at, value_at, indefinite_at, item_at, start_with}
 use Rattle.cbor_profile.proofs.Firsts.{open_begins, Starts, read_starts}
@@ -11,7 +11,7 @@ use Rattle.cbor_profile.proofs.Again.{argument_again, head_begins, plain_again, 
 use Rattle.cbor_profile.proofs.Ordered.{Runs, in_order_runs}
 
 pub map_runs : (read : List (Tree × Tree)) (ps : Pairs) (h : IsInOrder read ps) → Runs [] read h.sorted
-map_runs read ps h = in_order_runs read [] h.sorted tt h.same (subst (λ (q : Pairs). Rattle.cbor_items.specs.Valid.KeysRise q) h.is h.rise)
+map_runs read ps h = in_order_runs read [] h.sorted tt h.same (subst (λ (q : Pairs). Rattle.cbor_profile.specs.Valid.KeysRise q) h.is h.rise)
 
 abbrev pub Reads : (List ℕ → Tree → Type 0) → (List ℕ → Read Tree) → Type 0
 Reads Part read = (bytes : List ℕ) (t : Tree) (rest : List ℕ) → Part bytes t → read (bytes ++ rest) ≡ Ok (t, rest)

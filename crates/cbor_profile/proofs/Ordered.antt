@@ -10,11 +10,11 @@ use Rattle.std.proofs.lemmas.List.{append-nil}
 use Rattle.std.proofs.lemmas.List.Sums.{sum_by-cons}
 use Rattle.std.proofs.lemmas.List.Sorted.{IsPermutation-refl, IsPermutation-sym, IsPermutation-trans, IsPermutation-cons, IsPermutation-middle, IsPermutation-append_left, sum_by-IsPermutation, All-permutation}
 use Rattle.std.proofs.lemmas.List.Elements.{All-from_recursion, recursion_from_All}
-use Rattle.cbor_items.specs.Tree.{Tree, pairs_of}
-use Rattle.cbor_items.specs.Canon.{canon}
-use Rattle.cbor_items.specs.Valid.{IsBefore, RiseFrom}
-use Rattle.cbor_items.specs.Keys.{key_order, has_key, put}
-use Rattle.cbor_items.proofs.KeyOrder.{after_nothing, order_then, order_flip, order_congr, order_self}
+use Rattle.cbor_profile.specs.Tree.{Tree, pairs_of}
+use Rattle.cbor_profile.specs.Canon.{canon}
+use Rattle.cbor_profile.specs.Valid.{IsBefore, RiseFrom}
+use Rattle.cbor_profile.specs.Keys.{key_order, has_key, put}
+use Rattle.cbor_profile.proofs.KeyOrder.{after_nothing, order_then, order_flip, order_congr, order_self}
 
 less_greater : (o : Ordering) → o ≡ Less → o ≡ Greater → ⊥
 less_greater o e f = cc

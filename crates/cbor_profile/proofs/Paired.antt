@@ -2,18 +2,18 @@
 use Rattle.std.proofs.Common.{◌≡◌, ℕ, ◌-◌, true, false, List, [], length, Result, Ok, Err, IfOk, refl, sym, ap, subst}
 use Rattle.std.specs.Borrow.{Bor}
 use Rattle.std.specs.List.{AllByRecursion}
-use Rattle.cbor_items.specs.declared.item.Item.{Item}
+use Rattle.cbor_profile.specs.declared.item.Item.{Item}
 use Rattle.cbor_profile.specs.Reading.{item_read, Read, Fails, Gives, item_at, pair_at}
-use Rattle.cbor_items.specs.View.{tree_of}
+use Rattle.cbor_profile.specs.View.{tree_of}
 use Rattle.cbor_profile.specs.declared.fault.CborFault.{CborFault}
 use Rattle.cbor_profile.specs.declared.fault.CborFault.TheVariants.{Duplicate}
-use Rattle.cbor_items.specs.Tree.{Tree, pairs_of}
-use Rattle.cbor_items.specs.Valid.{IsSound, KeysRise}
-use Rattle.cbor_items.specs.declared.gathering.Gathered.{Gathered}
-use Rattle.cbor_items.specs.Gathering.{gathered, IsGathered, IsKept}
-use Rattle.cbor_items.specs.Keys.{has_key, put}
+use Rattle.cbor_profile.specs.Tree.{Tree, pairs_of}
+use Rattle.cbor_profile.specs.Valid.{IsSound, KeysRise}
+use Rattle.cbor_profile.specs.declared.gathering.Gathered.{Gathered}
+use Rattle.cbor_profile.specs.Gathering.{gathered, IsGathered, IsKept}
+use Rattle.cbor_profile.specs.Keys.{has_key, put}
 use Rattle.cbor_profile.proofs.Loops.{fails_then}
-use Rattle.cbor_items.proofs.KeyOrder.{after_nothing}
+use Rattle.cbor_profile.proofs.KeyOrder.{after_nothing}
 use Rattle.cbor_profile.proofs.Ordered.{put_rises}
 use Rattle.cbor_profile.proofs.Keys.{put_sound}
 use Rattle.cbor_profile.proofs.Sound.{Held, held_front, within_sound}

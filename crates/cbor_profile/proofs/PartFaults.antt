@@ -6,10 +6,10 @@ use Rattle.std.proofs.lemmas.Bool.{eqb-false}
 use Rattle.std.proofs.lemmas.List.{length-append, nil_from_length}
 use Rattle.cbor_profile.specs.declared.fault.CborFault.{CborFault}
 use Rattle.cbor_profile.specs.declared.fault.CborFault.TheVariants.{Short, Duplicate}
-use Rattle.cbor_items.specs.Tree.{Tree, Trees, no_items, item, count}
+use Rattle.cbor_profile.specs.Tree.{Tree, Trees, no_items, item, count}
 use Rattle.cbor_profile.specs.Spelling.{break, SpellsItems, SpellsPairs}
 use Rattle.cbor_profile.specs.Breaking.{AreDistinct, BreaksPair}
-use Rattle.cbor_items.specs.Keys.{has_key, put}
+use Rattle.cbor_profile.specs.Keys.{has_key, put}
 use Rattle.cbor_profile.specs.Reading.{Read, ◌>>=◌, items_at, open_items_at, pair_at, pairs_at, open_pairs_at}
 use Rattle.cbor_profile.proofs.Results.{bind_err, err_is, not_both, chosen, broken}
 use Rattle.cbor_profile.proofs.Firsts.{Starts}
@@ -18,7 +18,7 @@ use Rattle.cbor_profile.proofs.Ordered.{Runs, runs_in_order}
 use Rattle.cbor_profile.proofs.Taken.{Took, Takes, Pair, pair_taken}
 use Rattle.cbor_profile.proofs.Faults.{end_after}
 use Rattle.cbor_profile.proofs.Sound.{Held, held_front, held_rest, PartSound, PairSound, pairs_sound}
-use Rattle.cbor_items.proofs.Places.{KeySound}
+use Rattle.cbor_profile.proofs.Places.{KeySound}
 use Rattle.cbor_profile.proofs.Keys.{key_permutation, has_true_key, fresh_not, runs_distinct, runs_sound}
 use Rattle.std.proofs.lemmas.List.Sorted.{IsPermutation-sym}
 

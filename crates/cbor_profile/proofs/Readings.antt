@@ -5,9 +5,9 @@ use Rattle.std.proofs.lemmas.Bool.{eqb-true, eqb-false, ne_eqb}
 use Rattle.std.proofs.lemmas.List.{length-append, append-nil, nil_from_length, take_at}
 use Rattle.cbor_profile.specs.declared.fault.CborFault.{CborFault}
 use Rattle.cbor_profile.specs.declared.fault.CborFault.TheVariants.{Trailing}
-use Rattle.cbor_items.specs.Tree.{Tree}
-use Rattle.cbor_items.specs.Canon.{canon}
-use Rattle.cbor_items.specs.Valid.{IsValid}
+use Rattle.cbor_profile.specs.Tree.{Tree}
+use Rattle.cbor_profile.specs.Canon.{canon}
+use Rattle.cbor_profile.specs.Valid.{IsValid}
 use Rattle.cbor_profile.specs.Spelling.{Spells, SpellsWithin}
 use Rattle.cbor_profile.specs.Breaking.{Breaks, IsTrailing, Refuses}
 use Rattle.cbor_profile.specs.Reading.{Read, item_at, whole}

@@ -5,11 +5,11 @@ use Rattle.std.proofs.lemmas.Bool.{cases_eq}
 use Rattle.std.proofs.lemmas.List.{length-append}
 use Rattle.cbor_profile.specs.declared.fault.CborFault.{CborFault}
 use Rattle.cbor_profile.specs.declared.fault.CborFault.TheVariants.{Short, Deep}
-use Rattle.cbor_items.specs.declared.major.Major.{Major}
-use Rattle.cbor_items.specs.declared.major.Major.TheVariants as major_type
+use Rattle.cbor_profile.specs.declared.major.Major.{Major}
+use Rattle.cbor_profile.specs.declared.major.Major.TheVariants as major_type
 use Rattle.cbor_profile.specs.declared.head.Start.TheVariants as start
-use Rattle.cbor_items.specs.Parts.{number_of}
-use Rattle.cbor_items.specs.Tree.{Tree, unsigned, negative, byte_string, text, array, mapping, tag, items_of, pairs_of}
+use Rattle.cbor_profile.specs.Parts.{number_of}
+use Rattle.cbor_profile.specs.Tree.{Tree, unsigned, negative, byte_string, text, array, mapping, tag, items_of, pairs_of}
 use Rattle.cbor_profile.specs.Spelling.{begin, AreParts, SpellsItems, SpellsPairs, SpellsWithin}
 use Rattle.cbor_profile.specs.Breaking.{IsNesting, IsCut, BreaksString, BreaksPart, BreaksPlain, BreaksPair, BreaksNest, GoesOn, AreDistinct, IsDeep, IsNumber, IsStringType, BreaksWithin}
 use Rattle.cbor_profile.specs.Reading.{parts_of, Read, argument_at, string_at, parts_at, items_at, open_items_at, pairs_at, open_pairs_at, start_of, start_with, value_at, indefinite_at, item_at}
@@ -197,8 +197,8 @@ held_behind bytes opening content more held is =
     (held_front (content ++ more) content more behind refl, held_rest (content ++ more) content more behind refl)
 
 module _ (levels end : ℕ) (refuse : Refuse (BreaksWithin levels) (item_at levels end) end) where
-  array_refused : (at : ℕ) (bytes : List ℕ) (f : CborFault) (ts : Rattle.cbor_items.specs.Tree.Trees) (opening content more : List ℕ) → bytes ≡ opening ++ (content ++ more)
-      → SpellsItems (SpellsWithin levels) content ts → item_at levels end more ≡ Err f → GoesOn 4 (Rattle.cbor_items.specs.Tree.count ts) opening more → item_at (suc levels) end bytes ≡ Err f
+  array_refused : (at : ℕ) (bytes : List ℕ) (f : CborFault) (ts : Rattle.cbor_profile.specs.Tree.Trees) (opening content more : List ℕ) → bytes ≡ opening ++ (content ++ more)
+      → SpellsItems (SpellsWithin levels) content ts → item_at levels end more ≡ Err f → GoesOn 4 (Rattle.cbor_profile.specs.Tree.count ts) opening more → item_at (suc levels) end bytes ≡ Err f
   unfolding start_with
   array_refused at bytes f ts opening content more is items e goes = elim goes [
     | GoesOn.definite n lt head ↦

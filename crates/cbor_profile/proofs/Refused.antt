@@ -8,15 +8,15 @@ use Rattle.std.proofs.lemmas.List.{length-append, take_at, drop_at, nil_from_len
 use Rattle.std.proofs.lemmas.Str.{IsUtf8-from_is_utf8}
 use Rattle.cbor_profile.specs.declared.fault.CborFault.{CborFault}
 use Rattle.cbor_profile.specs.declared.fault.CborFault.TheVariants.{Short, Reserved, NotUtf8, Unsupported}
-use Rattle.cbor_items.specs.declared.major.Major.{Major}
-use Rattle.cbor_items.specs.declared.major.Major.TheVariants as major_type
+use Rattle.cbor_profile.specs.declared.major.Major.{Major}
+use Rattle.cbor_profile.specs.declared.major.Major.TheVariants as major_type
 use Rattle.cbor_profile.specs.declared.head.Start.{Start}
 use Rattle.cbor_profile.specs.declared.head.Start.TheVariants as start
-use Rattle.cbor_items.specs.Parts.{number_of}
-use Rattle.cbor_items.specs.Tree.{Tree, Trees, no_items, item, count}
+use Rattle.cbor_profile.specs.Parts.{number_of}
+use Rattle.cbor_profile.specs.Tree.{Tree, Trees, no_items, item, count}
 use Rattle.cbor_profile.specs.Spelling.{width, begin, break, IsArgument, IsHead, IsString, AreParts, SpellsItems, SpellsPairs, SpellsWithin}
 use Rattle.cbor_profile.specs.Breaking.{IsReserved, IsUnsupported, BreaksString, BreaksPart, BreaksPair}
-use Rattle.cbor_items.specs.Keys.{has_key, put}
+use Rattle.cbor_profile.specs.Keys.{has_key, put}
 use Rattle.cbor_profile.specs.Reading.{Read, ◌>>=◌, argument_at, content_at, checked, string_at, is_part, parts_at, items_at, open_items_at, pair_at, pairs_at, open_pairs_at, start_of, start_with, major_of, begun_at, item_at}
 use Rattle.cbor_profile.proofs.Results.{broken, err_is}
 use Rattle.cbor_profile.proofs.Firsts.{item_begins, info_small, Starts, Starts-append}
@@ -30,7 +30,7 @@ use Rattle.cbor_profile.proofs.PartFaults.{NoEnd}
 use Rattle.cbor_profile.proofs.Faults.{end_after}
 use Rattle.std.specs.List.{AllByRecursion}
 use Rattle.std.proofs.lemmas.List.Sorted.{IsPermutation-sym}
-use Rattle.cbor_items.proofs.Places.{KeySound}
+use Rattle.cbor_profile.proofs.Places.{KeySound}
 
 pub short_end : (at end : ℕ) (bytes : List ℕ) (f : CborFault) → at + length bytes ≡ end → f ≡ Short (at + length bytes) → f ≡ Short end
 short_end at end bytes f h is = is ∙ ap Short h

@@ -8,8 +8,8 @@ use Rattle.std.proofs.lemmas.List.{length-append}
 use Rattle.std.proofs.lemmas.List.Elements.{All-from_recursion, recursion_from_All}
 use Rattle.std.proofs.lemmas.List.Sorted.{All-permutation, length_permutation}
 use Rattle.std.proofs.lemmas.Str.{IsUtf8-append}
-use Rattle.cbor_items.specs.Tree.{Tree, unsigned, negative, byte_string, text, array, mapping, tag, boolean, null, Trees, no_items, item, pairs_of, count, pair_count}
-use Rattle.cbor_items.specs.Valid.{IsSound, AreSound, ArePairsSound, depth, items_depth, pairs_depth}
+use Rattle.cbor_profile.specs.Tree.{Tree, unsigned, negative, byte_string, text, array, mapping, tag, boolean, null, Trees, no_items, item, pairs_of, count, pair_count}
+use Rattle.cbor_profile.specs.Valid.{IsSound, AreSound, ArePairsSound, depth, items_depth, pairs_depth}
 use Rattle.cbor_profile.specs.Spelling.{width, begin, break, IsArgument, itself, follows, IsHead, AreParts, SpellsString, Holds, SpellsItems, SpellsPairs, IsInOrder, SpellsPlain, SpellsNest, SpellsWithin}
 use Rattle.cbor_profile.proofs.Firsts.{Starts}
 use Rattle.cbor_profile.proofs.Beginnings.{AreBytes, AreBytes-rest}
@@ -154,7 +154,7 @@ module _ (levels : ℕ) (Part : List ℕ → Tree → Type 0) (starts : PartStar
       let some = starts_length key (starts key p.0 h.4) in
       (((one.0, two.0, one.1, two.1), rest.0), omega arith)
 
-  map_sound : (read : List (Tree × Tree)) (ps : Rattle.cbor_items.specs.Tree.Pairs) → AllByRecursion (PairSound levels) read → length read < 2 ^ 64 → IsInOrder read ps → IsSound (mapping ps) × (depth (mapping ps) ≤ suc levels)
+  map_sound : (read : List (Tree × Tree)) (ps : Rattle.cbor_profile.specs.Tree.Pairs) → AllByRecursion (PairSound levels) read → length read < 2 ^ 64 → IsInOrder read ps → IsSound (mapping ps) × (depth (mapping ps) ≤ suc levels)
   map_sound read ps all few order =
       let P : Tree × Tree → Type 0 = PairSound levels in
       let moved = recursion_from_All P order.sorted (All-permutation P read order.sorted order.same (All-from_recursion P read all)) in

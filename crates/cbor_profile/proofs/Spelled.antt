@@ -2,11 +2,11 @@
 use Rattle.std.proofs.Common.{◌≡◌, ℕ, zero, suc, ◌+◌, ◌*◌, ◌-◌, ◌/◌, ◌%◌, ◌<◌, ◌≤◌, List, [], ◌∷◌, ◌++◌, length, Option, Ok, refl, sym, ap, ◌∙◌, subst, inl, inr, arith, append_assoc}
 use Rattle.std.proofs.lemmas.Bool.{cases_eq}
 use Rattle.cbor_profile.specs.declared.fault.CborFault.TheVariants.{Short, Reserved, Unsupported, Deep}
-use Rattle.cbor_items.specs.declared.major.Major.{Major}
-use Rattle.cbor_items.specs.declared.major.Major.TheVariants as major_type
+use Rattle.cbor_profile.specs.declared.major.Major.{Major}
+use Rattle.cbor_profile.specs.declared.major.Major.TheVariants as major_type
 use Rattle.cbor_profile.specs.declared.head.Start.{Start}
-use Rattle.cbor_items.specs.Parts.{number_of}
-use Rattle.cbor_items.specs.Tree.{Tree, unsigned, negative, byte_string, text, array, mapping, tag, items_of, pairs_of, count}
+use Rattle.cbor_profile.specs.Parts.{number_of}
+use Rattle.cbor_profile.specs.Tree.{Tree, unsigned, negative, byte_string, text, array, mapping, tag, items_of, pairs_of, count}
 use Rattle.cbor_profile.specs.Spelling.{begin, break, IsHead, SpellsString, Holds, SpellsPlain, SpellsWithin}
 use Rattle.cbor_profile.specs.Reading.{parts_of, Read, ◌>>=◌, argument_at, string_at, parts_at, items_at, open_items_at, pairs_at, open_pairs_at, major_of, start_of, simple, value_at, indefinite_at, begun_at, item_at}
 use Rattle.cbor_profile.proofs.Results.{done, bind_ok, ok_is, not_both}

@@ -2,14 +2,14 @@
 use Rattle.std.proofs.Common.{◌≡◌, ℕ, zero, suc, ◌+◌, ◌^◌, ◌<◌, ◌≤◌, List, [], ◌∷◌, ◌++◌, length, refl, sym, ap, ◌∙◌, inl, inr, arith, true, false}
 use Rattle.std.proofs.lemmas.Nat.{from_be_bytes-to_be_bytes_2, from_be_bytes-to_be_bytes_4, from_be_bytes-to_be_bytes_8}
 use Rattle.std.proofs.lemmas.List.Sorted.{IsPermutation-refl}
-use Rattle.cbor_items.specs.Tree.{Tree, unsigned, negative, byte_string, text, array, mapping, tag, boolean, null, Trees, no_items, item, Pairs, no_pairs, pair, count, pair_count, pairs_of}
-use Rattle.cbor_items.specs.Head.{head, information, following}
-use Rattle.cbor_items.specs.Canon.{canon, canon_items, canon_pairs}
-use Rattle.cbor_items.specs.Valid.{IsSound, AreSound, ArePairsSound, depth, items_depth, pairs_depth}
+use Rattle.cbor_profile.specs.Tree.{Tree, unsigned, negative, byte_string, text, array, mapping, tag, boolean, null, Trees, no_items, item, Pairs, no_pairs, pair, count, pair_count, pairs_of}
+use Rattle.cbor_profile.specs.Head.{head, information, following}
+use Rattle.cbor_profile.specs.Canon.{canon, canon_items, canon_pairs}
+use Rattle.cbor_profile.specs.Valid.{IsSound, AreSound, ArePairsSound, depth, items_depth, pairs_depth}
 use Rattle.cbor_profile.specs.Spelling.{IsArgument, itself, follows, IsHead, Fits, SpellsString, Holds, SpellsItems, SpellsPairs, SpellsPlain, SpellsNest, SpellsWithin}
 use Rattle.cbor_profile.specs.Reading.{item_at}
 use Rattle.cbor_profile.proofs.Results.{ok_is}
-use Rattle.cbor_items.proofs.Heads.{Size, none, one, two, four, eight, size_of}
+use Rattle.cbor_profile.proofs.Heads.{Size, none, one, two, four, eight, size_of}
 use Rattle.cbor_profile.proofs.Nested.{within_again}
 
 argument_spells : (n info : ℕ) (bytes : List ℕ) → n < 2 ^ 64 → Size n info bytes → IsArgument info n bytes

@@ -7,12 +7,12 @@ use Rattle.std.proofs.lemmas.Bool.{ltb-true, ltb-false, eqb-true, not-false, and
 use Rattle.std.proofs.lemmas.List.{take-append-drop, length-take}
 use Rattle.std.proofs.lemmas.Str.{IsUtf8-from_is_utf8}
 use Rattle.cbor_profile.specs.declared.fault.CborFault.TheVariants.{Short, Reserved, NotUtf8, Duplicate}
-use Rattle.cbor_items.specs.declared.major.Major.{Major}
-use Rattle.cbor_items.specs.declared.major.Major.TheVariants as major_type
-use Rattle.cbor_items.specs.Parts.{number_of}
-use Rattle.cbor_items.specs.Tree.{Tree, items_of, count}
+use Rattle.cbor_profile.specs.declared.major.Major.{Major}
+use Rattle.cbor_profile.specs.declared.major.Major.TheVariants as major_type
+use Rattle.cbor_profile.specs.Parts.{number_of}
+use Rattle.cbor_profile.specs.Tree.{Tree, items_of, count}
 use Rattle.cbor_profile.specs.Spelling.{width, break, IsArgument, itself, follows, Fits, IsString, AreParts, SpellsItems, SpellsPairs}
-use Rattle.cbor_items.specs.Keys.{has_key, put}
+use Rattle.cbor_profile.specs.Keys.{has_key, put}
 use Rattle.cbor_profile.specs.Reading.{Read, ◌>>=◌, argument_at, number_at, content_at, checked, string_at, is_part, parts_at, items_at, open_items_at, pair_at, pairs_at, open_pairs_at}
 use Rattle.cbor_profile.proofs.Results.{bind_ok, ok_is, not_both, chosen, done, broken}
 use Rattle.cbor_profile.proofs.Beginnings.{AreBytes, bytes_rest}

@@ -4,7 +4,7 @@ use Rattle.std.specs.Prelude.{◌≡◌, ◌≢◌, ◌<◌, ◌≤◌, ◌⊎�
 use Rattle.std.specs.Int.{byte_len}
 use Rattle.cbor_profile.specs.declared.fault.CborFault.{CborFault}
 use Rattle.cbor_profile.specs.declared.fault.CborFault.TheVariants.{Short, Reserved, NotUtf8, Duplicate, Unsupported, Deep, Trailing}
-use Rattle.cbor_items.specs.Tree.{Tree, Trees, count}
+use Rattle.cbor_profile.specs.Tree.{Tree, Trees, count}
 use Rattle.cbor_profile.specs.Spelling.{width, IsHead, begin, break, AreParts, SpellsItems, SpellsPairs, SpellsWithin, Spells}
 
 -- Below, at is the place of the bytes in the input, which they are the end of: so at + length bytes is where the input ends.

@@ -1,3 +1,12 @@
+pub mod Canon
+pub mod Gathering
+pub mod Head
+pub mod Keys
+pub mod Kind
+pub mod Parts
+pub mod Tree
+pub mod Valid
+pub mod View
 pub mod Breaking
 pub mod FaultText
 pub mod Reading

@@ -6,16 +6,16 @@ use Rattle.std.specs.Str.{is_utf8}
 use Rattle.std.specs.Borrow.{Bor}
 use Rattle.cbor_profile.specs.declared.fault.CborFault.{CborFault}
 use Rattle.cbor_profile.specs.declared.fault.CborFault.TheVariants.{Short, Reserved, NotUtf8, Duplicate, Unsupported, Deep, Trailing, NoMemory}
-use Rattle.cbor_items.specs.declared.major.Major.{Major}
-use Rattle.cbor_items.specs.declared.major.Major.TheVariants as major_type
+use Rattle.cbor_profile.specs.declared.major.Major.{Major}
+use Rattle.cbor_profile.specs.declared.major.Major.TheVariants as major_type
 use Rattle.cbor_profile.specs.declared.head.Start.{Start}
 use Rattle.cbor_profile.specs.declared.head.Start.TheVariants as start
-use Rattle.cbor_items.specs.Tree.{Tree, unsigned, negative, byte_string, text, array, mapping, tag, boolean, null, items_of, pairs_of}
-use Rattle.cbor_items.specs.Keys.{has_key, put}
-use Rattle.cbor_items.specs.View.{tree_of}
-use Rattle.cbor_items.specs.declared.item.Item.{Item}
+use Rattle.cbor_profile.specs.Tree.{Tree, unsigned, negative, byte_string, text, array, mapping, tag, boolean, null, items_of, pairs_of}
+use Rattle.cbor_profile.specs.Keys.{has_key, put}
+use Rattle.cbor_profile.specs.View.{tree_of}
+use Rattle.cbor_profile.specs.declared.item.Item.{Item}
 use Rattle.cbor_profile.specs.Spelling.{width, break}
-use Rattle.cbor_items.specs.Parts.{number_of}
+use Rattle.cbor_profile.specs.Parts.{number_of}
 
 infixl 10 ◌>>=◌
 abbrev pub ◌>>=◌ : {A B : Type 0} → Result A CborFault → (A → Result B CborFault) → Result B CborFault

@@ -2,8 +2,8 @@
 -- and strings in parts included.
 use Rattle.std.specs.Prelude.{◌≡◌, ◌<◌, ◌≤◌, ◌⊎◌, ℕ, zero, suc, ◌+◌, ◌*◌, ◌-◌, true, false, List, [], ◌∷◌, ◌++◌, length, IsUtf8, IsPermutation, ◌==◌, if◌then◌else◌}
 use Rattle.std.specs.Int.{Width, w8, w16, w32, w64, byte_len, from_be_bytes}
-use Rattle.cbor_items.specs.Tree.{Tree, unsigned, negative, byte_string, text, array, mapping, tag, boolean, null, Trees, no_items, item, Pairs, count, pairs_of}
-use Rattle.cbor_items.specs.Valid.{KeysRise}
+use Rattle.cbor_profile.specs.Tree.{Tree, unsigned, negative, byte_string, text, array, mapping, tag, boolean, null, Trees, no_items, item, Pairs, count, pairs_of}
+use Rattle.cbor_profile.specs.Valid.{KeysRise}
 
 -- ---- heads (RFC 8949, section 3)
 

@@ -1,11 +1,11 @@
 -- What is sound and nests at most some levels deep.
 use Rattle.std.specs.Prelude.{ℕ, ◌≤◌, List, [], Option, Some, None}
 use Rattle.std.specs.Borrow.{Bor}
-use Rattle.cbor_items.specs.declared.item.Item.{Item}
-use Rattle.cbor_items.specs.Tree.{Tree, Trees, Pairs}
-use Rattle.cbor_items.specs.Canon.{canon}
-use Rattle.cbor_items.specs.Valid.{IsSound, AreSound, ArePairsSound, RiseFrom, depth, items_depth, pairs_depth}
-use Rattle.cbor_items.specs.View.{tree_of}
+use Rattle.cbor_profile.specs.declared.item.Item.{Item}
+use Rattle.cbor_profile.specs.Tree.{Tree, Trees, Pairs}
+use Rattle.cbor_profile.specs.Canon.{canon}
+use Rattle.cbor_profile.specs.Valid.{IsSound, AreSound, ArePairsSound, RiseFrom, depth, items_depth, pairs_depth}
+use Rattle.cbor_profile.specs.View.{tree_of}
 
 pub record IsWithin (levels : ℕ) (tree : Tree) : Type 0 where
   pub sound : IsSound tree

@@ -3,7 +3,7 @@
 ghost use Rattle.std.specs.Prelude.{◌≡◌, ◌/◌};
 ghost use Rattle.cbor_profile.specs.Reading.{major_of, simple_start, sized_start, start_with, start_of};
 
-use cbor_items::Major;
+use crate::major::Major;
 
 /// The first byte of an indefinite length's end (section 3.2.1).
 pub(crate) const BREAK: u8 = 0xff;

@@ -2,9 +2,9 @@
 
 ghost use Rattle.std.specs.Prelude.{◌≡◌, ◌⊎◌, ℕ, List, ◌++◌};
 ghost use Rattle.cbor_profile.specs.declared.fault.CborFault.{CborFault};
-ghost use Rattle.cbor_items.specs.Tree.{Tree};
-ghost use Rattle.cbor_items.specs.Canon.{canon};
-ghost use Rattle.cbor_items.specs.Valid.{IsValid};
+ghost use Rattle.cbor_profile.specs.Tree.{Tree};
+ghost use Rattle.cbor_profile.specs.Canon.{canon};
+ghost use Rattle.cbor_profile.specs.Valid.{IsValid};
 ghost use Rattle.cbor_profile.specs.Spelling.{Spells};
 ghost use Rattle.cbor_profile.specs.Breaking.{Breaks};
 

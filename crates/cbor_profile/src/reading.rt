@@ -4,21 +4,22 @@ ghost use Rattle.std.specs.Prelude.{◌≡◌, ◌≢◌, ◌≤◌, ◌<◌, �
 ghost use Rattle.std.specs.List.{AllByRecursion};
 ghost use Rattle.cbor_profile.specs.declared.fault.CborFault.{CborFault};
 ghost use Rattle.cbor_profile.specs.declared.fault.CborFault.TheVariants.{NoMemory};
-ghost use Rattle.cbor_items.specs.Tree.{Tree, pairs_of};
-ghost use Rattle.cbor_items.specs.Valid.{IsValid, IsSound, KeysRise};
+ghost use Rattle.cbor_profile.specs.Tree.{Tree, pairs_of};
+ghost use Rattle.cbor_profile.specs.Valid.{IsValid, IsSound, KeysRise};
 ghost use Rattle.cbor_profile.specs.Reading.{item_read, Gives, simple, items_at, pair_at, pairs_at, as_array, as_map, array_at, map_at, tag_at, open_array_at, open_map_at, value_at, indefinite_at, item_at, parts_of, whole};
-ghost use Rattle.cbor_items.specs.View.{tree_of, tree_pairs};
-ghost use Rattle.cbor_items.specs.Gathering.{gathered, IsGathered};
+ghost use Rattle.cbor_profile.specs.View.{tree_of, tree_pairs};
+ghost use Rattle.cbor_profile.specs.Gathering.{gathered, IsGathered};
 ghost use Rattle.cbor_profile.specs.Spelling.{Spells};
 ghost use Rattle.cbor_profile.specs.Breaking.{Refuses};
 
 use crate::argument::read_argument;
 use crate::fault::CborFault;
+use crate::gathering::{Gathered, comes_last, compare_to_last};
 use crate::head::{BREAK, Start, start_of};
+use crate::head_bytes::{FALSE, TRUE};
+use crate::item::{Item, ItemList, PairList};
+use crate::major::Major;
 use crate::strings::{read_byte_parts, read_byte_string, read_text, read_text_parts};
-use cbor_items::{
-    FALSE, Gathered, Item, ItemList, Major, PairList, TRUE, comes_last, compare_to_last,
-};
 use std::alloc::Global;
 use std::cmp::Ordering;
 

@@ -1,13 +1,14 @@
 //! Byte strings and texts, of definite length or in parts (RFC 8949, sections 3.1 and 3.2.3).
 
 ghost use Rattle.std.specs.Prelude.{◌≡◌, ◌≤◌, ◌<◌, ◌+◌, ℕ, length, IfOk};
-ghost use Rattle.cbor_items.specs.declared.major.Major.TheVariants as major_type;
+ghost use Rattle.cbor_profile.specs.declared.major.Major.TheVariants as major_type;
 ghost use Rattle.cbor_profile.specs.Reading.{item_read, Gives, argument_at, content_at, raw_at, string_at, is_part, parts_at, as_bytes, as_text};
 
 use crate::argument::read_argument;
 use crate::fault::CborFault;
 use crate::head::BREAK;
-use cbor_items::{Item, Major};
+use crate::item::Item;
+use crate::major::Major;
 use dots_lists::{Bytes, Text};
 use std::alloc::Global;
 use std::str;

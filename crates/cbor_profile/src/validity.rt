@@ -1,13 +1,14 @@
 //! Whether an item is valid.
 
 ghost use Rattle.std.specs.Prelude.{◌<◌, ◌^◌, ◌↔◌, [], length, IsTrue, IsUtf8, IfSome, map};
-ghost use Rattle.cbor_items.specs.Canon.{canon};
-ghost use Rattle.cbor_items.specs.Valid.{IsValid, IsSound, IsBefore};
-ghost use Rattle.cbor_items.specs.View.{tree_of, items_of, pairs_of};
+ghost use Rattle.cbor_profile.specs.Canon.{canon};
+ghost use Rattle.cbor_profile.specs.Valid.{IsValid, IsSound, IsBefore};
+ghost use Rattle.cbor_profile.specs.View.{tree_of, items_of, pairs_of};
 ghost use Rattle.cbor_profile.specs.Within.{IsWithin, AreWithin, ArePairsWithin, canon_of};
 
+use crate::item::Item;
+use crate::order::compare;
 use crate::reading::MAX_DEPTH;
-use cbor_items::{Item, compare};
 use dots_lists::{Bytes, Text};
 
 /// Whether the arrays and maps of the item nest at most [`MAX_DEPTH`] deep, and the keys of each map rise in

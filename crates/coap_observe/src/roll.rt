@@ -8,8 +8,8 @@ use crate::observed::Observed;
 use crate::observer::Observer;
 use crate::seen::SeenList;
 use dots_lists::NoMemory;
+use linked_orders::Order;
 use slab::Slab;
-use slot_order::Order;
 use std::alloc::Global;
 use std::marker::Model;
 

@@ -1,3 +1,6 @@
+mod Marks
+mod Mids
+mod Faults
 pub mod Bits
 pub mod Resolving
 pub mod Places

@@ -1,3 +1,8 @@
+pub mod Requests
+pub mod Targets
+pub mod Marking
+pub mod Judging
+pub mod Results
 pub mod Asking
 pub mod Wanted
 pub mod Live

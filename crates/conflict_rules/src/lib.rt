@@ -11,11 +11,19 @@
 mod asking;
 mod by_mid;
 mod by_overlap;
+mod fault;
+mod judging;
 pub mod laws;
 mod live;
+mod marking;
 mod meeting;
+mod put_request;
 mod request;
+mod targets;
 
 pub use by_mid::{MidJudgement, collides, judge_mid};
 pub use by_overlap::{Judgement, Which, are_few, judge_overlap};
+pub use fault::PutFault;
+pub use judging::{Judged, judge_put};
 pub use live::{Live, Mitigates};
+pub use put_request::{Client, PutRequest};

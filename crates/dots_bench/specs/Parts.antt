@@ -1,6 +1,6 @@
 -- What a decode of an item adds to the sum.
 use Rattle.std.specs.Prelude.{ℕ}
-use Rattle.cbor_items.specs.Tree.{Tree, unsigned, negative, byte_string, text, array, mapping, tag, boolean, null, count, pair_count}
+use Rattle.cbor_profile.specs.Tree.{Tree, unsigned, negative, byte_string, text, array, mapping, tag, boolean, null, count, pair_count}
 
 -- how many items or pairs stand directly in an item; 1 for one that holds none
 abbrev pub parts_in : Tree → ℕ

@@ -3,9 +3,9 @@
 ghost use Rattle.std.specs.Prelude.{◌≡◌, ◌+◌, length, IfOk, IfErr};
 ghost use Rattle.coap_message.specs.Breaks.{Breaks};
 ghost use Rattle.coap_message.specs.Message.{CoapMessage, IsMessage, spelling};
-ghost use Rattle.cbor_items.specs.Tree.{Tree};
+ghost use Rattle.cbor_profile.specs.Tree.{Tree};
 ghost use Rattle.cbor_profile.specs.Spelling.{Spells};
-ghost use Rattle.cbor_items.specs.View.{tree_of};
+ghost use Rattle.cbor_profile.specs.View.{tree_of};
 ghost use Rattle.dots_bench.specs.Parts.{parts_in};
 
 use crate::bodies::repeat_json;

@@ -1,7 +1,7 @@
 -- Answers that depend on the body, and which of them are want of memory.
 use Rattle.std.proofs.Common.{◌≡◌, ℕ, List, refl, sym, ap, Ok, Err, Result}
 use Rattle.cbor_profile.specs.Spelling.{Spells}
-use Rattle.cbor_items.specs.Tree.{Tree}
+use Rattle.cbor_profile.specs.Tree.{Tree}
 use Rattle.dots_heads.specs.declared.reject.Reject.{Reject}
 use Rattle.dots_heads.specs.declared.reject.Reject.TheVariants as reject
 use Rattle.dots_keys.specs.declared.request.Request.{Request}

@@ -1,7 +1,7 @@
 -- The items of arrays.
 use Rattle.std.proofs.Common.{◌≡◌, ◌≢◌, suc, List, [], ◌∷◌, ◌++◌, length, refl, ap, Result, Ok, None, Some}
-use Rattle.cbor_items.specs.Tree.{count}
-use Rattle.cbor_items.specs.declared.item.Item.{Item}
+use Rattle.cbor_profile.specs.Tree.{count}
+use Rattle.cbor_profile.specs.declared.item.Item.{Item}
 use Rattle.dots_heads.specs.declared.reject.Reject.{Reject}
 use Rattle.dots_keys.specs.Configurations.{fraction_in}
 use Rattle.dots_keys.specs.FieldViews.{items_seen}

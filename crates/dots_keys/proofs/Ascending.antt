@@ -8,11 +8,11 @@ use Rattle.std.specs.Cmp.Lexicographic.{slice_cmp}
 use Rattle.std.proofs.lemmas.Cmp.{ranked}
 use Rattle.std.proofs.lemmas.Nat.{from_be_bytes-to_be_bytes_2, from_be_bytes-to_be_bytes_4, from_be_bytes-to_be_bytes_8}
 use Rattle.std.proofs.Math.Nat.{mul-le-mul_left, pow-suc}
-use Rattle.cbor_items.specs.Canon.{canon}
-use Rattle.cbor_items.specs.Head.{head, information, following}
-use Rattle.cbor_items.specs.Tree.{Tree, unsigned, negative, byte_string, text, array, mapping, tag, boolean, null, Pairs, no_pairs, pair}
-use Rattle.cbor_items.specs.Valid.{IsBefore, RiseFrom, KeysRise, ArePairsSound}
-use Rattle.cbor_items.proofs.Heads.{Size, none, one, two, four, eight, size_of}
+use Rattle.cbor_profile.specs.Canon.{canon}
+use Rattle.cbor_profile.specs.Head.{head, information, following}
+use Rattle.cbor_profile.specs.Tree.{Tree, unsigned, negative, byte_string, text, array, mapping, tag, boolean, null, Pairs, no_pairs, pair}
+use Rattle.cbor_profile.specs.Valid.{IsBefore, RiseFrom, KeysRise, ArePairsSound}
+use Rattle.cbor_profile.proofs.Heads.{Size, none, one, two, four, eight, size_of}
 use Rattle.dots_keys.specs.declared.keys.Role.TheVariants as role
 use Rattle.dots_keys.specs.Fields.{Field, fields_in, field_before, all_unsigned, number_of, AllAbove, Ascend}
 use Rattle.dots_keys.specs.Keys.{key_role, is_known, is_ignored}

@@ -5,8 +5,8 @@ use Rattle.std.proofs.Math.Dec.{lt→ltb}
 use Rattle.std.proofs.lemmas.Bool.{leb-true}
 use Rattle.std.proofs.lemmas.Result.{IfOk-at_ok}
 use Rattle.acl_lists.specs.declared.asked.Asked.{Asked}
-use Rattle.cbor_items.specs.Kind.{items_in}
-use Rattle.cbor_items.specs.Tree.{Tree, unsigned, negative, byte_string, text, array, mapping, tag, boolean, null, Trees, no_items, item, count}
+use Rattle.cbor_profile.specs.Kind.{items_in}
+use Rattle.cbor_profile.specs.Tree.{Tree, unsigned, negative, byte_string, text, array, mapping, tag, boolean, null, Trees, no_items, item, count}
 use Rattle.coap_message.specs.Message.{CoapMessage}
 use Rattle.lifetime_clock.specs.Lifetime.{IsLifetime}
 use Rattle.dots_heads.specs.declared.operation.Method.{Method}

@@ -4,7 +4,7 @@ use Rattle.cbor_profile.specs.declared.fault.CborFault.{CborFault}
 use Rattle.cbor_profile.specs.declared.fault.CborFault.TheVariants.{Trailing}
 use Rattle.cbor_profile.specs.Breaking.{Breaks, Refuses}
 use Rattle.cbor_profile.specs.Spelling.{Spells}
-use Rattle.cbor_items.specs.Tree.{Tree}
+use Rattle.cbor_profile.specs.Tree.{Tree}
 use Rattle.coap_message.specs.Message.{CoapMessage}
 use Rattle.dots_heads.specs.declared.reject.Reject.{Reject}
 use Rattle.dots_heads.specs.declared.reject.Reject.TheVariants as reject

@@ -1,7 +1,7 @@
 -- The body of a configuration (RFC 9132, section 4.5.2): {30: {32: values, 44: values}}.
 use Rattle.std.specs.Prelude.{ℕ, ◌*◌, ◌^◌, Bool, ◌&&◌, ◌==◌, nat_lt, if◌then◌else◌, is_none, Option, Some, None, ok_or, Result, Ok, Err}
-use Rattle.cbor_items.specs.Tree.{Tree, unsigned, negative, tag, Trees, no_items, item}
-use Rattle.cbor_items.specs.Kind.{number_in, items_in}
+use Rattle.cbor_profile.specs.Tree.{Tree, unsigned, negative, tag, Trees, no_items, item}
+use Rattle.cbor_profile.specs.Kind.{number_in, items_in}
 use Rattle.dots_heads.specs.declared.reject.Reject.{Reject}
 use Rattle.dots_keys.specs.declared.request.ConfigBody.{ConfigBody}
 use Rattle.dots_keys.specs.declared.request.Offer.{Offer}

@@ -1,8 +1,8 @@
 -- The fields that a reader has still to read.
 use Rattle.std.specs.Prelude.{List, map}
-use Rattle.cbor_items.specs.Tree.{Trees, Pairs}
-use Rattle.cbor_items.specs.View.{tree_of, items_of, pairs_of}
-use Rattle.cbor_items.specs.declared.item.Item.{Item}
+use Rattle.cbor_profile.specs.Tree.{Trees, Pairs}
+use Rattle.cbor_profile.specs.View.{tree_of, items_of, pairs_of}
+use Rattle.cbor_profile.specs.declared.item.Item.{Item}
 use Rattle.dots_keys.specs.declared.fields.Fields.{Fields}
 use Rattle.dots_keys.specs.Fields.{Field, fields_in}
 

@@ -1,7 +1,7 @@
 -- The fields of a map, and the order in which what is wrong with them is looked for.
 use Rattle.std.specs.Prelude.{ℕ, ◌<◌, Bool, true, ◌&&◌, ◌==◌, if◌then◌else◌, is_some, List, [], ◌∷◌, Option, Some, None, Result, Ok, Err}
-use Rattle.cbor_items.specs.Tree.{Tree, Pairs, no_pairs, pair}
-use Rattle.cbor_items.specs.Kind.{number_in, pairs_in}
+use Rattle.cbor_profile.specs.Tree.{Tree, Pairs, no_pairs, pair}
+use Rattle.cbor_profile.specs.Kind.{number_in, pairs_in}
 use Rattle.dots_heads.specs.declared.reject.Reject.{Reject}
 use Rattle.dots_keys.specs.declared.keys.Role.{Role}
 use Rattle.dots_keys.specs.declared.keys.Role.TheVariants as role

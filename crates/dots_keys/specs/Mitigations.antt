@@ -1,8 +1,8 @@
 -- The body of a request for a mitigation (RFC 9132, section 4.4.1): {1: {2: [scope]}}.
 use Rattle.std.specs.Prelude.{ℕ, ◌^◌, Bool, true, false, not, ◌&&◌, ◌==◌, nat_lt, nat_le, if◌then◌else◌, ℤ, pos, negsuc, List, [], ◌∷◌, Option, Some, None, ok_or, option_and_then, Result, Ok, Err}
 use Rattle.acl_lists.specs.declared.asked.Asked.{Asked}
-use Rattle.cbor_items.specs.Tree.{Tree, unsigned, negative, boolean, Trees, no_items, item, count}
-use Rattle.cbor_items.specs.Kind.{number_in, text_in, items_in}
+use Rattle.cbor_profile.specs.Tree.{Tree, unsigned, negative, boolean, Trees, no_items, item, count}
+use Rattle.cbor_profile.specs.Kind.{number_in, text_in, items_in}
 use Rattle.dots_lists.specs.Name.{is_name}
 use Rattle.ip_scope.specs.Prefix.{PrefixValue}
 use Rattle.ip_scope.specs.PrefixReader.{prefix_in}

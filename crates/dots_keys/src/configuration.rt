@@ -1,7 +1,7 @@
 //! The body of a configuration (RFC 9132, section 4.5.2).
 
 ghost use Rattle.std.specs.Prelude.{◌≡◌};
-ghost use Rattle.cbor_items.specs.View.{tree_of};
+ghost use Rattle.cbor_profile.specs.View.{tree_of};
 ghost use Rattle.dots_keys.specs.Configurations.{config_key_of, config_field, no_config, signal_config, configuration_of};
 ghost use Rattle.dots_keys.specs.Fields.{each_field};
 ghost use Rattle.dots_keys.specs.FieldViews.{fields_left};

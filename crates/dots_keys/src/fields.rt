@@ -1,7 +1,7 @@
 //! The fields of a map.
 
 ghost use Rattle.std.specs.Prelude.{◌≡◌, [], ◌∷◌, ℕ, List, Ok, Err, IfOk, IfErr, OnOk, MatchResult, MatchOption};
-ghost use Rattle.cbor_items.specs.View.{tree_of};
+ghost use Rattle.cbor_profile.specs.View.{tree_of};
 ghost use Rattle.dots_keys.specs.Fields.{Field, known, unknown, fields_of, first_field, refusal_of, all_unsigned};
 ghost use Rattle.dots_keys.specs.FieldViews.{fields_left, pairs_seen};
 ghost use Rattle.dots_heads.specs.Results.{Reads, unknown_key};

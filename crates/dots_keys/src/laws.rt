@@ -1,8 +1,8 @@
 //! What the definitions come to: each function's contract is a law, and its body does nothing.
 
 ghost use Rattle.std.specs.Prelude.{◌≡◌, ◌↔◌, ℕ, List, Some, Ok, Result};
-ghost use Rattle.cbor_items.specs.Tree.{Pairs, mapping};
-ghost use Rattle.cbor_items.specs.Valid.{IsSound};
+ghost use Rattle.cbor_profile.specs.Tree.{Pairs, mapping};
+ghost use Rattle.cbor_profile.specs.Valid.{IsSound};
 ghost use Rattle.dots_keys.specs.Fields.{Field, fields_of, Ascend};
 ghost use Rattle.dots_keys.specs.Meaning.{Means};
 ghost use Rattle.dots_heads.specs.declared.reject.Reject.{Reject};

@@ -1,7 +1,7 @@
 //! The values that are offered for one state of a session (RFC 9132, section 4.5.2).
 
 ghost use Rattle.std.specs.Prelude.{◌≡◌};
-ghost use Rattle.cbor_items.specs.View.{tree_of};
+ghost use Rattle.cbor_profile.specs.View.{tree_of};
 ghost use Rattle.dots_keys.specs.Configurations.{offer_key_of, offer_field, no_offer, offers_nothing, offer_under};
 ghost use Rattle.dots_keys.specs.Fields.{each_field};
 ghost use Rattle.dots_keys.specs.FieldViews.{fields_left};

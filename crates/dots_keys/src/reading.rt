@@ -2,7 +2,7 @@
 
 ghost use Rattle.std.specs.Prelude.{◌≡◌, ◌≢◌, ◌/◌, Err, IsOk, IfOk, IfErr};
 ghost use Rattle.cbor_profile.specs.Spelling.{Spells};
-ghost use Rattle.cbor_items.specs.View.{tree_of};
+ghost use Rattle.cbor_profile.specs.View.{tree_of};
 ghost use Rattle.dots_heads.specs.HeadViews.{head_view};
 ghost use Rattle.dots_heads.specs.Heads.{head_of};
 ghost use Rattle.dots_keys.specs.Askable.{IsAskable};

@@ -1,7 +1,7 @@
 //! The scope of a mitigation (RFC 9132, section 4.4.1).
 
 ghost use Rattle.std.specs.Prelude.{◌≡◌};
-ghost use Rattle.cbor_items.specs.View.{tree_of};
+ghost use Rattle.cbor_profile.specs.View.{tree_of};
 ghost use Rattle.dots_keys.specs.Fields.{each_field};
 ghost use Rattle.dots_keys.specs.FieldViews.{fields_left};
 ghost use Rattle.dots_keys.specs.Mitigations.{scope_key_of, scope_field, nothing_asked, whole_scope, has_target, lifetime_of, refuse_trigger, scope_of};

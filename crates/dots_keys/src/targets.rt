@@ -1,8 +1,8 @@
 //! The targets in a scope (RFC 9132, section 4.4.1).
 
 ghost use Rattle.std.specs.Prelude.{◌≡◌, option_map};
-ghost use Rattle.cbor_items.specs.Kind.{items_in};
-ghost use Rattle.cbor_items.specs.View.{tree_of};
+ghost use Rattle.cbor_profile.specs.Kind.{items_in};
+ghost use Rattle.cbor_profile.specs.View.{tree_of};
 ghost use Rattle.ip_scope.specs.PrefixReader.{prefix_in};
 ghost use Rattle.dots_keys.specs.FieldViews.{items_seen};
 ghost use Rattle.dots_keys.specs.Mitigations.{at_most, array_under, prefix_of, protocol_of, name_of, range_of};

@@ -14,7 +14,7 @@ use Rattle.dots_laws.specs.Fits.{fits, joins, is_calm, has_one_peer, last_time}
 use Rattle.dots_laws.proofs.CalmCuts.{calm_more, calm_at_end, named_is_calm}
 use Rattle.dots_laws.proofs.Composing.{kept_trans, kept_later, kept_more}
 use Rattle.dots_laws.proofs.Views.{dropping}
-use Rattle.held_things.specs.Tables.{Sizes, sizes_of}
+use Rattle.held_resources.specs.Tables.{Sizes, sizes_of}
 use Rattle.coap_exchange.specs.declared.pair.Pair.{Pair}
 use Rattle.coap_exchange.specs.Pairs.{pairs_of}
 use Rattle.coap_exchange.specs.Rings.{RingValue}

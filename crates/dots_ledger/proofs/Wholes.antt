@@ -16,7 +16,7 @@ use Rattle.dots_laws.proofs.Apart.{apart}
 use Rattle.dots_laws.proofs.Bare.{bare_mitigations}
 use Rattle.live_mitigations.specs.Standing.{LiveValue, puts, is_inside}
 use Rattle.live_mitigations.specs.Standing as lives
-use Rattle.held_things.specs.Tables.{Have}
+use Rattle.held_resources.specs.Tables.{Have}
 use Rattle.coap_exchange.specs.Rings.{RingValue}
 use Rattle.coap_exchange.specs.Noting.{Remembers, AllRemember, said_by_entry}
 use Rattle.installed_filters.proofs.Standing.{rows_same}

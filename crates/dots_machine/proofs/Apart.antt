@@ -17,7 +17,7 @@ use Rattle.dots_keys.specs.declared.request.Request.{Request}
 use Rattle.dots_keys.specs.declared.request.Request.TheVariants as request
 use Rattle.dots_keys.specs.declared.request.MitigationBody.{MitigationBody}
 use Rattle.dots_registry.specs.Judging.{judge_request}
-use Rattle.judged_entries.proofs.Alone.{judged_apart, collides_apart, shown_apart}
+use Rattle.dots_registry.proofs.Alone.{judged_apart, collides_apart, shown_apart}
 use Rattle.dots_machine.specs.declared.exchange.Exchange.{Exchange}
 use Rattle.dots_machine.specs.declared.received.Received.TheVariants as received
 use Rattle.dots_machine.specs.declared.client_request.ClientRequest.{ClientRequest}

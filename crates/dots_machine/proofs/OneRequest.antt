@@ -1,6 +1,6 @@
 -- A datagram is one thing.
 use Rattle.std.proofs.Common.{◌≡◌, ℕ, Bool, List, [], Some, None, Result, Ok, Err, refl, sym, ap, ◌∙◌, subst}
-use Rattle.cbor_items.specs.Tree.{Tree}
+use Rattle.cbor_profile.specs.Tree.{Tree}
 use Rattle.cbor_profile.specs.Spelling.{Spells}
 use Rattle.cbor_profile.proofs.Readings.{same_reading}
 use Rattle.coap_message.specs.Message.{CoapMessage, IsMessage, spelling}

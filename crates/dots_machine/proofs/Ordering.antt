@@ -21,10 +21,10 @@ use Rattle.dots_heads.specs.declared.request.Content.{Content}
 use Rattle.dots_keys.specs.declared.request.Request.{Request}
 use Rattle.dots_keys.specs.declared.request.Request.TheVariants as request
 use Rattle.live_mitigations.specs.Reading.{Shown}
-use Rattle.put_judging.specs.declared.fault.PutFault.{PutFault}
-use Rattle.put_judging.specs.declared.fault.PutFault.TheVariants as faults
-use Rattle.put_judging.specs.declared.judging.Judged.{Judged}
-use Rattle.judged_entries.specs.Judgements.{IsJudged}
+use Rattle.conflict_rules.specs.declared.fault.PutFault.{PutFault}
+use Rattle.conflict_rules.specs.declared.fault.PutFault.TheVariants as faults
+use Rattle.conflict_rules.specs.declared.judging.Judged.{Judged}
+use Rattle.dots_registry.specs.Judgements.{IsJudged}
 use Rattle.dots_machine.specs.declared.target.TargetFault.{TargetFault}
 use Rattle.dots_machine.specs.declared.exchange.Exchange.{Exchange}
 use Rattle.dots_machine.specs.declared.dismissal.Dismissal.{Dismissal}

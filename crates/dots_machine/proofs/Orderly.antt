@@ -17,12 +17,12 @@ use Rattle.dots_laws.proofs.Members.{In}
 use Rattle.conflict_rules.specs.ByOverlap.{resolved}
 use Rattle.conflict_rules.specs.Wanted.{wanted}
 use Rattle.live_mitigations.specs.Judging.{put_or_nothing}
-use Rattle.put_judging.specs.declared.fault.PutFault.{PutFault}
-use Rattle.put_judging.specs.declared.judging.Judged.{Judged}
-use Rattle.put_judging.specs.Requests.{Request}
-use Rattle.put_judging.specs.Judging.{refreshed, begun}
-use Rattle.judged_entries.specs.Judgements.{StandsIn, Meets, Those, IsJudged, collision, refreshes, changes, unknown, too_many, higher, other, client_full, domain_full, begins}
-use Rattle.judged_entries.proofs.Places.{in_any}
+use Rattle.conflict_rules.specs.declared.fault.PutFault.{PutFault}
+use Rattle.conflict_rules.specs.declared.judging.Judged.{Judged}
+use Rattle.conflict_rules.specs.Requests.{Request}
+use Rattle.conflict_rules.specs.Judging.{refreshed, begun}
+use Rattle.dots_registry.specs.Judgements.{StandsIn, Meets, Those, IsJudged, collision, refreshes, changes, unknown, too_many, higher, other, client_full, domain_full, begins}
+use Rattle.dots_registry.proofs.Places.{in_any}
 use Rattle.dots_machine.specs.Orderly.{ShareNone, HigherStays}
 use Rattle.dots_machine.proofs.Meeting.{some_resolved, meet_sym, meet_by, same_targets, overlap_sym, overlap_again, apart_by_overlap, same_overlap, ends_so, unended_so}
 

@@ -14,9 +14,9 @@ use Rattle.dots_keys.specs.declared.request.Request.{Request}
 use Rattle.dots_keys.specs.declared.request.Request.TheVariants as request
 use Rattle.dots_keys.specs.declared.request.MitigationBody.{MitigationBody}
 use Rattle.live_mitigations.specs.Reading.{Shown}
-use Rattle.put_judging.specs.declared.fault.PutFault.{PutFault}
-use Rattle.put_judging.specs.declared.fault.PutFault.TheVariants as faults
-use Rattle.put_judging.specs.declared.judging.Judged.{Judged}
+use Rattle.conflict_rules.specs.declared.fault.PutFault.{PutFault}
+use Rattle.conflict_rules.specs.declared.fault.PutFault.TheVariants as faults
+use Rattle.conflict_rules.specs.declared.judging.Judged.{Judged}
 use Rattle.dots_registry.specs.Judging.{judge_request}
 use Rattle.dots_machine.specs.declared.target.TargetFault.{TargetFault}
 use Rattle.dots_machine.specs.declared.exchange.Exchange.{Exchange}

@@ -21,12 +21,12 @@ use Rattle.conflict_rules.specs.ByMid.{has_mid}
 use Rattle.live_mitigations.specs.Judging.{live_of, put_or_nothing}
 use Rattle.live_mitigations.specs.Reading.{status_number, shown, of_cuid, shown_of}
 use Rattle.dots_history.specs.Entries.{put_of}
-use Rattle.put_judging.specs.declared.fault.PutFault.{PutFault}
-use Rattle.put_judging.specs.declared.judging.Judged.{Judged}
+use Rattle.conflict_rules.specs.declared.fault.PutFault.{PutFault}
+use Rattle.conflict_rules.specs.declared.judging.Judged.{Judged}
 use Rattle.dots_registry.specs.Judging.{judge_request}
-use Rattle.judged_entries.specs.Judgements.{HasMid}
-use Rattle.judged_entries.proofs.Rules.{collides_taken, taken_collides, mid_stands, there_mid}
-use Rattle.judged_entries.proofs.Judging.{judged_by_places, places_judge}
+use Rattle.dots_registry.specs.Judgements.{HasMid}
+use Rattle.dots_registry.proofs.Rules.{collides_taken, taken_collides, mid_stands, there_mid}
+use Rattle.dots_registry.proofs.Judging.{judged_by_places, places_judge}
 use Rattle.dots_machine.specs.declared.target.TargetFault.{TargetFault}
 use Rattle.dots_machine.specs.declared.exchange.Exchange.{Exchange}
 use Rattle.dots_machine.specs.declared.received.Received.{Received}

@@ -15,11 +15,11 @@ use Rattle.dots_laws.specs.Tables.{Client}
 use Rattle.dots_heads.specs.declared.request.Content.{Content}
 use Rattle.live_mitigations.specs.Reading.{Shown, shown_in}
 use Rattle.reply_bodies.specs.declared.conflict.ConflictCause.TheVariants as cause
-use Rattle.put_judging.specs.declared.fault.PutFault.{PutFault}
-use Rattle.put_judging.specs.declared.fault.PutFault.TheVariants as faults
-use Rattle.put_judging.specs.declared.judging.Judged.{Judged}
-use Rattle.put_judging.specs.Requests.{Request}
-use Rattle.judged_entries.specs.Judgements.{IsTaken, HasMid, IsJudged}
+use Rattle.conflict_rules.specs.declared.fault.PutFault.{PutFault}
+use Rattle.conflict_rules.specs.declared.fault.PutFault.TheVariants as faults
+use Rattle.conflict_rules.specs.declared.judging.Judged.{Judged}
+use Rattle.conflict_rules.specs.Requests.{Request}
+use Rattle.dots_registry.specs.Judgements.{IsTaken, HasMid, IsJudged}
 use Rattle.dots_machine.specs.declared.target.TargetFault.{TargetFault}
 use Rattle.dots_machine.specs.declared.exchange.Exchange.{Exchange}
 use Rattle.dots_machine.specs.declared.mitigation_request.MitigationRequest.{MitigationRequest}

@@ -1,7 +1,7 @@
 -- The replies: messages with the Message ID and the token of the request (RFC 7252, section 5.2; RFC 9132, section 4.4).
 use Rattle.std.specs.Prelude.{ℕ, ◌/◌, ◌%◌, Bool, true, false, List, [], ◌∷◌, ◌++◌, codes, map, Option}
-use Rattle.cbor_items.specs.Canon.{canon}
-use Rattle.cbor_items.specs.Tree.{Tree, unsigned}
+use Rattle.cbor_profile.specs.Canon.{canon}
+use Rattle.cbor_profile.specs.Tree.{Tree, unsigned}
 use Rattle.coap_message.specs.declared.codes.TheConstants.{EMPTY, CREATED, DELETED, CHANGED, CONTENT, BAD_REQUEST, NOT_FOUND, CONFLICT, INTERNAL_SERVER_ERROR, NOT_IMPLEMENTED, SERVICE_UNAVAILABLE}
 use Rattle.coap_message.specs.declared.option_numbers.TheConstants.{CONTENT_FORMAT}
 use Rattle.coap_message.specs.declared.TheConstants.{DOTS_CBOR}
@@ -19,7 +19,7 @@ use Rattle.reply_bodies.specs.Maps.{field, map_of, integer}
 use Rattle.reply_bodies.specs.Mitigations.{asked_fields, mitigations_with}
 use Rattle.reply_bodies.specs.Replies.{reply_tree}
 use Rattle.live_mitigations.specs.Reading.{Shown}
-use Rattle.put_judging.specs.declared.judging.Judged.{Judged}
+use Rattle.conflict_rules.specs.declared.judging.Judged.{Judged}
 use Rattle.dots_machine.specs.declared.target.TargetFault.{TargetFault}
 use Rattle.dots_machine.specs.declared.exchange.Exchange.{Exchange}
 use Rattle.dots_machine.specs.Targets.{target_text}

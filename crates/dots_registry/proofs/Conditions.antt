@@ -20,10 +20,10 @@ use Rattle.live_mitigations.specs.Standing.{LiveValue, puts, is_inside, keeps_li
 use Rattle.live_mitigations.specs.Standing as lives
 use Rattle.live_mitigations.proofs.Standing.{quiet_inside}
 use Rattle.live_mitigations.proofs.Room.{has_room_is}
-use Rattle.held_things.specs.Tables.{sizes_of}
-use Rattle.held_things.specs.Accepting.{accepts, keeps_rooms}
-use Rattle.held_things.proofs.Standing.{accepted_by}
-use Rattle.held_things.proofs.Lawful.{accepts_own}
+use Rattle.held_resources.specs.Tables.{sizes_of}
+use Rattle.held_resources.specs.Accepting.{accepts, keeps_rooms}
+use Rattle.held_resources.proofs.Standing.{accepted_by}
+use Rattle.held_resources.proofs.Lawful.{accepts_own}
 use Rattle.dots_registry.specs.Standing.{RegistryValue, IsOf, StandsFor, time_of}
 use Rattle.dots_registry.specs.Fitting.{FitsIn, fits_then, fits_now, fits_tables}
 use Rattle.dots_registry.proofs.Standing.{own_inside}

@@ -28,9 +28,9 @@ use Rattle.dots_laws.proofs.Joining.{fits_so, same_by, tally_held, tally_same}
 use Rattle.live_mitigations.specs.Rows.{update}
 use Rattle.live_mitigations.specs.Standing.{LiveValue, SameButRows, kept_of}
 use Rattle.live_mitigations.specs.Standing as lives
-use Rattle.held_things.specs.Tables.{Tables, Sizes, sizes_of, is_known}
-use Rattle.held_things.proofs.Lawful.{known_of}
-use Rattle.held_things.proofs.Standing.{stands_with}
+use Rattle.held_resources.specs.Tables.{Tables, Sizes, sizes_of, is_known}
+use Rattle.held_resources.proofs.Lawful.{known_of}
+use Rattle.held_resources.proofs.Standing.{stands_with}
 use Rattle.coap_exchange.specs.Pairs.{pairs_of}
 use Rattle.coap_exchange.specs.Rings.{RingValue, empty_ring, is_ring_of, noted}
 use Rattle.coap_exchange.specs.Noting.{message_of}

@@ -21,11 +21,11 @@ use Rattle.dots_laws.specs.Tables.{client_of}
 use Rattle.live_mitigations.specs.Standing.{LiveValue, kept_of, puts, is_inside}
 use Rattle.live_mitigations.specs.Standing as lives
 use Rattle.live_mitigations.proofs.Standing.{within_inside, quiet_inside}
-use Rattle.held_things.specs.Held.{acls_of}
-use Rattle.held_things.specs.Tables.{Tables, is_known, sizes_of, tables_with}
-use Rattle.held_things.specs.Tables as things
-use Rattle.held_things.proofs.Lawful.{same_held, known_of}
-use Rattle.held_things.proofs.Standing.{stands_with}
+use Rattle.held_resources.specs.Held.{acls_of}
+use Rattle.held_resources.specs.Tables.{Tables, is_known, sizes_of, tables_with}
+use Rattle.held_resources.specs.Tables as things
+use Rattle.held_resources.proofs.Lawful.{same_held, known_of}
+use Rattle.held_resources.proofs.Standing.{stands_with}
 use Rattle.installed_filters.specs.Filters.{FiltersValue, filters_put, filters_written, some_of, everyone}
 use Rattle.installed_filters.specs.Standing.{KeepsLimits, HasRoom, scrub_room_of, acl_room_of}
 use Rattle.installed_filters.specs.Standing as rows

@@ -3,11 +3,11 @@ use Rattle.std.proofs.Common.{◌≡◌, ℕ, List, Option, Result, subst, ◌�
 use Rattle.acl_lists.specs.declared.alias.Alias.{Alias}
 use Rattle.dots_settings.specs.Settings.{SettingsValue}
 use Rattle.conflict_rules.specs.declared.live.Live.{Live}
-use Rattle.put_judging.specs.declared.fault.PutFault.{PutFault}
-use Rattle.put_judging.specs.declared.judging.Judged.{Judged}
-use Rattle.put_judging.specs.Requests.{Request, ClientValue}
-use Rattle.put_judging.specs.Judging.{judge_put}
-use Rattle.put_judging.specs.Results.{Gives}
+use Rattle.conflict_rules.specs.declared.fault.PutFault.{PutFault}
+use Rattle.conflict_rules.specs.declared.judging.Judged.{Judged}
+use Rattle.conflict_rules.specs.Requests.{Request, ClientValue}
+use Rattle.conflict_rules.specs.Judging.{judge_put}
+use Rattle.conflict_rules.specs.Results.{Gives}
 
 abbrev of_client : Option ℕ → List Alias → ClientValue
 of_client registrant aliases = record { registrant = registrant; aliases = aliases }

@@ -19,8 +19,8 @@ use Rattle.dots_laws.proofs.Parts.{part_list_all}
 use Rattle.dots_laws.proofs.Views.{dropping}
 use Rattle.live_mitigations.specs.Standing.{LiveValue, kept_of, is_inside}
 use Rattle.live_mitigations.specs.Standing as lives
-use Rattle.held_things.specs.Tables.{Have}
-use Rattle.held_things.proofs.Standing.{one_value}
+use Rattle.held_resources.specs.Tables.{Have}
+use Rattle.held_resources.proofs.Standing.{one_value}
 use Rattle.coap_exchange.specs.Rings.{RingValue, messages_of, reply_to}
 use Rattle.coap_exchange.specs.Noting.{Remembers, AllRemember, said_by_entry}
 use Rattle.dots_history.specs.Rows.{plain_rows, acl_rows}

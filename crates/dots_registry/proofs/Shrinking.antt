@@ -13,7 +13,7 @@ use Rattle.dots_laws.proofs.Keeping.{kept_is_part}
 use Rattle.dots_laws.proofs.Parts.{part_list_all}
 use Rattle.dots_laws.proofs.Views.{kept_held}
 use Rattle.live_mitigations.specs.Standing.{is_inside}
-use Rattle.held_things.specs.Tables.{is_known}
+use Rattle.held_resources.specs.Tables.{is_known}
 use Rattle.coap_exchange.specs.Rings.{RingValue, number_in, ring_renumbered}
 use Rattle.coap_exchange.proofs.Standing.{moved_remembers, pairs_moved}
 use Rattle.mitigation_slots.specs.Slots.{Filed, entry_of, slot_of}

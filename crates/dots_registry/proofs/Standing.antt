@@ -24,12 +24,12 @@ use Rattle.live_mitigations.specs.Standing.{LiveValue, SameButRows, kept_of, put
 use Rattle.live_mitigations.specs.Standing as lives
 use Rattle.live_mitigations.proofs.Standing.{comes_later}
 use Rattle.live_mitigations.proofs.Room.{has_room_is}
-use Rattle.held_things.specs.Tables.{Tables, sizes_of, is_known, tables_with}
-use Rattle.held_things.specs.Tables as things
-use Rattle.held_things.specs.Accepting.{accepts, accepts_by, keeps_rooms}
-use Rattle.held_things.specs.Accepting as accepting
-use Rattle.held_things.proofs.Standing.{stands_with, accepted_by, one_value}
-use Rattle.held_things.proofs.Lawful.{still_stands, known_of, accepts_fitting}
+use Rattle.held_resources.specs.Tables.{Tables, sizes_of, is_known, tables_with}
+use Rattle.held_resources.specs.Tables as things
+use Rattle.held_resources.specs.Accepting.{accepts, accepts_by, keeps_rooms}
+use Rattle.held_resources.specs.Accepting as accepting
+use Rattle.held_resources.proofs.Standing.{stands_with, accepted_by, one_value}
+use Rattle.held_resources.proofs.Lawful.{still_stands, known_of, accepts_fitting}
 use Rattle.coap_exchange.specs.declared.pair.Pair.{Pair}
 use Rattle.coap_exchange.specs.Pairs.{pairs_of}
 use Rattle.coap_exchange.specs.Rings.{RingValue, empty_ring}

@@ -7,7 +7,7 @@ use Rattle.dots_history.specs.Histories.{tally, held}
 use Rattle.dots_laws.specs.Capacities.{Capacities, is_alias, most_named}
 use Rattle.dots_laws.specs.Calm.{numbers_from}
 use Rattle.live_mitigations.specs.Standing.{LiveValue, kept_of}
-use Rattle.held_things.specs.Tables.{is_known}
+use Rattle.held_resources.specs.Tables.{is_known}
 use Rattle.coap_exchange.specs.Rings.{RingValue}
 use Rattle.mitigation_slots.specs.Slots.{Filed, entry_of, slots_left, slots_first}
 use Rattle.mitigation_slots.specs.Tables.{SlotTable, slots_of}

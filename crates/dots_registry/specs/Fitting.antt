@@ -7,7 +7,7 @@ use Rattle.dots_history.specs.Entries.{same_client}
 use Rattle.dots_history.specs.Histories.{Mitigation}
 use Rattle.dots_laws.specs.Fits as laws
 use Rattle.live_mitigations.specs.Standing.{has_live_room}
-use Rattle.held_things.specs.Accepting.{accepts}
+use Rattle.held_resources.specs.Accepting.{accepts}
 use Rattle.dots_registry.specs.Standing.{RegistryValue, StandsFor, IsOf, time_of}
 
 -- the entry isn't before the registry's time, and fits a history by the settings

@@ -8,11 +8,11 @@ use Rattle.dots_history.specs.Histories.{held}
 use Rattle.dots_laws.specs.Tables.{Client}
 use Rattle.conflict_rules.specs.ByMid as by_mid
 use Rattle.live_mitigations.specs.Judging.{lives_of}
-use Rattle.held_things.specs.Held.{aliases_of, registrant, is_of_another}
-use Rattle.put_judging.specs.declared.fault.PutFault.{PutFault}
-use Rattle.put_judging.specs.declared.judging.Judged.{Judged}
-use Rattle.put_judging.specs.Requests.{Request, ClientValue}
-use Rattle.put_judging.specs.Judging as rules
+use Rattle.held_resources.specs.Held.{aliases_of, registrant, is_of_another}
+use Rattle.conflict_rules.specs.declared.fault.PutFault.{PutFault}
+use Rattle.conflict_rules.specs.declared.judging.Judged.{Judged}
+use Rattle.conflict_rules.specs.Requests.{Request, ClientValue}
+use Rattle.conflict_rules.specs.Judging as rules
 
 -- The client's name is in use by another peer: a live mitigation of the client, or its registration, has another one.
 abbrev pub collides : ℕ → List Entry → ℕ → Client → Bool

@@ -1,3 +1,5 @@
+pub mod Limits
+pub mod Judgements
 pub mod Standing
 pub mod Fitting
 pub mod Judging

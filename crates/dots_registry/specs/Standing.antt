@@ -7,8 +7,8 @@ use Rattle.dots_history.specs.declared.entry.Entry.{Entry}
 use Rattle.dots_history.specs.Entries.{is_signal}
 use Rattle.live_mitigations.specs.Standing.{LiveValue}
 use Rattle.live_mitigations.specs.Standing as live
-use Rattle.held_things.specs.Tables.{Tables, sizes_of}
-use Rattle.held_things.specs.Tables as held
+use Rattle.held_resources.specs.Tables.{Tables, sizes_of}
+use Rattle.held_resources.specs.Tables as held
 use Rattle.installed_filters.specs.Filters.{FiltersValue}
 use Rattle.installed_filters.specs.Standing.{HasRoom, KeepsLimits}
 use Rattle.installed_filters.specs.Standing as filters

@@ -3,15 +3,15 @@
 ghost use Rattle.std.specs.Prelude.{◌<◌, List, IsSome, IfSome};
 ghost use Rattle.lifetime_clock.specs.Lifetime.{IsLifetime};
 ghost use Rattle.dots_history.specs.declared.entry.Entry.{Entry};
-ghost use Rattle.put_judging.specs.Results.{Gives};
+ghost use Rattle.conflict_rules.specs.Results.{Gives};
 ghost use Rattle.dots_registry.specs.Standing.{StandsFor, time_of, domains_of};
 ghost use Rattle.dots_registry.specs.Judging.{judge_request, asked_by};
 
 use crate::registry::Registry;
+use conflict_rules::{Client, Judged, PutFault, PutRequest, judge_put};
 use dots_heads::MitigationPath;
 use dots_keys::MitigationBody;
 use dots_settings::Settings;
-use put_judging::{Client, Judged, PutFault, PutRequest, judge_put};
 
 impl Registry {
     /// Judges the PUT of a mitigation, as it was read of a message of this peer, for a domain (RFC 9132, section 4.4.1). The path

@@ -9,7 +9,7 @@
 //! The entries of a history may stand in slots of a journal (`specs/Filed`). [`Registry::kept`] gives the slots of those that a
 //! compaction keeps, and after [`Registry::moved`] what it kept stands in the first slots.
 //!
-//! It joins the tables of `live_mitigations`, `held_things`, `coap_exchange` and `installed_filters`. The settings of which it is
+//! It joins the tables of `live_mitigations`, `held_resources`, `coap_exchange` and `installed_filters`. The settings of which it is
 //! (`IsOf`) stay with the caller. [`laws`] says that it also stands for what a compaction keeps, and that nothing of it is left
 //! open.
 #![tactic(auto)]
@@ -17,6 +17,7 @@
 mod compacting;
 mod expiring;
 mod fitting;
+pub mod judgement_laws;
 mod judging;
 pub mod laws;
 mod reading;

@@ -10,8 +10,8 @@ ghost use Rattle.conflict_rules.specs.ByMid.{judge_mid};
 ghost use Rattle.conflict_rules.specs.ByOverlap.{judge_overlap};
 ghost use Rattle.live_mitigations.specs.Judging.{lives_of};
 ghost use Rattle.live_mitigations.specs.Reading.{shown_in};
-ghost use Rattle.held_things.specs.Held.{aliases_of, acls_of, alias_named, acl_named, is_registered, registrant, is_of_another, config_of, number_of, reached};
-ghost use Rattle.held_things.specs.Tables.{most_of, told};
+ghost use Rattle.held_resources.specs.Held.{aliases_of, acls_of, alias_named, acl_named, is_registered, registrant, is_of_another, config_of, number_of, reached};
+ghost use Rattle.held_resources.specs.Tables.{most_of, told};
 ghost use Rattle.dots_registry.specs.Standing.{StandsFor, time_of, domains_of, limits_of, number_remembered};
 ghost use Rattle.dots_registry.specs.Judging.{collides};
 
@@ -20,7 +20,7 @@ use acl_lists::{Acl, Alias, Asked};
 use conflict_rules::{Judgement, MidJudgement};
 use dots_history::{Config, TargetList};
 use dots_lists::Name;
-use held_things::RoomKind;
+use held_resources::RoomKind;
 use live_mitigations::Mitigations;
 
 impl Registry {

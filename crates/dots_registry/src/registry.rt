@@ -23,7 +23,7 @@ use dots_lists::{Bytes, NoMemory};
 use dots_settings::Settings;
 use filter_rows::{AclRow, ScrubRow};
 use filter_table::FilterTable;
-use held_things::HeldThings;
+use held_resources::HeldThings;
 use installed_filters::{InstalledFilters, Staged, is_mitigating};
 use kept_slots::KeptSlots;
 use live_mitigations::{LiveMitigations, puts};

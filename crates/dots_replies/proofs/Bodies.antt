@@ -2,8 +2,8 @@
 use Rattle.std.proofs.Common.{◌≡◌, ℕ, ℤ, pos, negsuc, ◌≤◌, ◌^◌, nat_lt, Bool, true, false, cond, [], ◌∷◌, length, length-append, arith, refl}
 use Rattle.std.proofs.lemmas.Bool.{false≢true}
 use Rattle.std.specs.Int.{w16, w32, w64, to_be_bytes}
-use Rattle.cbor_items.specs.Head.{following, head}
-use Rattle.cbor_items.specs.Canon.{canon}
+use Rattle.cbor_profile.specs.Head.{following, head}
+use Rattle.cbor_profile.specs.Canon.{canon}
 use Rattle.reply_bodies.specs.declared.reply.Reply.TheVariants as reply
 use Rattle.reply_bodies.specs.Maps.{integer}
 use Rattle.reply_bodies.specs.Replies.{reply_tree}

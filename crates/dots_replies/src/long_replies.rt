@@ -4,7 +4,7 @@ ghost use Rattle.std.specs.Prelude.{◌≡◌, ◌≢◌, ◌++◌, IfOk, OnOk};
 ghost use Rattle.coap_message.specs.Message.{payload_bytes};
 ghost use Rattle.dots_machine.specs.Replies.{with_body, conflicting};
 ghost use Rattle.reply_bodies.specs.Mitigations.{views_tree};
-ghost use Rattle.cbor_items.specs.Canon.{canon};
+ghost use Rattle.cbor_profile.specs.Canon.{canon};
 ghost use Rattle.coap_message.specs.declared.codes.TheConstants.{CONTENT};
 
 use crate::replies::with_body;

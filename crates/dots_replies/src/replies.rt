@@ -9,10 +9,10 @@ use coap_message::codes::{
 };
 use coap_message::option_numbers::CONTENT_FORMAT;
 use coap_message::{DOTS_CBOR, Kind, OptionPart, Parts};
+use conflict_rules::Judged;
 use dots_heads::{MAX_TEXT, Reject};
 use dots_lists::NoMemory;
 use dots_machine::{Exchange, ShortMessage, TargetFault};
-use put_judging::Judged;
 use reply_bodies::{Reply, body_of};
 use std::alloc::Global;
 

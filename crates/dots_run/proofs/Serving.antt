@@ -34,7 +34,7 @@ use Rattle.dots_machine.specs.Commands.{is_served}
 use Rattle.dots_machine.specs.Endings.{has_hosted, Ran, Lived, LivesFrom, Reports, ServesTo, Behaves}
 use Rattle.dots_machine.proofs.Laws.{keeps_laws}
 use Rattle.dots_machine.proofs.Surviving.{story_trace, survives_opening}
-use Rattle.dots_events.specs.Living.{Came}
+use Rattle.dots_server.specs.Living.{Came}
 use Rattle.dots_run.specs.Refusals.{Wrote}
 use Rattle.dots_server.proofs.Turning.{none_added}
 

@@ -18,17 +18,16 @@ ghost use Rattle.dots_machine.specs.Endings.{status_of, has_hosted, Shows, Serve
 ghost use Rattle.dots_machine.specs.Machine.{State};
 ghost use Rattle.dots_machine.specs.Outside.{Outside};
 ghost use Rattle.dots_server.specs.Standing.{IsKept};
-ghost use Rattle.dots_events.specs.Living.{Came};
+ghost use Rattle.dots_server.specs.Living.{Came};
 ghost use Rattle.dots_run.specs.Refusals.{Counts, Wrote, WritesStop};
 
 use crate::refusals::write_refusal;
 use crate::words::{is_served, word_to_show};
 use dots_disk::Host;
-use dots_events::take_events;
 use dots_host::{MAX_EVENT_BYTES, Sink, Source, write_all};
 use dots_lists::NoMemory;
 use dots_machine::{Ending, Showing, Stop};
-use dots_server::Server;
+use dots_server::{Server, take_events};
 use dots_settings::{Settings, SettingsFault, read_settings};
 use message_text::{Shown, show};
 use std::alloc::Global;

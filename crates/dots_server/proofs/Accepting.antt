@@ -14,14 +14,14 @@ use Rattle.dots_laws.specs.Calm.{may_act, is_own}
 use Rattle.dots_laws.specs.Fits.{has_one_peer}
 use Rattle.dots_laws.specs.Tables.{Client}
 use Rattle.dots_keys.specs.Askable.{AreFew}
-use Rattle.put_judging.specs.declared.judging.Judged.{Judged}
+use Rattle.conflict_rules.specs.declared.judging.Judged.{Judged}
 use Rattle.dots_registry.specs.Standing.{time_of}
 use Rattle.dots_registry.specs.Judging.{judge_request}
-use Rattle.judged_entries.specs.Limits.{ClientsKeepLimits}
-use Rattle.judged_entries.proofs.Inside.{own_granted, own_withdrawal}
-use Rattle.judged_entries.proofs.Bounded.{bounded_granted, bounded_withdrawal}
-use Rattle.judged_entries.proofs.Fitting.{fits_granted, fits_withdrawal}
-use Rattle.judged_entries.proofs.OnePeer.{free_is_one_peer, granted_is_free}
+use Rattle.dots_registry.specs.Limits.{ClientsKeepLimits}
+use Rattle.dots_registry.proofs.Inside.{own_granted, own_withdrawal}
+use Rattle.dots_registry.proofs.Bounded.{bounded_granted, bounded_withdrawal}
+use Rattle.dots_registry.proofs.Fitting.{fits_granted, fits_withdrawal}
+use Rattle.dots_registry.proofs.OnePeer.{free_is_one_peer, granted_is_free}
 use Rattle.dots_machine.specs.declared.client_request.ClientRequest.{ClientRequest}
 use Rattle.dots_machine.specs.declared.mitigation_request.MitigationRequest.{MitigationRequest}
 use Rattle.dots_machine.specs.Targets.{scope_fault}

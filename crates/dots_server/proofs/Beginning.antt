@@ -27,8 +27,8 @@ use Rattle.dots_ledger.specs.Standing.{LedgerValue}
 use Rattle.dots_ledger.specs.Standing as ledger
 use Rattle.dots_ledger.proofs.Recovering.{fails_alone}
 use Rattle.dots_ledger.proofs.Wholes.{ledger_whole}
-use Rattle.judged_entries.specs.Limits.{ClientsKeepLimits}
-use Rattle.judged_entries.proofs.CalmLimits.{limits_calm, limits_whole, own_calm, early_calm}
+use Rattle.dots_registry.specs.Limits.{ClientsKeepLimits}
+use Rattle.dots_registry.proofs.CalmLimits.{limits_calm, limits_whole, own_calm, early_calm}
 use Rattle.dots_machine.specs.Machine.{State, begun_from, restarted}
 use Rattle.dots_server.specs.Standing.{ServerValue, ledger_of, IsKept, IsLiving}
 

@@ -18,8 +18,8 @@ use Rattle.dots_registry.specs.Standing.{time_of, number_remembered}
 use Rattle.slot_store.specs.Standing.{JournalValue}
 use Rattle.dots_ledger.specs.Standing.{CanAccept, joins_at}
 use Rattle.dots_ledger.specs.Standing as ledger
-use Rattle.judged_entries.specs.Limits.{ClientsKeepLimits}
-use Rattle.judged_entries.proofs.Fitting.{limits_later, limits_fitting}
+use Rattle.dots_registry.specs.Limits.{ClientsKeepLimits}
+use Rattle.dots_registry.proofs.Fitting.{limits_later, limits_fitting}
 use Rattle.dots_machine.specs.Machine.{State, later, with_entry, Step}
 use Rattle.dots_server.specs.Standing.{ServerValue, ledger_of, StandsFor, StandsWith, IsKept, IsLiving, IsAcceptable}
 

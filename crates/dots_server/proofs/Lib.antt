@@ -1,3 +1,6 @@
+mod Looping
+mod Turns
+mod Taking
 pub mod Acting
 pub mod Asked
 pub mod Accepting

@@ -1,7 +1,7 @@
 -- Mitigations that are told.
 use Rattle.std.proofs.Common.{◌≡◌, ◌≢◌, ℕ, Bool, true, false, List, [], ◌∷◌, ◌++◌, map, filter, cond, Option, refl, sym, ap, ◌∙◌, append_assoc}
-use Rattle.cbor_items.specs.Canon.{canon}
-use Rattle.cbor_items.specs.Tree.{Tree}
+use Rattle.cbor_profile.specs.Canon.{canon}
+use Rattle.cbor_profile.specs.Tree.{Tree}
 use Rattle.coap_message.specs.declared.codes.TheConstants.{CONTENT}
 use Rattle.dots_heads.specs.declared.request.Content.{Content}
 use Rattle.live_mitigations.specs.Reading.{Shown}

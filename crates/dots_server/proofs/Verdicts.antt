@@ -12,10 +12,10 @@ use Rattle.dots_history.specs.Bounds.{change_within, within_bounds}
 use Rattle.dots_settings.specs.declared.limits.Limits.{Limits}
 use Rattle.dots_settings.specs.Settings.{SettingsValue}
 use Rattle.dots_settings.specs.Lookups.{role_of, prefixes_of}
-use Rattle.put_judging.specs.declared.fault.PutFault.{PutFault}
-use Rattle.put_judging.specs.declared.fault.PutFault.TheVariants as faults
-use Rattle.put_judging.specs.declared.judging.Judged.{Judged}
-use Rattle.put_judging.specs.Results.{Fails}
+use Rattle.conflict_rules.specs.declared.fault.PutFault.{PutFault}
+use Rattle.conflict_rules.specs.declared.fault.PutFault.TheVariants as faults
+use Rattle.conflict_rules.specs.declared.judging.Judged.{Judged}
+use Rattle.conflict_rules.specs.Results.{Fails}
 use Rattle.dots_registry.specs.Standing.{time_of, number_remembered}
 use Rattle.dots_registry.specs.Standing as registry
 use Rattle.dots_registry.specs.Judging.{judge_request}

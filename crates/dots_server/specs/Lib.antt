@@ -1,3 +1,5 @@
+pub mod Living
+pub mod Taking
 pub mod Standing
 pub mod Turning
 pub mod Asking

@@ -14,7 +14,7 @@ use Rattle.slot_store.specs.Standing.{JournalValue}
 use Rattle.slot_journal.specs.Sizes.{slots_of}
 use Rattle.dots_ledger.specs.Standing.{LedgerValue}
 use Rattle.dots_ledger.specs.Standing as ledger
-use Rattle.judged_entries.specs.Limits.{ClientsKeepLimits}
+use Rattle.dots_registry.specs.Limits.{ClientsKeepLimits}
 use Rattle.dots_machine.specs.declared.verdict.Verdict.{Verdict}
 use Rattle.dots_machine.specs.declared.verdict.Verdict.TheVariants as verdict
 use Rattle.dots_machine.specs.Machine.{State}

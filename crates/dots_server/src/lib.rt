@@ -7,8 +7,10 @@
 #![tactic(auto)]
 
 mod deciding;
+mod events;
 mod mitigations;
 mod repeating;
 mod server;
 
+pub use events::take_events;
 pub use server::{ReportFault, Server};

@@ -7,8 +7,8 @@ ghost use Rattle.dots_settings.specs.Settings.{SettingsValue};
 ghost use Rattle.dots_settings.specs.Lookups.{role_of, prefixes_of};
 ghost use Rattle.dots_laws.specs.Calm.{may_act};
 ghost use Rattle.dots_history.specs.declared.entry.Entry.{Entry};
-ghost use Rattle.put_judging.specs.Results.{Gives};
-ghost use Rattle.put_judging.specs.declared.fault.PutFault.TheVariants as faults;
+ghost use Rattle.conflict_rules.specs.Results.{Gives};
+ghost use Rattle.conflict_rules.specs.declared.fault.PutFault.TheVariants as faults;
 ghost use Rattle.dots_registry.specs.Standing.{time_of, domains_of};
 ghost use Rattle.dots_registry.specs.Standing as registry;
 ghost use Rattle.dots_registry.specs.Judging.{judge_request};
@@ -24,6 +24,7 @@ ghost use Rattle.live_mitigations.specs.Reading.{Shown, row_view};
 ghost use Rattle.dots_server.specs.Standing.{StandsFor, CanCarryOut};
 
 use crate::server::Server;
+use conflict_rules::{Judged, PutFault, PutRequest};
 use dots_history::{Change, Entry};
 use dots_lists::{List, NoMemory};
 use dots_machine::{
@@ -36,7 +37,6 @@ use dots_replies::{
 };
 use dots_settings::Settings;
 use live_mitigations::MitigationRow;
-use put_judging::{Judged, PutFault, PutRequest};
 use reply_bodies::{ConflictCause, Content, MitigationView, ViewList};
 
 /// The status of a mitigation that stands (RFC 9132, section 4.4.2).

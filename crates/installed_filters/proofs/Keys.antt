@@ -24,7 +24,7 @@ use Rattle.dots_laws.proofs.Members.{In}
 use Rattle.dots_laws.proofs.Single.{one_mid, client_is_of}
 use Rattle.dots_laws.proofs.Touching.{never_live}
 use Rattle.live_mitigations.specs.Standing.{puts}
-use Rattle.held_things.proofs.Holdings.{turned_eq, turned_bytes}
+use Rattle.held_resources.proofs.Holdings.{turned_eq, turned_bytes}
 use Rattle.installed_filters.specs.Filters.{rows_put, is_row_of, scrubs_without}
 use Rattle.installed_filters.proofs.Sieving.{filter_by, any_by, any_filter, only_one, left_of_each, all_filter, all_in}
 

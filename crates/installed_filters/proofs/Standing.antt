@@ -33,7 +33,7 @@ use Rattle.live_mitigations.specs.Standing.{LiveValue, SameButRows, kept_of, has
 use Rattle.live_mitigations.specs.Standing as lives
 use Rattle.live_mitigations.proofs.Room.{kept_is, of_domain_bare}
 use Rattle.live_mitigations.proofs.Rows.{puts_none}
-use Rattle.held_things.specs.Held.{acls_of}
+use Rattle.held_resources.specs.Held.{acls_of}
 use Rattle.installed_filters.specs.Filters.{FiltersValue, with_rows, rows_put, own_rows, is_row_of, scrubs_without, lives_at, lives_at_once, stays_beside, everyone, some_of, settled_row, acl_switched, activated_row, acls_by, filters_at, filters_put, filters_written}
 use Rattle.installed_filters.specs.Standing.{StandsFor}
 use Rattle.installed_filters.proofs.Sieving.{filter_by, filter_twice, filter_all, map_by, any_by, all_filter, all_in}

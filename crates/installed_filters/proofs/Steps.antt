@@ -11,7 +11,7 @@ use Rattle.filter_rows.specs.declared.rows.AclRow.{AclRow}
 use Rattle.filter_table.specs.Held.{is_of_client, row_is_of, waits}
 use Rattle.dots_history.specs.Histories.{Mitigation}
 use Rattle.dots_history.specs.Rows.{mid_of}
-use Rattle.held_things.proofs.Holdings.{turned_bytes}
+use Rattle.held_resources.proofs.Holdings.{turned_bytes}
 use Rattle.installed_filters.specs.Filters.{FiltersValue, with_rows, is_row_of, scrubs_without_one, scrubs_without, some_of, settled_row, acl_switched, activated_row, is_named_row, acls_without, acls_without_all}
 use Rattle.installed_filters.proofs.Sieving.{filter_by, filter_twice, filter_all, map_by, map_twice, map_none}
 

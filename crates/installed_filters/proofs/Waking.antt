@@ -16,7 +16,7 @@ use Rattle.dots_history.specs.Entries.{same_client, ends, option_any}
 use Rattle.dots_history.specs.Histories.{Mitigation, mitigations, held}
 use Rattle.dots_history.specs.Rows.{acl_of, acl_row, acl_rows_of, acl_rows, list_rows, is_active, is_mitigating}
 use Rattle.dots_laws.specs.Views.{mitigations_of}
-use Rattle.held_things.proofs.Holdings.{turned_eq, turned_bytes}
+use Rattle.held_resources.proofs.Holdings.{turned_eq, turned_bytes}
 use Rattle.installed_filters.specs.Filters.{some_of, settled_row, acl_switched, activated_row, active_by, acl_row_by, lives_at_once, stays_beside, everyone}
 use Rattle.installed_filters.proofs.Sieving.{any_by, any_filter, any_left}
 use Rattle.installed_filters.proofs.Keys.{keeps}

@@ -18,8 +18,8 @@ use Rattle.dots_laws.specs.Tables.{Client, client_of, is_of}
 use Rattle.dots_laws.specs.Views.{held_with}
 use Rattle.dots_laws.proofs.Members.{In, any_of}
 use Rattle.dots_laws.proofs.Single.{of_itself, client_is_of}
-use Rattle.held_things.specs.Held.{acls_of, written}
-use Rattle.held_things.proofs.Written.{undone_is, other_way}
+use Rattle.held_resources.specs.Held.{acls_of, written}
+use Rattle.held_resources.proofs.Written.{undone_is, other_way}
 use Rattle.installed_filters.specs.Filters.{acl_row_by, is_named_row, acls_by}
 use Rattle.installed_filters.proofs.Sieving.{filter_all, any_by}
 use Rattle.installed_filters.proofs.Waking.{acls_by_client}

@@ -9,12 +9,12 @@ use Rattle.std.specs.Cmp.Lexicographic.{slice_cmp}
 use Rattle.std.specs.declared.cmp.Ordering.{Ordering}
 use Rattle.std.specs.declared.cmp.Ordering.TheVariants.{Less, Equal}
 use Rattle.std.proofs.lemmas.Bool.{cases_lt}
-use Rattle.cbor_items.specs.Canon.{canon}
-use Rattle.cbor_items.specs.Tree.{Tree, unsigned, array, count, items_of, pair_count, pairs_of}
-use Rattle.cbor_items.specs.Valid.{IsSound, AreSound, ArePairsSound, RiseFrom, KeysRise, IsBefore, IsValid, depth, items_depth, pairs_depth}
+use Rattle.cbor_profile.specs.Canon.{canon}
+use Rattle.cbor_profile.specs.Tree.{Tree, unsigned, array, count, items_of, pair_count, pairs_of}
+use Rattle.cbor_profile.specs.Valid.{IsSound, AreSound, ArePairsSound, RiseFrom, KeysRise, IsBefore, IsValid, depth, items_depth, pairs_depth}
 use Rattle.cbor_profile.specs.Within.{IsWithin}
-use Rattle.cbor_items.proofs.Heads.{head_none, head_one}
-use Rattle.cbor_items.proofs.KeyOrder.{after_nothing}
+use Rattle.cbor_profile.proofs.Heads.{head_none, head_one}
+use Rattle.cbor_profile.proofs.KeyOrder.{after_nothing}
 use Rattle.reply_bodies.specs.Maps.{field, listed, numbered, map_of, sole, integer}
 use Rattle.reply_bodies.specs.Within.{AllWithin, Rises, AreFieldsWithin}
 

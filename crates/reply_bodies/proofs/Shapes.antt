@@ -3,8 +3,8 @@ use Rattle.std.proofs.Common.{◌≡◌, ℕ, ◌^◌, ◌<◌, ◌≤◌, List,
 use Rattle.std.specs.Prelude.{FitsSigned, Bool, IfSome}
 use Rattle.std.specs.Int.{w32}
 use Rattle.acl_lists.specs.declared.asked.Asked.{Asked}
-use Rattle.cbor_items.specs.Tree.{Tree, unsigned, negative, text, array, boolean}
-use Rattle.cbor_items.specs.Valid.{IsValid}
+use Rattle.cbor_profile.specs.Tree.{Tree, unsigned, negative, text, array, boolean}
+use Rattle.cbor_profile.specs.Valid.{IsValid}
 use Rattle.cbor_profile.specs.Within.{IsWithin}
 use Rattle.ip_scope.specs.Ports.{Ports}
 use Rattle.ip_scope.specs.Prefix.{PrefixValue}

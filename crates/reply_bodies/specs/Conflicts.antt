@@ -1,6 +1,6 @@
 -- Why a mitigation isn't granted (RFC 9132, section 4.4.1.3).
 use Rattle.std.specs.Prelude.{ℕ, List, [], ◌∷◌, ◌++◌, map}
-use Rattle.cbor_items.specs.Tree.{Tree, unsigned, array, items_of}
+use Rattle.cbor_profile.specs.Tree.{Tree, unsigned, array, items_of}
 use Rattle.ip_scope.specs.Prefix.{PrefixValue}
 use Rattle.reply_bodies.specs.declared.keys.TheConstants.{MID, TARGET_PREFIX, CONFLICT_INFORMATION, CONFLICT_STATUS, CONFLICT_CAUSE, RETRY_TIMER, CONFLICT_SCOPE}
 use Rattle.reply_bodies.specs.declared.conflict.TheConstants.{INACTIVE, OVERLAPPING_TARGETS, CUID_COLLISION, RETRY_AFTER}

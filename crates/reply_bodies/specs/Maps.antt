@@ -1,7 +1,7 @@
 -- Maps whose keys are numbers, as the lists of their fields in ascending order of the keys, which is the deterministic one
 -- (RFC 8949, section 4.2.1).
 use Rattle.std.specs.Prelude.{ℕ, ℤ, pos, negsuc, List, [], ◌∷◌, Option, Some, None}
-use Rattle.cbor_items.specs.Tree.{Tree, unsigned, negative, array, mapping, items_of, pairs_of}
+use Rattle.cbor_profile.specs.Tree.{Tree, unsigned, negative, array, mapping, items_of, pairs_of}
 
 -- a field, by its key and its value
 abbrev pub field : ℕ → Tree → List (Tree × Tree)

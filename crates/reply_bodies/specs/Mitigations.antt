@@ -1,7 +1,7 @@
 -- Mitigations as a client is told of them (RFC 9132, sections 4.4.1.3 and 4.4.2).
 use Rattle.std.specs.Prelude.{ℕ, ℤ, List, [], ◌∷◌, ◌++◌, map}
 use Rattle.acl_lists.specs.declared.asked.Asked.{Asked}
-use Rattle.cbor_items.specs.Tree.{Tree, unsigned, text, array, items_of}
+use Rattle.cbor_profile.specs.Tree.{Tree, unsigned, text, array, items_of}
 use Rattle.dots_heads.specs.declared.request.Content.{Content}
 use Rattle.dots_heads.specs.declared.request.Content.TheVariants.{All, Config, State}
 use Rattle.ip_scope.specs.Ports.{Ports}

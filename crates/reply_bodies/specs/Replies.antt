@@ -1,5 +1,5 @@
 -- The trees of replies.
-use Rattle.cbor_items.specs.Tree.{Tree}
+use Rattle.cbor_profile.specs.Tree.{Tree}
 use Rattle.reply_bodies.specs.declared.reply.Reply.{Reply}
 use Rattle.reply_bodies.specs.declared.reply.Reply.TheVariants as reply
 use Rattle.reply_bodies.specs.Mitigations.{granted_tree, views_tree}

@@ -1,6 +1,6 @@
 -- The configuration of a session (RFC 9132, section 4.5.1), and heartbeats (section 4.7).
 use Rattle.std.specs.Prelude.{ℕ, Bool, List, [], ◌∷◌, ◌++◌}
-use Rattle.cbor_items.specs.Tree.{Tree, unsigned, negative, array, tag, boolean, items_of}
+use Rattle.cbor_profile.specs.Tree.{Tree, unsigned, negative, array, tag, boolean, items_of}
 use Rattle.reply_bodies.specs.declared.keys.TheConstants.{SIGNAL_CONFIG, SID, MITIGATING_CONFIG, HEARTBEAT_INTERVAL, CURRENT_VALUE, MISSING_HB_ALLOWED, MAX_RETRANSMIT, ACK_TIMEOUT, ACK_RANDOM_FACTOR, CURRENT_VALUE_DECIMAL, IDLE_CONFIG, HEARTBEAT, PROBING_RATE, PEER_HB_STATUS}
 use Rattle.reply_bodies.specs.declared.session.TheConstants.{DECIMAL_FRACTION}
 use Rattle.reply_bodies.specs.declared.session.Current.{Current}

@@ -1,7 +1,7 @@
 -- Which items and fields can stand in a body: they are sound and nest at most so many levels deep.
 use Rattle.std.specs.Prelude.{◌≡◌, ℕ, suc, ◌≤◌, List, [], ◌∷◌}
 use Rattle.std.specs.List.{AllByRecursion}
-use Rattle.cbor_items.specs.Tree.{Tree, unsigned}
+use Rattle.cbor_profile.specs.Tree.{Tree, unsigned}
 use Rattle.cbor_profile.specs.Within.{IsWithin}
 
 -- the items of an array

@@ -1,8 +1,8 @@
 //! Why a mitigation isn't granted (RFC 9132, section 4.4.1.3).
 
 ghost use Rattle.std.specs.Prelude.{◌≡◌, ◌++◌, IfOk, OnOk};
-ghost use Rattle.cbor_items.specs.Valid.{IsValid};
-ghost use Rattle.cbor_items.specs.View.{tree_of, tree_pairs};
+ghost use Rattle.cbor_profile.specs.Valid.{IsValid};
+ghost use Rattle.cbor_profile.specs.View.{tree_of, tree_pairs};
 ghost use Rattle.cbor_profile.specs.Within.{IsWithin};
 ghost use Rattle.reply_bodies.specs.Conflicts.{status_and_cause, higher, other, collision, information, conflict_scope, conflict_tree};
 

@@ -1,8 +1,8 @@
 //! Mitigations as a client is told of them (RFC 9132, sections 4.4.1.3 and 4.4.2).
 
 ghost use Rattle.std.specs.Prelude.{◌≡◌, ◌++◌, map, IfOk, OnOk};
-ghost use Rattle.cbor_items.specs.Valid.{IsValid};
-ghost use Rattle.cbor_items.specs.View.{tree_of, trees, tree_pairs};
+ghost use Rattle.cbor_profile.specs.Valid.{IsValid};
+ghost use Rattle.cbor_profile.specs.View.{tree_of, trees, tree_pairs};
 ghost use Rattle.cbor_profile.specs.Within.{IsWithin};
 ghost use Rattle.reply_bodies.specs.Mitigations.{granted_scope, granted_tree, config_fields, config_part, state_fields, state_part, scope_of, views_tree, mitigations_with};
 ghost use Rattle.reply_bodies.specs.Within.{AreFieldsWithin, AllWithin};

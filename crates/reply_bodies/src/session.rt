@@ -1,8 +1,8 @@
 //! The configuration of a session (RFC 9132, section 4.5.1), and heartbeats (section 4.7).
 
 ghost use Rattle.std.specs.Prelude.{◌≡◌, ◌++◌, ◌<◌, ◌^◌, IfOk, OnOk};
-ghost use Rattle.cbor_items.specs.Valid.{IsValid};
-ghost use Rattle.cbor_items.specs.View.{tree_of, tree_pairs};
+ghost use Rattle.cbor_profile.specs.Valid.{IsValid};
+ghost use Rattle.cbor_profile.specs.View.{tree_of, tree_pairs};
 ghost use Rattle.cbor_profile.specs.Within.{IsWithin};
 ghost use Rattle.reply_bodies.specs.Sessions.{decimal, number_field, decimal_field, values, configuration, session_tree, beat_tree};
 

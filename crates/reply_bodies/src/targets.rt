@@ -1,8 +1,8 @@
 //! What a mitigation was asked for (RFC 9132, section 4.4.1).
 
 ghost use Rattle.std.specs.Prelude.{◌≡◌, ◌++◌, map, IfOk, OnOk};
-ghost use Rattle.cbor_items.specs.Tree.{text, unsigned};
-ghost use Rattle.cbor_items.specs.View.{tree_of, trees, tree_pairs};
+ghost use Rattle.cbor_profile.specs.Tree.{text, unsigned};
+ghost use Rattle.cbor_profile.specs.View.{tree_of, trees, tree_pairs};
 ghost use Rattle.cbor_profile.specs.Within.{IsWithin};
 ghost use Rattle.reply_bodies.specs.Mitigations.{prefix_tree, range_tree, asked_fields};
 ghost use Rattle.reply_bodies.specs.Within.{AreFieldsWithin, AllWithin};

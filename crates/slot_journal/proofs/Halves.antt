@@ -8,9 +8,9 @@ use Rattle.dots_disk.specs.Media.{bytes_at}
 use Rattle.dots_history.specs.declared.entry.Entry.{Entry}
 use Rattle.entry_records.specs.Layout.{record_bytes}
 use Rattle.entry_records.specs.Records.{IsRecord}
-use Rattle.slot_gates.specs.declared.wanted.Wanted.TheVariants as wanted
+use Rattle.slot_store.specs.declared.wanted.Wanted.TheVariants as wanted
 use Rattle.slot_store.specs.Layout.{place_of, needed_of, IsSlot, IsHalf}
-use Rattle.slot_gates.specs.Gates.{is_wanted}
+use Rattle.slot_store.specs.Gates.{is_wanted}
 use Rattle.slot_store.specs.Gates.{NoneIs, IsFirst}
 use Rattle.slot_store.specs.Refusing.{IsCount}
 use Rattle.slot_store.specs.Standing.{IsFound}

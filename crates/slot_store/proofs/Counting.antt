@@ -4,9 +4,9 @@ use Rattle.std.specs.Prelude.{true, false}
 use Rattle.std.proofs.lemmas.Bool.{cases_order, eqb-true, eqb-false, not-true, not-false}
 use Rattle.dots_disk.specs.Media.{Media}
 use Rattle.dots_disk.specs.Becoming.{KeepsMedia, Leaves, RestsWith}
-use Rattle.slot_gates.specs.declared.wanted.Wanted.TheVariants as wanted
+use Rattle.slot_store.specs.declared.wanted.Wanted.TheVariants as wanted
 use Rattle.slot_store.specs.Layout.{place_of, IsHeader, IsHalf, IsBlank, IsJournal, HoldsRecords}
-use Rattle.slot_gates.specs.Gates.{is_wanted}
+use Rattle.slot_store.specs.Gates.{is_wanted}
 use Rattle.slot_store.specs.Gates.{NoneIs, IsFirst, Sees}
 use Rattle.slot_store.specs.Standing.{Stands, IsKnown}
 use Rattle.slot_store.specs.Refusing.{IsOpen, IsCount}

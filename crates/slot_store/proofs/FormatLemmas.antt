@@ -5,10 +5,10 @@ use Rattle.std.proofs.lemmas.Bool.{cases_eq, cases_lt, eqb-true, eqb-false, not-
 use Rattle.dots_disk.specs.Media.{Media, byte_of, bytes_at}
 use Rattle.dots_disk.specs.Becoming.{KeepsMedia, Leaves, RestsWith}
 use Rattle.dots_disk.proofs.WrittenLemmas.{byte_of_bytes_at}
-use Rattle.slot_gates.specs.declared.wanted.Wanted.TheVariants as wanted
+use Rattle.slot_store.specs.declared.wanted.Wanted.TheVariants as wanted
 use Rattle.slot_store.specs.Layout.{place_of, header_of, IsHalf, IsBlank, IsJournal, HoldsRecords}
 use Rattle.slot_store.specs.Opening.{IsOpening, IsOpened, Is}
-use Rattle.slot_gates.specs.Gates.{is_wanted}
+use Rattle.slot_store.specs.Gates.{is_wanted}
 use Rattle.slot_store.specs.Gates.{NoneIs, IsFirst}
 use Rattle.slot_store.specs.Refusing.{IsStrayGate}
 use Rattle.slot_store.proofs.Steps.{leaves_as, leaves_then, rests_as}

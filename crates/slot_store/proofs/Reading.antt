@@ -5,8 +5,8 @@ use Rattle.std.proofs.lemmas.Bool.{cases_lt}
 use Rattle.std.proofs.Math.Path.{fun_ext}
 use Rattle.dots_disk.specs.Media.{Medium, Media, bytes_at, all_media}
 use Rattle.dots_disk.specs.Becoming.{Becomes, MayBecome, Stays, EachMedium, KeepsMedia, Leaves, RestsWith}
-use Rattle.slot_gates.specs.declared.wanted.Wanted.{Wanted}
-use Rattle.slot_gates.specs.Gates.{is_wanted}
+use Rattle.slot_store.specs.declared.wanted.Wanted.{Wanted}
+use Rattle.slot_store.specs.Gates.{is_wanted}
 use Rattle.slot_store.specs.Gates.{Sees, NoneIs}
 use Rattle.slot_store.specs.Opening.{Is}
 use Rattle.slot_store.proofs.Steps.{Images, image_at_rest}

@@ -1,8 +1,14 @@
 -- Gates that are looked for on a disk.
-use Rattle.std.specs.Prelude.{◌≡◌, ℕ, ◌+◌, ◌*◌, ◌<◌, ◌≤◌, true, false, Option, Some, None}
+use Rattle.std.specs.Prelude.{◌≡◌, ℕ, ◌+◌, ◌*◌, ◌==◌, ◌<◌, ◌≤◌, not, Bool, true, false, Option, Some, None}
 use Rattle.dots_disk.specs.Media.{Media}
-use Rattle.slot_gates.specs.Gates.{is_wanted}
-use Rattle.slot_gates.specs.declared.wanted.Wanted.{Wanted}
+use Rattle.slot_store.specs.declared.wanted.Wanted.{Wanted}
+use Rattle.slot_store.specs.declared.wanted.Wanted.TheVariants as wanted
+
+-- whether a gate with this byte is one of those that are looked for
+abbrev pub is_wanted : Wanted → ℕ → Bool
+is_wanted wanted.Open byte = byte == 165
+is_wanted wanted.NotOpen byte = not (byte == 165)
+is_wanted wanted.NotZero byte = not (byte == 0)
 
 -- the disk is told, and a read gives this now
 abbrev pub Sees : Option Media → (ℕ → ℕ) → Type 0

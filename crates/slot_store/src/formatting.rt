@@ -14,9 +14,9 @@ use crate::gates::find_gate;
 use crate::header::{HEADER, check_header, header};
 use crate::layout::SLOT;
 use crate::opening::open_gate;
+use crate::wanted::{OPEN, Wanted};
 use dots_disk::Disk;
 use dots_host::Failed;
-use slot_gates::{OPEN, Wanted};
 
 /// Refuses a disk without a header of whose gates one isn't zero.
 fn check_gates<D: Disk>(disk: &mut D, slots: u32) -> Result<(), OpenFault>

@@ -9,9 +9,9 @@ ghost use Rattle.slot_store.specs.Refusing.{IsCount, Caused};
 
 use crate::fault::OpenFault;
 use crate::layout::{SLOT, place_of};
+use crate::wanted::{Wanted, is_wanted};
 use dots_disk::Disk;
 use dots_host::Failed;
-use slot_gates::{Wanted, is_wanted};
 
 /// The byte at the place.
 pub fn byte_at<D: Disk>(disk: &mut D, at: u64) -> Result<u8, Failed>

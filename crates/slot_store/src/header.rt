@@ -6,7 +6,7 @@ ghost use Rattle.slot_store.specs.Layout.{header_of, IsHeader};
 ghost use Rattle.slot_store.specs.Refusing.{RefusesHeader};
 
 use crate::fault::OpenFault;
-use slot_gates::OPEN;
+use crate::wanted::OPEN;
 
 /// The bytes of a header, the selector and the zeros at its end among them.
 pub const HEADER: usize = 64;

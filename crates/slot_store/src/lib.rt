@@ -17,11 +17,12 @@ mod opening;
 mod selecting;
 mod sizing;
 mod store;
+mod wanted;
 
 pub use fault::{DiskFault, OpenFault};
 pub use found::read_slot;
 pub use gates::find_gate;
 pub use laws::one_list;
 pub use layout::{MAX_RECORD, SLOT};
-pub use slot_gates::Wanted;
 pub use store::SlotStore;
+pub use wanted::Wanted;

@@ -10,13 +10,13 @@ use crate::registry::taking::take_all;
 use crate::registry::told::Told;
 use crate::registry::words::{NONE, digit, number, small};
 use acl_lists::{Acl, Alias, Asked};
+use conflict_rules::{Judged, PutFault};
 use dots_heads::MitigationPath;
 use dots_keys::MitigationBody;
 use dots_lists::{Bytes, List, Name};
 use dots_registry::Registry;
 use dots_settings::Settings;
-use held_things::RoomKind;
-use put_judging::{Judged, PutFault};
+use held_resources::RoomKind;
 use std::alloc::Global;
 use std::test::Fail;
 

@@ -1,9 +1,9 @@
 use Rattle.std.proofs.Common.{◌+◌, ◌*◌, [], drop}
 use Rattle.std.specs.Prelude.{IfSome}
-use Rattle.cbor_items.specs.Valid.{IsSound}
-use Rattle.cbor_items.specs.View.{tree_of}
+use Rattle.cbor_profile.specs.Valid.{IsSound}
+use Rattle.cbor_profile.specs.View.{tree_of}
 use Rattle.cbor_profile.specs.Within.{AreWithin, ArePairsWithin, canon_of}
-use Rattle.cbor_items.proofs.Views.{items_view, pairs_view}
+use Rattle.cbor_profile.proofs.Views.{items_view, pairs_view}
 use Rattle.cbor_profile.proofs.validity.+validity.Given as goal
 
 -- A part nests one level less.

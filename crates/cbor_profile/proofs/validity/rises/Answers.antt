@@ -1,6 +1,6 @@
 use Rattle.std.proofs.Common.{refl}
-use Rattle.cbor_items.specs.View.{tree_of}
-use Rattle.cbor_items.proofs.KeyOrder.{after_nothing}
+use Rattle.cbor_profile.specs.View.{tree_of}
+use Rattle.cbor_profile.proofs.KeyOrder.{after_nothing}
 use Rattle.cbor_profile.proofs.validity.rises.Goals as goal
 
 pub returns-in-None : goal.returns-in-None

@@ -1,6 +1,6 @@
 use Rattle.std.proofs.Common.{◌≡◌, ℕ, Bool, true, false, List, cond, Ok, Err, refl, subst}
-use Rattle.cbor_items.specs.Tree.{Pairs, mapping}
-use Rattle.cbor_items.specs.Valid.{IsSound}
+use Rattle.cbor_profile.specs.Tree.{Pairs, mapping}
+use Rattle.cbor_profile.specs.Valid.{IsSound}
 use Rattle.dots_keys.specs.Fields.{Field, fields_in, all_unsigned, Ascend}
 use Rattle.dots_heads.specs.Results.{invalid}
 use Rattle.dots_keys.proofs.Ascending.{fields_ascend}

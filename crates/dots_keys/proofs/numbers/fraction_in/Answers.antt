@@ -1,5 +1,5 @@
 use Rattle.std.proofs.Common.{sym, ap, ◌∙◌, arith, Option}
-use Rattle.cbor_items.specs.Tree.{Trees}
+use Rattle.cbor_profile.specs.Tree.{Trees}
 use Rattle.dots_keys.specs.Configurations.{fraction_in}
 use Rattle.dots_keys.proofs.Arrays.{no_fraction}
 use Rattle.dots_keys.proofs.numbers.fraction_in.Goals as goal

@@ -1,4 +1,4 @@
-use Rattle.cbor_items.specs.Tree.{unsigned, text}
+use Rattle.cbor_profile.specs.Tree.{unsigned, text}
 use Rattle.reply_bodies.specs.Mitigations.{prefix_tree, range_tree}
 use Rattle.reply_bodies.proofs.Parts.{always}
 use Rattle.reply_bodies.proofs.Shapes.{an_array, asked_within}

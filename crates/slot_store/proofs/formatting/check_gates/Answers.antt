@@ -1,5 +1,5 @@
 use Rattle.std.proofs.Common.{subst, ◌*◌}
-use Rattle.slot_gates.specs.declared.wanted.Wanted.TheVariants as wanted
+use Rattle.slot_store.specs.declared.wanted.Wanted.TheVariants as wanted
 use Rattle.slot_store.specs.Gates.{NoneIs, IsFirst}
 use Rattle.slot_store.proofs.FormatLemmas.{all_zero, stray}
 use Rattle.slot_store.proofs.formatting.check_gates.Goals as goal

@@ -1,5 +1,5 @@
 use Rattle.std.proofs.Common.{subst, refl, arith}
-use Rattle.slot_gates.specs.declared.wanted.Wanted.TheVariants as wanted
+use Rattle.slot_store.specs.declared.wanted.Wanted.TheVariants as wanted
 use Rattle.slot_store.specs.Gates.{NoneIs, IsFirst}
 use Rattle.slot_store.proofs.Counting.{count_all, count_some}
 use Rattle.slot_store.proofs.gates.count_open.Goals as goal

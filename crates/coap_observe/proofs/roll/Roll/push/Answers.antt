@@ -1,6 +1,6 @@
 use Rattle.std.proofs.Common.{◌<◌, ◌∷◌, [], ◌++◌, length, ap, sym, subst, ◌∙◌, arith}
 use Rattle.slab.specs.Slab.{get}
-use Rattle.slot_order.specs.Orders.{OrderValue}
+use Rattle.linked_orders.specs.Orders.{OrderValue}
 use Rattle.coap_observe.specs.Rolls.{RollValue, has_key, rows_of, AreKept}
 use Rattle.coap_observe.proofs.Entering.{length_more}
 use Rattle.coap_observe.proofs.Rolling.{length_rows, has_rows, off_keys, none_has, rows_last, kept_last}

@@ -1,6 +1,6 @@
 use Rattle.std.proofs.Common.{◌≡◌, true, length, ap, sym, subst, ◌∙◌, arith}
 use Rattle.slab.specs.Slab.{get}
-use Rattle.slot_order.specs.Orders.{OrderValue}
+use Rattle.linked_orders.specs.Orders.{OrderValue}
 use Rattle.coap_observe.specs.Rolls.{RollValue, has_key, without_key, rows_of, AreKept}
 use Rattle.coap_observe.proofs.Rolling.{has_rows, rows_less, kept_less, length_less, is_there}
 use Rattle.coap_observe.proofs.roll.Roll.remove.Goals as goal

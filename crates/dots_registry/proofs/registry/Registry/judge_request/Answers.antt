@@ -3,8 +3,8 @@ use Rattle.dots_history.specs.declared.entry.Entry.{Entry}
 use Rattle.dots_history.specs.Histories.{Mitigation, held}
 use Rattle.live_mitigations.specs.Judging.{live_of, lives_of}
 use Rattle.live_mitigations.proofs.Room.{lives_are}
-use Rattle.held_things.specs.Held.{aliases_of, registrant}
-use Rattle.put_judging.specs.Requests.{Request}
+use Rattle.held_resources.specs.Held.{aliases_of, registrant}
+use Rattle.conflict_rules.specs.Requests.{Request}
 use Rattle.dots_registry.specs.Standing.{RegistryValue, StandsFor, time_of}
 use Rattle.dots_registry.proofs.Standing.{joined}
 use Rattle.dots_registry.proofs.Judged.{judged_is}

@@ -3,8 +3,8 @@ use Rattle.std.proofs.lemmas.Bool.{false≢true}
 use Rattle.std.proofs.lemmas.Bool.Decides.{nat_tests}
 use Rattle.dots_history.specs.declared.entry.Entry.{Entry}
 use Rattle.live_mitigations.specs.Standing.{has_live_room}
-use Rattle.held_things.specs.Accepting.{accepts}
-use Rattle.held_things.specs.Tables as held
+use Rattle.held_resources.specs.Accepting.{accepts}
+use Rattle.held_resources.specs.Tables as held
 use Rattle.dots_registry.specs.Standing.{RegistryValue, StandsFor, time_of}
 use Rattle.dots_registry.proofs.registry.Registry.takes.Goals.{then-time-entry, else-time-entry}
 use Rattle.dots_registry.proofs.registry.Registry.takes.Goals as goal

@@ -5,7 +5,7 @@ use Rattle.dots_registry.specs.Filed.{StandsIn}
 use Rattle.dots_registry.proofs.Filed.{can_take, filed_more, room_more}
 use Rattle.std.proofs.Common.{ap, ◌∙◌}
 use Rattle.dots_history.specs.Histories.{held}
-use Rattle.held_things.specs.Held.{acls_of}
+use Rattle.held_resources.specs.Held.{acls_of}
 use Rattle.installed_filters.specs.Filters.{FiltersValue}
 use Rattle.dots_registry.proofs.Filtering.{write_fits, write_filtered}
 use Rattle.dots_registry.proofs.Rings.{made_pairs}

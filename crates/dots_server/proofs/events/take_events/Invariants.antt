@@ -1,0 +1,25 @@
+use Rattle.std.proofs.Common.{◌≡◌, ◌≤◌, ◌++◌, List}
+use Rattle.dots_disk.specs.Becoming.{RestsWith}
+use Rattle.dots_host.specs.Runs.{Added}
+use Rattle.dots_settings.specs.Settings.{SettingsValue}
+use Rattle.dots_history.specs.declared.entry.Entry.{Entry}
+use Rattle.slot_store.specs.Layout.{needed_of}
+use Rattle.slot_journal.specs.Held as journal
+use Rattle.dots_machine.specs.Machine.{State}
+use Rattle.dots_server.specs.Standing.{IsKept}
+use Rattle.dots_server.specs.Living.{Lives}
+use Rattle.dots_server.proofs.events.take_events.Given as goal
+
+abbrev pub invariant-loop-turn : goal.invariant-loop-turn
+invariant-loop-turn g l = record {
+  leads : g.H.Wire.leads l.fn.host l.host;
+  later : g.H.Wire.faults l.fn.host ≤ g.H.Wire.faults l.host;
+  disk : g.H.Disk.faults l.host ≡ g.H.Disk.faults l.fn.host;
+  size : needed_of l.server.journal.slots ≤ g.H.Disk.extent l.host;
+  settings : l.server.settings ≡ l.fn.server.settings;
+  lives : (settings : SettingsValue) (start : State) (held : List Entry) → IsKept l.fn.server settings start held
+      → RestsWith (g.H.Disk.media l.fn.host) (journal.StandsFor l.fn.server.journal settings held)
+      → (state : State) × (few : List Entry) × IsKept l.server settings state few × RestsWith (g.H.Disk.media l.host) (journal.StandsFor l.server.journal settings few)
+      × ((extra : List Entry) × (state.history ≡ start.history ++ extra))
+      × (trace : List State) × Added (g.H.Wire.acts l.fn.host) (g.H.Wire.acts l.host) (Lives settings start state l._turn (g.H.Disk.media l.fn.host) (g.H.Disk.media l.host) trace);
+}

@@ -1,0 +1,5 @@
+use Rattle.held_resources.proofs.Standing.{one_value}
+use Rattle.held_resources.proofs.laws.tables_are_one.Goals as goal
+
+pub returns : goal.returns
+returns c = one_value

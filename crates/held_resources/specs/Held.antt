@@ -1,0 +1,80 @@
+-- What a history leaves held of a client and of a peer, in what it leaves held at all.
+use Rattle.std.specs.Prelude.{ℕ, Bool, ◌&&◌, ◌==◌, nat_lt, bytes_eq, if◌then◌else◌, List, [], ◌∷◌, ◌++◌, filter, Option, Some, None, option_to_list, option_map, not}
+use Rattle.std.specs.List.{list_any, find}
+use Rattle.acl_lists.specs.declared.alias.Alias.{Alias}
+use Rattle.acl_lists.specs.declared.acl.Acl.{Acl}
+use Rattle.dots_history.specs.declared.config.Config.{Config}
+use Rattle.dots_history.specs.declared.entry.Entry.{Entry}
+use Rattle.dots_history.specs.declared.change.Change.{Change}
+use Rattle.dots_history.specs.declared.change.Change.TheVariants as change
+use Rattle.dots_history.specs.Entries.{option_any}
+use Rattle.dots_history.specs.Histories.{tally, or_else}
+use Rattle.dots_history.specs.Rows.{acl_of}
+use Rattle.dots_laws.specs.Capacities.{is_registration, is_alias, is_list}
+use Rattle.dots_laws.specs.Tables.{Client, is_of}
+use Rattle.held_resources.specs.declared.kind.RoomKind.{RoomKind}
+use Rattle.held_resources.specs.declared.kind.RoomKind.TheVariants as kind
+
+-- the alias that a change writes
+abbrev pub alias_of : Change → Option Alias
+alias_of (change.SetAlias alias) = Some alias
+alias_of _ = None
+
+-- what the entries of a client wrote of one kind, in order of writing
+abbrev pub written : {A : Type 0} → (Change → Option A) → Client → List Entry → List A
+written pick client [] = []
+written pick client (e ∷ es) = option_to_list (if is_of client e then pick e.change else None) ++ written pick client es
+
+-- the aliases of a client, and its access lists (RFC 8783, sections 6 and 7)
+abbrev pub aliases_of : Client → List Entry → List Alias
+aliases_of client standing = written alias_of client standing
+
+abbrev pub acls_of : Client → List Entry → List Acl
+acls_of client standing = written acl_of client standing
+
+-- the one of this name
+abbrev pub alias_named : List ℕ → List Alias → Option Alias
+alias_named name aliases = find (λ alias. bytes_eq name alias.name) aliases
+
+abbrev pub acl_named : List ℕ → List Acl → Option Acl
+acl_named name acls = find (λ acl. bytes_eq name acl.name) acls
+
+-- the entry registers the client (RFC 8783, section 5.1)
+abbrev pub registers : Client → Entry → Bool
+registers client e = is_registration e.change && is_of client e
+
+-- the client is registered
+abbrev pub is_registered : Client → List Entry → Bool
+is_registered client standing = list_any (registers client) standing
+
+-- The peer that registered the client, where it is registered. Of a client one registration at most is held.
+abbrev pub registrant : Client → List Entry → Option ℕ
+registrant client standing = option_map (λ (e : Entry). e.peer) (find (registers client) standing)
+
+-- the client is registered, by another peer than this one
+abbrev pub is_of_another : ℕ → Client → List Entry → Bool
+is_of_another peer client standing = option_any (λ other. not (other == peer)) (registrant client standing)
+
+-- the session configuration that a change sets, with its sid
+abbrev pub config_set : Change → Option (ℕ × Config)
+config_set (change.SetConfig sid config) = Some (sid, config)
+config_set _ = None
+
+-- that of a peer (RFC 9132, section 4.5.2)
+abbrev pub config_of : ℕ → List Entry → Option (ℕ × Config)
+config_of peer [] = None
+config_of peer (e ∷ es) = or_else (if e.peer == peer then config_set e.change else None) (config_of peer es)
+
+-- how many registered clients the client's domain has, and how many aliases and access lists the client
+abbrev pub number_of : RoomKind → Client → List Entry → ℕ
+number_of kind.Client client standing = tally (λ e. is_registration e.change && (e.domain == client.domain)) standing
+number_of kind.Alias client standing = tally (λ e. is_alias e.change && is_of client e) standing
+number_of kind.Acl client standing = tally (λ e. is_list e.change && is_of client e) standing
+
+-- the number that there may be of a kind, where it is reached
+abbrev pub reached : ℕ → ℕ → Option ℕ
+reached most number = if nat_lt number most then None else Some most
+
+-- the entries of a client alone
+abbrev pub of_client : Client → List Entry → List Entry
+of_client client entries = filter (is_of client) entries

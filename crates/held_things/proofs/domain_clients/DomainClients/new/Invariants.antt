@@ -1,7 +1,0 @@
-use Rattle.std.proofs.Common.{◌≡◌, ◌≤◌, length, vec_capacity}
-use Rattle.held_things.specs.Tables.{AreEmpty}
-use Rattle.held_things.proofs.domain_clients.DomainClients.new.Given as goal
-
-abbrev pub invariant-loop : goal.invariant-loop
-invariant-loop l =
-    (length l.spare.items ≡ l.counter) × AreEmpty l.rooms l.spare.items × (l.rooms.clients ≤ vec_capacity l.spare)

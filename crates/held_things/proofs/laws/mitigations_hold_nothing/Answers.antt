@@ -1,5 +1,0 @@
-use Rattle.held_things.proofs.Lawful.{still_stands}
-use Rattle.held_things.proofs.laws.mitigations_hold_nothing.Goals as goal
-
-pub returns : goal.returns
-returns c = still_stands

@@ -1,5 +1,0 @@
-use Rattle.held_things.proofs.Standing.{one_value}
-use Rattle.held_things.proofs.laws.tables_are_one.Goals as goal
-
-pub returns : goal.returns
-returns c = one_value

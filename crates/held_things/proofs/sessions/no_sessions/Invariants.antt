@@ -1,8 +1,0 @@
-use Rattle.std.proofs.Common.{◌≡◌, map, take, None}
-use Rattle.dots_settings.specs.declared.peer.PeerRow.{PeerRow}
-use Rattle.held_things.specs.declared.sessions.Session.{Session}
-use Rattle.held_things.specs.Tables.{no_session}
-use Rattle.held_things.proofs.sessions.no_sessions.Given as goal
-
-abbrev pub invariant-loop-row : goal.invariant-loop-row
-invariant-loop-row l = l.sessions.items ≡ map no_session (take l.row-index l.peers)

@@ -1,5 +1,0 @@
-use Rattle.judged_entries.proofs.Alone.{judged_apart, collides_apart, shown_apart}
-use Rattle.judged_entries.proofs.laws.judgements_are_apart.Goals as goal
-
-pub returns : goal.returns
-returns c = record { judged = judged_apart; collides = collides_apart; shown = shown_apart }

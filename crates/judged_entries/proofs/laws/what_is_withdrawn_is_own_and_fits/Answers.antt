@@ -1,7 +1,0 @@
-use Rattle.judged_entries.proofs.Inside.{own_withdrawal}
-use Rattle.judged_entries.proofs.Bounded.{bounded_withdrawal}
-use Rattle.judged_entries.proofs.Fitting.{fits_withdrawal, limits_withdrawal}
-use Rattle.judged_entries.proofs.laws.what_is_withdrawn_is_own_and_fits.Goals as goal
-
-pub returns : goal.returns
-returns c = record { own = own_withdrawal; bounded = bounded_withdrawal; fits = fits_withdrawal; limits = limits_withdrawal }
