@@ -1,6 +1,6 @@
 -- What the judgement by the mid says of the mitigation that it finds.
 use Rattle.std.proofs.Common.{◌≡◌, ℕ, zero, suc, ◌+◌, ◌-◌, ◌<◌, ◌≤◌, Bool, true, false, cond, List, [], ◌∷◌, map, length, Option, Some, None, Result, Ok, Err, inl, inr, refl, sym, ap, ◌∙◌, subst, arith}
-use Rattle.std.specs.Prelude.{ℤ, ◌||◌, slice_get}
+use Rattle.std.specs.Prelude.{ℤ, ◌||◌, slice_get, ⊤}
 use Rattle.std.specs.List.{find}
 use Rattle.std.proofs.lemmas.Bool.{cond-true, cond-false, cases_Bool, or_from}
 use Rattle.std.proofs.lemmas.Option.{none-some, same_Some}
@@ -77,55 +77,86 @@ within_there [] i x is = absurd (none-some x is)
 within_there (y ∷ xs) zero x is = omega arith
 within_there (y ∷ xs) (suc i) x is = let rest : i < length xs = within_there xs i x is in omega (arith, rest)
 
+-- the judgement isn't that the name is in use
+abbrev IsFree : MidJudgement → Type 0
+IsFree Collision = ⊥
+IsFree (Refresh at) = ⊤
+IsFree Changed = ⊤
+IsFree New = ⊤
+
 module _ (settings : SettingsValue) (live : List Live) (client : ClientValue) (time : ℕ) (request : Request)
-    (none : collides live request.peer request.cuid ≡ false) (own : is_of_another request.peer client ≡ false) where
+    (own : is_of_another request.peer client ≡ false) where
   abbrev mid_judged : MidJudgement
   mid_judged = judge_mid live request.peer request.cuid request.mid request.asked
 
   abbrev known : Option Live → Result Judged PutFault
   known m = judge_known settings live client.aliases time request m
 
-  free_mid : mid_judged ≡ judge_same_mid request.cuid request.mid request.asked 0 live
-  free_mid = cond-false (collides live request.peer request.cuid) Collision (judge_same_mid request.cuid request.mid request.asked 0 live) none
+  none_taken : (j : MidJudgement) → IsFree j → mid_judged ≡ j → collides live request.peer request.cuid ≡ false
+  none_taken j free is =
+      elim (cases_Bool (collides live request.peer request.cuid)) [
+        | inl taken ↦
+            absurd
+            (subst IsFree
+            (sym is ∙ cond-true (collides live request.peer request.cuid) Collision (judge_same_mid request.cuid request.mid request.asked 0 live) taken)
+            free)
+        | inr none ↦ none
+      ]
 
-  judged_known : judge_put settings live client time request ≡ known (find (has_mid request.cuid request.mid) live)
-  judged_known =
+  judged_known : (j : MidJudgement) → IsFree j → mid_judged ≡ j
+      → judge_put settings live client time request ≡ known (find (has_mid request.cuid request.mid) live)
+  judged_known j free is =
       cond-false
       (collides live request.peer request.cuid || is_of_another request.peer client)
       (Err faults.Collision)
       (known (find (has_mid request.cuid request.mid) live))
-      (or_from (collides live request.peer request.cuid) (is_of_another request.peer client) none own)
+      (or_from (collides live request.peer request.cuid) (is_of_another request.peer client) (none_taken j free is) own)
 
-  says_mid : (j : MidJudgement) → mid_judged ≡ j → Says request.cuid request.mid request.asked 0 live j
-  says_mid j is =
-      subst (Says request.cuid request.mid request.asked 0 live) (sym free_mid ∙ is) (says_of request.cuid request.mid request.asked 0 live)
+  says_free : (j : MidJudgement) → collides live request.peer request.cuid ≡ false → mid_judged ≡ j
+      → Says request.cuid request.mid request.asked 0 live j
+  says_free j none is =
+      let same_mid : mid_judged ≡ judge_same_mid request.cuid request.mid request.asked 0 live
+      = cond-false (collides live request.peer request.cuid) Collision (judge_same_mid request.cuid request.mid request.asked 0 live) none in
+      subst (Says request.cuid request.mid request.asked 0 live) (sym same_mid ∙ is) (says_of request.cuid request.mid request.asked 0 live)
 
-  pub never_collides : mid_judged ≡ Collision → ⊥
-  never_collides is = says_mid Collision is
+  says_mid : (j : MidJudgement) → IsFree j → mid_judged ≡ j → Says request.cuid request.mid request.asked 0 live j
+  says_mid j free is = says_free j (none_taken j free is) is
+
+  pub taken : mid_judged ≡ Collision → judge_put settings live client time request ≡ Err faults.Collision
+  taken is =
+      elim (cases_Bool (collides live request.peer request.cuid)) [
+        | inl yes ↦
+            cond-true
+            (collides live request.peer request.cuid || is_of_another request.peer client)
+            (Err faults.Collision)
+            (known (find (has_mid request.cuid request.mid) live))
+            (ap (λ b. b || is_of_another request.peer client) yes)
+        | inr none ↦ absurd (says_free Collision none is)
+      ]
 
   pub at_place : (at : ℕ) → mid_judged ≡ Refresh at → (m : Live) × (slice_get live at ≡ Some m)
   at_place at is =
-      let says = says_mid (Refresh at) is in
+      let says = says_mid (Refresh at) tt is in
       let same : at - 0 ≡ at = omega arith in
       (says.0, sym (ap (slice_get live) same) ∙ says.4)
 
   pub refreshes : (at : ℕ) (m : Live) → mid_judged ≡ Refresh at → slice_get live at ≡ Some m
       → judge_put settings live client time request ≡ Ok (refreshed settings m.put request)
   refreshes at m is there =
-      let says = says_mid (Refresh at) is in
+      let says = says_mid (Refresh at) tt is in
       let place : at - 0 ≡ at = omega arith in
       let same : says.0 ≡ m = same_Some says.0 m (sym says.4 ∙ ap (slice_get live) place ∙ there) in
-      judged_known
+      judged_known (Refresh at) tt is
       ∙ ap known says.1
       ∙ cond-true (asks_the_same says.0.put.asked request.asked) (Ok (refreshed settings says.0.put request)) (Err faults.Changed) says.2
       ∙ ap (λ (x : Live). Ok (refreshed settings x.put request)) same
 
   pub changes : mid_judged ≡ Changed → judge_put settings live client time request ≡ Err faults.Changed
   changes is =
-      let says = says_mid Changed is in
-      judged_known
+      let says = says_mid Changed tt is in
+      judged_known Changed tt is
       ∙ ap known says.1
       ∙ cond-false (asks_the_same says.0.put.asked request.asked) (Ok (refreshed settings says.0.put request)) (Err faults.Changed) says.2
 
   pub is_new : mid_judged ≡ New → judge_put settings live client time request ≡ judge_new settings live client.aliases time request
-  is_new is = judged_known ∙ ap known (says_mid New is)
+  is_new is = judged_known New tt is ∙ ap known (says_mid New tt is)

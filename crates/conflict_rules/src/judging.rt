@@ -7,7 +7,7 @@ ghost use Rattle.lifetime_clock.specs.Lifetime.{IsLifetime};
 ghost use Rattle.conflict_rules.specs.Judging.{granted_put, refreshed, overlap_fault, judge_targets, judge_new, judge_put};
 ghost use Rattle.conflict_rules.specs.Results.{Gives};
 
-use crate::by_mid::{MidJudgement, collides, judge_mid};
+use crate::by_mid::{MidJudgement, judge_mid};
 use crate::by_overlap::{Judgement, are_few, judge_overlap};
 use crate::fault::PutFault;
 use crate::live::Mitigates;
@@ -42,7 +42,7 @@ pub fn judge_put<T: Mitigates>(
     requires { IsLifetime request.now.lifetime }
     ensures { Gives result (judge_put settings.now (map T.live live.now) client.now time request.now) }
 {
-    if collides(live, request.peer, request.cuid) || client.is_of_another(request.peer) {
+    if client.is_of_another(request.peer) {
         return Err(PutFault::Collision);
     }
     match judge_mid(live, request.peer, request.cuid, request.mid, request.asked) {

@@ -1,9 +1,8 @@
 pub mod Fates
-pub mod Deciding
 pub mod PlaceLaws
 pub mod Remembering
 pub mod HeldPlaces
-pub mod Tracks
+pub mod Cuts
 pub mod Placing
 pub mod CalmPlaces
 pub mod NamedPlaces

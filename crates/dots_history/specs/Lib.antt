@@ -1,5 +1,4 @@
 pub mod Bounds
-pub mod Deciding
 pub mod Entries
 pub mod Histories
 pub mod Keeping

@@ -26,7 +26,7 @@ fn is_undone(entry: &Entry, later: &[Entry]) -> bool
 
 /// Whether what the earlier entry wrote is no longer held after the later one.
 #[tactic(auto, unfolding(crate::specs::Entries::undoes))]
-pub fn undoes(earlier: &Entry, later: &Entry) -> bool
+fn undoes(earlier: &Entry, later: &Entry) -> bool
     ensures { result ≡ undoes earlier.now later.now }
 {
     (is_same_client(earlier, later) && undoes_of_client(&earlier.change, &later.change))
@@ -42,19 +42,13 @@ fn reconfigures(earlier: &Entry, later: &Entry) -> bool
 
 /// Whether the change writes something that is held until a later change undoes it.
 #[tactic(auto, unfolding(crate::specs::Entries::is_held))]
-pub fn is_held(change: &Change) -> bool
+fn is_held(change: &Change) -> bool
     ensures { result ≡ is_held change.now }
 {
-    match change {
-        Change::Register | Change::SetAlias(_) | Change::SetAcl(_) | Change::SetConfig { .. } =>
-            true,
-        Change::Put(_)
-        | Change::Withdraw { .. }
-        | Change::DropAlias { .. }
-        | Change::DropAcl { .. }
-        | Change::Deregister
-        | Change::ClearConfig => false,
-    }
+    matches!(
+        change,
+        Change::Register | Change::SetAlias(_) | Change::SetAcl(_) | Change::SetConfig { .. }
+    )
 }
 
 #[tactic(auto, unfolding(crate::specs::Entries::undoes_of_client))]
@@ -65,49 +59,33 @@ fn undoes_of_client(earlier: &Change, later: &Change) -> bool
         Change::Register => is_leave(later),
         Change::SetAlias(alias) => undoes_alias(&alias.name, later),
         Change::SetAcl(acl) => undoes_acl(&acl.name, later),
-        Change::Put(_)
-        | Change::Withdraw { .. }
-        | Change::DropAlias { .. }
-        | Change::DropAcl { .. }
-        | Change::Deregister
-        | Change::SetConfig { .. }
-        | Change::ClearConfig => false,
+        _ => false,
     }
 }
 
+/// Whether the change takes the alias of this name away, or writes it anew (RFC 8783, sections 5.2, 6.1 and 6.3).
 #[tactic(auto, unfolding(crate::specs::Entries::undoes_alias))]
-fn undoes_alias(name: &Name, later: &Change) -> bool
+pub fn undoes_alias(name: &Name, later: &Change) -> bool
     ensures { result ≡ undoes_alias name.now later.now }
 {
     match later {
         Change::SetAlias(other) => name.bytes() == other.name.bytes(),
         Change::DropAlias { name: other } => name.bytes() == other.bytes(),
         Change::Deregister => true,
-        Change::Put(_)
-        | Change::Withdraw { .. }
-        | Change::SetAcl(_)
-        | Change::DropAcl { .. }
-        | Change::Register
-        | Change::SetConfig { .. }
-        | Change::ClearConfig => false,
+        _ => false,
     }
 }
 
+/// The same of the access list of this name (RFC 8783, sections 5.2, 7.2 and 7.4).
 #[tactic(auto, unfolding(crate::specs::Entries::undoes_acl))]
-fn undoes_acl(name: &Name, later: &Change) -> bool
+pub fn undoes_acl(name: &Name, later: &Change) -> bool
     ensures { result ≡ undoes_acl name.now later.now }
 {
     match later {
         Change::SetAcl(other) => name.bytes() == other.name.bytes(),
         Change::DropAcl { name: other } => name.bytes() == other.bytes(),
         Change::Deregister => true,
-        Change::Put(_)
-        | Change::Withdraw { .. }
-        | Change::SetAlias(_)
-        | Change::DropAlias { .. }
-        | Change::Register
-        | Change::SetConfig { .. }
-        | Change::ClearConfig => false,
+        _ => false,
     }
 }
 
@@ -116,36 +94,14 @@ fn undoes_acl(name: &Name, later: &Change) -> bool
 pub fn is_leave(change: &Change) -> bool
     ensures { result ≡ is_leave change.now }
 {
-    match change {
-        Change::Deregister => true,
-        Change::Put(_)
-        | Change::Withdraw { .. }
-        | Change::SetAlias(_)
-        | Change::DropAlias { .. }
-        | Change::SetAcl(_)
-        | Change::DropAcl { .. }
-        | Change::Register
-        | Change::SetConfig { .. }
-        | Change::ClearConfig => false,
-    }
+    matches!(change, Change::Deregister)
 }
 
 #[tactic(auto, unfolding(crate::specs::Entries::undoes_of_peer))]
 fn undoes_of_peer(earlier: &Change, later: &Change) -> bool
     ensures { result ≡ undoes_of_peer earlier.now later.now }
 {
-    match earlier {
-        Change::SetConfig { .. } => is_configuration(later),
-        Change::Put(_)
-        | Change::Withdraw { .. }
-        | Change::SetAlias(_)
-        | Change::DropAlias { .. }
-        | Change::SetAcl(_)
-        | Change::DropAcl { .. }
-        | Change::Register
-        | Change::Deregister
-        | Change::ClearConfig => false,
-    }
+    matches!(earlier, Change::SetConfig { .. }) && is_configuration(later)
 }
 
 /// Whether the change sets or deletes a session configuration.
@@ -153,15 +109,5 @@ fn undoes_of_peer(earlier: &Change, later: &Change) -> bool
 pub fn is_configuration(change: &Change) -> bool
     ensures { result ≡ is_configuration change.now }
 {
-    match change {
-        Change::SetConfig { .. } | Change::ClearConfig => true,
-        Change::Put(_)
-        | Change::Withdraw { .. }
-        | Change::SetAlias(_)
-        | Change::DropAlias { .. }
-        | Change::SetAcl(_)
-        | Change::DropAcl { .. }
-        | Change::Register
-        | Change::Deregister => false,
-    }
+    matches!(change, Change::SetConfig { .. } | Change::ClearConfig)
 }

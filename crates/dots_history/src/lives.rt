@@ -2,7 +2,7 @@
 
 ghost use Rattle.std.specs.Prelude.{◌≡◌, ◌+◌, nat_lt};
 ghost use Rattle.dots_history.specs.Entries.{granted_at, lasts, runs};
-ghost use Rattle.dots_history.specs.Histories.{step, status, live, seconds_of};
+ghost use Rattle.dots_history.specs.Histories.{step, status, live};
 ghost use Rattle.dots_history.specs.declared.status.Status.TheVariants.{Open};
 
 use crate::change::Change;
@@ -14,7 +14,7 @@ use crate::status::Status;
 const INDEFINITE: i32 = -1;
 
 /// For how long a withdrawn mitigation goes on, in seconds (RFC 9132, section 4.4.4).
-pub(crate) const TERMINATING: u64 = 120;
+const TERMINATING: u64 = 120;
 
 /// Whether a lifetime granted at one time, in seconds or -1, isn't over at the time t.
 #[tactic(auto, unfolding(crate::specs::Entries::granted_at))]
@@ -22,16 +22,6 @@ pub fn is_granted_at(t: u64, at: u64, granted: i32) -> bool
     ensures { result ≡ granted_at t at granted }
 {
     granted == INDEFINITE || i128::from(t) < i128::from(at) + i128::from(granted)
-}
-
-/// The seconds from the time t until a lifetime granted at one time is over, or -1 where it is indefinite.
-pub(crate) fn seconds_of(t: u64, at: u64, granted: i32) -> i128
-    ensures { result ≡ seconds_of t at granted }
-{
-    if granted == INDEFINITE {
-        return -1;
-    }
-    i128::from(at) + i128::from(granted) - i128::from(t)
 }
 
 #[tactic(auto, unfolding(crate::specs::Entries::lasts))]
@@ -46,14 +36,14 @@ fn lasts(t: u64, at: u64, change: &Change) -> bool
 
 /// Whether the entry is a mitigation whose lifetime isn't over at the time t.
 #[tactic(auto, unfolding(crate::specs::Entries::runs))]
-pub fn runs(t: u64, entry: &Entry) -> bool
+fn runs(t: u64, entry: &Entry) -> bool
     ensures { result ≡ runs t entry.now }
 {
     lasts(t, entry.time, &entry.change)
 }
 
 /// The status of a mitigation after one more entry.
-pub fn step(put: &Entry, old: Status, entry: &Entry) -> Status
+fn step(put: &Entry, old: Status, entry: &Entry) -> Status
     ensures { result ≡ step put.now old entry.now }
 {
     match old {
@@ -77,7 +67,7 @@ pub fn step(put: &Entry, old: Status, entry: &Entry) -> Status
 }
 
 /// What these entries make of the status of a mitigation before them.
-pub fn status_after(put: &Entry, old: Status, later: &[Entry]) -> Status
+pub(crate) fn status_after(put: &Entry, old: Status, later: &[Entry]) -> Status
     ensures { result ≡ status put.now old later.now }
 {
     let mut now = old;

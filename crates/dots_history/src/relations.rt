@@ -39,7 +39,7 @@ fn replaces(earlier: &Change, later: &Change) -> bool
 
 /// Whether the later entry withdraws the earlier, which is a mitigation of its client with the mid that it names.
 #[tactic(auto, unfolding(crate::specs::Entries::withdraws))]
-pub fn withdraws(earlier: &Entry, later: &Entry) -> bool
+pub(crate) fn withdraws(earlier: &Entry, later: &Entry) -> bool
     ensures { result ≡ withdraws earlier.now later.now }
 {
     is_same_client(earlier, later) && takes_back(&earlier.change, &later.change)
@@ -61,38 +61,23 @@ pub fn put_of(change: &Change) -> Option<&Put>
 {
     match change {
         Change::Put(put) => Some(put),
-        Change::Withdraw { .. }
-        | Change::SetAlias(_)
-        | Change::DropAlias { .. }
-        | Change::SetAcl(_)
-        | Change::DropAcl { .. }
-        | Change::Register
-        | Change::Deregister
-        | Change::SetConfig { .. }
-        | Change::ClearConfig => None,
+        _ => None,
     }
 }
 
-fn withdrawn_mid(change: &Change) -> Option<u32>
+/// The mid that a change withdraws.
+pub fn withdrawn_mid(change: &Change) -> Option<u32>
     ensures { result ≡ withdrawn_mid change.now }
 {
     match change {
         Change::Withdraw { mid } => Some(*mid),
-        Change::Put(_)
-        | Change::SetAlias(_)
-        | Change::DropAlias { .. }
-        | Change::SetAcl(_)
-        | Change::DropAcl { .. }
-        | Change::Register
-        | Change::Deregister
-        | Change::SetConfig { .. }
-        | Change::ClearConfig => None,
+        _ => None,
     }
 }
 
 /// Whether the entry is a change that the peer made for the domain on the signal channel.
 #[tactic(auto, unfolding(crate::specs::Entries::signals))]
-pub fn signals(peer: u32, domain: u16, entry: &Entry) -> bool
+pub(crate) fn signals(peer: u32, domain: u16, entry: &Entry) -> bool
     ensures { result ≡ signals peer domain entry.now }
 {
     is_signal(&entry.change) && entry.peer == peer && entry.domain == domain
@@ -103,14 +88,8 @@ pub fn signals(peer: u32, domain: u16, entry: &Entry) -> bool
 pub fn is_signal(change: &Change) -> bool
     ensures { result ≡ is_signal change.now }
 {
-    match change {
-        Change::Put(_) | Change::Withdraw { .. } | Change::SetConfig { .. } | Change::ClearConfig =>
-            true,
-        Change::SetAlias(_)
-        | Change::DropAlias { .. }
-        | Change::SetAcl(_)
-        | Change::DropAcl { .. }
-        | Change::Register
-        | Change::Deregister => false,
-    }
+    matches!(
+        change,
+        Change::Put(_) | Change::Withdraw { .. } | Change::SetConfig { .. } | Change::ClearConfig
+    )
 }

@@ -50,7 +50,7 @@ pub fn is_remembered(t: u64, id: u16, at: u64, key: MessageKey) -> bool
 }
 
 /// Whether the entry is a signal entry with fewer than `count` of its peer and domain after it.
-pub fn is_recent(count: usize, entry: &Entry, later: &[Entry]) -> bool
+fn is_recent(count: usize, entry: &Entry, later: &[Entry]) -> bool
     ensures { result ≡ is_recent count entry.now later.now }
 {
     is_signal(&entry.change) && signals_of(entry.peer, entry.domain, later) < count

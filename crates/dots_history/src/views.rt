@@ -1,14 +1,12 @@
 //! The view of a history, each part in order of the entries.
 
 ghost use Rattle.std.specs.Prelude.{◌≡◌, IfOk, map, option_copied};
-ghost use Rattle.dots_history.specs.Histories.{mitigations, recent, held, seconds_left};
+ghost use Rattle.dots_history.specs.Histories.{mitigations, held};
 ghost use Rattle.dots_history.specs.Viewing.{mitigation_of};
 
 use crate::entry::Entry;
 use crate::holding::is_still_held;
-use crate::lives::{TERMINATING, is_live, seconds_of, status_after};
-use crate::relations::put_of;
-use crate::reply::is_recent;
+use crate::lives::{is_live, status_after};
 use crate::status::Status;
 use dots_lists::NoMemory;
 use std::alloc::Global;
@@ -33,38 +31,6 @@ pub fn mitigations<'a>(
         let status = status_after(put, Status::Open, &entries[place + 1..]);
         if is_live(t, put, status) {
             list.push(Mitigation { put, status })?;
-        }
-    }
-    Ok(list)
-}
-
-/// The seconds left of a live mitigation at the time t: of its lifetime, -1 where that is indefinite, or until it is no
-/// longer terminating (RFC 9132, sections 4.4.2 and 4.4.4).
-pub fn seconds_left(t: u64, put: &Entry, status: Status) -> i128
-    ensures { result ≡ seconds_left t put.now status }
-{
-    match status {
-        Status::Open => match put_of(&put.change) {
-            Some(granted) => seconds_of(t, put.time, granted.granted),
-            None => 0,
-        },
-        Status::Withdrawn(at) => i128::from(at) + i128::from(TERMINATING) - i128::from(t),
-        Status::Ended => 0,
-    }
-}
-
-/// The last `count` signal entries of each peer and domain.
-pub fn recent<'a>(
-    alloc: Global,
-    count: usize,
-    entries: &'a [Entry],
-) -> Result<Vec<&'a Entry>, NoMemory>
-    ensures { IfOk result (λ list. map (λ e. e.now) list.items ≡ recent count entries.now) }
-{
-    let mut list = Vec::new(alloc);
-    for (place, entry) in entries.iter().enumerate() {
-        if is_recent(count, entry, &entries[place + 1..]) {
-            list.push(entry)?;
         }
     }
     Ok(list)

@@ -14,7 +14,7 @@ use dots_settings::{Limits, Settings};
 const TIMES: u64 = 1 << 48;
 
 /// Whether a history is calm: each of its entries joins those before it.
-#[tactic(auto, using(dots_history::proofs::Tracks::take_push, dots_history::proofs::Tracks::drop_next))]
+#[tactic(auto, using(dots_history::proofs::Cuts::take_push, dots_history::proofs::Cuts::drop_next))]
 pub fn is_calm(settings: &Settings, entries: &[Entry]) -> bool
     ensures { result ≡ is_calm settings.now entries.now }
 {

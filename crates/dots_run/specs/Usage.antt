@@ -12,7 +12,7 @@ usage_text =
     ++ codes "dots check SETTINGS    prints what a settings file comes to, or its first fault and why it is one\n"
     ++ codes "dots check-script      reads a script from standard input: prints how many events it has, or its first fault, and why\n"
     ++ codes "dots help              prints this\n"
-    ++ codes "dots version           prints the version of the program, and of the kit that it is proved with\n"
+    ++ codes "dots version           prints the version of the program, and the logic that it is proved with\n"
     ++ codes "\n"
     ++ codes "SETTINGS is a file that names domains, their prefixes, and the peers that may ask for them. docs/PROTOCOL.md has its\n"
     ++ codes "lines, those of a script, and what is printed; docs/OPERATING.md has those of a host file. README.md begins with an\n"
@@ -38,6 +38,6 @@ usage_text =
     ++ codes "  11  no end came within 2^40 events or lines: cut the script, or begin again\n"
     ++ codes "  70  the program isn't built yet, and can't be built: what stands above says why\n"
 
--- the version of the program, and the line of the kit that it is proved with
+-- the version of the program, and the logic that it is proved with
 unfoldable pub version_text : List ℕ
-version_text = codes "dots 0.1\n" ++ codes "rattle-kit-13f logic dac8208d650f15bf\n"
+version_text = codes "dots 0.1\n" ++ codes "logic dac8208d650f15bf\n"

@@ -7,6 +7,6 @@ pub enum Topic {
     Script,
     /// How the program is called.
     Usage,
-    /// The version of the program, and of the kit that it is proved with.
+    /// The version of the program, and the logic that it is proved with.
     Version,
 }

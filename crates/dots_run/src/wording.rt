@@ -17,7 +17,7 @@ dots show HEX          prints the CoAP message that bytes in hexadecimal spell
 dots check SETTINGS    prints what a settings file comes to, or its first fault and why it is one
 dots check-script      reads a script from standard input: prints how many events it has, or its first fault, and why
 dots help              prints this
-dots version           prints the version of the program, and of the kit that it is proved with
+dots version           prints the version of the program, and the logic that it is proved with
 
 SETTINGS is a file that names domains, their prefixes, and the peers that may ask for them. docs/PROTOCOL.md has its
 lines, those of a script, and what is printed; docs/OPERATING.md has those of a host file. README.md begins with an
@@ -45,10 +45,10 @@ The exit status, and what to do:
 "
 }
 
-/// The version of the program, and the line of the kit that it is proved with.
+/// The version of the program, and the logic that it is proved with.
 #[tactic(auto, unfolding(crate::specs::Usage::version_text))]
 pub fn version() -> &'static [u8]
     ensures { result.now ≡ version_text }
 {
-    b"dots 0.1\nrattle-kit-13f logic dac8208d650f15bf\n"
+    b"dots 0.1\nlogic dac8208d650f15bf\n"
 }

@@ -79,7 +79,7 @@ $ help
 = dots check SETTINGS    prints what a settings file comes to, or its first fault and why it is one
 = dots check-script      reads a script from standard input: prints how many events it has, or its first fault, and why
 = dots help              prints this
-= dots version           prints the version of the program, and of the kit that it is proved with
+= dots version           prints the version of the program, and the logic that it is proved with
 =
 = SETTINGS is a file that names domains, their prefixes, and the peers that may ask for them. docs/PROTOCOL.md has its
 = lines, those of a script, and what is printed; docs/OPERATING.md has those of a host file. README.md begins with an
@@ -111,7 +111,7 @@ $ help
 
 $ version
 = dots 0.1
-= rattle-kit-13f logic dac8208d650f15bf
+= logic dac8208d650f15bf
 
 # a message, and one that is none; where the first write fails the status of a fault stays
 $ show 40001234

@@ -3,14 +3,13 @@ use Rattle.std.proofs.lemmas.List.{length-map}
 use Rattle.conflict_rules.specs.Requests.{Request, ClientValue}
 use Rattle.conflict_rules.specs.Judging.{refreshed, judge_new, judge_put}
 use Rattle.conflict_rules.specs.Results.{Gives}
-use Rattle.conflict_rules.proofs.Mids.{asked_by, within_there, never_collides, at_place, refreshes, changes, is_new}
+use Rattle.conflict_rules.proofs.Mids.{asked_by, within_there, taken, at_place, refreshes, changes, is_new}
 use Rattle.conflict_rules.proofs.judging.judge_put.Goals as goal
 
 pub put_at-requires : goal.put_at-requires
 put_at-requires g c =
     let there = at_place c.args.settings.now (map g.T.Mitigates.live c.args.live.now) c.args.client.now c.args.time
     (asked_by c.request.inside.peer c.request.inside.cuid.now c.request.inside.mid c.request.inside.asked.now c.request.inside.lifetime)
-    (sym c.collides.ensures ∙ c.if-collides.false)
     (sym c.is_of_another.ensures ∙ c.if-is_of_another.false)
     c.in-Refresh.at
     (sym c.in-Refresh.ensures) in
@@ -19,19 +18,17 @@ put_at-requires g c =
 
 pub returns-in-Collision : goal.returns-in-Collision
 returns-in-Collision g c =
-    absurd
-    (never_collides c.args.settings.now (map g.T.Mitigates.live c.args.live.now) c.args.client.now c.args.time
+    ap (judge_put c.args.settings.now (map g.T.Mitigates.live c.args.live.now) c.args.client.now c.args.time) (sym c.request.view_is)
+    ∙ taken c.args.settings.now (map g.T.Mitigates.live c.args.live.now) c.args.client.now c.args.time
     (asked_by c.request.inside.peer c.request.inside.cuid.now c.request.inside.mid c.request.inside.asked.now c.request.inside.lifetime)
-    (sym c.collides.ensures ∙ c.if-collides.false)
     (sym c.is_of_another.ensures ∙ c.if-is_of_another.false)
-    (sym c.in-Collision.ensures))
+    (sym c.in-Collision.ensures)
 
 pub returns-in-Changed : goal.returns-in-Changed
 returns-in-Changed g c =
     ap (judge_put c.args.settings.now (map g.T.Mitigates.live c.args.live.now) c.args.client.now c.args.time) (sym c.request.view_is)
     ∙ changes c.args.settings.now (map g.T.Mitigates.live c.args.live.now) c.args.client.now c.args.time
     (asked_by c.request.inside.peer c.request.inside.cuid.now c.request.inside.mid c.request.inside.asked.now c.request.inside.lifetime)
-    (sym c.collides.ensures ∙ c.if-collides.false)
     (sym c.is_of_another.ensures ∙ c.if-is_of_another.false)
     (sym c.in-Changed.ensures)
 
@@ -39,7 +36,6 @@ pub returns-in-Refresh : goal.returns-in-Refresh
 returns-in-Refresh g c =
     let there = at_place c.args.settings.now (map g.T.Mitigates.live c.args.live.now) c.args.client.now c.args.time
     (asked_by c.request.inside.peer c.request.inside.cuid.now c.request.inside.mid c.request.inside.asked.now c.request.inside.lifetime)
-    (sym c.collides.ensures ∙ c.if-collides.false)
     (sym c.is_of_another.ensures ∙ c.if-is_of_another.false)
     c.in-Refresh.at
     (sym c.in-Refresh.ensures) in
@@ -48,7 +44,6 @@ returns-in-Refresh g c =
     (sym (ap (judge_put c.args.settings.now (map g.T.Mitigates.live c.args.live.now) c.args.client.now c.args.time) (sym c.request.view_is)
     ∙ refreshes c.args.settings.now (map g.T.Mitigates.live c.args.live.now) c.args.client.now c.args.time
     (asked_by c.request.inside.peer c.request.inside.cuid.now c.request.inside.mid c.request.inside.asked.now c.request.inside.lifetime)
-    (sym c.collides.ensures ∙ c.if-collides.false)
     (sym c.is_of_another.ensures ∙ c.if-is_of_another.false)
     c.in-Refresh.at
     there.0
@@ -65,7 +60,6 @@ returns-in-New g c =
     (sym (ap (judge_put c.args.settings.now (map g.T.Mitigates.live c.args.live.now) c.args.client.now c.args.time) (sym c.request.view_is)
     ∙ is_new c.args.settings.now (map g.T.Mitigates.live c.args.live.now) c.args.client.now c.args.time
     (asked_by c.request.inside.peer c.request.inside.cuid.now c.request.inside.mid c.request.inside.asked.now c.request.inside.lifetime)
-    (sym c.collides.ensures ∙ c.if-collides.false)
     (sym c.is_of_another.ensures ∙ c.if-is_of_another.false)
     (sym c.in-New.ensures)
     ∙ ap (judge_new c.args.settings.now (map g.T.Mitigates.live c.args.live.now) c.args.client.now.aliases c.args.time) c.request.view_is
