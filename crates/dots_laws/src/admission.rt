@@ -86,75 +86,36 @@ fn is_registered(before: &[Entry], entry: &Entry) -> bool
     false
 }
 
+/// Whether a client registers.
 #[tactic(auto, unfolding(crate::specs::Capacities::is_registration))]
-fn is_registration(change: &Change) -> bool
+pub fn is_registration(change: &Change) -> bool
     ensures { result ≡ is_registration change.now }
 {
-    match change {
-        Change::Register => true,
-        Change::Put(_)
-        | Change::Withdraw { .. }
-        | Change::SetAlias(_)
-        | Change::DropAlias { .. }
-        | Change::SetAcl(_)
-        | Change::DropAcl { .. }
-        | Change::Deregister
-        | Change::SetConfig { .. }
-        | Change::ClearConfig => false,
-    }
+    matches!(change, Change::Register)
 }
 
+/// Whether an alias is written.
 #[tactic(auto, unfolding(crate::specs::Capacities::is_alias))]
-fn is_alias(change: &Change) -> bool
+pub fn is_alias(change: &Change) -> bool
     ensures { result ≡ is_alias change.now }
 {
-    match change {
-        Change::SetAlias(_) => true,
-        Change::Put(_)
-        | Change::Withdraw { .. }
-        | Change::DropAlias { .. }
-        | Change::SetAcl(_)
-        | Change::DropAcl { .. }
-        | Change::Register
-        | Change::Deregister
-        | Change::SetConfig { .. }
-        | Change::ClearConfig => false,
-    }
+    matches!(change, Change::SetAlias(_))
 }
 
+/// Whether an access list is written.
 #[tactic(auto, unfolding(crate::specs::Capacities::is_list))]
-fn is_list(change: &Change) -> bool
+pub fn is_list(change: &Change) -> bool
     ensures { result ≡ is_list change.now }
 {
-    match change {
-        Change::SetAcl(_) => true,
-        Change::Put(_)
-        | Change::Withdraw { .. }
-        | Change::SetAlias(_)
-        | Change::DropAlias { .. }
-        | Change::DropAcl { .. }
-        | Change::Register
-        | Change::Deregister
-        | Change::SetConfig { .. }
-        | Change::ClearConfig => false,
-    }
+    matches!(change, Change::SetAcl(_))
 }
 
+/// Whether a mitigation is put or withdrawn.
 #[tactic(auto, unfolding(crate::specs::Fits::is_of_mitigations))]
-fn is_of_mitigations(change: &Change) -> bool
+pub fn is_of_mitigations(change: &Change) -> bool
     ensures { result ≡ is_of_mitigations change.now }
 {
-    match change {
-        Change::Put(_) | Change::Withdraw { .. } => true,
-        Change::SetAlias(_)
-        | Change::DropAlias { .. }
-        | Change::SetAcl(_)
-        | Change::DropAcl { .. }
-        | Change::Register
-        | Change::Deregister
-        | Change::SetConfig { .. }
-        | Change::ClearConfig => false,
-    }
+    matches!(change, Change::Put(_) | Change::Withdraw { .. })
 }
 
 /// Whether, in this history with the entry, at its time, its domain and client keep the capacities.

@@ -16,5 +16,5 @@ pub mod laws;
 mod settings_own;
 pub mod tables;
 
-pub use admission::{fits, is_calm, joins};
+pub use admission::{fits, is_alias, is_calm, is_list, is_of_mitigations, is_registration, joins};
 pub use settings_own::{came_rightly, is_of_settings};

@@ -68,13 +68,7 @@ fn change_inside(settings: &Settings, domain: &[Prefix], change: &Change) -> boo
         Change::Put(put) => targets_inside(domain, put.targets.items()),
         Change::SetAlias(alias) => alias_inside(settings, domain, alias),
         Change::SetAcl(acl) => aces_inside(domain, acl.aces.items()),
-        Change::Withdraw { .. }
-        | Change::DropAlias { .. }
-        | Change::DropAcl { .. }
-        | Change::Register
-        | Change::Deregister
-        | Change::SetConfig { .. }
-        | Change::ClearConfig => true,
+        _ => true,
     }
 }
 
