@@ -16,6 +16,20 @@ pub record Outside : Type 0 where
   pub held : Option (List ℕ)
   pub report_faults : ℕ
 
+-- what the source, the host and the report say of themselves, in this order
+abbrev pub outside : Option (List ℕ) → ℕ → Option (List Timed) → ℕ → Option Media → ℕ → ℕ → Option (List ℕ) → ℕ → Outside
+outside left source_faults acts wire_faults media extent disk_faults held report_faults = record {
+  left = left;
+  source_faults = source_faults;
+  acts = acts;
+  wire_faults = wire_faults;
+  media = media;
+  extent = extent;
+  disk_faults = disk_faults;
+  held = held;
+  report_faults = report_faults;
+}
+
 -- the source, the host, its disk and the report failed
 abbrev pub SourceFailed : Outside → Outside → Type 0
 SourceFailed before now = Rose before.source_faults now.source_faults

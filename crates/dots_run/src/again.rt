@@ -16,7 +16,7 @@ ghost use Rattle.dots_machine.specs.declared.ending.Ending as endings;
 ghost use Rattle.dots_machine.specs.Commands.{is_served};
 ghost use Rattle.dots_machine.specs.Endings.{status_of, Behaves, Unrecovers, GivesSettings};
 ghost use Rattle.dots_machine.specs.Machine.{begun_from};
-ghost use Rattle.dots_machine.specs.Outside.{Outside};
+ghost use Rattle.dots_machine.specs.Outside.{Outside, outside};
 ghost use Rattle.dots_run.specs.Leaving.{CrashLeaves, HasLived, GoesOn};
 ghost use Rattle.dots_run.specs.Topics.{topic_of};
 
@@ -39,11 +39,11 @@ pub fn run_again<H: Host, S: Source, K: Sink, G: Host, T: Source, L: Sink>(
 ) -> (u8, u8)
     // What each run has done is what `run` says of it.
     ensures first { topic_of (map string_bytes words.now) ≡ None → (ending : endings.Ending) × (result.0 ≡ status_of ending) × Behaves ending (map string_bytes words.now)
-        (record { left = S.left settings.old; source_faults = S.faults settings.old; acts = H.acts host.old; wire_faults = H.Wire.faults host.old; media = H.media host.old; extent = H.extent host.old; disk_faults = H.Disk.faults host.old; held = K.holds report.old; report_faults = K.faults report.old })
-        (record { left = S.left settings.new; source_faults = S.faults settings.new; acts = H.acts host.new; wire_faults = H.Wire.faults host.new; media = H.media host.new; extent = H.extent host.new; disk_faults = H.Disk.faults host.new; held = K.holds report.new; report_faults = K.faults report.new }) }
+        (outside (S.left settings.old) (S.faults settings.old) (H.acts host.old) (H.Wire.faults host.old) (H.media host.old) (H.extent host.old) (H.Disk.faults host.old) (K.holds report.old) (K.faults report.old))
+        (outside (S.left settings.new) (S.faults settings.new) (H.acts host.new) (H.Wire.faults host.new) (H.media host.new) (H.extent host.new) (H.Disk.faults host.new) (K.holds report.new) (K.faults report.new)) }
     ensures second { topic_of (map string_bytes words.now) ≡ None → (ending : endings.Ending) × (result.1 ≡ status_of ending) × Behaves ending (map string_bytes words.now)
-        (record { left = T.left again.old; source_faults = T.faults again.old; acts = G.acts other.old; wire_faults = G.Wire.faults other.old; media = G.media other.old; extent = G.extent other.old; disk_faults = G.Disk.faults other.old; held = L.holds last.old; report_faults = L.faults last.old })
-        (record { left = T.left again.new; source_faults = T.faults again.new; acts = G.acts other.new; wire_faults = G.Wire.faults other.new; media = G.media other.new; extent = G.extent other.new; disk_faults = G.Disk.faults other.new; held = L.holds last.new; report_faults = L.faults last.new }) }
+        (outside (T.left again.old) (T.faults again.old) (G.acts other.old) (G.Wire.faults other.old) (G.media other.old) (G.extent other.old) (G.Disk.faults other.old) (L.holds last.old) (L.faults last.old))
+        (outside (T.left again.new) (T.faults again.new) (G.acts other.new) (G.Wire.faults other.new) (G.media other.new) (G.extent other.new) (G.Disk.faults other.new) (L.holds last.new) (L.faults last.new)) }
 
     // What the second run begins from is what the first one's clause says of the crash: a front of what that accepted, with all that it had told
     // before. So it is at each moment, whatever the crash leaves and however the two ended, where the first disk had nothing pending at the start and

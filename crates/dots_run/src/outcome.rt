@@ -16,7 +16,7 @@ ghost use Rattle.dots_machine.specs.declared.ending.Stop.{Stop};
 ghost use Rattle.dots_machine.specs.Commands.{is_served, is_show, is_command, second_of};
 ghost use Rattle.dots_machine.specs.Endings.{status_of, has_hosted, Shows, ServesTo, Behaves, GivesFault, IsReady, IsReadable};
 ghost use Rattle.dots_machine.specs.Machine.{State};
-ghost use Rattle.dots_machine.specs.Outside.{Outside};
+ghost use Rattle.dots_machine.specs.Outside.{Outside, outside};
 ghost use Rattle.dots_server.specs.Standing.{IsKept};
 ghost use Rattle.dots_server.specs.Living.{Came};
 ghost use Rattle.dots_run.specs.Refusals.{Counts, Wrote, WritesStop};
@@ -46,8 +46,8 @@ pub fn run_machine<H: Host, S: Source, K: Sink>(
     // What the run has done, by the ending that its status is of. Where it didn't come to its host, that was not called.
     ensures machine { (ending : endings.Ending) × (result ≡ status_of ending)
         × Behaves ending (map string_bytes words.now)
-        (record { left = S.left settings.old; source_faults = S.faults settings.old; acts = H.acts host.old; wire_faults = H.Wire.faults host.old; media = H.media host.old; extent = H.extent host.old; disk_faults = H.Disk.faults host.old; held = K.holds report.old; report_faults = K.faults report.old })
-        (record { left = S.left settings.new; source_faults = S.faults settings.new; acts = H.acts host.new; wire_faults = H.Wire.faults host.new; media = H.media host.new; extent = H.extent host.new; disk_faults = H.Disk.faults host.new; held = K.holds report.new; report_faults = K.faults report.new })
+        (outside (S.left settings.old) (S.faults settings.old) (H.acts host.old) (H.Wire.faults host.old) (H.media host.old) (H.extent host.old) (H.Disk.faults host.old) (K.holds report.old) (K.faults report.old))
+        (outside (S.left settings.new) (S.faults settings.new) (H.acts host.new) (H.Wire.faults host.new) (H.media host.new) (H.extent host.new) (H.Disk.faults host.new) (K.holds report.new) (K.faults report.new))
         × (has_hosted ending ≡ false → host.new ≡ host.old) }
     // What the host says of its own calls.
     ensures leads { H.leads host.old host.new }
@@ -88,8 +88,8 @@ fn ending_of<H: Host, S: Source, K: Sink>(
     report: &mut K,
 ) -> Ending
     ensures machine { Behaves result (map string_bytes words.now)
-        (record { left = S.left settings.old; source_faults = S.faults settings.old; acts = H.acts host.old; wire_faults = H.Wire.faults host.old; media = H.media host.old; extent = H.extent host.old; disk_faults = H.Disk.faults host.old; held = K.holds report.old; report_faults = K.faults report.old })
-        (record { left = S.left settings.new; source_faults = S.faults settings.new; acts = H.acts host.new; wire_faults = H.Wire.faults host.new; media = H.media host.new; extent = H.extent host.new; disk_faults = H.Disk.faults host.new; held = K.holds report.new; report_faults = K.faults report.new }) }
+        (outside (S.left settings.old) (S.faults settings.old) (H.acts host.old) (H.Wire.faults host.old) (H.media host.old) (H.extent host.old) (H.Disk.faults host.old) (K.holds report.old) (K.faults report.old))
+        (outside (S.left settings.new) (S.faults settings.new) (H.acts host.new) (H.Wire.faults host.new) (H.media host.new) (H.extent host.new) (H.Disk.faults host.new) (K.holds report.new) (K.faults report.new)) }
     ensures leads { H.leads host.old host.new }
     ensures heard { (result ≡ ending.NoMemory) ⊎ (result ≡ ending.SettingsFailed) ⊎ (S.faults settings.new ≡ S.faults settings.old) }
     ensures untouched { is_served (map string_bytes words.now) ≡ false → (settings.new ≡ settings.old) × (host.new ≡ host.old) }
@@ -142,8 +142,8 @@ fn host_events<H: Host, K: Sink>(
     report: &mut K,
 ) -> Ending
     ensures machine { (left left_now : Option (List ℕ)) (faults faults_now : ℕ) → ServesTo result settings
-        (record { left = left; source_faults = faults; acts = H.acts host.old; wire_faults = H.Wire.faults host.old; media = H.media host.old; extent = H.extent host.old; disk_faults = H.Disk.faults host.old; held = K.holds report.old; report_faults = K.faults report.old })
-        (record { left = left_now; source_faults = faults_now; acts = H.acts host.new; wire_faults = H.Wire.faults host.new; media = H.media host.new; extent = H.extent host.new; disk_faults = H.Disk.faults host.new; held = K.holds report.new; report_faults = K.faults report.new }) }
+        (outside left faults (H.acts host.old) (H.Wire.faults host.old) (H.media host.old) (H.extent host.old) (H.Disk.faults host.old) (K.holds report.old) (K.faults report.old))
+        (outside left_now faults_now (H.acts host.new) (H.Wire.faults host.new) (H.media host.new) (H.extent host.new) (H.Disk.faults host.new) (K.holds report.new) (K.faults report.new)) }
     ensures hosted { has_hosted result ≡ true }
     ensures leads { H.leads host.old host.new }
 {

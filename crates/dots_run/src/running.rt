@@ -5,6 +5,7 @@ ghost use Rattle.dots_host.specs.Causes.{Rose};
 ghost use Rattle.dots_machine.specs.declared.ending.Ending as endings;
 ghost use Rattle.dots_machine.specs.Commands.{is_served, is_show, second_of};
 ghost use Rattle.dots_machine.specs.Endings.{status_of, has_hosted, Behaves, GivesFault, IsReady, IsReadable};
+ghost use Rattle.dots_machine.specs.Outside.{outside};
 ghost use Rattle.dots_run.specs.declared.topic.Topic as topics;
 ghost use Rattle.dots_run.specs.declared.told.Told as tolds;
 ghost use Rattle.dots_run.specs.Telling.{told_status, Tells, IsSound, IsAtFault};
@@ -35,8 +36,8 @@ pub fn run<H: Host, S: Source, K: Sink>(
     // What the run has done, by the ending that its status is of. Where it didn't come to its host, that was not called.
     ensures machine { topic_of (map string_bytes words.now) ≡ None → (ending : endings.Ending) × (result ≡ status_of ending)
         × Behaves ending (map string_bytes words.now)
-        (record { left = S.left settings.old; source_faults = S.faults settings.old; acts = H.acts host.old; wire_faults = H.Wire.faults host.old; media = H.media host.old; extent = H.extent host.old; disk_faults = H.Disk.faults host.old; held = K.holds report.old; report_faults = K.faults report.old })
-        (record { left = S.left settings.new; source_faults = S.faults settings.new; acts = H.acts host.new; wire_faults = H.Wire.faults host.new; media = H.media host.new; extent = H.extent host.new; disk_faults = H.Disk.faults host.new; held = K.holds report.new; report_faults = K.faults report.new })
+        (outside (S.left settings.old) (S.faults settings.old) (H.acts host.old) (H.Wire.faults host.old) (H.media host.old) (H.extent host.old) (H.Disk.faults host.old) (K.holds report.old) (K.faults report.old))
+        (outside (S.left settings.new) (S.faults settings.new) (H.acts host.new) (H.Wire.faults host.new) (H.media host.new) (H.extent host.new) (H.Disk.faults host.new) (K.holds report.new) (K.faults report.new))
         × (has_hosted ending ≡ false → host.new ≡ host.old) }
     // What is told without serving, where the words ask for that: what was found in the source, and what of it was written.
     ensures told { (topic : topics.Topic) → topic_of (map string_bytes words.now) ≡ Some topic
