@@ -27,7 +27,7 @@ mod request;
 
 pub use bodies::{acl_body, alias_body};
 pub use location::location_of;
-pub use reading::{read_rest, read_rest_once};
+pub use reading::read_rest;
 pub use reject::{Allow, RestReject};
 pub use replies::{AclList, AliasList, RestBody, body_text};
 pub use request::RestRequest;

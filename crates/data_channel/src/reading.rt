@@ -69,11 +69,3 @@ pub fn read_rest(
         Head::Wants(wanted) => answer(alloc, room, wanted, request),
     }
 }
-
-/// The same of one message, in a room that is made for it.
-pub fn read_rest_once(alloc: Global, request: &HttpRequest) -> Result<RestRequest, RestReject>
-    ensures { UnlessNoMemory result (Rest (request_view request.now) result) }
-{
-    let mut room = JsonRoom::new(alloc);
-    read_rest(alloc, &mut room, request)
-}

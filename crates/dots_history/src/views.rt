@@ -1,6 +1,6 @@
 //! The view of a history, each part in order of the entries.
 
-ghost use Rattle.std.specs.Prelude.{◌≡◌, IfOk, map, option_copied};
+ghost use Rattle.std.specs.Prelude.{◌≡◌, IfOk, map};
 ghost use Rattle.dots_history.specs.Histories.{mitigations, held};
 ghost use Rattle.dots_history.specs.Viewing.{mitigation_of};
 

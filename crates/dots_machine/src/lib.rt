@@ -31,7 +31,7 @@ pub use ending::{Ending, Showing, Stop};
 pub use exchange::Exchange;
 pub use law::{
     domains_are_isolated, domains_stay_apart, entries_are_accepted, mitigations_stand_apart,
-    one_answer, one_state, one_verdict, repeats_are_answered,
+    one_answer, one_state, one_verdict, repeats_are_answered, runs_go_on,
 };
 pub use mitigation_request::MitigationRequest;
 pub use received::Received;

@@ -1,24 +1,18 @@
 //! What is read of a registry.
 
-ghost use Rattle.std.specs.Prelude.{◌≡◌, ◌<◌, ◌≤◌, ◌==◌, List, option_copied, option_map};
+ghost use Rattle.std.specs.Prelude.{◌≡◌, ◌<◌, ◌==◌, List, option_copied, option_map};
 ghost use Rattle.std.specs.List.{list_any};
 ghost use Rattle.dots_history.specs.declared.entry.Entry.{Entry};
-ghost use Rattle.dots_history.specs.Bounds.{prefix_count};
 ghost use Rattle.dots_history.specs.Histories.{mitigations, held, remembered};
-ghost use Rattle.conflict_rules.specs.Wanted.{wanted};
-ghost use Rattle.conflict_rules.specs.ByMid.{judge_mid};
-ghost use Rattle.conflict_rules.specs.ByOverlap.{judge_overlap};
-ghost use Rattle.live_mitigations.specs.Judging.{lives_of};
 ghost use Rattle.live_mitigations.specs.Reading.{shown_in};
 ghost use Rattle.held_resources.specs.Held.{aliases_of, acls_of, alias_named, acl_named, is_registered, registrant, is_of_another, config_of, number_of, reached};
 ghost use Rattle.held_resources.specs.Tables.{most_of, told};
-ghost use Rattle.dots_registry.specs.Standing.{StandsFor, time_of, domains_of, limits_of, number_remembered};
+ghost use Rattle.dots_registry.specs.Standing.{StandsFor, time_of, domains_of, number_remembered};
 ghost use Rattle.dots_registry.specs.Judging.{collides};
 
 use crate::registry::Registry;
-use acl_lists::{Acl, Alias, Asked};
-use conflict_rules::{Judgement, MidJudgement};
-use dots_history::{Config, TargetList};
+use acl_lists::{Acl, Alias};
+use dots_history::Config;
 use dots_lists::Name;
 use held_resources::RoomKind;
 use live_mitigations::Mitigations;
@@ -64,40 +58,6 @@ impl Registry {
         ensures { (entries : List Entry) → StandsFor self.now entries → result ≡ list_any (λ m. m.put.peer == peer) (mitigations (time_of self.now) entries) }
     {
         self.live.mitigating(peer)
-    }
-
-    /// Judges a request by the mid that it has. The place of what it refreshes is that in the live mitigations of the
-    /// domain.
-    pub fn judge_mid(
-        &self,
-        domain: u16,
-        peer: u32,
-        cuid: &[u8],
-        mid: u32,
-        asked: &Asked,
-    ) -> MidJudgement
-        requires { domain < domains_of self.now }
-        ensures { (entries : List Entry) → StandsFor self.now entries → result ≡ judge_mid (lives_of domain (time_of self.now) entries) peer cuid.now mid asked.now }
-    {
-        self.live.judge_mid(domain, peer, cuid, mid, asked)
-    }
-
-    /// Judges a new mitigation by what overlaps with it and by the room that there is. The targets have at most 64 prefixes
-    /// together.
-    pub fn judge_overlap(
-        &self,
-        domain: u16,
-        cuid: &[u8],
-        mid: u32,
-        asked: &Asked,
-        targets: &TargetList,
-    ) -> Judgement
-        requires within { domain < domains_of self.now }
-        requires few { prefix_count targets.now ≤ 64 }
-        ensures { (entries : List Entry) → StandsFor self.now entries
-            → result ≡ judge_overlap (lives_of domain (time_of self.now) entries) cuid.now (wanted mid asked.now targets.now) (limits_of self.now) }
-    {
-        self.live.judge_overlap(domain, cuid, mid, asked, targets)
     }
 
     /// Whether the client is registered (RFC 8783, section 5.1).

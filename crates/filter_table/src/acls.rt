@@ -1,6 +1,6 @@
 //! The rows of access lists.
 
-ghost use Rattle.std.specs.Prelude.{◌≡◌, ◌<◌, ◌≤◌, [], not, map, filter, length, nat_le, nat_lt, IfOk, vec_capacity};
+ghost use Rattle.std.specs.Prelude.{◌≡◌, ◌<◌, ◌≤◌, [], not, map, length, nat_le, IfOk, vec_capacity};
 ghost use Rattle.std.specs.List.{prefix_len};
 ghost use Rattle.filter_table.specs.Held.{AclsValue, with_acl, is_named, without_acl, activated, waits, renumbered, acl_at_place, place_of_acl};
 
@@ -38,13 +38,6 @@ impl Acls {
             held: Vec::with_capacity(alloc, room)?,
             room,
         })
-    }
-
-    /// Whether the row of this client's list of this name is there, or there is room for it.
-    pub fn has_room(&self, domain: u16, cuid: &[u8], name: &[u8]) -> bool
-        ensures { result ≡ nat_lt (length (without_acl domain cuid.now name.now self.now.held)) self.now.room }
-    {
-        number_of_others(self.held.as_slice(), domain, cuid, name) < self.room
     }
 
     /// Puts the row of a list in place of that of the same client and name, behind those whose place is not greater.
@@ -109,15 +102,6 @@ fn is_named(list: &HeldAcl, domain: u16, cuid: &[u8], name: &[u8]) -> bool
     ensures { result ≡ is_named domain cuid.now name.now list.now }
 {
     is_of_client(domain, cuid, list.row.domain, &list.row.cuid) && list.row.acl.name.bytes() == name
-}
-
-/// How many rows aren't that of this client's list of this name.
-fn number_of_others(held: &[HeldAcl], domain: u16, cuid: &[u8], name: &[u8]) -> usize
-    ensures { result ≡ length (without_acl domain cuid.now name.now held.now) }
-{
-    held.iter()
-        .filter(|list| !is_named(list, domain, cuid, name))
-        .count()
 }
 
 fn leave_others(held: &mut Vec<HeldAcl>, domain: u16, cuid: &[u8], name: &[u8])

@@ -97,13 +97,6 @@ impl FilterTable {
         self.scrubs.wake(domain, cuid, mid, active);
     }
 
-    /// Whether the row of this client's list of this name is there, or there is room for it.
-    pub fn has_acl_room(&self, domain: u16, cuid: &[u8], name: &Name) -> bool
-        ensures { result ≡ nat_lt (length (without_acl domain cuid.now name.now self.now.acls)) self.now.acl_room }
-    {
-        self.acls.has_room(domain, cuid, name.bytes())
-    }
-
     /// Puts the row of an access list in place of that of the same client and name. It is there, or there is room.
     pub fn set_acl(&mut self, place: u64, row: AclRow)
         requires { length (without_acl row.domain row.cuid row.acl.name self.old.acls) < self.old.acl_room }

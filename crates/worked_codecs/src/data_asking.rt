@@ -4,8 +4,9 @@
 
 use crate::row::Row;
 use acl_lists::{Acl, Alias};
-use data_channel::{RestReject, RestRequest, location_of, read_rest_once};
+use data_channel::{RestReject, RestRequest, location_of, read_rest};
 use http_cut::HttpRequest;
+use json_room::JsonRoom;
 use list_json::{acl_value, alias_value};
 use std::alloc::Global;
 use std::str;
@@ -78,7 +79,8 @@ fn refused(alloc: Global, reject: RestReject) -> Option<String> {
 
 /// What a message asks, or is refused with.
 pub fn answer(alloc: Global, request: &HttpRequest) -> Option<String> {
-    match read_rest_once(alloc, request) {
+    let mut room = JsonRoom::new(alloc);
+    match read_rest(alloc, &mut room, request) {
         Ok(asked) => {
             let told = told(alloc, &asked);
             drop(asked);

@@ -1,13 +1,12 @@
 //! What the plain programs say of a history.
 
-use crate::registry::entries::{prefixes, push_entries, scope};
-use crate::registry::packets::{letters, packets, v4};
+use crate::registry::entries::{push_entries, scope};
+use crate::registry::packets::v4;
 use crate::registry::told::Told;
 use crate::registry::words::{NONE, digit, flag, number};
-use acl_lists::{Acl, Alias, Packet, PrefixList, ace_matches};
+use acl_lists::{Acl, Alias, Packet, ace_matches};
 use dots_history::{
-    Change, Entry, ends, fate_of_packet, held, is_live_after, is_within_bounds, list_rows,
-    mitigations, places_to_keep, recent, remembered, scrub_rows,
+    Change, Entry, ends, held, is_live_after, is_within_bounds, mitigations, remembered,
 };
 use dots_laws::is_calm;
 use dots_lists::List;
@@ -105,7 +104,6 @@ fn tell_matches(told: &mut Told, entries: &[Entry]) -> Result<(), Fail> {
 fn count_of(alloc: Global, what: &str, entries: &[Entry]) -> Result<u64, Fail> {
     match what {
         "held" => Ok(held(alloc, entries)?.len() as u64),
-        "lists" => Ok(list_rows(alloc, entries)?.len() as u64),
         "copied" => copied(alloc, entries),
         _ => Err(Fail::from("a question")),
     }
@@ -144,41 +142,10 @@ fn tell_came(told: &mut Told, t: u64, id: u16, entries: &[Entry]) {
     tell_one(told, 2, t, id, entries);
 }
 
-/// The places that the view names, with one message remembered.
-fn tell_kept(alloc: Global, told: &mut Told, t: u64, entries: &[Entry]) -> Result<(), Fail> {
-    let places = places_to_keep(alloc, 1, t, entries)?;
-    for place in places.as_slice() {
-        told.push(digit(*place as u64));
-    }
-    Ok(())
-}
-
-fn tell_fates_in(
-    alloc: Global,
-    told: &mut Told,
-    t: u64,
-    domains: &[PrefixList],
-    entries: &[Entry],
-) -> Result<(), Fail> {
-    for packet in &packets() {
-        let fate = fate_of_packet(alloc, domains, t, entries, packet)?;
-        told.extend(&letters(fate));
-    }
-    Ok(())
-}
-
-/// The fates of packets, where domain 0 has one prefix.
-fn tell_fates(alloc: Global, told: &mut Told, t: u64, entries: &[Entry]) -> Result<(), Fail> {
-    let domains = [prefixes(alloc, "192.0.2.0/24")?];
-    tell_fates_in(alloc, told, t, &domains, entries)
-}
-
-/// How many there are of what is named at a time, or of the last signal entries for as many messages.
+/// How many mitigations are live at a time.
 fn count_at(alloc: Global, what: &str, t: u64, entries: &[Entry]) -> Result<u64, Fail> {
     match what {
         "mitigations" => Ok(mitigations(alloc, t, entries)?.len() as u64),
-        "rows" => Ok(scrub_rows(alloc, t, entries)?.len() as u64),
-        "recent" => Ok(recent(alloc, t as usize, entries)?.len() as u64),
         _ => Err(Fail::from("a question")),
     }
 }
@@ -195,8 +162,6 @@ fn tell_at(
         "live" => told.push(flag(is_live(t, entries))),
         "330" => tell_came(told, t, 330, entries),
         "331" => tell_came(told, t, 331, entries),
-        "kept" => return tell_kept(alloc, told, t, entries),
-        "fates" => return tell_fates(alloc, told, t, entries),
         _ => told.push(digit(count_at(alloc, what, t, entries)?)),
     }
     Ok(())

@@ -1,4 +1,4 @@
-//! Which mitigations are live, what is held and kept, what becomes of packets, which histories are calm, and which packets an entry of an
+//! Which mitigations are live, what is held, which histories are calm, and which packets an entry of an
 //! access list matches.
 
 use crate::registry::tables::{Part, Table, all_hold};
@@ -37,17 +37,8 @@ const REFRESHED: Table = (
     "1000 A NON PUT M123 192.0.2.0/24 HOUR NOW; 1100 A NON PUT M123 192.0.2.0/24 TWO_HOURS NOW; ",
     "\
 - ? mitigations 1100 = 1
-- ? rows 4600 = 1
 - ? mitigations 8299 = 1
-- ? mitigations 8300 = 0
-- ? rows 8300 = 0
-- ? recent 1 = 1",
-);
-
-/// A higher mid takes the place of one that overlaps: mid 5 ends mid 1.
-const PLACES: Table = (
-    "1000 A NON PUT M1 192.0.2.0/32 HOUR NOW; 1000 A NON PUT M2 192.0.2.1/32 HOUR NOW; ",
-    "1001 A NON PUT M5 192.0.2.0/32 HOUR NOW ? kept 1001 = 12",
+- ? mitigations 8300 = 0",
 );
 
 /// A client that leaves takes its aliases and lists along, and they don't come back with it (RFC 8783, sections 5.2, 6.3
@@ -59,19 +50,7 @@ const HELD: Table = (
 1000 A HTTP WEB ? held = 1
 1000 A HTTP WEB; 1001 A HTTP DROP_WEB ? held = 0
 1000 A HTTP WEB; 1000 A HTTP NO; 1001 A HTTP LEAVE; 1002 A HTTP REGISTER ? held = 1
-1000 A HTTP WEB; 1000 A HTTP NO; 1001 A HTTP LEAVE; 1002 A HTTP REGISTER ? lists = 0
-1000 A HTTP NO; 1000 A HTTP OK; 1001 A HTTP DROP_NO ? held = 1
-1000 A HTTP NO; 1000 A HTTP OK; 1001 A HTTP DROP_NO ? lists = 1",
-);
-
-/// A list that accepts what comes from 203.0.113.0/24, and one that drops UDP while its client is mitigating: before
-/// a mitigation, while it is live, and at the second at which it has ended (RFC 8519, section 4.2).
-const FATES: Table = (
-    "900 A HTTP OK; 900 A HTTP NO; ",
-    "\
-- ? fates 1000 = aop-p-p-p-
-1000 A NON PUT M123 192.0.2.0/24 HOUR NOW ? fates 4599 = aodndns3s3
-1000 A NON PUT M123 192.0.2.0/24 HOUR NOW ? fates 4600 = aop-p-p-p-",
+1000 A HTTP NO; 1000 A HTTP OK; 1001 A HTTP DROP_NO ? held = 1",
 );
 
 /// Of the first rows each but the first is refused at its last entry, though what the first refused one comes to at 50 seconds
@@ -95,7 +74,6 @@ const CALM: Table = (
 0 A NON PUT M1 198.51.100.0/24 HUNDRED NOW ? calm = n
 0 A HTTP REGISTER; 1 A HTTP LEAVE ? calm = y
 1 A HTTP LEAVE ? calm = y
-0 PEER_0 CON CONFIG_9; 1 AWAY CON CLEAR ? recent 1 = 2
 0 PEER_0 CON CONFIG_9; 1 AWAY CON CLEAR ? held = 0
 0 PEER_0 CON CONFIG_9 ? held = 1
 0 PEER_0 CON CONFIG_9; 1 AWAY CON CLEAR ? calm = n
@@ -129,7 +107,7 @@ const MATCHES: Table = (
 #[test]
 fn histories_come_to_this(rt: HostRuntime) -> Result<(), Fail> {
     let tables = [
-        LIFETIMES, BOUNDS, REFRESHED, PLACES, HELD, FATES, CALM, MATCHES,
+        LIFETIMES, BOUNDS, REFRESHED, HELD, CALM, MATCHES,
     ];
     all_hold(&rt, rt.alloc(), Part::History, &tables)
 }
