@@ -63,6 +63,11 @@ pub record Splits (bytes : List ℕ) (options : List CoapOption) (payload : List
   pub are : AreOptions 0 options
   pub parts : bytes ≡ options_bytes 0 options ++ payload_bytes payload
 
+-- what stands behind the token
+pub record Rest : Type 0 where
+  pub options : List CoapOption
+  pub payload : List ℕ
+
 -- what stands in front of the options
 pub record Head : Type 0 where
   pub kind : Kind

@@ -1,12 +1,13 @@
-ghost use Rattle.std.specs.Prelude.{◌≡◌, ◌≤◌, length, IfOk, IfErr, Ok};
+ghost use Rattle.std.specs.Prelude.{◌≡◌, ◌≤◌, ℕ, List, length, IfOk, IfErr, Ok};
 ghost use Rattle.coap_message.specs.Breaks.{Breaks, OptionsBreak};
-ghost use Rattle.coap_message.specs.Message.{CoapMessage, IsMessage, spelling};
+ghost use Rattle.coap_message.specs.Message.{CoapMessage, CoapOption, IsMessage, spelling};
 ghost use Rattle.coap_message.specs.Reading.{Splits, options_in};
 
 use crate::PAYLOAD_MARKER;
 use crate::fault::CoapFault;
 use crate::head_reading::read_head;
 use crate::message::Message;
+use crate::message_rest::MessageRest;
 use crate::option_reading::read_option;
 
 /// The bytes of the options, and the payload behind them. The bytes end at the place `end`.
@@ -29,6 +30,22 @@ fn split_options(end: usize, bytes: &[u8]) -> Result<(&[u8], &[u8]), CoapFault>
         rest = behind;
     }
     Ok((bytes, rest))
+}
+
+/// The options and the payload that these bytes spell behind a token, or their first fault with its place in these bytes (RFC
+/// 7252, section 3.1; RFC 8323, section 3.2, has them so behind a header of its own).
+pub fn decode_rest(bytes: &[u8]) -> Result<MessageRest<'_>, CoapFault>
+    // What is read is spelled so.
+    ensures found { IfOk result (λ rest. Splits bytes.now rest.options rest.payload) }
+    // What is spelled so is read.
+    ensures only { (options : List CoapOption) (payload : List ℕ) → Splits bytes.now options payload → result ≡ Ok (record { options = options; payload = payload }) }
+    // Else it is the first fault.
+    ensures breaks { IfErr result (λ fault. OptionsBreak (length bytes.now) bytes.now fault) }
+{
+    match split_options(bytes.len(), bytes) {
+        Ok((options, payload)) => Ok(MessageRest::new(options, payload)),
+        Err(fault) => Err(fault),
+    }
 }
 
 /// The message that the bytes spell, or their first fault (RFC 7252, section 3).

@@ -1,6 +1,7 @@
 //! CoAP messages (RFC 7252, section 3).
 //!
-//! Start at [`decode`], which reads the message that a datagram spells, or names its first fault with its place.
+//! Start at [`decode`], which reads the message that a datagram spells, or names its first fault with its place;
+//! [`decode_rest`] reads what stands behind the token of one, for a transport with a header of its own.
 //! A [`Message`] hands out parts of the bytes that it was decoded from, and [`Options`] goes over its options.
 //! [`encode_into`] writes the message of some [`Parts`], and [`salvage`] reads what can still be answered to a
 //! datagram that is no message. No call takes memory.
@@ -19,6 +20,7 @@ mod head_reading;
 mod kind;
 pub mod laws;
 mod message;
+mod message_rest;
 mod option;
 pub mod option_numbers;
 mod option_reading;
@@ -28,11 +30,12 @@ mod salvaging;
 mod token;
 mod writing;
 
-pub use decoding::decode;
+pub use decoding::{decode, decode_rest};
 pub use encoding::{encode_into, encoded_len};
 pub use fault::CoapFault;
 pub use kind::Kind;
 pub use message::Message;
+pub use message_rest::MessageRest;
 pub use option::OptionRow;
 pub use options::Options;
 pub use parts::{OptionPart, Parts};
