@@ -1,6 +1,7 @@
 -- The rules for a mitigation request, in their order (RFC 9132, section 4.4.1).
 use Rattle.std.specs.Prelude.{ℕ, pos, Bool, true, false, ◌||◌, if◌then◌else◌, nat_le, List, filter, Option, Some, None, Result, Ok, Err}
 use Rattle.std.specs.List.{list_any, find}
+use Rattle.acl_lists.specs.declared.limits.TheConstants.{MAX_RESOLVED}
 use Rattle.acl_lists.specs.declared.alias.Alias.{Alias}
 use Rattle.dots_settings.specs.Settings.{SettingsValue}
 use Rattle.dots_history.specs.declared.put.Put.{Put}
@@ -60,7 +61,7 @@ unless (Some fault) judged = Err fault
 -- a new mitigation of these targets
 abbrev pub judge_targets : SettingsValue → List Live → List Target → ℕ → Request → Result Judged PutFault
 judge_targets settings live targets time request =
-    if nat_le (prefix_count targets) 64
+    if nat_le (prefix_count targets) MAX_RESOLVED
     then unless (overlap_fault settings live targets request) (begun settings targets time request)
     else Err faults.TooMany
 

@@ -1,6 +1,7 @@
 //! The judgement by overlaps and capacities.
 
 ghost use Rattle.std.specs.Prelude.{◌≡◌, ◌≤◌, ◌&&◌, not, nat_le, map};
+ghost use Rattle.acl_lists.specs.declared.limits.TheConstants.{MAX_RESOLVED};
 ghost use Rattle.dots_history.specs.Bounds.{prefix_count};
 ghost use Rattle.conflict_rules.specs.Wanted.{wanted};
 ghost use Rattle.conflict_rules.specs.Live.{would_end};
@@ -37,7 +38,7 @@ pub enum Which {
 
 /// Whether the targets have at most 64 prefixes together, as [`judge_overlap`] wants it.
 pub fn are_few(targets: &TargetList) -> bool
-    ensures { result ≡ nat_le (prefix_count targets.now) 64 }
+    ensures { result ≡ nat_le (prefix_count targets.now) MAX_RESOLVED }
 {
     dots_history::are_few(targets.items())
 }
@@ -54,7 +55,7 @@ pub fn judge_overlap<T: Mitigates>(
     targets: &TargetList,
     limits: &Limits,
 ) -> Judgement
-    requires { prefix_count targets.now ≤ 64 }
+    requires { prefix_count targets.now ≤ MAX_RESOLVED }
     ensures { result ≡ judge_overlap (map T.live live.now) cuid.now (wanted mid asked.now targets.now) limits.now }
 {
     let request = Request {
@@ -74,7 +75,7 @@ fn judge_others<T: Mitigates>(
     request: &Request<'_>,
     limits: &Limits,
 ) -> Judgement
-    requires { prefix_count request.now.targets ≤ 64 }
+    requires { prefix_count request.now.targets ≤ MAX_RESOLVED }
     ensures { result ≡ judge_others (map T.live live.now) cuid.now request.now limits.now }
 {
     if is_contested(live, cuid, request) {

@@ -2,6 +2,7 @@
 
 ghost use Rattle.std.specs.Prelude.{◌≡◌, ◌≤◌, ◌<◌, map, length, slice_get, IfOk, Ok, Some};
 ghost use Rattle.conflict_rules.specs.declared.live.Live.{Live};
+ghost use Rattle.acl_lists.specs.declared.limits.TheConstants.{MAX_RESOLVED};
 ghost use Rattle.dots_history.specs.Bounds.{prefix_count};
 ghost use Rattle.lifetime_clock.specs.Lifetime.{IsLifetime};
 ghost use Rattle.conflict_rules.specs.Judging.{granted_put, refreshed, overlap_fault, judge_targets, judge_new, judge_put};
@@ -129,7 +130,7 @@ fn overlap_fault<T: Mitigates>(
     targets: &TargetList,
     request: &PutRequest<'_>,
 ) -> Result<Option<PutFault>, NoMemory>
-    requires { prefix_count targets.now ≤ 64 }
+    requires { prefix_count targets.now ≤ MAX_RESOLVED }
     ensures { IfOk result (λ fault. fault ≡ overlap_fault settings.now (map T.live live.now) targets.now request.now) }
 {
     let limits = settings.limits();

@@ -1,6 +1,7 @@
 //! Which prefixes of a request meet mitigations of other clients.
 
 ghost use Rattle.std.specs.Prelude.{◌≡◌, ◌+◌, ◌*◌, ◌^◌, ◌≤◌, ◌<◌, length, map, if◌then◌else◌};
+ghost use Rattle.acl_lists.specs.declared.limits.TheConstants.{MAX_RESOLVED};
 ghost use Rattle.dots_history.specs.Bounds.{prefix_count};
 ghost use Rattle.conflict_rules.specs.ByOverlap.{meets_another, resolved, bits, meeting};
 
@@ -10,7 +11,7 @@ use ip_scope::Prefix;
 
 /// The number whose bit i is set exactly where the resolved prefix i meets a standing mitigation of another client.
 pub(crate) fn meeting<T: Mitigates>(live: &[T], cuid: &[u8], targets: &[Target]) -> u64
-    requires { prefix_count targets.now ≤ 64 }
+    requires { prefix_count targets.now ≤ MAX_RESOLVED }
     ensures { result ≡ meeting (map T.live live.now) cuid.now targets.now }
 {
     let mut meeting = 0;

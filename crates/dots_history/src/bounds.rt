@@ -6,22 +6,12 @@ use crate::change::Change;
 use crate::config::Values;
 use crate::entry::Entry;
 use crate::put::{Put, Target};
-use acl_lists::{Alias, Asked};
+use acl_lists::{Alias, Asked, MAX_ACES, MAX_ITEMS, MAX_NAMES, MAX_RESOLVED, MAX_TARGETS};
 use dots_lists::is_name;
 
 const TIMES: u64 = 1 << 48;
 
 const MAX_REPLY: usize = 64;
-
-const MAX_TARGETS: usize = 9;
-
-const MAX_RESOLVED: usize = 64;
-
-const MAX_ACES: usize = 32;
-
-const MAX_ITEMS: usize = 16;
-
-const MAX_NAMES: usize = 8;
 
 const VALUES: u64 = 1 << 32;
 
@@ -71,7 +61,7 @@ fn are_targets_within(targets: &[Target]) -> bool
 
 /// Whether the targets have at most 64 prefixes together, the resolved prefixes of one mitigation.
 pub fn are_few(targets: &[Target]) -> bool
-    ensures { result ≡ nat_le (prefix_count targets.now) 64 }
+    ensures { result ≡ nat_le (prefix_count targets.now) MAX_RESOLVED }
 {
     let mut left = MAX_RESOLVED;
     for target in targets {

@@ -1,5 +1,6 @@
 -- What stands in each request that is read, so that later steps rest on it (RFC 9132, sections 4.4.1 and 4.5.2).
 use Rattle.std.specs.Prelude.{◌≡◌, ◌≤◌, false, ◌&&◌, length, IsTrue, IsSome, IfSome, ⊤}
+use Rattle.acl_lists.specs.declared.limits.TheConstants.{MAX_ITEMS, MAX_NAMES}
 use Rattle.acl_lists.specs.declared.asked.Asked.{Asked}
 use Rattle.lifetime_clock.specs.Lifetime.{IsLifetime}
 use Rattle.dots_keys.specs.declared.request.ConfigBody.{ConfigBody}
@@ -23,11 +24,11 @@ pub record NamesMitigation (path : MitigationPath) : Type 0 where
 
 -- the lists within their numbers
 pub record AreFew (asked : Asked) : Type 0 where
-  pub prefixes : length asked.prefixes ≤ 16
-  pub ports : length asked.ports ≤ 16
-  pub protocols : length asked.protocols ≤ 16
-  pub names : length asked.names ≤ 8
-  pub aliases : length asked.aliases ≤ 8
+  pub prefixes : length asked.prefixes ≤ MAX_ITEMS
+  pub ports : length asked.ports ≤ MAX_ITEMS
+  pub protocols : length asked.protocols ≤ MAX_ITEMS
+  pub names : length asked.names ≤ MAX_NAMES
+  pub aliases : length asked.aliases ≤ MAX_NAMES
 
 -- a prefix, a name or an alias at least, and a lifetime that can be granted
 pub record IsAskableBody (body : MitigationBody) : Type 0 where

@@ -1,5 +1,6 @@
 -- The body of a request for a mitigation (RFC 9132, section 4.4.1): {1: {2: [scope]}}.
 use Rattle.std.specs.Prelude.{ℕ, ◌^◌, Bool, true, false, not, ◌&&◌, ◌==◌, nat_lt, nat_le, if◌then◌else◌, ℤ, pos, negsuc, List, [], ◌∷◌, Option, Some, None, ok_or, option_and_then, Result, Ok, Err}
+use Rattle.acl_lists.specs.declared.limits.TheConstants.{MAX_ITEMS, MAX_NAMES}
 use Rattle.acl_lists.specs.declared.asked.Asked.{Asked}
 use Rattle.cbor_profile.specs.Tree.{Tree, unsigned, negative, boolean, Trees, no_items, item, count}
 use Rattle.cbor_profile.specs.Kind.{number_in, text_in, items_in}
@@ -125,15 +126,15 @@ with_asked said asked = record said { asked = asked }
 
 abbrev pub take_target : Option ScopeKey → Scope → ℕ → Tree → Result Scope Reject
 take_target (Some scope_key.Prefixes) said n tree =
-    array_under 6 16 prefix_of tree >>= λ prefixes. Ok (with_asked said (record said.asked { prefixes = prefixes }))
+    array_under 6 MAX_ITEMS prefix_of tree >>= λ prefixes. Ok (with_asked said (record said.asked { prefixes = prefixes }))
 take_target (Some scope_key.Ports) said n tree =
-    array_under 7 16 range_of tree >>= λ ports. Ok (with_asked said (record said.asked { ports = ports }))
+    array_under 7 MAX_ITEMS range_of tree >>= λ ports. Ok (with_asked said (record said.asked { ports = ports }))
 take_target (Some scope_key.Protocols) said n tree =
-    array_under 10 16 protocol_of tree >>= λ protocols. Ok (with_asked said (record said.asked { protocols = protocols }))
+    array_under 10 MAX_ITEMS protocol_of tree >>= λ protocols. Ok (with_asked said (record said.asked { protocols = protocols }))
 take_target (Some scope_key.Names) said n tree =
-    array_under 11 8 (name_of 11) tree >>= λ names. Ok (with_asked said (record said.asked { names = names }))
+    array_under 11 MAX_NAMES (name_of 11) tree >>= λ names. Ok (with_asked said (record said.asked { names = names }))
 take_target (Some scope_key.Aliases) said n tree =
-    array_under 13 8 (name_of 13) tree >>= λ aliases. Ok (with_asked said (record said.asked { aliases = aliases }))
+    array_under 13 MAX_NAMES (name_of 13) tree >>= λ aliases. Ok (with_asked said (record said.asked { aliases = aliases }))
 take_target (Some scope_key.Lifetime) said n tree =
     lifetime_of tree >>= λ lifetime. Ok (record said { lifetime = Some lifetime })
 take_target (Some scope_key.Trigger) said n tree = refuse_trigger tree >>= λ _. Ok said

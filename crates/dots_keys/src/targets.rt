@@ -10,7 +10,7 @@ ghost use Rattle.dots_heads.specs.Results.{Gives};
 
 use crate::ports::range_of;
 use crate::refusing::invalid;
-use acl_lists::{ByteList, NameList, PortList, PrefixList};
+use acl_lists::{ByteList, MAX_ITEMS, MAX_NAMES, NameList, PortList, PrefixList};
 use cbor_profile::Item;
 use dots_heads::Reject;
 use dots_lists::{Bytes, List, Name};
@@ -27,11 +27,6 @@ pub const TARGET_PROTOCOL: u8 = 10;
 pub const TARGET_FQDN: u8 = 11;
 
 pub const ALIAS_NAME: u8 = 13;
-
-/// The most prefixes, port ranges and protocols, and the most names and aliases.
-const MAX_TARGETS: usize = 16;
-
-const MAX_NAMES: usize = 8;
 
 /// The items of an array of at most so many.
 fn at_most(item: &Item, most: usize) -> Option<&[Item]>
@@ -91,7 +86,7 @@ fn name_of(alloc: Global, key: u8, item: &Item) -> Result<Name, Reject>
 pub fn prefixes_in(alloc: Global, item: &Item) -> Result<PrefixList, Reject>
     ensures { Gives result (array_under 6 16 prefix_of (tree_of item.now)) }
 {
-    let items = at_most(item, MAX_TARGETS).ok_or(invalid(TARGET_PREFIX))?;
+    let items = at_most(item, MAX_ITEMS).ok_or(invalid(TARGET_PREFIX))?;
     let mut prefixes = List::new(alloc);
     for item in items {
         prefixes.push(prefix_of(item)?)?;
@@ -103,7 +98,7 @@ pub fn prefixes_in(alloc: Global, item: &Item) -> Result<PrefixList, Reject>
 pub fn ports_of(alloc: Global, item: &Item) -> Result<PortList, Reject>
     ensures { Gives result (array_under 7 16 range_of (tree_of item.now)) }
 {
-    let items = at_most(item, MAX_TARGETS).ok_or(invalid(TARGET_PORT_RANGE))?;
+    let items = at_most(item, MAX_ITEMS).ok_or(invalid(TARGET_PORT_RANGE))?;
     let mut ports = List::new(alloc);
     for item in items {
         ports.push(range_of(item)?)?;
@@ -115,7 +110,7 @@ pub fn ports_of(alloc: Global, item: &Item) -> Result<PortList, Reject>
 pub fn protocols_of(alloc: Global, item: &Item) -> Result<ByteList, Reject>
     ensures { Gives result (array_under 10 16 protocol_of (tree_of item.now)) }
 {
-    let items = at_most(item, MAX_TARGETS).ok_or(invalid(TARGET_PROTOCOL))?;
+    let items = at_most(item, MAX_ITEMS).ok_or(invalid(TARGET_PROTOCOL))?;
     let mut protocols = Bytes::new(alloc);
     for item in items {
         protocols.push(protocol_of(item)?)?;

@@ -2,6 +2,7 @@
 -- section 4.4.1). What is live, stands or is held at a place is said in `dots_history`.
 use Rattle.std.specs.Prelude.{◌≡◌, ◌≢◌, ◌⊎◌, ℕ, zero, suc, ◌<◌, ◌≤◌, true, false, List, [], ◌∷◌, ◌++◌, length, Result, Ok, Err}
 use Rattle.ip_scope.specs.Prefix.{PrefixValue, meets}
+use Rattle.acl_lists.specs.declared.limits.TheConstants.{MAX_RESOLVED}
 use Rattle.acl_lists.specs.declared.alias.Alias.{Alias}
 use Rattle.acl_lists.specs.declared.asked.Asked.{Asked}
 use Rattle.dots_settings.specs.Settings.{SettingsValue}
@@ -154,7 +155,7 @@ pub record IsNew (settings : SettingsValue) (t : ℕ) (entries : List Entry) (cl
   pub free : IsTaken t entries client request.peer → ⊥
   pub unused : (put : Put) → HasMid t entries client request.mid put → ⊥
   pub are : AreTargets settings entries client request.asked targets
-  pub few : prefix_count targets ≤ 64
+  pub few : prefix_count targets ≤ MAX_RESOLVED
 
 -- and no standing mitigation of the client overlaps and has a higher mid
 pub record IsHighest (settings : SettingsValue) (t : ℕ) (entries : List Entry) (client : Client) (request : Request) (targets : List Target) : Type 0 where
@@ -183,7 +184,7 @@ pub data IsJudged (settings : SettingsValue) (t : ℕ) (entries : List Entry) (c
       → result ≡ Err faults.UnknownAlias → IsJudged settings t entries client request result
   too_many :
       (targets : List Target) → (IsTaken t entries client request.peer → ⊥) → ((put : Put) → HasMid t entries client request.mid put → ⊥)
-      → AreTargets settings entries client request.asked targets → 64 < prefix_count targets
+      → AreTargets settings entries client request.asked targets → MAX_RESOLVED < prefix_count targets
       → result ≡ Err faults.TooMany → IsJudged settings t entries client request result
   higher :
       (targets : List Target) (mid : ℕ) → IsNew settings t entries client request targets

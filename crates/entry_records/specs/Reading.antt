@@ -8,6 +8,7 @@ use Rattle.ip_scope.specs.declared.family.Family.TheVariants.{V4, V6}
 use Rattle.ip_scope.specs.Family.{width}
 use Rattle.ip_scope.specs.Prefix.{PrefixValue}
 use Rattle.ip_scope.specs.Ports.{Ports}
+use Rattle.acl_lists.specs.declared.limits.TheConstants.{MAX_ITEMS, MAX_NAMES, MAX_TARGETS, MAX_RESOLVED, MAX_ACES}
 use Rattle.acl_lists.specs.declared.ace.Ace.{Ace}
 use Rattle.acl_lists.specs.declared.acl.Acl.{Acl}
 use Rattle.acl_lists.specs.declared.acl.Activation.{Activation}
@@ -202,7 +203,7 @@ asked_from p = record { prefixes = p.0; ports = p.1.0; protocols = p.1.1.0; name
 
 -- with at most so many names of aliases
 unfoldable pub asked_at : ℕ → ℕ → List ℕ → Read Asked
-asked_at most = made_at asked_from (both_at (list_at 16 prefix_at) (both_at (list_at 16 ports_at) (both_at (counted_at 16) (both_at (list_at 8 name_at) (list_at most name_at)))))
+asked_at most = made_at asked_from (both_at (list_at MAX_ITEMS prefix_at) (both_at (list_at MAX_ITEMS ports_at) (both_at (counted_at MAX_ITEMS) (both_at (list_at MAX_NAMES name_at) (list_at most name_at)))))
 
 abbrev pub alias_from : List ℕ × Asked → Alias
 alias_from p = record { name = p.0; asked = p.1 }
@@ -234,7 +235,7 @@ abbrev pub acl_from : List ℕ × (Family × (Activation × List Ace)) → Acl
 acl_from p = record { name = p.0; family = p.1.0; activation = p.1.1.0; aces = p.1.1.1 }
 
 unfoldable pub acl_at : ℕ → List ℕ → Read Acl
-acl_at = made_at acl_from (both_at name_at (both_at family_at (both_at activation_at (list_at 32 ace_at))))
+acl_at = made_at acl_from (both_at name_at (both_at family_at (both_at activation_at (list_at MAX_ACES ace_at))))
 
 -- ---- mitigations and session configurations
 
@@ -243,7 +244,7 @@ target_from p = record { prefixes = p.0; ports = p.1.0; protocols = p.1.1 }
 
 -- with at most so many prefixes
 unfoldable pub target_at : ℕ → ℕ → List ℕ → Read Target
-target_at room = made_at target_from (both_at (list_at room prefix_at) (both_at (list_at 16 ports_at) (counted_at 16)))
+target_at room = made_at target_from (both_at (list_at room prefix_at) (both_at (list_at MAX_ITEMS ports_at) (counted_at MAX_ITEMS)))
 
 -- so many targets, with at most so many prefixes together
 unfoldable pub targets_at : ℕ → ℕ → ℕ → List ℕ → Read (List Target)
@@ -251,7 +252,7 @@ targets_at zero room end bytes = Ok ([], bytes)
 targets_at (suc n) room end bytes = made_at prepended (pair_at (target_at room) (λ target. targets_at n (room - length target.prefixes))) end bytes
 
 unfoldable pub all_targets_at : ℕ → List ℕ → Read (List Target)
-all_targets_at = made_at second (pair_at (within_at 0 9) (λ n. targets_at n 64))
+all_targets_at = made_at second (pair_at (within_at 0 MAX_TARGETS) (λ n. targets_at n MAX_RESOLVED))
 
 abbrev pub granted_at : ℕ → List ℕ → Read ℤ
 granted_at = made_at (cast_signed w32) (number_at w32)
@@ -260,7 +261,7 @@ abbrev pub put_from : ℕ × (Asked × (List Target × (ℤ × ℕ))) → Put
 put_from p = record { mid = p.0; asked = p.1.0; targets = p.1.1.0; granted = p.1.1.1.0; start = p.1.1.1.1 }
 
 unfoldable pub put_at : ℕ → List ℕ → Read Put
-put_at = made_at put_from (both_at (number_at w32) (both_at (asked_at 8) (both_at all_targets_at (both_at granted_at (number_at w64)))))
+put_at = made_at put_from (both_at (number_at w32) (both_at (asked_at MAX_NAMES) (both_at all_targets_at (both_at granted_at (number_at w64)))))
 
 abbrev pub values_from : ℕ × (ℕ × (ℕ × (ℕ × (ℕ × ℕ)))) → Values
 values_from p = record { interval = p.0; missing = p.1.0; retransmit = p.1.1.0; timeout = p.1.1.1.0; factor = p.1.1.1.1.0; rate = p.1.1.1.1.1 }

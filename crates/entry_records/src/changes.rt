@@ -12,18 +12,18 @@ use dots_lists::Bytes;
 use ip_scope::{Family, Prefix};
 
 /// How many entries an access list has at most.
-const MAX_ACES: u8 = 32;
+const MAX_ACES: u8 = acl_lists::MAX_ACES as u8;
 
 /// How many targets a mitigation has at most, and how many prefixes they have together.
-const MAX_TARGETS: u8 = 9;
+const MAX_TARGETS: u8 = acl_lists::MAX_TARGETS as u8;
 
-const MAX_RESOLVED: u8 = 64;
+const MAX_RESOLVED: u8 = acl_lists::MAX_RESOLVED as u8;
 
 /// The greatest length of a reply, in bytes.
 const MAX_REPLY: u8 = 64;
 
 /// How many names of aliases a request has at most.
-const MAX_ALIASES: u8 = 8;
+const MAX_ALIASES: u8 = acl_lists::MAX_NAMES as u8;
 
 impl Reader<'_> {
     /// A prefix that may be there.

@@ -8,10 +8,10 @@ use crate::reader::Reader;
 use acl_lists::{Alias, Asked, NameList, PortList, PrefixList};
 
 /// How many prefixes, port ranges or protocols there may be at most.
-pub(crate) const MAX_ITEMS: u8 = 16;
+pub(crate) const MAX_ITEMS: u8 = acl_lists::MAX_ITEMS as u8;
 
 /// How many names there may be at most.
-const MAX_NAMES: u8 = 8;
+const MAX_NAMES: u8 = acl_lists::MAX_NAMES as u8;
 
 impl Reader<'_> {
     /// So many prefixes.

@@ -1,5 +1,6 @@
 -- When the rows are those that a history comes to at a time.
 use Rattle.std.specs.Prelude.{◌≡◌, ℕ, ◌*◌, ◌≤◌, Bool, true, ◌&&◌, ◌==◌, nat_le, List, length}
+use Rattle.acl_lists.specs.declared.limits.TheConstants.{MAX_RESOLVED}
 use Rattle.std.specs.List.{list_all}
 use Rattle.dots_settings.specs.declared.limits.Limits.{Limits}
 use Rattle.dots_history.specs.declared.entry.Entry.{Entry}
@@ -16,7 +17,7 @@ pub record StandsFor (filters : FiltersValue) (t : ℕ) (entries : List Entry) :
 
 -- room for the rows of as many mitigations, of at most 64 prefixes each, and for as many lists, as the limits allow in so many domains
 abbrev pub scrub_room_of : ℕ → Limits → ℕ
-scrub_room_of domains limits = domains * limits.domain_mitigations * 64
+scrub_room_of domains limits = domains * limits.domain_mitigations * MAX_RESOLVED
 
 abbrev pub acl_room_of : ℕ → Limits → ℕ
 acl_room_of domains limits = domains * limits.clients * limits.acls
@@ -27,7 +28,7 @@ pub record HasRoom (domains : ℕ) (limits : Limits) (filters : FiltersValue) : 
 
 -- a mitigation has at most 64 prefixes
 abbrev pub has_few_prefixes : Mitigation → Bool
-has_few_prefixes m = nat_le (prefix_count (targets_of m.put.change)) 64
+has_few_prefixes m = nat_le (prefix_count (targets_of m.put.change)) MAX_RESOLVED
 
 -- In what the history comes to at the time, no domain has more live mitigations and registered clients, and no client more
 -- access lists, than the limits allow; and no live mitigation has more than 64 prefixes.

@@ -14,7 +14,7 @@ use std::alloc::Global;
 use std::marker::Model;
 
 /// How many prefixes a mitigation has at most.
-const PREFIXES: u32 = 64;
+const PREFIXES: u32 = acl_lists::MAX_RESOLVED as u32;
 
 /// The rows of mitigations and those of access lists that are installed.
 #[derive(Drop)]

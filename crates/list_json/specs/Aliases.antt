@@ -1,5 +1,6 @@
 -- Which values are an alias, and what each member says (RFC 8783, section 6.1).
 use Rattle.std.specs.Prelude.{ℕ, [], ◌∷◌, codes, nat_le, if◌then◌else◌, Option, Result, Ok, Err}
+use Rattle.acl_lists.specs.declared.limits.TheConstants.{MAX_ITEMS, MAX_NAMES}
 use Rattle.acl_lists.specs.declared.alias.Alias.{Alias}
 use Rattle.acl_lists.specs.declared.asked.Asked.{Asked}
 use Rattle.ip_scope.specs.Ports.{Ports}
@@ -33,10 +34,10 @@ with_target asked = elim asked.prefixes [ [] ↦ elim asked.names [ [] ↦ Err (
 -- what an alias stands for, by its members
 abbrev pub targets_from : Option Data → Option Data → Option Data → Option Data → Result Asked ListFault
 targets_from target_prefix target_port_range target_protocol target_fqdn = do
-  prefixes ← items_in the.TargetPrefix 16 (prefix_of the.TargetPrefix) target_prefix
-  ports ← items_in the.TargetPortRange 16 range_of target_port_range
-  protocols ← items_in the.TargetProtocol 16 (protocol_of the.TargetProtocol) target_protocol
-  names ← items_in the.TargetFqdn 8 (name_of the.TargetFqdn) target_fqdn
+  prefixes ← items_in the.TargetPrefix MAX_ITEMS (prefix_of the.TargetPrefix) target_prefix
+  ports ← items_in the.TargetPortRange MAX_ITEMS range_of target_port_range
+  protocols ← items_in the.TargetProtocol MAX_ITEMS (protocol_of the.TargetProtocol) target_protocol
+  names ← items_in the.TargetFqdn MAX_NAMES (name_of the.TargetFqdn) target_fqdn
   with_target (record { prefixes = prefixes; ports = ports; protocols = protocols; names = names; aliases = [] })
 
 abbrev pub targets_of : Data → Result Asked ListFault

@@ -1,6 +1,7 @@
 -- Which values are an access list, and what each member says (RFC 8783, section 7.2; RFC 8519, section 4.2).
 use Rattle.std.specs.Prelude.{ℕ, Bool, true, false, not, ◌&&◌, ◌==◌, List, [], ◌∷◌, codes, bytes_eq, if◌then◌else◌, Option, Some, None, option_and_then, ok_or, Result, Ok, Err}
 use Rattle.std.specs.List.{list_any}
+use Rattle.acl_lists.specs.declared.limits.TheConstants.{MAX_ACES}
 use Rattle.acl_lists.specs.declared.ace.Ace.{Ace}
 use Rattle.acl_lists.specs.declared.acl.Acl.{Acl}
 use Rattle.acl_lists.specs.declared.acl.Activation.{Activation}
@@ -245,7 +246,7 @@ some_entries (entry ∷ entries) = if distinct (entry ∷ entries) then Ok (entr
 abbrev pub aces_of : Family → Data → Result (List Ace) ListFault
 aces_of family d = do
   _ ← whole_object shape.Aces the.Aces d
-  entries ← items_in the.Ace 32 (entry_of family) (get (codes "ace") d)
+  entries ← items_in the.Ace MAX_ACES (entry_of family) (get (codes "ace") d)
   some_entries entries
 
 -- ---- the list

@@ -13,16 +13,11 @@ use crate::alias_members::{AliasMembers, members_of};
 use crate::fault::{ListFault, Member};
 use crate::shape::{Shape, check_members};
 use crate::values::{few_items, name_of, port_of, prefix_of, protocol_of};
-use acl_lists::{Alias, Asked, ByteList, NameList, PortList, PrefixList};
+use acl_lists::{Alias, Asked, ByteList, MAX_ITEMS, MAX_NAMES, NameList, PortList, PrefixList};
 use dots_lists::{Bytes, List, Name};
 use ip_scope::PortRange;
 use serde_json::Value;
 use std::alloc::Global;
-
-/// The most prefixes, port ranges and protocols, and the most names.
-const MAX_TARGETS: usize = 16;
-
-const MAX_NAMES: usize = 8;
 
 /// The member `lower-port`, which a range has to have.
 fn lower_port(range: &Value) -> Result<u16, ListFault>
@@ -68,7 +63,7 @@ fn prefixes_of(alloc: Global, member: Option<&Value>) -> Result<PrefixList, List
     let Some(value) = member else {
         return Ok(List::new(alloc));
     };
-    let Some(items) = few_items(value, MAX_TARGETS) else {
+    let Some(items) = few_items(value, MAX_ITEMS) else {
         return Err(ListFault::Invalid(Member::TargetPrefix));
     };
     let mut prefixes = List::new(alloc);
@@ -88,7 +83,7 @@ fn ports_of(alloc: Global, member: Option<&Value>) -> Result<PortList, ListFault
     let Some(value) = member else {
         return Ok(List::new(alloc));
     };
-    let Some(items) = few_items(value, MAX_TARGETS) else {
+    let Some(items) = few_items(value, MAX_ITEMS) else {
         return Err(ListFault::Invalid(Member::TargetPortRange));
     };
     let mut ports = List::new(alloc);
@@ -108,7 +103,7 @@ fn protocols_of(alloc: Global, member: Option<&Value>) -> Result<ByteList, ListF
     let Some(value) = member else {
         return Ok(Bytes::new(alloc));
     };
-    let Some(items) = few_items(value, MAX_TARGETS) else {
+    let Some(items) = few_items(value, MAX_ITEMS) else {
         return Err(ListFault::Invalid(Member::TargetProtocol));
     };
     let mut protocols = Bytes::new(alloc);

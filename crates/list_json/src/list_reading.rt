@@ -13,14 +13,11 @@ use crate::fault::{ListFault, Member};
 use crate::matches::{Matches, matches_of};
 use crate::shape::{Shape, check_members};
 use crate::values::{few_items, own_name};
-use acl_lists::{Ace, AceList, Acl, Activation};
+use acl_lists::{Ace, AceList, Acl, Activation, MAX_ACES};
 use dots_lists::{List, Name};
 use ip_scope::Family;
 use serde_json::Value;
 use std::alloc::Global;
-
-/// The most entries of a list.
-const MAX_ENTRIES: usize = 32;
 
 /// Whether `accept` or `drop` stands for accepting.
 fn forwarding_in(text: &str) -> Option<bool>
@@ -113,7 +110,7 @@ fn own_entries(alloc: Global, family: Family, aces: &Value) -> Result<AceList, L
     let Some(value) = aces.get("ace") else {
         return Ok(List::new(alloc));
     };
-    let Some(items) = few_items(value, MAX_ENTRIES) else {
+    let Some(items) = few_items(value, MAX_ACES) else {
         return Err(ListFault::Invalid(Member::Ace));
     };
     let mut entries = List::new(alloc);
