@@ -4,6 +4,7 @@ use Rattle.std.specs.Prelude.{◌≡◌, ℕ, zero, suc, ◌-◌, ◌/◌, ◌%�
 use Rattle.std.specs.Int.{Width, byte_len, from_be_bytes}
 use Rattle.std.specs.Str.{is_utf8}
 use Rattle.std.specs.Borrow.{Bor}
+use Rattle.dots_lists.specs.Steps as steps
 use Rattle.cbor_profile.specs.declared.fault.CborFault.{CborFault}
 use Rattle.cbor_profile.specs.declared.fault.CborFault.TheVariants.{Short, Reserved, NotUtf8, Duplicate, Unsupported, Deep, Trailing, NoMemory}
 use Rattle.cbor_profile.specs.declared.major.Major.{Major}
@@ -22,10 +23,14 @@ abbrev pub ◌>>=◌ : {A B : Type 0} → Result A CborFault → (A → Result B
 (Ok x) >>= f = f x
 (Err e) >>= f = Err e
 
+-- want of memory
+abbrev pub lacks : CborFault → Bool
+lacks NoMemory = true
+lacks _ = false
+
 -- What a function returned, seen by view, is what reading gives, unless memory ran out.
-abbrev pub Fails : {Y : Type 0} → CborFault → Result Y CborFault → Type 0
-Fails NoMemory read = Unit {0}
-Fails fault read = read ≡ Err fault
+abbrev pub Fails : {A : Type 0} → CborFault → Result A CborFault → Type 0
+Fails fault read = steps.Fails lacks fault read
 
 abbrev pub Gives : {X Y : Type 0} → (X → Y) → Result X CborFault → Result Y CborFault → Type 0
 Gives view (Ok x) read = read ≡ Ok (view x)

@@ -1,7 +1,8 @@
 -- What a request asks before its body is read (RFC 8040, sections 3.5.3, 4 and 5.3; RFC 8783, sections 4.3, 6 and 7), or
 -- the first refusal that applies.
-use Rattle.std.specs.Prelude.{◌≡◌, ℕ, Bool, true, false, ◌&&◌, not, List, map, codes, bytes_eq, if◌then◌else◌, Option, Some, None, ok_or, is_some, Result, Ok, Err, ⊤}
+use Rattle.std.specs.Prelude.{◌≡◌, ℕ, Bool, true, false, ◌&&◌, not, List, map, codes, bytes_eq, if◌then◌else◌, Option, Some, None, ok_or, is_some, Result, Ok, Err}
 use Rattle.std.specs.Char.{to_ascii_lowercase}
+use Rattle.dots_lists.specs.Steps as steps
 use Rattle.dots_lists.specs.Name.{is_name}
 use Rattle.percent_encoding.specs.Percent.{percent_decode}
 use Rattle.list_json.specs.declared.fault.ListFault.{ListFault}
@@ -26,23 +27,24 @@ abbrev pub ◌>>=◌ : {A B : Type 0} → Result A RestReject → (A → Result 
 (Ok x) >>= f = f x
 (Err e) >>= f = Err e
 
+-- want of memory
+abbrev pub lacks : RestReject → Bool
+lacks reject.NoMemory = true
+lacks _ = false
+
 -- What a function answered is what reading gives, unless memory ran out.
 abbrev pub Fails : {A : Type 0} → RestReject → Result A RestReject → Type 0
-Fails reject.NoMemory read = ⊤
-Fails e read = read ≡ Err e
+Fails fault read = steps.Fails lacks fault read
 
 abbrev pub Gives : {A : Type 0} → Result A RestReject → Result A RestReject → Type 0
-Gives (Ok x) read = read ≡ Ok x
-Gives (Err e) read = Fails e read
+Gives answer read = steps.Gives lacks answer read
 
 -- a fact of an answer, unless it is want of memory
 abbrev pub Fulfils : RestReject → Type 0 → Type 0
-Fulfils reject.NoMemory fact = ⊤
-Fulfils e fact = fact
+Fulfils fault fact = steps.unless (lacks fault) fact
 
 abbrev pub UnlessNoMemory : {A : Type 0} → Result A RestReject → Type 0 → Type 0
-UnlessNoMemory (Ok x) fact = fact
-UnlessNoMemory (Err e) fact = Fulfils e fact
+UnlessNoMemory answer fact = steps.UnlessNoMemory lacks answer fact
 
 -- ---- the names of a path
 

@@ -1,5 +1,6 @@
 -- Reading in steps: each step gives what it reads, or the refusal that ends the reading.
-use Rattle.std.specs.Prelude.{◌≡◌, ℕ, Result, Ok, Err, ⊤}
+use Rattle.std.specs.Prelude.{◌≡◌, ℕ, Result, Ok, Err, Bool, true, false}
+use Rattle.dots_lists.specs.Steps as steps
 use Rattle.dots_heads.specs.declared.reject.Reject.{Reject}
 use Rattle.dots_heads.specs.declared.reject.Reject.TheVariants as reject
 use Rattle.dots_heads.specs.declared.reject.Cause.TheVariants as cause
@@ -19,14 +20,17 @@ missing key = reject.Body (cause.Missing key)
 abbrev pub unknown_key : ℕ → Reject
 unknown_key key = reject.Body (cause.Unknown key)
 
+-- want of memory
+abbrev pub lacks : Reject → Bool
+lacks reject.NoMemory = true
+lacks _ = false
+
 -- What a function answered is what reading gives, unless memory ran out.
 abbrev pub Fails : {A : Type 0} → Reject → Result A Reject → Type 0
-Fails reject.NoMemory read = ⊤
-Fails e read = read ≡ Err e
+Fails fault read = steps.Fails lacks fault read
 
 abbrev pub Gives : {A : Type 0} → Result A Reject → Result A Reject → Type 0
-Gives (Ok x) read = read ≡ Ok x
-Gives (Err e) read = Fails e read
+Gives answer read = steps.Gives lacks answer read
 
 -- the same where what was read is stored in a value
 abbrev pub Stores : {A Done : Type 0} → Result Done Reject → A → Result A Reject → Type 0
@@ -44,9 +48,7 @@ Leaves (Err e) new read = read ≡ Err e
 
 -- a fact of an answer, unless it is want of memory
 abbrev pub Fulfils : Reject → Type 0 → Type 0
-Fulfils reject.NoMemory fact = ⊤
-Fulfils e fact = fact
+Fulfils fault fact = steps.unless (lacks fault) fact
 
 abbrev pub UnlessNoMemory : {A : Type 0} → Result A Reject → Type 0 → Type 0
-UnlessNoMemory (Ok x) fact = fact
-UnlessNoMemory (Err e) fact = Fulfils e fact
+UnlessNoMemory answer fact = steps.UnlessNoMemory lacks answer fact

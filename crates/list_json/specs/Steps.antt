@@ -1,5 +1,6 @@
 -- Reading in steps: each step gives what it reads, or the fault that ends the reading.
-use Rattle.std.specs.Prelude.{◌≡◌, ℕ, List, [], ◌∷◌, nat_le, if◌then◌else◌, Option, Some, None, option_and_then, ok_or, Result, Ok, Err, ⊤}
+use Rattle.std.specs.Prelude.{◌≡◌, ℕ, List, [], ◌∷◌, nat_le, if◌then◌else◌, Option, Some, None, option_and_then, ok_or, Result, Ok, Err, Bool, true, false}
+use Rattle.dots_lists.specs.Steps as steps
 use Rattle.serde_json.specs.Data.{Data, Items, no_items, item}
 use Rattle.serde_json.specs.Events.{items_len}
 use Rattle.serde_json.specs.Find.{as_array}
@@ -12,14 +13,17 @@ abbrev pub ◌>>=◌ : {A B : Type 0} → Result A ListFault → (A → Result B
 (Ok x) >>= f = f x
 (Err e) >>= f = Err e
 
+-- want of memory
+abbrev pub lacks : ListFault → Bool
+lacks faults.NoMemory = true
+lacks _ = false
+
 -- What a function answered is what reading gives, unless memory ran out.
 abbrev pub Fails : {A : Type 0} → ListFault → Result A ListFault → Type 0
-Fails faults.NoMemory read = ⊤
-Fails e read = read ≡ Err e
+Fails fault read = steps.Fails lacks fault read
 
 abbrev pub Gives : {A : Type 0} → Result A ListFault → Result A ListFault → Type 0
-Gives (Ok x) read = read ≡ Ok x
-Gives (Err e) read = Fails e read
+Gives answer read = steps.Gives lacks answer read
 
 -- ---- members of an object
 
