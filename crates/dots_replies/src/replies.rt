@@ -53,7 +53,7 @@ pub fn reset(id: u16) -> ShortMessage
 }
 
 /// A reply with a body of CBOR.
-pub fn with_body(code: u8, exchange: &Exchange, body: &[u8]) -> ShortMessage
+fn with_body(code: u8, exchange: &Exchange, body: &[u8]) -> ShortMessage
     requires code { code ≢ 0 }
     requires body { length body.now ≤ MAX_BODY }
     ensures { result ≡ with_body code exchange.now body.now }

@@ -176,11 +176,11 @@ fn serve<H: Host, K: Sink>(server: Server, host: &mut H, report: &mut K) -> Endi
     match take_events(server, host, &mut room) {
         Ok(server) => match server.write_report(report) {
             Ok(()) => {
-                let_go(server);
+                server.let_go();
                 return Ending::Served(Stop::Ended);
             }
             Err(_) => {
-                let_go(server);
+                server.let_go();
                 return Ending::ReportFailed;
             }
         },
@@ -189,11 +189,6 @@ fn serve<H: Host, K: Sink>(server: Server, host: &mut H, report: &mut K) -> Endi
             return Ending::Served(how);
         }
     }
-}
-
-/// Lets the server go.
-fn let_go(server: Server) {
-    let _settings = server.into_settings();
 }
 
 /// Where the disk wasn't recovered at a restart, why not; and else nothing.

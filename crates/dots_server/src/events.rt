@@ -44,13 +44,13 @@ pub fn take_events<H: Host>(server: Server, host: &mut H, room: &mut [u8]) -> Re
         match got.what {
             What::End => return Ok(server),
             What::Failed => {
-                let_go(server);
+                server.let_go();
                 return Err(Stop::NextFailed);
             }
             _ => server = take_one(server, host, &got, room)?,
         }
     }
-    let_go(server);
+    server.let_go();
     Err(Stop::TooMany)
 }
 
@@ -82,14 +82,9 @@ fn take_one<H: Host>(server: Server, host: &mut H, got: &Got, room: &[u8]) -> Re
         _ => match server.handle(host, got, room) {
             Ok(()) => return Ok(server),
             Err(_) => {
-                let_go(server);
+                server.let_go();
                 return Err(Stop::DiskFailed);
             }
         },
     }
-}
-
-/// Lets the server go.
-fn let_go(server: Server) {
-    let _settings = server.into_settings();
 }

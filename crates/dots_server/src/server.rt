@@ -135,6 +135,11 @@ impl Server {
         self.settings
     }
 
+    /// Lets all of it go.
+    pub fn let_go(self) {
+        let _settings = self.into_settings();
+    }
+
     /// The tables of what was accepted.
     pub fn registry(&self) -> &Registry
         ensures { result.now ≡ self.now.registry }
