@@ -1,9 +1,7 @@
-pub mod Numbers
 pub mod Rows
 pub mod HostNames
 pub mod Drafts
 pub mod Bytes
-pub mod Capacities
 pub mod ReadTo
 pub mod Takes
 pub mod Apart
@@ -14,4 +12,3 @@ pub mod Files
 pub mod OneForm
 pub mod OneFile
 pub mod Lookups
-mod Words

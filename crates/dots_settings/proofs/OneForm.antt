@@ -1,169 +1,150 @@
--- A line has one form at most.
-use Rattle.std.proofs.Common.{◌≡◌, ◌≢◌, ℕ, ◌<◌, ◌≤◌, ◌^◌, Bool, true, false, List, length, bytes_eq, codes, decimal, Option, Some, None, refl, sym, ap, subst, ◌∙◌, true≢false, arith, lit≤}
-use Rattle.std.proofs.lemmas.Fmt.{decimal_injective, decimal_is_IsNumeral}
-use Rattle.std.proofs.Math.Bridge.{le_prop}
-use Rattle.std.specs.Str.Parse.{AllDigits}
-use Rattle.ip_scope.specs.declared.address.Addr.{Addr}
-use Rattle.ip_scope.specs.Family.{width}
-use Rattle.ip_scope.specs.Prefix.{PrefixValue, prefix_of}
-use Rattle.ip_scope.specs.PrefixText.{Reads, IsAddressText}
-use Rattle.ip_scope.proofs.AddressTexts.{IsAddressText_unique}
-use Rattle.ip_scope.proofs.PrefixTexts.{IsPrefixText_unique}
+-- A line has one form at most, and what it says is within its range.
+use Rattle.std.proofs.Common.{◌≡◌, ℕ, ◌≤◌, Bool, true, false, List, [], ◌∷◌, Option, Some, None, Result, Ok, Err, IfOk, refl, sym, subst, ◌∙◌, if◌then◌else◌}
+use Rattle.std.specs.Prelude.{⊤, ◌&&◌, nat_le, bytes_eq, decimal}
+use Rattle.std.specs.Str.Parse.{digits_value}
+use Rattle.std.proofs.lemmas.Bool.{and_parts, leb-true}
+use Rattle.std.proofs.NetLemmas.Options.{cond_some}
+use Rattle.plain_text.specs.Numbers.{number_in, is_number_in}
+use Rattle.dots_lists.specs.Name.{is_name}
+use Rattle.ip_scope.specs.PrefixReader.{prefix_in}
 use Rattle.acl_lists.specs.declared.packet.Packet.{Packet}
 use Rattle.dots_settings.specs.declared.capacity.Capacity.{Capacity}
-use Rattle.dots_settings.specs.declared.capacity.Capacity.TheVariants as capacity
-use Rattle.dots_settings.specs.Capacity.{capacity_name, capacity_named, greatest_of}
-use Rattle.dots_settings.specs.Form.{FormValue, Says, AreFields, ArePacket, ArePorts, IsLimit, word_of, yes_or_no, domain_line, prefix_line, client_line, gateway_line, name_line, ceiling_line, indefinite_line, capacity_line, packet_line}
-use mathlib.Core.HLevel.{is_prop→PathP}
-
--- ---- the parts of a form
-
-reads_once : (text other : List ℕ) (p q : PrefixValue) → text ≡ other → Reads text p → Reads other q → p ≡ q
-reads_once text other p q same a b =
-    let b' : Reads text q = subst (λ (x : List ℕ). Reads x q) (sym same) b in
-    let parts = IsPrefixText_unique text p.family q.family a.number b'.number p.length q.length a.spelled b'.spelled in
-    a.cleared ∙ (λ i. prefix_of (parts.0 i) (parts.1 i) (parts.2 i)) ∙ sym b'.cleared
-
-named_back : (what : Capacity) → capacity_named (capacity_name what) ≡ Some what
-named_back capacity.ClientMitigations = refl
-named_back capacity.DomainMitigations = refl
-named_back capacity.Clients = refl
-named_back capacity.Aliases = refl
-named_back capacity.Acls = refl
-named_back capacity.Remembered = refl
-named_back capacity.Observers = refl
-
-some_same : {A : Type 0} (x y : A) → Some x ≡ Some y → x ≡ y
-some_same x y e = cc
-
-capacity_once : (one other : Capacity) → capacity_name one ≡ capacity_name other → one ≡ other
-capacity_once one other same = some_same one other (sym (named_back one) ∙ ap capacity_named same ∙ named_back other)
-
-greatest_small : (what : Capacity) → greatest_of what ≤ 64
-greatest_small capacity.ClientMitigations = lit≤ tt
-greatest_small capacity.DomainMitigations = lit≤ tt
-greatest_small capacity.Clients = lit≤ tt
-greatest_small capacity.Aliases = lit≤ tt
-greatest_small capacity.Acls = lit≤ tt
-greatest_small capacity.Remembered = lit≤ tt
-greatest_small capacity.Observers = lit≤ tt
-
-limit_once : (what : Capacity) (text : List ℕ) (one other : Option ℕ) → IsLimit what text one → IsLimit what text other → one ≡ other
-limit_once what text (Some m) (Some n) x y =
-    let small = greatest_small what in
-    ap Some (decimal_injective m n (omega (arith, x.1)) (omega (arith, y.1)) (sym x.2 ∙ y.2))
-limit_once what text (Some m) None x y = absurd (y.1 m x.0 x.1 x.2)
-limit_once what text None (Some n) x y = absurd (x.1 n y.0 y.1 y.2)
-limit_once what text None None x y = refl
-
-granted_once : (one other : Bool) → yes_or_no one ≡ yes_or_no other → one ≡ other
-granted_once true true e = refl
-granted_once true false e = absurd (omega (arith, ap length e))
-granted_once false true e = absurd (omega (arith, ap length e))
-granted_once false false e = refl
-
-addr_once : (one other : Addr) → one.family ≡ other.family → one.number ≡ other.number → one ≡ other
-addr_once one other family number = λ i. record {
-  family = family i;
-  number = number i;
-  fits = is_prop→PathP (λ j. number j < 2 ^ width (family j)) (λ j x y. le_prop x y) one.fits other.fits i;
-}
-
-no_dash : (n : ℕ) → n < 2 ^ 16 → decimal n ≢ codes "-"
-no_dash n small e =
-    let digits : AllDigits 10 (codes "-") = subst (AllDigits 10) e (decimal_is_IsNumeral n (omega arith)).0.1 in
-    absurd (omega (arith, digits.0))
-
-ports_once : (source destination : List ℕ) (one other : Option (ℕ × ℕ)) → ArePorts source destination one → ArePorts source destination other → one ≡ other
-ports_once source destination None None x y = refl
-ports_once source destination None (Some ports) x y = absurd (no_dash ports.0 y.0 (sym y.2 ∙ x.0))
-ports_once source destination (Some ports) None x y = absurd (no_dash ports.0 x.0 (sym x.2 ∙ y.0))
-ports_once source destination (Some ports) (Some others) x y =
-    let from : ports.0 ≡ others.0 = decimal_injective ports.0 others.0 (omega (arith, x.0)) (omega (arith, y.0)) (sym x.2 ∙ y.2) in
-    let to : ports.1 ≡ others.1 = decimal_injective ports.1 others.1 (omega (arith, x.1)) (omega (arith, y.1)) (sym x.3 ∙ y.3) in
-    λ i. Some (from i, to i)
-
-packet_once : (fields : List (List ℕ)) (one other : Packet) → ArePacket fields one → ArePacket fields other → one ≡ other
-packet_once fields one other x y =
-    let spelled = sym x.spelled ∙ y.spelled in
-    let source : x.source ≡ y.source = cc in
-    let destination : x.destination ≡ y.destination = cc in
-    let protocol : decimal one.protocol ≡ decimal other.protocol = cc in
-    let source_port : x.source_port ≡ y.source_port = cc in
-    let destination_port : x.destination_port ≡ y.destination_port = cc in
-    let from = IsAddressText_unique x.source one.source.family other.source.family one.source.number other.source.number x.from
-    (subst (λ (text : List ℕ). IsAddressText text other.source.family other.source.number) (sym source) y.from) in
-    let to = IsAddressText_unique x.destination one.destination.family other.destination.family one.destination.number other.destination.number x.to
-    (subst (λ (text : List ℕ). IsAddressText text other.destination.family other.destination.number) (sym destination) y.to) in
-    let ports : one.ports ≡ other.ports = ports_once x.source_port x.destination_port one.ports other.ports x.ports
-    (subst (λ (text : List ℕ). ArePorts x.source_port text other.ports) (sym destination_port) (subst (λ (text : List ℕ). ArePorts text y.destination_port other.ports) (sym source_port) y.ports)) in
-    λ i. record {
-      source = addr_once one.source other.source from.0 from.1 i;
-      destination = addr_once one.destination other.destination to.0 to.1 i;
-      protocol = decimal_injective one.protocol other.protocol (omega (arith, x.protocol)) (omega (arith, y.protocol)) protocol i;
-      ports = ports i;
-    }
-
--- ---- the form
-
-other_word : (one other : List ℕ) → one ≡ other → bytes_eq one one ≡ true → bytes_eq one other ≡ false → ⊥
-other_word one other same is isnt = true≢false (sym is ∙ ap (bytes_eq one) same ∙ isnt)
-
-form_once : (fields : List (List ℕ)) (one other : FormValue) → word_of one ≡ word_of other → AreFields fields one → AreFields fields other → one ≡ other
-form_once fields (domain_line name) (domain_line other) word x y =
-    let same : name ≡ other = cc in
-    ap domain_line same
-form_once fields (domain_line name) _ word x y = absurd (other_word _ _ word refl refl)
-form_once fields (prefix_line name value) (prefix_line other value') word x y =
-    let spelled = sym x.1 ∙ y.1 in
-    let same : name ≡ other = cc in
-    let text : x.0 ≡ y.0 = cc in
-    let prefix = reads_once x.0 y.0 value value' text x.3 y.3 in
-    λ i. prefix_line (same i) (prefix i)
-form_once fields (prefix_line name value) _ word x y = absurd (other_word _ _ word refl refl)
-form_once fields (client_line peer name) (client_line peer' other) word x y =
-    let spelled = sym x.0 ∙ y.0 in
-    let same : name ≡ other = cc in
-    let digits : decimal peer ≡ decimal peer' = cc in
-    let number = decimal_injective peer peer' (omega (arith, x.1)) (omega (arith, y.1)) digits in
-    λ i. client_line (number i) (same i)
-form_once fields (client_line peer name) _ word x y = absurd (other_word _ _ word refl refl)
-form_once fields (gateway_line peer) (gateway_line peer') word x y =
-    let spelled = sym x.0 ∙ y.0 in
-    let digits : decimal peer ≡ decimal peer' = cc in
-    ap gateway_line (decimal_injective peer peer' (omega (arith, x.1)) (omega (arith, y.1)) digits)
-form_once fields (gateway_line peer) _ word x y = absurd (other_word _ _ word refl refl)
-form_once fields (name_line fqdn value) (name_line other value') word x y =
-    let spelled = sym x.1 ∙ y.1 in
-    let same : fqdn ≡ other = cc in
-    let text : x.0 ≡ y.0 = cc in
-    let prefix = reads_once x.0 y.0 value value' text x.3 y.3 in
-    λ i. name_line (same i) (prefix i)
-form_once fields (name_line fqdn value) _ word x y = absurd (other_word _ _ word refl refl)
-form_once fields (ceiling_line seconds) (ceiling_line seconds') word x y =
-    let spelled = sym x.0 ∙ y.0 in
-    let digits : decimal seconds ≡ decimal seconds' = cc in
-    ap ceiling_line (decimal_injective seconds seconds' (omega (arith, x.2)) (omega (arith, y.2)) digits)
-form_once fields (ceiling_line seconds) _ word x y = absurd (other_word _ _ word refl refl)
-form_once fields (indefinite_line granted) (indefinite_line granted') word x y =
-    let spelled = sym x ∙ y in
-    let same : yes_or_no granted ≡ yes_or_no granted' = cc in
-    ap indefinite_line (granted_once granted granted' same)
-form_once fields (indefinite_line granted) _ word x y = absurd (other_word _ _ word refl refl)
-form_once fields (capacity_line what limit) (capacity_line what' limit') word x y =
-    let spelled = sym x.1 ∙ y.1 in
-    let name : capacity_name what ≡ capacity_name what' = cc in
-    let text : x.0 ≡ y.0 = cc in
-    let same = capacity_once what what' name in
-    let number = limit_once what x.0 limit limit' x.2 (subst (λ (w : Capacity). IsLimit w x.0 limit') (sym same) (subst (λ (t : List ℕ). IsLimit what' t limit') (sym text) y.2)) in
-    λ i. capacity_line (same i) (number i)
-form_once fields (capacity_line what limit) _ word x y = absurd (other_word _ _ word refl refl)
-form_once fields (packet_line value) (packet_line value') word x y = ap packet_line (packet_once fields value value' x y)
-form_once fields (packet_line value) _ word x y = absurd (other_word _ _ word refl refl)
+use Rattle.dots_settings.specs.declared.complaint.Complaint.{Complaint}
+use Rattle.dots_settings.specs.declared.mistake.Mistake.{Mistake}
+use Rattle.dots_settings.specs.declared.mistake.Mistake.TheVariants as mistake
+use Rattle.dots_settings.specs.Admitting.{IsNamed}
+use Rattle.dots_settings.specs.Capacity.{capacity_named, greatest_of}
+use Rattle.dots_settings.specs.Form.{FormValue, Says, is_domain_name, is_number, granted_in, prefix_mistake, unless, given, mapped, domain_form, prefix_form, client_form, gateway_form, name_form, ceiling_form, indefinite_form, capacity_of, capacity_form, packet_of, packet_form, form_by_word, form_of, domain_line, prefix_line, client_line, gateway_line, name_line, ceiling_line, indefinite_line, capacity_line, packet_line}
+use Rattle.dots_settings.specs.Lines.{fields_of}
+use Rattle.dots_settings.specs.Settings.{IsInRange}
 
 pub says_once : (line : List ℕ) (one other : FormValue) → Says line one → Says line other → one ≡ other
-says_once line one other x y =
-    let spelled = sym x.spelled ∙ y.spelled in
-    let word : word_of one ≡ word_of other = cc in
-    let fields : x.fields ≡ y.fields = cc in
-    form_once x.fields one other word x.behind (subst (λ (f : List (List ℕ)). AreFields f other) (sym fields) y.behind)
+says_once line one other x y = once one other (sym x ∙ y)
+  where
+    result : FormValue → Result FormValue Complaint
+    result form = Ok form
+
+    once : (a b : FormValue) → result a ≡ result b → a ≡ b
+    once a b same = cc
+
+-- ---- the ranges
+
+-- a host name is one, and the ceiling and a capacity are in their ranges
+abbrev pub IsWithin : FormValue → Type 0
+IsWithin (name_line fqdn value) = is_name fqdn ≡ true
+IsWithin (ceiling_line seconds) = (1 ≤ seconds) × (seconds ≤ 604800)
+IsWithin (capacity_line what (Some limit)) = IsInRange what limit
+IsWithin _ = ⊤
+
+number_within : (least most : ℕ) (text : List ℕ) (n : ℕ) → number_in least most text ≡ Some n → (least ≤ n) × (n ≤ most)
+number_within least most text n is =
+    let value = digits_value 10 text in
+    let holds = cond_some (is_number_in least most text) value n is in
+    let upper = and_parts (bytes_eq (decimal value) text && nat_le least value) (nat_le value most) holds.0 in
+    let lower = and_parts (bytes_eq (decimal value) text) (nat_le least value) upper.0 in
+    (subst (λ (k : ℕ). least ≤ k) holds.1 (leb-true least value lower.1), subst (λ (k : ℕ). k ≤ most) holds.1 (leb-true value most upper.1))
+
+if_within : (b : Bool) (one other : Result FormValue Complaint) → IfOk one IsWithin → IfOk other IsWithin → IfOk (if b then one else other) IsWithin
+if_within true one other x y = x
+if_within false one other x y = y
+
+unless_within : (b : Bool) (mistake : Mistake) (field : ℕ) (later : Result FormValue Complaint) → (b ≡ true → IfOk later IsWithin) → IfOk (unless b mistake field later) IsWithin
+unless_within true mistake field later x = x refl
+unless_within false mistake field later x = tt
+
+given_within : {A : Type 0} (o : Option A) (mistake : Mistake) (field : ℕ) (later : A → Result FormValue Complaint) → ((value : A) → o ≡ Some value → IfOk (later value) IsWithin)
+    → IfOk (given o mistake field later) IsWithin
+given_within None mistake field later x = tt
+given_within (Some value) mistake field later x = x value refl
+
+domain_within : (fields : List (List ℕ)) → IfOk (domain_form fields) IsWithin
+domain_within [] = tt
+domain_within (name ∷ []) = unless_within (is_domain_name name) mistake.DomainName 1 (Ok (domain_line name)) (λ is. tt)
+domain_within (a ∷ b ∷ rest) = tt
+
+prefix_within : (fields : List (List ℕ)) → IfOk (prefix_form fields) IsWithin
+prefix_within [] = tt
+prefix_within (a ∷ []) = tt
+prefix_within (name ∷ text ∷ []) = unless_within (is_domain_name name) mistake.DomainName 1 (given (prefix_in text) (prefix_mistake text) 2 (λ value. Ok (prefix_line name value)))
+    (λ is. given_within (prefix_in text) (prefix_mistake text) 2 (λ value. Ok (prefix_line name value)) (λ value is. tt))
+prefix_within (a ∷ b ∷ c ∷ rest) = tt
+
+client_within : (fields : List (List ℕ)) → IfOk (client_form fields) IsWithin
+client_within [] = tt
+client_within (a ∷ []) = tt
+client_within (peer ∷ name ∷ []) = given_within (number_in 0 4294967295 peer) mistake.Peer 1 (λ number. unless (is_domain_name name) mistake.DomainName 2 (Ok (client_line number name)))
+    (λ number is. unless_within (is_domain_name name) mistake.DomainName 2 (Ok (client_line number name)) (λ is. tt))
+client_within (a ∷ b ∷ c ∷ rest) = tt
+
+gateway_within : (fields : List (List ℕ)) → IfOk (gateway_form fields) IsWithin
+gateway_within [] = tt
+gateway_within (peer ∷ []) = given_within (number_in 0 4294967295 peer) mistake.Peer 1 (λ number. Ok (gateway_line number)) (λ number is. tt)
+gateway_within (a ∷ b ∷ rest) = tt
+
+name_within : (fields : List (List ℕ)) → IfOk (name_form fields) IsWithin
+name_within [] = tt
+name_within (a ∷ []) = tt
+name_within (fqdn ∷ text ∷ []) = unless_within (is_name fqdn) mistake.HostName 1 (given (prefix_in text) (prefix_mistake text) 2 (λ value. Ok (name_line fqdn value)))
+    (λ named. given_within (prefix_in text) (prefix_mistake text) 2 (λ value. Ok (name_line fqdn value)) (λ value is. named))
+name_within (a ∷ b ∷ c ∷ rest) = tt
+
+ceiling_within : (fields : List (List ℕ)) → IfOk (ceiling_form fields) IsWithin
+ceiling_within [] = tt
+ceiling_within (text ∷ []) = given_within (number_in 1 604800 text) mistake.Ceiling 1 (λ seconds. Ok (ceiling_line seconds)) (λ seconds is. number_within 1 604800 text seconds is)
+ceiling_within (a ∷ b ∷ rest) = tt
+
+indefinite_within : (fields : List (List ℕ)) → IfOk (indefinite_form fields) IsWithin
+indefinite_within [] = tt
+indefinite_within (text ∷ []) = given_within (granted_in text) mistake.YesOrNo 1 (λ granted. Ok (indefinite_line granted)) (λ granted is. tt)
+indefinite_within (a ∷ b ∷ rest) = tt
+
+limit_within : (what : Capacity) (text : List ℕ) (o : Option ℕ) → number_in 1 (greatest_of what) text ≡ o → IsWithin (capacity_line what o)
+limit_within what text None is = tt
+limit_within what text (Some n) is = number_within 1 (greatest_of what) text n is
+
+named_within : (name text : List ℕ) → IfOk (capacity_of name text) IsWithin
+unfolding capacity_of
+named_within name text =
+    given_within (capacity_named name) mistake.CapacityName 1 (λ what. unless (is_number text) mistake.Limit 2 (Ok (said what)))
+    (λ what is. unless_within (is_number text) mistake.Limit 2 (Ok (said what)) (λ number. limit_within what text (number_in 1 (greatest_of what) text) refl))
+  where
+    said : Capacity → FormValue
+    said what = capacity_line what (number_in 1 (greatest_of what) text)
+
+capacity_within : (fields : List (List ℕ)) → IfOk (capacity_form fields) IsWithin
+capacity_within [] = tt
+capacity_within (a ∷ []) = tt
+capacity_within (name ∷ text ∷ []) = named_within name text
+capacity_within (a ∷ b ∷ c ∷ rest) = tt
+
+packet_mapped : (r : Result Packet Complaint) → IfOk (mapped packet_line r) IsWithin
+packet_mapped (Ok packet) = tt
+packet_mapped (Err complaint) = tt
+
+packet_within : (fields : List (List ℕ)) → IfOk (packet_form fields) IsWithin
+packet_within [] = tt
+packet_within (a ∷ []) = tt
+packet_within (a ∷ b ∷ []) = tt
+packet_within (a ∷ b ∷ c ∷ []) = tt
+packet_within (a ∷ b ∷ c ∷ d ∷ []) = tt
+packet_within (a ∷ b ∷ c ∷ d ∷ e ∷ []) = packet_mapped (packet_of a b c d e)
+packet_within (a ∷ b ∷ c ∷ d ∷ e ∷ f ∷ rest) = tt
+
+by_word : (word : List ℕ) (fields : List (List ℕ)) → IfOk (form_by_word word fields) IsWithin
+unfolding form_by_word
+by_word word fields =
+    search (if_within, domain_within, prefix_within, client_within, gateway_within, name_within, ceiling_within, indefinite_within, capacity_within, packet_within) depth 12
+
+all_within : (fields : List (List ℕ)) → IfOk (form_of fields) IsWithin
+all_within [] = tt
+all_within (word ∷ fields) = by_word word fields
+
+pub says_within : (line : List ℕ) (form : FormValue) → Says line form → IsWithin form
+says_within line form says = subst (λ (r : Result FormValue Complaint). IfOk r IsWithin) says (all_within (fields_of line))
+
+pub says_named : (line : List ℕ) (form : FormValue) → Says line form → IsNamed form
+says_named line form says = by form (says_within line form says)
+  where
+    by : (form : FormValue) → IsWithin form → IsNamed form
+    by (name_line fqdn value) within = within
+    by _ within = tt

@@ -16,7 +16,7 @@ use Rattle.dots_settings.specs.Row.{Row, row_of, AreRows}
 use Rattle.dots_settings.specs.Draft.{DraftValue, draft_of, first_of, forms_by, ceiling_in, capacity_in}
 use Rattle.dots_settings.specs.File.{IsSound, SettingsAre}
 use Rattle.dots_settings.specs.Settings.{SettingsValue, settings_by, digest_text, draft_role, peer_row_of, name_row_of, limits_of, domain_of, IsKnown, IsInRange, AreLimits, IsSettings, AreApart}
-use Rattle.dots_settings.specs.Admitting.{AreDistinct}
+use Rattle.dots_settings.proofs.OneForm.{IsWithin, says_within}
 use Rattle.dots_settings.proofs.Whole.{sound_whole}
 use Rattle.dots_settings.proofs.Finished.{mapped_length, domains_once, prefixes_few, gateways_few, peers_once, no_strangers, names_once, names_addressed}
 use Rattle.dots_settings.proofs.Apart.{distinct_rows, few_rows, apart_rows, apart_domains}
@@ -46,10 +46,13 @@ all_of_part A part P holds (row ∷ rows) all = by (all_of_part A part P holds r
 -- ---- the ceiling
 
 said_ceiling : (line : List ℕ) (form : FormValue) (seconds : ℕ) → Says line form → ceiling_in form ≡ Some seconds → (1 ≤ seconds) × (seconds ≤ 604800)
-said_ceiling line (ceiling_line given) seconds says is =
-    let same : given ≡ seconds = cc in
-    (subst (λ (n : ℕ). 1 ≤ n) same says.behind.1, subst (λ (n : ℕ). n ≤ 604800) same says.behind.2)
-said_ceiling line _ seconds says is = absurd (cc)
+said_ceiling line form seconds says is = by form (says_within line form says) is
+  where
+    by : (form : FormValue) → IsWithin form → ceiling_in form ≡ Some seconds → (1 ≤ seconds) × (seconds ≤ 604800)
+    by (ceiling_line given) within is =
+        let same : given ≡ seconds = cc in
+        subst (λ (n : ℕ). (1 ≤ n) × (n ≤ 604800)) same within
+    by _ within is = absurd (cc)
 
 first_or : {A : Type 0} (P : A → Type 0) (xs : List A) (d : A) → AllByRecursion P xs → P d → P (unwrap_or (first_of xs) d)
 first_or P [] d all other = other
@@ -58,14 +61,15 @@ first_or P (x ∷ xs) d all other = all.0
 -- ---- the capacities
 
 said_capacity : (line : List ℕ) (form : FormValue) (chosen : Chosen) → Says line form → capacity_in form ≡ Some chosen → IsInRange chosen.what chosen.limit
-said_capacity line (capacity_line what (Some limit)) chosen says is =
-    let same : record { what = what; limit = limit } ≡ chosen = injected _ chosen is in
-    subst (λ (x : Chosen). IsInRange x.what x.limit) same (says.behind.2.0, says.behind.2.1)
+said_capacity line form chosen says is = by form (says_within line form says) is
   where
     injected : (x y : Chosen) → Some x ≡ Some y → x ≡ y
     injected x y e = cc
-said_capacity line (capacity_line what None) chosen says is = absurd (cc)
-said_capacity line _ chosen says is = absurd (cc)
+
+    by : (form : FormValue) → IsWithin form → capacity_in form ≡ Some chosen → IsInRange chosen.what chosen.limit
+    by (capacity_line what (Some limit)) within is = subst (λ (x : Chosen). IsInRange x.what x.limit) (injected (record { what = what; limit = limit }) chosen is) within
+    by (capacity_line what None) within is = absurd (cc)
+    by _ within is = absurd (cc)
 
 greatest_at : ℕ → ℕ
 greatest_at place = cond (place == 0) 64 (cond (place == 1) 64 (cond (place == 2) 8 (cond (place == 3) 16 (cond (place == 4) 8 (cond (place == 5) 64 8)))))
@@ -135,9 +139,6 @@ peers_known draft [] = tt
 peers_known draft (peer ∷ peers) = (role_known draft peer.domain, peers_known draft peers)
 
 -- ---- together
-
-pub sound_distinct : (draft : DraftValue) → IsSound draft → AreDistinct [] draft.domains
-sound_distinct draft (rows, lines, stand, is) = subst (λ (d : DraftValue). AreDistinct [] d.domains) (sym is) (distinct_rows [] rows stand.faultless)
 
 pub sound_few : (draft : DraftValue) → IsSound draft → length draft.domains ≤ 16
 sound_few draft (rows, lines, stand, is) = subst (λ (d : DraftValue). length d.domains ≤ 16) (sym is) (omega (arith, few_rows [] rows stand.faultless (omega arith)))

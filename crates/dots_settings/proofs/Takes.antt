@@ -1,11 +1,12 @@
 -- One more line is taken, or refused.
-use Rattle.std.proofs.Common.{◌≡◌, ℕ, true, false, List, [], ◌∷◌, ◌++◌, None, refl, sym, ap, subst, ◌∙◌, append-nil, append_assoc, if◌then◌else◌}
+use Rattle.std.proofs.Common.{◌≡◌, ℕ, true, false, List, [], ◌∷◌, ◌++◌, None, Ok, map, refl, sym, ap, subst, ◌∙◌, append-nil, append_assoc, if◌then◌else◌}
+use Rattle.std.specs.Borrow.{Bor}
 use Rattle.std.proofs.lemmas.Grind.{flat_map-append}
 use Rattle.sha2.specs.declared.Sha256.{Sha256}
 use Rattle.sha2.specs.Hashers.{Holds256}
 use Rattle.dots_settings.specs.declared.reading.Taken.{Taken}
-use Rattle.dots_settings.specs.Lines.{is_skipped}
-use Rattle.dots_settings.specs.Form.{FormValue, Says}
+use Rattle.dots_settings.specs.Lines.{is_skipped, fields_of}
+use Rattle.dots_settings.specs.Form.{FormValue, Says, form_of}
 use Rattle.dots_settings.specs.Row.{Row, row_of}
 use Rattle.dots_settings.specs.Draft.{DraftValue, draft_of}
 use Rattle.dots_settings.specs.Faults.{fault_of}
@@ -23,6 +24,11 @@ skips_line taken line skipped = record {
   number = refl;
   taken = λ lines rows place has. (rows, record { stand = stand_then_skipped lines rows line has.stand skipped; said = has.said; hashed = has.hashed });
 }
+
+-- what is read of the fields of a line is what the line says
+pub says_read : (line : List ℕ) (slice fields : List (Bor (List ℕ))) (form : FormValue) → slice ≡ fields → map (λ field. field.now) fields ≡ fields_of line
+    → Ok form ≡ form_of (map (λ field. field.now) slice) → Says line form
+says_read line slice fields form same are is = ap form_of (sym are ∙ ap (map (λ field. field.now)) (sym same)) ∙ sym is
 
 pub takes_row : (old new : Taken) (line : List ℕ) (form : FormValue) → is_skipped line ≡ false → Says line form → fault_of (draft_value old.draft) old.number form ≡ None
     → draft_value new.draft ≡ admitted (draft_value old.draft) old.number form → new.number ≡ old.number

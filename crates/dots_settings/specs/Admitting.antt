@@ -1,8 +1,9 @@
 -- The code's views, and what one more row adds to a draft.
-use Rattle.std.specs.Prelude.{◌≡◌, ℕ, true, false, ⊤, bytes_eq, List, [], ◌∷◌, ◌++◌, Some, None, if◌then◌else◌}
+use Rattle.std.specs.Prelude.{◌≡◌, ℕ, true, false, ⊤, bytes_eq, List, [], ◌∷◌, ◌++◌, Some, None, Result, Ok, Err, if◌then◌else◌}
 use Rattle.std.specs.List.{list_any}
 use Rattle.dots_settings.specs.declared.form.Form.{Form}
 use Rattle.dots_settings.specs.declared.form.Form.TheVariants as form
+use Rattle.dots_settings.specs.declared.complaint.Complaint.{Complaint}
 use Rattle.dots_settings.specs.declared.draft.Draft.{Draft}
 use Rattle.dots_lists.specs.Name.{is_name}
 use Rattle.dots_settings.specs.Form.{FormValue, domain_line, prefix_line, client_line, gateway_line, name_line, ceiling_line, indefinite_line, capacity_line, packet_line}
@@ -20,6 +21,10 @@ form_value (form.Ceiling seconds) = ceiling_line seconds
 form_value (form.Indefinite granted) = indefinite_line granted
 form_value (form.Capacity what limit) = capacity_line what limit
 form_value (form.Packet value) = packet_line value
+
+abbrev pub read_value : Result Form Complaint → Result FormValue Complaint
+read_value (Ok form) = Ok (form_value form)
+read_value (Err complaint) = Err complaint
 
 abbrev pub draft_value : Draft → DraftValue
 draft_value draft = record {

@@ -3,15 +3,6 @@ use Rattle.std.specs.Prelude.{ℕ, Bool, ◌==◌, if◌then◌else◌, List, co
 use Rattle.dots_settings.specs.declared.capacity.Capacity.{Capacity}
 use Rattle.dots_settings.specs.declared.capacity.Capacity.TheVariants as capacity
 
-abbrev pub capacity_name : Capacity → List ℕ
-capacity_name capacity.ClientMitigations = codes "client-mitigations"
-capacity_name capacity.DomainMitigations = codes "domain-mitigations"
-capacity_name capacity.Clients = codes "clients"
-capacity_name capacity.Aliases = codes "aliases"
-capacity_name capacity.Acls = codes "acls"
-capacity_name capacity.Remembered = codes "remembered"
-capacity_name capacity.Observers = codes "observers"
-
 -- each is at least 1 and at most this
 abbrev pub greatest_of : Capacity → ℕ
 greatest_of capacity.ClientMitigations = 64

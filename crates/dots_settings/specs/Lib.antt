@@ -8,6 +8,5 @@ pub mod Settings
 pub mod Lookups
 pub mod File
 pub mod Admitting
-pub mod Reading
 pub mod FaultText
 pub mod Taking

@@ -1,196 +1,254 @@
-ghost use Rattle.std.specs.Prelude.{◌≡◌, ◌≢◌, ℕ, ◌^◌, ◌<◌, codes, decimal, Option, MatchOption};
-ghost use Rattle.std.specs.List.{list_all};
-ghost use Rattle.dots_settings.specs.Form.{ArePorts, is_domain_byte, is_domain_name};
-ghost use Rattle.dots_settings.specs.Reading.{Reads, ReadsBehind};
+//! Reading a line.
+
+ghost use Rattle.std.specs.Prelude.{◌≡◌, map};
+ghost use Rattle.dots_settings.specs.Admitting.{read_value};
+ghost use Rattle.dots_settings.specs.Form.{domain_form, prefix_form, client_form, gateway_form, name_form, ceiling_form, indefinite_form, capacity_of, capacity_form, ports_in, packet_of, packet_form, form_by_word, form_of};
 
 use crate::capacity::Capacity;
-use crate::fields::{five_fields, is_word};
+use crate::complaint::Complaint;
 use crate::form::Form;
-use crate::number::{limit_of, number_up_to, positive_up_to};
+use crate::mistake::Mistake;
+use crate::spelling::{granted_in, is_domain_name, is_number, prefix_mistake};
 use acl_lists::Packet;
 use dots_lists::is_name;
-use ip_scope::{Prefix, parse_address, parse_prefix};
-use plain_text::{one_field, split_field, two_fields};
+use ip_scope::{parse_address, parse_prefix};
+use plain_text::{is_word, number_in};
+
+/// The greatest number of a peer.
+const MAX_PEER: u64 = 4_294_967_295;
 
 /// The greatest ceiling, in seconds.
-const MAX_CEILING: u32 = 604_800;
+const MAX_CEILING: u64 = 604_800;
 
-/// What the line says, or None where it has none of the forms.
-pub fn parse_line(line: &[u8]) -> Option<Form<'_>>
-    ensures { Reads line.now result }
+/// The greatest number of a protocol.
+const MAX_PROTOCOL: u64 = 255;
+
+/// The greatest port.
+const MAX_PORT: u64 = 65_535;
+
+/// What a line with these fields says, or why it has none of the nine forms. Takes no memory.
+pub fn read_form<'a>(fields: &[&'a [u8]]) -> Result<Form<'a>, Complaint>
+    ensures { read_value result ≡ form_of (map (λ field. field.now) fields.now) }
 {
-    let (word, fields) = split_field(line)?;
+    let [word, rest @ ..] = fields else {
+        return Err(Complaint::of_field(Mistake::Word, 0));
+    };
+    form_by_word(word, rest)
+}
+
+/// The form of a line that begins with this word, and has these fields behind it.
+#[tactic(auto, unfolding(crate::specs::Form::form_by_word))]
+fn form_by_word<'a>(word: &[u8], fields: &[&'a [u8]]) -> Result<Form<'a>, Complaint>
+    ensures { read_value result ≡ form_by_word word.now (map (λ field. field.now) fields.now) }
+{
     if is_word(word, b"domain") {
-        return domain_of(fields);
+        return domain_form(fields);
     }
     if is_word(word, b"prefix") {
-        return prefix_of(fields);
+        return prefix_form(fields);
     }
     if is_word(word, b"client") {
-        return client_of(fields);
+        return client_form(fields);
     }
     if is_word(word, b"gateway") {
-        return gateway_of(fields);
+        return gateway_form(fields);
     }
     if is_word(word, b"name") {
-        return name_of(fields);
+        return name_form(fields);
     }
     if is_word(word, b"ceiling") {
-        return ceiling_of(fields);
+        return ceiling_form(fields);
     }
     if is_word(word, b"indefinite") {
-        return indefinite_of(fields);
+        return indefinite_form(fields);
     }
     if is_word(word, b"capacity") {
-        return capacity_of(fields);
+        return capacity_form(fields);
     }
     if is_word(word, b"packet") {
-        return packet_of(fields);
+        return packet_form(fields);
     }
-    None
+    Err(Complaint::of_field(Mistake::Word, 0))
 }
 
-fn domain_of(fields: &[u8]) -> Option<Form<'_>>
-    ensures { ReadsBehind (codes "domain") fields.now result }
+fn domain_form<'a>(fields: &[&'a [u8]]) -> Result<Form<'a>, Complaint>
+    ensures { read_value result ≡ domain_form (map (λ field. field.now) fields.now) }
 {
-    let name = one_field(fields)?;
+    let [name] = fields else {
+        return Err(Complaint::of_line(Mistake::DomainFields));
+    };
     if !is_domain_name(name) {
-        return None;
+        return Err(Complaint::of_field(Mistake::DomainName, 1));
     }
-    Some(Form::Domain { name })
+    Ok(Form::Domain { name })
 }
 
-fn prefix_of(fields: &[u8]) -> Option<Form<'_>>
-    ensures { ReadsBehind (codes "prefix") fields.now result }
+fn prefix_form<'a>(fields: &[&'a [u8]]) -> Result<Form<'a>, Complaint>
+    ensures { read_value result ≡ prefix_form (map (λ field. field.now) fields.now) }
 {
-    let (name, text) = two_fields(fields)?;
+    let [name, text] = fields else {
+        return Err(Complaint::of_line(Mistake::PrefixFields));
+    };
     if !is_domain_name(name) {
-        return None;
+        return Err(Complaint::of_field(Mistake::DomainName, 1));
     }
     match parse_prefix(text) {
-        Ok(prefix) => Some(Form::Prefix { name, prefix }),
-        Err(_) => None,
+        Ok(prefix) => Ok(Form::Prefix { name, prefix }),
+        Err(_) => Err(Complaint::of_field(prefix_mistake(text), 2)),
     }
 }
 
-fn client_of(fields: &[u8]) -> Option<Form<'_>>
-    ensures { ReadsBehind (codes "client") fields.now result }
+fn client_form<'a>(fields: &[&'a [u8]]) -> Result<Form<'a>, Complaint>
+    ensures { read_value result ≡ client_form (map (λ field. field.now) fields.now) }
 {
-    let (text, name) = two_fields(fields)?;
-    let peer = peer_of(text)?;
+    let [text, name] = fields else {
+        return Err(Complaint::of_line(Mistake::ClientFields));
+    };
+    let Some(peer) = number_in(0, MAX_PEER, text) else {
+        return Err(Complaint::of_field(Mistake::Peer, 1));
+    };
     if !is_domain_name(name) {
-        return None;
+        return Err(Complaint::of_field(Mistake::DomainName, 2));
     }
-    Some(Form::Client { peer, name })
+    Ok(Form::Client {
+        peer: peer as u32,
+        name,
+    })
 }
 
-fn gateway_of(fields: &[u8]) -> Option<Form<'_>>
-    ensures { ReadsBehind (codes "gateway") fields.now result }
+fn gateway_form<'a>(fields: &[&'a [u8]]) -> Result<Form<'a>, Complaint>
+    ensures { read_value result ≡ gateway_form (map (λ field. field.now) fields.now) }
 {
-    let text = one_field(fields)?;
-    let peer = peer_of(text)?;
-    Some(Form::Gateway { peer })
+    let [text] = fields else {
+        return Err(Complaint::of_line(Mistake::GatewayFields));
+    };
+    let Some(peer) = number_in(0, MAX_PEER, text) else {
+        return Err(Complaint::of_field(Mistake::Peer, 1));
+    };
+    Ok(Form::Gateway { peer: peer as u32 })
 }
 
-fn name_of(fields: &[u8]) -> Option<Form<'_>>
-    ensures { ReadsBehind (codes "name") fields.now result }
+fn name_form<'a>(fields: &[&'a [u8]]) -> Result<Form<'a>, Complaint>
+    ensures { read_value result ≡ name_form (map (λ field. field.now) fields.now) }
 {
-    let (fqdn, text) = two_fields(fields)?;
+    let [fqdn, text] = fields else {
+        return Err(Complaint::of_line(Mistake::NameFields));
+    };
     if !is_name(fqdn) {
-        return None;
+        return Err(Complaint::of_field(Mistake::HostName, 1));
     }
     match parse_prefix(text) {
-        Ok(prefix) => Some(Form::Name { fqdn, prefix }),
-        Err(_) => None,
+        Ok(prefix) => Ok(Form::Name { fqdn, prefix }),
+        Err(_) => Err(Complaint::of_field(prefix_mistake(text), 2)),
     }
 }
 
-fn ceiling_of(fields: &[u8]) -> Option<Form<'_>>
-    ensures { ReadsBehind (codes "ceiling") fields.now result }
+fn ceiling_form<'a>(fields: &[&'a [u8]]) -> Result<Form<'a>, Complaint>
+    ensures { read_value result ≡ ceiling_form (map (λ field. field.now) fields.now) }
 {
-    let text = one_field(fields)?;
-    let seconds = positive_up_to(text, MAX_CEILING)?;
-    Some(Form::Ceiling { seconds })
+    let [text] = fields else {
+        return Err(Complaint::of_line(Mistake::CeilingFields));
+    };
+    let Some(seconds) = number_in(1, MAX_CEILING, text) else {
+        return Err(Complaint::of_field(Mistake::Ceiling, 1));
+    };
+    Ok(Form::Ceiling {
+        seconds: seconds as u32,
+    })
 }
 
-fn indefinite_of(fields: &[u8]) -> Option<Form<'_>>
-    ensures { ReadsBehind (codes "indefinite") fields.now result }
+fn indefinite_form<'a>(fields: &[&'a [u8]]) -> Result<Form<'a>, Complaint>
+    ensures { read_value result ≡ indefinite_form (map (λ field. field.now) fields.now) }
 {
-    let word = one_field(fields)?;
-    if is_word(word, b"yes") {
-        return Some(Form::Indefinite { granted: true });
+    let [text] = fields else {
+        return Err(Complaint::of_line(Mistake::IndefiniteFields));
+    };
+    match granted_in(text) {
+        Some(granted) => Ok(Form::Indefinite { granted }),
+        None => Err(Complaint::of_field(Mistake::YesOrNo, 1)),
     }
-    if is_word(word, b"no") {
-        return Some(Form::Indefinite { granted: false });
+}
+
+fn capacity_form<'a>(fields: &[&'a [u8]]) -> Result<Form<'a>, Complaint>
+    ensures { read_value result ≡ capacity_form (map (λ field. field.now) fields.now) }
+{
+    let [name, text] = fields else {
+        return Err(Complaint::of_line(Mistake::CapacityFields));
+    };
+    capacity_of(name, text)
+}
+
+#[tactic(auto, unfolding(crate::specs::Form::capacity_of))]
+fn capacity_of<'a>(name: &[u8], text: &[u8]) -> Result<Form<'a>, Complaint>
+    ensures { read_value result ≡ capacity_of name.now text.now }
+{
+    let Some(what) = Capacity::named(name) else {
+        return Err(Complaint::of_field(Mistake::CapacityName, 1));
+    };
+    if !is_number(text) {
+        return Err(Complaint::of_field(Mistake::Limit, 2));
     }
-    None
+    let limit = number_in(1, u64::from(what.greatest()), text);
+    Ok(Form::Capacity {
+        what,
+        limit: limit.map(|limit| limit as u32),
+    })
 }
 
-fn capacity_of(fields: &[u8]) -> Option<Form<'_>>
-    ensures { ReadsBehind (codes "capacity") fields.now result }
+fn packet_form<'a>(fields: &[&'a [u8]]) -> Result<Form<'a>, Complaint>
+    ensures { read_value result ≡ packet_form (map (λ field. field.now) fields.now) }
 {
-    let (name, text) = two_fields(fields)?;
-    let what = Capacity::named(name)?;
-    let limit = limit_of(what, text)?;
-    Some(Form::Capacity { what, limit })
+    let [source, destination, protocol, source_port, destination_port] = fields else {
+        return Err(Complaint::of_line(Mistake::PacketFields));
+    };
+    match packet_of(source, destination, protocol, source_port, destination_port) {
+        Ok(packet) => Ok(Form::Packet(packet)),
+        Err(complaint) => Err(complaint),
+    }
 }
 
-fn packet_of(fields: &[u8]) -> Option<Form<'_>>
-    ensures { ReadsBehind (codes "packet") fields.now result }
+/// The packet that the five fields behind `packet` write.
+fn packet_of(
+    source: &[u8],
+    destination: &[u8],
+    protocol: &[u8],
+    source_port: &[u8],
+    destination_port: &[u8],
+) -> Result<Packet, Complaint>
+    ensures { result ≡ packet_of source.now destination.now protocol.now source_port.now destination_port.now }
 {
-    let (source, destination, protocol, source_port, destination_port) = five_fields(fields)?;
-    let source = parse_address(source)?;
-    let destination = parse_address(destination)?;
-    let protocol = number_up_to(protocol, 255)?;
-    let ports = ports_of(source_port, destination_port)?;
-    Some(Form::Packet(Packet {
-        source,
-        destination,
-        protocol: protocol as u8,
-        ports,
-    }))
+    let Some(source) = parse_address(source) else {
+        return Err(Complaint::of_field(Mistake::Address, 1));
+    };
+    let Some(destination) = parse_address(destination) else {
+        return Err(Complaint::of_field(Mistake::Address, 2));
+    };
+    let Some(protocol) = number_in(0, MAX_PROTOCOL, protocol) else {
+        return Err(Complaint::of_field(Mistake::Protocol, 3));
+    };
+    match ports_in(source_port, destination_port) {
+        Ok(ports) => Ok(Packet {
+            source,
+            destination,
+            protocol: protocol as u8,
+            ports,
+        }),
+        Err(complaint) => Err(complaint),
+    }
 }
 
-/// The peer number that the text writes.
-fn peer_of(text: &[u8]) -> Option<u32>
-    ensures { MatchOption result ((peer : ℕ) → peer < 2 ^ 32 → text.now ≢ decimal peer)
-        (λ peer. text.now ≡ decimal peer) }
-{
-    let peer = number_up_to(text, u64::from(u32::MAX))?;
-    Some(peer as u32)
-}
-
-/// The ports that the texts write, both or none; None where they write neither.
-fn ports_of(source: &[u8], destination: &[u8]) -> Option<Option<(u16, u16)>>
-    ensures { MatchOption result ((ports : Option (ℕ × ℕ)) → ¬ (ArePorts source.now destination.now ports))
-        (λ ports. ArePorts source.now destination.now ports) }
+/// The ports that the texts write, both or none.
+fn ports_in(source: &[u8], destination: &[u8]) -> Result<Option<(u16, u16)>, Complaint>
+    ensures { result ≡ ports_in source.now destination.now }
 {
     if is_word(source, b"-") && is_word(destination, b"-") {
-        return Some(None);
+        return Ok(None);
     }
-    let source = number_up_to(source, 65_535)?;
-    let destination = number_up_to(destination, 65_535)?;
-    Some(Some((source as u16, destination as u16)))
-}
-
-/// Whether this is 1 to 64 of `a` to `z`, `0` to `9`, `.` and `-`.
-fn is_domain_name(name: &[u8]) -> bool
-    ensures { result ≡ is_domain_name name.now }
-{
-    if name.is_empty() || name.len() > 64 {
-        return false;
-    }
-    are_domain_bytes(name)
-}
-
-fn are_domain_bytes(name: &[u8]) -> bool
-    ensures { result ≡ list_all is_domain_byte name.now }
-{
-    name.iter().all(|byte| is_domain_byte(*byte))
-}
-
-fn is_domain_byte(byte: u8) -> bool
-    ensures { result ≡ is_domain_byte byte }
-{
-    byte.is_ascii_lowercase() || byte.is_ascii_digit() || byte == b'.' || byte == b'-'
+    let Some(source) = number_in(0, MAX_PORT, source) else {
+        return Err(Complaint::of_field(Mistake::Port, 4));
+    };
+    let Some(destination) = number_in(0, MAX_PORT, destination) else {
+        return Err(Complaint::of_field(Mistake::Port, 5));
+    };
+    Ok(Some((source as u16, destination as u16)))
 }

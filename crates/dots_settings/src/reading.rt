@@ -8,9 +8,9 @@ ghost use Rattle.dots_settings.specs.Taking.{TakesLine, RefusesLine};
 
 use crate::draft::Draft;
 use crate::fault::SettingsFault;
-use crate::line::parse_line;
+use crate::line::read_form;
 use crate::settings::Settings;
-use plain_text::{is_skipped, split_line};
+use plain_text::{fields_of, is_skipped, split_line};
 use sha2::{Digest, Sha256};
 use std::alloc::Global;
 
@@ -65,7 +65,8 @@ impl Taken {
         if is_skipped(line) {
             return Ok(());
         }
-        let Some(form) = parse_line(line) else {
+        let fields = fields_of(self.draft.alloc, line)?;
+        let Ok(form) = read_form(fields.as_slice()) else {
             return Err(SettingsFault::Line { n: self.number });
         };
         if let Some(fault) = self.draft.fault_of(self.number, &form) {
@@ -92,7 +93,7 @@ impl Taken {
 }
 
 /// Whether the 65,537th byte stands in the line that ends where these bytes are left.
-fn is_past(content: &[u8], behind: &[u8]) -> bool
+pub fn is_past(content: &[u8], behind: &[u8]) -> bool
     ensures { result ≡ is_past content.now (lines_of behind.now) }
 {
     behind.is_empty() && content.len() > MAX_FILE

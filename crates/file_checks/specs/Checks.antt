@@ -12,11 +12,11 @@ use Rattle.dots_script.specs.Accounts.{AreMade, LineSays}
 use Rattle.dots_script.specs.Lines.{with_feeds, IsFault}
 use Rattle.file_checks.specs.declared.checked.Checked.{Checked}
 use Rattle.file_checks.specs.declared.checked.Checked.TheVariants as checked
-use Rattle.file_checks.specs.declared.complaint.Complaint.{Complaint}
-use Rattle.file_checks.specs.Complaints.{field_of, complaint_of}
+use Rattle.file_checks.specs.declared.remark.Remark.{Remark}
+use Rattle.file_checks.specs.Remarks.{field_of, remark_of}
 use Rattle.file_checks.specs.Quoting.{quoted}
 use Rattle.file_checks.specs.Reason.{reason_text}
-use Rattle.file_checks.specs.ScriptComplaints.{script_complaint}
+use Rattle.file_checks.specs.ScriptRemarks.{script_remark}
 use Rattle.file_checks.specs.Summary.{count_line, summary}
 
 -- what is quoted of a line: the field of this place, or all of it
@@ -25,9 +25,9 @@ quoted_part None line fields = line
 quoted_part (Some place) line fields = field_of fields place
 
 -- `line N: why: "field"`
-abbrev pub complaint_line : ℕ → Complaint → List ℕ → List (List ℕ) → List ℕ
-complaint_line number complaint line fields =
-    codes "line " ++ decimal number ++ codes ": " ++ reason_text complaint.reason ++ codes ": " ++ quoted (quoted_part complaint.field line fields) ++ codes "\n"
+abbrev pub remark_line : ℕ → Remark → List ℕ → List (List ℕ) → List ℕ
+remark_line number remark line fields =
+    codes "line " ++ decimal number ++ codes ": " ++ reason_text remark.reason ++ codes ": " ++ quoted (quoted_part remark.field line fields) ++ codes "\n"
 
 -- the first of some lines, and whether the file is too long in it
 abbrev pub line_in : List (List ℕ) → List ℕ
@@ -57,7 +57,7 @@ lines_from content number = drop (number - 1) (lines_of content)
 -- the line of the fault, and the one that says why
 abbrev pub report_with : SettingsFault → List ℕ → Bool → List ℕ
 report_with told line past =
-    (fault_text told ++ codes "\n") ++ complaint_line (number_of told) (complaint_of told past (fields_of line)) line (fields_of line)
+    (fault_text told ++ codes "\n") ++ remark_line (number_of told) (remark_of told past (fields_of line)) line (fields_of line)
 
 abbrev pub fault_report : List ℕ → SettingsFault → List ℕ
 fault_report content told = report_with told (line_in (lines_from content (number_of told))) (past_in content (lines_from content (number_of told)))
@@ -76,7 +76,7 @@ has_feed text = list_any (λ byte. byte == 10) text
 abbrev pub script_report : ℕ → List ℕ → List ℕ → List ℕ
 script_report number rest line =
     codes "script line " ++ decimal number ++ codes ": " ++ quoted line ++ codes "\n"
-    ++ complaint_line number (script_complaint (has_feed rest) line) line (fields_of line)
+    ++ remark_line number (script_remark (has_feed rest) line) line (fields_of line)
 
 -- The lines of the script say so many events; or so do those before the first that is none, of which this is the report.
 abbrev pub ChecksScript : List ℕ → Checked → Type 0

@@ -1,8 +1,6 @@
 pub mod Quoting
-pub mod Keyword
-pub mod Kinds
 pub mod Reason
-pub mod Complaints
-pub mod ScriptComplaints
+pub mod Remarks
+pub mod ScriptRemarks
 pub mod Summary
 pub mod Checks

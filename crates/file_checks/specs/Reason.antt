@@ -1,34 +1,40 @@
 -- The reasons in plain words.
 use Rattle.std.specs.Prelude.{ℕ, List, [], ◌++◌, codes, decimal, Option, Some, None}
+use Rattle.dots_settings.specs.declared.mistake.Mistake.{Mistake}
+use Rattle.dots_settings.specs.declared.mistake.Mistake.TheVariants as mistake
 use Rattle.file_checks.specs.declared.reason.Reason.{Reason}
 use Rattle.file_checks.specs.declared.reason.Reason.TheVariants as reason
 
+-- why a line of the settings has none of the nine forms
+abbrev pub mistake_words : Mistake → List ℕ
+mistake_words mistake.Word = codes "the first word of a line is domain, prefix, client, gateway, name, ceiling, indefinite, capacity or packet"
+mistake_words mistake.DomainFields = codes "a domain line is: domain NAME, with one space between two fields"
+mistake_words mistake.PrefixFields = codes "a prefix line is: prefix NAME PREFIX, with one space between two fields"
+mistake_words mistake.ClientFields = codes "a client line is: client PEER NAME, with one space between two fields"
+mistake_words mistake.GatewayFields = codes "a gateway line is: gateway PEER, with one space between two fields"
+mistake_words mistake.NameFields = codes "a name line is: name FQDN PREFIX, with one space between two fields"
+mistake_words mistake.CeilingFields = codes "a ceiling line is: ceiling SECONDS, with one space between two fields"
+mistake_words mistake.IndefiniteFields = codes "an indefinite line is: indefinite yes, or: indefinite no"
+mistake_words mistake.CapacityFields = codes "a capacity line is: capacity WHAT LIMIT, with one space between two fields"
+mistake_words mistake.PacketFields = codes "a packet line is: packet SOURCE DESTINATION PROTOCOL SPORT DPORT, with one space between two fields"
+mistake_words mistake.DomainName = codes "the name of a domain is 1 to 64 of a to z, 0 to 9, dot and hyphen"
+mistake_words mistake.HostName = codes "a host name is 1 to 64 visible ASCII characters"
+mistake_words mistake.Peer = codes "a peer is a number from 0 to 4294967295, without leading zeros"
+mistake_words mistake.NoSlash = codes "a prefix is an address, a slash and a length, as 192.0.2.0/24 or 2001:db8::/32"
+mistake_words mistake.NoAddress = codes "no IPv4 or IPv6 address stands before the slash, as in 192.0.2.0/24 or 2001:db8::/32"
+mistake_words mistake.NoLength = codes "the length of a prefix is a number, without leading zeros"
+mistake_words mistake.LengthV4 = codes "the length of an IPv4 prefix is at most 32"
+mistake_words mistake.LengthV6 = codes "the length of an IPv6 prefix is at most 128"
+mistake_words mistake.Ceiling = codes "the ceiling is a number of seconds from 1 to 604800, without leading zeros"
+mistake_words mistake.YesOrNo = codes "this word is yes or no"
+mistake_words mistake.CapacityName = codes "a capacity is client-mitigations, domain-mitigations, clients, aliases, acls, remembered or observers"
+mistake_words mistake.Limit = codes "the limit of a capacity is a number, without leading zeros"
+mistake_words mistake.Address = codes "an address is an IPv4 or IPv6 address, as 192.0.2.1 or 2001:db8::1, without a length"
+mistake_words mistake.Protocol = codes "a protocol is a number from 0 to 255, without leading zeros"
+mistake_words mistake.Port = codes "a port is a number from 0 to 65535, without leading zeros, or both ports are -"
+
 abbrev pub reason_words : Reason → List ℕ
-reason_words reason.Word = codes "the first word of a line is domain, prefix, client, gateway, name, ceiling, indefinite, capacity or packet"
-reason_words reason.DomainFields = codes "a domain line is: domain NAME, with one space between two fields"
-reason_words reason.PrefixFields = codes "a prefix line is: prefix NAME PREFIX, with one space between two fields"
-reason_words reason.ClientFields = codes "a client line is: client PEER NAME, with one space between two fields"
-reason_words reason.GatewayFields = codes "a gateway line is: gateway PEER, with one space between two fields"
-reason_words reason.NameFields = codes "a name line is: name FQDN PREFIX, with one space between two fields"
-reason_words reason.CeilingFields = codes "a ceiling line is: ceiling SECONDS, with one space between two fields"
-reason_words reason.IndefiniteFields = codes "an indefinite line is: indefinite yes, or: indefinite no"
-reason_words reason.CapacityFields = codes "a capacity line is: capacity WHAT LIMIT, with one space between two fields"
-reason_words reason.PacketFields = codes "a packet line is: packet SOURCE DESTINATION PROTOCOL SPORT DPORT, with one space between two fields"
-reason_words reason.DomainName = codes "the name of a domain is 1 to 64 of a to z, 0 to 9, dot and hyphen"
-reason_words reason.HostName = codes "a host name is 1 to 64 visible ASCII characters"
-reason_words reason.Peer = codes "a peer is a number from 0 to 4294967295, without leading zeros"
-reason_words reason.NoSlash = codes "a prefix is an address, a slash and a length, as 192.0.2.0/24 or 2001:db8::/32"
-reason_words reason.NoAddress = codes "no IPv4 or IPv6 address stands before the slash, as in 192.0.2.0/24 or 2001:db8::/32"
-reason_words reason.NoLength = codes "the length of a prefix is a number, without leading zeros"
-reason_words reason.LengthV4 = codes "the length of an IPv4 prefix is at most 32"
-reason_words reason.LengthV6 = codes "the length of an IPv6 prefix is at most 128"
-reason_words reason.Ceiling = codes "the ceiling is a number of seconds from 1 to 604800, without leading zeros"
-reason_words reason.YesOrNo = codes "this word is yes or no"
-reason_words reason.CapacityName = codes "a capacity is client-mitigations, domain-mitigations, clients, aliases, acls, remembered or observers"
-reason_words reason.Limit = codes "the limit of a capacity is a number, without leading zeros"
-reason_words reason.Address = codes "an address is an IPv4 or IPv6 address, as 192.0.2.1 or 2001:db8::1, without a length"
-reason_words reason.Protocol = codes "a protocol is a number from 0 to 255, without leading zeros"
-reason_words reason.Port = codes "a port is a number from 0 to 65535, without leading zeros, or both ports are -"
+reason_words (reason.Mistake mistake) = mistake_words mistake
 reason_words reason.Form = codes "a line has one of the nine forms"
 reason_words reason.DomainTwice = codes "a line above declares this domain already"
 reason_words reason.PeerTwice = codes "a line above names this peer already, as a client or a gateway"

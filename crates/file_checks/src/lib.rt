@@ -3,25 +3,21 @@
 //!
 //! [`check_settings`] and [`check_script`] read a source to its end and answer the text that is printed; [`read_front`] reads the
 //! front of one. Contracts speak of the bytes of the source. Start reading at `specs/Checks.antt`, which has the texts; `specs/Reason.antt` has the
-//! reasons in words, `specs/Complaints.antt` the one that a line of the settings has, and `specs/ScriptComplaints.antt` that of a
-//! line of a script.
+//! reasons in words, `specs/Remarks.antt` the one that a line of the settings has, and `specs/ScriptRemarks.antt` that of a
+//! line of a script. Why a line of the settings has none of the forms is said by `dots_settings`, in its `specs/Form.antt`.
 #![tactic(auto)]
 
 mod checked;
-mod complaint;
-mod complaints;
-mod faults;
-mod fields;
-mod keyword;
-mod kinds;
+mod mistake_words;
 mod pieces;
-mod prefixes;
 mod quoting;
 mod reading;
 mod reason;
+mod remark;
 mod script_check;
-mod script_complaints;
+mod script_remarks;
 mod settings_check;
+mod settings_remarks;
 mod summary;
 
 pub use checked::{Checked, Unchecked};

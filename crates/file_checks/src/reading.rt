@@ -1,12 +1,10 @@
 //! Reading a source.
 
-ghost use Rattle.std.specs.Prelude.{◌≡◌, ◌<◌, ◌≤◌, length, take, min, Some, IfOk, IfSome, OnOk};
-ghost use Rattle.std.specs.Io.{ReadsAtMost};
-ghost use Rattle.std.specs.Io.KnownBytes.{ReadConsumes};
-ghost use Rattle.dots_host.specs.Causes.{Rose, HasCause};
+ghost use Rattle.std.specs.Prelude.{◌≡◌, ◌<◌, ◌≤◌, length, take, IfOk, IfSome, OnOk};
+ghost use Rattle.dots_host.specs.Causes.{Rose};
 
 use crate::checked::Unchecked;
-use dots_host::{Failed, Source};
+use dots_host::Source;
 use std::alloc::Global;
 
 /// How many bytes are asked for at a time.
@@ -54,37 +52,4 @@ pub fn read_whole<S: Source>(alloc: Global, source: &mut S) -> Result<Vec<u8>, U
         }
         Err(fault) => return Err(fault),
     }
-}
-
-/// A source over bytes in memory, of which no read fails.
-#[derive(Drop)]
-pub struct Content<'a> {
-    pub rest: &'a [u8],
-}
-
-impl<'a> Source for Content<'a> {
-    ghost left = { λ content. Some content.rest.now };
-
-    ghost faults = { λ _. 0 };
-
-    fn read(&mut self, into: &mut [u8]) -> Result<usize, Failed>
-        ensures bound { ReadsAtMost result into.new }
-        ensures bytes { ReadConsumes (Some self.old.rest.now) (Some self.new.rest.now) result into.new }
-        ensures cause { HasCause 0 0 result }
-    {
-        let count = copy_front(self.rest, into);
-        self.rest = &self.rest[count..];
-        Ok(count)
-    }
-}
-
-/// Copies as many bytes as fit to the front of the room, and answers how many.
-fn copy_front(bytes: &[u8], into: &mut [u8]) -> usize
-    ensures count { result ≡ min (length bytes.now) (length into.old) }
-    ensures room { length into.new ≡ length into.old }
-    ensures copied { take result into.new ≡ take result bytes.now }
-{
-    let count = bytes.len().min(into.len());
-    into[..count].copy_from_slice(&bytes[..count]);
-    count
 }

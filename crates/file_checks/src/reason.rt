@@ -1,62 +1,16 @@
 ghost use Rattle.std.specs.Prelude.{◌≡◌, ◌++◌, OnOk};
 ghost use Rattle.file_checks.specs.Reason.{reason_words, reason_number, reason_text, number_text};
 
+use crate::mistake_words::mistake_words;
 use dots_lists::NoMemory;
+use dots_settings::Mistake;
 use itoa::Buffer;
 
 /// Why a line of the settings or of a script is at fault.
 #[derive(Clone, Copy)]
 pub enum Reason {
-    /// It begins with none of the nine words.
-    Word,
-    /// `domain NAME` has other fields.
-    DomainFields,
-    /// So has `prefix NAME PREFIX`.
-    PrefixFields,
-    /// So has `client PEER NAME`.
-    ClientFields,
-    /// So has `gateway PEER`.
-    GatewayFields,
-    /// So has `name FQDN PREFIX`.
-    NameFields,
-    /// So has `ceiling SECONDS`.
-    CeilingFields,
-    /// So has `indefinite yes` or `indefinite no`.
-    IndefiniteFields,
-    /// So has `capacity WHAT LIMIT`.
-    CapacityFields,
-    /// So has `packet SOURCE DESTINATION PROTOCOL SPORT DPORT`.
-    PacketFields,
-    /// The name of a domain is none.
-    DomainName,
-    /// A host name is none.
-    HostName,
-    /// A peer is none.
-    Peer,
-    /// A prefix has no slash.
-    NoSlash,
-    /// No address stands before its slash.
-    NoAddress,
-    /// No number stands behind its slash.
-    NoLength,
-    /// Its length is too large for IPv4.
-    LengthV4,
-    /// Its length is too large for IPv6.
-    LengthV6,
-    /// The ceiling is none.
-    Ceiling,
-    /// `indefinite` has another word.
-    YesOrNo,
-    /// A capacity is none.
-    CapacityName,
-    /// The limit of a capacity is no number.
-    Limit,
-    /// An address of a packet is none.
-    Address,
-    /// A protocol is none.
-    Protocol,
-    /// A port is none, or one of the two alone is missing.
-    Port,
+    /// A line of the settings has none of the nine forms.
+    Mistake(Mistake),
     /// It has none of the forms.
     Form,
     /// The domain stands above.
@@ -120,47 +74,7 @@ impl Reason {
         ensures { result.now ≡ reason_words self }
     {
         match self {
-            Reason::Word =>
-                b"the first word of a line is domain, prefix, client, gateway, name, ceiling, indefinite, capacity or packet",
-            Reason::DomainFields =>
-                b"a domain line is: domain NAME, with one space between two fields",
-            Reason::PrefixFields =>
-                b"a prefix line is: prefix NAME PREFIX, with one space between two fields",
-            Reason::ClientFields =>
-                b"a client line is: client PEER NAME, with one space between two fields",
-            Reason::GatewayFields =>
-                b"a gateway line is: gateway PEER, with one space between two fields",
-            Reason::NameFields =>
-                b"a name line is: name FQDN PREFIX, with one space between two fields",
-            Reason::CeilingFields =>
-                b"a ceiling line is: ceiling SECONDS, with one space between two fields",
-            Reason::IndefiniteFields => b"an indefinite line is: indefinite yes, or: indefinite no",
-            Reason::CapacityFields =>
-                b"a capacity line is: capacity WHAT LIMIT, with one space between two fields",
-            Reason::PacketFields =>
-                b"a packet line is: packet SOURCE DESTINATION PROTOCOL SPORT DPORT, with one space between two fields",
-            Reason::DomainName =>
-                b"the name of a domain is 1 to 64 of a to z, 0 to 9, dot and hyphen",
-            Reason::HostName => b"a host name is 1 to 64 visible ASCII characters",
-            Reason::Peer => b"a peer is a number from 0 to 4294967295, without leading zeros",
-            Reason::NoSlash =>
-                b"a prefix is an address, a slash and a length, as 192.0.2.0/24 or 2001:db8::/32",
-            Reason::NoAddress =>
-                b"no IPv4 or IPv6 address stands before the slash, as in 192.0.2.0/24 or 2001:db8::/32",
-            Reason::NoLength => b"the length of a prefix is a number, without leading zeros",
-            Reason::LengthV4 => b"the length of an IPv4 prefix is at most 32",
-            Reason::LengthV6 => b"the length of an IPv6 prefix is at most 128",
-            Reason::Ceiling =>
-                b"the ceiling is a number of seconds from 1 to 604800, without leading zeros",
-            Reason::YesOrNo => b"this word is yes or no",
-            Reason::CapacityName =>
-                b"a capacity is client-mitigations, domain-mitigations, clients, aliases, acls, remembered or observers",
-            Reason::Limit => b"the limit of a capacity is a number, without leading zeros",
-            Reason::Address =>
-                b"an address is an IPv4 or IPv6 address, as 192.0.2.1 or 2001:db8::1, without a length",
-            Reason::Protocol => b"a protocol is a number from 0 to 255, without leading zeros",
-            Reason::Port =>
-                b"a port is a number from 0 to 65535, without leading zeros, or both ports are -",
+            Reason::Mistake(mistake) => mistake_words(mistake),
             Reason::Form => b"a line has one of the nine forms",
             Reason::DomainTwice => b"a line above declares this domain already",
             Reason::PeerTwice => b"a line above names this peer already, as a client or a gateway",

@@ -8,22 +8,22 @@ ghost use Rattle.dots_settings.specs.Lines.{lines_of, fields_of};
 ghost use Rattle.dots_script.specs.Accounts.{LineSays};
 ghost use Rattle.dots_script.specs.Lines.{IsLine, IsTooLong, IsUnended, IsFault, with_feed};
 ghost use Rattle.dots_script.specs.Script.{IsSkipped};
-ghost use Rattle.file_checks.specs.Checks.{ChecksScript, complaint_line, script_report, has_feed, line_in};
+ghost use Rattle.file_checks.specs.Checks.{ChecksScript, remark_line, script_report, has_feed, line_in};
 ghost use Rattle.file_checks.specs.Quoting.{quoted};
 
 use crate::checked::{Checked, Unchecked};
-use crate::complaint::Complaint;
-use crate::fields::{fields_of, split_line};
 use crate::pieces::add_head;
 use crate::quoting::end_quoted;
 use crate::reading::read_whole;
-use crate::script_complaints::script_complaint;
-use crate::settings_check::add_complaint;
+use crate::remark::Remark;
+use crate::script_remarks::script_remark;
+use crate::settings_check::add_remark;
 use crate::summary::add_count;
 use dots_host::{MAX_EVENT_BYTES, Source};
 use dots_lists::{Bytes, NoMemory};
 use dots_script::{MAX_LINE_BYTES, parse_event};
 use memchr::memchr;
+use plain_text::{fields_of, split_line};
 use std::alloc::Global;
 
 /// How many events the lines of the script say, or the first line that is none of a script, and why. The script is
@@ -119,9 +119,9 @@ fn script_report(alloc: Global, number: u64, rest: &[u8]) -> Result<Bytes, NoMem
 {
     let line = first_line(rest);
     let fields = fields_of(alloc, line)?;
-    let complaint = script_complaint(has_feed(rest), line, fields.as_slice());
+    let remark = script_remark(has_feed(rest), line, fields.as_slice());
     let mut text = Vec::new(alloc);
-    match add_report(&mut text, number, complaint, line, fields.as_slice()) {
+    match add_report(&mut text, number, remark, line, fields.as_slice()) {
         Ok(()) => Ok(Bytes::from_vec(text)),
         Err(NoMemory) => Err(NoMemory),
     }
@@ -131,17 +131,17 @@ fn script_report(alloc: Global, number: u64, rest: &[u8]) -> Result<Bytes, NoMem
 fn add_report(
     text: &mut Vec<u8>,
     number: u64,
-    complaint: Complaint,
+    remark: Remark,
     line: &[u8],
     fields: &[&[u8]],
 ) -> Result<(), NoMemory>
     ensures { OnOk result (text.new.items ≡ text.old.items
         ++ codes "script line " ++ decimal number ++ codes ": " ++ quoted line.now ++ codes "\n"
-        ++ complaint_line number complaint line.now (map (λ field. field.now) fields.now)) }
+        ++ remark_line number remark line.now (map (λ field. field.now) fields.now)) }
 {
     add_head(text, b"script line ", number)?;
     end_quoted(text, line)?;
-    add_complaint(text, number, complaint, line, fields)
+    add_remark(text, number, remark, line, fields)
 }
 
 /// The first line of a text; no bytes where there is none.

@@ -2,27 +2,25 @@
 
 ghost use Rattle.std.specs.Prelude.{◌≡◌, ◌+◌, ◌-◌, ◌^◌, ◌≤◌, ◌<◌, ◌++◌, [], length, map, drop, IfOk, IfSome, OnOk};
 ghost use Rattle.dots_host.specs.Causes.{Rose};
-ghost use Rattle.dots_settings.specs.File.{is_past, SettingsFail};
+ghost use Rattle.dots_settings.specs.File.{SettingsFail};
 ghost use Rattle.dots_settings.specs.Lines.{lines_of};
-ghost use Rattle.file_checks.specs.Checks.{ChecksSettings, complaint_line, quoted_part, number_of, lines_from, line_in, past_in, fault_report};
+ghost use Rattle.file_checks.specs.Checks.{ChecksSettings, remark_line, quoted_part, number_of, lines_from, line_in, past_in, fault_report};
+ghost use Rattle.file_checks.specs.Remarks.{field_of};
 ghost use Rattle.file_checks.specs.Summary.{summary};
 
 use crate::checked::{Checked, Unchecked};
-use crate::complaint::Complaint;
-use crate::faults::complaint_of;
-use crate::fields::{field_at, fields_of, split_line};
 use crate::pieces::add_head;
 use crate::quoting::end_quoted;
-use crate::reading::{Content, read_front};
+use crate::reading::read_front;
 use crate::reason::add_reason;
+use crate::remark::Remark;
+use crate::settings_remarks::remark_of;
 use crate::summary::summary;
 use dots_host::Source;
 use dots_lists::{Bytes, NoMemory};
-use dots_settings::{Settings, SettingsFault, read_settings};
+use dots_settings::{MAX_FILE, Settings, SettingsFault, is_past, settings_of};
+use plain_text::{fields_of, split_line};
 use std::alloc::Global;
-
-/// The greatest size of a file, in bytes.
-const MAX_FILE: usize = 65_536;
 
 /// How much of a file is read: one byte more than it can have.
 const MAX_READ: usize = MAX_FILE + 1;
@@ -48,8 +46,7 @@ fn check_content(alloc: Global, content: &[u8]) -> Result<Checked, NoMemory>
     requires { length content.now ≤ 2 ^ 16 + 1 }
     ensures { IfOk result (ChecksSettings content.now) }
 {
-    let mut source = Content { rest: content };
-    match read_settings(alloc, &mut source) {
+    match settings_of(alloc, content) {
         Ok(settings) => match summary_of(alloc, settings) {
             Ok(text) => return Ok(Checked::Good(text)),
             Err(NoMemory) => return Err(NoMemory),
@@ -86,13 +83,13 @@ fn fault_report(alloc: Global, content: &[u8], fault: SettingsFault) -> Result<B
     let number = number_of(fault);
     let (line, past) = line_at(content, number);
     let fields = fields_of(alloc, line)?;
-    let complaint = complaint_of(fault, past, fields.as_slice());
+    let remark = remark_of(fault, past, fields.as_slice());
     let mut text = Vec::new(alloc);
     text.extend_from_slice(fault.line().as_bytes())?;
-    add_complaint(
+    add_remark(
         &mut text,
         u64::from(number),
-        complaint,
+        remark,
         line,
         fields.as_slice(),
     )?;
@@ -140,28 +137,21 @@ fn from_line(content: &[u8], number: u32) -> &[u8]
     rest
 }
 
-/// Whether the 65,537th byte stands in the line that ends where these bytes are left.
-fn is_past(content: &[u8], behind: &[u8]) -> bool
-    ensures { result ≡ is_past content.now (lines_of behind.now) }
-{
-    behind.is_empty() && content.len() > MAX_FILE
-}
-
 /// Adds `line N: why: "field"`.
-pub fn add_complaint(
+pub fn add_remark(
     text: &mut Vec<u8>,
     number: u64,
-    complaint: Complaint,
+    remark: Remark,
     line: &[u8],
     fields: &[&[u8]],
 ) -> Result<(), NoMemory>
     ensures { OnOk result (text.new.items ≡ text.old.items
-        ++ complaint_line number complaint line.now (map (λ field. field.now) fields.now)) }
+        ++ remark_line number remark line.now (map (λ field. field.now) fields.now)) }
 {
     add_head(text, b"line ", number)?;
-    add_reason(text, complaint.reason)?;
+    add_reason(text, remark.reason)?;
     text.extend_from_slice(b": ")?;
-    end_quoted(text, quoted_part(complaint.field, line, fields))
+    end_quoted(text, quoted_part(remark.field, line, fields))
 }
 
 /// What is quoted: the field of this place, or the whole line.
@@ -171,5 +161,15 @@ fn quoted_part<'a>(field: Option<usize>, line: &'a [u8], fields: &[&'a [u8]]) ->
     match field {
         Some(place) => field_at(fields, place),
         None => line,
+    }
+}
+
+/// The field at a place, counted from 0; no bytes where there is none.
+fn field_at<'a>(fields: &[&'a [u8]], place: usize) -> &'a [u8]
+    ensures { result.now ≡ field_of (map (λ field. field.now) fields.now) place }
+{
+    match fields.get(place) {
+        Some(field) => field,
+        None => &[],
     }
 }

@@ -1,18 +1,25 @@
 -- The prefix that a text writes is that which it is the text of.
-use Rattle.std.proofs.Common.{◌≡◌, ◌≢◌, ℕ, ◌<◌, ◌≤◌, ◌^◌, Bool, true, false, if◌then◌else◌, true≢false, List, [], ◌∷◌, ◌++◌, length, codes, decimal, Option, Some, None, Ok, Err, refl, sym, ap, subst, ◌∙◌, append_assoc, append-nil, arith, lit≤, eqb}
-use Rattle.std.specs.Prelude.{option_and_then, ◌&&◌, nat_le, bytes_eq}
+use Rattle.std.proofs.Common.{◌≡◌, ◌≢◌, ℕ, ◌<◌, ◌≤◌, ◌^◌, Bool, true, false, if◌then◌else◌, true≢false, List, [], ◌∷◌, ◌++◌, length, codes, decimal, Option, Some, None, Ok, Err, refl, sym, ap, subst, ◌∙◌, append_assoc, append-nil, arith, lit≤, eqb, zero, suc, ◌+◌, ◌-◌, ◌==◌, take, drop, length-drop, add-one}
+use Rattle.std.specs.Prelude.{slice_index, option_and_then, ◌&&◌, nat_le, bytes_eq}
 use Rattle.std.specs.Char.{digit_value}
 use Rattle.std.specs.Result.{result_ok}
 use Rattle.std.specs.Net.Grammar.{IsDotted, IsColonHex}
 use Rattle.std.specs.Net.Reader.{Read, read_ipv4, read_ipv6, whole_value}
 use Rattle.std.specs.Str.Parse.{AllDigits, digits_value}
 use Rattle.std.proofs.lemmas.Bool.{cond-true, cond-false, and_parts, and_from, leb-true, le-leb, eqb-true, ne_eqb}
+use Rattle.std.proofs.Math.Bridge.{le_prop}
+use Rattle.std.proofs.Math.Nat.{mod-eq_of_lt}
+use Rattle.std.specs.Option.{option_map}
+use Rattle.memchr.specs.Find.{NoneAfter}
+use Rattle.std.proofs.lemmas.Bool.Decides.{nat_tests}
 use Rattle.std.proofs.lemmas.Fmt.{decimal_is_IsNumeral}
-use Rattle.std.proofs.lemmas.List.{nil_from_length}
+use Rattle.std.proofs.lemmas.List.{nil_from_length, take_all}
 use Rattle.std.proofs.lemmas.Slice.Eq.{bytes_eq-Decides}
 use Rattle.std.proofs.NetLemmas.Ipv4.{read_ipv4_complete, read_ipv4_sound}
 use Rattle.std.proofs.NetLemmas.Ipv6.{read_ipv6_complete, read_ipv6_sound, EndsGroups-nil, IsDotted-not_colon_hex}
 use Rattle.std.proofs.NetLemmas.Options.{cond_some, same_parts}
+use mathlib.Core.HLevel.{is_prop→PathP}
+use Rattle.ip_scope.specs.declared.address.Addr.{Addr}
 use Rattle.ip_scope.specs.declared.bad_prefix.BadPrefix.TheVariants as bad
 use Rattle.ip_scope.specs.declared.family.Family.{Family}
 use Rattle.ip_scope.specs.declared.family.Family.TheVariants.{V4, V6}
@@ -20,7 +27,7 @@ use Rattle.ip_scope.specs.Family.{width}
 use Rattle.ip_scope.specs.Prefix.{PrefixValue, prefix_of}
 use Rattle.ip_scope.specs.PrefixText.{IsAddressText, IsPrefixText, Reads, reading_of, v4_number, v6_number}
 use Rattle.ip_scope.proofs.PrefixTexts.{IsPrefixText_unique}
-use Rattle.ip_scope.specs.PrefixReader.{split_before, split_last, address_of, address_in, with_length, prefix_with, prefix_in}
+use Rattle.ip_scope.specs.PrefixReader.{split_before, split_last, address_of, address_in, addr_of, addr_in, with_length, prefix_with, prefix_in}
 
 -- ---- the last slash
 
@@ -48,6 +55,36 @@ split_none (byte ∷ bytes) none = rw (split_none bytes none.1) (cond-false (eqb
 split_complete : (x y : List ℕ) → NoSlash y → split_last (x ++ 47 ∷ y) ≡ Some (x, y)
 split_complete [] y none = rw (split_none y none) refl
 split_complete (byte ∷ x) y none = rw (split_complete x y none) refl
+
+slash_tests : (byte : ℕ) → byte ≡ 47 → (byte == 47) ≡ true
+slash_tests byte is = grind (arith, nat_tests)
+
+-- a text without a slash has no last one
+no_slash : (text : List ℕ) → ((k : ℕ) → k < length text → slice_index text k ≢ 47) → split_last text ≡ None
+no_slash text none = split_none text (by text none)
+  where
+    by : (text : List ℕ) → ((k : ℕ) → k < length text → slice_index text k ≢ 47) → NoSlash text
+    by [] none = tt
+    by (byte ∷ bytes) none = (none 0 (omega arith), by bytes (λ k within. none (suc k) (omega arith)))
+
+split_there : (text : List ℕ) (slash : ℕ) → slash < length text → slice_index text slash ≡ 47 → ((k : ℕ) → slash < k → k < length text → slice_index text k ≢ 47)
+    → split_last text ≡ Some (take slash text, drop (suc slash) text)
+split_there [] slash within is none = absurd (omega (arith, within))
+split_there (byte ∷ bytes) zero within is none =
+    rw (no_slash bytes (λ k h. none (suc k) (omega arith) (omega (arith, h)))) (cond-true (eqb byte 47) _ _ (slash_tests byte is))
+split_there (byte ∷ bytes) (suc slash) within is none =
+    rw (split_there bytes slash (omega (arith, within)) is (λ k low h. none (suc k) (omega (arith, low)) (omega (arith, h)))) refl
+
+-- by the last place where a slash stands
+pub no_slash_anywhere : (text : List ℕ) → ((k : ℕ) → 0 ≤ k → k < length text → ¬ ((slice_index text k == 47) ≡ true)) → None ≡ split_last text
+no_slash_anywhere text none = sym (no_slash text (λ k h is. none k (omega arith) h (slash_tests (slice_index text k) is)))
+
+pub last_slash : (text : List ℕ) (slash : ℕ) → NoneAfter (λ k. (slice_index text k == 47) ≡ true) 0 (length text) slash → (slice_index text slash == 47) ≡ true
+    → Some (take slash text, take (length text - (slash + 1)) (drop (slash + 1) text)) ≡ split_last text
+last_slash text slash none is =
+    let whole : take (length text - (slash + 1)) (drop (slash + 1) text) ≡ drop (slash + 1) text = take_all _ _ (omega (arith, length-drop (slash + 1) text)) in
+    rw whole (rw (add-one slash) (sym (split_there text slash none.high (eqb-true (slice_index text slash) 47 is)
+    (λ k low h here. none.after k (omega (arith, low)) h (slash_tests (slice_index text k) here)))))
 
 digits_no_slash : (text : List ℕ) → AllDigits 10 text → NoSlash text
 digits_no_slash [] digits = tt
@@ -98,7 +135,7 @@ address_sound text family number is = by_parts (whole_value (read_ipv4 text)) (w
         subst (λ (f : Family). IsAddressText text f number) same.0 (groups, ipv6_sound text groups is_six, sym same.1)
     by_parts None None is_four is_six is = absurd (cc)
 
-address_complete : (text : List ℕ) (family : Family) (number : ℕ) → IsAddressText text family number → address_in text ≡ Some (family, number)
+pub address_complete : (text : List ℕ) (family : Family) (number : ℕ) → IsAddressText text family number → address_in text ≡ Some (family, number)
 unfolding address_in
 address_complete text V4 number is =
     ap (λ (o : Option (List ℕ)). address_of o (whole_value (read_ipv6 text))) (ipv4_complete text is.0 is.1) ∙ ap (λ (n : ℕ). Some (V4, n)) (sym is.2)
@@ -109,6 +146,28 @@ address_complete text V6 number is = other (whole_value (read_ipv4 text)) refl
     other None four =
         ap (λ (o : Option (List ℕ)). address_of o (whole_value (read_ipv6 text))) four
         ∙ ap (λ (o : Option (List ℕ)). address_of None o) (ipv6_complete text is.0 is.1) ∙ ap (λ (n : ℕ). Some (V6, n)) (sym is.2)
+
+addr_once : (one other : Addr) → one.family ≡ other.family → one.number ≡ other.number → one ≡ other
+addr_once one other family number = λ i. record {
+  family = family i;
+  number = number i;
+  fits = is_prop→PathP (λ j. number j < 2 ^ width (family j)) (λ j x y. le_prop x y) one.fits other.fits i;
+}
+
+-- an address is that of its parts
+addr_back : (a : Addr) → a ≡ addr_of (a.family, a.number)
+addr_back a = addr_once a (addr_of (a.family, a.number)) refl (sym (mod-eq_of_lt a.fits))
+
+-- a text that writes an address has it, and any other text has none
+pub address_there : (text : List ℕ) (a : Addr) → IsAddressText text a.family a.number → Some a ≡ addr_in text
+address_there text a is = ap Some (addr_back a) ∙ sym (ap (λ (o : Option (Family × ℕ)). option_map addr_of o) (address_complete text a.family a.number is))
+
+pub no_address_there : (text : List ℕ) → ((family : Family) (number : ℕ) → ¬ (IsAddressText text family number)) → None ≡ addr_in text
+no_address_there text none = by (address_in text) refl
+  where
+    by : (o : Option (Family × ℕ)) → address_in text ≡ o → None ≡ option_map addr_of (address_in text)
+    by None found = sym (ap (λ (o : Option (Family × ℕ)). option_map addr_of o) found)
+    by (Some a) found = absurd (none a.0 a.1 (address_sound text a.0 a.1 found))
 
 -- ---- prefixes
 

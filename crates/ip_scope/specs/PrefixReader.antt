@@ -1,7 +1,11 @@
 -- The prefix that a text writes, if it writes one.
-use Rattle.std.specs.Prelude.{ℕ, ◌&&◌, ◌==◌, nat_le, if◌then◌else◌, List, [], ◌∷◌, Option, Some, None, option_and_then, decimal, bytes_eq}
+use Rattle.std.specs.Prelude.{ℕ, ◌%◌, ◌^◌, ◌&&◌, ◌==◌, nat_le, if◌then◌else◌, List, [], ◌∷◌, Option, Some, None, option_and_then, decimal, bytes_eq}
 use Rattle.std.specs.Net.Reader.{read_ipv4, read_ipv6, whole_value}
+use Rattle.std.specs.Option.{option_map}
 use Rattle.std.specs.Str.Parse.{digits_value}
+use Rattle.std.proofs.Math.Nat.{mod-lt}
+use Rattle.std.proofs.lemmas.Nat.{pow_pos}
+use Rattle.ip_scope.specs.declared.address.Addr.{Addr}
 use Rattle.ip_scope.specs.declared.family.Family.{Family}
 use Rattle.ip_scope.specs.declared.family.Family.TheVariants.{V4, V6}
 use Rattle.ip_scope.specs.Family.{width}
@@ -25,6 +29,17 @@ address_of None None = None
 
 unfoldable pub address_in : List ℕ → Option (Family × ℕ)
 address_in text = address_of (whole_value (read_ipv4 text)) (whole_value (read_ipv6 text))
+
+-- The same as an address, whose number is below 2^32 or 2^128. That of a text is, so the remainder is the number itself.
+abbrev pub addr_of : Family × ℕ → Addr
+addr_of address = record {
+  family = address.0;
+  number = address.1 % 2 ^ width address.0;
+  fits = mod-lt address.1 (pow_pos (width address.0));
+}
+
+abbrev pub addr_in : List ℕ → Option Addr
+addr_in text = option_map addr_of (address_in text)
 
 -- the prefix of an address, where the text is the decimal of a length that it may have
 abbrev pub with_length : List ℕ → Family × ℕ → Option PrefixValue

@@ -25,7 +25,7 @@ pub use address::Addr;
 pub use bad_prefix::BadPrefix;
 pub use containment::{holds, inside, inside_any, meets};
 pub use family::Family;
-pub use parse::{parse_address, parse_prefix};
+pub use parse::{parse_address, parse_prefix, split_at_last_slash};
 pub use port_range::PortRange;
 pub use prefix::Prefix;
 pub use put::MAX_PREFIX_TEXT;

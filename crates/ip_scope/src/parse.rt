@@ -1,8 +1,9 @@
 ghost use Rattle.std.specs.Prelude.{◌≡◌, ◌≢◌, ℕ, ◌<◌, ◌∷◌, ◌++◌, length, slice_index, decimal, IfSome, IfNone, IfOk, Ok, Err};
+ghost use Rattle.std.specs.Option.{option_map};
 ghost use Rattle.std.specs.Result.{result_ok};
 ghost use Rattle.ip_scope.specs.Prefix.{PrefixValue, IsPrefix};
 ghost use Rattle.ip_scope.specs.PrefixText.{IsAddressText, IsPrefixText, Reads, IsTooLong, reading_of, prefix_text};
-ghost use Rattle.ip_scope.specs.PrefixReader.{prefix_in};
+ghost use Rattle.ip_scope.specs.PrefixReader.{addr_in, prefix_in, split_last};
 ghost use Rattle.ip_scope.specs.declared.family.Family as families;
 
 use crate::address::Addr;
@@ -65,11 +66,12 @@ fn with_length(addr: Addr, length: u16) -> Result<Prefix, BadPrefix>
     Prefix::new(addr, length as u8).ok_or(BadPrefix::Length)
 }
 
-/// What stands before the last slash, and after it.
-fn split_at_last_slash(text: &[u8]) -> Option<(&[u8], &[u8])>
+/// What stands before the last slash, and after it; None where there is no slash.
+pub fn split_at_last_slash(text: &[u8]) -> Option<(&[u8], &[u8])>
     ensures found { IfSome result (λ parts. text.now ≡ parts.0.now ++ SLASH ∷ parts.1.now) }
     ensures last { IfSome result (λ parts. (k : ℕ) → k < length parts.1.now → slice_index parts.1.now k ≢ SLASH) }
     ensures none { IfNone result ((k : ℕ) → k < length text.now → slice_index text.now k ≢ SLASH) }
+    ensures value { option_map (λ parts. (parts.0.now, parts.1.now)) result ≡ split_last text.now }
 {
     let slash = memrchr(SLASH, text)?;
     Some((&text[..slash], &text[slash + 1..]))
@@ -92,6 +94,9 @@ fn length_of(digits: &[u8]) -> Option<u16>
 pub fn parse_address(text: &[u8]) -> Option<Addr>
     ensures found { IfSome result (λ a. IsAddressText text.now a.family a.number) }
     ensures none { IfNone result ((family : families.Family) (number : ℕ) → ¬ (IsAddressText text.now family number)) }
+
+    // It is the address that the text has by the grammar's own reader.
+    ensures value { result ≡ addr_in text.now }
 {
     if let Ok(address) = Ipv4Addr::parse_ascii(text) {
         return Some(Addr {

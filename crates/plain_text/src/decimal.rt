@@ -5,6 +5,7 @@
 
 ghost use Rattle.std.specs.Prelude.{◌≡◌, ◌≢◌, ℕ, ◌^◌, ◌<◌, ◌≤◌, length, slice_index, decimal, IfSome, IfNone, IsTrue, ◌↔◌};
 ghost use Rattle.std.specs.Str.Parse.{AllDigits, digits_value};
+ghost use Rattle.plain_text.specs.Numbers.{number_in};
 
 /// The greatest number of digits that are read.
 pub const MAX_DIGITS: usize = 19;
@@ -24,6 +25,18 @@ pub fn parse_decimal(text: &[u8]) -> Option<u64>
         return None;
     }
     value_of(text)
+}
+
+/// The number from `least` to `most` that the text writes with no leading zeros.
+pub fn number_in(least: u64, most: u64, text: &[u8]) -> Option<u64>
+    requires { most < 10 ^ 19 }
+    ensures { result ≡ number_in least most text.now }
+{
+    let number = parse_decimal(text)?;
+    if number < least || number > most {
+        return None;
+    }
+    Some(number)
 }
 
 fn has_leading_zero(digits: &[u8]) -> bool

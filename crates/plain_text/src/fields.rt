@@ -1,7 +1,22 @@
-ghost use Rattle.std.specs.Prelude.{◌≡◌, ◌≢◌, ℕ, List, [], ◌∷◌, MatchOption};
+ghost use Rattle.std.specs.Prelude.{◌≡◌, ◌≢◌, ℕ, List, [], ◌∷◌, map, bytes_eq, IfOk, MatchOption};
 ghost use Rattle.plain_text.specs.Lines.{fields_of};
 
 use memchr::memchr;
+use std::alloc::{AllocError, Global};
+
+/// The fields of a line: at least one.
+pub fn fields_of(alloc: Global, line: &[u8]) -> Result<Vec<&[u8]>, AllocError>
+    ensures { IfOk result (λ fields. map (λ field. field.now) fields.items ≡ fields_of line.now) }
+{
+    line.split(|byte| *byte == b' ').collect(alloc)
+}
+
+/// Whether the field is this word.
+pub fn is_word(field: &[u8], word: &[u8]) -> bool
+    ensures { result ≡ bytes_eq field.now word.now }
+{
+    field == word
+}
 
 /// The first field and the other fields of a line, or None where the line is one field.
 pub fn split_field(line: &[u8]) -> Option<(&[u8], &[u8])>

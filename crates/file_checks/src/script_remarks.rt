@@ -1,0 +1,120 @@
+//! What is to be mended in a line of a script.
+
+ghost use Rattle.std.specs.Prelude.{◌≡◌, map};
+ghost use Rattle.std.specs.Char.{is_ascii_hexdigit};
+ghost use Rattle.std.specs.List.{list_all};
+ghost use Rattle.dots_settings.specs.Lines.{fields_of};
+ghost use Rattle.file_checks.specs.ScriptRemarks.{is_datagram, datagram_remark, tick_remark, restart_remark, remark_by_word, event_remark, script_remark};
+
+use crate::reason::Reason;
+use crate::remark::Remark;
+use dots_settings::Mistake;
+use plain_text::{is_word, number_in};
+
+/// The greatest time of an event, in seconds.
+const MAX_SECONDS: u64 = 281_474_976_710_655;
+
+/// The greatest number of a peer.
+const MAX_PEER: u64 = 4_294_967_295;
+
+/// The remark of a line with these fields, which ends with a line feed or doesn't.
+pub fn script_remark(ended: bool, line: &[u8], fields: &[&[u8]]) -> Remark
+    requires { map (λ field. field.now) fields.now ≡ fields_of line.now }
+    ensures { result ≡ script_remark ended line.now }
+{
+    if line.len() > 8400 {
+        return Remark::of_line(Reason::LineTooLong);
+    }
+    if !ended {
+        return Remark::of_line(Reason::Unended);
+    }
+    match event_remark(fields) {
+        Some(remark) => return remark,
+        None => return Remark::of_line(Reason::Form),
+    }
+}
+
+/// The remark of a line that is to be `at SECONDS` and an event.
+fn event_remark(fields: &[&[u8]]) -> Option<Remark>
+    ensures { result ≡ event_remark (map (λ field. field.now) fields.now) }
+{
+    let [at, seconds, word, rest @ ..] = fields else {
+        return Some(Remark::of_line(Reason::EventFields));
+    };
+    if !is_word(at, b"at") {
+        return Some(Remark::of_field(Reason::At, 0));
+    }
+    if number_in(0, MAX_SECONDS, seconds).is_none() {
+        return Some(Remark::of_field(Reason::Seconds, 1));
+    }
+    remark_by_word(word, rest)
+}
+
+/// The remark of a line whose event begins with this word, and has these fields behind it.
+#[tactic(auto, unfolding(crate::specs::ScriptRemarks::remark_by_word))]
+fn remark_by_word(word: &[u8], fields: &[&[u8]]) -> Option<Remark>
+    ensures { result ≡ remark_by_word word.now (map (λ field. field.now) fields.now) }
+{
+    if is_word(word, b"from") {
+        return datagram_remark(fields);
+    }
+    if is_word(word, b"tick") {
+        return tick_remark(fields);
+    }
+    if is_word(word, b"restart") {
+        return restart_remark(fields);
+    }
+    Some(Remark::of_field(Reason::EventWord, 2))
+}
+
+/// The remark of the fields behind `from`.
+fn datagram_remark(fields: &[&[u8]]) -> Option<Remark>
+    ensures { result ≡ datagram_remark (map (λ field. field.now) fields.now) }
+{
+    let [peer, digits] = fields else {
+        return Some(Remark::of_line(Reason::DatagramFields));
+    };
+    if number_in(0, MAX_PEER, peer).is_none() {
+        return Some(Remark::of_field(Reason::Mistake(Mistake::Peer), 3));
+    }
+    if !is_datagram(digits) {
+        return Some(Remark::of_field(Reason::Datagram, 4));
+    }
+    None
+}
+
+/// The remark of the fields behind `tick`.
+fn tick_remark(fields: &[&[u8]]) -> Option<Remark>
+    ensures { result ≡ tick_remark (map (λ field. field.now) fields.now) }
+{
+    let [] = fields else {
+        return Some(Remark::of_line(Reason::TickFields));
+    };
+    None
+}
+
+/// The remark of the fields behind `restart`.
+fn restart_remark(fields: &[&[u8]]) -> Option<Remark>
+    ensures { result ≡ restart_remark (map (λ field. field.now) fields.now) }
+{
+    let [] = fields else {
+        return Some(Remark::of_line(Reason::RestartFields));
+    };
+    None
+}
+
+/// Whether the text is 1 to 4,096 bytes in hexadecimal.
+fn is_datagram(text: &[u8]) -> bool
+    ensures { result ≡ is_datagram text.now }
+{
+    if text.len() < 2 || text.len() > 8192 || text.len() % 2 != 0 {
+        return false;
+    }
+    are_hex_digits(text)
+}
+
+fn are_hex_digits(text: &[u8]) -> bool
+    ensures { result ≡ list_all is_ascii_hexdigit text.now }
+{
+    text.iter().all(|byte| byte.is_ascii_hexdigit())
+}
