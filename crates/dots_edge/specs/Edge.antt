@@ -1,17 +1,22 @@
 -- What contracts see of a host of real sockets and a real file.
 use Rattle.std.specs.Prelude.{◌≡◌, ℕ, ◌-◌, Bool, List, Option, Some, None}
 use Rattle.plain_text.specs.Lines.{lines_of}
+use Rattle.dots_edge.specs.declared.seconds.Begun.{Begun}
 use Rattle.dots_edge.specs.HostLine.{LineValue}
 use Rattle.dots_edge.specs.HostFile.{Stand}
 use Rattle.dots_edge.specs.Found.{events_in, has_journal}
 
--- Whether it is open: a host whose file has a fault, or whose sockets or journal can't be opened, isn't. Whether it has a journal;
--- how many events are still to come, where that is said; the last time beside an event; and how often wire and disk failed.
+-- Whether it is open: a host whose file has a fault, or whose sockets or journal can't be opened, isn't. Whether it has a journal, and
+-- whether that was seen to be gone from its path; how many events are still to come, where that is said; what the clocks read first, the last time beside an event, and at how many ticks
+-- the wall clock was away from it; and how often wire and disk failed.
 pub record Edge : Type 0 where
   pub opened : Bool
   pub journaled : Bool
+  pub lost : Bool
   pub left : Option ℕ
+  pub begun : Option Begun
   pub last : ℕ
+  pub strayed : ℕ
   pub wire : ℕ
   pub disk : ℕ
 

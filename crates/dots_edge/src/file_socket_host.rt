@@ -1,4 +1,4 @@
-ghost use Rattle.std.specs.Prelude.{◌≡◌, ◌+◌, ◌≤◌, ◌<◌, ◌^◌, List, map, length, true, false, None, Some, is_some, IfOk, OnOk, OnErr, IfSome, ⊤};
+ghost use Rattle.std.specs.Prelude.{◌≡◌, ◌+◌, ◌≤◌, ◌<◌, ◌^◌, ◌⊎◌, List, map, length, true, false, None, Some, is_some, IfOk, OnOk, OnErr, IfSome, ⊤};
 ghost use Rattle.dots_host.specs.Causes.{Rose, HasCause};
 ghost use Rattle.dots_host.specs.Acts.{IsWithin, OnFailed, OnEvent};
 ghost use Rattle.dots_host.specs.declared.TheConstants.{MAX_EVENT_BYTES};
@@ -6,6 +6,8 @@ ghost use Rattle.dots_edge.specs.Edge.{disk_bytes, one_fewer, KeepsWire, KeepsDi
 ghost use Rattle.plain_text.specs.Lines.{lines_of};
 ghost use Rattle.dots_edge.specs.HostLine.{LineValue, line_value};
 ghost use Rattle.dots_edge.specs.HostFile.{Stand};
+ghost use Rattle.dots_edge.specs.Clocks.{IsSteady, one_more};
+ghost use Rattle.dots_edge.specs.JournalFile.{is_lost};
 ghost use Rattle.dots_edge.specs.Found.{events_in, has_journal};
 ghost use Rattle.std.proofs.Common.{ap, refl};
 ghost use Rattle.dots_edge.specs.EdgeLaws.{keeps_wire_same, keeps_wire_then, keeps_disk_same, keeps_disk_then};
@@ -53,10 +55,11 @@ struct Opened {
 impl<R> Model for FileSocketHost<R> {
     ghost use Rattle.std.specs.Prelude.{is_some};
     ghost use Rattle.dots_edge.specs.Edge.{Edge};
+    ghost use Rattle.dots_edge.specs.JournalFile.{is_lost};
 
     ghost Value = { Edge };
 
-    ghost view = { λ host. record { opened = is_some host.ends; journaled = is_some host.journal; left = host.left; last = host.seconds.last; wire = host.wire_faults; disk = host.disk_faults } };
+    ghost view = { λ host. record { opened = is_some host.ends; journaled = is_some host.journal; lost = is_lost host.journal; left = host.left; begun = host.seconds.begun; last = host.seconds.last; strayed = host.seconds.strayed; wire = host.wire_faults; disk = host.disk_faults } };
 }
 
 impl<R: Files<File = File> + Net + Clock + Drop> FileSocketHost<R> {
@@ -68,6 +71,7 @@ impl<R: Files<File = File> + Net + Clock + Drop> FileSocketHost<R> {
         ensures said { IfOk result (λ host. host.opened ≡ true → IsAsSaid text.now host) }
         ensures shut { IfOk result (λ host. host.opened ≡ false → host.journaled ≡ false) }
         ensures faults { IfOk result (λ host. (host.wire ≡ 0) × (host.disk ≡ 0)) }
+        ensures lost { IfOk result (λ host. host.lost ≡ false) }
     {
         match open_said(alloc, &rt, text) {
             Ok(opened) => Ok(FileSocketHost::of(rt, opened)),
@@ -80,6 +84,7 @@ impl<R: Files<File = File> + Net + Clock + Drop> FileSocketHost<R> {
         ensures opened { result.opened ≡ is_some opened.ends }
         ensures journaled { result.journaled ≡ is_some opened.journal }
         ensures left { result.left ≡ opened.left }
+        ensures lost { result.lost ≡ is_lost opened.journal }
         ensures faults { (result.wire ≡ 0) × (result.disk ≡ 0) }
     {
         let Opened {
@@ -106,6 +111,13 @@ impl<R: Files<File = File> + Net + Clock + Drop> FileSocketHost<R> {
         }
     }
 
+    /// At how many ticks the wall clock was more than 30 seconds away from the time beside events, which doesn't follow it.
+    pub fn strayed(&self) -> u64
+        ensures { result ≡ self.now.strayed }
+    {
+        self.seconds.strayed
+    }
+
     /// The port on which connections are accepted, or 0 where there is none.
     pub fn http_port(&self) -> u16 {
         match &self.ends {
@@ -124,6 +136,7 @@ fn open_said<R: Files<File = File> + Net>(
     ensures said { IfOk result (λ opened. is_some opened.ends ≡ true → (values : List LineValue) × Stand (lines_of text.now) values
         × (opened.left ≡ events_in values) × (is_some opened.journal ≡ has_journal values)) }
     ensures shut { IfOk result (λ opened. is_some opened.ends ≡ false → is_some opened.journal ≡ false) }
+    ensures lost { IfOk result (λ opened. is_lost opened.journal ≡ false) }
 {
     match read_host_file(alloc, text) {
         Ok(lines) => open_lines(alloc, rt, lines.as_slice()),
@@ -145,10 +158,12 @@ fn open_lines<R: Files<File = File> + Net>(
     ensures journaled { IfOk result (λ opened. is_some opened.ends ≡ true → is_some opened.journal ≡ has_journal (map line_value lines.now)) }
     ensures shut { IfOk result (λ opened. is_some opened.ends ≡ false → is_some opened.journal ≡ false) }
     ensures left { IfOk result (λ opened. opened.left ≡ events_in (map line_value lines.now)) }
+    ensures lost { IfOk result (λ opened. is_lost opened.journal ≡ false) }
 {
+    let path = path_in(alloc, lines)?;
     let rooms = Rooms::new(alloc, lines)?;
     let left = events_in(lines);
-    match open_all(rt, lines) {
+    match open_all(rt, lines, path) {
         Ok((sockets, journal)) => Ok(Opened {
             ends: Some(Ends::new(sockets, rooms)),
             journal,
@@ -165,15 +180,30 @@ fn open_lines<R: Files<File = File> + Net>(
     }
 }
 
-/// Binds the sockets and opens the journal that the lines name.
+/// The path of the journal that the lines name.
+fn path_in(alloc: Global, lines: &[HostLine<'_>]) -> Result<Option<String>, NoMemory>
+    ensures { IfOk result (λ path. is_some path ≡ has_journal (map line_value lines.now)) }
+{
+    match journal_in(lines) {
+        Some(path) => match String::from_str(alloc, path) {
+            Ok(path) => Ok(Some(path)),
+            Err(_) => Err(NoMemory),
+        },
+        None => Ok(None),
+    }
+}
+
+/// Binds the sockets that the lines name, and opens the journal of the path.
 fn open_all<R: Files<File = File> + Net>(
     rt: &R,
     lines: &[HostLine<'_>],
+    path: Option<String>,
 ) -> io::Result<(Sockets, Option<Journal>)>
-    ensures { IfOk result (λ all. is_some all.1 ≡ has_journal (map line_value lines.now)) }
+    ensures journaled { IfOk result (λ all. is_some all.1 ≡ is_some path) }
+    ensures lost { IfOk result (λ all. is_lost all.1 ≡ false) }
 {
     let sockets = Sockets::bind(rt, lines)?;
-    match open_journal(rt, journal_in(lines)) {
+    match open_journal(rt, path) {
         Ok(journal) => Ok((sockets, journal)),
         Err(error) => {
             drop(sockets);
@@ -182,8 +212,9 @@ fn open_all<R: Files<File = File> + Net>(
     }
 }
 
-fn open_journal<R: Files<File = File>>(rt: &R, path: Option<&str>) -> io::Result<Option<Journal>>
-    ensures { IfOk result (λ journal. is_some journal ≡ is_some path.entry) }
+fn open_journal<R: Files<File = File>>(rt: &R, path: Option<String>) -> io::Result<Option<Journal>>
+    ensures journaled { IfOk result (λ journal. is_some journal ≡ is_some path) }
+    ensures lost { IfOk result (λ journal. is_lost journal ≡ false) }
 {
     match path {
         Some(path) => Ok(Some(Journal::open(rt, path)?)),
@@ -222,11 +253,58 @@ fn next_event<R: Clock>(
     }
 }
 
-/// Whether a call was done.
-fn is_done(told: io::Result<()>) -> bool {
-    match told {
-        Ok(()) => true,
-        Err(_) => false,
+/// Looks whether the path of the journal still leads to its file.
+fn look_at<R: Files>(journal: &mut Option<Journal>, rt: &R)
+    ensures journaled { is_some journal.new ≡ is_some journal.old }
+    ensures lost { (is_lost journal.new ≡ is_lost journal.old) ⊎ (is_lost journal.new ≡ true) }
+{
+    if let Some(journal) = journal {
+        journal.look(rt);
+    }
+}
+
+/// Whether the bytes were read from the journal.
+fn is_read(journal: &Option<Journal>, at: u64, into: &mut [u8]) -> bool
+    ensures none { is_some journal.now ≡ false → result ≡ false }
+    ensures lost { is_lost journal.now ≡ true → result ≡ false }
+{
+    match journal {
+        Some(journal) => match journal.read(at, into) {
+            Ok(()) => true,
+            Err(_) => false,
+        },
+        None => false,
+    }
+}
+
+/// Whether the bytes were written to the journal.
+fn is_written(journal: &mut Option<Journal>, at: u64, bytes: &[u8]) -> bool
+    requires { at + length bytes.now ≤ disk_bytes }
+    ensures none { is_some journal.old ≡ false → result ≡ false }
+    ensures lost { is_lost journal.old ≡ true → result ≡ false }
+    ensures journaled { is_some journal.new ≡ is_some journal.old }
+    ensures kept { is_lost journal.new ≡ is_lost journal.old }
+{
+    match journal {
+        Some(journal) => match journal.write(at, bytes) {
+            Ok(()) => true,
+            Err(_) => false,
+        },
+        None => false,
+    }
+}
+
+/// Whether what was written to the journal was made to stay.
+fn is_synced(journal: &Option<Journal>) -> bool
+    ensures none { is_some journal.now ≡ false → result ≡ false }
+    ensures lost { is_lost journal.now ≡ true → result ≡ false }
+{
+    match journal {
+        Some(journal) => match journal.sync() {
+            Ok(()) => true,
+            Err(_) => false,
+        },
+        None => false,
     }
 }
 
@@ -285,14 +363,27 @@ impl<R: Files<File = File> + Net + Clock + Drop> Wire for FileSocketHost<R> {
         ensures counted { OnEvent result.what (self.new.left ≡ one_fewer self.old.left) }
         ensures kept { OnFailed result.what (self.new.left ≡ self.old.left) }
         ensures stays { (self.new.opened ≡ self.old.opened) × (self.new.journaled ≡ self.old.journaled) }
+        // Where the path of the journal leads is looked at when a tick comes, and what is lost stays so.
+        ensures lost { (self.new.lost ≡ self.old.lost) ⊎ ((result.what ≡ What.Tick) × (self.new.lost ≡ true)) }
         // A fault is counted where it failed alone.
         ensures no_fault { OnEvent result.what (self.new.wire ≡ self.old.wire) }
-        // A time is never below the one before.
+        // A time is never below the one before, and once the clocks were read it never steps with the wall clock.
         ensures time { (self.new.last ≡ result.at) × (self.old.last ≤ result.at) }
+        ensures steady { IsSteady self.old.begun self.new.begun self.old.last result.at }
+        // A wall clock that strays is counted, at a tick alone.
+        ensures strayed { (self.new.strayed ≡ self.old.strayed) ⊎ ((result.what ≡ What.Tick) × (self.new.strayed ≡ one_more self.old.strayed)) }
     {
         let what = next_event(&mut self.ends, &mut self.left, &self.rt, into);
         let at = self.seconds.read(&self.rt);
         match what {
+            Some(What::Tick) => {
+                self.seconds.compare(&self.rt);
+                look_at(&mut self.journal, &self.rt);
+                Got {
+                    what: What::Tick,
+                    at,
+                }
+            }
             Some(what) => Got { what, at },
             None => {
                 self.wire_faults = self.wire_faults.saturating_add(1);
@@ -349,11 +440,10 @@ impl<R: Files<File = File> + Net + Clock + Drop> Disk for FileSocketHost<R> {
 
         // Without a journal it fails.
         ensures no_journal { self.old.journaled ≡ false → OnOk result ⊥ }
+        // Nor does it go well once another file, or none, stood at the path of the journal.
+        ensures lost { self.old.lost ≡ true → OnOk result ⊥ }
     {
-        let done = match &self.journal {
-            Some(journal) => is_done(journal.read(at, into)),
-            None => false,
-        };
+        let done = is_read(&self.journal, at, into);
         settle(&mut self.disk_faults, done)
     }
 
@@ -367,11 +457,10 @@ impl<R: Files<File = File> + Net + Clock + Drop> Disk for FileSocketHost<R> {
 
         // Without a journal it fails.
         ensures no_journal { self.old.journaled ≡ false → OnOk result ⊥ }
+        // Nor does it go well once another file, or none, stood at the path of the journal.
+        ensures lost { self.old.lost ≡ true → OnOk result ⊥ }
     {
-        let done = match &mut self.journal {
-            Some(journal) => is_done(journal.write(at, bytes)),
-            None => false,
-        };
+        let done = is_written(&mut self.journal, at, bytes);
         settle(&mut self.disk_faults, done)
     }
 
@@ -384,11 +473,10 @@ impl<R: Files<File = File> + Net + Clock + Drop> Disk for FileSocketHost<R> {
 
         // Without a journal it fails.
         ensures no_journal { self.old.journaled ≡ false → OnOk result ⊥ }
+        // Nor does it go well once another file, or none, stood at the path of the journal.
+        ensures lost { self.old.lost ≡ true → OnOk result ⊥ }
     {
-        let done = match &self.journal {
-            Some(journal) => is_done(journal.sync()),
-            None => false,
-        };
+        let done = is_synced(&self.journal);
         settle(&mut self.disk_faults, done)
     }
 }

@@ -1,8 +1,9 @@
 //! The file of the journal.
 
-ghost use Rattle.std.specs.Prelude.{◌≡◌, ◌+◌, ◌-◌, ◌≤◌, ◌^◌, length, drop, replicate, OnOk};
+ghost use Rattle.std.specs.Prelude.{◌≡◌, ◌+◌, ◌-◌, ◌<◌, ◌≤◌, ◌^◌, length, drop, replicate, true, false, IfOk, OnOk, OnErr};
 
-use std::fs::{File, Files, OpenOptions};
+use crate::journal_file::{Identity, admit, keep_new, open_file};
+use std::fs::{File, Files};
 use std::io;
 use std::io::{Error, ErrorKind, Seek, SeekFrom};
 use std::os::unix::fs::FileExt;
@@ -10,7 +11,7 @@ use std::os::unix::fs::FileExt;
 /// How many bytes the journal may have.
 pub const DISK_BYTES: u64 = 1_073_741_824;
 
-/// The file grows by so many bytes at a time, so that most writes find their place made.
+/// The file grows by so many bytes at most at a time, so that most writes find their place made.
 const PIECE: u64 = 4_194_304;
 
 /// And it is filled by so many at a time.
@@ -22,28 +23,39 @@ pub struct Journal {
     file: File,
     /// How long the file was found or made. It is never shorter while this process has it.
     pub made: u64,
+    /// Where it stands.
+    path: String,
+    identity: Identity,
+    /// Whether the path was seen to lead elsewhere: then no call goes well any more.
+    pub lost: bool,
 }
 
 impl Journal {
-    /// Opens the file, or makes it, and locks it: another process that has it open so is an error. Where the file is
-    /// empty, its entry in the folder is synced.
-    pub fn open<R: Files<File = File>>(rt: &R, path: &str) -> io::Result<Journal> {
-        let file = OpenOptions::new()
-            .read(true)
-            .write(true)
-            .create(true)
-            .open(rt, path)?;
-        match lock(&file, rt, path) {
-            Ok(made) => Ok(Journal { file, made }),
+    /// Opens the file, or makes it, and locks it. Another process that has it open so is an error, and so is a file that can't be a
+    /// journal, to which nothing is written. Where the file is empty, its entry in the folder is synced.
+    pub fn open<R: Files<File = File>>(rt: &R, path: String) -> io::Result<Journal>
+        ensures { IfOk result (λ journal. journal.lost ≡ false) }
+    {
+        let file = open_file(rt, path.as_str())?;
+        match take(rt, &file, path.as_str()) {
+            Ok((made, identity)) => Ok(Journal {
+                file,
+                made,
+                path,
+                identity,
+                lost: false,
+            }),
             Err(error) => Err(error),
         }
     }
 
     /// Reads the bytes from the place `at` on.
     pub fn read(&self, at: u64, into: &mut [u8]) -> io::Result<()>
-        ensures { OnOk result (drop (self.now.made - at) into.new
+        ensures zeros { OnOk result (drop (self.now.made - at) into.new
             ≡ replicate (length into.old - (self.now.made - at)) 0) }
+        ensures lost { self.now.lost ≡ true → OnOk result ⊥ }
     {
+        self.check_path()?;
         let there = self.made.saturating_sub(at).min(into.len() as u64) as usize;
         let (front, behind) = into.split_at_mut(there);
         behind.fill(0);
@@ -53,8 +65,11 @@ impl Journal {
     /// Writes the bytes from the place `at` on. The file is grown before where it ends before their end.
     pub fn write(&mut self, at: u64, bytes: &[u8]) -> io::Result<()>
         requires { at + length bytes.now ≤ 2 ^ 30 }
-        ensures { OnOk result (at + length bytes.now ≤ self.new.made) }
+        ensures made { OnOk result (at + length bytes.now ≤ self.new.made) }
+        ensures lost { self.old.lost ≡ true → OnOk result ⊥ }
+        ensures kept { self.new.lost ≡ self.old.lost }
     {
+        self.check_path()?;
         let end = at + bytes.len() as u64;
         if self.made < end {
             self.grow(end)?;
@@ -63,7 +78,10 @@ impl Journal {
     }
 
     /// Makes all that was written stay. A file that is shorter than it was is an error.
-    pub fn sync(&self) -> io::Result<()> {
+    pub fn sync(&self) -> io::Result<()>
+        ensures lost { self.now.lost ≡ true → OnOk result ⊥ }
+    {
+        self.check_path()?;
         self.file.sync_data()?;
         // This costs a third of what asking for the metadata does. No call reads or writes at the file's own position.
         let mut file = &self.file;
@@ -73,43 +91,72 @@ impl Journal {
         Ok(())
     }
 
-    /// Fills the file with zeros up to the end of the piece in which the place stands.
-    fn grow(&mut self, end: u64) -> io::Result<()>
-        requires { end ≤ 2 ^ 30 }
-        ensures { OnOk result (end ≤ self.new.made) }
+    /// Looks whether the path still leads to the file. Where it doesn't, what is written would be gone with the process.
+    pub fn look<R: Files>(&mut self, rt: &R)
+        ensures kept { self.new.made ≡ self.old.made }
+        ensures lost { self.old.lost ≡ true → self.new.lost ≡ true }
     {
-        let target = end.div_ceil(PIECE) * PIECE;
-        let zeros = [0; BLOCK];
-        while self.made < target {
-            let count = (target - self.made).min(BLOCK as u64) as usize;
-            self.file.write_all_at(&zeros[..count], self.made)?;
-            self.made += count as u64;
+        if !self.identity.is_at(rt, self.path.as_str()) {
+            self.lost = true;
+        }
+    }
+
+    /// Whether the path led to the file whenever it was looked at.
+    fn check_path(&self) -> io::Result<()>
+        ensures there { OnOk result (self.now.lost ≡ false) }
+        ensures lost { OnErr result (self.now.lost ≡ true) }
+    {
+        if self.lost {
+            return Err(Error::from(ErrorKind::NotFound));
         }
         Ok(())
     }
-}
 
-/// Locks the file of the path, and answers how long it is. Where it is empty, its entry in the folder is synced.
-fn lock<R: Files<File = File>>(file: &File, rt: &R, path: &str) -> io::Result<u64> {
-    file.try_lock()?;
-    let made = file.metadata()?.len();
-    if made == 0 {
-        file.sync_all()?;
-        sync_folder(rt, folder_of(path))?;
+    /// Makes the file so long that the place stands in it, up to the end of a piece, and fills that piece. Answers how many zeros were written.
+    fn grow(&mut self, end: u64) -> io::Result<u64>
+        requires end { end ≤ 2 ^ 30 }
+        requires more { self.old.made < end }
+        ensures made { OnOk result (end ≤ self.new.made) }
+        ensures few { IfOk result (λ written. written ≤ 4194304) }
+        ensures kept { OnErr result (self.new.made ≡ self.old.made) }
+        ensures path { self.new.lost ≡ self.old.lost }
+    {
+        let target = end.div_ceil(PIECE) * PIECE;
+        let from = self.made.max(target - PIECE);
+        match fill(&self.file, from, target) {
+            Ok(written) => {
+                self.made = target;
+                Ok(written)
+            }
+            Err(error) => {
+                // A part of a page at the end would be refused at the next start.
+                let _ = self.file.set_len(self.made);
+                Err(error)
+            }
+        }
     }
-    Ok(made)
 }
 
-fn sync_folder<R: Files<File = File>>(rt: &R, path: &str) -> io::Result<()> {
-    let folder = File::open(rt, path)?;
-    folder.sync_all()
-}
-
-/// The folder in which the file of the path stands.
-fn folder_of(path: &str) -> &str {
-    match path.rfind('/') {
-        Some(0) => "/",
-        Some(slash) => &path[..slash],
-        None => ".",
+/// Writes zeros from the one place of the file up to the other, and answers how many.
+fn fill(file: &File, from: u64, to: u64) -> io::Result<u64>
+    requires { from ≤ to }
+    ensures { IfOk result (λ written. written ≡ to - from) }
+{
+    let zeros = [0; BLOCK];
+    let mut at = from;
+    while at < to {
+        let count = (to - at).min(BLOCK as u64) as usize;
+        file.write_all_at(&zeros[..count], at)?;
+        at += count as u64;
     }
+    Ok(to - from)
+}
+
+/// Locks the file of the path, and answers how long it is and which. Where it is empty, its entry in the folder is synced.
+fn take<R: Files<File = File>>(rt: &R, file: &File, path: &str) -> io::Result<(u64, Identity)> {
+    let found = admit(file)?;
+    if found.len() == 0 {
+        keep_new(rt, file, path)?;
+    }
+    Ok((found.len(), Identity::of(&found)))
 }

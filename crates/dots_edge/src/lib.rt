@@ -27,6 +27,7 @@ mod host_file;
 mod host_line;
 mod host_lines;
 mod journal;
+mod journal_file;
 mod passing;
 mod peers;
 mod seconds;
