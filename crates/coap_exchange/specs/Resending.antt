@@ -1,5 +1,5 @@
 -- Messages that are sent again until they are acknowledged or given up.
-use Rattle.std.specs.Prelude.{ℕ, ◌<◌, ⊤, Bool, ◌==◌, unwrap_or, slice_get, if◌then◌else◌, List, [], ◌∷◌, Option, option_map}
+use Rattle.std.specs.Prelude.{◌≡◌, ℕ, zero, suc, ◌<◌, ⊤, Bool, true, false, ◌==◌, unwrap_or, slice_get, if◌then◌else◌, List, [], ◌∷◌, Option, Some, None, option_map}
 use Rattle.std.specs.List.{find}
 use Rattle.coap_exchange.specs.declared.sender.Resend.{Resend}
 use Rattle.coap_exchange.specs.declared.sender.Resend.TheVariants as handed
@@ -45,9 +45,33 @@ bytes_at place sent = unwrap_or (option_map (λ (s : SentValue). s.bytes) (slice
 
 abbrev pub resending_by : List SentValue → Turn → Resending
 resending_by sent (turn.Again place) = Again (bytes_at place sent)
-resending_by sent (turn.GaveUp id) = GaveUp id
+resending_by sent (turn.GaveUp place id) = GaveUp id
 
 -- it names a place of so many
 abbrev pub IsPlaceOf : ℕ → Turn → Type 0
 IsPlaceOf count (turn.Again place) = place < count
-IsPlaceOf count (turn.GaveUp id) = ⊤
+IsPlaceOf count (turn.GaveUp place id) = ⊤
+
+-- what the timeout of the message at a place comes to
+abbrev pub turn_of : ℕ → SentValue → Turn
+turn_of place sent = if may_repeat sent then turn.Again place else turn.GaveUp place sent.id
+
+-- the first whose timeout is over stands at this place, and may be repeated or not
+abbrev pub IsFirstDue : ℕ → List SentValue → ℕ → Bool → Type 0
+IsFirstDue now [] place may = ⊥
+IsFirstDue now (s ∷ ss) zero may = (is_due now s ≡ true) × (may_repeat s ≡ may)
+IsFirstDue now (s ∷ ss) (suc place) may = (is_due now s ≡ false) × IsFirstDue now ss place may
+
+abbrev pub NoneIsDue : ℕ → List SentValue → Type 0
+NoneIsDue now [] = Unit {0}
+NoneIsDue now (s ∷ ss) = (is_due now s ≡ false) × NoneIsDue now ss
+
+-- the one that is given up has this Message ID
+abbrev pub HasIdAt : List SentValue → ℕ → ℕ → Type 0
+HasIdAt sent place id = option_map (λ (s : SentValue). s.id) (slice_get sent place) ≡ Some id
+
+-- what the first timeout that is over comes to
+abbrev pub IsTurnIn : ℕ → List SentValue → Option Turn → Type 0
+IsTurnIn now sent None = NoneIsDue now sent
+IsTurnIn now sent (Some (turn.Again place)) = IsFirstDue now sent place true
+IsTurnIn now sent (Some (turn.GaveUp place id)) = IsFirstDue now sent place false × HasIdAt sent place id

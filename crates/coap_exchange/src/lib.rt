@@ -26,5 +26,5 @@ pub use pair::Pair;
 pub use pairs::Pairs;
 pub use remembered::Remembered;
 pub use ring::{Ring, number_in};
-pub use sender::{Resend, SendFault, Sender};
+pub use sender::{Resend, SendFault, Sender, Turn};
 pub use sent::Sent;

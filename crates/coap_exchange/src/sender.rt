@@ -2,9 +2,9 @@
 
 ghost use Rattle.std.specs.Prelude.{◌≡◌, ℕ, ◌+◌, ◌<◌, ◌≤◌, ◌++◌, ◌∷◌, [], length, nat_lt, option_map, position, slice_get, vec_capacity, Some, IfOk, IfSome, OnOk, OnErr};
 ghost use Rattle.std.specs.Borrow.{sem};
-ghost use Rattle.std.specs.List.{list_any};
+ghost use Rattle.std.specs.List.{list_any, remove};
 ghost use Rattle.coap_exchange.specs.Firsts.{replace_at, without_first};
-ghost use Rattle.coap_exchange.specs.Resending.{has_id, after_timeout, turned, answer_to_timeout, resending, resending_of, resending_by, IsPlaceOf};
+ghost use Rattle.coap_exchange.specs.Resending.{has_id, after_timeout, turned, answer_to_timeout, resending, resending_of, resending_by, turn_of, IsTurnIn, IsPlaceOf};
 ghost use Rattle.coap_exchange.specs.Sent.{is_due, given};
 
 use crate::sent::Sent;
@@ -45,13 +45,13 @@ impl Model for Sender {
     ghost invariant = { λ sender. sender.room ≤ vec_capacity sender.sent };
 }
 
-/// What a timeout comes to.
+/// What a timeout comes to, by the place of its message among those that waited: they stand in the order in which they were given.
 #[derive(Clone, Copy)]
-enum Turn {
+pub enum Turn {
     /// The message at this place is to be sent again.
     Again { place: usize },
-    /// The message of this Message ID is given up.
-    GaveUp { id: u16 },
+    /// The message at this place, which has this Message ID, is given up, and those behind it move up.
+    GaveUp { place: usize, id: u16 },
 }
 
 impl Sender {
@@ -108,8 +108,32 @@ impl Sender {
     {
         match take_turn(&mut self.sent, now)? {
             Turn::Again { place } => Some(Resend::Again(self.sent[place].bytes())),
-            Turn::GaveUp { id } => Some(Resend::GaveUp { id }),
+            Turn::GaveUp { id, .. } => Some(Resend::GaveUp { id }),
         }
+    }
+
+    /// The same as [`Sender::next_due`], and answers places, for a caller that keeps something beside each message.
+    pub fn turn(&mut self, now: u64) -> Option<Turn>
+        ensures turned { self.new ≡ record self.old { sent = turned now self.old.sent } }
+        ensures answer { IsTurnIn now self.old.sent result }
+    {
+        take_turn(&mut self.sent, now)
+    }
+
+    /// The bytes of the message at a place.
+    pub fn bytes(&self, place: usize) -> &Bytes
+        requires { place < length self.now.sent }
+        ensures { option_map (λ s. s.bytes) (slice_get self.now.sent place) ≡ Some result.now }
+    {
+        self.sent[place].bytes()
+    }
+
+    /// Takes the message at a place out, as one that is acknowledged, and those behind it move up.
+    pub fn remove(&mut self, place: usize)
+        requires { place < length self.old.sent }
+        ensures { self.new ≡ record self.old { sent = remove self.old.sent place } }
+    {
+        let _acknowledged = self.sent.remove(place);
     }
 }
 
@@ -147,6 +171,7 @@ fn take_turn(sent: &mut Vec<Sent>, now: u64) -> Option<Turn>
     ensures turned { sent.new.items ≡ turned now sent.old.items }
     ensures answer { option_map (resending_by sent.new.items) result ≡ resending now sent.old.items }
     ensures within { IfSome result (IsPlaceOf (length sent.new.items)) }
+    ensures turn { IsTurnIn now sent.old.items result }
     ensures capacity { vec_capacity sent.new ≡ vec_capacity sent.old }
 {
     match place_due(sent.as_slice(), now) {
@@ -161,6 +186,7 @@ fn turn_at(sent: &mut Vec<Sent>, place: usize) -> Turn
     ensures turned { sent.new.items ≡ replace_at place after_timeout sent.old.items }
     ensures answer { Some (resending_by sent.new.items result) ≡ option_map answer_to_timeout (slice_get sent.old.items place) }
     ensures within { IsPlaceOf (length sent.new.items) result }
+    ensures turn { Some result ≡ option_map (turn_of place) (slice_get sent.old.items place) }
     ensures capacity { vec_capacity sent.new ≡ vec_capacity sent.old }
 {
     if sent[place].may_repeat() {
@@ -168,5 +194,8 @@ fn turn_at(sent: &mut Vec<Sent>, place: usize) -> Turn
         return Turn::Again { place };
     }
     let given_up = sent.remove(place);
-    Turn::GaveUp { id: given_up.id() }
+    Turn::GaveUp {
+        place,
+        id: given_up.id(),
+    }
 }

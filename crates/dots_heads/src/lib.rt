@@ -4,6 +4,9 @@
 //! Accept, Content-Format and the query, or answers the first [`Reject`] that applies. It takes no memory. A [`Reject`] has
 //! the code and the text of the reply that says so; those of bodies are among them.
 //!
+//! What it is read from can be asked for by itself, by agents that look at less of a message or in another order: [`resource_of`]
+//! reads the path, [`value_of`] an option that may stand once, and [`first_critical`] finds an option that isn't recognised.
+//!
 //! Start reading at `specs/Heads.antt`, which has the order of the checks, with `specs/Options.antt`, `specs/Paths.antt` and
 //! `specs/Operations.antt`.
 #![tactic(auto)]
@@ -19,6 +22,8 @@ mod wording;
 
 pub use head::{Head, read_head};
 pub use operation::{Method, Operation, Parameters};
+pub use options::{first_critical, next_value, option_number, value_of};
+pub use path::{Resource, resource_of};
 pub use reject::{Cause, Reject};
 pub use request::{Content, MitigationPath, Observe};
 pub use wording::MAX_TEXT;

@@ -15,6 +15,7 @@ use Rattle.reply_bodies.specs.declared.session.SessionView.{SessionView}
 use Rattle.reply_bodies.specs.Maps.{listed}
 use Rattle.reply_bodies.specs.Mitigations.{prefix_tree, range_tree, asked_fields, config_fields, config_part, state_fields, state_part, scope_of, granted_scope, mitigations_with}
 use Rattle.reply_bodies.specs.Conflicts.{status_and_cause, higher, other, collision, information, conflict_scope}
+use Rattle.reply_bodies.specs.Requests.{request_scope}
 use Rattle.reply_bodies.specs.Sessions.{decimal, number_field, decimal_field, values, configuration, session_tree, beat_tree}
 use Rattle.reply_bodies.specs.Within.{AllWithin, AreFieldsWithin}
 use Rattle.reply_bodies.proofs.Parts.{raised, valid, number_within, integer_within, array_within, fields_then, field_within, listed_within, numbered_within, map_within, sole_within}
@@ -51,6 +52,13 @@ asked_within asked prefixes ports protocols names aliases =
 
 pub config_within : (view : MitigationView) → AreFieldsWithin 2 6 14 (asked_fields view.asked.now) → FitsSigned w32 view.left → AreFieldsWithin 2 6 15 (config_fields view)
 config_within view asked fits = fields_then 2 6 14 15 _ _ asked (field_within 2 14 14 15 _ (omega arith) (omega arith) (integer_within 2 view.left fits))
+
+-- a scope that is asked for
+pub request_within : (asked : Asked) (lifetime : ℤ) → AreFieldsWithin 2 6 14 (asked_fields asked) → FitsSigned w32 lifetime → IsWithin 5 (request_scope asked lifetime)
+request_within asked lifetime fields fits =
+    raised 3 5 _
+    (map_within 2 6 15 _ (omega arith) (fields_then 2 6 14 15 _ _ fields (field_within 2 14 14 15 _ (omega arith) (omega arith) (integer_within 2 lifetime fits))))
+    (omega arith)
 
 pub state_within : (view : MitigationView) → view.start < 2 ^ 64 → view.status < 2 ^ 64 → AreFieldsWithin 2 15 17 (state_fields view)
 state_within view start status =

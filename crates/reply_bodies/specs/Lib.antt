@@ -4,3 +4,4 @@ pub mod Conflicts
 pub mod Sessions
 pub mod Replies
 pub mod Within
+pub mod Requests

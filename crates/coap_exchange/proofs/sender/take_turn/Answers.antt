@@ -4,6 +4,7 @@ use Rattle.std.proofs.lemmas.List.Quantifiers.{position-Some}
 use Rattle.coap_exchange.specs.Resending.{after_timeout, answer_to_timeout}
 use Rattle.coap_exchange.specs.Sent.{SentValue, is_due}
 use Rattle.coap_exchange.proofs.Firsts.{first_replaced, first_found, none_passes, replaced_none, found_none}
+use Rattle.coap_exchange.proofs.Turning.{none_due, turn_there}
 use Rattle.coap_exchange.proofs.sender.take_turn.Goals as goal
 
 -- a message, where one is needed
@@ -33,3 +34,14 @@ pub returns-in-None-clause-answer : goal.returns-in-None-clause-answer
 returns-in-None-clause-answer c =
     let none = ap (position (is_due c.args.now)) (sym c.as_slice.ensures.value) ∙ sym c.in-None.ensures in
     sym (ap (option_map answer_to_timeout) (found_none (is_due c.args.now) c.args.sent.now.items (none_passes (is_due c.args.now) c.args.sent.now.items none)))
+
+pub returns-in-Some-clause-turn : goal.returns-in-Some-clause-turn
+returns-in-Some-clause-turn c =
+    let found = ap (position (is_due c.args.now)) (sym c.as_slice.ensures.value) ∙ sym c.in-Some.ensures in
+    let at = position-Some (is_due c.args.now) c.args.sent.now.items c.in-Some.place any found in
+    turn_there c.args.now c.args.sent.now.items c.in-Some.place any c.turn_at.result at.0 at.1 at.2 c.turn_at.ensures.turn
+
+pub returns-in-None-clause-turn : goal.returns-in-None-clause-turn
+returns-in-None-clause-turn c =
+    let none = ap (position (is_due c.args.now)) (sym c.as_slice.ensures.value) ∙ sym c.in-None.ensures in
+    none_due c.args.now c.args.sent.now.items (none_passes (is_due c.args.now) c.args.sent.now.items none)

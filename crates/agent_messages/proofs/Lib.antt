@@ -1,0 +1,5 @@
+pub mod Behind
+pub mod Bodies
+pub mod Heads
+pub mod Shapes
+pub mod Read

@@ -1,0 +1,4 @@
+pub mod Options
+pub mod Requests
+pub mod Grants
+pub mod Asked
