@@ -103,8 +103,8 @@ impl Sessions {
         }
     }
 
-    /// Forgets the session of the first peer, in the order of the settings, with which it is lost at the time `now`, in seconds, and
-    /// answers this peer; None exactly where there is none (RFC 9132, section 4.7). A session is lost where the interval of the peer
+    /// Forgets the first session, in the order of the settings, that is lost at the time `now`, in seconds, and answers its peer; None
+    /// exactly where there is none (RFC 9132, section 4.7). A session is lost where the interval of the peer
     /// isn't 0 and the peer was heard longer ago than the missed heartbeats that are allowed take. Takes no memory.
     pub fn next_lost<C: Configs>(&mut self, configs: &C, now: u64) -> Option<u32>
         ensures { MatchOption result (NoneLost (C.beats configs.now) now self.old self.new)
