@@ -1,19 +1,18 @@
 -- Since a heartbeat was sent to a peer, its session had its last one, or began, no earlier.
-use Rattle.std.proofs.Common.{◌≡◌, ℕ, ◌+◌, ◌≤◌, List, [], ◌∷◌, ◌++◌, map, Option, Some, None, refl, sym, ap, subst, ◌∙◌, inl, inr, arith}
-use Rattle.std.specs.Prelude.{if◌then◌else◌, ◌==◌, count_by, option_map, option_and_then}
+use Rattle.std.proofs.Common.{◌≡◌, ℕ, ◌+◌, ◌≤◌, Bool, List, [], ◌∷◌, ◌++◌, map, Some, None, refl, sym, ap, subst, ◌∙◌, inl, inr, arith}
+use Rattle.std.specs.Prelude.{if◌then◌else◌, ◌==◌, count_by}
 use Rattle.std.proofs.lemmas.List.Recursion.{is_sum_by}
 use Rattle.std.proofs.lemmas.Bool.{cases_Bool, cond-true, cond-false, eq-eqb, false≢true}
 use Rattle.dots_history.specs.Histories.{tally}
 use Rattle.dots_settings.specs.declared.peer.PeerRow.{PeerRow}
 use Rattle.dots_settings.specs.Settings.{SettingsValue, IsSettings}
-use Rattle.session_core.specs.declared.contact.Session.{Session}
-use Rattle.session_core.specs.declared.contact.Contact.{Contact}
 use Rattle.session_core.specs.declared.contact.PeerContact.{PeerContact}
 use Rattle.session_core.specs.declared.contact.Beat.{Beat}
-use Rattle.session_core.specs.Contacts.{is_of, unheard, session_in, session_of, session_heard, row_heard, contact_numbered, row_numbered, with_row}
-use Rattle.session_core.specs.Beating.{Beating, turned, IsNextBeat}
-use Rattle.session_core.specs.Spacing.{Call, Hears, Numbers, Rests, Beats, Leaves, Run, IsSince, AreSince}
-use Rattle.session_core.proofs.Turns.{NotBefore, same_session, sends, turn_keeps, sent_now}
+use Rattle.session_core.specs.Contacts.{is_of, unheard, row_heard, row_begun, row_numbered, with_row}
+use Rattle.session_core.specs.Firsts.{IsFirst}
+use Rattle.session_core.specs.Beating.{Beating, has_lost, row_forgotten, has_due, row_sent, IsNextBeat}
+use Rattle.session_core.specs.Spacing.{Call, Hears, Begins, Numbers, Loses, Beats, Leaves, Run, IsSince, AreSince}
+use Rattle.session_core.proofs.Turns.{due, NotBefore, hearing_keeps, beginning_keeps, numbering_keeps, forgetting_keeps, sending_keeps, begun_peer}
 
 -- each row of the peer
 Since : ℕ → ℕ → List PeerContact → Type 0
@@ -34,11 +33,14 @@ unfolding Since
 join peer time [] y ys front own rest = (own, rest)
 join peer time (x ∷ xs) y ys front own rest = (front.0, join peer time xs y ys front.1 own rest)
 
-turn_each : (peer time now : ℕ) (by : Beating) (rows : List PeerContact) → time ≤ now → Since peer time rows → Since peer time (map (turned by now) rows)
-unfolding Since
-turn_each peer time now by [] less all = tt
-turn_each peer time now by (row ∷ rows) less all =
-    (λ same. turn_keeps time now (by row.peer) row less (all.0 same), turn_each peer time now by rows less all.1)
+first_keeps : (peer time : ℕ) (test : PeerContact → Bool) (becomes : PeerContact → PeerContact) (old new : List PeerContact) (row : PeerContact)
+    → (becomes row).peer ≡ row.peer → (NotBefore time row → NotBefore time (becomes row)) → IsFirst test becomes old new row
+    → Since peer time old → Since peer time new
+first_keeps peer time test becomes old new row name keeps is all =
+    let P : List PeerContact → Type 0 = Since peer time in
+    let parts = split peer time is.front row is.rest (subst P is.there all) in
+    subst P (sym is.after)
+    (join peer time is.front (becomes row) is.rest parts.0 (λ same. keeps (parts.1 (sym name ∙ same))) parts.2)
 
 change_one : (peer time other : ℕ) (becomes : PeerContact → PeerContact) (rows : List PeerContact)
     → ((row : PeerContact) → (becomes row).peer ≡ row.peer) → ((row : PeerContact) → NotBefore time row → NotBefore time (becomes row))
@@ -56,41 +58,24 @@ change_one peer time other becomes (row ∷ rows) names keeps all =
           (all.0, change_one peer time other becomes rows names keeps all.1)
     ]
 
--- ---- hearing and numbers
-
-heard_session : (time now : ℕ) (o : Option Session) (s : Session) → time ≤ now → ((x : Session) → o ≡ Some x → time ≤ x.beat)
-    → Some (session_heard now o) ≡ Some s → time ≤ s.beat
-heard_session time now None s less before is = let P : Session → Type 0 = λ y. time ≤ y.beat in subst P (same_session _ s is) less
-heard_session time now (Some x) s less before is = let P : Session → Type 0 = λ y. time ≤ y.beat in subst P (same_session _ s is) (before x refl)
-
-hearing_keeps : (time now : ℕ) (row : PeerContact) → time ≤ now → NotBefore time row → NotBefore time (row_heard now row)
-hearing_keeps time now row less before s is = heard_session time now (session_of row) s less before is
-
-numbered_contact : (o : Option Contact) → option_and_then session_in (option_map contact_numbered o) ≡ option_and_then session_in o
-numbered_contact None = refl
-numbered_contact (Some contact) = refl
-
-numbering_keeps : (time : ℕ) (row : PeerContact) → NotBefore time row → NotBefore time (row_numbered row)
-numbering_keeps time row before s is = before s (sym (numbered_contact row.contact) ∙ is)
-
 -- ---- calls
 
 call_keeps : (peer time : ℕ) (call : Call) (old new : List PeerContact) → IsSince time call → Since peer time old → Leaves old call new → Since peer time new
 call_keeps peer time (Hears other now) old new since all is =
     let P : List PeerContact → Type 0 = Since peer time in
     subst P (sym is) (change_one peer time other (row_heard now) old (λ row. refl) (λ row before. hearing_keeps time now row since before) all)
+call_keeps peer time (Begins other now) old new since all is =
+    let P : List PeerContact → Type 0 = Since peer time in
+    subst P (sym is) (change_one peer time other (row_begun now) old (begun_peer now) (λ row before. beginning_keeps time now row since before) all)
 call_keeps peer time (Numbers other) old new since all is =
     let P : List PeerContact → Type 0 = Since peer time in
     subst P (sym is) (change_one peer time other row_numbered old (λ row. refl) (λ row before. numbering_keeps time row before) all)
-call_keeps peer time (Rests by now) old new since all is =
-    let P : List PeerContact → Type 0 = Since peer time in
-    subst P (sym is.after) (turn_each peer time now by old since all)
-call_keeps peer time (Beats by now beat) old new since all is =
-    let P : List PeerContact → Type 0 = Since peer time in
-    let parts = split peer time is.front is.row is.rest (subst P is.there all) in
-    subst P (sym is.after)
-    (join peer time (map (turned by now) is.front) (turned by now is.row) is.rest (turn_each peer time now by is.front since parts.0)
-    (λ same. turn_keeps time now (by is.row.peer) is.row since (parts.1 same)) parts.2)
+call_keeps peer time (Loses by now None) old new since all is = let P : List PeerContact → Type 0 = Since peer time in subst P (sym is.same) all
+call_keeps peer time (Loses by now (Some lost)) old new since all is =
+    first_keeps peer time (has_lost by now) row_forgotten old new is.row refl (λ before. forgetting_keeps time is.row) is.first all
+call_keeps peer time (Beats by now None) old new since all is = let P : List PeerContact → Type 0 = Since peer time in subst P (sym is.same) all
+call_keeps peer time (Beats by now (Some beat)) old new since all is =
+    first_keeps peer time (has_due by now) (row_sent now) old new is.row refl (λ before. sending_keeps time now is.row since) is.first all
 
 run_keeps : (peer time : ℕ) (calls : List Call) (old new : List PeerContact) → AreSince time calls → Since peer time old → Run old calls new → Since peer time new
 run_keeps peer time [] old new since all is = let P : List PeerContact → Type 0 = Since peer time in subst P (sym is) all
@@ -108,9 +93,14 @@ counted : (peer : ℕ) (xs : List PeerContact) (y : PeerContact) (ys : List Peer
 counted peer [] y ys = omega arith
 counted peer (x ∷ xs) y ys = let rest = counted peer xs y ys in omega (arith, rest)
 
-counted_map : (peer : ℕ) (by : Beating) (now : ℕ) (rows : List PeerContact) → tally (is_of peer) (map (turned by now) rows) ≡ tally (is_of peer) rows
-counted_map peer by now [] = refl
-counted_map peer by now (row ∷ rows) = ap (λ n. (if is_of peer row then 1 else 0) + n) (counted_map peer by now rows)
+counted_first : (peer : ℕ) (test : PeerContact → Bool) (becomes : PeerContact → PeerContact) (old new : List PeerContact) (row : PeerContact)
+    → (becomes row).peer ≡ row.peer → IsFirst test becomes old new row → tally (is_of peer) new ≡ tally (is_of peer) old
+counted_first peer test becomes old new row name is =
+    ap (tally (is_of peer)) is.after
+    ∙ counted peer is.front (becomes row) is.rest
+    ∙ ap (λ p. tally (is_of peer) is.front + (if p == peer then 1 else 0) + tally (is_of peer) is.rest) name
+    ∙ sym (counted peer is.front row is.rest)
+    ∙ sym (ap (tally (is_of peer)) is.there)
 
 counted_with : (peer other : ℕ) (becomes : PeerContact → PeerContact) (rows : List PeerContact) → ((row : PeerContact) → (becomes row).peer ≡ row.peer)
     → tally (is_of peer) (with_row other becomes rows) ≡ tally (is_of peer) rows
@@ -127,15 +117,12 @@ counted_with peer other becomes (row ∷ rows) names =
 
 counted_call : (peer : ℕ) (call : Call) (old new : List PeerContact) → Leaves old call new → tally (is_of peer) new ≡ tally (is_of peer) old
 counted_call peer (Hears other now) old new is = ap (tally (is_of peer)) is ∙ counted_with peer other (row_heard now) old (λ row. refl)
+counted_call peer (Begins other now) old new is = ap (tally (is_of peer)) is ∙ counted_with peer other (row_begun now) old (begun_peer now)
 counted_call peer (Numbers other) old new is = ap (tally (is_of peer)) is ∙ counted_with peer other row_numbered old (λ row. refl)
-counted_call peer (Rests by now) old new is = ap (tally (is_of peer)) is.after ∙ counted_map peer by now old
-counted_call peer (Beats by now beat) old new is =
-    let one : ℕ = if is_of peer is.row then 1 else 0 in
-    ap (tally (is_of peer)) is.after
-    ∙ counted peer (map (turned by now) is.front) (turned by now is.row) is.rest
-    ∙ ap (λ n. n + one + tally (is_of peer) is.rest) (counted_map peer by now is.front)
-    ∙ sym (counted peer is.front is.row is.rest)
-    ∙ sym (ap (tally (is_of peer)) is.there)
+counted_call peer (Loses by now None) old new is = ap (tally (is_of peer)) is.same
+counted_call peer (Loses by now (Some lost)) old new is = counted_first peer (has_lost by now) row_forgotten old new is.row refl is.first
+counted_call peer (Beats by now None) old new is = ap (tally (is_of peer)) is.same
+counted_call peer (Beats by now (Some beat)) old new is = counted_first peer (has_due by now) (row_sent now) old new is.row refl is.first
 
 counted_run : (peer : ℕ) (calls : List Call) (old new : List PeerContact) → Run old calls new → tally (is_of peer) new ≡ tally (is_of peer) old
 counted_run peer [] old new is = ap (tally (is_of peer)) is
@@ -170,15 +157,15 @@ after_first : (by : Beating) (at : ℕ) (beat : Beat) (a b : List PeerContact) �
 unfolding HasOne
 after_first by at beat a b one is =
     let P : List PeerContact → Type 0 = Since beat.peer at in
-    let w = sends (by is.row.peer) at is.row beat is.due in
-    let own = cond-true {A = ℕ} (is_of beat.peer is.row) 1 0 (eq-eqb is.row.peer beat.peer (sym w.peer)) in
-    let long = counted beat.peer is.front is.row is.rest in
-    let all = ap (tally (is_of beat.peer)) is.there in
-    let front = none_of beat.peer at is.front (omega (arith, one, own, long, all)) in
-    let rest = none_of beat.peer at is.rest (omega (arith, one, own, long, all)) in
-    subst P (sym is.after)
-    (join beat.peer at (map (turned by at) is.front) (turned by at is.row) is.rest (turn_each beat.peer at at by is.front (omega arith) front)
-    (λ same. sent_now (by is.row.peer) at is.row beat w) rest)
+    let first = is.first in
+    let w = due (by is.row.peer).0 at is.row beat is.due in
+    let own = cond-true {A = ℕ} (is_of beat.peer is.row) 1 0 (eq-eqb is.row.peer beat.peer (sym w.own)) in
+    let long = counted beat.peer first.front is.row first.rest in
+    let all = ap (tally (is_of beat.peer)) first.there in
+    let front = none_of beat.peer at first.front (omega (arith, one, own, long, all)) in
+    let rest = none_of beat.peer at first.rest (omega (arith, one, own, long, all)) in
+    subst P (sym first.after)
+    (join beat.peer at first.front (row_sent at is.row) first.rest front (λ same. sending_keeps at at is.row (omega arith)) rest)
 
 pub spaced : (settings : SettingsValue) (early late : Beating) (at later : ℕ) (beat next : Beat) (before between : List Call) (a b c d : List PeerContact)
     → IsSettings settings → Run (map unheard settings.peers) before a → IsNextBeat early at a b beat → Run b between c → AreSince at between
@@ -187,8 +174,8 @@ spaced settings early late at later beat next before between a b c d are start f
     let P : List PeerContact → Type 0 = Since beat.peer at in
     let one = one_row settings beat.peer before a are start in
     let all = run_keeps beat.peer at between b c since (after_first early at beat a b one first) run in
-    let parts = split beat.peer at second.front second.row second.rest (subst P second.there all) in
-    let w = sends (late second.row.peer) later second.row next second.due in
-    let held = parts.1 (sym w.peer ∙ same) w.session (ap (option_and_then session_in) w.there ∙ w.has) in
-    let interval : (late next.peer).0 ≡ (late second.row.peer).0 = ap (λ p. (late p).0) w.peer in
+    let parts = split beat.peer at second.first.front second.row second.first.rest (subst P second.first.there all) in
+    let w = due (late second.row.peer).0 later second.row next second.due in
+    let held = parts.1 (sym w.own ∙ same) w.session w.has in
+    let interval : (late next.peer).0 ≡ (late second.row.peer).0 = ap (λ p. (late p).0) w.own in
     omega (arith, held, interval, w.passed)

@@ -1,140 +1,194 @@
--- Heartbeats that are asked for at one time until none is due.
-use Rattle.std.proofs.Common.{◌≡◌, ℕ, ◌+◌, false, List, [], ◌∷◌, ◌++◌, map, Option, Some, None, refl, sym, ap, ◌∙◌, arith}
-use Rattle.std.specs.Prelude.{if◌then◌else◌, ◌==◌, nat_le, is_some, filter_map, option_map, option_and_then}
+-- What is asked for at one time until there is none.
+use Rattle.std.proofs.Common.{◌≡◌, ℕ, ◌+◌, Bool, true, false, List, [], ◌∷◌, ◌++◌, map, Option, Some, None, refl, sym, ap, ◌∙◌, inl, inr, arith}
+use Rattle.std.specs.Prelude.{if◌then◌else◌, ◌&&◌, nat_lt, nat_le, is_some, filter, filter_map, count_by, option_map, option_and_then}
 use Rattle.std.specs.List.{list_any, cons_option}
-use Rattle.std.proofs.lemmas.Bool.{cond-false, or_parts}
+use Rattle.std.proofs.lemmas.Bool.{cases_Bool, cond-true, cond-false, or_parts}
 use Rattle.std.proofs.lemmas.Grind.{common_steps}
-use Rattle.std.proofs.lemmas.List.Elements.{filter_map-append}
+use Rattle.std.proofs.lemmas.List.{map-append}
+use Rattle.std.proofs.lemmas.List.Elements.{filter-append}
+use Rattle.std.proofs.lemmas.List.Sums.{sum_by-append, sum_by-cons}
 use Rattle.session_core.specs.declared.contact.Session.{Session}
 use Rattle.session_core.specs.declared.contact.Contact.{Contact}
 use Rattle.session_core.specs.declared.contact.PeerContact.{PeerContact}
 use Rattle.session_core.specs.declared.contact.Beat.{Beat}
-use Rattle.session_core.specs.declared.contact.Turn.{Turn}
-use Rattle.session_core.specs.declared.contact.Turn.TheVariants.{Rests, Ends, Beats}
-use Rattle.session_core.specs.Beating.{Beating, is_lost, is_due, was_heard, turn_of, session_after, id_after, contact_after, beat_by, beat_in, turned, due_beat, has_due}
 use Rattle.session_core.specs.Contacts.{next_id}
-use Rattle.session_core.specs.Spacing.{Tick}
-use Rattle.session_core.proofs.Turns.{due_only}
+use Rattle.session_core.specs.Firsts.{IsNowhere, IsFirst}
+use Rattle.session_core.specs.Beating.{Beating, lost_in, has_lost, row_forgotten, IsNextLost, beat_to, beat_in, due_beat, has_due, session_sent, contact_sent, row_sent, IsNextBeat}
+use Rattle.session_core.specs.Places.{row_peer}
+use Rattle.session_core.specs.Spacing.{LosesAll, BeatsAll, Tick, without_lost, with_beat}
+use Rattle.session_core.proofs.Turns.{none_left}
 
--- ---- one session: after a turn, a turn at the same time changes nothing
+-- ---- first ones, until none is left
 
-not_due : (interval now : ℕ) → (interval == 0) ≡ false → nat_le (now + interval) now ≡ false
-not_due interval now some = grind (arith, common_steps, some)
+-- the rows that pass become others
+turn : (PeerContact → Bool) → (PeerContact → PeerContact) → PeerContact → PeerContact
+turn test becomes row = if test row then becomes row else row
 
-beats_then_rests : (by : ℕ × ℕ) (now : ℕ) (x : Session) → turn_of by now x ≡ Beats → turn_of by now (record { heard = x.heard; beat = now }) ≡ Rests
-beats_then_rests by now x is =
-    let parts = due_only (by.0 == 0) (is_lost by now x) (is_due by now x) is in
-    let y : Session = record { heard = x.heard; beat = now } in
-    let last : Turn = if is_due by now y then Beats else Rests in
-    cond-false (by.0 == 0) Rests (if is_lost by now y then Ends else last) parts.0
-    ∙ cond-false (is_lost by now y) Ends last parts.1
-    ∙ cond-false (is_due by now y) Beats Rests (not_due by.0 now parts.0)
+Chain : (PeerContact → Bool) → (PeerContact → PeerContact) → List PeerContact → List PeerContact → List PeerContact → Type 0
+Chain test becomes old [] new = IsNowhere test old new
+Chain test becomes old (row ∷ rows) new = (mid : List PeerContact) × IsFirst test becomes old mid row × Chain test becomes mid rows new
 
--- no heartbeat is due, and a turn leaves it as it is
-record Steady (by : ℕ × ℕ) (now : ℕ) (contact : Contact) : Type 0 where
-  quiet : (peer : ℕ) → beat_in by now peer contact ≡ None
-  same : contact_after by now contact contact.session ≡ contact
+none_filtered : (test : PeerContact → Bool) (xs : List PeerContact) → list_any test xs ≡ false → filter test xs ≡ []
+none_filtered test [] none = refl
+none_filtered test (x ∷ xs) none =
+    let parts = or_parts (test x) (list_any test xs) none in
+    cond-false (test x) (x ∷ filter test xs) (filter test xs) parts.0 ∙ none_filtered test xs parts.1
 
-steady_rests : (by : ℕ × ℕ) (now id : ℕ) (x : Session) → turn_of by now x ≡ Rests → Steady by now (record { number = id; session = Some x })
-steady_rests by now id x rests = record {
-  quiet = λ peer. ap (λ turn. beat_by turn peer id (was_heard by.0 now x)) rests;
-  same = ap (λ turn. record { number = id_after turn id; session = session_after turn now x }) rests;
-}
+none_turned : (test : PeerContact → Bool) (becomes : PeerContact → PeerContact) (xs : List PeerContact) → list_any test xs ≡ false
+    → map (turn test becomes) xs ≡ xs
+unfolding turn
+none_turned test becomes [] none = refl
+none_turned test becomes (x ∷ xs) none =
+    let parts = or_parts (test x) (list_any test xs) none in
+    ap (λ y. y ∷ map (turn test becomes) xs) (cond-false (test x) (becomes x) x parts.0)
+    ∙ ap (λ ys. x ∷ ys) (none_turned test becomes xs parts.1)
 
-steady_turn : (by : ℕ × ℕ) (now id : ℕ) (x : Session) (turn : Turn) → turn_of by now x ≡ turn
-    → Steady by now (record { number = id_after turn id; session = session_after turn now x })
-steady_turn by now id x Rests is = steady_rests by now id x is
-steady_turn by now id x Ends is = record { quiet = λ peer. refl; same = refl }
-steady_turn by now id x Beats is = steady_rests by now (next_id id) (record { heard = x.heard; beat = now }) (beats_then_rests by now x is)
+filter_first : (test : PeerContact → Bool) (front : List PeerContact) (x : PeerContact) (rest : List PeerContact) → list_any test front ≡ false
+    → test x ≡ true → filter test (front ++ x ∷ rest) ≡ x ∷ filter test rest
+filter_first test front x rest none is =
+    filter-append test front (x ∷ rest)
+    ∙ ap (λ xs. xs ++ filter test (x ∷ rest)) (none_filtered test front none)
+    ∙ cond-true (test x) (x ∷ filter test rest) (filter test rest) is
 
-steady_session : (by : ℕ × ℕ) (now : ℕ) (contact : Contact) (o : Option Session) → contact.session ≡ o → Steady by now (contact_after by now contact o)
-steady_session by now contact None has = record {
-  quiet = λ peer. ap (option_and_then (λ session. beat_by (turn_of by now session) peer contact.number (was_heard by.0 now session))) has;
-  same = ap (contact_after by now contact) has;
-}
-steady_session by now contact (Some x) has = steady_turn by now contact.number x (turn_of by now x) refl
+filter_after : (test : PeerContact → Bool) (front : List PeerContact) (x : PeerContact) (rest : List PeerContact) → list_any test front ≡ false
+    → test x ≡ false → filter test (front ++ x ∷ rest) ≡ filter test rest
+filter_after test front x rest none is =
+    filter-append test front (x ∷ rest)
+    ∙ ap (λ xs. xs ++ filter test (x ∷ rest)) (none_filtered test front none)
+    ∙ cond-false (test x) (x ∷ filter test rest) (filter test rest) is
 
-quiet_contact : (by : ℕ × ℕ) (now peer : ℕ) (o : Option Contact)
-    → option_and_then (beat_in by now peer) (option_map (λ contact. contact_after by now contact contact.session) o) ≡ None
-quiet_contact by now peer None = refl
-quiet_contact by now peer (Some contact) = (steady_session by now contact contact.session refl).quiet peer
+turn_from : (test : PeerContact → Bool) (becomes : PeerContact → PeerContact) (front : List PeerContact) (x y : PeerContact) (rest : List PeerContact)
+    → list_any test front ≡ false → turn test becomes x ≡ y
+    → map (turn test becomes) (front ++ x ∷ rest) ≡ front ++ y ∷ map (turn test becomes) rest
+turn_from test becomes front x y rest none is =
+    map-append (turn test becomes) front (x ∷ rest)
+    ∙ ap (λ xs. xs ++ turn test becomes x ∷ map (turn test becomes) rest) (none_turned test becomes front none)
+    ∙ ap (λ z. front ++ z ∷ map (turn test becomes) rest) is
 
-same_contact : (by : ℕ × ℕ) (now : ℕ) (o : Option Contact)
-    → option_map (λ contact. contact_after by now contact contact.session) (option_map (λ contact. contact_after by now contact contact.session) o)
-    ≡ option_map (λ contact. contact_after by now contact contact.session) o
-same_contact by now None = refl
-same_contact by now (Some contact) = ap Some (steady_session by now contact contact.session refl).same
+chained : (test : PeerContact → Bool) (becomes : PeerContact → PeerContact) (rows old new : List PeerContact)
+    → ((row : PeerContact) → test (becomes row) ≡ false) → Chain test becomes old rows new
+    → (rows ≡ filter test old) × (new ≡ map (turn test becomes) old)
+unfolding Chain turn
+chained test becomes [] old new once is =
+    (sym (none_filtered test old is.none), is.same ∙ sym (none_turned test becomes old is.none))
+chained test becomes (row ∷ rows) old new once is =
+    let first = is.1 in
+    let left = chained test becomes rows is.0 new once is.2 in
+    let made = becomes row in (
+      ap (λ xs. row ∷ xs)
+          (left.0 ∙ ap (filter test) first.after ∙ filter_after test first.front made first.rest first.none (once row))
+          ∙ sym (filter_first test first.front row first.rest first.none first.passes)
+          ∙ sym (ap (filter test) first.there),
+      left.1
+          ∙ ap (map (turn test becomes)) first.after
+          ∙ turn_from test becomes first.front made made first.rest first.none (cond-false (test made) (becomes made) made (once row))
+          ∙ sym (turn_from test becomes first.front row made first.rest first.none (cond-true (test row) made row first.passes))
+          ∙ sym (ap (map (turn test becomes)) first.there),
+    )
 
-quiet : (by : Beating) (now : ℕ) (row : PeerContact) → due_beat by now (turned by now row) ≡ None
-quiet by now row = quiet_contact (by row.peer) now row.peer row.contact
+-- ---- what is forgotten isn't lost, and what is sent isn't due
 
-twice : (by : Beating) (now : ℕ) (row : PeerContact) → turned by now (turned by now row) ≡ turned by now row
-twice by now row =
-    let with : Option Contact → PeerContact = λ o. record { peer = row.peer; contact = o } in ap with (same_contact (by row.peer) now row.contact)
+forgotten_once : (by : Beating) (now : ℕ) (row : PeerContact) → has_lost by now (row_forgotten row) ≡ false
+forgotten_once by now row = ap (lost_in (by row.peer) now) (none_left row)
 
--- ---- all peers
+not_again : (interval now : ℕ) → (nat_lt 0 interval && nat_le (now + interval) now) ≡ false
+not_again interval now = grind (arith, common_steps)
+
+sent_session_once : (interval now peer id : ℕ) (o : Option Session)
+    → is_some (option_and_then (beat_to interval now peer id) (option_map (session_sent now) o)) ≡ false
+sent_session_once interval now peer id None = refl
+sent_session_once interval now peer id (Some x) =
+    ap is_some (cond-false (nat_lt 0 interval && nat_le (now + interval) now) _ None (not_again interval now))
+
+sent_contact_once : (interval now peer : ℕ) (o : Option Contact)
+    → is_some (option_and_then (beat_in interval now peer) (option_map (contact_sent now) o)) ≡ false
+sent_contact_once interval now peer None = refl
+sent_contact_once interval now peer (Some contact) = sent_session_once interval now peer (next_id contact.number) contact.session
+
+sent_once : (by : Beating) (now : ℕ) (row : PeerContact) → has_due by now (row_sent now row) ≡ false
+sent_once by now row = sent_contact_once (by row.peer).0 now row.peer row.contact
+
+-- ---- one fewer
+
+counted : (test : PeerContact → Bool) (front : List PeerContact) (x : PeerContact) (rest : List PeerContact)
+    → count_by test (front ++ x ∷ rest) ≡ count_by test front + ((if test x then 1 else 0) + count_by test rest)
+counted test front x rest =
+    let one : PeerContact → ℕ = λ y. if test y then 1 else 0 in
+    sum_by-append one front (x ∷ rest) ∙ ap (λ n. count_by test front + n) (sum_by-cons one x rest)
+
+fewer : (test : PeerContact → Bool) (becomes : PeerContact → PeerContact) (old new : List PeerContact) (row : PeerContact)
+    → test (becomes row) ≡ false → IsFirst test becomes old new row → count_by test old ≡ count_by test new + 1
+fewer test becomes old new row once is =
+    let before = ap (count_by test) is.there ∙ counted test is.front row is.rest in
+    let after = ap (count_by test) is.after ∙ counted test is.front (becomes row) is.rest in
+    let one = cond-true {A = ℕ} (test row) 1 0 is.passes in
+    let none = cond-false {A = ℕ} (test (becomes row)) 1 0 once in
+    omega (arith, before, after, one, none)
+
+pub fewer_lost : (by : Beating) (now : ℕ) (old new : List PeerContact) (peer : ℕ) → IsNextLost by now old new peer
+    → count_by (has_lost by now) old ≡ count_by (has_lost by now) new + 1
+fewer_lost by now old new peer is = fewer (has_lost by now) row_forgotten old new is.row (forgotten_once by now is.row) is.first
+
+pub fewer_beats : (by : Beating) (now : ℕ) (old new : List PeerContact) (beat : Beat) → IsNextBeat by now old new beat
+    → count_by (has_due by now) old ≡ count_by (has_due by now) new + 1
+fewer_beats by now old new beat is = fewer (has_due by now) (row_sent now) old new is.row (sent_once by now is.row) is.first
+
+-- ---- a tick
+
+lost_rows : (by : Beating) (now : ℕ) (lost : List ℕ) (old new : List PeerContact) → LosesAll by now old lost new
+    → (rows : List PeerContact) × (lost ≡ map row_peer rows) × Chain (has_lost by now) row_forgotten old rows new
+unfolding Chain
+lost_rows by now [] old new is = ([], refl, is)
+lost_rows by now (peer ∷ lost) old new is =
+    let next = is.1 in
+    let left = lost_rows by now lost is.0 new is.2 in
+    (next.row ∷ left.0, ap (λ p. p ∷ lost) next.own ∙ ap (λ ps. next.row.peer ∷ ps) left.1, (is.0, next.first, left.2))
+
+beat_rows : (by : Beating) (now : ℕ) (given : List Beat) (old new : List PeerContact) → BeatsAll by now old given new
+    → (rows : List PeerContact) × (given ≡ filter_map (due_beat by now) rows) × Chain (has_due by now) (row_sent now) old rows new
+unfolding Chain
+beat_rows by now [] old new is = ([], refl, is)
+beat_rows by now (beat ∷ given) old new is =
+    let next = is.1 in
+    let left = beat_rows by now given is.0 new is.2 in (
+      next.row ∷ left.0,
+      ap (λ bs. beat ∷ bs) left.1 ∙ sym (ap (λ o. cons_option o (filter_map (due_beat by now) left.0)) next.due),
+      (is.0, next.first, left.2),
+    )
 
 no_beat : (o : Option Beat) → is_some o ≡ false → o ≡ None
 no_beat None is = refl
 no_beat (Some beat) is = cc is
 
-none_given : (by : Beating) (now : ℕ) (rows : List PeerContact) → list_any (has_due by now) rows ≡ false → filter_map (due_beat by now) rows ≡ []
-none_given by now [] none = refl
-none_given by now (row ∷ rows) none =
-    let parts = or_parts (has_due by now row) (list_any (has_due by now) rows) none in
-    ap (λ o. cons_option o (filter_map (due_beat by now) rows)) (no_beat (due_beat by now row) parts.0)
-    ∙ none_given by now rows parts.1
+given_by_due : (by : Beating) (now : ℕ) (rows : List PeerContact)
+    → filter_map (due_beat by now) (filter (has_due by now) rows) ≡ filter_map (due_beat by now) rows
+given_by_due by now [] = refl
+given_by_due by now (row ∷ rows) =
+    let passing = filter (has_due by now) rows in
+    let given = filter_map (due_beat by now) in
+    elim (cases_Bool (has_due by now row)) [
+      | inl is ↦
+          ap given (cond-true (has_due by now row) (row ∷ passing) passing is)
+          ∙ ap (cons_option (due_beat by now row)) (given_by_due by now rows)
+      | inr out ↦
+          ap given (cond-false (has_due by now row) (row ∷ passing) passing out)
+          ∙ given_by_due by now rows
+          ∙ sym (ap (λ o. cons_option o (given rows)) (no_beat (due_beat by now row) out))
+    ]
 
-all_quiet : (by : Beating) (now : ℕ) (rows : List PeerContact) → filter_map (due_beat by now) (map (turned by now) rows) ≡ []
-all_quiet by now [] = refl
-all_quiet by now (row ∷ rows) =
-    ap (λ o. cons_option o (filter_map (due_beat by now) (map (turned by now) rows))) (quiet by now row) ∙ all_quiet by now rows
-
-all_twice : (by : Beating) (now : ℕ) (rows : List PeerContact) → map (turned by now) (map (turned by now) rows) ≡ map (turned by now) rows
-all_twice by now [] = refl
-all_twice by now (row ∷ rows) =
-    ap (λ r. r ∷ map (turned by now) (map (turned by now) rows)) (twice by now row)
-    ∙ ap (λ rs. turned by now row ∷ rs) (all_twice by now rows)
-
-map_both : (f : PeerContact → PeerContact) (xs ys : List PeerContact) → map f (xs ++ ys) ≡ map f xs ++ map f ys
-map_both f [] ys = refl
-map_both f (x ∷ xs) ys = ap (λ zs. f x ∷ zs) (map_both f xs ys)
-
-given_by_rest : (by : Beating) (now : ℕ) (front : List PeerContact) (row : PeerContact) (rest : List PeerContact)
-    → filter_map (due_beat by now) (map (turned by now) front ++ turned by now row ∷ rest) ≡ filter_map (due_beat by now) rest
-given_by_rest by now front row rest =
-    filter_map-append (due_beat by now) (map (turned by now) front) (turned by now row ∷ rest)
-    ∙ ap (λ xs. xs ++ filter_map (due_beat by now) (turned by now row ∷ rest)) (all_quiet by now front)
-    ∙ ap (λ o. cons_option o (filter_map (due_beat by now) rest)) (quiet by now row)
-
-given_by_all : (by : Beating) (now : ℕ) (front : List PeerContact) (row : PeerContact) (rest : List PeerContact) (beat : Beat)
-    → list_any (has_due by now) front ≡ false → due_beat by now row ≡ Some beat
-    → filter_map (due_beat by now) (front ++ row ∷ rest) ≡ beat ∷ filter_map (due_beat by now) rest
-given_by_all by now front row rest beat none due =
-    filter_map-append (due_beat by now) front (row ∷ rest)
-    ∙ ap (λ xs. xs ++ filter_map (due_beat by now) (row ∷ rest)) (none_given by now front none)
-    ∙ ap (λ o. cons_option o (filter_map (due_beat by now) rest)) due
-
-turned_all : (by : Beating) (now : ℕ) (front : List PeerContact) (row : PeerContact) (rest : List PeerContact)
-    → map (turned by now) (map (turned by now) front ++ turned by now row ∷ rest) ≡ map (turned by now) (front ++ row ∷ rest)
-turned_all by now front row rest =
-    map_both (turned by now) (map (turned by now) front) (turned by now row ∷ rest)
-    ∙ ap (λ xs. xs ++ turned by now (turned by now row) ∷ map (turned by now) rest) (all_twice by now front)
-    ∙ ap (λ r. map (turned by now) front ++ r ∷ map (turned by now) rest) (twice by now row)
-    ∙ sym (map_both (turned by now) front (row ∷ rest))
-
-pub ticked : (by : Beating) (now : ℕ) (given : List Beat) (old new : List PeerContact) → Tick by now old given new
-    → (given ≡ filter_map (due_beat by now) old) × (new ≡ map (turned by now) old)
-ticked by now [] old new is = (sym (none_given by now old is.none), is.after)
-ticked by now (beat ∷ given) old new is =
-    let next = is.1 in
-    let rest = ticked by now given is.0 new is.2 in (
-      ap (λ beats. beat ∷ beats)
-          (rest.0 ∙ ap (filter_map (due_beat by now)) next.after ∙ given_by_rest by now next.front next.row next.rest)
-          ∙ sym (given_by_all by now next.front next.row next.rest beat next.first next.due)
-          ∙ sym (ap (filter_map (due_beat by now)) next.there),
-      rest.1
-          ∙ ap (map (turned by now)) next.after
-          ∙ turned_all by now next.front next.row next.rest
-          ∙ sym (ap (map (turned by now)) next.there),
+pub ticked : (by : Beating) (now : ℕ) (lost : List ℕ) (given : List Beat) (old new : List PeerContact) → Tick by now old lost given new
+    → (lost ≡ map row_peer (filter (has_lost by now) old)) × (given ≡ filter_map (due_beat by now) (map (without_lost by now) old))
+    × (new ≡ map (with_beat by now) (map (without_lost by now) old))
+unfolding turn
+ticked by now lost given old new is =
+    let gone = lost_rows by now lost old is.0 is.1 in
+    let sent = beat_rows by now given is.0 new is.2 in
+    let first = chained (has_lost by now) row_forgotten gone.0 old is.0 (forgotten_once by now) gone.2 in
+    let second = chained (has_due by now) (row_sent now) sent.0 is.0 new (sent_once by now) sent.2 in (
+      gone.1 ∙ ap (map row_peer) first.0,
+      sent.1
+          ∙ ap (filter_map (due_beat by now)) second.0
+          ∙ given_by_due by now is.0
+          ∙ ap (filter_map (due_beat by now)) first.1,
+      second.1 ∙ ap (map (with_beat by now)) first.1,
     )

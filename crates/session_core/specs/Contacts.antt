@@ -1,5 +1,5 @@
--- Peers that are heard, and the Message IDs of the messages to them that begin here.
-use Rattle.std.specs.Prelude.{ℕ, ◌+◌, ◌%◌, Bool, ◌==◌, if◌then◌else◌, List, [], ◌∷◌, find, Option, Some, None, option_map, option_and_then}
+-- Peers that are heard, sessions that begin, and the Message IDs of the messages to these peers that begin here.
+use Rattle.std.specs.Prelude.{ℕ, ◌+◌, ◌%◌, Bool, ◌==◌, if◌then◌else◌, is_some, List, [], ◌∷◌, find, Option, Some, None, option_map, option_and_then}
 use Rattle.dots_settings.specs.declared.peer.PeerRow.{PeerRow}
 use Rattle.session_core.specs.declared.contact.Session.{Session}
 use Rattle.session_core.specs.declared.contact.Contact.{Contact}
@@ -43,6 +43,15 @@ row_heard now row = record {
 
 abbrev pub heard_from : ℕ → ℕ → List PeerContact → List PeerContact
 heard_from peer now rows = with_row peer (row_heard now) rows
+
+-- ---- beginning
+
+-- as if the peer was heard first now; where it has a session nothing changes
+abbrev pub row_begun : ℕ → PeerContact → PeerContact
+row_begun now row = if is_some (session_of row) then row else row_heard now row
+
+abbrev pub begun_with : ℕ → ℕ → List PeerContact → List PeerContact
+begun_with peer now rows = with_row peer (row_begun now) rows
 
 -- ---- Message IDs
 

@@ -1,19 +1,22 @@
 //! What is kept of a peer.
 
 ghost use Rattle.std.specs.Prelude.{◌≡◌, is_some, true};
-ghost use Rattle.session_core.specs.Contacts.{is_of, session_of, number_heard, session_heard, row_heard, next_id, number_in, row_numbered};
-ghost use Rattle.session_core.specs.Beating.{turn_of, was_heard, session_after, id_after, beat_of, row_after};
+ghost use Rattle.session_core.specs.Contacts.{is_of, session_of, number_heard, session_heard, row_heard, row_begun, next_id, number_in, row_numbered};
+ghost use Rattle.session_core.specs.Beating.{is_lost, has_lost, contact_forgotten, row_forgotten};
+ghost use Rattle.session_core.specs.Beating.{is_due, was_heard, beat_to, due_beat, session_sent, contact_sent, row_sent};
 
-/// A session with a peer (RFC 9132, section 4.7). It begins when a message of the peer is heard.
+use crate::configs::Configs;
+
+/// A session with a peer (RFC 9132, section 4.7). It begins when a message of the peer is heard, or as if one was.
 #[derive(Clone, Copy)]
 pub struct Session {
-    /// When the peer was heard last, in seconds.
+    /// When the peer was heard last, in seconds; before that, when the session began.
     pub heard: u64,
     /// When it was sent a heartbeat last, in seconds; before the first one, when the session began.
     pub beat: u64,
 }
 
-/// What is kept of a peer once it was heard.
+/// What is kept of a peer once a session with it has begun.
 #[derive(Clone, Copy)]
 pub struct Contact {
     /// The Message ID of the next message that begins here.
@@ -26,7 +29,7 @@ pub struct Contact {
 #[derive(Clone, Copy)]
 pub struct PeerContact {
     pub peer: u32,
-    /// None until the peer is heard.
+    /// None until a session begins.
     pub contact: Option<Contact>,
 }
 
@@ -40,32 +43,20 @@ pub struct Beat {
     pub heard: bool,
 }
 
-/// What time makes of a session.
-#[derive(Clone, Copy)]
-pub enum Turn {
-    /// Nothing yet.
-    Rests,
-    /// It is forgotten.
-    Ends,
-    /// A heartbeat is to be sent.
-    Beats,
-}
-
 impl Session {
-    /// What the time `now` makes of it, by the interval in seconds and the number of heartbeats that may be missed.
-    fn turn(self, interval: u64, missing: u64, now: u64) -> Turn
-        ensures { result ≡ turn_of (interval, missing) now self }
+    /// Whether it is lost at the time `now`: the peer was heard longer ago than `missing` heartbeats of the interval in seconds take.
+    /// With an interval of 0 none is.
+    fn is_lost(self, interval: u64, missing: u64, now: u64) -> bool
+        ensures { result ≡ is_lost (interval, missing) now self }
     {
-        if interval == 0 {
-            return Turn::Rests;
-        }
-        if now.saturating_sub(self.heard) > interval.saturating_mul(missing) {
-            return Turn::Ends;
-        }
-        if now.saturating_sub(self.beat) >= interval {
-            return Turn::Beats;
-        }
-        Turn::Rests
+        interval > 0 && now.saturating_sub(self.heard) > interval.saturating_mul(missing)
+    }
+
+    /// Whether the interval in seconds has passed since the last heartbeat. An interval of 0 never has.
+    fn is_due(self, interval: u64, now: u64) -> bool
+        ensures { result ≡ is_due interval now self }
+    {
+        interval > 0 && now.saturating_sub(self.beat) >= interval
     }
 
     /// Whether the peer was heard at most the interval ago.
@@ -75,17 +66,46 @@ impl Session {
         now.saturating_sub(self.heard) <= interval
     }
 
-    /// What is kept of it after the turn.
-    fn after(self, turn: Turn, now: u64) -> Option<Session>
-        ensures { result ≡ session_after turn now self }
+    /// The heartbeat with this Message ID that the peer is to be sent, where one is due.
+    fn beat_to(self, interval: u64, now: u64, peer: u32, id: u16) -> Option<Beat>
+        ensures { result ≡ beat_to interval now peer id self }
     {
-        match turn {
-            Turn::Rests => Some(self),
-            Turn::Ends => None,
-            Turn::Beats => Some(Session {
-                heard: self.heard,
-                beat: now,
-            }),
+        if !self.is_due(interval, now) {
+            return None;
+        }
+        let heard = self.was_heard(interval, now);
+        Some(Beat { peer, id, heard })
+    }
+
+    /// What is kept of it when a heartbeat is sent.
+    fn sent(self, now: u64) -> Session
+        ensures { result ≡ session_sent now self }
+    {
+        Session {
+            heard: self.heard,
+            beat: now,
+        }
+    }
+}
+
+impl Contact {
+    /// What is kept when the session is forgotten.
+    fn forgotten(self) -> Contact
+        ensures { result ≡ contact_forgotten self }
+    {
+        Contact {
+            number: self.number,
+            session: None,
+        }
+    }
+
+    /// What is kept when a heartbeat is sent.
+    fn sent(self, now: u64) -> Contact
+        ensures { result ≡ contact_sent now self }
+    {
+        Contact {
+            number: next_id(self.number),
+            session: self.session.map(|session| session.sent(now)),
         }
     }
 }
@@ -128,6 +148,15 @@ impl PeerContact {
         });
     }
 
+    /// A session begins as if a message of the peer was heard, where there is none.
+    pub(crate) fn begin(&mut self, now: u64)
+        ensures { self.new ≡ row_begun now self.old }
+    {
+        if self.session().is_none() {
+            self.hear(now);
+        }
+    }
+
     /// The session with the peer.
     fn session(&self) -> Option<Session>
         ensures { result ≡ session_of self.now }
@@ -158,26 +187,42 @@ impl PeerContact {
         contact.number
     }
 
-    /// What the time `now` makes of the session, by the interval in seconds and the number of heartbeats that may be missed. Answers
-    /// the heartbeat that is to be sent, where one is due.
-    pub(crate) fn turn(&mut self, interval: u64, missing: u64, now: u64) -> Option<Beat>
-        ensures beat { result ≡ beat_of (interval, missing) now self.old }
-        ensures after { self.new ≡ row_after (interval, missing) now self.old }
+    /// Whether its session is lost at the time `now`.
+    pub(crate) fn has_lost<C: Configs>(&self, configs: &C, now: u64) -> bool
+        ensures { result ≡ has_lost (C.beats configs.now) now self.now }
     {
+        let (interval, missing) = configs.beat(self.peer);
+        match self.session() {
+            Some(session) => session.is_lost(interval, missing, now),
+            None => false,
+        }
+    }
+
+    /// The session is forgotten. Message IDs go on.
+    pub(crate) fn forget(&mut self)
+        ensures { self.new ≡ row_forgotten self.old }
+    {
+        if let Some(contact) = self.contact {
+            self.contact = Some(contact.forgotten());
+        }
+    }
+
+    /// The heartbeat that the peer is to be sent at the time `now`, where one is due.
+    pub(crate) fn due_beat<C: Configs>(&self, configs: &C, now: u64) -> Option<Beat>
+        ensures { result ≡ due_beat (C.beats configs.now) now self.now }
+    {
+        let (interval, _) = configs.beat(self.peer);
         let contact = self.contact?;
         let session = contact.session?;
-        let turn = session.turn(interval, missing, now);
-        self.contact = Some(Contact {
-            number: id_after(turn, contact.number),
-            session: session.after(turn, now),
-        });
-        match turn {
-            Turn::Beats => Some(Beat {
-                peer: self.peer,
-                id: contact.number,
-                heard: session.was_heard(interval, now),
-            }),
-            _ => None,
+        session.beat_to(interval, now, self.peer, contact.number)
+    }
+
+    /// A heartbeat is sent, which takes a Message ID.
+    pub(crate) fn send_beat(&mut self, now: u64)
+        ensures { self.new ≡ row_sent now self.old }
+    {
+        if let Some(contact) = self.contact {
+            self.contact = Some(contact.sent(now));
         }
     }
 }
@@ -205,15 +250,5 @@ fn session_heard(session: Option<Session>, now: u64) -> Session
             heard: now,
             beat: now,
         },
-    }
-}
-
-/// The Message ID of the next message after the turn.
-fn id_after(turn: Turn, id: u16) -> u16
-    ensures { result ≡ id_after turn id }
-{
-    match turn {
-        Turn::Beats => next_id(id),
-        _ => id,
     }
 }

@@ -1,6 +1,6 @@
 //! What the definitions come to: each function's contract is a law, and its body does nothing.
 
-ghost use Rattle.std.specs.Prelude.{◌≡◌, ℕ, ◌+◌, ◌≤◌, List, Option, Ok, map, filter_map};
+ghost use Rattle.std.specs.Prelude.{◌≡◌, ℕ, ◌+◌, ◌≤◌, List, Option, Ok, map, filter, filter_map, count_by};
 ghost use Rattle.dots_history.specs.declared.config.Config.{Config};
 ghost use Rattle.dots_settings.specs.Settings.{SettingsValue, IsSettings};
 ghost use Rattle.dots_keys.specs.declared.request.ConfigBody.{ConfigBody};
@@ -8,8 +8,9 @@ ghost use Rattle.session_core.specs.declared.contact.Beat.{Beat};
 ghost use Rattle.session_core.specs.declared.contact.PeerContact.{PeerContact};
 ghost use Rattle.session_core.specs.Negotiating.{AreAccepted, negotiated};
 ghost use Rattle.session_core.specs.Contacts.{unheard};
-ghost use Rattle.session_core.specs.Beating.{Beating, IsNextBeat, due_beat, turned};
-ghost use Rattle.session_core.specs.Spacing.{Call, Run, AreSince, Tick};
+ghost use Rattle.session_core.specs.Beating.{Beating, has_lost, IsNextLost, has_due, due_beat, IsNextBeat};
+ghost use Rattle.session_core.specs.Places.{row_peer};
+ghost use Rattle.session_core.specs.Spacing.{Call, Run, AreSince, Tick, without_lost, with_beat};
 
 /// Each value of a configuration that is taken is in its range, the defaults too (RFC 9132, section 4.5.2).
 pub fn what_is_taken_is_in_range()
@@ -26,9 +27,20 @@ pub fn beats_keep_the_interval()
         → at + (late next.peer).0 ≤ later }
 {}
 
-/// Where heartbeats are asked for at one time until none is due, they are those of all peers that are due one, each once and in the
-/// order of the settings, and each peer has taken its turn.
+/// Where sessions that are lost are asked for at one time until there is none, and then heartbeats until none is due, the peers are all
+/// those whose sessions are lost, and the heartbeats are those of all others that are due one, each once and in the order of the
+/// settings. Then each peer has taken its turn: what was lost is forgotten, and what was due is sent.
 pub fn each_peer_has_its_turn()
-    ensures { (by : Beating) (now : ℕ) (given : List Beat) (old new : List PeerContact) → Tick by now old given new
-        → (given ≡ filter_map (due_beat by now) old) × (new ≡ map (turned by now) old) }
+    ensures { (by : Beating) (now : ℕ) (lost : List ℕ) (given : List Beat) (old new : List PeerContact) → Tick by now old lost given new
+        → (lost ≡ map row_peer (filter (has_lost by now) old)) × (given ≡ filter_map (due_beat by now) (map (without_lost by now) old))
+        × (new ≡ map (with_beat by now) (map (without_lost by now) old)) }
+{}
+
+/// Who asks at one time until there is none comes to an end: each session that is lost and is answered leaves one fewer, and so does each
+/// heartbeat.
+pub fn each_answer_leaves_fewer()
+    ensures lost { (by : Beating) (now : ℕ) (old new : List PeerContact) (peer : ℕ) → IsNextLost by now old new peer
+        → count_by (has_lost by now) old ≡ count_by (has_lost by now) new + 1 }
+    ensures beats { (by : Beating) (now : ℕ) (old new : List PeerContact) (beat : Beat) → IsNextBeat by now old new beat
+        → count_by (has_due by now) old ≡ count_by (has_due by now) new + 1 }
 {}

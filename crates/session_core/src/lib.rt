@@ -2,8 +2,9 @@
 //!
 //! - [`negotiate`] judges the values that a client asks for, and answers the configuration that they make.
 //! - [`Sessions`] keeps when each peer of the settings was heard and sent a heartbeat, and the Message IDs of the messages that begin
-//!   here. Contracts see it as a list with one row for each peer, in the order of the settings. What a peer's interval is comes from a
-//!   [`Configs`], a trait that whoever keeps the configurations implements.
+//!   here. At a tick its caller asks [`Sessions::next_lost`] until None, and then [`Sessions::next_beat`] until None. Contracts see it
+//!   as a list with one row for each peer, in the order of the settings. What a peer's interval is comes from a [`Configs`], a trait that
+//!   whoever keeps the configurations implements.
 //!
 //! Neither knows a clock or a socket: times are handed in, in seconds. Only [`Sessions::new`] takes memory.
 //!

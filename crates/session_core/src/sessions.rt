@@ -2,8 +2,8 @@
 
 ghost use Rattle.std.specs.Prelude.{◌≡◌, ◌<◌, length, map, position, slice_get, option_and_then, is_some, true, Some, IfOk, MatchOption};
 ghost use Rattle.std.specs.List.{list_any};
-ghost use Rattle.session_core.specs.Contacts.{is_of, unheard, row_heard, heard_from, number_in, number_of, row_numbered, numbered};
-ghost use Rattle.session_core.specs.Beating.{NoneBeats, IsNextBeat};
+ghost use Rattle.session_core.specs.Contacts.{is_of, unheard, row_heard, heard_from, row_begun, begun_with, number_in, number_of, row_numbered, numbered};
+ghost use Rattle.session_core.specs.Beating.{NoneLost, IsNextLost, NoneBeats, IsNextBeat};
 ghost use Rattle.session_core.specs.Places.{row_peer, AreFirsts, with_place};
 
 use crate::configs::Configs;
@@ -79,8 +79,19 @@ impl Sessions {
         }
     }
 
+    /// A session with this peer, which the settings have, begins at the time `now`, in seconds, as if a message of the peer was heard.
+    /// Where there is one nothing changes. Takes no memory.
+    pub fn begin(&mut self, peer: u32, now: u64)
+        requires { list_any (is_of peer) self.old ≡ true }
+        ensures { self.new ≡ begun_with peer now self.old }
+    {
+        if let Some(at) = self.place(peer) {
+            begin_at(&mut self.rows, at, now);
+        }
+    }
+
     /// The Message ID of the next message that begins here, to a peer with which a session has begun, be it forgotten or not. They rise
-    /// by one in 16 bits, from the time at which the peer was heard first.
+    /// by one in 16 bits, from the time at which the first session began.
     pub fn number(&mut self, peer: u32) -> u16
         requires { is_some (number_of peer self.old) ≡ true }
         ensures number { Some result ≡ number_of peer self.old }
@@ -92,10 +103,20 @@ impl Sessions {
         }
     }
 
-    /// The next heartbeat that is due at the time `now`, in seconds, in the order of the settings (RFC 9132, section 4.7); the peer was
-    /// sent it then. Where the interval of a peer isn't 0, its session is forgotten before if it was heard longer ago than the missed
-    /// heartbeats that are allowed take, and a heartbeat is due when the interval has passed since the last one. Sessions behind the
-    /// one that is answered wait for the next call, which is to be made until none is due.
+    /// Forgets the first session, in the order of the settings, that is lost at the time `now`, in seconds, and answers its peer; None
+    /// exactly where there is none (RFC 9132, section 4.7). A session is lost where the interval of the peer
+    /// isn't 0 and the peer was heard longer ago than the missed heartbeats that are allowed take. Takes no memory.
+    pub fn next_lost<C: Configs>(&mut self, configs: &C, now: u64) -> Option<u32>
+        ensures { MatchOption result (NoneLost (C.beats configs.now) now self.old self.new)
+            (λ peer. IsNextLost (C.beats configs.now) now self.old self.new peer) }
+    {
+        lost_among(&mut self.rows, configs, now)
+    }
+
+    /// The heartbeat of the first peer, in the order of the settings, that is due one at the time `now`, in seconds; it counts as sent
+    /// (RFC 9132, section 4.7). None exactly where none is due. One is due where the interval of the peer isn't 0 and has passed since
+    /// the last heartbeat, or since the session began. No session is forgotten, so [`Sessions::next_lost`] is to be asked until None
+    /// before. Takes no memory.
     pub fn next_beat<C: Configs>(&mut self, configs: &C, now: u64) -> Option<Beat>
         ensures { MatchOption result (NoneBeats (C.beats configs.now) now self.old self.new)
             (λ beat. IsNextBeat (C.beats configs.now) now self.old self.new beat) }
@@ -136,6 +157,14 @@ fn hear_at(rows: &mut Vec<PeerContact>, at: usize, now: u64)
     rows[at].hear(now);
 }
 
+/// A session with the peer at this place begins.
+fn begin_at(rows: &mut Vec<PeerContact>, at: usize, now: u64)
+    requires { at < length rows.old.items }
+    ensures { rows.new.items ≡ with_place at (row_begun now) rows.old.items }
+{
+    rows[at].begin(now);
+}
+
 /// The Message ID of the next message to the peer at this place; the one behind it is the next then.
 fn number_at(rows: &mut Vec<PeerContact>, at: usize) -> u16
     requires at { at < length rows.old.items }
@@ -144,6 +173,26 @@ fn number_at(rows: &mut Vec<PeerContact>, at: usize) -> u16
     ensures after { rows.new.items ≡ with_place at row_numbered rows.old.items }
 {
     rows[at].take_number()
+}
+
+fn lost_among<C: Configs>(rows: &mut Vec<PeerContact>, configs: &C, now: u64) -> Option<u32>
+    ensures { MatchOption result (NoneLost (C.beats configs.now) now rows.old.items rows.new.items)
+        (λ peer. IsNextLost (C.beats configs.now) now rows.old.items rows.new.items peer) }
+{
+    next_lost(rows.as_mut_slice(), configs, now)
+}
+
+fn next_lost<C: Configs>(rows: &mut [PeerContact], configs: &C, now: u64) -> Option<u32>
+    ensures { MatchOption result (NoneLost (C.beats configs.now) now rows.old rows.new)
+        (λ peer. IsNextLost (C.beats configs.now) now rows.old rows.new peer) }
+{
+    for row in rows.iter_mut() {
+        if row.has_lost(configs, now) {
+            row.forget();
+            return Some(row.peer);
+        }
+    }
+    None
 }
 
 fn beat_among<C: Configs>(rows: &mut Vec<PeerContact>, configs: &C, now: u64) -> Option<Beat>
@@ -158,8 +207,8 @@ fn next_beat<C: Configs>(rows: &mut [PeerContact], configs: &C, now: u64) -> Opt
         (λ beat. IsNextBeat (C.beats configs.now) now rows.old rows.new beat) }
 {
     for row in rows.iter_mut() {
-        let (interval, missing) = configs.beat(row.peer);
-        if let Some(beat) = row.turn(interval, missing, now) {
+        if let Some(beat) = row.due_beat(configs, now) {
+            row.send_beat(now);
             return Some(beat);
         }
     }

@@ -12,11 +12,15 @@ use std::alloc::Global;
 const SETTINGS: &[u8] =
     b"domain net1\ndomain net2\nprefix net1 192.0.2.0/24\nclient 2 net1\ngateway 3\nclient 0 net2\n";
 
+/// The settings have so many peers, so at most so many sessions are lost.
+const PEERS: usize = 3;
+
 /// Steps, each with what it shows behind a colon where it shows something.
 ///
-/// A message of a peer is `heard` at a time. A `number` is taken for a message to a peer, and its Message ID is shown. The heartbeats of
-/// clients go `by` an interval and a number from now on; at first these are 30 and 15. The `next` heartbeat is asked for at a time: its
-/// peer, its Message ID, and whether the peer was heard are shown.
+/// A message of a peer is `heard` at a time, or a session with it is to `begin`. A `number` is taken for a message to a peer, and its
+/// Message ID is shown. The heartbeats of clients go `by` an interval and a number from now on; at first these are 30 and 15. The first
+/// session that is `lost` at a time is asked for, and its peer is shown. The first heartbeat that is `due` at a time is asked for: its
+/// peer, its Message ID, and whether the peer was heard are shown. The `next` one is that behind all sessions that are lost.
 const BEATS: &str = "\
 # Peer 0 is heard at 1000, and by the defaults is sent a heartbeat each 30 seconds, until it wasn't heard for more than 450.
 next 1000; heard 0 1000; next 1000; next 1029; next 1030: 0 1000 heard; next 1030; next 1059; next 1060: 0 1001 silent; heard 0 1070; next 1089; next 1095: 0 1002 heard; next 1124; next 1520: 0 1003 silent; next 1550; next 9000
@@ -30,7 +34,14 @@ by 0 3; heard 0 1000; next 1000; next 9000; by 9000 1; next 9999; next 10000: 0 
 # At one time heartbeats are sent in the order of the settings, each peer by its own interval.
 heard 0 1000; heard 3 1001; heard 2 1002; next 1016: 3 1001 heard; next 1016; next 1032: 2 1002 heard; next 1032: 3 1002 silent; next 1032: 0 1000 silent; next 1032
 # Message IDs begin with the time of the first hearing, in 16 bits, and rise by one.
-number 0; heard 0 65535; number 0: 65535; number 0: 0; heard 0 70000; number 0: 1; heard 2 65541; number 2: 5; heard 1 1000: stranger; number 1";
+number 0; heard 0 65535; number 0: 65535; number 0: 0; heard 0 70000; number 0: 1; heard 2 65541; number 2: 5; heard 1 1000: stranger; number 1
+# A session of 3 heartbeats of 15 seconds is lost after 45, once. Another begins: its heartbeats count from then, its Message IDs go on,
+# and beginning it again changes nothing. One that begins without a message gives Message IDs their first.
+heard 3 1000; lost 1045; lost 1046: 3; lost 1046; due 1060; begin 3 1050; begin 3 1060; due 1064; due 1065: 3 1000 heard; begin 3 1066; due 1080: 3 1001 silent; lost 1095; lost 1096: 3; begin 0 2000; number 0: 2000; due 2030: 0 2001 heard; begin 1 1000: stranger
+# A session that goes on is neither begun anew nor heard: what is due stays due.
+heard 3 1000; begin 3 1014; due 1015: 3 1000 heard; begin 3 1044; lost 1046: 3
+# Sessions that are lost come in the order of the settings, and a heartbeat alone forgets none. Without an interval none is lost.
+by 15 3; heard 0 1000; heard 3 1000; heard 2 1000; due 1046: 2 1000 silent; lost 1046: 2; lost 1046: 3; lost 1046: 0; lost 1046; due 9000; by 0 3; heard 0 1000; lost 9000; by 15 3; lost 9000: 0";
 
 fn hear(alloc: Global, sessions: &mut Sessions, step: &mut Row<'_>) -> Option<String> {
     let peer = step.number::<u32>(" ");
@@ -42,6 +53,29 @@ fn hear(alloc: Global, sessions: &mut Sessions, step: &mut Row<'_>) -> Option<St
     String::from_str(alloc, "stranger").ok()
 }
 
+fn begin(alloc: Global, sessions: &mut Sessions, step: &mut Row<'_>) -> Option<String> {
+    let peer = step.number::<u32>(" ");
+    let now = step.number::<u64>(" ");
+    if sessions.holds(peer) {
+        sessions.begin(peer, now);
+        return Some(String::new(alloc));
+    }
+    String::from_str(alloc, "stranger").ok()
+}
+
+fn lost(
+    alloc: Global,
+    sessions: &mut Sessions,
+    configs: &PlainConfigs,
+    step: &mut Row<'_>,
+) -> Option<String> {
+    let now = step.number::<u64>(" ");
+    match sessions.next_lost(configs, now) {
+        Some(peer) => format!(in alloc; "{peer}").ok(),
+        None => Some(String::new(alloc)),
+    }
+}
+
 fn number(alloc: Global, sessions: &mut Sessions, step: &mut Row<'_>) -> Option<String> {
     let peer = step.number::<u32>(" ");
     if sessions.has_begun(peer) {
@@ -51,13 +85,25 @@ fn number(alloc: Global, sessions: &mut Sessions, step: &mut Row<'_>) -> Option<
     Some(String::new(alloc))
 }
 
-fn beat(
+fn next(
     alloc: Global,
     sessions: &mut Sessions,
     configs: &PlainConfigs,
     step: &mut Row<'_>,
 ) -> Option<String> {
     let now = step.number::<u64>(" ");
+    for _peer in 0..PEERS {
+        let _lost = sessions.next_lost(configs, now);
+    }
+    beat(alloc, sessions, configs, now)
+}
+
+fn beat(
+    alloc: Global,
+    sessions: &mut Sessions,
+    configs: &PlainConfigs,
+    now: u64,
+) -> Option<String> {
     match sessions.next_beat(configs, now) {
         Some(beat) => {
             let word = if beat.heard { "heard" } else { "silent" };
@@ -77,7 +123,13 @@ fn take(
     match step.text(" ") {
         "heard" => hear(alloc, sessions, step),
         "number" => number(alloc, sessions, step),
-        "next" => beat(alloc, sessions, configs, step),
+        "begin" => begin(alloc, sessions, step),
+        "lost" => lost(alloc, sessions, configs, step),
+        "due" => {
+            let now = step.number::<u64>(" ");
+            beat(alloc, sessions, configs, now)
+        }
+        "next" => next(alloc, sessions, configs, step),
         "by" => {
             configs.interval = step.number::<u64>(" ");
             configs.missing = step.number::<u64>(" ");

@@ -1,5 +1,5 @@
-use Rattle.std.proofs.Common.{map, sym, subst}
-use Rattle.session_core.specs.Places.{row_peer, AreFirsts}
+use Rattle.std.proofs.Common.{sym, subst}
+use Rattle.session_core.specs.Places.{AreFirsts}
 use Rattle.session_core.proofs.Placing.{peers_beat}
 use Rattle.session_core.proofs.sessions.Sessions.next_beat.Goals as goal
 
