@@ -47,7 +47,7 @@ fn are_digits(text: &[u8]) -> bool
     text.iter().all(|byte| byte.is_ascii_digit())
 }
 
-/// Whether the text grants something.
+/// Whether `yes` or `no` is said; None where the text is neither.
 pub fn granted_in(text: &[u8]) -> Option<bool>
     ensures { result ≡ granted_in text.now }
 {
