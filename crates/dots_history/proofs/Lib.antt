@@ -7,3 +7,4 @@ pub mod Tracks
 pub mod Placing
 pub mod CalmPlaces
 pub mod NamedPlaces
+pub mod Rising

@@ -42,6 +42,6 @@ pub use put::{Put, Target, TargetList};
 pub use relations::{ends, is_same_client, is_signal, put_of, signals, withdraws};
 pub use reply::{is_recent, is_remembered, remembered};
 pub use rows::{LiveRow, is_active, is_mitigating, list_rows, scrub_rows};
-pub use slots::SlotList;
+pub use slots::{SlotList, number_in};
 pub use status::Status;
 pub use views::{Mitigation, held, mitigations, recent, seconds_left};

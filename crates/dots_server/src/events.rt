@@ -15,10 +15,10 @@ ghost use Rattle.dots_server.specs.Standing.{StandsFor, IsKept};
 ghost use Rattle.dots_server.specs.Living.{Came, StopsFor, stop_of};
 ghost use Rattle.dots_server.specs.Taking.{IsTaken, Took, StoppedAt};
 
-use crate::server::Server;
 use dots_disk::Host;
 use dots_host::{Got, MAX_EVENT_BYTES, What};
 use dots_machine::Stop;
+use dots_server::Server;
 
 /// The most events of a run.
 const MAX_EVENTS: u64 = 1 << 40;
