@@ -3,7 +3,6 @@ pub mod Firsts
 pub mod Lasts
 pub mod Noting
 pub mod Places
-pub mod Rising
 pub mod Standing
 pub mod Times
 pub mod Turning

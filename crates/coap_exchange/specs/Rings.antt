@@ -1,8 +1,9 @@
 -- What is remembered of accepted messages: for each peer and domain the last so many, in the order of acceptance.
-use Rattle.std.specs.Prelude.{ℕ, Bool, ◌==◌, if◌then◌else◌, List, [], ◌∷◌, map, filter, Option, unwrap_or, option_map, position}
+use Rattle.std.specs.Prelude.{ℕ, Bool, ◌==◌, if◌then◌else◌, List, [], ◌∷◌, map, filter, Option, unwrap_or, option_map}
 use Rattle.std.specs.List.{find, flat_map}
 use Rattle.dots_history.specs.Entries.{may_repeat}
 use Rattle.dots_history.specs.Places.{last_of}
+use Rattle.dots_history.specs.Slots.{number_in}
 use Rattle.dots_laws.specs.Tables.{pushed}
 use Rattle.coap_exchange.specs.declared.pair.Pair.{Pair}
 use Rattle.coap_exchange.specs.declared.message.Message.{Message}
@@ -65,10 +66,7 @@ slots_of messages = map slot_of messages
 abbrev pub all_slots : List RingValue → List ℕ
 all_slots rings = flat_map (λ ring. slots_of ring.messages) rings
 
--- the new number of a slot: its place among those that are kept
-abbrev pub number_in : List ℕ → ℕ → ℕ
-number_in keep slot = unwrap_or (position (λ other. other == slot) keep) slot
-
+-- a slot becomes its place among those that are kept
 abbrev pub renumbered : List ℕ → Message → Message
 renumbered keep message = record { key = message.key; time = message.time; slot = number_in keep message.slot; reply = message.reply }
 

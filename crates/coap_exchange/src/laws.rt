@@ -6,14 +6,14 @@ ghost use Rattle.dots_history.specs.declared.entry.Entry.{Entry};
 ghost use Rattle.dots_history.specs.Entries.{is_signal};
 ghost use Rattle.dots_history.specs.Histories.{remembered};
 ghost use Rattle.dots_history.specs.Places.{lasts};
-ghost use Rattle.dots_history.specs.Slots.{Rises};
+ghost use Rattle.dots_history.specs.Slots.{Rises, number_in};
 ghost use Rattle.coap_exchange.specs.declared.pair.Pair.{Pair};
 ghost use Rattle.coap_exchange.specs.Noting.{Call, after_call, after_calls, noted_by, all_noted, AllHave, message_of, AllRemember};
 ghost use Rattle.coap_exchange.specs.declared.message.Message.{Message};
 ghost use Rattle.coap_exchange.specs.Pairs.{is_pair};
 ghost use Rattle.coap_exchange.specs.Resending.{GaveUp, answer_to_timeout};
 ghost use Rattle.coap_exchange.specs.Sent.{given, repeated, due_at, timeout_of};
-ghost use Rattle.coap_exchange.specs.Rings.{RingValue, empty_ring, ring_of, messages_of, reply_to, noted, number_in, ring_renumbered};
+ghost use Rattle.coap_exchange.specs.Rings.{RingValue, empty_ring, ring_of, messages_of, reply_to, noted, ring_renumbered};
 
 /// After any list of calls what is remembered of a peer and domain is the last so many of what was noted of them, with the slots as
 /// they are numbered last; and each call keeps it so.

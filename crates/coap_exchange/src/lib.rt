@@ -25,6 +25,6 @@ pub use message::Message;
 pub use pair::Pair;
 pub use pairs::Pairs;
 pub use remembered::Remembered;
-pub use ring::{Ring, number_in};
+pub use ring::Ring;
 pub use sender::{Resend, SendFault, Sender, Turn};
 pub use sent::Sent;

@@ -2,14 +2,14 @@
 
 ghost use Rattle.std.specs.Prelude.{◌≡◌, ◌≤◌, map, filter, length, option_map, option_copied, vec_capacity, IfOk};
 ghost use Rattle.dots_history.specs.Places.{last_of};
-ghost use Rattle.dots_history.specs.Slots.{Rises};
+ghost use Rattle.dots_history.specs.Slots.{Rises, number_in};
 ghost use Rattle.dots_laws.specs.KeptPlaces.{union};
 ghost use Rattle.dots_laws.specs.Tables.{pushed};
-ghost use Rattle.coap_exchange.specs.Rings.{RingValue, empty_ring, grown, answers, reply_to, slot_of, slots_of, number_in, renumbered, ring_renumbered};
+ghost use Rattle.coap_exchange.specs.Rings.{RingValue, empty_ring, grown, answers, reply_to, slot_of, slots_of, renumbered, ring_renumbered};
 
 use crate::message::Message;
 use crate::pair::Pair;
-use dots_history::{SlotList, is_remembered};
+use dots_history::{SlotList, is_remembered, number_in};
 use dots_lists::NoMemory;
 use std::alloc::Global;
 use std::marker::Model;
@@ -140,15 +140,4 @@ fn renumber_one(message: &mut Message, keep: &[u32])
     ensures { message.new ≡ renumbered keep.now message.old }
 {
     message.slot = number_in(keep, message.slot);
-}
-
-/// The place of a slot in the list, which is its new number; the slot itself where it isn't there.
-pub fn number_in(keep: &[u32], slot: u32) -> u32
-    requires { Rises keep.now }
-    ensures { result ≡ number_in keep.now slot }
-{
-    match keep.binary_search(&slot) {
-        Ok(place) => place as u32,
-        Err(_) => slot,
-    }
 }

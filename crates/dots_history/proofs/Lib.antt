@@ -6,3 +6,4 @@ pub mod Cuts
 pub mod Placing
 pub mod CalmPlaces
 pub mod NamedPlaces
+pub mod Rising

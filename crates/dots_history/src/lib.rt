@@ -36,6 +36,6 @@ pub use overlap::{meets_some, overlaps, share_name, some_target_meets};
 pub use put::{Put, Target, TargetList};
 pub use relations::{ends, is_same_client, is_signal, put_of, withdrawn_mid};
 pub use reply::{is_remembered, remembered};
-pub use slots::SlotList;
+pub use slots::{SlotList, number_in};
 pub use status::Status;
 pub use views::{Mitigation, held, mitigations};

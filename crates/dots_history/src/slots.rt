@@ -1,7 +1,7 @@
 //! Lists of slots.
 
 ghost use Rattle.std.specs.Prelude.{◌≡◌, ◌≤◌, [], length, IfOk, IfSome, MatchOption, insert};
-ghost use Rattle.dots_history.specs.Slots.{placed};
+ghost use Rattle.dots_history.specs.Slots.{Rises, placed, number_in};
 
 use dots_lists::NoMemory;
 use std::alloc::Global;
@@ -74,4 +74,15 @@ fn place_of(slots: &[u32], slot: u32) -> Option<usize>
         }
     }
     Some(slots.len())
+}
+
+/// The place of a slot in the list, which is its new number; the slot itself where it isn't there.
+pub fn number_in(keep: &[u32], slot: u32) -> u32
+    requires { Rises keep.now }
+    ensures { result ≡ number_in keep.now slot }
+{
+    match keep.binary_search(&slot) {
+        Ok(place) => place as u32,
+        Err(_) => slot,
+    }
 }

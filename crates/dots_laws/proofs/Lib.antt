@@ -33,3 +33,4 @@ pub mod CalmCuts
 pub mod Isolating
 pub mod Containing
 pub mod KeptPlaces
+pub mod Unions

@@ -8,3 +8,4 @@ pub mod Turns
 pub mod Fits
 pub mod Containing
 pub mod KeptPlaces
+pub mod Filed

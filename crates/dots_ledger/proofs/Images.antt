@@ -7,9 +7,9 @@ use Rattle.dots_disk.specs.Becoming.{Leaves}
 use Rattle.dots_history.specs.Keeping.{kept}
 use Rattle.dots_history.specs.Slots.{Rises}
 use Rattle.dots_laws.proofs.CalmCuts.{calm_more, named_is_calm}
-use Rattle.mitigation_slots.specs.Slots.{Filed, slot_of}
-use Rattle.kept_slots.specs.Kept.{filed, named_slots}
-use Rattle.kept_slots.proofs.Numbering.{filed_rise}
+use Rattle.dots_laws.specs.Filed.{Filed, slot_of}
+use Rattle.dots_registry.specs.Kept.{filed, named_slots}
+use Rattle.dots_registry.proofs.Numbering.{filed_rise}
 use Rattle.dots_registry.specs.Standing.{time_of, number_remembered}
 use Rattle.dots_registry.specs.Filed.{StandsIn}
 use Rattle.slot_store.proofs.Steps.{begins, leaves_as}

@@ -17,9 +17,9 @@ use Rattle.dots_laws.specs.Fits.{last_or, last_time, fits, joins, is_calm, has_o
 use Rattle.dots_laws.proofs.CalmCuts.{calm_more, calm_parts}
 use Rattle.dots_laws.proofs.Composing.{kept_refl}
 use Rattle.entry_records.specs.Layout.{record_bytes}
-use Rattle.kept_slots.specs.Kept.{filed}
-use Rattle.kept_slots.proofs.Numbering.{filed_entries, filed_more}
-use Rattle.mitigation_slots.specs.Slots.{Filed}
+use Rattle.dots_registry.specs.Kept.{filed}
+use Rattle.dots_registry.proofs.Numbering.{filed_entries, filed_more}
+use Rattle.dots_laws.specs.Filed.{Filed}
 use Rattle.slot_store.specs.Layout.{place_of, needed_of}
 use Rattle.slot_store.proofs.Steps.{rests_as}
 use Rattle.slot_store.specs.Standing.{JournalValue}

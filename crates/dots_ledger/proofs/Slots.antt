@@ -6,10 +6,10 @@ use Rattle.dots_history.specs.declared.entry.Entry.{Entry}
 use Rattle.dots_history.specs.Histories.{Mitigation}
 use Rattle.dots_history.specs.Keeping.{names, pass, kept}
 use Rattle.dots_laws.proofs.Keeping.{Keeper}
-use Rattle.mitigation_slots.specs.Slots.{Filed, entry_of, slot_of}
-use Rattle.kept_slots.specs.Kept.{filed_kept_by, filed_kept, named_slots, filed_from, filed}
-use Rattle.kept_slots.proofs.Staying.{by_first, kept_entries}
-use Rattle.kept_slots.proofs.Numbering.{named_are, filed_entries}
+use Rattle.dots_laws.specs.Filed.{Filed, entry_of, slot_of}
+use Rattle.dots_registry.specs.Kept.{filed_kept_by, filed_kept, named_slots, filed_from, filed}
+use Rattle.dots_registry.proofs.Staying.{by_first, kept_entries}
+use Rattle.dots_registry.proofs.Numbering.{named_are, filed_entries}
 use Rattle.slot_store.specs.Copying.{AreSlots}
 use Rattle.slot_journal.specs.Held.{entries_at}
 

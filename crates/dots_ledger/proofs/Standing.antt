@@ -18,9 +18,9 @@ use Rattle.held_resources.specs.Tables.{Sizes, sizes_of}
 use Rattle.coap_exchange.specs.declared.pair.Pair.{Pair}
 use Rattle.coap_exchange.specs.Pairs.{pairs_of}
 use Rattle.coap_exchange.specs.Rings.{RingValue}
-use Rattle.mitigation_slots.specs.Slots.{Filed, entry_of}
-use Rattle.kept_slots.specs.Kept.{filed}
-use Rattle.kept_slots.proofs.Numbering.{filed_entries, filed_more}
+use Rattle.dots_laws.specs.Filed.{Filed, entry_of}
+use Rattle.dots_registry.specs.Kept.{filed}
+use Rattle.dots_registry.proofs.Numbering.{filed_entries, filed_more}
 use Rattle.dots_registry.specs.Standing.{RegistryValue, IsOf, time_of, limits_of, number_remembered, pair_of}
 use Rattle.dots_registry.specs.Standing as registry
 use Rattle.dots_registry.specs.Filed.{StandsIn, actor_of, most_kept}

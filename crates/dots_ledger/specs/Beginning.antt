@@ -7,7 +7,7 @@ use Rattle.dots_history.specs.declared.entry.Entry.{Entry}
 use Rattle.dots_history.specs.Histories.{mitigations}
 use Rattle.dots_laws.specs.Calm.{came_rightly}
 use Rattle.dots_laws.specs.Fits.{last_time, joins, is_calm, has_one_peer}
-use Rattle.kept_slots.specs.Kept.{filed}
+use Rattle.dots_registry.specs.Kept.{filed}
 use Rattle.dots_registry.specs.Standing.{RegistryValue, IsOf, time_of}
 use Rattle.dots_registry.specs.Filed.{StandsIn}
 use Rattle.dots_registry.specs.Fitting.{fits_now}

@@ -5,7 +5,7 @@ use Rattle.dots_history.specs.declared.entry.Entry.{Entry}
 use Rattle.dots_history.specs.Bounds.{within_bounds}
 use Rattle.dots_history.specs.Histories.{Kept}
 use Rattle.dots_laws.specs.Fits.{joins, is_calm}
-use Rattle.kept_slots.specs.Kept.{filed}
+use Rattle.dots_registry.specs.Kept.{filed}
 use Rattle.dots_registry.specs.Standing.{RegistryValue, IsOf, time_of, number_remembered}
 use Rattle.dots_registry.specs.Standing as registry
 use Rattle.dots_registry.specs.Filed.{StandsIn, most_kept}

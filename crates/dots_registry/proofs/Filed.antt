@@ -1,9 +1,9 @@
 -- What a registry has of slots goes on with it.
 use Rattle.std.proofs.Common.{◌≡◌, ℕ, zero, suc, ◌+◌, ◌*◌, ◌<◌, ◌≤◌, Bool, true, false, cond, not, ◌&&◌, ◌||◌, List, [], ◌∷◌, ◌++◌, length, map, filter, Option, Some, None, inl, inr, refl, sym, ap, subst, ◌∙◌, le_refl, le_trans, arith}
-use Rattle.std.specs.Prelude.{◌==◌, nat_lt, nat_le, slice_get, option_map, unwrap_or}
+use Rattle.std.specs.Prelude.{◌==◌, nat_lt, nat_le, slice_get, option_map, option_to_list, unwrap_or}
 use Rattle.std.specs.List.{list_any, list_all}
 use Rattle.std.proofs.lemmas.Bool.{cond_both, cases_Bool, and_from, and_parts, or_left, or_right, or_cases, eqb-true, eq-eqb, ltb-true, ltb-false, both_ways, false≢true}
-use Rattle.std.proofs.lemmas.List.{map-append, length-map}
+use Rattle.std.proofs.lemmas.List.{map-append, length-map, append-nil}
 use Rattle.std.proofs.lemmas.List.Elements.{filter-append}
 use Rattle.std.proofs.lemmas.List.Folds.{list_all-append}
 use Rattle.std.proofs.lemmas.Option.{none-some, slice_get-map}
@@ -11,6 +11,8 @@ use Rattle.dots_lists.specs.Name.{is_name}
 use Rattle.dots_settings.specs.Settings.{SettingsValue}
 use Rattle.dots_settings.specs.declared.limits.Limits.{Limits}
 use Rattle.dots_settings.specs.declared.peer.PeerRow.{PeerRow}
+use Rattle.dots_history.specs.declared.change.Change.{Change}
+use Rattle.dots_history.specs.declared.change.Change.TheVariants as change
 use Rattle.dots_history.specs.declared.entry.Entry.{Entry}
 use Rattle.dots_history.specs.Bounds.{within_bounds, change_within}
 use Rattle.dots_history.specs.Entries.{same_client, is_signal, signals, is_configuration}
@@ -18,6 +20,8 @@ use Rattle.dots_history.specs.Histories.{Mitigation, tally, mitigations, held, a
 use Rattle.dots_history.specs.Keeping.{kept}
 use Rattle.dots_laws.specs.Capacities.{KeepsCapacities, belongs, has_client, is_alias, most_named}
 use Rattle.dots_laws.specs.Calm.{numbers_from}
+use Rattle.dots_laws.specs.Filed.{Filed, entry_of}
+use Rattle.dots_laws.specs.Fits.{is_of_mitigations}
 use Rattle.dots_laws.specs.Fits as laws
 use Rattle.dots_laws.specs.Tables.{bare, bare_mitigation}
 use Rattle.dots_laws.proofs.Apart.{apart}
@@ -25,11 +29,18 @@ use Rattle.dots_laws.proofs.Bare.{bare_mitigations}
 use Rattle.dots_laws.proofs.Bounding.{named_few}
 use Rattle.dots_laws.proofs.GoingOn.{held_push}
 use Rattle.dots_laws.proofs.Joining.{fits_so, same_by, tally_held, tally_same}
-use Rattle.live_mitigations.specs.Rows.{update}
-use Rattle.live_mitigations.specs.Standing.{LiveValue, SameButRows, kept_of}
+use Rattle.live_mitigations.specs.Standing.{LiveValue, SameButRows, SlotsAre, SlotsCome, kept_of, puts}
 use Rattle.live_mitigations.specs.Standing as lives
+use Rattle.live_mitigations.proofs.Bared.{bared, bared_entries, are_bared, bared_are}
+use Rattle.live_mitigations.proofs.SlotsStanding.{come_later}
+use Rattle.held_resources.specs.declared.row.HeldSlot.{HeldSlot}
+use Rattle.held_resources.specs.Rows.{HeldRows, written_of, row_with, rows_of, rows_with, is_undone, rows_more as rows_more_of}
+use Rattle.held_resources.specs.Sizes.{most_held}
 use Rattle.held_resources.specs.Tables.{Tables, Sizes, sizes_of, is_known}
+use Rattle.held_resources.proofs.Going.{rows_more, none_undone}
 use Rattle.held_resources.proofs.Lawful.{known_of}
+use Rattle.held_resources.proofs.Names.{is_short}
+use Rattle.held_resources.proofs.Sizing.{most_of, most_is}
 use Rattle.held_resources.proofs.Standing.{stands_with}
 use Rattle.coap_exchange.specs.Pairs.{pairs_of}
 use Rattle.coap_exchange.specs.Rings.{RingValue, empty_ring, is_ring_of, noted}
@@ -37,25 +48,14 @@ use Rattle.coap_exchange.specs.Noting.{message_of}
 use Rattle.installed_filters.specs.Filters.{FiltersValue}
 use Rattle.installed_filters.specs.Standing.{KeepsLimits}
 use Rattle.installed_filters.proofs.Limits.{limits_with}
-use Rattle.mitigation_slots.specs.Slots.{Filed, entry_of, live_slots, slots_left, slots_first}
-use Rattle.mitigation_slots.specs.Tables.{SlotTable, AreEmpty, slots_of, slots_or_none, aged, grown, table_renumbered}
-use Rattle.mitigation_slots.specs.Standing.{SlotsAre, SlotsCome, filed_alone}
-use Rattle.mitigation_slots.proofs.Going.{slots_add, as_many}
-use Rattle.mitigation_slots.proofs.Standing.{alone_entries, come_later, are_with, are_outside, are_none}
-use Rattle.held_slots.specs.Rows.{rows_of, rows_with}
-use Rattle.held_slots.proofs.Going.{rows_more}
-use Rattle.held_slots.proofs.Names.{is_short}
-use Rattle.kept_slots.specs.Kept.{KeptValue, RingsAre, expired, taken, taken_outside}
-use Rattle.kept_slots.specs.Sizes.{most_held}
-use Rattle.kept_slots.proofs.Few.{rows_few}
-use Rattle.kept_slots.proofs.Going.{from_ring, rings_start, rings_noted, rings_other, last_more}
-use Rattle.kept_slots.proofs.Sizing.{most_of, most_is}
-use Rattle.dots_registry.specs.Standing.{RegistryValue, StandsFor, IsOf, time_of, domains_of, limits_of, number_remembered, has_ring, rings_with}
+use Rattle.dots_registry.specs.Kept.{RingsAre}
+use Rattle.dots_registry.specs.Standing.{RegistryValue, StandsFor, IsOf, time_of, domains_of, limits_of, number_remembered, has_ring, rings_with, silent}
 use Rattle.dots_registry.specs.Fitting.{FitsIn, fits_now, fits_then}
-use Rattle.dots_registry.specs.Filed.{StandsIn, HasSlots, IsFiled, SameSlots, CanTake, AreBeside, taken_in, capacities_in, actor_of, most_kept, is_alias_of, room_of}
-use Rattle.dots_registry.proofs.Standing.{joined, fits_within, fits_later, fits_ring, own_of, accepted}
+use Rattle.dots_registry.specs.Filed.{StandsIn, HasSlots, IsFiled, capacities_in, actor_of, most_kept, is_alias_of}
+use Rattle.dots_registry.proofs.Standing.{joined, fits_within, fits_later, fits_ring, own_of, accepted, puts_kind}
 use Rattle.dots_registry.proofs.Conditions.{same_fits}
-use Rattle.dots_registry.proofs.Bared.{bared, bared_entries, are_bared, bared_are, slots_left_bared, slots_first_bared, update_bared}
+use Rattle.dots_registry.proofs.Few.{rows_few}
+use Rattle.dots_registry.proofs.Going.{from_ring, rings_start, rings_noted, rings_other, last_more}
 
 -- ---- room
 
@@ -74,89 +74,41 @@ most_same old new limits sizes =
     ∙ sym (most_of (capacities_in old) old.held.sizes.domains refl)
 
 pub slots_still : (old new : RegistryValue) → domains_of new ≡ domains_of old → limits_of new ≡ limits_of old → new.held.sizes ≡ old.held.sizes
-    → map room_of new.slots.tables ≡ map room_of old.slots.tables → new.slots.rows.room ≡ old.slots.rows.room → HasSlots old → HasSlots new
-slots_still old new domains limits sizes rooms room has = record {
-  number = sym (length-map new.slots.tables room_of) ∙ ap length rooms ∙ length-map old.slots.tables room_of ∙ has.number ∙ sym domains;
+    → new.held.slots.room ≡ old.held.slots.room → HasSlots old → HasSlots new
+slots_still old new domains limits sizes room has = record {
   domains = ap (λ (s : Sizes). s.domains) sizes ∙ has.domains ∙ sym domains;
-  rooms = λ domain r there.
-      has.rooms domain r (ap (λ (rs : List ℕ). slice_get rs domain) (sym rooms) ∙ there) ∙ ap (λ (l : Limits). l.domain_mitigations) (sym limits);
   held = room ∙ has.held ∙ sym (most_same old new limits sizes);
 }
 
-rooms_updated : (f : SlotTable → SlotTable) (place : ℕ) (tables : List SlotTable) → ((table : SlotTable) → (f table).room ≡ table.room)
-    → map room_of (update f place tables) ≡ map room_of tables
-rooms_updated f place [] same = refl
-rooms_updated f zero (table ∷ tables) same = ap (λ (r : ℕ). r ∷ map room_of tables) (same table)
-rooms_updated f (suc place) (table ∷ tables) same = ap (λ (rs : List ℕ). table.room ∷ rs) (rooms_updated f place tables same)
-
-pub rooms_expired : (domain now : ℕ) (ms : List Mitigation) (slots : KeptValue) → map room_of (expired domain now ms slots).tables ≡ map room_of slots.tables
-rooms_expired domain now ms slots = rooms_updated (aged now ms) domain slots.tables (λ table. refl)
-
-rooms_taken : (live : LiveValue) (x : Filed) (slots : KeptValue) → map room_of (taken_in live x slots).tables ≡ map room_of slots.tables
-rooms_taken live x slots =
-    cond_both
-    (nat_lt x.entry.domain live.domains)
-    (taken x (kept_of live x.entry.domain) slots)
-    (taken_outside x slots)
-    (λ (s : KeptValue). map room_of s.tables ≡ map room_of slots.tables)
-    (λ is. rooms_updated (grown x (kept_of live x.entry.domain)) x.entry.domain slots.tables (λ table. refl))
-    (λ out. refl)
-
-room_taken : (live : LiveValue) (x : Filed) (slots : KeptValue) → (taken_in live x slots).rows.room ≡ slots.rows.room
-room_taken live x slots =
-    cond_both
-    (nat_lt x.entry.domain live.domains)
-    (taken x (kept_of live x.entry.domain) slots)
-    (taken_outside x slots)
-    (λ (s : KeptValue). s.rows.room ≡ slots.rows.room)
-    (λ is. refl)
-    (λ out. refl)
-
-pub rooms_moved : (keep : List ℕ) (tables : List SlotTable) → map room_of (map (table_renumbered keep) tables) ≡ map room_of tables
-rooms_moved keep [] = refl
-rooms_moved keep (table ∷ tables) = ap (λ (rs : List ℕ). table.room ∷ rs) (rooms_moved keep tables)
-
 -- ---- the first
 
-pub filed_first : (live : LiveValue) (held : Tables) (rings : List RingValue) (filters : FiltersValue) (slots : KeptValue) (settings : SettingsValue) (number room : ℕ)
-    → live.limits ≡ settings.limits → rings ≡ map (empty_ring settings.limits.remembered) (pairs_of settings) → AreEmpty number room slots.tables
-    → slots.rows.rows ≡ [] → slots.last ≡ None → StandsFor (joined live held rings filters slots) [] → StandsIn (joined live held rings filters slots) []
-filed_first live held rings filters slots settings number room limits made empty none last stands = record {
+pub filed_first : (live : LiveValue) (held : Tables) (rings : List RingValue) (filters : FiltersValue) (settings : SettingsValue) (room : ℕ)
+    → live.limits ≡ settings.limits → live.time ≡ 0 → rings ≡ map (empty_ring settings.limits.remembered) (pairs_of settings) → SlotsAre 0 live.tables []
+    → held.slots ≡ record { room = room; rows = [] } → StandsFor (joined live held rings filters None) [] → StandsIn (joined live held rings filters None) []
+filed_first live held rings filters settings room limits at made are none stands = record {
   stands = stands;
   slots = record {
-    live = are_none live.time number room slots.tables empty;
+    live = subst (λ t. SlotsAre t live.tables []) (sym at) are;
     messages = subst
         (λ (l : Limits). RingsAre l.remembered rings [])
         (sym limits)
         (subst (λ rs. RingsAre settings.limits.remembered rs []) (sym made) (rings_start settings.limits.remembered (pairs_of settings)));
-    last = last;
-    rows = none;
+    last = refl;
+    rows = ap (λ (r : HeldRows). r.rows) none;
   };
   known = refl;
   aliased = λ client. omega arith;
 }
 
-room_there : (tables : List SlotTable) (number room domain r : ℕ) → AreEmpty number room tables → slice_get (map room_of tables) domain ≡ Some r → r ≡ room
-room_there tables number room domain r empty there = by_table (slice_get tables domain) refl (sym (slice_get-map room_of tables domain) ∙ there)
-  where
-    by_table : (o : Option SlotTable) → slice_get tables domain ≡ o → option_map room_of o ≡ Some r → r ≡ room
-    by_table None is none = absurd (none-some r none)
-    by_table (Some table) is some = sym (ap (λ (o : Option ℕ). unwrap_or o r) some) ∙ ap room_of (empty.each domain table is)
-
-pub slots_first_room : (live : LiveValue) (held : Tables) (rings : List RingValue) (filters : FiltersValue) (slots : KeptValue) (settings : SettingsValue)
+pub slots_first_room : (live : LiveValue) (held : Tables) (rings : List RingValue) (filters : FiltersValue) (settings : SettingsValue)
     → live.domains ≡ length settings.domains → live.limits ≡ settings.limits → held.sizes ≡ sizes_of settings
-    → AreEmpty (length settings.domains) settings.limits.domain_mitigations slots.tables → slots.rows.room ≡ most_held settings
-    → HasSlots (joined live held rings filters slots)
-slots_first_room live held rings filters slots settings domains limits sizes empty room = record {
-  number = empty.counted ∙ sym domains;
+    → held.slots ≡ record { room = most_held settings; rows = [] } → HasSlots (joined live held rings filters None)
+slots_first_room live held rings filters settings domains limits sizes none = record {
   domains = ap (λ (s : Sizes). s.domains) sizes ∙ sym domains;
-  rooms = λ domain r there.
-      room_there slots.tables (length settings.domains) settings.limits.domain_mitigations domain r empty there
-      ∙ sym (ap (λ (l : Limits). l.domain_mitigations) limits);
-  held = room
+  held = ap (λ (r : HeldRows). r.room) none
       ∙ sym (most_is
       settings
-      (capacities_in (joined live held rings filters slots))
+      (capacities_in (joined live held rings filters None))
       (ap (λ (s : Sizes). numbers_from 0 s.domains) sizes)
       (ap (λ (l : Limits). l.domain_mitigations) limits)
       (ap (λ (l : Limits). l.clients) limits)
@@ -173,41 +125,36 @@ rows_bared : (live : LiveValue) (filed : List Filed) (domain : ℕ) → domain <
 rows_bared live filed domain within stands =
     stands.rows domain within ∙ ap (λ es. mitigations live.time (alone domain es)) (sym (bared_entries filed))
 
-come_now : (now : ℕ) (registry : RegistryValue) (filed : List Filed) → time_of registry ≤ now → length registry.slots.tables ≡ domains_of registry
-    → StandsIn registry filed → SlotsCome now (kept_of registry.live) registry.slots.tables (map bared filed)
-come_now now registry filed less number stands =
+come_now : (now : ℕ) (registry : RegistryValue) (filed : List Filed) → time_of registry ≤ now → StandsIn registry filed
+    → SlotsCome now registry.live.tables (map bared filed)
+come_now now registry filed less stands =
     come_later
     (time_of registry)
     now
-    (kept_of registry.live)
-    registry.slots.tables
+    registry.live.tables
     (map bared filed)
     less
-    (λ domain within. rows_bared registry.live filed domain (subst (λ n. domain < n) number within) stands.stands.live)
-    (are_bared (time_of registry) registry.slots.tables filed stands.slots.live)
+    (λ domain within. rows_bared registry.live filed domain (subst (λ n. domain < n) stands.stands.live.are_tables.number within) stands.stands.live)
+    (are_bared (time_of registry) registry.live.tables filed stands.slots.live)
 
-pub can_expire : (now : ℕ) (inside old : RegistryValue) → inside ≡ old → IsFiled inside → time_of old ≤ now → AreBeside now inside.live inside.slots
-can_expire now inside old same filed less =
-    (filed.room.number, (map bared filed.filed, come_now now inside filed.filed (subst (λ r. time_of r ≤ now) (sym same) less) filed.room.number filed.stands))
-
-pub filed_later : (now : ℕ) (inside old : RegistryValue) (live : LiveValue) (filters : FiltersValue) (slots : KeptValue) (filed : List Filed) → inside ≡ old
-    → HasSlots inside → time_of old ≤ now → live.limits ≡ inside.live.limits → live.time ≡ now
-    → ((all : List Filed) → SlotsCome now (kept_of inside.live) inside.slots.tables all → SlotsAre now slots.tables all) → SameSlots inside.slots slots
-    → (StandsFor old (map entry_of filed) → StandsFor (joined live inside.held inside.rings filters slots) (map entry_of filed))
-    → StandsIn old filed → StandsIn (joined live inside.held inside.rings filters slots) filed
-filed_later now inside old live filters slots filed same room less limits at come same_slots new stands =
+pub filed_later : (now : ℕ) (inside old : RegistryValue) (live : LiveValue) (filters : FiltersValue) (filed : List Filed) → inside ≡ old
+    → time_of old ≤ now → live.limits ≡ inside.live.limits → live.time ≡ now
+    → ((all : List Filed) → SlotsCome now inside.live.tables all → SlotsAre now live.tables all)
+    → (StandsFor old (map entry_of filed) → StandsFor (joined live inside.held inside.rings filters inside.last) (map entry_of filed))
+    → StandsIn old filed → StandsIn (joined live inside.held inside.rings filters inside.last) filed
+filed_later now inside old live filters filed same less limits at come new stands =
     let here : StandsIn inside filed = subst (λ r. StandsIn r filed) (sym same) stands in
     let later : time_of inside ≤ now = subst (λ r. time_of r ≤ now) (sym same) less in
     record {
       stands = new stands.stands;
       slots = record {
         live = subst
-            (λ t. SlotsAre t slots.tables filed)
+            (λ t. SlotsAre t live.tables filed)
             (sym at)
-            (bared_are now slots.tables filed (come (map bared filed) (come_now now inside filed later room.number here)));
+            (bared_are now live.tables filed (come (map bared filed) (come_now now inside filed later here)));
         messages = subst (λ (l : Limits). RingsAre l.remembered inside.rings filed) (sym limits) here.slots.messages;
-        last = same_slots.last ∙ here.slots.last;
-        rows = same_slots.rows ∙ here.slots.rows;
+        last = here.slots.last;
+        rows = here.slots.rows;
       };
       known = here.known;
       aliased = λ client. subst (λ (l : Limits). tally (is_alias_of client) (held (map entry_of filed)) ≤ l.aliases) (sym limits) (here.aliased client);
@@ -361,70 +308,6 @@ known_more registry x filed fits stands =
     list_all-append known (map entry_of filed) (x.entry ∷ [])
     ∙ and_from (list_all known (map entry_of filed)) (list_all known (x.entry ∷ [])) stands.known (and_from (known x.entry) true own refl)
 
-tables_taken : (live : LiveValue) (x : Filed) (slots : KeptValue) → nat_lt x.entry.domain live.domains ≡ true
-    → (taken_in live x slots).tables ≡ update (grown x (kept_of live x.entry.domain)) x.entry.domain slots.tables
-tables_taken live x slots is = ap (λ b. (cond b (taken x (kept_of live x.entry.domain) slots) (taken_outside x slots)).tables) is
-
-tables_outside : (live : LiveValue) (x : Filed) (slots : KeptValue) → nat_lt x.entry.domain live.domains ≡ false → (taken_in live x slots).tables ≡ slots.tables
-tables_outside live x slots out = ap (λ b. (cond b (taken x (kept_of live x.entry.domain) slots) (taken_outside x slots)).tables) out
-
-last_taken : (live : LiveValue) (x : Filed) (slots : KeptValue) → (taken_in live x slots).last ≡ Some x.slot
-last_taken live x slots =
-    cond_both
-    (nat_lt x.entry.domain live.domains)
-    (taken x (kept_of live x.entry.domain) slots)
-    (taken_outside x slots)
-    (λ (s : KeptValue). s.last ≡ Some x.slot)
-    (λ is. refl)
-    (λ out. refl)
-
-rows_taken : (live : LiveValue) (x : Filed) (slots : KeptValue) → (taken_in live x slots).rows.rows ≡ rows_with x slots.rows.rows
-rows_taken live x slots =
-    cond_both
-    (nat_lt x.entry.domain live.domains)
-    (taken x (kept_of live x.entry.domain) slots)
-    (taken_outside x slots)
-    (λ (s : KeptValue). s.rows.rows ≡ rows_with x slots.rows.rows)
-    (λ is. refl)
-    (λ out. refl)
-
--- with the entry the slots of live mitigations are those of one entry more
-live_more : (inside : RegistryValue) (x : Filed) (filed : List Filed) → x.entry.time ≡ time_of inside → length inside.slots.tables ≡ domains_of inside
-    → StandsIn inside filed → SlotsAre (time_of inside) (taken_in inside.live x inside.slots).tables (filed ++ x ∷ [])
-live_more inside x filed at number stands =
-    let t = time_of inside in
-    let tables = inside.slots.tables in
-    let ms = kept_of inside.live x.entry.domain in
-    elim (cases_Bool (nat_lt x.entry.domain (domains_of inside))) [
-      | inl is ↦
-          let within : x.entry.domain < domains_of inside = ltb-true x.entry.domain (domains_of inside) is in
-          let more : SlotsAre t (update (grown (bared x) ms) x.entry.domain tables) (map bared filed ++ bared x ∷ []) =
-          are_with
-          t
-          ms
-          tables
-          (map bared filed)
-          (bared x)
-          at
-          (subst (λ n. x.entry.domain < n) (sym number) within)
-          (rows_bared inside.live filed x.entry.domain within stands.stands.live)
-          (are_bared t tables filed stands.slots.live) in
-          subst
-          (λ ts. SlotsAre t ts (filed ++ x ∷ []))
-          (update_bared x ms x.entry.domain tables ∙ sym (tables_taken inside.live x inside.slots is))
-          (bared_are
-          t
-          (update (grown (bared x) ms) x.entry.domain tables)
-          (filed ++ x ∷ [])
-          (subst (λ xs. SlotsAre t (update (grown (bared x) ms) x.entry.domain tables) xs) (sym (map-append bared filed (x ∷ []))) more))
-      | inr out ↦
-          let beyond : domains_of inside ≤ x.entry.domain = ltb-false x.entry.domain (domains_of inside) out in
-          subst
-          (λ ts. SlotsAre t ts (filed ++ x ∷ []))
-          (sym (tables_outside inside.live x inside.slots out))
-          (are_outside t tables filed x (subst (λ n. n ≤ x.entry.domain) (sym number) beyond) stands.slots.live)
-    ]
-
 rings_more : (n : ℕ) (rings : List RingValue) (x : Filed) (filed : List Filed) → RingsAre n rings filed → RingsAre n (rings_with x.slot x.entry rings) (filed ++ x ∷ [])
 rings_more n rings x filed are =
     cond_both
@@ -435,33 +318,45 @@ rings_more n rings x filed are =
     (λ is. rings_noted n rings filed x is are)
     (λ out. rings_other n rings filed x out are)
 
-pub filed_more : (inside old : RegistryValue) (live : LiveValue) (held : Tables) (rings : List RingValue) (filters : FiltersValue) (slots : KeptValue) (slot : ℕ) (e : Entry)
+-- the rows of what is held with the entry
+same_rows : (x : Filed) (filed : List Filed) (old new : HeldRows) → old.rows ≡ rows_of filed → new.rows ≡ rows_with x old.rows → new.rows ≡ rows_of (filed ++ x ∷ [])
+same_rows x filed old new before made = made ∙ ap (rows_with x) before ∙ sym (rows_more filed x)
+
+no_row : (c : Change) → is_of_mitigations c ≡ true → written_of c ≡ None
+unfolding is_of_mitigations
+no_row (change.Put put) is = refl
+no_row (change.Withdraw mid) is = refl
+no_row _ is = absurd (false≢true is)
+
+pub quiet_rows : (x : Filed) (rows : List HeldSlot) → puts x.entry ≡ true → rows ≡ rows_with x rows
+quiet_rows x rows put =
+    let kind = (puts_kind x.entry put).0 in
+    none_undone rows x.entry kind
+    ∙ sym (append-nil (filter (λ row. not (is_undone row x.entry)) rows))
+    ∙ ap (λ o. filter (λ row. not (is_undone row x.entry)) rows ++ option_to_list (option_map (row_with x) o)) (sym (no_row x.entry.change kind))
+
+pub filed_more : (inside old : RegistryValue) (live : LiveValue) (held : Tables) (rings : List RingValue) (filters : FiltersValue) (slot : ℕ) (e : Entry)
     (filed : List Filed)
-    → inside ≡ old → HasSlots inside → FitsIn old e → e.time ≡ time_of old → SameButRows inside.live live → held.sizes ≡ inside.held.sizes
-    → rings ≡ rings_with slot e inside.rings → slots ≡ taken_in inside.live (record { entry = e; slot = slot }) inside.slots
-    → (StandsFor old (map entry_of filed) → StandsFor (joined live held rings filters slots) (map entry_of filed ++ e ∷ []))
-    → StandsIn old filed → StandsIn (joined live held rings filters slots) (filed ++ record { entry = e; slot = slot } ∷ [])
-filed_more inside old live held rings filters slots slot e filed same room fits at but sizes made is new stands =
+    → inside ≡ old → FitsIn old e → SameButRows inside.live live → held.sizes ≡ inside.held.sizes
+    → rings ≡ rings_with slot e inside.rings → held.slots.rows ≡ rows_with (record { entry = e; slot = slot }) inside.held.slots.rows
+    → (lives.StandsFor inside.live (map entry_of filed) → SlotsAre (time_of inside) inside.live.tables filed
+    → SlotsAre (time_of inside) live.tables (filed ++ record { entry = e; slot = slot } ∷ []))
+    → (StandsFor old (map entry_of filed) → StandsFor (joined live held rings filters (Some slot)) (map entry_of filed ++ e ∷ []))
+    → StandsIn old filed → StandsIn (joined live held rings filters (Some slot)) (filed ++ record { entry = e; slot = slot } ∷ [])
+filed_more inside old live held rings filters slot e filed same fits but sizes made written slots_are new stands =
     let x : Filed = record { entry = e; slot = slot } in
     let here : StandsIn inside filed = subst (λ r. StandsIn r filed) (sym same) stands in
     let fits_in : FitsIn inside e = subst (λ r. FitsIn r e) (sym same) fits in
-    let now : e.time ≡ time_of inside = at ∙ ap time_of (sym same) in
     record {
-      stands = subst (StandsFor (joined live held rings filters slots)) (sym (entries_more filed x)) (new stands.stands);
+      stands = subst (StandsFor (joined live held rings filters (Some slot))) (sym (entries_more filed x)) (new stands.stands);
       slots = record {
-        live = subst
-            (λ t. SlotsAre t slots.tables (filed ++ x ∷ []))
-            (sym but.time)
-            (subst (λ (s : KeptValue). SlotsAre (time_of inside) s.tables (filed ++ x ∷ [])) (sym is) (live_more inside x filed now room.number here));
+        live = subst (λ t. SlotsAre t live.tables (filed ++ x ∷ [])) (sym but.time) (slots_are here.stands.live here.slots.live);
         messages = subst
             (λ (l : Limits). RingsAre l.remembered rings (filed ++ x ∷ []))
             (sym but.limits)
             (subst (λ rs. RingsAre (number_remembered inside) rs (filed ++ x ∷ [])) (sym made) (rings_more (number_remembered inside) inside.rings x filed here.slots.messages));
-        last = ap (λ (s : KeptValue). s.last) is ∙ last_taken inside.live x inside.slots ∙ sym (last_more filed x);
-        rows = ap (λ (s : KeptValue). s.rows.rows) is
-            ∙ rows_taken inside.live x inside.slots
-            ∙ ap (rows_with x) here.slots.rows
-            ∙ sym (rows_more filed x);
+        last = sym (last_more filed x);
+        rows = same_rows x filed inside.held.slots held.slots here.slots.rows written;
       };
       known = ap (list_all (is_known held.sizes)) (entries_more filed x)
           ∙ ap (λ (s : Sizes). list_all (is_known s) (map entry_of filed ++ e ∷ [])) sizes
@@ -476,86 +371,13 @@ filed_more inside old live held rings filters slots slot e filed same room fits 
           (aliased_more inside x filed fits_in here client));
     }
 
-pub room_more : (inside : RegistryValue) (live : LiveValue) (held : Tables) (rings : List RingValue) (filters : FiltersValue) (slots : KeptValue) (x : Filed)
-    → SameButRows inside.live live → held.sizes ≡ inside.held.sizes → slots ≡ taken_in inside.live x inside.slots → HasSlots inside
-    → HasSlots (joined live held rings filters slots)
-room_more inside live held rings filters slots x but sizes is room =
-    slots_still
-    inside
-    (joined live held rings filters slots)
-    but.domains
-    but.limits
-    sizes
-    (ap (λ (s : KeptValue). map room_of s.tables) is ∙ rooms_taken inside.live x inside.slots)
-    (ap (λ (s : KeptValue). s.rows.room) is ∙ room_taken inside.live x inside.slots)
-    room
+pub room_more : (inside : RegistryValue) (live : LiveValue) (held : Tables) (rings : List RingValue) (filters : FiltersValue) (last : Option ℕ)
+    → SameButRows inside.live live → held.sizes ≡ inside.held.sizes → held.slots.room ≡ inside.held.slots.room → HasSlots inside
+    → HasSlots (joined live held rings filters last)
+room_more inside live held rings filters last but sizes rooms room =
+    slots_still inside (joined live held rings filters last) but.domains but.limits sizes rooms room
 
 -- ---- there is room for it
-
-many_of : {A : Type 0} (test : A → Bool) (xs : List A) → length (filter test xs) ≡ tally test xs
-many_of test [] = refl
-many_of test (x ∷ xs) =
-    let rest = many_of test xs in
-    cond_both (test x) (x ∷ filter test xs) (filter test xs) (λ ys. length ys ≡ cond (test x) 1 0 + tally test xs)
-    (λ is. (let one_more : suc (length (filter test xs)) ≡ 1 + tally test xs = omega (arith, rest) in one_more) ∙ ap (λ b. cond b 1 0 + tally test xs) (sym is))
-    (λ out. (let zero_more : length (filter test xs) ≡ 0 + tally test xs = omega (arith, rest) in zero_more) ∙ ap (λ b. cond b 1 0 + tally test xs) (sym out))
-
-tally_map : {A B : Type 0} (test : B → Bool) (f : A → B) (xs : List A) → tally test (map f xs) ≡ tally (λ x. test (f x)) xs
-tally_map test f [] = refl
-tally_map test f (x ∷ xs) = ap (λ k. cond (test (f x)) 1 0 + k) (tally_map test f xs)
-
-bare_tally : (domain t : ℕ) (es : List Entry)
-    → tally (λ (m : Mitigation). m.put.domain == domain) (mitigations t (map bare es)) ≡ tally (λ (m : Mitigation). m.put.domain == domain) (mitigations t es)
-bare_tally domain t es =
-    ap (tally (λ (m : Mitigation). m.put.domain == domain)) (bare_mitigations t es)
-    ∙ tally_map (λ (m : Mitigation). m.put.domain == domain) bare_mitigation (mitigations t es)
-
-alone_more : (domain : ℕ) (filed : List Filed) (x : Filed) → x.entry.domain ≡ domain → filed_alone domain (filed ++ x ∷ []) ≡ filed_alone domain filed ++ x ∷ []
-alone_more domain filed x is =
-    filter-append (λ (y : Filed). y.entry.domain == domain) filed (x ∷ [])
-    ∙ ap (λ b. filed_alone domain filed ++ cond b (x ∷ []) []) (eq-eqb x.entry.domain domain is)
-
-table_slots : (tables : List SlotTable) (domain : ℕ) (table : SlotTable) → slice_get tables domain ≡ Some table → slots_of domain tables ≡ table.slots
-table_slots tables domain table there = ap slots_or_none there
-
-live_room : (inside : RegistryValue) (x : Filed) (filed : List Filed) (table : SlotTable) (fits : FitsIn inside x.entry) → HasSlots inside → x.entry.time ≡ time_of inside
-    → StandsIn inside filed → x.entry.domain < domains_of inside → slice_get inside.slots.tables x.entry.domain ≡ Some table
-    → length (slots_left x (kept_of inside.live x.entry.domain) table.slots ++ slots_first x) ≤ table.room
-live_room inside x filed table fits room at stands within there =
-    let e = x.entry in
-    let d = e.domain in
-    let t = time_of inside in
-    let es = map entry_of filed in
-    let own = filed_alone d (map bared filed) in
-    let whole = map bared filed ++ bared x ∷ [] in
-    let ms = kept_of inside.live d in
-    let ms_are : ms ≡ mitigations t (map entry_of own) =
-    rows_bared inside.live filed d within stands.stands.live ∙ ap (mitigations t) (sym (alone_entries d (map bared filed))) in
-    let slots_are : table.slots ≡ live_slots t own =
-    sym (table_slots inside.slots.tables d table there)
-    ∙ are_bared t inside.slots.tables filed stands.slots.live d (subst (λ n. d < n) (sym room.number) within) in
-    let after : slots_left x ms table.slots ++ slots_first x ≡ live_slots e.time (filed_alone d whole) =
-    ap (λ ss. ss ++ slots_first x) (sym (slots_left_bared x ms table.slots))
-    ∙ ap (λ ss. slots_left (bared x) ms table.slots ++ ss) (sym (slots_first_bared x))
-    ∙ ap (λ rows. slots_left (bared x) rows table.slots ++ slots_first (bared x)) ms_are
-    ∙ ap (λ ss. slots_left (bared x) (mitigations t (map entry_of own)) ss ++ slots_first (bared x)) slots_are
-    ∙ sym (slots_add t (bared x) own (subst (λ k. t ≤ k) (sym at) (le_refl t)))
-    ∙ ap (live_slots e.time) (sym (alone_more d (map bared filed) (bared x) refl)) in
-    let entries : map entry_of (filed_alone d whole) ≡ alone d (map bare (es ++ e ∷ [])) =
-    alone_entries d whole
-    ∙ ap (alone d) (map-append entry_of (map bared filed) (bared x ∷ []) ∙ ap (λ xs. xs ++ bare e ∷ []) (bared_entries filed) ∙ sym (map-append bare es (e ∷ []))) in
-    let many : length (slots_left x ms table.slots ++ slots_first x) ≡ tally (λ (m : Mitigation). m.put.domain == d) (mitigations e.time (map bare (es ++ e ∷ []))) =
-    ap length after
-    ∙ sym (as_many e.time (filed_alone d whole))
-    ∙ ap (λ xs. length (mitigations e.time xs)) entries
-    ∙ ap length (apart d e.time (map bare (es ++ e ∷ [])))
-    ∙ many_of (λ (m : Mitigation). m.put.domain == d) (mitigations e.time (map bare (es ++ e ∷ []))) in
-    let bares = bare_tally d e.time (es ++ e ∷ []) in
-    let few = (fits_so fits.settings es e (fits_here inside x filed fits stands.stands)).of_domain in
-    let most : table.room ≡ fits.settings.limits.domain_mitigations =
-    room.rooms d table.room (slice_get-map room_of inside.slots.tables d ∙ ap (option_map room_of) there)
-    ∙ ap (λ (l : Limits). l.domain_mitigations) fits.is_of.limits in
-    omega (arith, many, bares, few, most)
 
 short_name : (e : Entry) → within_bounds e ≡ true → length e.cuid ≤ 64
 short_name e is =
@@ -569,7 +391,7 @@ short_name e is =
     ]
 
 held_room : (inside : RegistryValue) (x : Filed) (filed : List Filed) → FitsIn inside x.entry → HasSlots inside → x.entry.time ≡ time_of inside → StandsIn inside filed
-    → length (rows_with x inside.slots.rows.rows) ≤ inside.slots.rows.room
+    → length (rows_with x inside.held.slots.rows) ≤ inside.held.slots.room
 held_room inside x filed fits room at stands =
     let e = x.entry in
     let es = map entry_of filed in
@@ -589,7 +411,7 @@ held_room inside x filed fits room at stands =
     (fits_within inside e fits)
     (subst (λ (l : Limits). KeepsLimits l (time_of inside) es) fits.is_of.limits stands.stands.limits)) in
     let owned : list_all (has_client (held more)) (held more) ≡ true =
-    (stands_with inside.held es e stands.stands.held (accepted inside e fits)).owned in
+    (stands_with inside.held es e x.slot stands.stands.held (accepted inside e fits)).owned in
     let rings : list_all (has_ring inside.rings) more ≡ true =
     list_all-append (has_ring inside.rings) es (e ∷ [])
     ∙ and_from
@@ -607,24 +429,24 @@ held_room inside x filed fits room at stands =
     (KeepsCapacities (capacities_in inside) e.time)
     (sym whole)
     (keeps_by inside e.time more limits owned (aliased_more inside x filed fits stands))) in
-    let rows : length (rows_with x inside.slots.rows.rows) ≡ length (rows_of (filed ++ x ∷ [])) =
+    let rows : length (rows_with x inside.held.slots.rows) ≡ length (rows_of (filed ++ x ∷ [])) =
     ap (λ rs. length (rows_with x rs)) stands.slots.rows ∙ ap length (sym (rows_more filed x)) in
     let most = room.held in
     omega (arith, few, rows, most)
 
-pub can_take : (inside old : RegistryValue) (slot : ℕ) (e : Entry) → inside ≡ old → IsFiled inside → FitsIn old e → e.time ≡ time_of old
-    → CanTake inside.live inside.slots (record { entry = e; slot = slot })
-can_take inside old slot e same filed fits at =
-    let x : Filed = record { entry = e; slot = slot } in
-    let fits_in : FitsIn inside e = subst (λ r. FitsIn r e) (sym same) fits in
-    let now : e.time ≡ time_of inside = at ∙ ap time_of (sym same) in
-    record {
-      number = filed.room.number;
-      beside = λ within.
-          (come_now (time_of inside) inside filed.filed (le_refl (time_of inside)) filed.room.number filed.stands).beside
-          e.domain
-          (subst (λ n. e.domain < n) (sym filed.room.number) within);
-      live_room = λ within table there. live_room inside x filed.filed table fits_in filed.room now filed.stands within there;
-      name = short_name e (fits_within inside e fits_in);
-      held_room = held_room inside x filed.filed fits_in filed.room now filed.stands;
-    }
+-- as a call that takes it asks for it, without its reply
+pub name_here : (inside old : RegistryValue) (e entry : Entry) → inside ≡ old → entry ≡ silent e → FitsIn old e → length entry.cuid ≤ 64
+name_here inside old e entry same is fits =
+    subst (λ (x : Entry). length x.cuid ≤ 64) (sym is) (short_name e (fits_within inside e (subst (λ r. FitsIn r e) (sym same) fits)))
+
+pub room_here : (inside old : RegistryValue) (slot : ℕ) (e entry : Entry) → inside ≡ old → IsFiled inside → FitsIn old e → e.time ≡ time_of old
+    → entry ≡ silent e → length (rows_with (record { entry = entry; slot = slot }) inside.held.slots.rows) ≤ inside.held.slots.room
+room_here inside old slot e entry same filed fits at is =
+    subst
+    (λ (x : Entry). length (rows_with (record { entry = x; slot = slot }) inside.held.slots.rows) ≤ inside.held.slots.room)
+    (sym is)
+    (held_room inside (record { entry = e; slot = slot }) filed.filed (subst (λ r. FitsIn r e) (sym same) fits) filed.room (at ∙ ap time_of (sym same)) filed.stands)
+
+pub rows_here : (old new : HeldRows) (slot : ℕ) (e entry : Entry) → entry ≡ silent e → new ≡ rows_more_of (record { entry = entry; slot = slot }) old
+    → new ≡ rows_more_of (record { entry = e; slot = slot }) old
+rows_here old new slot e entry is made = made ∙ ap (λ (x : Entry). rows_more_of (record { entry = x; slot = slot }) old) is

@@ -218,9 +218,9 @@ write_fits inside old e mitigating acls same fits at quiet by_kept are =
     by_kept
     (are here.entries here.stands.held)
     here.stands in
-    let things_after = stands_with inside.held here.entries e here.stands.held (accepted inside e here) in
+    let things_after = stands_with inside.held here.entries e 0 here.stands.held (accepted inside e here) in
     let most = lists_fit
-    (tables_with e inside.held).sizes
+    (tables_with (record { entry = e; slot = 0 }) inside.held).sizes
     inside.live.limits
     inside.live.time
     (here.entries ++ e ∷ [])

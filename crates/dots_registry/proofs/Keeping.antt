@@ -19,7 +19,7 @@ use Rattle.dots_laws.proofs.Parts.{part_list_all}
 use Rattle.dots_laws.proofs.Views.{dropping}
 use Rattle.live_mitigations.specs.Standing.{LiveValue, kept_of, is_inside}
 use Rattle.live_mitigations.specs.Standing as lives
-use Rattle.held_resources.specs.Tables.{Have}
+use Rattle.held_resources.specs.Tables.{Have, SameButSlots}
 use Rattle.held_resources.proofs.Standing.{one_value}
 use Rattle.coap_exchange.specs.Rings.{RingValue, messages_of, reply_to}
 use Rattle.coap_exchange.specs.Noting.{Remembers, AllRemember, said_by_entry}
@@ -118,7 +118,7 @@ same_kept a b entries same of_a of_b domain within =
     ∙ ap (λ t. mitigations t (alone domain (map bare entries))) same.time
     ∙ sym (of_b.live.rows domain (subst (λ n. domain < n) same.domains within))
 
-pub same_things : (a b : RegistryValue) (entries : List Entry) → SameSize a b → StandsFor a entries → StandsFor b entries → a.held ≡ b.held
+pub same_things : (a b : RegistryValue) (entries : List Entry) → SameSize a b → StandsFor a entries → StandsFor b entries → SameButSlots a.held b.held
 same_things a b entries same of_a of_b = one_value a.held b.held entries same.sizes of_a.held of_b.held
 
 pub same_replies : (a b : RegistryValue) (entries : List Entry) → SameSize a b → StandsFor a entries → StandsFor b entries → (now peer domain id : ℕ)

@@ -18,7 +18,14 @@ pub mod Keeping
 pub mod Filtering
 mod Judged
 mod Seeing
-pub mod Bared
+pub mod Going
+pub mod Recents
+pub mod Named
+pub mod Moving
+pub mod Few
+pub mod Staying
+pub mod Numbering
+pub mod Uniting
 pub mod Filed
 pub mod Shrinking
 pub mod Peers

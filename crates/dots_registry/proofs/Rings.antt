@@ -12,9 +12,8 @@ use Rattle.dots_settings.specs.declared.peer.Role.TheVariants as role
 use Rattle.dots_settings.specs.Settings.{SettingsValue}
 use Rattle.dots_settings.specs.Lookups.{no_domain, role_of, prefixes_of}
 use Rattle.dots_history.specs.declared.entry.Entry.{Entry}
-use Rattle.dots_history.specs.Entries.{is_signal, signals, is_configuration}
+use Rattle.dots_history.specs.Entries.{is_signal, signals, is_configuration, may_repeat}
 use Rattle.dots_history.specs.Histories.{is_nil, is_recent, or_else, remembered}
-use Rattle.dots_history.specs.Entries.{may_repeat}
 use Rattle.dots_laws.specs.Calm.{is_of_settings, may_act, may_configure, change_inside}
 use Rattle.coap_exchange.specs.declared.pair.Pair.{Pair}
 use Rattle.coap_exchange.specs.Pairs.{is_pair, pair_with, below, pairs_of_role, pairs_of_row}

@@ -1,5 +1,5 @@
 -- What a compaction keeps, and that the registry stands for it.
-use Rattle.std.proofs.Common.{◌≡◌, ℕ, ◌+◌, ◌≤◌, true, cond, List, [], ◌∷◌, length, map, refl, sym, ap, subst, ◌∙◌, arith}
+use Rattle.std.proofs.Common.{◌≡◌, ℕ, ◌+◌, ◌≤◌, true, cond, List, [], ◌∷◌, length, map, Option, refl, sym, ap, subst, ◌∙◌, arith}
 use Rattle.std.specs.Prelude.{nat_lt, ◌==◌, option_map}
 use Rattle.std.specs.List.{list_all}
 use Rattle.std.proofs.lemmas.Bool.{cond_both}
@@ -7,32 +7,35 @@ use Rattle.std.proofs.lemmas.List.{length-map}
 use Rattle.dots_history.specs.declared.entry.Entry.{Entry}
 use Rattle.dots_history.specs.Histories.{Calm, tally, held}
 use Rattle.dots_history.specs.Keeping.{names, kept}
-use Rattle.dots_history.specs.Slots.{Rises, placed}
+use Rattle.dots_history.specs.Slots.{Rises, placed, number_in}
 use Rattle.dots_laws.specs.KeptPlaces.{union}
 use Rattle.dots_laws.proofs.Keeping.{kept_is_part}
 use Rattle.dots_laws.proofs.Parts.{part_list_all}
 use Rattle.dots_laws.proofs.Views.{kept_held}
-use Rattle.live_mitigations.specs.Standing.{is_inside}
-use Rattle.held_resources.specs.Tables.{is_known}
-use Rattle.coap_exchange.specs.Rings.{RingValue, number_in, ring_renumbered}
-use Rattle.coap_exchange.proofs.Standing.{moved_remembers, pairs_moved}
-use Rattle.mitigation_slots.specs.Slots.{Filed, entry_of, slot_of}
-use Rattle.held_slots.specs.declared.row.HeldSlot.{HeldSlot}
-use Rattle.held_slots.specs.Rows.{refiled, renumbered as held_renumbered}
-use Rattle.held_slots.proofs.Going.{rows_moved}
-use Rattle.kept_slots.specs.Kept.{KeptValue, AreOf, all_kept, kept_slots, last_slot, filed_kept, named_slots, filed, moved}
-use Rattle.kept_slots.proofs.Named.{kept_named}
-use Rattle.kept_slots.proofs.Going.{rings_moved}
-use Rattle.kept_slots.proofs.Moving.{same_entries, slots_moved, last_moved}
-use Rattle.kept_slots.proofs.Staying.{kept_entries, kept_stay}
-use Rattle.kept_slots.proofs.Numbering.{named_are, named_rise, kept_are_first, union_nil, filed_entries}
+use Rattle.dots_laws.specs.Filed.{Filed, entry_of, slot_of, refiled}
 use Rattle.dots_settings.specs.Settings.{SettingsValue}
+use Rattle.live_mitigations.specs.Numbers.{live_renumbered}
+use Rattle.live_mitigations.specs.Standing.{LiveValue, is_inside}
+use Rattle.live_mitigations.proofs.SlotsStanding.{renumbered_stands}
+use Rattle.held_resources.specs.declared.row.HeldSlot.{HeldSlot}
+use Rattle.held_resources.specs.Rows.{renumbered as held_renumbered}
+use Rattle.held_resources.specs.Tables.{Tables, is_known, tables_renumbered}
+use Rattle.held_resources.proofs.Going.{rows_moved}
+use Rattle.held_resources.proofs.Standing.{same_stands}
+use Rattle.coap_exchange.specs.Rings.{RingValue, ring_renumbered}
+use Rattle.coap_exchange.proofs.Standing.{moved_remembers, pairs_moved}
+use Rattle.dots_registry.specs.Kept.{all_kept, kept_slots, last_slot, filed_kept, named_slots, filed}
 use Rattle.dots_registry.specs.Standing.{RegistryValue, StandsFor, IsOf, time_of, number_remembered}
-use Rattle.dots_registry.specs.Filed.{StandsIn, HasSlots, IsFiled, most_kept, is_alias_of}
+use Rattle.dots_registry.specs.Filed.{StandsIn, HasSlots, IsFiled, slots_kept, most_kept, is_alias_of}
+use Rattle.dots_registry.proofs.Named.{kept_named}
+use Rattle.dots_registry.proofs.Going.{rings_moved}
+use Rattle.dots_registry.proofs.Moving.{same_entries, slots_moved, last_moved}
+use Rattle.dots_registry.proofs.Staying.{kept_entries, kept_stay}
+use Rattle.dots_registry.proofs.Numbering.{named_are, named_rise, kept_are_first, union_nil}
 use Rattle.dots_registry.proofs.Standing.{joined}
 use Rattle.dots_registry.proofs.Rings.{still_signalled}
 use Rattle.dots_registry.proofs.Keeping.{named_stands}
-use Rattle.dots_registry.proofs.Filed.{few_kept, rooms_moved, slots_still}
+use Rattle.dots_registry.proofs.Filed.{few_kept, slots_still}
 
 -- ---- the slots that are kept
 
@@ -60,12 +63,12 @@ named_many n t all =
     ∙ sym (length-map (filed_kept n t all) entry_of)
     ∙ ap length (kept_entries (names n t) [] all)
 
-union_named : (registry : RegistryValue) (all : List Filed) → HasSlots registry → StandsIn registry all
-    → union (all_kept registry.slots registry.rings) [] ≡ union (named_slots (number_remembered registry) (time_of registry) all) []
-union_named registry all room stands =
-    let tables = registry.slots.tables in
+union_named : (registry : RegistryValue) (all : List Filed) → StandsIn registry all
+    → union (all_kept (slots_kept registry) registry.rings) [] ≡ union (named_slots (number_remembered registry) (time_of registry) all) []
+union_named registry all stands =
+    let tables = registry.live.tables in
     ap
-    (λ o. union (all_kept (record { tables = tables; rows = registry.slots.rows; last = o }) registry.rings) [])
+    (λ o. union (all_kept (record { tables = tables; rows = registry.held.slots; last = o }) registry.rings) [])
     stands.slots.last
     ∙ ap (λ rows. union (kept_numbers rows) []) stands.slots.rows
     ∙ kept_named
@@ -77,27 +80,27 @@ union_named registry all room stands =
     []
     (record {})
     stands.slots.live
-    (subst (λ k. list_all (is_inside k) (map entry_of all) ≡ true) (sym room.number) stands.stands.live.inside)
+    (subst (λ k. list_all (is_inside k) (map entry_of all) ≡ true) (sym stands.stands.live.are_tables.number) stands.stands.live.inside)
     stands.slots.messages
     stands.stands.signalled
   where
     kept_numbers : List HeldSlot → List ℕ
-    kept_numbers rows = kept_slots registry.slots.tables registry.rings (last_slot all) rows
+    kept_numbers rows = kept_slots registry.live.tables registry.rings (last_slot all) rows
 
-pub few_slots : (registry : RegistryValue) → IsFiled registry → length (union (all_kept registry.slots registry.rings) []) ≤ most_kept registry
+pub few_slots : (registry : RegistryValue) → IsFiled registry → length (union (all_kept (slots_kept registry) registry.rings) []) ≤ most_kept registry
 few_slots registry is =
     let n = number_remembered registry in
     let t = time_of registry in
-    let same = ap length (union_named registry is.filed is.room is.stands) in
+    let same = ap length (union_named registry is.filed is.stands) in
     let fewer = union_few (named_slots n t is.filed) in
     let many = named_many n t is.filed in
     let few = few_kept registry is.filed is.stands in
     omega (arith, same, fewer, many, few)
 
-pub slots_are_named : (registry : RegistryValue) (all : List Filed) → HasSlots registry → StandsIn registry all → Rises (map slot_of all)
-    → union (all_kept registry.slots registry.rings) [] ≡ named_slots (number_remembered registry) (time_of registry) all
-slots_are_named registry all room stands rises =
-    union_named registry all room stands
+pub slots_are_named : (registry : RegistryValue) (all : List Filed) → StandsIn registry all → Rises (map slot_of all)
+    → union (all_kept (slots_kept registry) registry.rings) [] ≡ named_slots (number_remembered registry) (time_of registry) all
+slots_are_named registry all stands rises =
+    union_named registry all stands
     ∙ union_nil
     (named_slots (number_remembered registry) (time_of registry) all)
     (named_rise (number_remembered registry) (time_of registry) all rises)
@@ -105,16 +108,26 @@ slots_are_named registry all room stands rises =
 -- ---- new numbers
 
 abbrev pub renumbered : List ℕ → RegistryValue → RegistryValue
-renumbered keep registry = joined registry.live registry.held (map (ring_renumbered keep) registry.rings) registry.filters (moved keep registry.slots)
+renumbered keep registry =
+    joined
+    (live_renumbered keep registry.live)
+    (tables_renumbered keep registry.held)
+    (map (ring_renumbered keep) registry.rings)
+    registry.filters
+    (option_map (number_in keep) registry.last)
 
--- after both calls
-pub renumbered_to : (keep : List ℕ) (inside old : RegistryValue) (rings : List RingValue) (slots : KeptValue) → inside ≡ old
-    → rings ≡ map (ring_renumbered keep) inside.rings → slots ≡ moved keep inside.slots
-    → renumbered keep old ≡ joined inside.live inside.held rings inside.filters slots
-renumbered_to keep inside old rings slots same rings_are slots_are =
+-- after all calls
+pub renumbered_to : (keep : List ℕ) (inside old : RegistryValue) (live : LiveValue) (held : Tables) (rings : List RingValue) (last : Option ℕ) → inside ≡ old
+    → live ≡ live_renumbered keep inside.live → held ≡ tables_renumbered keep inside.held → rings ≡ map (ring_renumbered keep) inside.rings
+    → last ≡ option_map (number_in keep) inside.last
+    → renumbered keep old ≡ joined live held rings inside.filters last
+renumbered_to keep inside old live held rings last same live_is held_is rings_are last_is =
+    let here = renumbered keep inside in
     ap (renumbered keep) (sym same)
-    ∙ ap (λ rs. joined inside.live inside.held rs inside.filters (moved keep inside.slots)) (sym rings_are)
-    ∙ ap (joined inside.live inside.held rings inside.filters) (sym slots_are)
+    ∙ ap (λ l. joined l here.held here.rings inside.filters here.last) (sym live_is)
+    ∙ ap (λ h. joined live h here.rings inside.filters here.last) (sym held_is)
+    ∙ ap (λ rs. joined live held rs inside.filters here.last) (sym rings_are)
+    ∙ ap (joined live held rings inside.filters) (sym last_is)
 
 pub moved_of : (keep : List ℕ) (settings : SettingsValue) (registry : RegistryValue) → IsOf settings registry → IsOf settings (renumbered keep registry)
 moved_of keep settings registry is_of = record {
@@ -127,21 +140,12 @@ moved_of keep settings registry is_of = record {
 
 pub moved_stands : (keep : List ℕ) (registry : RegistryValue) (entries : List Entry) → StandsFor registry entries → StandsFor (renumbered keep registry) entries
 moved_stands keep registry entries stands = record {
-  live = stands.live;
-  held = stands.held;
+  live = renumbered_stands keep registry.live entries stands.live;
+  held = same_stands (tables_renumbered keep registry.held) registry.held entries (record { sizes = refl; clients = refl; sessions = refl }) stands.held;
   remembered = moved_remembers (number_remembered registry) keep registry.rings entries stands.remembered;
   signalled = still_signalled registry.rings (map (ring_renumbered keep) registry.rings) entries (pairs_moved keep registry.rings) stands.signalled;
   filters = stands.filters;
   limits = stands.limits;
-}
-
-moved_are : (n t : ℕ) (keep : List ℕ) (slots : KeptValue) (rings : List RingValue) (all : List Filed) → AreOf n t slots rings all
-    → AreOf n t (moved keep slots) (map (ring_renumbered keep) rings) (map (refiled keep) all)
-moved_are n t keep slots rings all are = record {
-  live = slots_moved t keep slots.tables all are.live;
-  messages = rings_moved n keep rings all are.messages;
-  last = ap (option_map (number_in keep)) are.last ∙ sym (last_moved keep all);
-  rows = ap (map (held_renumbered keep)) are.rows ∙ rows_moved keep all;
 }
 
 -- the same entries in slots with new numbers
@@ -150,13 +154,18 @@ moved_in keep registry all stands =
     let same : map entry_of all ≡ map entry_of (map (refiled keep) all) = sym (same_entries keep all) in
     record {
       stands = subst (StandsFor (renumbered keep registry)) same (moved_stands keep registry (map entry_of all) stands.stands);
-      slots = moved_are (number_remembered registry) (time_of registry) keep registry.slots registry.rings all stands.slots;
+      slots = record {
+        live = slots_moved (time_of registry) keep registry.live.tables all stands.slots.live;
+        messages = rings_moved (number_remembered registry) keep registry.rings all stands.slots.messages;
+        last = ap (option_map (number_in keep)) stands.slots.last ∙ sym (last_moved keep all);
+        rows = ap (map (held_renumbered keep)) stands.slots.rows ∙ rows_moved keep all;
+      };
       known = subst (λ es. list_all (is_known registry.held.sizes) es ≡ true) same stands.known;
       aliased = λ client. subst (λ es. tally (is_alias_of client) (held es) ≤ registry.live.limits.aliases) same (stands.aliased client);
     }
 
 pub moved_room : (keep : List ℕ) (registry : RegistryValue) → HasSlots registry → HasSlots (renumbered keep registry)
-moved_room keep registry room = slots_still registry (renumbered keep registry) refl refl refl (rooms_moved keep registry.slots.tables) refl room
+moved_room keep registry room = slots_still registry (renumbered keep registry) refl refl refl refl room
 
 -- what the view names is stood for
 kept_in : (registry : RegistryValue) (all : List Filed) → StandsIn registry all → Calm (map entry_of all)
@@ -168,7 +177,7 @@ kept_in registry all stands calm =
     let same : kept n t es ≡ map entry_of (filed_kept n t all) = sym (kept_entries (names n t) [] all) in
     record {
       stands = subst (StandsFor registry) same (named_stands registry es calm stands.stands);
-      slots = kept_stay n t registry.slots registry.rings all stands.stands.live.in_order calm stands.slots;
+      slots = kept_stay n t (slots_kept registry) registry.rings all stands.stands.live.in_order calm stands.slots;
       known = subst (λ xs. list_all (is_known registry.held.sizes) xs ≡ true) same (part_list_all (is_known registry.held.sizes) (kept n t es) es (kept_is_part (names n t) [] es) stands.known);
       aliased = λ client.
           subst

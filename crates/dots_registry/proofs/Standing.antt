@@ -1,5 +1,5 @@
 -- What a registry keeps goes on to stand for a history.
-use Rattle.std.proofs.Common.{◌≡◌, ℕ, ◌+◌, ◌<◌, ◌≤◌, Bool, true, false, cond, ◌&&◌, List, [], ◌∷◌, ◌++◌, map, length, refl, sym, ap, ◌∙◌, subst, arith}
+use Rattle.std.proofs.Common.{◌≡◌, ℕ, ◌+◌, ◌<◌, ◌≤◌, Bool, true, false, cond, ◌&&◌, List, [], ◌∷◌, ◌++◌, map, length, Option, refl, sym, ap, ◌∙◌, subst, arith}
 use Rattle.std.specs.Prelude.{◌==◌, nat_lt, nat_le}
 use Rattle.std.specs.List.{list_any, list_all}
 use Rattle.std.proofs.lemmas.Bool.{false≢true, cond-false, and_parts, and_from, ltb-true, leb-true, le-leb}
@@ -24,11 +24,11 @@ use Rattle.live_mitigations.specs.Standing.{LiveValue, SameButRows, kept_of, put
 use Rattle.live_mitigations.specs.Standing as lives
 use Rattle.live_mitigations.proofs.Standing.{comes_later}
 use Rattle.live_mitigations.proofs.Room.{has_room_is}
-use Rattle.held_resources.specs.Tables.{Tables, sizes_of, is_known, tables_with}
+use Rattle.held_resources.specs.Tables.{Tables, SameButSlots, sizes_of, is_known, tables_with}
 use Rattle.held_resources.specs.Tables as things
 use Rattle.held_resources.specs.Accepting.{accepts, accepts_by, keeps_rooms}
 use Rattle.held_resources.specs.Accepting as accepting
-use Rattle.held_resources.proofs.Standing.{stands_with, accepted_by, one_value}
+use Rattle.held_resources.proofs.Standing.{stands_with, accepted_by, one_value, same_stands}
 use Rattle.held_resources.proofs.Lawful.{still_stands, known_of, accepts_fitting}
 use Rattle.coap_exchange.specs.declared.pair.Pair.{Pair}
 use Rattle.coap_exchange.specs.Pairs.{pairs_of}
@@ -36,7 +36,6 @@ use Rattle.coap_exchange.specs.Rings.{RingValue, empty_ring}
 use Rattle.coap_exchange.specs.Noting.{AllRemember}
 use Rattle.coap_exchange.proofs.Standing.{start_remembers}
 use Rattle.installed_filters.specs.Filters.{FiltersValue, SameRoom}
-use Rattle.kept_slots.specs.Kept.{KeptValue}
 use Rattle.installed_filters.specs.Standing.{HasRoom, KeepsLimits}
 use Rattle.installed_filters.specs.Standing as rows
 use Rattle.installed_filters.proofs.Limits.{limits_first, limits_later}
@@ -44,8 +43,8 @@ use Rattle.dots_registry.specs.Standing.{RegistryValue, IsOf, StandsFor, time_of
 use Rattle.dots_registry.specs.Fitting.{FitsIn, fits_then}
 use Rattle.dots_registry.proofs.Rings.{own_has_ring, made_pairs, remember_more, still_signalled}
 
-abbrev pub joined : LiveValue → Tables → List RingValue → FiltersValue → KeptValue → RegistryValue
-joined live held rings filters slots = record { live = live; held = held; rings = rings; filters = filters; slots = slots }
+abbrev pub joined : LiveValue → Tables → List RingValue → FiltersValue → Option ℕ → RegistryValue
+joined live held rings filters last = record { live = live; held = held; rings = rings; filters = filters; last = last }
 
 -- ---- the first
 
@@ -53,10 +52,10 @@ pairs_empty : (n : ℕ) (pairs : List Pair) → map pair_of (map (empty_ring n) 
 pairs_empty n [] = refl
 pairs_empty n (pair ∷ pairs) = ap (λ ps. pair ∷ ps) (pairs_empty n pairs)
 
-pub stands_first : (settings : SettingsValue) (live : LiveValue) (held : Tables) (rings : List RingValue) (filters : FiltersValue) (slots : KeptValue) → lives.StandsFor live []
+pub stands_first : (settings : SettingsValue) (live : LiveValue) (held : Tables) (rings : List RingValue) (filters : FiltersValue) (last : Option ℕ) → lives.StandsFor live []
     → things.StandsFor held [] → live.limits ≡ settings.limits → rings ≡ map (empty_ring settings.limits.remembered) (pairs_of settings)
-    → ((t : ℕ) → rows.StandsFor filters t []) → StandsFor (joined live held rings filters slots) []
-stands_first settings live held rings filters slots alive kept limits made none = record {
+    → ((t : ℕ) → rows.StandsFor filters t []) → StandsFor (joined live held rings filters last) []
+stands_first settings live held rings filters last alive kept limits made none = record {
   live = alive;
   held = kept;
   remembered = subst
@@ -68,11 +67,11 @@ stands_first settings live held rings filters slots alive kept limits made none 
   limits = limits_first live.limits live.time;
 }
 
-pub is_of_first : (settings : SettingsValue) (live : LiveValue) (held : Tables) (rings : List RingValue) (filters : FiltersValue) (slots : KeptValue)
+pub is_of_first : (settings : SettingsValue) (live : LiveValue) (held : Tables) (rings : List RingValue) (filters : FiltersValue) (last : Option ℕ)
     → live.domains ≡ length settings.domains → live.limits ≡ settings.limits → held.sizes ≡ sizes_of settings
     → rings ≡ map (empty_ring settings.limits.remembered) (pairs_of settings) → HasRoom (length settings.domains) settings.limits filters
-    → IsOf settings (joined live held rings filters slots)
-is_of_first settings live held rings filters slots domains limits sizes made room = record {
+    → IsOf settings (joined live held rings filters last)
+is_of_first settings live held rings filters last domains limits sizes made room = record {
   domains = domains;
   limits = limits;
   sizes = sizes;
@@ -82,10 +81,10 @@ is_of_first settings live held rings filters slots domains limits sizes made roo
 
 -- ---- sizes
 
-pub still_of : (settings : SettingsValue) (inside old : RegistryValue) (live : LiveValue) (held : Tables) (rings : List RingValue) (filters : FiltersValue) (slots : KeptValue)
+pub still_of : (settings : SettingsValue) (inside old : RegistryValue) (live : LiveValue) (held : Tables) (rings : List RingValue) (filters : FiltersValue) (last : Option ℕ)
     → inside ≡ old → live.domains ≡ inside.live.domains → live.limits ≡ inside.live.limits → held.sizes ≡ inside.held.sizes
-    → map pair_of rings ≡ map pair_of inside.rings → SameRoom inside.filters filters → IsOf settings old → IsOf settings (joined live held rings filters slots)
-still_of settings inside old live held rings filters slots same domains limits sizes pairs room is_of =
+    → map pair_of rings ≡ map pair_of inside.rings → SameRoom inside.filters filters → IsOf settings old → IsOf settings (joined live held rings filters last)
+still_of settings inside old live held rings filters last same domains limits sizes pairs room is_of =
     let here : IsOf settings inside = subst (IsOf settings) (sym same) is_of in
     record {
       domains = domains ∙ here.domains;
@@ -97,11 +96,11 @@ still_of settings inside old live held rings filters slots same domains limits s
 
 -- ---- time
 
-pub stands_later : (now : ℕ) (inside old : RegistryValue) (live : LiveValue) (filters : FiltersValue) (slots : KeptValue) (entries : List Entry) → inside ≡ old → time_of old ≤ now
+pub stands_later : (now : ℕ) (inside old : RegistryValue) (live : LiveValue) (filters : FiltersValue) (last : Option ℕ) (entries : List Entry) → inside ≡ old → time_of old ≤ now
     → live.limits ≡ inside.live.limits → live.time ≡ now → (lives.ComesTo now inside.live entries → lives.StandsFor live entries)
     → (inside.live.time ≤ now → lives.StandsFor inside.live entries → rows.StandsFor inside.filters inside.live.time entries → rows.StandsFor filters now entries)
-    → StandsFor old entries → StandsFor (joined live inside.held inside.rings filters slots) entries
-stands_later now inside old live filters slots entries same less limits at comes install stands =
+    → StandsFor old entries → StandsFor (joined live inside.held inside.rings filters last) entries
+stands_later now inside old live filters last entries same less limits at comes install stands =
     let here : StandsFor inside entries = subst (λ r. StandsFor r entries) (sym same) stands in
     let later : time_of inside ≤ now = subst (λ r. time_of r ≤ now) (sym same) less in
     record {
@@ -281,11 +280,11 @@ pub record Filtered (inside : RegistryValue) (filters : FiltersValue) (entries :
   pub filters_are : rows.StandsFor filters inside.live.time entries
   pub limits_are : KeepsLimits inside.live.limits inside.live.time entries
 
-stands_more : (inside : RegistryValue) (live : LiveValue) (held : Tables) (rings : List RingValue) (filters : FiltersValue) (slots : KeptValue) (slot : ℕ) (e : Entry) (entries : List Entry)
+stands_more : (inside : RegistryValue) (live : LiveValue) (held : Tables) (rings : List RingValue) (filters : FiltersValue) (last : Option ℕ) (slot : ℕ) (e : Entry) (entries : List Entry)
     → StandsFor inside entries → has_ring inside.rings e ≡ true → SameButRows inside.live live → rings ≡ rings_with slot e inside.rings
     → lives.StandsFor live (entries ++ e ∷ []) → things.StandsFor held (entries ++ e ∷ []) → Filtered inside filters (entries ++ e ∷ [])
-    → StandsFor (joined live held rings filters slots) (entries ++ e ∷ [])
-stands_more inside live held rings filters slots slot e entries stands has but made alive kept filtered =
+    → StandsFor (joined live held rings filters last) (entries ++ e ∷ [])
+stands_more inside live held rings filters last slot e entries stands has but made alive kept filtered =
     let pairs : map pair_of rings ≡ map pair_of inside.rings = made_pairs slot e inside.rings rings made in
     record {
       live = alive;
@@ -315,12 +314,12 @@ stands_more inside live held rings filters slots slot e entries stands has but m
           (subst (λ t. KeepsLimits inside.live.limits t (entries ++ e ∷ [])) (sym but.time) filtered.limits_are);
     }
 
-pub put_stands : (inside old : RegistryValue) (live : LiveValue) (rings : List RingValue) (filters : FiltersValue) (slots : KeptValue) (slot : ℕ) (e entry : Entry) (entries : List Entry)
+pub put_stands : (inside old : RegistryValue) (live : LiveValue) (rings : List RingValue) (filters : FiltersValue) (last : Option ℕ) (slot : ℕ) (e entry : Entry) (entries : List Entry)
     → inside ≡ old → entry ≡ silent e → FitsIn old e → puts e ≡ true → SameButRows inside.live live → rings ≡ rings_with slot e inside.rings
     → ((x : Entry) → bare x ≡ bare entry → lives.StandsFor inside.live entries → lives.StandsFor live (entries ++ x ∷ []))
     → (StandsFor inside entries → Filtered inside filters (entries ++ e ∷ []))
-    → StandsFor old entries → StandsFor (joined live inside.held rings filters slots) (entries ++ e ∷ [])
-put_stands inside old live rings filters slots slot e entry entries same is fits put but made alive install stands =
+    → StandsFor old entries → StandsFor (joined live inside.held rings filters last) (entries ++ e ∷ [])
+put_stands inside old live rings filters last slot e entry entries same is fits put but made alive install stands =
     let here : StandsFor inside entries = subst (λ r. StandsFor r entries) (sym same) stands in
     stands_more
     inside
@@ -328,7 +327,7 @@ put_stands inside old live rings filters slots slot e entry entries same is fits
     inside.held
     rings
     filters
-    slots
+    last
     slot
     e
     entries
@@ -356,31 +355,32 @@ held_fits inside old e entry same is fits =
     (sym is)
     (here.entries, here.stands.held, accepted_by inside.held here.entries (silent e) here.stands.held ∙ accepted inside e here)
 
-pub write_stands : (inside old : RegistryValue) (live : LiveValue) (held : Tables) (rings : List RingValue) (filters : FiltersValue) (slots : KeptValue) (slot : ℕ) (e entry : Entry)
+pub write_stands : (inside old : RegistryValue) (live : LiveValue) (held : Tables) (rings : List RingValue) (filters : FiltersValue) (last : Option ℕ) (slot : ℕ) (e entry : Entry)
     (entries : List Entry) → inside ≡ old
     → entry ≡ silent e → FitsIn old e → SameButRows inside.live live → held.sizes ≡ inside.held.sizes → rings ≡ rings_with slot e inside.rings
     → (lives.StandsFor inside.live entries → lives.StandsFor live (entries ++ e ∷ []))
     → (things.StandsFor inside.held entries → things.StandsFor held (entries ++ entry ∷ []))
     → (StandsFor inside entries → Filtered inside filters (entries ++ e ∷ []))
-    → StandsFor old entries → StandsFor (joined live held rings filters slots) (entries ++ e ∷ [])
-write_stands inside old live held rings filters slots slot e entry entries same is fits but sizes made alive kept install stands =
+    → StandsFor old entries → StandsFor (joined live held rings filters last) (entries ++ e ∷ [])
+write_stands inside old live held rings filters last slot e entry entries same is fits but sizes made alive kept install stands =
     let here : StandsFor inside entries = subst (λ r. StandsFor r entries) (sym same) stands in
     let taken : accepts_by inside.held e ≡ true = accepted inside e (fits_inside inside old e same fits) in
-    let one : held ≡ tables_with (silent e) inside.held =
+    let more = tables_with (record { entry = silent e; slot = slot }) inside.held in
+    let one : SameButSlots held more =
     one_value
     held
-    (tables_with (silent e) inside.held)
+    more
     (entries ++ silent e ∷ [])
     sizes
     (subst (λ (x : Entry). things.StandsFor held (entries ++ x ∷ [])) is (kept here.held))
-    (stands_with inside.held entries (silent e) here.held taken) in
+    (stands_with inside.held entries (silent e) slot here.held taken) in
     stands_more
     inside
     live
     held
     rings
     filters
-    slots
+    last
     slot
     e
     entries
@@ -389,5 +389,5 @@ write_stands inside old live held rings filters slots slot e entry entries same 
     but
     made
     (alive here.live)
-    (subst (λ t. things.StandsFor t (entries ++ e ∷ [])) (sym one) (stands_with inside.held entries e here.held taken))
+    (same_stands held more (entries ++ e ∷ []) one (stands_with inside.held entries e slot here.held taken))
     (install here)

@@ -1,6 +1,7 @@
 pub mod Limits
 pub mod Judgements
 pub mod Standing
+pub mod Kept
 pub mod Fitting
 pub mod Judging
 pub mod Viewing

@@ -1,5 +1,5 @@
 -- When what a registry keeps is what a history comes to at a time.
-use Rattle.std.specs.Prelude.{◌≡◌, ℕ, Bool, true, not, ◌||◌, if◌then◌else◌, List, [], map, length}
+use Rattle.std.specs.Prelude.{◌≡◌, ℕ, Bool, true, not, ◌||◌, if◌then◌else◌, List, [], map, length, Option}
 use Rattle.std.specs.List.{list_any, list_all}
 use Rattle.dots_settings.specs.declared.limits.Limits.{Limits}
 use Rattle.dots_settings.specs.Settings.{SettingsValue}
@@ -16,17 +16,16 @@ use Rattle.coap_exchange.specs.declared.pair.Pair.{Pair}
 use Rattle.coap_exchange.specs.Pairs.{pairs_of}
 use Rattle.coap_exchange.specs.Rings.{RingValue, is_ring_of, noted}
 use Rattle.coap_exchange.specs.Noting.{AllRemember, message_of}
-use Rattle.kept_slots.specs.Kept.{KeptValue}
 
 -- What is kept: the live mitigations with the time at which they are, the registrations, aliases, access lists and
--- session configurations, the last messages of each peer and domain, the rows that filter, and the slots of a journal in which the
--- entries stand of which this is what is left.
+-- session configurations, the last messages of each peer and domain, the rows that filter, and the slot of a journal in which the last
+-- entry stands. Those of the other entries of which this is what is left stand beside it.
 pub record RegistryValue : Type 0 where
   pub live : LiveValue
   pub held : Tables
   pub rings : List RingValue
   pub filters : FiltersValue
-  pub slots : KeptValue
+  pub last : Option ℕ
 
 abbrev pub time_of : RegistryValue → ℕ
 time_of registry = registry.live.time

@@ -1,18 +1,22 @@
 //! Which slots a compaction keeps, and their new numbers.
 
-ghost use Rattle.std.specs.Prelude.{◌≡◌, ◌≤◌, [], List, length, map};
+ghost use Rattle.std.specs.Prelude.{◌≡◌, ◌≤◌, [], List, length, map, option_map, option_to_list};
 ghost use Rattle.dots_settings.specs.Settings.{SettingsValue};
 ghost use Rattle.dots_history.specs.declared.entry.Entry.{Entry};
 ghost use Rattle.dots_history.specs.Histories.{Calm};
 ghost use Rattle.dots_history.specs.Keeping.{kept};
-ghost use Rattle.dots_history.specs.Slots.{Rises};
-ghost use Rattle.mitigation_slots.specs.Slots.{Filed, entry_of, slot_of};
-ghost use Rattle.kept_slots.specs.Kept.{named_slots, filed};
+ghost use Rattle.dots_history.specs.Slots.{Rises, number_in};
+ghost use Rattle.dots_laws.specs.Filed.{Filed, entry_of, slot_of};
+ghost use Rattle.dots_laws.specs.KeptPlaces.{union};
+ghost use Rattle.dots_registry.specs.Kept.{named_slots, filed, kept_slots};
 ghost use Rattle.dots_registry.specs.Standing.{StandsFor, IsOf, time_of, number_remembered};
 ghost use Rattle.dots_registry.specs.Filed.{StandsIn, most_kept};
 
 use crate::registry::Registry;
-use dots_history::SlotList;
+use coap_exchange::Remembered;
+use dots_history::{SlotList, number_in};
+use held_resources::HeldThings;
+use live_mitigations::LiveMitigations;
 
 impl Registry {
     /// Puts the slots of the entries that a compaction keeps into the list, which is empty and has room for them: those of the entries
@@ -25,7 +29,7 @@ impl Registry {
         ensures few { length into.new.items ≤ most_kept self.now }
         ensures room { into.new.room ≡ into.old.room }
     {
-        self.slots.put_into(&self.remembered, into);
+        put_slots(&self.live, &self.held, &self.remembered, self.last, into);
     }
 
     /// Gives the slots new numbers: the slot `keep[i]` becomes the slot `i`, and one that isn't in `keep` stays. Where `keep` is what
@@ -40,6 +44,45 @@ impl Registry {
         ensures settings { (settings : SettingsValue) → IsOf settings self.old → IsOf settings self.new }
     {
         self.remembered.moved(keep);
-        self.slots.moved(keep);
+        self.live.renumber(keep);
+        self.held.renumber(keep);
+        self.last = number_of(keep, self.last);
+    }
+}
+
+/// Puts all slots that are kept into the list, which has room for them.
+fn put_slots(
+    live: &LiveMitigations,
+    held: &HeldThings,
+    remembered: &Remembered,
+    last: Option<u32>,
+    into: &mut SlotList,
+)
+    requires { length (union (kept_slots live.now.tables remembered.now last held.now.slots.rows) into.old.items) ≤ into.old.room }
+    ensures { into.new ≡ record into.old { items = union (kept_slots live.now.tables remembered.now last held.now.slots.rows) into.old.items } }
+{
+    held.put_slots(into);
+    put_last(last, into);
+    remembered.slots(into);
+    live.put_slots(into);
+}
+
+/// Puts the slot into the list, where there is one.
+fn put_last(last: Option<u32>, into: &mut SlotList)
+    requires { length (union (option_to_list last) into.old.items) ≤ into.old.room }
+    ensures { into.new ≡ record into.old { items = union (option_to_list last) into.old.items } }
+{
+    if let Some(slot) = last {
+        into.put(slot);
+    }
+}
+
+fn number_of(keep: &[u32], slot: Option<u32>) -> Option<u32>
+    requires { Rises keep.now }
+    ensures { result ≡ option_map (number_in keep.now) slot }
+{
+    match slot {
+        Some(slot) => Some(number_in(keep, slot)),
+        None => None,
     }
 }

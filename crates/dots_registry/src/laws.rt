@@ -9,6 +9,7 @@ ghost use Rattle.dots_history.specs.Keeping.{kept};
 ghost use Rattle.dots_laws.specs.Calm.{is_own};
 ghost use Rattle.dots_laws.specs.Containing.{scrubs_inside, lists_inside};
 ghost use Rattle.live_mitigations.specs.Standing.{kept_of};
+ghost use Rattle.held_resources.specs.Tables.{SameButSlots};
 ghost use Rattle.coap_exchange.specs.Rings.{messages_of, reply_to};
 ghost use Rattle.dots_registry.specs.Standing.{RegistryValue, StandsFor, IsOf, SameSize, time_of, domains_of, number_remembered};
 ghost use Rattle.dots_registry.specs.Fitting.{FitsIn, fits_now};
@@ -22,12 +23,12 @@ pub fn parts_with_the_view_are_stood_for()
         → StandsFor registry (kept (number_remembered registry) (time_of registry) entries) }
 {}
 
-/// Registries of one size and time that stand for one history keep the same mitigations and things, answer the same replies,
+/// Registries of one size and time that stand for one history keep the same mitigations and, but for slots, the same things, answer the same replies,
 /// and have the same rows.
 pub fn registries_are_one()
     ensures mitigations { (a b : RegistryValue) (entries : List Entry) → SameSize a b → StandsFor a entries → StandsFor b entries
         → (domain : ℕ) → domain < domains_of a → kept_of a.live domain ≡ kept_of b.live domain }
-    ensures things { (a b : RegistryValue) (entries : List Entry) → SameSize a b → StandsFor a entries → StandsFor b entries → a.held ≡ b.held }
+    ensures things { (a b : RegistryValue) (entries : List Entry) → SameSize a b → StandsFor a entries → StandsFor b entries → SameButSlots a.held b.held }
     ensures replies { (a b : RegistryValue) (entries : List Entry) → SameSize a b → StandsFor a entries → StandsFor b entries
         → (now peer domain id : ℕ) → reply_to id now (messages_of peer domain a.rings) ≡ reply_to id now (messages_of peer domain b.rings) }
     ensures scrubs { (a b : RegistryValue) (entries : List Entry) → SameSize a b → StandsFor a entries → StandsFor b entries → a.filters.scrubs ≡ b.filters.scrubs }

@@ -7,7 +7,9 @@
 //! [`Registry::judge_request`] and [`Registry::judge_put`] take memory.
 //!
 //! The entries of a history may stand in slots of a journal (`specs/Filed`). [`Registry::kept`] gives the slots of those that a
-//! compaction keeps, and after [`Registry::moved`] what it kept stands in the first slots.
+//! compaction keeps, and after [`Registry::moved`] what it kept stands in the first slots. Each slot is kept where what its entry came
+//! to is kept: with a live mitigation, with a thing that is held, with a message that is remembered; and that of the last entry in the
+//! registry itself. [`slot_laws`] joins them.
 //!
 //! It joins the tables of `live_mitigations`, `held_resources`, `coap_exchange` and `installed_filters`. The settings of which it is
 //! (`IsOf`) stay with the caller. [`laws`] says that it also stands for what a compaction keeps, and that nothing of it is left
@@ -22,6 +24,7 @@ mod judging;
 pub mod laws;
 mod reading;
 mod registry;
+pub mod slot_laws;
 mod viewing;
 
 pub use registry::Registry;

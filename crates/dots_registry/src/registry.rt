@@ -6,15 +6,14 @@ ghost use Rattle.dots_settings.specs.Settings.{SettingsValue};
 ghost use Rattle.dots_history.specs.declared.entry.Entry.{Entry};
 ghost use Rattle.coap_exchange.specs.Rings.{RingValue};
 ghost use Rattle.live_mitigations.specs.Ends.{never};
-ghost use Rattle.live_mitigations.specs.Standing.{puts};
+ghost use Rattle.live_mitigations.specs.Standing.{puts, kept_of};
 ghost use Rattle.filter_table.specs.Held.{row_of_scrub, row_of_acl, active_rows};
 ghost use Rattle.dots_history.specs.Rows.{plain_rows, acl_rows};
-ghost use Rattle.live_mitigations.specs.Standing.{kept_of};
 ghost use Rattle.installed_filters.specs.Filters.{rows_put, list_put, needs_rows, some_of, everyone};
 ghost use Rattle.dots_registry.specs.Standing.{StandsFor, IsOf, time_of, has_ring, silent, answered, rings_with};
 ghost use Rattle.dots_registry.specs.Fitting.{FitsIn};
-ghost use Rattle.mitigation_slots.specs.Slots.{Filed};
-ghost use Rattle.dots_registry.specs.Filed.{StandsIn, CanTake, taken_in};
+ghost use Rattle.dots_laws.specs.Filed.{Filed};
+ghost use Rattle.dots_registry.specs.Filed.{StandsIn};
 
 use crate::expiring::expire_all;
 use coap_exchange::Remembered;
@@ -25,7 +24,6 @@ use filter_rows::{AclRow, ScrubRow};
 use filter_table::FilterTable;
 use held_resources::HeldThings;
 use installed_filters::{InstalledFilters, Staged, is_mitigating};
-use kept_slots::KeptSlots;
 use live_mitigations::{LiveMitigations, puts};
 use std::alloc::Global;
 use std::marker::Model;
@@ -39,7 +37,8 @@ pub struct Registry {
     pub(crate) held: HeldThings,
     pub(crate) remembered: Remembered,
     filters: InstalledFilters,
-    pub(crate) slots: KeptSlots,
+    /// The slot of a journal in which the last entry stands.
+    pub(crate) last: Option<u32>,
 }
 
 impl Model for Registry {
@@ -53,7 +52,7 @@ impl Model for Registry {
       held = registry.held;
       rings = registry.remembered;
       filters = registry.filters;
-      slots = registry.slots;
+      last = registry.last;
     } };
 
     ghost invariant = { λ registry. IsFiled (record {
@@ -61,7 +60,7 @@ impl Model for Registry {
       held = registry.held;
       rings = registry.remembered;
       filters = registry.filters;
-      slots = registry.slots;
+      last = registry.last;
     }) };
 }
 
@@ -87,17 +86,13 @@ impl Registry {
             Ok(filters) => filters,
             Err(fault) => return Err(give_up((live, held, remembered), fault)),
         };
-        let slots = match KeptSlots::new(alloc, settings) {
-            Ok(slots) => slots,
-            Err(fault) => return Err(give_up((live, held, remembered, filters), fault)),
-        };
         Ok(Registry {
             alloc,
             live,
             held,
             remembered,
             filters,
-            slots,
+            last: None,
         })
     }
 
@@ -123,7 +118,7 @@ impl Registry {
         ensures rings { self.new.rings ≡ self.old.rings }
         ensures settings { (settings : SettingsValue) → IsOf settings self.old → IsOf settings self.new }
     {
-        expire_all(&mut self.live, &mut self.filters, &mut self.slots, now);
+        expire_all(&mut self.live, &mut self.filters, now);
         self.live.tick(now);
     }
 
@@ -180,9 +175,9 @@ impl Registry {
     {
         self.filters
             .put(&entry, scrubs, self.live.rows(entry.domain));
-        take_slot(&mut self.slots, &self.live, &entry, slot);
         let entry = remember(&mut self.remembered, self.alloc, entry, slot);
-        self.live.put(entry);
+        self.live.put(entry, slot);
+        self.last = Some(slot);
     }
 
     /// Takes an entry at the time that puts no mitigation, with the row of the access list that it writes.
@@ -200,10 +195,10 @@ impl Registry {
         let mitigating = has_live(&self.live, &entry);
         let acls = self.held.acls(entry.domain, entry.cuid.bytes());
         self.filters.write(&entry, list, mitigating, acls);
-        take_slot(&mut self.slots, &self.live, &entry, slot);
-        self.live.note(&entry);
+        self.live.note(&entry, slot);
         let entry = remember(&mut self.remembered, self.alloc, entry, slot);
-        self.held.apply(entry);
+        self.held.apply(entry, slot);
+        self.last = Some(slot);
     }
 }
 
@@ -242,15 +237,4 @@ fn note_signal(remembered: &mut Remembered, entry: &Entry, slot: u32, reply: Byt
     if is_signal(&entry.change) {
         remembered.note(entry.peer, entry.domain, entry.key, entry.time, slot, reply);
     }
-}
-
-/// Takes the slot of an entry, before the live mitigations take the entry.
-fn take_slot(slots: &mut KeptSlots, live: &LiveMitigations, entry: &Entry, slot: u32)
-    requires { CanTake live.now slots.old (record { entry = entry.now; slot = slot }) }
-    ensures { slots.new ≡ taken_in live.now (record { entry = entry.now; slot = slot }) slots.old }
-{
-    if entry.domain < live.domains() {
-        return slots.take(live.rows(entry.domain), entry, slot);
-    }
-    slots.take_outside(entry, slot);
 }

@@ -4,3 +4,8 @@ pub mod Configs
 pub mod Places
 pub mod Standing
 pub mod Lawful
+pub mod Names
+pub mod Going
+pub mod Named
+pub mod Slots
+pub mod Sizing

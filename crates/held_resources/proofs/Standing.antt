@@ -23,7 +23,9 @@ use Rattle.dots_laws.proofs.Single.{of_itself, is_of_client, client_is_of}
 use Rattle.held_resources.specs.declared.rooms.Rooms.{Rooms}
 use Rattle.held_resources.specs.declared.sessions.Session.{Session}
 use Rattle.held_resources.specs.Held.{alias_of, aliases_of, acls_of, registers, is_registered, registrant, config_of}
-use Rattle.held_resources.specs.Tables.{Sizes, Tables, Clients, Holding, Have, StandsFor, KeepsRoom, is_known, holding_of, holdings, clients_of, clients_with, list_with, has_cuid, aliases_with, acls_with, update, tables_with, session_with, session_of, no_session, peer_of, no_clients, rooms_of, sizes_of, client_at, in_clients, registrant_in, aliases_in, acls_in, number_in, config_in}
+use Rattle.dots_laws.specs.Filed.{Filed}
+use Rattle.held_resources.specs.Rows.{HeldRows, rows_more}
+use Rattle.held_resources.specs.Tables.{SameButSlots, Sizes, Tables, Clients, Holding, Have, StandsFor, KeepsRoom, is_known, holding_of, holdings, clients_of, clients_with, list_with, has_cuid, aliases_with, acls_with, update, tables_with, session_with, session_of, no_session, peer_of, no_clients, rooms_of, sizes_of, client_at, in_clients, registrant_in, aliases_in, acls_in, number_in, config_in}
 use Rattle.held_resources.specs.Accepting.{keeps_rooms, keeps_room, takes, Takes, rightly, takes_in, accepts_by, accepts}
 use Rattle.held_resources.proofs.Written.{other_way, own_aliases, own_acls, number_of_aliases, number_of_acls, no_aliases, no_acls}
 use Rattle.held_resources.proofs.Holdings.{IsFresh, length_holdings, own_holdings, others_holdings, any_is, still_some, find_client, any_client, if_registered, registered_cases, not_registered}
@@ -409,8 +411,8 @@ module _ (tables : Tables) (es : List Entry) (have : Have tables es) (e : Entry)
       (sym (registered_is tables es have (client_of e))))
 
   -- ---- one more entry
-  pub have_with : accepts_in tables.sizes es e ≡ true → Have (tables_with e tables) (held_with e es)
-  have_with accepted =
+  pub have_with : (slot : ℕ) → accepts_in tables.sizes es e ≡ true → Have (tables_with (record { entry = e; slot = slot }) tables) (held_with e es)
+  have_with slot accepted =
       let parts = and_parts (is_known tables.sizes e) (laws.registers_rightly es e && keeps_rooms tables.sizes.rooms e (held_with e es)) accepted in
       let more = and_parts (laws.registers_rightly es e) (keeps_rooms tables.sizes.rooms e (held_with e es)) parts.1 in
       let right : rightly e.change (is_registered (client_of e) es) ≡ true = sym (law_rightly es e) ∙ more.0 in
@@ -498,43 +500,47 @@ takes_from tables e accepted clients some =
     ∙ not_yet e.change (is_some (client_at e.domain e.cuid tables.clients)) registers more.0)
 
 -- ---- as clauses say it
-pub stands_with : (tables : Tables) (before : List Entry) (e : Entry) → StandsFor tables before → accepts_by tables e ≡ true
-    → StandsFor (tables_with e tables) (before ++ e ∷ [])
-stands_with tables before e stands accepted =
+pub stands_with : (tables : Tables) (before : List Entry) (e : Entry) (slot : ℕ) → StandsFor tables before → accepts_by tables e ≡ true
+    → StandsFor (tables_with (record { entry = e; slot = slot }) tables) (before ++ e ∷ [])
+stands_with tables before e slot stands accepted =
     subst
-    (Have (tables_with e tables))
+    (Have (tables_with (record { entry = e; slot = slot }) tables))
     (sym (held_push e before))
-    (have_with tables (held before) stands e (accepts_is tables (held before) stands e ∙ accepted))
+    (have_with tables (held before) stands e slot (accepts_is tables (held before) stands e ∙ accepted))
 
 pub accepted_by : (tables : Tables) (before : List Entry) (e : Entry) → StandsFor tables before → accepts tables.sizes before e ≡ accepts_by tables e
 accepted_by tables before e stands = accepts_held tables.sizes before e ∙ accepts_is tables (held before) stands e
 
 -- ---- as the fields have it
-abbrev pub tables_of : Rooms → List Clients → List Session → Tables
-tables_of rooms clients sessions = record {
+abbrev pub tables_of : Rooms → List Clients → List Session → HeldRows → Tables
+tables_of rooms clients sessions slots = record {
   sizes = record { domains = length clients; rooms = rooms; peers = map peer_of sessions };
   clients = clients;
   sessions = sessions;
+  slots = slots;
 }
 
 same_peers : (e : Entry) (sessions : List Session) → map peer_of (map (session_with e) sessions) ≡ map peer_of sessions
 same_peers e [] = refl
 same_peers e (s ∷ sessions) = ap (λ peers. s.peer ∷ peers) (same_peers e sessions)
 
-abbrev with_sizes : ℕ → Rooms → List ℕ → List Clients → List Session → Tables
-with_sizes domains rooms peers clients sessions =
-    record { sizes = record { domains = domains; rooms = rooms; peers = peers }; clients = clients; sessions = sessions }
+abbrev with_sizes : ℕ → Rooms → List ℕ → List Clients → List Session → HeldRows → Tables
+with_sizes domains rooms peers clients sessions slots =
+    record { sizes = record { domains = domains; rooms = rooms; peers = peers }; clients = clients; sessions = sessions; slots = slots }
 
-pub fields_with : (rooms : Rooms) (clients after : List Clients) (sessions then : List Session) (e : Entry)
-    → after ≡ update (clients_with e.peer e.cuid e.change) e.domain clients → then ≡ map (session_with e) sessions
-    → tables_of rooms after then ≡ tables_with e (tables_of rooms clients sessions)
-fields_with rooms clients after sessions then e changed configured =
+pub fields_with : (rooms : Rooms) (clients after : List Clients) (sessions then : List Session) (slots now : HeldRows) (x : Filed)
+    → after ≡ update (clients_with x.entry.peer x.entry.cuid x.entry.change) x.entry.domain clients → then ≡ map (session_with x.entry) sessions
+    → now ≡ rows_more x slots
+    → tables_of rooms after then now ≡ tables_with x (tables_of rooms clients sessions slots)
+fields_with rooms clients after sessions then slots now x changed configured filed =
+    let e = x.entry in
     let more = map (session_with e) sessions in
     let others = update (clients_with e.peer e.cuid e.change) e.domain clients in
-    ap (λ cs. tables_of rooms cs then) changed
-    ∙ ap (λ ss. tables_of rooms others ss) configured
-    ∙ ap (λ n. with_sizes n rooms (map peer_of more) others more) (length_updated (clients_with e.peer e.cuid e.change) e.domain clients)
-    ∙ ap (λ peers. with_sizes (length clients) rooms peers others more) (same_peers e sessions)
+    ap (λ cs. tables_of rooms cs then now) changed
+    ∙ ap (λ ss. tables_of rooms others ss now) configured
+    ∙ ap (tables_of rooms others more) filed
+    ∙ ap (λ n. with_sizes n rooms (map peer_of more) others more (rows_more x slots)) (length_updated (clients_with e.peer e.cuid e.change) e.domain clients)
+    ∙ ap (λ peers. with_sizes (length clients) rooms peers others more (rows_more x slots)) (same_peers e sessions)
 
 -- ---- the empty history
 get_replicated : {A : Type 0} (n i : ℕ) (x y : A) → slice_get (replicate n x) i ≡ Some y → y ≡ x
@@ -550,8 +556,9 @@ sessions_at_first : (rows : List PeerRow) → map no_session rows ≡ map (sessi
 sessions_at_first [] = refl
 sessions_at_first (row ∷ rows) = ap (λ sessions. no_session row ∷ sessions) (sessions_at_first rows)
 
-pub at_first : (rooms : Rooms) (count : ℕ) (rows : List PeerRow) → Have (tables_of rooms (replicate count (no_clients rooms)) (map no_session rows)) []
-at_first rooms count rows = record {
+pub at_first : (rooms : Rooms) (count : ℕ) (rows : List PeerRow) (slots : HeldRows)
+    → Have (tables_of rooms (replicate count (no_clients rooms)) (map no_session rows) slots) []
+at_first rooms count rows slots = record {
   domains = refl;
   clients = λ domain clients some. get_replicated count domain (no_clients rooms) clients some;
   sessions = sessions_at_first rows;
@@ -559,16 +566,17 @@ at_first rooms count rows = record {
   known = refl;
 }
 
-pub stands_first : (rooms : Rooms) (count : ℕ) (rows : List PeerRow) (clients : List Clients) (sessions : List Session)
-    → clients ≡ replicate count (no_clients rooms) → sessions ≡ map no_session rows → StandsFor (tables_of rooms clients sessions) []
-stands_first rooms count rows clients sessions empty none =
-    subst (λ cs. Have (tables_of rooms cs sessions) []) (sym empty) (subst (λ ss. Have (tables_of rooms (replicate count (no_clients rooms)) ss) []) (sym none) (at_first rooms count rows))
+pub stands_first : (rooms : Rooms) (count : ℕ) (rows : List PeerRow) (clients : List Clients) (sessions : List Session) (slots : HeldRows)
+    → clients ≡ replicate count (no_clients rooms) → sessions ≡ map no_session rows → StandsFor (tables_of rooms clients sessions slots) []
+stands_first rooms count rows clients sessions slots empty none =
+    subst (λ cs. Have (tables_of rooms cs sessions slots) []) (sym empty)
+    (subst (λ ss. Have (tables_of rooms (replicate count (no_clients rooms)) ss slots) []) (sym none) (at_first rooms count rows slots))
 
-pub sizes_first : (settings : SettingsValue) (rooms : Rooms) (count : ℕ) (clients : List Clients) (sessions : List Session)
+pub sizes_first : (settings : SettingsValue) (rooms : Rooms) (count : ℕ) (clients : List Clients) (sessions : List Session) (slots : HeldRows)
     → rooms ≡ rooms_of settings.limits → count ≡ length settings.domains
     → clients ≡ replicate count (no_clients rooms) → sessions ≡ map no_session settings.peers
-    → (tables_of rooms clients sessions).sizes ≡ sizes_of settings
-sizes_first settings rooms count clients sessions limits number empty none =
+    → (tables_of rooms clients sessions slots).sizes ≡ sizes_of settings
+sizes_first settings rooms count clients sessions slots limits number empty none =
     ap (λ cs. sizes_by (length cs) rooms (map peer_of sessions)) empty
     ∙ ap (λ n. sizes_by n rooms (map peer_of sessions)) (length-replicate count (no_clients rooms) ∙ number)
     ∙ ap (λ ss. sizes_by (length settings.domains) rooms (map peer_of ss)) none
@@ -588,22 +596,28 @@ all_same (x ∷ xs) (y ∷ ys) size each =
     ap (λ z. z ∷ xs) (each zero x y refl refl)
     ∙ ap (λ zs. y ∷ zs) (all_same xs ys (omega (arith, size)) (λ i a b in_xs in_ys. each (suc i) a b in_xs in_ys))
 
-abbrev tables_by : Sizes → List Clients → List Session → Tables
-tables_by sizes clients sessions = record { sizes = sizes; clients = clients; sessions = sessions }
+pub one_value : (a b : Tables) (entries : List Entry) → a.sizes ≡ b.sizes → StandsFor a entries → StandsFor b entries → SameButSlots a b
+one_value a b entries sizes first second = record {
+  sizes = sizes;
+  clients = all_same
+      a.clients
+      b.clients
+      (first.domains ∙ ap (λ (s : Sizes). s.domains) sizes ∙ sym second.domains)
+      (λ i x y in_a in_b.
+      first.clients i x in_a
+      ∙ ap (λ (s : Sizes). clients_of s.rooms i (held entries)) sizes
+      ∙ sym (second.clients i y in_b));
+  sessions = first.sessions ∙ ap (λ (s : Sizes). map (session_of (held entries)) s.peers) sizes ∙ sym second.sessions;
+}
 
-pub one_value : (a b : Tables) (entries : List Entry) → a.sizes ≡ b.sizes → StandsFor a entries → StandsFor b entries → a ≡ b
-one_value a b entries sizes first second =
-    ap (λ s. tables_by s a.clients a.sessions) sizes
-    ∙ ap
-    (λ cs. tables_by b.sizes cs a.sessions)
-    (all_same
-    a.clients
-    b.clients
-    (first.domains ∙ ap (λ (s : Sizes). s.domains) sizes ∙ sym second.domains)
-    (λ i x y in_a in_b.
-    first.clients i x in_a
-    ∙ ap (λ (s : Sizes). clients_of s.rooms i (held entries)) sizes
-    ∙ sym (second.clients i y in_b)))
-    ∙ ap
-    (tables_by b.sizes b.clients)
-    (first.sessions ∙ ap (λ (s : Sizes). map (session_of (held entries)) s.peers) sizes ∙ sym second.sessions)
+-- what is the same but for the slots stands for the same
+pub same_stands : (a b : Tables) (entries : List Entry) → SameButSlots a b → StandsFor b entries → StandsFor a entries
+same_stands a b entries same have = record {
+  domains = ap length same.clients ∙ have.domains ∙ sym (ap (λ (s : Sizes). s.domains) same.sizes);
+  clients = λ domain clients some.
+      have.clients domain clients (ap (λ cs. slice_get cs domain) (sym same.clients) ∙ some)
+      ∙ ap (λ (s : Sizes). clients_of s.rooms domain (held entries)) (sym same.sizes);
+  sessions = same.sessions ∙ have.sessions ∙ ap (λ (s : Sizes). map (session_of (held entries)) s.peers) (sym same.sizes);
+  owned = have.owned;
+  known = subst (λ s. list_all (is_known s) (held entries) ≡ true) (sym same.sizes) have.known;
+}

@@ -15,11 +15,13 @@ use Rattle.dots_history.specs.Entries.{undoes_alias, undoes_acl, is_configuratio
 use Rattle.dots_history.specs.Histories.{held}
 use Rattle.dots_history.specs.Rows.{acl_of}
 use Rattle.dots_laws.specs.Capacities.{is_registration, has_client}
+use Rattle.dots_laws.specs.Filed.{Filed}
 use Rattle.dots_laws.specs.Tables.{Client, client_of}
 use Rattle.held_resources.specs.declared.kind.RoomKind.{RoomKind}
 use Rattle.held_resources.specs.declared.kind.RoomKind.TheVariants as kind
 use Rattle.held_resources.specs.declared.rooms.Rooms.{Rooms}
 use Rattle.held_resources.specs.declared.sessions.Session.{Session}
+use Rattle.held_resources.specs.Rows.{HeldRows, rows_more, rows_moved}
 use Rattle.held_resources.specs.Held.{alias_of, aliases_of, acls_of, config_of}
 
 -- How many domains there are, how much each of them and its clients may have, and which peers may have a session
@@ -165,6 +167,8 @@ pub record Tables : Type 0 where
   -- by the number of the domain
   pub clients : List Clients
   pub sessions : List Session
+  -- of each thing that is held, the slot of a journal in which the entry stands that wrote it
+  pub slots : HeldRows
 
 -- f of what stands at the place
 abbrev pub update : {A : Type 0} → (A → A) → ℕ → List A → List A
@@ -172,12 +176,28 @@ update f i [] = []
 update f zero (x ∷ xs) = f x ∷ xs
 update f (suc i) (x ∷ xs) = x ∷ update f i xs
 
-abbrev pub tables_with : Entry → Tables → Tables
-tables_with e tables = record {
+abbrev pub tables_with : Filed → Tables → Tables
+tables_with x tables = record {
   sizes = tables.sizes;
-  clients = update (clients_with e.peer e.cuid e.change) e.domain tables.clients;
-  sessions = map (session_with e) tables.sessions;
+  clients = update (clients_with x.entry.peer x.entry.cuid x.entry.change) x.entry.domain tables.clients;
+  sessions = map (session_with x.entry) tables.sessions;
+  slots = rows_more x tables.slots;
 }
+
+-- the slots get new numbers
+abbrev pub tables_renumbered : List ℕ → Tables → Tables
+tables_renumbered keep tables = record {
+  sizes = tables.sizes;
+  clients = tables.clients;
+  sessions = tables.sessions;
+  slots = rows_moved keep tables.slots;
+}
+
+-- but for the slots the two are the same
+pub record SameButSlots (a b : Tables) : Type 0 where
+  pub sizes : a.sizes ≡ b.sizes
+  pub clients : a.clients ≡ b.clients
+  pub sessions : a.sessions ≡ b.sessions
 
 -- the entry is of one of the domains, or it configures the session of one of the peers
 abbrev pub is_known : Sizes → Entry → Bool

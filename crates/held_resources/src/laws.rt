@@ -1,14 +1,17 @@
 //! Laws of what clients and peers hold: each function's contract is a law, and its body does nothing.
 
-ghost use Rattle.std.specs.Prelude.{◌≡◌, ◌&&◌, ◌++◌, ◌∷◌, [], true, false, List};
+ghost use Rattle.std.specs.Prelude.{◌≡◌, ℕ, ◌&&◌, ◌++◌, ◌∷◌, [], true, false, List, length, map};
 ghost use Rattle.dots_settings.specs.Settings.{SettingsValue};
 ghost use Rattle.dots_history.specs.declared.entry.Entry.{Entry};
 ghost use Rattle.dots_history.specs.Histories.{held};
 ghost use Rattle.dots_laws.specs.Calm.{is_of_settings};
+ghost use Rattle.dots_laws.specs.Filed.{Filed, entry_of, slot_of, refiled};
+ghost use Rattle.dots_laws.specs.KeptPlaces.{at_places, held_places};
 ghost use Rattle.dots_laws.specs.Fits.{fits, registers_rightly, is_of_mitigations};
 ghost use Rattle.dots_laws.specs.Tables.{Client, is_of};
 ghost use Rattle.held_resources.specs.Held.{aliases_of, acls_of, is_registered, of_client};
-ghost use Rattle.held_resources.specs.Tables.{Tables, StandsFor, sizes_of};
+ghost use Rattle.held_resources.specs.Tables.{Tables, StandsFor, SameButSlots, sizes_of};
+ghost use Rattle.held_resources.specs.Rows.{rows_of, rows_with, slots_in, renumbered};
 ghost use Rattle.held_resources.specs.Accepting.{accepts, accepts_by, keeps_rooms};
 
 /// Clients are apart: whether a client is registered, its aliases and its access lists are what its own entries come to alone, and
@@ -42,7 +45,21 @@ pub fn what_fits_is_accepted()
         → accepts tables.sizes xs e ≡ accepts tables.sizes ys e }
 {}
 
-/// Tables of one size that stand for one history are the same: nothing of them is left open.
+/// Tables of one size that stand for one history are the same but for the slots: nothing of them is left open.
 pub fn tables_are_one()
-    ensures { (a b : Tables) (entries : List Entry) → a.sizes ≡ b.sizes → StandsFor a entries → StandsFor b entries → a ≡ b }
+    ensures { (a b : Tables) (entries : List Entry) → a.sizes ≡ b.sizes → StandsFor a entries → StandsFor b entries → SameButSlots a b }
+{}
+
+/// The rows of a history whose entries stand in slots go on with each entry in a slot, and with new numbers of the slots; and there are
+/// as many as things are held.
+pub fn rows_go_on()
+    ensures none { rows_of [] ≡ [] }
+    ensures more { (filed : List Filed) (x : Filed) → rows_of (filed ++ x ∷ []) ≡ rows_with x (rows_of filed) }
+    ensures moved { (keep : List ℕ) (filed : List Filed) → map (renumbered keep) (rows_of filed) ≡ rows_of (map (refiled keep) filed) }
+    ensures many { (filed : List Filed) → length (rows_of filed) ≡ length (held (map entry_of filed)) }
+{}
+
+/// Their slots are those in which the entries stand that a compaction keeps for what is held, in order.
+pub fn held_slots_are_named()
+    ensures { (filed : List Filed) → slots_in (rows_of filed) ≡ at_places (map slot_of filed) (held_places (map entry_of filed)) }
 {}

@@ -1,22 +1,31 @@
 //! What is held of clients and peers.
 
-ghost use Rattle.std.specs.Prelude.{◌≡◌, ◌==◌, ◌++◌, ◌∷◌, [], List, Some, map, replicate, IfOk, option_copied, option_map, is_some, slice_get};
+ghost use Rattle.std.specs.Prelude.{◌≡◌, ◌==◌, ◌++◌, ◌∷◌, ◌≤◌, [], List, Some, length, map, replicate, IfOk, option_copied, option_map, is_some, slice_get};
 ghost use Rattle.std.specs.List.{list_any, find};
 ghost use Rattle.dots_history.specs.declared.entry.Entry.{Entry};
 ghost use Rattle.dots_history.specs.Entries.{is_configuration};
 ghost use Rattle.dots_history.specs.Histories.{held};
 ghost use Rattle.dots_laws.specs.Capacities.{is_registration, is_alias, is_list};
 ghost use Rattle.held_resources.specs.Held.{aliases_of, acls_of, alias_named, acl_named, is_registered, registrant, config_of, number_of, reached};
-ghost use Rattle.held_resources.specs.Tables.{StandsFor, Clients, sizes_of, rooms_of, no_clients, peer_of, update, clients_with, tables_with, is_known, client_at, registrant_in, aliases_in, acls_in, number_in, config_in, most_of, told};
+ghost use Rattle.held_resources.specs.Tables.{StandsFor, Clients, sizes_of, rooms_of, no_clients, peer_of, update, clients_with, tables_with, tables_renumbered, is_known, client_at, registrant_in, aliases_in, acls_in, number_in, config_in, most_of, told};
+ghost use Rattle.dots_history.specs.Slots.{Rises};
+ghost use Rattle.dots_laws.specs.KeptPlaces.{union};
+ghost use Rattle.held_resources.specs.Rows.{rows_with, rows_more, slots_in};
+ghost use Rattle.held_resources.specs.Sizes.{most_held};
 ghost use Rattle.held_resources.specs.Accepting.{accepts, accepts_by, FitsIn, Takes, rightly, takes_in};
 
 use crate::domain_clients::DomainClients;
 use crate::kind::RoomKind;
+use crate::reading::{
+    acl_named, acls_of, alias_named, aliases_of, config_in, is_there, registrant_of,
+};
 use crate::registered_client::RegisteredClient;
 use crate::rooms::Rooms;
+use crate::rows::HeldSlots;
 use crate::sessions::{Session, configure, no_sessions};
+use crate::size::most_held;
 use acl_lists::{Acl, Alias};
-use dots_history::{Change, Config, Entry};
+use dots_history::{Change, Config, Entry, SlotList};
 use dots_lists::{Name, NoMemory};
 use dots_settings::{Limits, Settings};
 use std::alloc::Global;
@@ -30,6 +39,7 @@ pub struct HeldThings {
     domains: Vec<DomainClients>,
     /// One for each peer of the settings.
     sessions: Vec<Session>,
+    slots: HeldSlots,
 }
 
 impl Model for HeldThings {
@@ -42,6 +52,7 @@ impl Model for HeldThings {
       sizes = record { domains = length things.domains.items; rooms = things.rooms; peers = map peer_of things.sessions.items };
       clients = things.domains.items;
       sessions = things.sessions.items;
+      slots = things.slots;
     } };
 }
 
@@ -50,14 +61,17 @@ impl HeldThings {
     pub fn new(alloc: Global, settings: &Settings) -> Result<Self, NoMemory>
         ensures stands { IfOk result (λ things. StandsFor things []) }
         ensures sizes { IfOk result (λ things. things.sizes ≡ sizes_of settings.now) }
+        ensures slots { IfOk result (λ things. things.slots ≡ record { room = most_held settings.now; rows = [] }) }
     {
         let rooms = rooms_of(settings.limits());
         let domains = no_clients(alloc, settings.domains(), rooms)?;
         let sessions = no_sessions(alloc, settings.peers())?;
+        let slots = HeldSlots::new(alloc, most_held(settings) as usize)?;
         Ok(HeldThings {
             rooms,
             domains,
             sessions,
+            slots,
         })
     }
 
@@ -77,21 +91,44 @@ impl HeldThings {
         self.knows(entry) && registers_rightly(&entry.change, registered) && self.takes(entry)
     }
 
-    /// Stands for a history with one more entry, which fits it.
-    pub fn apply(&mut self, entry: Entry)
-        requires { FitsIn self.old entry }
+    /// Stands for a history with one more entry, which fits it, in this slot of the journal. Its cuid has at most 64 bytes, and there is
+    /// room for its slot.
+    pub fn apply(&mut self, entry: Entry, slot: u32)
+        requires fits { FitsIn self.old entry }
+        requires name { length entry.cuid ≤ 64 }
+        requires room { length (rows_with (record { entry = entry; slot = slot }) self.old.slots.rows) ≤ self.old.slots.room }
         ensures stands { (entries : List Entry) → StandsFor self.old entries → StandsFor self.new (entries ++ entry ∷ []) }
         ensures sizes { self.new.sizes ≡ self.old.sizes }
+        ensures slots { self.new.slots ≡ rows_more (record { entry = entry; slot = slot }) self.old.slots }
     {
-        self.put(entry);
+        self.put(entry, slot);
     }
 
-    fn put(&mut self, entry: Entry)
-        requires { (clients : Clients) → slice_get self.old.clients entry.domain ≡ Some clients → Takes entry.peer entry.cuid entry.change clients }
-        ensures { self.new ≡ tables_with entry self.old }
+    fn put(&mut self, entry: Entry, slot: u32)
+        requires takes { (clients : Clients) → slice_get self.old.clients entry.domain ≡ Some clients → Takes entry.peer entry.cuid entry.change clients }
+        requires name { length entry.cuid ≤ 64 }
+        requires room { length (rows_with (record { entry = entry; slot = slot }) self.old.slots.rows) ≤ self.old.slots.room }
+        ensures { self.new ≡ tables_with (record { entry = entry; slot = slot }) self.old }
     {
+        self.slots.take(&entry, slot);
         configure(&mut self.sessions, &entry);
         change_clients(&mut self.domains, entry);
+    }
+
+    /// Puts the slots of a journal in which the entries stand that wrote what is held into the list, which has room for them.
+    pub fn put_slots(&self, into: &mut SlotList)
+        requires { length (union (slots_in self.now.slots.rows) into.old.items) ≤ into.old.room }
+        ensures { into.new ≡ record into.old { items = union (slots_in self.now.slots.rows) into.old.items } }
+    {
+        self.slots.slots(into);
+    }
+
+    /// Gives the slots new numbers: the slot `keep[i]` becomes the slot `i`, and one that isn't in `keep` stays.
+    pub fn renumber(&mut self, keep: &[u32])
+        requires { Rises keep.now }
+        ensures { self.new ≡ tables_renumbered keep.now self.old }
+    {
+        self.slots.moved(keep);
     }
 
     /// Whether the client is registered.
@@ -303,65 +340,6 @@ fn has_peer(sessions: &[Session], peer: u32) -> bool
     ensures { result ≡ list_any (λ session. peer == session.peer) sessions.now }
 {
     sessions.iter().any(|session| peer == session.peer)
-}
-
-fn config_in(session: Option<&Session>) -> Option<(u32, &Config)>
-    ensures { option_map told result ≡ config_in (option_copied session.entry) }
-{
-    match &session?.config {
-        Some((sid, config)) => Some((*sid, config)),
-        None => None,
-    }
-}
-
-fn is_there(client: Option<&RegisteredClient>) -> bool
-    ensures { result ≡ is_some (option_copied client.entry) }
-{
-    match client {
-        Some(_) => true,
-        None => false,
-    }
-}
-
-fn registrant_of(client: Option<&RegisteredClient>) -> Option<u32>
-    ensures { result ≡ registrant_in (option_copied client.entry) }
-{
-    match client {
-        Some(client) => Some(client.peer()),
-        None => None,
-    }
-}
-
-fn aliases_of(client: Option<&RegisteredClient>) -> &[Alias]
-    ensures { result.now ≡ aliases_in (option_copied client.entry) }
-{
-    match client {
-        Some(client) => client.aliases(),
-        None => &[],
-    }
-}
-
-fn acls_of(client: Option<&RegisteredClient>) -> &[Acl]
-    ensures { result.now ≡ acls_in (option_copied client.entry) }
-{
-    match client {
-        Some(client) => client.acls(),
-        None => &[],
-    }
-}
-
-fn alias_named<'a>(aliases: &'a [Alias], name: &Name) -> Option<&'a Alias>
-    ensures { option_copied result ≡ alias_named name.now aliases.now }
-{
-    aliases
-        .iter()
-        .find(|alias| name.bytes() == alias.name.bytes())
-}
-
-fn acl_named<'a>(acls: &'a [Acl], name: &Name) -> Option<&'a Acl>
-    ensures { option_copied result ≡ acl_named name.now acls.now }
-{
-    acls.iter().find(|acl| name.bytes() == acl.name.bytes())
 }
 
 fn most_of(rooms: Rooms, kind: RoomKind) -> usize

@@ -4,3 +4,11 @@ pub mod Updates
 pub mod Standing
 pub mod Room
 pub mod Peers
+pub mod Going
+pub mod Bared
+pub mod SlotsStanding
+pub mod Members
+pub mod Kept
+pub mod Domains
+pub mod Unions
+pub mod Beside

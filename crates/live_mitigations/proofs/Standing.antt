@@ -9,6 +9,7 @@ use Rattle.std.proofs.lemmas.Bool.{cases_eq, cond-true, cond-false, eq-eqb, ne_e
 use Rattle.dots_settings.specs.declared.limits.Limits.{Limits}
 use Rattle.dots_history.specs.declared.entry.Entry.{Entry}
 use Rattle.dots_history.specs.Histories.{Mitigation, Within, tally, mitigations, alone}
+use Rattle.dots_laws.specs.Filed.{Filed}
 use Rattle.dots_laws.specs.Tables.{Client, is_of, has_mid, AreApart, bare, is_due}
 use Rattle.dots_laws.specs.Views.{mitigations_at, mitigations_with}
 use Rattle.dots_laws.proofs.Ageing.{mitigations_age}
@@ -213,8 +214,9 @@ changed_fewer f now domain old new changed within is due =
     subst (λ n. n < count_kept old) (sym (ap count_rows changed.tables)) (fewer_rows f domain old.tables there.0 there.1 less)
 
 -- an entry that puts none does the same to all, and has none of its own
-pub noted_rows : (e : Entry) (table : LiveTable) → puts e ≡ false → (noted e table).rows ≡ mitigations_with (bare e) table.rows
-noted_rows e table none =
+pub noted_rows : (x : Filed) (table : LiveTable) → puts x.entry ≡ false → (noted x table).rows ≡ mitigations_with (bare x.entry) table.rows
+noted_rows x table none =
+    let e = x.entry in
     sym (grown_rows e table.rows ∙ ap (λ ms. moved_all e table.rows ++ ms) (none_put e (puts_none e none)) ∙ append-nil (moved_all e table.rows))
 
 pub quiet_inside : (domains : ℕ) (e : Entry) → puts e ≡ false → is_inside domains e ≡ true
@@ -255,13 +257,14 @@ stands_outside live entries e past none at stands =
     stands
 
 -- a mitigation of an entry that may have lost its message and reply
-pub put_stands : (old new : LiveValue) (entries : List Entry) (put e : Entry) → Changed (grown (bare put)) put.domain old new → bare e ≡ bare put
-    → put.time ≡ old.time → put.domain < old.domains → StandsFor old entries → StandsFor new (entries ++ e ∷ [])
-put_stands old new entries put e changed same at within stands =
+pub put_stands : (old new : LiveValue) (entries : List Entry) (slot : ℕ) (put e : Entry) → Changed (grown (record { entry = put; slot = slot })) put.domain old new
+    → bare e ≡ bare put → put.time ≡ old.time → put.domain < old.domains → StandsFor old entries → StandsFor new (entries ++ e ∷ [])
+put_stands old new entries slot put e changed same at within stands =
+    let f = grown (record { entry = put; slot = slot }) in
     let domain : e.domain ≡ put.domain = ap (λ (x : Entry). x.domain) same in
     let time : e.time ≡ put.time = ap (λ (x : Entry). x.time) same in
-    let here : Changed (grown (bare put)) e.domain old new = subst (λ d. Changed (grown (bare put)) d old new) (sym domain) changed in
-    changed_stands (grown (bare put)) old new entries e here
+    let here : Changed f e.domain old new = subst (λ d. Changed f d old new) (sym domain) changed in
+    changed_stands f old new entries e here
     (λ table. refl)
     (λ table. ap (λ x. mitigations_with x table.rows) (sym same))
     (time ∙ at)

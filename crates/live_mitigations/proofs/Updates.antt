@@ -94,7 +94,7 @@ get_before [] x (suc place) apart = refl
 get_before (y ∷ ys) x zero apart = refl
 get_before (y ∷ ys) x (suc place) apart = get_before ys x place (λ same. apart (omega (arith, same)))
 
-pub empty_more : (number room : ℕ) (tables more : List LiveTable) (table : LiveTable) → AreEmpty number room tables → table ≡ record { room = room; rows = [] }
+pub empty_more : (number room : ℕ) (tables more : List LiveTable) (table : LiveTable) → AreEmpty number room tables → table ≡ record { room = room; rows = []; slots = [] }
     → more ≡ tables ++ table ∷ [] → AreEmpty (number + 1) room more
 empty_more number room tables more table are is pushed = record {
   counted = ap length pushed ∙ length-append tables (table ∷ []) ∙ ap (λ n. n + 1) are.counted;

@@ -1,26 +1,28 @@
 -- The live mitigations of a domain, and those of all domains, as tables keep them.
-use Rattle.std.specs.Prelude.{◌≡◌, ℕ, zero, suc, ◌+◌, Bool, List, [], ◌∷◌, map, length, slice_get, Option, Some, None, option_map}
+use Rattle.std.specs.Prelude.{◌≡◌, ℕ, zero, suc, ◌+◌, Bool, List, [], ◌∷◌, ◌++◌, map, length, slice_get, Option, Some, None, option_map}
 use Rattle.std.specs.List.{list_any}
 use Rattle.dots_history.specs.declared.entry.Entry.{Entry}
 use Rattle.dots_history.specs.declared.status.Status.TheVariants.{Open}
 use Rattle.dots_history.specs.Histories.{Mitigation, live, step}
 use Rattle.dots_history.specs.Keeping.{moved}
+use Rattle.dots_laws.specs.Filed.{Filed}
 use Rattle.dots_laws.specs.Tables.{bare}
 use Rattle.dots_laws.specs.Views.{mitigations_at, mitigations_with}
 use Rattle.lifetime_clock.specs.Times.{Times, IsMap, time_of}
+use Rattle.live_mitigations.specs.declared.slots.MitigationSlots.{MitigationSlots}
 use Rattle.live_mitigations.specs.Ends.{first_end}
+use Rattle.live_mitigations.specs.Slots.{slots_at, slots_left, slots_first}
 
--- how many there is room for, and the mitigations in order of their entries
+-- how many there is room for, the mitigations in order of their entries, and of each the slots of a journal in which its entries
+-- stand
 pub record LiveTable : Type 0 where
   pub room : ℕ
   pub rows : List Mitigation
-
-abbrev pub with_rows : LiveTable → List Mitigation → LiveTable
-with_rows table rows = record { room = table.room; rows = rows }
+  pub slots : List MitigationSlots
 
 -- at this time
 abbrev pub aged : ℕ → LiveTable → LiveTable
-aged now table = with_rows table (mitigations_at now table.rows)
+aged now table = record { room = table.room; rows = mitigations_at now table.rows; slots = slots_at now table.rows table.slots }
 
 -- what an entry does to those that are there
 abbrev pub moved_all : Entry → List Mitigation → List Mitigation
@@ -30,13 +32,18 @@ moved_all e ms = mitigations_at e.time (map (moved e) ms)
 abbrev pub of_entry : Entry → List Mitigation
 of_entry e = mitigations_at e.time (record { put = e; status = Open } ∷ [])
 
--- after an entry that puts none
-abbrev pub noted : Entry → LiveTable → LiveTable
-noted e table = with_rows table (moved_all e table.rows)
+-- after an entry that puts none, which stands in a slot
+abbrev pub noted : Filed → LiveTable → LiveTable
+noted x table =
+    record { room = table.room; rows = moved_all x.entry table.rows; slots = slots_left x table.rows table.slots }
 
 -- after any entry
-abbrev pub grown : Entry → LiveTable → LiveTable
-grown e table = with_rows table (mitigations_with e table.rows)
+abbrev pub grown : Filed → LiveTable → LiveTable
+grown x table = record {
+  room = table.room;
+  rows = mitigations_with (bare x.entry) table.rows;
+  slots = slots_left x table.rows table.slots ++ slots_first x;
+}
 
 -- it is live after the entry, at the entry's time
 abbrev pub is_left : Entry → Mitigation → Bool
@@ -60,6 +67,13 @@ rows_or_none (Some table) = table.rows
 abbrev pub rows_at : ℕ → List LiveTable → List Mitigation
 rows_at domain tables = rows_or_none (slice_get tables domain)
 
+abbrev pub slots_or_none : Option LiveTable → List MitigationSlots
+slots_or_none None = []
+slots_or_none (Some table) = table.slots
+
+abbrev pub slots_of : ℕ → List LiveTable → List MitigationSlots
+slots_of domain tables = slots_or_none (slice_get tables domain)
+
 -- how many there are in all
 abbrev pub count_rows : List LiveTable → ℕ
 count_rows [] = 0
@@ -68,7 +82,7 @@ count_rows (table ∷ tables) = length table.rows + count_rows tables
 -- so many tables, each without rows and with this room
 pub record AreEmpty (number room : ℕ) (tables : List LiveTable) : Type 0 where
   pub counted : length tables ≡ number
-  pub each : (domain : ℕ) (table : LiveTable) → slice_get tables domain ≡ Some table → table ≡ record { room = room; rows = [] }
+  pub each : (domain : ℕ) (table : LiveTable) → slice_get tables domain ≡ Some table → table ≡ record { room = room; rows = []; slots = [] }
 
 -- one of them passes
 abbrev pub any_row : (Mitigation → Bool) → List LiveTable → Bool

@@ -1,14 +1,16 @@
 -- When what is kept of the live mitigations is what a history comes to at a time.
-use Rattle.std.specs.Prelude.{◌≡◌, ℕ, ◌+◌, ◌≤◌, ◌<◌, if◌then◌else◌, Bool, true, not, ◌&&◌, ◌||◌, ◌==◌, nat_le, nat_lt, List, [], ◌∷◌, ◌++◌, map, length, slice_get, Some}
+use Rattle.std.specs.Prelude.{◌≡◌, ℕ, ◌+◌, ◌≤◌, ◌<◌, if◌then◌else◌, Bool, true, not, ◌&&◌, ◌||◌, ◌==◌, nat_le, nat_lt, List, [], ◌∷◌, ◌++◌, map, filter, length, slice_get, Some}
 use Rattle.std.specs.List.{list_all, list_any}
 use Rattle.dots_settings.specs.declared.limits.Limits.{Limits}
 use Rattle.dots_history.specs.declared.entry.Entry.{Entry}
 use Rattle.dots_history.specs.declared.put.Put.{Put}
 use Rattle.dots_history.specs.Entries.{same_client, put_of, option_any}
 use Rattle.dots_history.specs.Histories.{Mitigation, Within, tally, mitigations, alone}
+use Rattle.dots_laws.specs.Filed.{Filed}
 use Rattle.dots_laws.specs.Tables.{bare, is_due}
 use Rattle.dots_laws.specs.Views.{mitigations_at}
-use Rattle.live_mitigations.specs.Rows.{LiveTable, rows_at, count_rows, is_left, lives_at_first}
+use Rattle.live_mitigations.specs.Rows.{LiveTable, rows_at, slots_of, count_rows, is_left, lives_at_first}
+use Rattle.live_mitigations.specs.Slots.{live_slots, slots_at}
 
 -- What is kept: how many domains there are, how much there is room for, the time, and a table of each domain.
 pub record LiveValue : Type 0 where
@@ -79,3 +81,20 @@ keeps_limits limits e kept =
 -- with the entry, at its time, a history keeps the capacities
 abbrev pub has_live_room : Limits → List Entry → Entry → Bool
 has_live_room limits entries e = keeps_live_room limits e (mitigations e.time (entries ++ e ∷ []))
+
+-- ---- the slots of a history whose entries stand in slots of a journal
+
+-- those of a domain
+abbrev pub filed_alone : ℕ → List Filed → List Filed
+filed_alone domain filed = filter (λ (x : Filed). x.entry.domain == domain) filed
+
+-- At this time the slots that are kept of each domain are those of its live mitigations.
+abbrev pub SlotsAre : ℕ → List LiveTable → List Filed → Type 0
+SlotsAre t tables filed = (domain : ℕ) → domain < length tables → slots_of domain tables ≡ live_slots t (filed_alone domain filed)
+
+-- The same but for those of mitigations that are over by a later time: those that are left at that time are the ones of the history
+-- then.
+pub record SlotsCome (now : ℕ) (tables : List LiveTable) (filed : List Filed) : Type 0 where
+  pub beside : (domain : ℕ) → domain < length tables → length (rows_at domain tables) ≡ length (slots_of domain tables)
+  pub left : (domain : ℕ) → domain < length tables
+      → slots_at now (rows_at domain tables) (slots_of domain tables) ≡ live_slots now (filed_alone domain filed)

@@ -1,7 +1,7 @@
 //! What the definitions come to: each function's contract is a law, and its body does nothing.
 
-ghost use Rattle.std.specs.Prelude.{◌≡◌, ℕ, ◌<◌, ◌≤◌, ◌++◌, ◌∷◌, ◌==◌, ◌&&◌, [], List, nat_lt, nat_le, true};
-ghost use Rattle.std.specs.List.{list_any};
+ghost use Rattle.std.specs.Prelude.{◌≡◌, ℕ, ◌<◌, ◌≤◌, ◌++◌, ◌∷◌, ◌==◌, ◌&&◌, [], List, length, map, nat_lt, nat_le, true};
+ghost use Rattle.std.specs.List.{list_any, list_all};
 ghost use Rattle.dots_history.specs.declared.entry.Entry.{Entry};
 ghost use Rattle.dots_history.specs.declared.status.Status.{Status};
 ghost use Rattle.dots_history.specs.Histories.{Mitigation, live, tally, mitigations};
@@ -9,7 +9,12 @@ ghost use Rattle.dots_history.specs.Entries.{same_client};
 ghost use Rattle.dots_laws.specs.Tables.{Client, is_of, has_mid, AreApart, is_due, end_of, bare};
 ghost use Rattle.dots_laws.specs.Views.{mitigations_at, mitigations_with};
 ghost use Rattle.live_mitigations.specs.Ends.{never, second_of, first_end};
-ghost use Rattle.live_mitigations.specs.Standing.{LiveValue, StandsFor, ComesTo, kept_of};
+ghost use Rattle.dots_history.specs.Slots.{Rises};
+ghost use Rattle.dots_laws.specs.Filed.{Filed, entry_of, slot_of};
+ghost use Rattle.dots_laws.specs.KeptPlaces.{at_places, union, live_places, withdrawal_places};
+ghost use Rattle.live_mitigations.specs.Rows.{LiveTable};
+ghost use Rattle.live_mitigations.specs.Numbers.{all_numbers};
+ghost use Rattle.live_mitigations.specs.Standing.{LiveValue, StandsFor, ComesTo, SlotsAre, kept_of, is_inside};
 
 /// A mitigation is live exactly before the first second at which it is over; and one of several is over exactly from the
 /// first of these seconds on.
@@ -28,4 +33,13 @@ pub fn what_is_kept_is_apart()
     ensures mid { (client : Client) (mid domain : ℕ) (live : LiveValue) (entries : List Entry) → domain < live.domains → StandsFor live entries
         → tally (λ m. is_of client m.put && has_mid mid m.put) (kept_of live domain) ≤ 1 }
     ensures apart { (domain : ℕ) (live : LiveValue) (entries : List Entry) → domain < live.domains → StandsFor live entries → AreApart (kept_of live domain) }
+{}
+
+/// The slots that are kept at a time are those of the entries that a compaction keeps for the live mitigations: of each that is live,
+/// and of its first withdrawal.
+pub fn live_slots_are_named()
+    ensures { (t : ℕ) (tables : List LiveTable) (filed : List Filed) (items : List ℕ) → Rises items → SlotsAre t tables filed
+        → list_all (is_inside (length tables)) (map entry_of filed) ≡ true
+        → union (all_numbers tables) items
+        ≡ union (at_places (map slot_of filed) (union (live_places t (map entry_of filed)) (withdrawal_places t (map entry_of filed)))) items }
 {}

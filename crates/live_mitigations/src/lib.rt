@@ -15,6 +15,10 @@
 //! - An entry at the time: of a domain's rows those go that [`Row::is_ended_by`] it. A mitigation is handed over with
 //!   [`LiveMitigations::put`], where [`LiveMitigations::has_room`]; any other entry is shown to [`LiveMitigations::note`], so
 //!   that it can be moved elsewhere.
+//!
+//! Each entry stands in a slot of a journal. Of each live mitigation the slot of its entry is kept, and that of the entry that first
+//! withdrew it, where it is terminating (`specs/Slots`): [`LiveMitigations::put_slots`] gives them, for they are the slots that a
+//! compaction keeps, and [`LiveMitigations::renumber`] gives them new numbers.
 #![tactic(auto)]
 
 mod counting;
@@ -24,8 +28,11 @@ mod list;
 mod live;
 mod reading;
 mod row;
+mod slots;
+mod slotting;
 mod tables;
 
 pub use live::{LiveMitigations, puts};
 pub use reading::{MitigationRow, Mitigations};
 pub use row::Row;
+pub use slots::MitigationSlots;

@@ -8,10 +8,15 @@ ghost use Rattle.dots_history.specs.declared.status.Status.TheVariants.{Open};
 ghost use Rattle.dots_laws.specs.Tables.{bare};
 ghost use Rattle.dots_laws.specs.Views.{mitigations_at, mitigations_with};
 ghost use Rattle.live_mitigations.specs.Ends.{never, first_end};
+ghost use Rattle.dots_history.specs.Slots.{Rises};
+ghost use Rattle.dots_laws.specs.KeptPlaces.{union};
 ghost use Rattle.live_mitigations.specs.Rows.{aged, noted, grown, of_entry};
+ghost use Rattle.live_mitigations.specs.Numbers.{numbers_in, table_renumbered};
 
 use crate::row::Row;
-use dots_history::Entry;
+use crate::slots::MitigationSlots;
+use crate::slotting::{leave_slots, move_slots, push_first, put_slots, renumber};
+use dots_history::{Entry, SlotList};
 use dots_lists::NoMemory;
 use std::alloc::Global;
 use std::marker::Model;
@@ -20,27 +25,33 @@ use std::marker::Model;
 #[derive(Drop)]
 pub(crate) struct LiveList {
     rows: Vec<Row>,
+    /// Of each in the same order.
+    slots: Vec<MitigationSlots>,
     room: usize,
 }
 
 impl Model for LiveList {
-    ghost use Rattle.std.specs.Prelude.{◌≤◌, vec_capacity};
+    ghost use Rattle.std.specs.Prelude.{◌≡◌, ◌≤◌, length, vec_capacity};
     ghost use Rattle.live_mitigations.specs.Rows.{LiveTable};
 
     ghost Value = { LiveTable };
 
-    ghost view = { λ list. record { room = list.room; rows = list.rows.items } };
+    ghost view = { λ list. record { room = list.room; rows = list.rows.items; slots = list.slots.items } };
 
-    ghost invariant = { λ list. list.room ≤ vec_capacity list.rows };
+    ghost invariant = { λ list.
+        (list.room ≤ vec_capacity list.rows)
+        × (list.room ≤ vec_capacity list.slots)
+        × (length list.rows.items ≡ length list.slots.items) };
 }
 
 impl LiveList {
     /// None, and room for so many.
     pub fn new(alloc: Global, room: usize) -> Result<Self, NoMemory>
-        ensures { IfOk result (λ list. list ≡ record { room = room; rows = [] }) }
+        ensures { IfOk result (λ list. list ≡ record { room = room; rows = []; slots = [] }) }
     {
         Ok(LiveList {
             rows: Vec::with_capacity(alloc, room)?,
+            slots: Vec::with_capacity(alloc, room)?,
             room,
         })
     }
@@ -63,26 +74,46 @@ impl LiveList {
     pub fn expire(&mut self, now: u64)
         ensures { self.new ≡ aged now self.old }
     {
+        leave_slots(&mut self.slots, self.rows.as_slice(), now);
         leave_live(&mut self.rows, now);
     }
 
-    /// Does to each what the entry does, and takes those out that are then over.
-    pub fn note(&mut self, entry: &Entry)
-        ensures { self.new ≡ noted entry.now self.old }
+    /// Does to each what the entry in this slot does, and takes those out that are then over.
+    pub fn note(&mut self, entry: &Entry, slot: u32)
+        ensures { self.new ≡ noted (record { entry = entry.now; slot = slot }) self.old }
     {
+        move_slots(&mut self.slots, self.rows.as_slice(), entry, slot);
         move_rows(&mut self.rows, entry);
         leave_live(&mut self.rows, entry.time);
     }
 
     /// Does the same, and puts the mitigation of the entry behind them, where it is live.
     #[tactic(auto, using(crate::proofs::Rows::grown_rows))]
-    pub fn put(&mut self, entry: Entry)
+    pub fn put(&mut self, entry: Entry, slot: u32)
         requires { length (mitigations_with (bare entry) self.old.rows) ≤ self.old.room }
-        ensures { self.new ≡ grown (bare entry) self.old }
+        ensures { self.new ≡ grown (record { entry = entry; slot = slot }) self.old }
     {
+        move_slots(&mut self.slots, self.rows.as_slice(), &entry, slot);
+        push_first(&mut self.slots, &entry, slot);
         move_rows(&mut self.rows, &entry);
         leave_live(&mut self.rows, entry.time);
         push_put(&mut self.rows, entry);
+    }
+
+    /// Puts the slots of each into the list.
+    pub fn put_into(&self, into: &mut SlotList)
+        requires { length (union (numbers_in self.now.slots) into.old.items) ≤ into.old.room }
+        ensures { into.new ≡ record into.old { items = union (numbers_in self.now.slots) into.old.items } }
+    {
+        put_slots(self.slots.as_slice(), into);
+    }
+
+    /// Gives the slots their new numbers.
+    pub fn renumber(&mut self, keep: &[u32])
+        requires { Rises keep.now }
+        ensures { self.new ≡ table_renumbered keep.now self.old }
+    {
+        renumber(&mut self.slots, keep);
     }
 
     /// The first second at which one of them is over.

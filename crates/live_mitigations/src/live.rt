@@ -4,15 +4,19 @@ ghost use Rattle.std.specs.Prelude.{◌≡◌, ◌≢◌, ℕ, ◌<◌, ◌≤�
 ghost use Rattle.std.specs.List.{list_any};
 ghost use Rattle.dots_history.specs.declared.entry.Entry.{Entry};
 ghost use Rattle.dots_history.specs.Histories.{mitigations, alone};
+ghost use Rattle.dots_history.specs.Slots.{Rises};
+ghost use Rattle.dots_laws.specs.Filed.{Filed, entry_of};
+ghost use Rattle.dots_laws.specs.KeptPlaces.{union};
 ghost use Rattle.dots_laws.specs.Tables.{bare};
 ghost use Rattle.dots_laws.specs.Views.{mitigations_at, mitigations_with, mitigations_of};
 ghost use Rattle.live_mitigations.specs.Ends.{never};
-ghost use Rattle.live_mitigations.specs.Standing.{kept_of, count_kept, has_due, puts, StandsFor, ComesTo, SameButRows, keeps_limits, has_live_room};
+ghost use Rattle.live_mitigations.specs.Standing.{kept_of, count_kept, has_due, puts, StandsFor, ComesTo, SameButRows, SlotsAre, SlotsCome, keeps_limits, has_live_room};
+ghost use Rattle.live_mitigations.specs.Numbers.{all_numbers, live_renumbered};
 
 use crate::counting::keep_limits;
 use crate::row::Row;
 use crate::tables::LiveTables;
-use dots_history::{Entry, put_of};
+use dots_history::{Entry, SlotList, put_of};
 use dots_lists::NoMemory;
 use dots_settings::{Limits, Settings};
 use std::alloc::Global;
@@ -52,6 +56,7 @@ impl LiveMitigations {
     #[tactic(auto, using(crate::proofs::Standing::stands_empty, crate::proofs::Standing::are_empty_tables))]
     pub fn new(alloc: Global, settings: &Settings) -> Result<Self, NoMemory>
         ensures stands { IfOk result (λ live. StandsFor live []) }
+        ensures slots { IfOk result (λ live. SlotsAre 0 live.tables []) }
         ensures domains { IfOk result (λ live. live.domains ≡ length settings.now.domains) }
         ensures limits { IfOk result (λ live. live.limits ≡ settings.now.limits) }
         ensures time { IfOk result (λ live. live.time ≡ 0) }
@@ -120,6 +125,7 @@ impl LiveMitigations {
         ensures own { kept_of self.new domain ≡ mitigations_at now (kept_of self.old domain) }
         ensures others { (other : ℕ) → other ≢ domain → kept_of self.new other ≡ kept_of self.old other }
         ensures comes { (entries : List Entry) → ComesTo now self.old entries → ComesTo now self.new entries }
+        ensures slots { (filed : List Filed) → SlotsCome now self.old.tables filed → SlotsCome now self.new.tables filed }
         ensures fewer { has_due now self.old domain ≡ true → count_kept self.new < count_kept self.old }
         ensures same { SameButRows self.old self.new }
     {
@@ -131,6 +137,7 @@ impl LiveMitigations {
         requires later { self.old.time ≤ now }
         requires bounded { now < never }
         ensures stands { (entries : List Entry) → ComesTo now self.old entries → StandsFor self.new entries }
+        ensures slots { (filed : List Filed) → SlotsCome now self.old.tables filed → SlotsAre now self.new.tables filed }
         ensures time { self.new.time ≡ now }
         ensures domains { self.new.domains ≡ self.old.domains }
         ensures limits { self.new.limits ≡ self.old.limits }
@@ -144,6 +151,7 @@ impl LiveMitigations {
         requires { now < never }
         ensures none { (domain : ℕ) → has_due now self.new domain ≡ false }
         ensures comes { (entries : List Entry) → ComesTo now self.old entries → ComesTo now self.new entries }
+        ensures slots { (filed : List Filed) → SlotsCome now self.old.tables filed → SlotsCome now self.new.tables filed }
         ensures same { SameButRows self.old self.new }
     {
         while let Some(domain) = self.next_due(now) {
@@ -162,32 +170,54 @@ impl LiveMitigations {
         keep_limits(self.tables.rows(entry.domain), entry, &self.limits)
     }
 
-    /// Takes an entry that puts no mitigation, at the time: a withdrawal, or one that changes nothing here.
-    pub fn note(&mut self, entry: &Entry)
+    /// Takes an entry that puts no mitigation, at the time, in this slot of the journal: a withdrawal, or one that changes nothing
+    /// here.
+    pub fn note(&mut self, entry: &Entry, slot: u32)
         requires at { entry.now.time ≡ self.old.time }
         requires quiet { puts entry.now ≡ false }
         ensures stands { (entries : List Entry) → StandsFor self.old entries → StandsFor self.new (entries ++ entry.now ∷ []) }
+        ensures slots { (filed : List Filed) → StandsFor self.old (map entry_of filed) → SlotsAre self.old.time self.old.tables filed
+            → SlotsAre self.old.time self.new.tables (filed ++ record { entry = entry.now; slot = slot } ∷ []) }
         ensures own { entry.now.domain < self.old.domains → kept_of self.new entry.now.domain ≡ mitigations_with (bare entry.now) (kept_of self.old entry.now.domain) }
         ensures others { (other : ℕ) → other ≢ entry.now.domain → kept_of self.new other ≡ kept_of self.old other }
         ensures same { SameButRows self.old self.new }
     {
         if entry.domain < self.domains {
-            self.tables.note(entry);
+            self.tables.note(entry, slot);
         }
     }
 
-    /// Takes an entry at the time, of one of the domains: one that puts a mitigation for which there is room, as
-    /// [`LiveMitigations::has_room`] says. Its message and its reply don't matter, so they may be taken out of it before.
-    pub fn put(&mut self, entry: Entry)
+    /// Takes an entry at the time, of one of the domains, in this slot of the journal: one that puts a mitigation for which there is
+    /// room, as [`LiveMitigations::has_room`] says. Its message and its reply don't matter, so they may be taken out of it before.
+    pub fn put(&mut self, entry: Entry, slot: u32)
         requires at { entry.time ≡ self.old.time }
         requires inside { entry.domain < self.old.domains }
         requires room { keeps_limits self.old.limits entry (kept_of self.old entry.domain) ≡ true }
         ensures stands { (entries : List Entry) (e : Entry) → bare e ≡ bare entry → StandsFor self.old entries → StandsFor self.new (entries ++ e ∷ []) }
+        ensures slots { (filed : List Filed) (e : Entry) → bare e ≡ bare entry → StandsFor self.old (map entry_of filed) → SlotsAre self.old.time self.old.tables filed
+            → SlotsAre self.old.time self.new.tables (filed ++ record { entry = e; slot = slot } ∷ []) }
         ensures own { kept_of self.new entry.domain ≡ mitigations_with (bare entry) (kept_of self.old entry.domain) }
         ensures others { (other : ℕ) → other ≢ entry.domain → kept_of self.new other ≡ kept_of self.old other }
         ensures same { SameButRows self.old self.new }
     {
-        self.tables.put(entry);
+        self.tables.put(entry, slot);
+    }
+
+    /// Puts the slots of a journal in which the entries of the mitigations stand into the list, which has room for them: of each that of
+    /// its entry, and that of the entry that first withdrew it, where it is terminating.
+    pub fn put_slots(&self, into: &mut SlotList)
+        requires { length (union (all_numbers self.now.tables) into.old.items) ≤ into.old.room }
+        ensures { into.new ≡ record into.old { items = union (all_numbers self.now.tables) into.old.items } }
+    {
+        self.tables.put_into(into);
+    }
+
+    /// Gives the slots new numbers: the slot `keep[i]` becomes the slot `i`, and one that isn't in `keep` stays.
+    pub fn renumber(&mut self, keep: &[u32])
+        requires { Rises keep.now }
+        ensures { self.new ≡ live_renumbered keep.now self.old }
+    {
+        self.tables.renumber(keep);
     }
 }
 

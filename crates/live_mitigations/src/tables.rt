@@ -1,14 +1,17 @@
 //! The live mitigations of each domain, and when the first of each are over.
 
-ghost use Rattle.std.specs.Prelude.{◌≡◌, ℕ, ◌<◌, ◌≤◌, ◌==◌, length, IfOk, IfSome, IfNone, Some, slice_get};
+ghost use Rattle.std.specs.Prelude.{◌≡◌, ℕ, ◌<◌, ◌≤◌, ◌==◌, length, map, IfOk, IfSome, IfNone, Some, slice_get};
 ghost use Rattle.dots_laws.specs.Tables.{bare};
 ghost use Rattle.dots_laws.specs.Views.{mitigations_with};
 ghost use Rattle.live_mitigations.specs.Ends.{never, first_end};
+ghost use Rattle.dots_history.specs.Slots.{Rises};
+ghost use Rattle.dots_laws.specs.KeptPlaces.{union};
 ghost use Rattle.live_mitigations.specs.Rows.{LiveTable, AreEmpty, aged, noted, grown, update, rows_at, any_row};
+ghost use Rattle.live_mitigations.specs.Numbers.{all_numbers, table_renumbered};
 
 use crate::list::LiveList;
 use crate::row::Row;
-use dots_history::Entry;
+use dots_history::{Entry, SlotList};
 use dots_lists::NoMemory;
 use lifetime_clock::Deadlines;
 use std::alloc::Global;
@@ -89,27 +92,61 @@ impl LiveTables {
         self.deadlines.set(u32::from(domain), due);
     }
 
-    /// Does to those of the entry's domain what the entry does, and takes those out that are then over.
-    pub fn note(&mut self, entry: &Entry)
+    /// Does to those of the entry's domain what the entry in this slot does, and takes those out that are then over.
+    pub fn note(&mut self, entry: &Entry, slot: u32)
         requires { entry.now.domain < length self.old }
-        ensures { self.new ≡ update (noted entry.now) entry.now.domain self.old }
+        ensures { self.new ≡ update (noted (record { entry = entry.now; slot = slot })) entry.now.domain self.old }
     {
         let list = &mut self.lists[usize::from(entry.domain)];
-        list.note(entry);
+        list.note(entry, slot);
         let due = list.due();
         self.deadlines.set(u32::from(entry.domain), due);
     }
 
     /// Does the same, and puts the mitigation of the entry behind them, where it is live.
-    pub fn put(&mut self, entry: Entry)
+    pub fn put(&mut self, entry: Entry, slot: u32)
         requires domain { entry.domain < length self.old }
         requires room { (table : LiveTable) → slice_get self.old entry.domain ≡ Some table → length (mitigations_with (bare entry) table.rows) ≤ table.room }
-        ensures { self.new ≡ update (grown (bare entry)) entry.domain self.old }
+        ensures { self.new ≡ update (grown (record { entry = entry; slot = slot })) entry.domain self.old }
     {
         let domain = entry.domain;
         let list = &mut self.lists[usize::from(domain)];
-        list.put(entry);
+        list.put(entry, slot);
         let due = list.due();
         self.deadlines.set(u32::from(domain), due);
+    }
+
+    /// Puts the slots of each into the list, which has room for them.
+    pub fn put_into(&self, into: &mut SlotList)
+        requires { length (union (all_numbers self.now) into.old.items) ≤ into.old.room }
+        ensures { into.new ≡ record into.old { items = union (all_numbers self.now) into.old.items } }
+    {
+        put_lists(self.lists.as_slice(), into);
+    }
+
+    /// Gives the slots their new numbers.
+    pub fn renumber(&mut self, keep: &[u32])
+        requires { Rises keep.now }
+        ensures { self.new ≡ map (table_renumbered keep.now) self.old }
+    {
+        renumber_lists(self.lists.as_mut_slice(), keep);
+    }
+}
+
+fn put_lists(lists: &[LiveList], into: &mut SlotList)
+    requires { length (union (all_numbers lists.now) into.old.items) ≤ into.old.room }
+    ensures { into.new ≡ record into.old { items = union (all_numbers lists.now) into.old.items } }
+{
+    for list in lists {
+        list.put_into(into);
+    }
+}
+
+fn renumber_lists(lists: &mut [LiveList], keep: &[u32])
+    requires { Rises keep.now }
+    ensures { lists.new ≡ map (table_renumbered keep.now) lists.old }
+{
+    for list in lists.iter_mut() {
+        list.renumber(keep);
     }
 }

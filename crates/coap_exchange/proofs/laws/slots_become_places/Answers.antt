@@ -1,6 +1,6 @@
 use Rattle.std.proofs.Common.{sym}
 use Rattle.std.proofs.lemmas.Option.{slice_get_within, get_or_from_slice_get}
-use Rattle.coap_exchange.proofs.Rising.{number_there}
+use Rattle.dots_history.proofs.Rising.{number_there}
 use Rattle.coap_exchange.proofs.laws.slots_become_places.Goals as goal
 
 pub returns : goal.returns

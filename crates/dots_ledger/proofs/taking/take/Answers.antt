@@ -1,5 +1,5 @@
 use Rattle.std.proofs.Common.{sym, subst, ◌∙◌, arith}
-use Rattle.kept_slots.specs.Kept.{filed}
+use Rattle.dots_registry.specs.Kept.{filed}
 use Rattle.dots_registry.specs.Fitting.{FitsIn}
 use Rattle.dots_ledger.proofs.Recovering.{taken_stand, time_within, joined, early_apart, fits_taken, taken_more}
 use Rattle.dots_ledger.proofs.taking.take.Goals as goal

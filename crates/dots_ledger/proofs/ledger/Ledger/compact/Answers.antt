@@ -4,8 +4,8 @@ use Rattle.dots_disk.specs.Becoming.{Leaves, RestsWith}
 use Rattle.dots_history.specs.declared.entry.Entry.{Entry}
 use Rattle.dots_history.specs.Keeping.{kept}
 use Rattle.dots_history.specs.Slots.{Slots, Rises}
-use Rattle.kept_slots.specs.Kept.{filed, named_slots}
-use Rattle.kept_slots.proofs.Numbering.{filed_rise, named_rise}
+use Rattle.dots_registry.specs.Kept.{filed, named_slots}
+use Rattle.dots_registry.proofs.Numbering.{filed_rise, named_rise}
 use Rattle.dots_registry.specs.Standing.{RegistryValue, time_of, number_remembered}
 use Rattle.slot_store.specs.Copying.{AreSlots}
 use Rattle.slot_store.specs.Standing.{JournalValue}

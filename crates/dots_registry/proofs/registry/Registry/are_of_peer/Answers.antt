@@ -10,7 +10,7 @@ pub returns-then-entry-domains : goal.returns-then-entry-domains
 returns-then-entry-domains c = λ entries stands.
     let here = subst (λ (r : RegistryValue). StandsFor r entries) (sym c.self.view_is) stands in
     peers_inside
-    (joined c.self.inside.live c.self.inside.held c.self.inside.remembered c.self.inside.filters c.self.inside.slots)
+    (joined c.self.inside.live c.self.inside.held c.self.inside.remembered c.self.inside.filters c.self.inside.last)
     c.args.self.now
     c.collides.result
     c.args.entry.now
@@ -22,7 +22,7 @@ returns-then-entry-domains c = λ entries stands.
 pub returns : goal.returns
 returns c = λ entries stands.
     peers_outside
-    (joined c.self.inside.live c.self.inside.held c.self.inside.remembered c.self.inside.filters c.self.inside.slots)
+    (joined c.self.inside.live c.self.inside.held c.self.inside.remembered c.self.inside.filters c.self.inside.last)
     c.args.self.now
     c.domains.result
     c.args.entry.now

@@ -6,7 +6,7 @@ use Rattle.dots_registry.proofs.registry.Registry.has_live_room.Goals as goal
 pub returns : goal.returns
 returns c = λ entries stands.
     room_outside
-    (joined c.self.inside.live c.self.inside.held c.self.inside.remembered c.self.inside.filters c.self.inside.slots)
+    (joined c.self.inside.live c.self.inside.held c.self.inside.remembered c.self.inside.filters c.self.inside.last)
     c.args.self.now
     c.domains.result
     entries

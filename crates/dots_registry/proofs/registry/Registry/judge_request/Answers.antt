@@ -12,7 +12,7 @@ use Rattle.dots_registry.proofs.registry.Registry.judge_request.Goals as goal
 
 pub returns : goal.returns
 returns c = λ entries stands.
-    let here : StandsFor (joined c.self.inside.live c.self.inside.held c.self.inside.remembered c.self.inside.filters c.self.inside.slots) entries
+    let here : StandsFor (joined c.self.inside.live c.self.inside.held c.self.inside.remembered c.self.inside.filters c.self.inside.last) entries
     = subst (λ (r : RegistryValue). StandsFor r entries) (sym c.self.view_is) stands in
     judged_is
     c.args.settings.now

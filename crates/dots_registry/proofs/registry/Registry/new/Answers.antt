@@ -1,5 +1,5 @@
-use Rattle.std.proofs.Common.{[], length, ap}
-use Rattle.held_slots.specs.Rows.{HeldRows}
+use Rattle.std.proofs.Common.{[], None}
+use Rattle.held_resources.specs.Sizes.{most_held}
 use Rattle.dots_registry.proofs.Filed.{filed_first, slots_first_room}
 use Rattle.dots_registry.proofs.Standing.{stands_first, is_of_first}
 use Rattle.dots_registry.proofs.registry.Registry.new.Goals as goal
@@ -12,7 +12,7 @@ returns-clause-stands c =
     c.in-Ok.held
     c.in-Ok-new.remembered
     c.in-Ok-new-2.filters
-    c.in-Ok-new-3.slots
+    None
     c.in_ok-live.ensures.stands
     c.in-Ok.ensures.stands
     c.in_ok-live.ensures.limits
@@ -27,7 +27,7 @@ returns-clause-settings c =
     c.in-Ok.held
     c.in-Ok-new.remembered
     c.in-Ok-new-2.filters
-    c.in-Ok-new-3.slots
+    None
     c.in_ok-live.ensures.domains
     c.in_ok-live.ensures.limits
     c.in-Ok.ensures.sizes
@@ -41,15 +41,13 @@ returns-clause-filed c =
     c.in-Ok.held
     c.in-Ok-new.remembered
     c.in-Ok-new-2.filters
-    c.in-Ok-new-3.slots
     c.args.settings.now
-    (length c.args.settings.now.domains)
-    c.args.settings.now.limits.domain_mitigations
+    (most_held c.args.settings.now)
     c.in_ok-live.ensures.limits
+    c.in_ok-live.ensures.time
     c.in-Ok-new.ensures
-    c.in-Ok-new-3.ensures.tables
-    (ap (λ (r : HeldRows). r.rows) c.in-Ok-new-3.ensures.rows)
-    c.in-Ok-new-3.ensures.last
+    c.in_ok-live.ensures.slots
+    c.in-Ok.ensures.slots
     (returns-clause-stands c)
 
 pub invariant_of-result : goal.invariant_of-result
@@ -61,11 +59,9 @@ invariant_of-result c = record {
       c.in-Ok.held
       c.in-Ok-new.remembered
       c.in-Ok-new-2.filters
-      c.in-Ok-new-3.slots
       c.args.settings.now
       c.in_ok-live.ensures.domains
       c.in_ok-live.ensures.limits
       c.in-Ok.ensures.sizes
-      c.in-Ok-new-3.ensures.tables
-      (ap (λ (r : HeldRows). r.room) c.in-Ok-new-3.ensures.rows);
+      c.in-Ok.ensures.slots;
 }

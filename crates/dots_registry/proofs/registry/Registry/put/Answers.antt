@@ -1,9 +1,9 @@
-use Rattle.std.proofs.Common.{[], ◌∷◌, ◌++◌, map, subst}
-use Rattle.mitigation_slots.specs.Slots.{entry_of}
+use Rattle.std.proofs.Common.{[], ◌∷◌, ◌++◌, map, Some, refl, ap, sym, ◌∙◌, ◌≡◌, ◌≤◌, length, subst}
+use Rattle.dots_laws.specs.Filed.{entry_of}
 use Rattle.dots_registry.specs.Standing.{RegistryValue}
 use Rattle.dots_registry.specs.Filed.{StandsIn}
-use Rattle.dots_registry.proofs.Filed.{can_take, filed_more, room_more}
-use Rattle.std.proofs.Common.{refl, ap, sym, ◌∙◌, ◌≡◌, ◌≤◌, length, subst}
+use Rattle.dots_laws.specs.Tables.{bare}
+use Rattle.dots_registry.proofs.Filed.{quiet_rows, filed_more, room_more}
 use Rattle.dots_registry.proofs.Rings.{made_pairs}
 use Rattle.dots_registry.proofs.Standing.{joined, still_of, fits_ring, put_inside, put_room, put_stands}
 use Rattle.installed_filters.specs.Filters.{FiltersValue, filters_put}
@@ -11,12 +11,12 @@ use Rattle.dots_registry.proofs.Filtering.{put_fits, put_filtered, put_within}
 use Rattle.dots_registry.proofs.registry.Registry.put.Goals as goal
 
 pub remember-entry-requires : goal.remember-entry-requires
-remember-entry-requires c = fits_ring (joined c.self.inside.live c.self.inside.held c.self.inside.remembered c.self.inside.filters c.self.inside.slots) c.args.self.now c.args.entry c.self.view_is c.requires.fits
+remember-entry-requires c = fits_ring (joined c.self.inside.live c.self.inside.held c.self.inside.remembered c.self.inside.filters c.self.inside.last) c.args.self.now c.args.entry c.self.view_is c.requires.fits
 
 pub put-requires-2-clause-inside : goal.put-requires-2-clause-inside
 put-requires-2-clause-inside c =
     put_inside
-    (joined c.self.inside.live c.self.inside.held c.self.inside.remembered c.self.inside.filters c.self.inside.slots)
+    (joined c.self.inside.live c.self.inside.held c.self.inside.remembered c.self.inside.filters c.self.inside.last)
     c.args.self.now
     c.args.entry
     c.remember-entry.result
@@ -28,7 +28,7 @@ put-requires-2-clause-inside c =
 pub put-requires-2-clause-room : goal.put-requires-2-clause-room
 put-requires-2-clause-room c =
     put_room
-    (joined c.self.inside.live c.self.inside.held c.self.inside.remembered c.self.inside.filters c.self.inside.slots)
+    (joined c.self.inside.live c.self.inside.held c.self.inside.remembered c.self.inside.filters c.self.inside.last)
     c.args.self.now
     c.args.entry
     c.remember-entry.result
@@ -40,12 +40,12 @@ put-requires-2-clause-room c =
 pub returns-clause-stands : goal.returns-clause-stands
 returns-clause-stands c = λ entries stands.
     put_stands
-    (joined c.self.inside.live c.self.inside.held c.self.inside.remembered c.self.inside.filters c.self.inside.slots)
+    (joined c.self.inside.live c.self.inside.held c.self.inside.remembered c.self.inside.filters c.self.inside.last)
     c.args.self.now
     c.put-2.new.self
     c.remember-entry.new.remembered
     c.put.new.self
-    c.take_slot.new.slots
+    (Some c.args.slot)
     c.args.slot
     c.args.entry
     c.remember-entry.result
@@ -57,7 +57,7 @@ returns-clause-stands c = λ entries stands.
     c.put-2.ensures.same
     c.remember-entry.ensures.rings
     (c.put-2.ensures.stands entries)
-    (put_filtered (joined c.self.inside.live c.self.inside.held c.self.inside.remembered c.self.inside.filters c.self.inside.slots) c.args.self.now c.args.entry c.put.new.self entries c.self.view_is c.requires.fits c.requires.at c.requires.puts
+    (put_filtered (joined c.self.inside.live c.self.inside.held c.self.inside.remembered c.self.inside.filters c.self.inside.last) c.args.self.now c.args.entry c.put.new.self entries c.self.view_is c.requires.fits c.requires.at c.requires.puts
     (c.put.ensures ∙ ap (λ kept. filters_put c.args.entry kept c.self.inside.filters) c.rows.ensures.kept))
     stands
 
@@ -65,13 +65,13 @@ pub returns-clause-settings : goal.returns-clause-settings
 returns-clause-settings c = λ settings is_of.
     still_of
     settings
-    (joined c.self.inside.live c.self.inside.held c.self.inside.remembered c.self.inside.filters c.self.inside.slots)
+    (joined c.self.inside.live c.self.inside.held c.self.inside.remembered c.self.inside.filters c.self.inside.last)
     c.args.self.now
     c.put-2.new.self
     c.self.inside.held
     c.remember-entry.new.remembered
     c.put.new.self
-    c.take_slot.new.slots
+    (Some c.args.slot)
     c.self.view_is
     c.put-2.ensures.same.domains
     c.put-2.ensures.same.limits
@@ -81,39 +81,34 @@ returns-clause-settings c = λ settings is_of.
     is_of
 
 pub rows-requires : goal.rows-requires
-rows-requires c = put_within (joined c.self.inside.live c.self.inside.held c.self.inside.remembered c.self.inside.filters c.self.inside.slots) c.args.self.now c.args.entry c.self.view_is c.requires.fits c.requires.puts
+rows-requires c = put_within (joined c.self.inside.live c.self.inside.held c.self.inside.remembered c.self.inside.filters c.self.inside.last) c.args.self.now c.args.entry c.self.view_is c.requires.fits c.requires.puts
 
 pub put-requires-clause-room : goal.put-requires-clause-room
 put-requires-clause-room c =
     subst
     (λ kept. length (filters_put c.args.entry kept c.self.inside.filters).scrubs ≤ c.self.inside.filters.scrub_room)
     (sym c.rows.ensures.kept)
-    (put_fits (joined c.self.inside.live c.self.inside.held c.self.inside.remembered c.self.inside.filters c.self.inside.slots) c.args.self.now c.args.entry c.self.view_is c.requires.fits c.requires.at c.requires.puts)
-
-pub take_slot-requires : goal.take_slot-requires
-take_slot-requires c = can_take (joined c.self.inside.live c.self.inside.held c.self.inside.remembered c.self.inside.filters c.self.inside.slots) c.args.self.now c.args.slot c.args.entry c.self.view_is c.self.invariant c.requires.fits c.requires.at
+    (put_fits (joined c.self.inside.live c.self.inside.held c.self.inside.remembered c.self.inside.filters c.self.inside.last) c.args.self.now c.args.entry c.self.view_is c.requires.fits c.requires.at c.requires.puts)
 
 pub returns-clause-filed : goal.returns-clause-filed
 returns-clause-filed c = λ filed stands.
     filed_more
-    (joined c.self.inside.live c.self.inside.held c.self.inside.remembered c.self.inside.filters c.self.inside.slots)
+    (joined c.self.inside.live c.self.inside.held c.self.inside.remembered c.self.inside.filters c.self.inside.last)
     c.args.self.now
     c.put-2.new.self
     c.self.inside.held
     c.remember-entry.new.remembered
     c.put.new.self
-    c.take_slot.new.slots
     c.args.slot
     c.args.entry
     filed
     c.self.view_is
-    c.self.invariant.room
     c.requires.fits
-    c.requires.at
     c.put-2.ensures.same
     refl
     c.remember-entry.ensures.rings
-    c.take_slot.ensures
+    (quiet_rows (record { entry = c.args.entry; slot = c.args.slot }) c.self.inside.held.slots.rows c.requires.puts)
+    (c.put-2.ensures.slots filed c.args.entry (ap bare (sym c.remember-entry.ensures.entry)))
     (returns-clause-stands c (map entry_of filed))
     stands
 
@@ -122,15 +117,14 @@ invariant_of-self c = record {
   filed = c.self.invariant.filed ++ record { entry = c.args.entry; slot = c.args.slot } ∷ [];
   stands = returns-clause-filed c c.self.invariant.filed (subst (λ (r : RegistryValue). StandsIn r c.self.invariant.filed) c.self.view_is c.self.invariant.stands);
   room = room_more
-      (joined c.self.inside.live c.self.inside.held c.self.inside.remembered c.self.inside.filters c.self.inside.slots)
+      (joined c.self.inside.live c.self.inside.held c.self.inside.remembered c.self.inside.filters c.self.inside.last)
       c.put-2.new.self
       c.self.inside.held
       c.remember-entry.new.remembered
       c.put.new.self
-      c.take_slot.new.slots
-      (record { entry = c.args.entry; slot = c.args.slot })
+      (Some c.args.slot)
       c.put-2.ensures.same
       refl
-      c.take_slot.ensures
+      refl
       c.self.invariant.room;
 }

@@ -7,7 +7,7 @@ pub returns : goal.returns
 returns c = λ entries stands.
     c.look.ensures
     ∙ repeat_is
-    (joined c.self.inside.live c.self.inside.held c.self.inside.remembered c.self.inside.filters c.self.inside.slots)
+    (joined c.self.inside.live c.self.inside.held c.self.inside.remembered c.self.inside.filters c.self.inside.last)
     c.args.self.now
     c.time.result
     c.args.peer

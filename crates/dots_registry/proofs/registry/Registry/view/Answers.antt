@@ -14,7 +14,7 @@ returns-then-domain-domains-clause-few c = few_views c.args.self.now c.args.doma
 
 pub returns-then-domain-domains-clause-history : goal.returns-then-domain-domains-clause-history
 returns-then-domain-domains-clause-history c = λ entries stands inside.
-    let here : StandsFor (joined c.self.inside.live c.self.inside.held c.self.inside.remembered c.self.inside.filters c.self.inside.slots) entries
+    let here : StandsFor (joined c.self.inside.live c.self.inside.held c.self.inside.remembered c.self.inside.filters c.self.inside.last) entries
     = subst (λ (r : RegistryValue). StandsFor r entries) (sym c.self.view_is) stands in
     c.view_of.ensures c.self.inside.live.time
     ∙ ap

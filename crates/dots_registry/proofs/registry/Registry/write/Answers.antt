@@ -1,9 +1,9 @@
-use Rattle.std.proofs.Common.{[], ◌∷◌, ◌++◌, map, subst}
-use Rattle.mitigation_slots.specs.Slots.{entry_of}
+use Rattle.std.proofs.Common.{[], ◌∷◌, ◌++◌, map, Some, subst, ap, ◌∙◌}
+use Rattle.dots_laws.specs.Filed.{entry_of}
 use Rattle.dots_registry.specs.Standing.{RegistryValue}
 use Rattle.dots_registry.specs.Filed.{StandsIn}
-use Rattle.dots_registry.proofs.Filed.{can_take, filed_more, room_more}
-use Rattle.std.proofs.Common.{ap, ◌∙◌}
+use Rattle.held_resources.specs.Rows.{HeldRows}
+use Rattle.dots_registry.proofs.Filed.{name_here, room_here, rows_here, filed_more, room_more}
 use Rattle.dots_history.specs.Histories.{held}
 use Rattle.held_resources.specs.Held.{acls_of}
 use Rattle.installed_filters.specs.Filters.{FiltersValue}
@@ -13,12 +13,12 @@ use Rattle.dots_registry.proofs.Standing.{joined, still_of, fits_ring, held_fits
 use Rattle.dots_registry.proofs.registry.Registry.write.Goals as goal
 
 pub remember-entry-requires : goal.remember-entry-requires
-remember-entry-requires c = fits_ring (joined c.self.inside.live c.self.inside.held c.self.inside.remembered c.self.inside.filters c.self.inside.slots) c.args.self.now c.args.entry c.self.view_is c.requires.fits
+remember-entry-requires c = fits_ring (joined c.self.inside.live c.self.inside.held c.self.inside.remembered c.self.inside.filters c.self.inside.last) c.args.self.now c.args.entry c.self.view_is c.requires.fits
 
-pub apply-requires : goal.apply-requires
-apply-requires c =
+pub apply-requires-clause-fits : goal.apply-requires-clause-fits
+apply-requires-clause-fits c =
     held_fits
-    (joined c.self.inside.live c.self.inside.held c.self.inside.remembered c.self.inside.filters c.self.inside.slots)
+    (joined c.self.inside.live c.self.inside.held c.self.inside.remembered c.self.inside.filters c.self.inside.last)
     c.args.self.now
     c.args.entry
     c.remember-entry.result
@@ -29,13 +29,13 @@ apply-requires c =
 pub returns-clause-stands : goal.returns-clause-stands
 returns-clause-stands c = λ entries stands.
     write_stands
-    (joined c.self.inside.live c.self.inside.held c.self.inside.remembered c.self.inside.filters c.self.inside.slots)
+    (joined c.self.inside.live c.self.inside.held c.self.inside.remembered c.self.inside.filters c.self.inside.last)
     c.args.self.now
     c.note.new.self
     c.apply.new.self
     c.remember-entry.new.remembered
     c.write.new.self
-    c.take_slot.new.slots
+    (Some c.args.slot)
     c.args.slot
     c.args.entry
     c.remember-entry.result
@@ -48,7 +48,7 @@ returns-clause-stands c = λ entries stands.
     c.remember-entry.ensures.rings
     (c.note.ensures.stands entries)
     (c.apply.ensures.stands entries)
-    (write_filtered (joined c.self.inside.live c.self.inside.held c.self.inside.remembered c.self.inside.filters c.self.inside.slots) c.args.self.now c.args.entry c.has_live-mitigating.result c.acls-acls.result.now c.write.new.self entries c.self.view_is
+    (write_filtered (joined c.self.inside.live c.self.inside.held c.self.inside.remembered c.self.inside.filters c.self.inside.last) c.args.self.now c.args.entry c.has_live-mitigating.result c.acls-acls.result.now c.write.new.self entries c.self.view_is
     c.requires.fits c.requires.at c.requires.puts c.write.ensures c.has_live-mitigating.ensures (λ held_so. c.acls-acls.ensures entries held_so ∙ ap (λ cuid. acls_of (record { domain = c.args.entry.domain; cuid = cuid }) (held entries)) c.bytes.ensures.value))
     stands
 
@@ -56,13 +56,13 @@ pub returns-clause-settings : goal.returns-clause-settings
 returns-clause-settings c = λ settings is_of.
     still_of
     settings
-    (joined c.self.inside.live c.self.inside.held c.self.inside.remembered c.self.inside.filters c.self.inside.slots)
+    (joined c.self.inside.live c.self.inside.held c.self.inside.remembered c.self.inside.filters c.self.inside.last)
     c.args.self.now
     c.note.new.self
     c.apply.new.self
     c.remember-entry.new.remembered
     c.write.new.self
-    c.take_slot.new.slots
+    (Some c.args.slot)
     c.self.view_is
     c.note.ensures.same.domains
     c.note.ensures.same.limits
@@ -73,33 +73,39 @@ returns-clause-settings c = λ settings is_of.
 
 pub write-requires-clause-room : goal.write-requires-clause-room
 write-requires-clause-room c =
-    write_fits (joined c.self.inside.live c.self.inside.held c.self.inside.remembered c.self.inside.filters c.self.inside.slots) c.args.self.now c.args.entry c.has_live-mitigating.result c.acls-acls.result.now c.self.view_is c.requires.fits c.requires.at c.requires.puts
+    write_fits (joined c.self.inside.live c.self.inside.held c.self.inside.remembered c.self.inside.filters c.self.inside.last) c.args.self.now c.args.entry c.has_live-mitigating.result c.acls-acls.result.now c.self.view_is c.requires.fits c.requires.at c.requires.puts
     c.has_live-mitigating.ensures (λ entries held_so. c.acls-acls.ensures entries held_so ∙ ap (λ cuid. acls_of (record { domain = c.args.entry.domain; cuid = cuid }) (held entries)) c.bytes.ensures.value)
 
-pub take_slot-requires : goal.take_slot-requires
-take_slot-requires c = can_take (joined c.self.inside.live c.self.inside.held c.self.inside.remembered c.self.inside.filters c.self.inside.slots) c.args.self.now c.args.slot c.args.entry c.self.view_is c.self.invariant c.requires.fits c.requires.at
+pub apply-requires-clause-name : goal.apply-requires-clause-name
+apply-requires-clause-name c =
+    name_here (joined c.self.inside.live c.self.inside.held c.self.inside.remembered c.self.inside.filters c.self.inside.last) c.args.self.now c.args.entry c.remember-entry.result
+    c.self.view_is c.remember-entry.ensures.entry c.requires.fits
+
+pub apply-requires-clause-room : goal.apply-requires-clause-room
+apply-requires-clause-room c =
+    room_here (joined c.self.inside.live c.self.inside.held c.self.inside.remembered c.self.inside.filters c.self.inside.last) c.args.self.now c.args.slot c.args.entry
+    c.remember-entry.result c.self.view_is c.self.invariant c.requires.fits c.requires.at c.remember-entry.ensures.entry
 
 pub returns-clause-filed : goal.returns-clause-filed
 returns-clause-filed c = λ filed stands.
     filed_more
-    (joined c.self.inside.live c.self.inside.held c.self.inside.remembered c.self.inside.filters c.self.inside.slots)
+    (joined c.self.inside.live c.self.inside.held c.self.inside.remembered c.self.inside.filters c.self.inside.last)
     c.args.self.now
     c.note.new.self
     c.apply.new.self
     c.remember-entry.new.remembered
     c.write.new.self
-    c.take_slot.new.slots
     c.args.slot
     c.args.entry
     filed
     c.self.view_is
-    c.self.invariant.room
     c.requires.fits
-    c.requires.at
     c.note.ensures.same
     c.apply.ensures.sizes
     c.remember-entry.ensures.rings
-    c.take_slot.ensures
+    (ap (λ (r : HeldRows). r.rows)
+    (rows_here c.self.inside.held.slots c.apply.new.self.slots c.args.slot c.args.entry c.remember-entry.result c.remember-entry.ensures.entry c.apply.ensures.slots))
+    (c.note.ensures.slots filed)
     (returns-clause-stands c (map entry_of filed))
     stands
 
@@ -108,15 +114,14 @@ invariant_of-self c = record {
   filed = c.self.invariant.filed ++ record { entry = c.args.entry; slot = c.args.slot } ∷ [];
   stands = returns-clause-filed c c.self.invariant.filed (subst (λ (r : RegistryValue). StandsIn r c.self.invariant.filed) c.self.view_is c.self.invariant.stands);
   room = room_more
-      (joined c.self.inside.live c.self.inside.held c.self.inside.remembered c.self.inside.filters c.self.inside.slots)
+      (joined c.self.inside.live c.self.inside.held c.self.inside.remembered c.self.inside.filters c.self.inside.last)
       c.note.new.self
       c.apply.new.self
       c.remember-entry.new.remembered
       c.write.new.self
-      c.take_slot.new.slots
-      (record { entry = c.args.entry; slot = c.args.slot })
+      (Some c.args.slot)
       c.note.ensures.same
       c.apply.ensures.sizes
-      c.take_slot.ensures
+      (ap (λ (r : HeldRows). r.room) c.apply.ensures.slots)
       c.self.invariant.room;
 }

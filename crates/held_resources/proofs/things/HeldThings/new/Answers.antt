@@ -6,7 +6,7 @@ use Rattle.held_resources.proofs.Standing.{stands_first, sizes_first}
 use Rattle.held_resources.proofs.things.HeldThings.new.Goals as goal
 
 pub returns-clause-stands : goal.returns-clause-stands
-returns-clause-stands c = stands_first c.rooms_of-rooms.result _ _ c.in_ok-domains.domains.items c.in_ok-sessions.sessions.items c.in_ok-domains.ensures c.in_ok-sessions.ensures
+returns-clause-stands c = stands_first c.rooms_of-rooms.result _ _ c.in_ok-domains.domains.items c.in_ok-sessions.sessions.items _ c.in_ok-domains.ensures c.in_ok-sessions.ensures
 
 pub returns-clause-sizes : goal.returns-clause-sizes
 returns-clause-sizes c =
@@ -16,6 +16,7 @@ returns-clause-sizes c =
     _
     c.in_ok-domains.domains.items
     c.in_ok-sessions.sessions.items
+    c.in_ok-slots.slots
     (c.rooms_of-rooms.ensures ∙ ap rooms_of c.limits.ensures.value)
     c.domains.ensures.number
     c.in_ok-domains.ensures

@@ -6,9 +6,10 @@ use Rattle.held_resources.proofs.things.HeldThings.put.Goals as goal
 
 pub change_clients-requires : goal.change_clients-requires
 change_clients-requires c =
-    λ clients some. c.requires clients (ap (λ (t : Tables). slice_get t.clients c.args.entry.domain) (sym c.self.view_is) ∙ some)
+    λ clients some. c.requires.takes clients (ap (λ (t : Tables). slice_get t.clients c.args.entry.domain) (sym c.self.view_is) ∙ some)
 
 pub returns : goal.returns
 returns c =
-    fields_with c.self.inside.rooms c.self.inside.domains.items _ c.self.inside.sessions.items _ c.args.entry c.change_clients.ensures c.configure.ensures
-    ∙ ap (tables_with c.args.entry) c.self.view_is
+    fields_with c.self.inside.rooms c.self.inside.domains.items _ c.self.inside.sessions.items _ c.self.inside.slots _ (record { entry = c.args.entry; slot = c.args.slot })
+    c.change_clients.ensures c.configure.ensures c.take.ensures
+    ∙ ap (tables_with (record { entry = c.args.entry; slot = c.args.slot })) c.self.view_is

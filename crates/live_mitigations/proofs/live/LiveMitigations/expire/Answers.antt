@@ -1,7 +1,9 @@
-use Rattle.std.proofs.Common.{refl}
+use Rattle.std.proofs.Common.{refl, sym, subst}
 use Rattle.dots_laws.specs.Views.{mitigations_at}
 use Rattle.live_mitigations.specs.Rows.{aged}
 use Rattle.live_mitigations.proofs.Standing.{changed_to, changed_here, within_tables, changed_own, changed_other, changed_comes, changed_fewer}
+use Rattle.live_mitigations.specs.Standing.{SlotsCome}
+use Rattle.live_mitigations.proofs.SlotsStanding.{come_still}
 use Rattle.live_mitigations.proofs.live.LiveMitigations.expire.Goals as goal
 
 pub invariant_of-self : goal.invariant_of-self
@@ -27,6 +29,15 @@ returns-clause-comes c = λ entries comes.
     (λ table. refl)
     (λ table. refl)
     comes
+
+pub returns-clause-slots : goal.returns-clause-slots
+returns-clause-slots c = λ filed comes.
+    subst
+    (λ tables. SlotsCome c.args.now tables filed)
+    (sym (changed_to (aged c.args.now) c.args.domain _ c.args.self.now c.expire.new.self c.self.view_is c.expire.ensures).tables)
+    (come_still c.args.now c.args.domain c.args.self.now.tables filed
+    (within_tables c.args.domain _ c.args.self.now c.self.view_is c.self.invariant.number c.requires)
+    comes)
 
 pub returns-clause-fewer : goal.returns-clause-fewer
 returns-clause-fewer c = λ due.

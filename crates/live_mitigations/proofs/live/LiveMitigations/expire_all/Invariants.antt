@@ -1,12 +1,14 @@
 -- what is kept comes to the same histories; there is less of it after each turn
 use Rattle.std.proofs.Common.{◌≡◌, List}
 use Rattle.dots_history.specs.declared.entry.Entry.{Entry}
-use Rattle.live_mitigations.specs.Standing.{ComesTo, SameButRows, count_kept}
+use Rattle.dots_laws.specs.Filed.{Filed}
+use Rattle.live_mitigations.specs.Standing.{ComesTo, SameButRows, SlotsCome, count_kept}
 use Rattle.live_mitigations.proofs.live.LiveMitigations.expire_all.Given as goal
 
 abbrev pub invariant-loop-domain : goal.invariant-loop-domain
 invariant-loop-domain l = record {
   comes : (entries : List Entry) → ComesTo l.now l.fn.self entries → ComesTo l.now l.self entries;
+  slots : (filed : List Filed) → SlotsCome l.now l.fn.self.tables filed → SlotsCome l.now l.self.tables filed;
   same : SameButRows l.fn.self l.self;
 }
 

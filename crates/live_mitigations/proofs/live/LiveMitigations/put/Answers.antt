@@ -4,6 +4,7 @@ use Rattle.dots_laws.specs.Views.{mitigations_with}
 use Rattle.live_mitigations.specs.Rows.{grown}
 use Rattle.live_mitigations.specs.Standing.{LiveValue}
 use Rattle.live_mitigations.proofs.Standing.{changed_to, changed_here, within_tables, changed_own, changed_other, put_stands}
+use Rattle.live_mitigations.proofs.SlotsStanding.{slots_with}
 use Rattle.live_mitigations.proofs.Room.{fits_kept}
 use Rattle.live_mitigations.proofs.live.LiveMitigations.put.Goals as goal
 
@@ -16,22 +17,29 @@ put-requires c =
     }
 
 pub invariant_of-self : goal.invariant_of-self
-invariant_of-self c = changed_here (grown (bare c.args.entry)) c.args.entry.domain _ c.put.new.self c.put.ensures (λ table. refl) c.self.invariant
+invariant_of-self c = changed_here (grown (record { entry = c.args.entry; slot = c.args.slot })) c.args.entry.domain _ c.put.new.self c.put.ensures (λ table. refl) c.self.invariant
 
 pub returns-clause-stands : goal.returns-clause-stands
 returns-clause-stands c = λ entries e same stands.
-    put_stands c.args.self.now _ entries c.args.entry e
-    (changed_to (grown (bare c.args.entry)) c.args.entry.domain _ c.args.self.now c.put.new.self c.self.view_is c.put.ensures)
+    put_stands c.args.self.now _ entries c.args.slot c.args.entry e
+    (changed_to (grown (record { entry = c.args.entry; slot = c.args.slot })) c.args.entry.domain _ c.args.self.now c.put.new.self c.self.view_is c.put.ensures)
     same c.requires.at c.requires.inside stands
+
+pub returns-clause-slots : goal.returns-clause-slots
+returns-clause-slots c = λ filed e same stands are.
+    let f = grown (record { entry = c.args.entry; slot = c.args.slot }) in
+    slots_with f c.args.self.now c.put.new.self filed c.args.slot c.args.entry e
+    (changed_to f c.args.entry.domain _ c.args.self.now c.put.new.self c.self.view_is c.put.ensures).tables
+    same c.requires.at c.requires.inside (λ table. refl) stands are
 
 pub returns-clause-own : goal.returns-clause-own
 returns-clause-own c =
-    changed_own (grown (bare c.args.entry)) (mitigations_with (bare c.args.entry)) c.args.entry.domain c.args.self.now _
-    (changed_to (grown (bare c.args.entry)) c.args.entry.domain _ c.args.self.now c.put.new.self c.self.view_is c.put.ensures)
+    changed_own (grown (record { entry = c.args.entry; slot = c.args.slot })) (mitigations_with (bare c.args.entry)) c.args.entry.domain c.args.self.now _
+    (changed_to (grown (record { entry = c.args.entry; slot = c.args.slot })) c.args.entry.domain _ c.args.self.now c.put.new.self c.self.view_is c.put.ensures)
     (within_tables c.args.entry.domain _ c.args.self.now c.self.view_is c.self.invariant.number c.requires.inside)
     (λ table. refl)
 
 pub returns-clause-others : goal.returns-clause-others
 returns-clause-others c =
-    changed_other (grown (bare c.args.entry)) c.args.entry.domain c.args.self.now _
-    (changed_to (grown (bare c.args.entry)) c.args.entry.domain _ c.args.self.now c.put.new.self c.self.view_is c.put.ensures)
+    changed_other (grown (record { entry = c.args.entry; slot = c.args.slot })) c.args.entry.domain c.args.self.now _
+    (changed_to (grown (record { entry = c.args.entry; slot = c.args.slot })) c.args.entry.domain _ c.args.self.now c.put.new.self c.self.view_is c.put.ensures)

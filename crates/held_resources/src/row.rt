@@ -1,0 +1,177 @@
+//! A row of what is held, and what undoes it.
+
+ghost use Rattle.std.specs.Prelude.{◌≡◌, ◌≤◌, length, option_map};
+ghost use Rattle.dots_history.specs.Entries.{is_leave, is_configuration, undoes_alias, undoes_acl};
+ghost use Rattle.held_resources.specs.Rows.{written_of, row_of, undone_of_client, undone_of_peer, is_undone};
+
+use crate::name::ShortName;
+use dots_history::{Change, Entry};
+
+/// What an entry wrote that is held until a later one undoes it.
+#[derive(Drop)]
+pub enum HeldName {
+    /// The client is registered (RFC 8783, section 5.1).
+    Registration,
+    /// The client's alias of this name (section 6.1).
+    Alias { name: ShortName },
+    /// The client's access list of this name (section 7.2).
+    Acl { name: ShortName },
+    /// The session configuration of the peer (RFC 9132, section 4.5.2).
+    Configuration,
+}
+
+/// Something that is held, and the slot of the entry that wrote it.
+#[derive(Drop)]
+pub struct HeldSlot {
+    /// Who wrote it.
+    pub peer: u32,
+    pub domain: u16,
+    /// The client; empty where a session is configured.
+    pub cuid: ShortName,
+    pub written: HeldName,
+    pub slot: u32,
+}
+
+/// The row of an entry in this slot, where it writes something.
+pub(crate) fn row_of(entry: &Entry, slot: u32) -> Option<HeldSlot>
+    requires { length entry.now.cuid ≤ 64 }
+    ensures { result ≡ row_of (record { entry = entry.now; slot = slot }) }
+{
+    let written = written_of(&entry.change)?;
+    Some(HeldSlot {
+        peer: entry.peer,
+        domain: entry.domain,
+        cuid: ShortName::new(entry.cuid.bytes()),
+        written,
+        slot,
+    })
+}
+
+/// What a change writes that is held.
+fn written_of(change: &Change) -> Option<HeldName>
+    ensures { result ≡ written_of change.now }
+{
+    match change {
+        Change::Register => Some(HeldName::Registration),
+        Change::SetAlias(alias) => Some(HeldName::Alias {
+            name: ShortName::of(&alias.name),
+        }),
+        Change::SetAcl(acl) => Some(HeldName::Acl {
+            name: ShortName::of(&acl.name),
+        }),
+        Change::SetConfig { .. } => Some(HeldName::Configuration),
+        Change::Put(_)
+        | Change::Withdraw { .. }
+        | Change::DropAlias { .. }
+        | Change::DropAcl { .. }
+        | Change::Deregister
+        | Change::ClearConfig => None,
+    }
+}
+
+/// Whether what the row is of is no longer held after this entry.
+pub(crate) fn is_undone(row: &HeldSlot, entry: &Entry) -> bool
+    ensures { result ≡ is_undone row.now entry.now }
+{
+    (row.domain == entry.domain
+        && row.cuid.bytes() == entry.cuid.bytes()
+        && undone_of_client(&row.written, &entry.change))
+        || (row.peer == entry.peer && undone_of_peer(&row.written, &entry.change))
+}
+
+/// Whether a change of the client undoes it.
+fn undone_of_client(written: &HeldName, change: &Change) -> bool
+    ensures { result ≡ undone_of_client written.now change.now }
+{
+    match written {
+        HeldName::Registration => is_leave(change),
+        HeldName::Alias { name } => undoes_alias(name, change),
+        HeldName::Acl { name } => undoes_acl(name, change),
+        HeldName::Configuration => false,
+    }
+}
+
+/// Whether a change of the peer undoes it.
+fn undone_of_peer(written: &HeldName, change: &Change) -> bool
+    ensures { result ≡ undone_of_peer written.now change.now }
+{
+    match written {
+        HeldName::Configuration => configures(change),
+        HeldName::Registration | HeldName::Alias { .. } | HeldName::Acl { .. } => false,
+    }
+}
+
+/// Whether the client leaves.
+#[tactic(auto, unfolding(dots_history::specs::Entries::is_leave))]
+fn is_leave(change: &Change) -> bool
+    ensures { result ≡ is_leave change.now }
+{
+    match change {
+        Change::Deregister => true,
+        Change::Put(_)
+        | Change::Withdraw { .. }
+        | Change::SetAlias(_)
+        | Change::DropAlias { .. }
+        | Change::SetAcl(_)
+        | Change::DropAcl { .. }
+        | Change::Register
+        | Change::SetConfig { .. }
+        | Change::ClearConfig => false,
+    }
+}
+
+/// Whether the change takes the alias of this name away, or writes it anew.
+#[tactic(auto, unfolding(dots_history::specs::Entries::undoes_alias))]
+fn undoes_alias(name: &ShortName, change: &Change) -> bool
+    ensures { result ≡ undoes_alias name.now change.now }
+{
+    match change {
+        Change::SetAlias(other) => name.bytes() == other.name.bytes(),
+        Change::DropAlias { name: other } => name.bytes() == other.bytes(),
+        Change::Deregister => true,
+        Change::Put(_)
+        | Change::Withdraw { .. }
+        | Change::SetAcl(_)
+        | Change::DropAcl { .. }
+        | Change::Register
+        | Change::SetConfig { .. }
+        | Change::ClearConfig => false,
+    }
+}
+
+/// The same of the access list of this name.
+#[tactic(auto, unfolding(dots_history::specs::Entries::undoes_acl))]
+fn undoes_acl(name: &ShortName, change: &Change) -> bool
+    ensures { result ≡ undoes_acl name.now change.now }
+{
+    match change {
+        Change::SetAcl(other) => name.bytes() == other.name.bytes(),
+        Change::DropAcl { name: other } => name.bytes() == other.bytes(),
+        Change::Deregister => true,
+        Change::Put(_)
+        | Change::Withdraw { .. }
+        | Change::SetAlias(_)
+        | Change::DropAlias { .. }
+        | Change::Register
+        | Change::SetConfig { .. }
+        | Change::ClearConfig => false,
+    }
+}
+
+/// Whether the change sets or deletes a session configuration.
+#[tactic(auto, unfolding(dots_history::specs::Entries::is_configuration))]
+fn configures(change: &Change) -> bool
+    ensures { result ≡ is_configuration change.now }
+{
+    match change {
+        Change::SetConfig { .. } | Change::ClearConfig => true,
+        Change::Put(_)
+        | Change::Withdraw { .. }
+        | Change::SetAlias(_)
+        | Change::DropAlias { .. }
+        | Change::SetAcl(_)
+        | Change::DropAcl { .. }
+        | Change::Register
+        | Change::Deregister => false,
+    }
+}

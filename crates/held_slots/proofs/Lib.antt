@@ -1,4 +1,0 @@
-pub mod Names
-pub mod Going
-pub mod Named
-pub mod Slots

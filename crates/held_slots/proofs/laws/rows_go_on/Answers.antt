@@ -1,6 +1,0 @@
-use Rattle.std.proofs.Common.{refl}
-use Rattle.held_slots.proofs.Going.{rows_more, rows_moved, rows_many}
-use Rattle.held_slots.proofs.laws.rows_go_on.Goals as goal
-
-pub returns : goal.returns
-returns c = record { none = refl; more = rows_more; moved = rows_moved; many = rows_many }

@@ -1,9 +1,0 @@
-pub mod Going
-pub mod Recents
-pub mod Named
-pub mod Moving
-pub mod Few
-pub mod Staying
-pub mod Numbering
-pub mod Sizing
-pub mod Uniting

@@ -1,5 +1,0 @@
-use Rattle.kept_slots.proofs.Numbering.{filed_entries, filed_rise, filed_more}
-use Rattle.kept_slots.proofs.laws.entries_stand_in_the_first_slots.Goals as goal
-
-pub returns : goal.returns
-returns c = record { entries = filed_entries; rise = filed_rise; more = filed_more }

@@ -1,6 +1,0 @@
-use Rattle.kept_slots.proofs.Staying.{kept_stay}
-use Rattle.kept_slots.proofs.Numbering.{named_rise, kept_are_first}
-use Rattle.kept_slots.proofs.laws.what_is_named_has_the_slots.Goals as goal
-
-pub returns : goal.returns
-returns c = record { stay = kept_stay; rise = named_rise; first = kept_are_first }

@@ -1,0 +1,15 @@
+-- those before the place at hand are as they were, and behind it those are left whose mitigations are live after the entry
+use Rattle.std.proofs.Common.{◌≡◌, ◌≤◌, ◌++◌, length, take, drop, vec_capacity}
+use Rattle.live_mitigations.specs.Slots.{slots_left}
+use Rattle.live_mitigations.proofs.slotting.move_slots.Given as goal
+
+abbrev pub invariant-loop-at : goal.invariant-loop-at
+invariant-loop-at l = record {
+  slots : l.slots.items
+      ≡ take l.at l.fn.slots.items ++ slots_left (record { entry = l.entry; slot = l.slot }) (drop l.at l.rows) (drop l.at l.fn.slots.items);
+  within : l.at ≤ length l.rows;
+  capacity : vec_capacity l.slots ≡ vec_capacity l.fn.slots;
+}
+
+abbrev pub decreases-loop-at : goal.decreases-loop-at
+decreases-loop-at l = l.at

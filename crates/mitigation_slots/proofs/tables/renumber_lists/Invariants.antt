@@ -1,7 +1,0 @@
--- those before the one at hand have their new numbers
-use Rattle.std.proofs.Common.{◌≡◌, ◌++◌, map, take, drop}
-use Rattle.mitigation_slots.specs.Tables.{table_renumbered}
-use Rattle.mitigation_slots.proofs.tables.renumber_lists.Given as goal
-
-abbrev pub invariant-loop-list : goal.invariant-loop-list
-invariant-loop-list l = l.lists ≡ map (table_renumbered l.keep) (take l.list-index l.fn.lists) ++ drop l.list-index l.fn.lists
