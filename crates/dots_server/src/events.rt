@@ -18,7 +18,7 @@ ghost use Rattle.dots_server.specs.Taking.{IsTaken, Took, StoppedAt};
 use dots_disk::Host;
 use dots_host::{Got, MAX_EVENT_BYTES, What};
 use dots_machine::Stop;
-use dots_server::Server;
+use crate::server::Server;
 
 /// The most events of a run.
 const MAX_EVENTS: u64 = 1 << 40;
