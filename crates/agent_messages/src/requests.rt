@@ -1,6 +1,6 @@
 //! The requests of a client.
 
-ghost use Rattle.std.specs.Prelude.{◌≡◌, ◌++◌, map, decimal, Some, None, IfOk, OnOk};
+ghost use Rattle.std.specs.Prelude.{◌≡◌, map, decimal, Some, None, IfOk, OnOk};
 ghost use Rattle.cbor_profile.specs.Valid.{IsValid};
 ghost use Rattle.coap_message.specs.Message.{spelling};
 ghost use Rattle.dots_heads.specs.Paths.{mitigation, path_of};

@@ -1,5 +1,5 @@
 //! Worked bytes and calls of the crates below the server: messages of CoAP, items of CBOR and hexadecimal text; deadlines; requests,
-//! replies and sessions of the signal channel; and streams of HTTP, requests and replies of the data channel.
+//! replies and sessions of the signal channel, and a client of it; and streams of HTTP, requests and replies of the data channel.
 //!
 //! Each row is put to public calls. The expected values come from the RFCs, their examples and the protocol's documents, and not from
 //! the program.
@@ -7,6 +7,8 @@
 //! Rows are text: [`tables`] says who reads them.
 #![tactic(auto)]
 
+#[cfg(test)]
+mod agents;
 #[cfg(test)]
 mod alias_rows;
 #[cfg(test)]

@@ -1,5 +1,6 @@
 //! Tables of rows in text.
 
+use crate::agents;
 use crate::data_asking::{self, Form};
 use crate::row::Row;
 use crate::{
@@ -52,6 +53,8 @@ pub enum Told {
     Exchanges,
     /// Messages of the data channel.
     Data,
+    /// What a client asks and hears.
+    Clients,
 }
 
 /// What is told of the front of a row; None where it isn't there, or memory runs out.
@@ -67,6 +70,7 @@ fn text_of(alloc: Global, what: Told, row: &mut Row<'_>) -> Option<String> {
         Told::Streams => stream_rows::told(alloc, row),
         Told::Exchanges => exchange_rows::asked(alloc, row),
         Told::Data => data_asking::asked_by(alloc, row),
+        Told::Clients => agents::told(alloc, row),
     }
 }
 

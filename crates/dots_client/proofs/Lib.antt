@@ -1,0 +1,5 @@
+pub mod Beside
+pub mod Ends
+pub mod Falls
+pub mod Pairs
+pub mod Rows

@@ -1,0 +1,8 @@
+pub mod Answers
+pub mod Client
+pub mod Cuid
+pub mod Ending
+pub mod Hearing
+pub mod Ledger
+pub mod Steps
+pub mod Waiting
