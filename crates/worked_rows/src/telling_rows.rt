@@ -26,6 +26,14 @@ $ help me
 = words
 ? 2
 
+$ --help me
+= words
+? 2
+
+$ --version -v
+= words
+? 2
+
 $ check -a
 = words
 ? 2
@@ -109,7 +117,15 @@ $ help
 ! write 1
 ? 9
 
+$ --help
+! write 1
+? 9
+
 $ version
+= dots 0.1
+= rattle-kit-13f logic dac8208d650f15bf
+
+$ --version
 = dots 0.1
 = rattle-kit-13f logic dac8208d650f15bf
 
