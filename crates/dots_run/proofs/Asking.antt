@@ -9,7 +9,7 @@ use Rattle.dots_run.specs.declared.topic.Topic.{Topic}
 use Rattle.dots_run.specs.declared.topic.Topic.TheVariants as topic
 use Rattle.dots_run.specs.Telling.{told_status, has_source}
 use Rattle.dots_run.proofs.Commands.{served_by}
-use Rattle.dots_run.specs.Topics.{is_check, is_alone, is_check_script, topic_of, is_known}
+use Rattle.dots_run.specs.Topics.{is_check, is_alone, is_check_script, is_help, is_version, topic_of, is_known}
 
 check_or_replay : (name word : List ℕ) → (bytes_eq name (codes "check") && is_word word) ≡ true → (bytes_eq name (codes "replay") && is_word word) ≡ true → ⊥
 check_or_replay [] word c r = absurd (cc c)
@@ -59,8 +59,16 @@ module _ (words : List (List ℕ)) (asked : Topic) where
   -- words with a topic are a check of settings, or one word
   one_of : (P : Type 0) → topic_of words ≡ Some asked → (is_check words ≡ true → P) → ((word : List ℕ) → is_alone word words ≡ true → P) → P
   one_of P is check alone =
-      by (is_check words) (is_alone (codes "check-script") words) (is_alone (codes "help") words) (is_alone (codes "version") words) check (alone (codes "check-script")) (alone (codes "help")) (alone (codes "version")) is
+      by (is_check words) (is_alone (codes "check-script") words) (is_help words) (is_version words) check (alone (codes "check-script")) (either (codes "help") (codes "--help"))
+      (either (codes "version") (codes "--version")) is
     where
+      either : (one other : List ℕ) → (is_alone one words || is_alone other words) ≡ true → P
+      either one other is = split (is_alone one words) refl is
+        where
+          split : (b : Bool) → is_alone one words ≡ b → (b || is_alone other words) ≡ true → P
+          split true first is = alone one first
+          split false first is = alone other is
+
       by : (a b c d : Bool) → (a ≡ true → P) → (b ≡ true → P) → (c ≡ true → P) → (d ≡ true → P)
           → (if a then Some topic.Settings else if b then Some topic.Script else if c then Some topic.Usage else if d then Some topic.Version else None) ≡ Some asked → P
       by true b c d p q r s is = p refl
@@ -88,7 +96,7 @@ module _ (words : List (List ℕ)) (asked : Topic) where
 
   -- where neither settings nor a script are checked no source is read
   pub no_source : topic_of words ≡ Some asked → is_check words ≡ false → is_check_script words ≡ false → has_source asked ≡ false
-  no_source is none nor = by (is_check words) (is_alone (codes "check-script") words) (is_alone (codes "help") words) (is_alone (codes "version") words) none nor is
+  no_source is none nor = by (is_check words) (is_alone (codes "check-script") words) (is_help words) (is_version words) none nor is
     where
       by : (a b c d : Bool) → a ≡ false → b ≡ false
           → (if a then Some topic.Settings else if b then Some topic.Script else if c then Some topic.Usage else if d then Some topic.Version else None) ≡ Some asked → has_source asked ≡ false

@@ -17,13 +17,21 @@ is_alone word _ = false
 abbrev pub is_check_script : List (List ℕ) → Bool
 is_check_script words = is_alone (codes "check-script") words
 
+-- `help` or `--help`
+abbrev pub is_help : List (List ℕ) → Bool
+is_help words = is_alone (codes "help") words || is_alone (codes "--help") words
+
+-- `version` or `--version`
+abbrev pub is_version : List (List ℕ) → Bool
+is_version words = is_alone (codes "version") words || is_alone (codes "--version") words
+
 -- the topic that the words ask for
 abbrev pub topic_of : List (List ℕ) → Option Topic
 topic_of words =
     if is_check words then Some topic.Settings
     else if is_check_script words then Some topic.Script
-    else if is_alone (codes "help") words then Some topic.Usage
-    else if is_alone (codes "version") words then Some topic.Version
+    else if is_help words then Some topic.Usage
+    else if is_version words then Some topic.Version
     else None
 
 -- the words are a line that the program knows

@@ -24,8 +24,8 @@ use std::alloc::Global;
 /// from the source, what the host's disk holds is recovered, the events are taken from the host, and at End the filters that stand are written
 /// to the report. With `show HEX` the lines of a message are written to the report, or that of its fault, and neither source
 /// nor host is called. With `check SETTINGS` and `check-script` the source gives what is checked, and what it comes to, or its
-/// first fault and why it is one, is written to the report; with `help` and `version` the usage and the version are. None of these
-/// four calls the host.
+/// first fault and why it is one, is written to the report; with `help` or `--help` the usage is, and with `version` or `--version` the
+/// version. None of these calls the host.
 pub fn run<H: Host, S: Source, K: Sink>(
     alloc: Global,
     words: &[String],

@@ -1,12 +1,13 @@
 //! The words that ask for what is told without serving.
 
 ghost use Rattle.std.specs.Prelude.{◌≡◌, map, string_bytes};
-ghost use Rattle.dots_run.specs.Topics.{is_check, is_alone, is_check_script, topic_of};
+ghost use Rattle.dots_run.specs.Topics.{is_check, is_alone, is_check_script, is_help, is_version, topic_of};
 
 use crate::topic::Topic;
 use crate::words::is_word;
 
-/// The topic that the words ask for: `check SETTINGS`, `check-script`, `help` and `version` have one.
+/// The topic that the words ask for: `check SETTINGS`, `check-script`, `help` and `version` have one, and
+/// `--help` and `--version` have that of `help` and `version`.
 pub fn topic_of(words: &[String]) -> Option<Topic>
     ensures { result ≡ topic_of (map string_bytes words.now) }
 {
@@ -16,10 +17,10 @@ pub fn topic_of(words: &[String]) -> Option<Topic>
     if is_check_script(words) {
         return Some(Topic::Script);
     }
-    if is_alone("help", words) {
+    if is_help(words) {
         return Some(Topic::Usage);
     }
-    if is_alone("version", words) {
+    if is_version(words) {
         return Some(Topic::Version);
     }
     None
@@ -40,6 +41,20 @@ pub fn is_check_script(words: &[String]) -> bool
     ensures { result ≡ is_check_script (map string_bytes words.now) }
 {
     is_alone("check-script", words)
+}
+
+/// Whether they are `help` or `--help`.
+fn is_help(words: &[String]) -> bool
+    ensures { result ≡ is_help (map string_bytes words.now) }
+{
+    is_alone("help", words) || is_alone("--help", words)
+}
+
+/// Whether they are `version` or `--version`.
+fn is_version(words: &[String]) -> bool
+    ensures { result ≡ is_version (map string_bytes words.now) }
+{
+    is_alone("version", words) || is_alone("--version", words)
 }
 
 /// Whether they are this word alone.

@@ -8,7 +8,7 @@
 #![tactic(auto)]
 
 mod checked;
-mod mistake_words;
+mod mistakes;
 mod pieces;
 mod quoting;
 mod reading;

@@ -1,7 +1,7 @@
 ghost use Rattle.std.specs.Prelude.{◌≡◌, ◌++◌, OnOk};
 ghost use Rattle.file_checks.specs.Reason.{reason_words, reason_number, reason_text, number_text};
 
-use crate::mistake_words::mistake_words;
+use crate::mistakes::mistake_words;
 use dots_lists::NoMemory;
 use dots_settings::Mistake;
 use itoa::Buffer;

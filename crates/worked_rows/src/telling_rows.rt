@@ -26,6 +26,14 @@ $ help me
 = words
 ? 2
 
+$ --help me
+= words
+? 2
+
+$ --version -v
+= words
+? 2
+
 $ check -a
 = words
 ? 2
@@ -109,9 +117,17 @@ $ help
 ! write 1
 ? 9
 
+$ --help
+! write 1
+? 9
+
 $ version
 = dots 0.1
 = logic dac8208d650f15bf
+
+$ --version
+= dots 0.1
+= rattle-kit-13f logic dac8208d650f15bf
 
 # a message, and one that is none; where the first write fails the status of a fault stays
 $ show 40001234
