@@ -2,27 +2,24 @@
 use Rattle.std.specs.Prelude.{◌≡◌, ℕ, ◌-◌, Bool, List, Option, Some, None}
 use Rattle.plain_text.specs.Lines.{lines_of}
 use Rattle.dots_edge.specs.declared.seconds.Begun.{Begun}
-use Rattle.dots_edge.specs.HostLine.{LineValue}
-use Rattle.dots_edge.specs.HostFile.{Stand}
-use Rattle.dots_edge.specs.Found.{events_in, has_journal}
+use Rattle.host_file.specs.HostLine.{LineValue}
+use Rattle.host_file.specs.HostFile.{Stand}
+use Rattle.host_file.specs.Found.{events_in, reserve_in, has_journal}
 
 -- Whether it is open: a host whose file has a fault, or whose sockets or journal can't be opened, isn't. Whether it has a journal, and
--- whether that was seen to be gone from its path; how many events are still to come, where that is said; what the clocks read first, the last time beside an event, and at how many ticks
+-- whether that was seen to be gone from its path; how many events are still to come and how many bytes are reserved, where that is said; what the clocks read first, the last time beside an event, and at how many ticks
 -- the wall clock was away from it; and how often wire and disk failed.
 pub record Edge : Type 0 where
   pub opened : Bool
   pub journaled : Bool
   pub lost : Bool
   pub left : Option ℕ
+  pub reserve : Option ℕ
   pub begun : Option Begun
   pub last : ℕ
   pub strayed : ℕ
   pub wire : ℕ
   pub disk : ℕ
-
--- how many bytes its disk has
-abbrev pub disk_bytes : ℕ
-disk_bytes = 1073741824
 
 -- one event fewer is to come
 abbrev pub one_fewer : Option ℕ → Option ℕ
@@ -33,13 +30,15 @@ one_fewer (Some left) = Some (left - 1)
 pub record KeepsWire (old new : Edge) : Type 0 where
   pub kept : new ≡ record old { disk = new.disk }
 
--- a call of the wire keeps the count of the disk's faults
+-- a call of the wire keeps the count of the disk's faults, and how many bytes it has
 pub record KeepsDisk (old new : Edge) : Type 0 where
   pub disk : new.disk ≡ old.disk
+  pub reserve : new.reserve ≡ old.reserve
 
--- the host file stands, and the host has a journal and counts its events as the file says
+-- the host file stands, and the host has a journal, its room and the count of its events as the file says
 pub record IsAsSaid (file : List ℕ) (host : Edge) : Type 0 where
   pub values : List LineValue
   pub stand : Stand (lines_of file) values
   pub left : host.left ≡ events_in values
+  pub reserve : host.reserve ≡ reserve_in values
   pub journaled : host.journaled ≡ has_journal values

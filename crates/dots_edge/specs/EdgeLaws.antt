@@ -9,7 +9,7 @@ pub keeps_wire_then : (old mid new : Edge) → KeepsWire old mid → KeepsWire m
 keeps_wire_then old mid new a b = record { kept = b.kept ∙ ap (λ (host : Edge). record host { disk = new.disk }) a.kept }
 
 pub keeps_disk_same : (host : Edge) → KeepsDisk host host
-keeps_disk_same host = record { disk = refl }
+keeps_disk_same host = record { disk = refl; reserve = refl }
 
 pub keeps_disk_then : (old mid new : Edge) → KeepsDisk old mid → KeepsDisk mid new → KeepsDisk old new
-keeps_disk_then old mid new a b = record { disk = b.disk ∙ a.disk }
+keeps_disk_then old mid new a b = record { disk = b.disk ∙ a.disk; reserve = b.reserve ∙ a.reserve }

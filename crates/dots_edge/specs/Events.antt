@@ -13,7 +13,7 @@ IsPiece (piece.Bytes count) room = count ≤ room
 IsPiece _ room = ⊤
 
 abbrev pub IsReceived : Received → ℕ → Type 0
-IsReceived (received.Datagram len from) room = len ≤ room
+IsReceived (received.Datagram len from via) room = len ≤ room
 IsReceived _ room = ⊤
 
 -- the times of the connection are as before

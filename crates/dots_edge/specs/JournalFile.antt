@@ -1,5 +1,5 @@
 -- Which files may be journals.
-use Rattle.std.specs.Prelude.{◌≡◌, ℕ, ◌%◌, Bool, true, false, ◌==◌, ◌||◌, ◌&&◌, List, [], ◌∷◌, drop, Option, Some, None}
+use Rattle.std.specs.Prelude.{◌≡◌, ℕ, ◌+◌, ◌*◌, ◌/◌, ◌%◌, ◌^◌, min, Bool, true, false, ◌==◌, ◌||◌, ◌&&◌, List, [], ◌∷◌, drop, Option, Some, None}
 use Rattle.std.specs.List.{list_all}
 use Rattle.std.specs.Fs.{metadata_len, file_type, IsFile}
 use Rattle.std.specs.declared.fs.attrs.Metadata.{Metadata}
@@ -15,6 +15,11 @@ pub record IsWhole (found : Metadata) : Type 0 where
 abbrev pub is_front : List ℕ → Bool
 is_front [] = true
 is_front (gate ∷ behind) = gate == 165 || (gate == 0 && list_all (λ byte. byte == 0) (drop 64 (gate ∷ behind)))
+
+-- how many bytes the disk has: those that are reserved, as whole pages, and else as many as a journal may have
+abbrev pub room_of : Option ℕ → ℕ
+room_of None = 2 ^ 30
+room_of (Some bytes) = (min bytes (2 ^ 30) + 4095) / 4096 * 4096
 
 -- the path of a journal was seen to lead elsewhere
 abbrev pub is_lost : Option Journal → Bool

@@ -1,12 +1,9 @@
-pub mod HostLine
-pub mod HostFile
-pub mod FaultText
 pub mod Clocks
 pub mod Passing
 pub mod Events
-pub mod Found
 pub mod Address
 pub mod Peers
+pub mod Ways
 pub mod Drained
 pub mod JournalFile
 pub mod Edge

@@ -6,11 +6,11 @@ ghost use Rattle.dots_host.specs.declared.TheConstants.{MAX_EVENT_BYTES};
 ghost use Rattle.dots_edge.specs.Drained.{IsDrained, tried_again};
 
 use crate::connections::Connections;
-use crate::host_line::HostLine;
 use crate::passing::Ticks;
 use crate::peers::Peers;
 use crate::sockets::{Accepted, HTTP, Received, SIGNAL, Sockets};
 use dots_host::{MAX_EVENT_BYTES, NoMemory, Out, Sent, What};
+use host_file::HostLine;
 use mio::Events;
 use std::alloc::Global;
 use std::io;
@@ -38,7 +38,7 @@ enum Accepting {
     Stuck,
 }
 
-/// What may wait at the two sockets. Once a wait has told of a socket, no other does before it was found empty.
+/// What may wait at the sockets. Once a wait has told of a socket, no other does before it was found empty.
 #[derive(Clone, Copy)]
 struct Waiting {
     datagrams: bool,
@@ -220,9 +220,9 @@ impl Ends {
         }
         for _ in 0..PASSED_AT_ONCE {
             match self.sockets.receive(self.datagram.as_mut_slice())? {
-                Received::Datagram { len, from } if len <= MAX_EVENT_BYTES => {
+                Received::Datagram { len, from, via } if len <= MAX_EVENT_BYTES => {
                     into[..len].copy_from_slice(&self.datagram.as_slice()[..len]);
-                    let from = self.peers.hear(from);
+                    let from = self.peers.hear(from, via);
                     return Ok(Some(What::Datagram { from, len }));
                 }
                 Received::Nothing => {
@@ -289,7 +289,7 @@ impl Ends {
     pub fn send(&mut self, out: &Out) -> Sent {
         match out {
             Out::To { peer, bytes } => match self.peers.way_to(*peer) {
-                Some(to) => self.sockets.send_to(*bytes, to),
+                Some(way) => self.sockets.send_to(*bytes, way),
                 None => Sent::Lost,
             },
             Out::Conn { conn, bytes } => self.connections.send(*conn, *bytes, self.time),
@@ -302,12 +302,12 @@ impl Ends {
 fn note(events: &Events, waiting: &mut Waiting, connections: &mut Connections) {
     for event in events {
         let place = event.token().0;
-        if place == SIGNAL {
-            waiting.datagrams = true;
-        } else if place == HTTP {
-            waiting.connections = Accepting::Yes;
-        } else {
+        if place < SIGNAL {
             connections.mark(place);
+        } else if place < HTTP {
+            waiting.datagrams = true;
+        } else {
+            waiting.connections = Accepting::Yes;
         }
     }
 }

@@ -2,26 +2,23 @@ ghost use Rattle.std.specs.Prelude.{◌≡◌, ◌+◌, ◌≤◌, ◌<◌, ◌^
 ghost use Rattle.dots_host.specs.Causes.{Rose, HasCause};
 ghost use Rattle.dots_host.specs.Acts.{IsWithin, OnFailed, OnEvent};
 ghost use Rattle.dots_host.specs.declared.TheConstants.{MAX_EVENT_BYTES};
-ghost use Rattle.dots_edge.specs.Edge.{disk_bytes, one_fewer, KeepsWire, KeepsDisk, IsAsSaid};
+ghost use Rattle.dots_edge.specs.Edge.{one_fewer, KeepsWire, KeepsDisk, IsAsSaid};
 ghost use Rattle.plain_text.specs.Lines.{lines_of};
-ghost use Rattle.dots_edge.specs.HostLine.{LineValue, line_value};
-ghost use Rattle.dots_edge.specs.HostFile.{Stand};
+ghost use Rattle.host_file.specs.HostLine.{LineValue, line_value};
+ghost use Rattle.host_file.specs.HostFile.{Stand};
 ghost use Rattle.dots_edge.specs.Clocks.{IsSteady, one_more};
-ghost use Rattle.dots_edge.specs.JournalFile.{is_lost};
-ghost use Rattle.dots_edge.specs.Found.{events_in, has_journal};
+ghost use Rattle.dots_edge.specs.JournalFile.{is_lost, room_of};
+ghost use Rattle.host_file.specs.Found.{events_in, reserve_in, has_journal};
 ghost use Rattle.std.proofs.Common.{ap, refl};
 ghost use Rattle.dots_edge.specs.EdgeLaws.{keeps_wire_same, keeps_wire_then, keeps_disk_same, keeps_disk_then};
 
 use crate::ends::{Ends, Rooms};
-use crate::found::{events_in, journal_in};
-use crate::host_fault::HostFault;
-use crate::host_file::read_host_file;
-use crate::host_line::HostLine;
-use crate::journal::{DISK_BYTES, Journal};
+use crate::journal::{Journal, room_of};
 use crate::seconds::Seconds;
-use crate::sockets::Sockets;
+use crate::sockets::{SocketRoom, Sockets};
 use dots_disk::{Disk, Host};
 use dots_host::{Failed, Got, NoMemory, Out, Sent, What, Wire};
+use host_file::{HostFault, HostLine, events_in, journal_in, read_host_file, reserve_in};
 use std::alloc::Global;
 use std::fs::{File, Files};
 use std::io;
@@ -39,6 +36,8 @@ pub struct FileSocketHost<R> {
     journal: Option<Journal>,
     seconds: Seconds,
     left: Option<u64>,
+    /// How many bytes of the journal are reserved, where that is said.
+    reserve: Option<u64>,
     wire_faults: u64,
     disk_faults: u64,
 }
@@ -50,6 +49,8 @@ struct Opened {
     journal: Option<Journal>,
     /// How many events are to come, where that is said.
     left: Option<u64>,
+    /// How many bytes of the journal are reserved, where that is said.
+    reserve: Option<u64>,
 }
 
 impl<R> Model for FileSocketHost<R> {
@@ -59,7 +60,7 @@ impl<R> Model for FileSocketHost<R> {
 
     ghost Value = { Edge };
 
-    ghost view = { λ host. record { opened = is_some host.ends; journaled = is_some host.journal; lost = is_lost host.journal; left = host.left; begun = host.seconds.begun; last = host.seconds.last; strayed = host.seconds.strayed; wire = host.wire_faults; disk = host.disk_faults } };
+    ghost view = { λ host. record { opened = is_some host.ends; journaled = is_some host.journal; lost = is_lost host.journal; left = host.left; reserve = host.reserve; begun = host.seconds.begun; last = host.seconds.last; strayed = host.seconds.strayed; wire = host.wire_faults; disk = host.disk_faults } };
 }
 
 impl<R: Files<File = File> + Net + Clock + Drop> FileSocketHost<R> {
@@ -83,7 +84,7 @@ impl<R: Files<File = File> + Net + Clock + Drop> FileSocketHost<R> {
     fn of(rt: R, opened: Opened) -> FileSocketHost<R>
         ensures opened { result.opened ≡ is_some opened.ends }
         ensures journaled { result.journaled ≡ is_some opened.journal }
-        ensures left { result.left ≡ opened.left }
+        ensures left { (result.left ≡ opened.left) × (result.reserve ≡ opened.reserve) }
         ensures lost { result.lost ≡ is_lost opened.journal }
         ensures faults { (result.wire ≡ 0) × (result.disk ≡ 0) }
     {
@@ -91,6 +92,7 @@ impl<R: Files<File = File> + Net + Clock + Drop> FileSocketHost<R> {
             ends,
             journal,
             left,
+            reserve,
         } = opened;
         FileSocketHost {
             rt,
@@ -98,6 +100,7 @@ impl<R: Files<File = File> + Net + Clock + Drop> FileSocketHost<R> {
             journal,
             seconds: Seconds::new(),
             left,
+            reserve,
             wire_faults: 0,
             disk_faults: 0,
         }
@@ -134,7 +137,7 @@ fn open_said<R: Files<File = File> + Net>(
     text: &[u8],
 ) -> Result<Opened, NoMemory>
     ensures said { IfOk result (λ opened. is_some opened.ends ≡ true → (values : List LineValue) × Stand (lines_of text.now) values
-        × (opened.left ≡ events_in values) × (is_some opened.journal ≡ has_journal values)) }
+        × (opened.left ≡ events_in values) × (opened.reserve ≡ reserve_in values) × (is_some opened.journal ≡ has_journal values)) }
     ensures shut { IfOk result (λ opened. is_some opened.ends ≡ false → is_some opened.journal ≡ false) }
     ensures lost { IfOk result (λ opened. is_lost opened.journal ≡ false) }
 {
@@ -145,6 +148,7 @@ fn open_said<R: Files<File = File> + Net>(
             ends: None,
             journal: None,
             left: None,
+            reserve: None,
         }),
     }
 }
@@ -158,16 +162,20 @@ fn open_lines<R: Files<File = File> + Net>(
     ensures journaled { IfOk result (λ opened. is_some opened.ends ≡ true → is_some opened.journal ≡ has_journal (map line_value lines.now)) }
     ensures shut { IfOk result (λ opened. is_some opened.ends ≡ false → is_some opened.journal ≡ false) }
     ensures left { IfOk result (λ opened. opened.left ≡ events_in (map line_value lines.now)) }
+    ensures reserve { IfOk result (λ opened. opened.reserve ≡ reserve_in (map line_value lines.now)) }
     ensures lost { IfOk result (λ opened. is_lost opened.journal ≡ false) }
 {
     let path = path_in(alloc, lines)?;
+    let sockets = SocketRoom::new(alloc)?;
     let rooms = Rooms::new(alloc, lines)?;
     let left = events_in(lines);
-    match open_all(rt, lines, path) {
+    let reserve = reserve_in(lines);
+    match open_all(rt, lines, sockets, path) {
         Ok((sockets, journal)) => Ok(Opened {
             ends: Some(Ends::new(sockets, rooms)),
             journal,
             left,
+            reserve,
         }),
         Err(_) => {
             drop(rooms);
@@ -175,6 +183,7 @@ fn open_lines<R: Files<File = File> + Net>(
                 ends: None,
                 journal: None,
                 left,
+                reserve,
             })
         }
     }
@@ -197,13 +206,14 @@ fn path_in(alloc: Global, lines: &[HostLine<'_>]) -> Result<Option<String>, NoMe
 fn open_all<R: Files<File = File> + Net>(
     rt: &R,
     lines: &[HostLine<'_>],
+    room: SocketRoom,
     path: Option<String>,
 ) -> io::Result<(Sockets, Option<Journal>)>
     ensures journaled { IfOk result (λ all. is_some all.1 ≡ is_some path) }
     ensures lost { IfOk result (λ all. is_lost all.1 ≡ false) }
 {
-    let sockets = Sockets::bind(rt, lines)?;
-    match open_journal(rt, path) {
+    let sockets = Sockets::bind(rt, lines, room)?;
+    match open_journal(rt, path, reserve_in(lines)) {
         Ok(journal) => Ok((sockets, journal)),
         Err(error) => {
             drop(sockets);
@@ -212,12 +222,16 @@ fn open_all<R: Files<File = File> + Net>(
     }
 }
 
-fn open_journal<R: Files<File = File>>(rt: &R, path: Option<String>) -> io::Result<Option<Journal>>
+fn open_journal<R: Files<File = File>>(
+    rt: &R,
+    path: Option<String>,
+    reserve: Option<u64>,
+) -> io::Result<Option<Journal>>
     ensures journaled { IfOk result (λ journal. is_some journal ≡ is_some path) }
     ensures lost { IfOk result (λ journal. is_lost journal ≡ false) }
 {
     match path {
-        Some(path) => Ok(Some(Journal::open(rt, path)?)),
+        Some(path) => Ok(Some(Journal::open(rt, path, reserve)?)),
         None => Ok(None),
     }
 }
@@ -279,7 +293,7 @@ fn is_read(journal: &Option<Journal>, at: u64, into: &mut [u8]) -> bool
 
 /// Whether the bytes were written to the journal.
 fn is_written(journal: &mut Option<Journal>, at: u64, bytes: &[u8]) -> bool
-    requires { at + length bytes.now ≤ disk_bytes }
+    requires { at + length bytes.now ≤ 2 ^ 30 }
     ensures none { is_some journal.old ≡ false → result ≡ false }
     ensures lost { is_lost journal.old ≡ true → result ≡ false }
     ensures journaled { is_some journal.new ≡ is_some journal.old }
@@ -415,7 +429,7 @@ impl<R: Files<File = File> + Net + Clock + Drop> Wire for FileSocketHost<R> {
 impl<R: Files<File = File> + Net + Clock + Drop> Disk for FileSocketHost<R> {
     ghost media = { λ _. None };
 
-    ghost extent = { λ _. disk_bytes };
+    ghost extent = { λ host. room_of host.reserve };
 
     ghost faults = { λ host. host.disk };
 
@@ -425,16 +439,18 @@ impl<R: Files<File = File> + Net + Clock + Drop> Disk for FileSocketHost<R> {
 
     ghost beside_then = { keeps_wire_then };
 
-    fn size(&self) -> u64 {
-        DISK_BYTES
+    fn size(&self) -> u64
+        ensures { result ≡ room_of self.now.reserve }
+    {
+        room_of(self.reserve)
     }
 
     fn read(&mut self, at: u64, into: &mut [u8]) -> Result<(), Failed>
-        requires { at + length into.old ≤ disk_bytes }
+        requires { at + length into.old ≤ room_of self.old.reserve }
         ensures bytes { OnOk result ⊤ }
         ensures ok { OnOk result ⊤ }
         ensures err { OnErr result ⊤ }
-        ensures extent { disk_bytes ≡ disk_bytes }
+        ensures extent { room_of self.new.reserve ≡ room_of self.old.reserve }
         ensures cause { HasCause self.old.disk self.new.disk result }
         ensures beside { KeepsWire self.old self.new }
 
@@ -448,10 +464,10 @@ impl<R: Files<File = File> + Net + Clock + Drop> Disk for FileSocketHost<R> {
     }
 
     fn write_at(&mut self, at: u64, bytes: &[u8]) -> Result<(), Failed>
-        requires { at + length bytes.now ≤ disk_bytes }
+        requires { at + length bytes.now ≤ room_of self.old.reserve }
         ensures ok { OnOk result ⊤ }
         ensures err { OnErr result ⊤ }
-        ensures extent { disk_bytes ≡ disk_bytes }
+        ensures extent { room_of self.new.reserve ≡ room_of self.old.reserve }
         ensures cause { HasCause self.old.disk self.new.disk result }
         ensures beside { KeepsWire self.old self.new }
 
@@ -467,7 +483,7 @@ impl<R: Files<File = File> + Net + Clock + Drop> Disk for FileSocketHost<R> {
     fn sync(&mut self) -> Result<(), Failed>
         ensures ok { OnOk result ⊤ }
         ensures err { OnErr result ⊤ }
-        ensures extent { disk_bytes ≡ disk_bytes }
+        ensures extent { room_of self.new.reserve ≡ room_of self.old.reserve }
         ensures cause { HasCause self.old.disk self.new.disk result }
         ensures beside { KeepsWire self.old self.new }
 
@@ -486,5 +502,5 @@ impl<R: Files<File = File> + Net + Clock + Drop> Host for FileSocketHost<R> {
 
     ghost disk_keeps = { λ _ _ keeps. (tt, ap (λ host. host.wire) keeps.kept, tt) };
 
-    ghost wire_keeps = { λ _ _ keeps. (tt, refl, keeps.disk) };
+    ghost wire_keeps = { λ _ _ keeps. (tt, ap room_of keeps.reserve, keeps.disk) };
 }

@@ -1,8 +1,7 @@
 //! The host of real sockets, a real journal file and the clock.
 //!
-//! A host file says which. [`read_host_file`] reads it: `specs/HostLine.antt` has the forms of its lines, `specs/HostFile.antt` what
-//! the lines come to, or the first fault. [`FileSocketHost`] opens what the file names. `docs/OPERATING.md` says for an operator
-//! how it behaves.
+//! A host file says which (the crate `host_file`), and [`FileSocketHost`] opens what it names. `docs/OPERATING.md` says for an operator how
+//! it behaves.
 //!
 //! What a socket, a file or a clock does no contract can say. So of the host it is proved that it is safe, that it fails only where it
 //! counts a fault, and what depends on the host file and on the calls alone: whose an address is, when a tick is due, when the end
@@ -18,22 +17,17 @@
 mod address;
 mod connection;
 mod connections;
-mod endpoint_text;
 mod ends;
 mod file_socket_host;
-mod found;
-mod host_fault;
-mod host_file;
-mod host_line;
-mod host_lines;
 mod journal;
 mod journal_file;
 mod passing;
 mod peers;
 mod seconds;
 mod sockets;
+mod way;
 
 pub use file_socket_host::FileSocketHost;
-pub use host_fault::HostFault;
-pub use host_file::read_host_file;
-pub use host_line::{Endpoint, HostLine};
+pub use host_file::{
+    Complaint, Endpoint, HostFault, HostLine, Reason, complaint_about, read_host_file,
+};

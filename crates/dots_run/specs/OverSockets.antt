@@ -1,6 +1,7 @@
 -- What a run over real sockets and a real journal has done.
 use Rattle.std.specs.Prelude.{◌≡◌, ◌⊎◌, ℕ, ◌<◌, ◌≤◌, true, false, List, length, codes, Option, None, IfSome}
-use Rattle.dots_edge.specs.Edge.{Edge, disk_bytes, IsAsSaid}
+use Rattle.dots_edge.specs.Edge.{Edge, IsAsSaid}
+use Rattle.dots_edge.specs.JournalFile.{room_of}
 use Rattle.dots_machine.specs.declared.ending.Ending.{Ending}
 use Rattle.dots_machine.specs.Endings.{status_of, has_hosted, Behaves}
 use Rattle.dots_machine.specs.Outside.{Outside}
@@ -32,7 +33,7 @@ outside_at left source_faults host held report_faults = record {
   acts = None;
   wire_faults = host.wire;
   media = None;
-  extent = disk_bytes;
+  extent = room_of host.reserve;
   disk_faults = host.disk;
   held = held;
   report_faults = report_faults;

@@ -9,6 +9,7 @@
 //! - `ok` or `no`, and a call: it goes well, or not. A call is `to` a peer, `conn`, `close`, `read` and `write` at a place, or `sync`.
 //!   A read that goes well gives these bytes, and one that doesn't is of as many
 //! - `size`: the disk has so many bytes, and `#` is a remark
+//! - `wall` and a number: from now on the wall clock is so many seconds ahead of the other
 //!
 //! [`Around`] has the acts of others. `times` and a number stand before an act that is done so often.
 
@@ -155,6 +156,10 @@ fn goes<H: Host>(host: &mut H, clock: &SetClock<'_>, act: &str, words: &str, byt
         "ok" => call(host, words, bytes) == Some(true),
         "no" => call(host, words, bytes) == Some(false),
         "size" => host.size() == number(words, 0),
+        "wall" => {
+            clock.set_wall(number(words, 0));
+            true
+        }
         "#" => true,
         _ => comes(host, clock, act, words, bytes),
     }

@@ -21,7 +21,8 @@ fn local(port: u16) -> SocketAddr {
 /// - `connect`: a further connection is made, and `leave`: all are closed
 /// - `stream` and `write`, `read` or `ended`: over the first connection bytes are written, or come, or it has ended
 /// - `socket`, 0 or 1, and `send` or `hear`: the one socket or the other sends or receives a datagram
-/// - `file`, a path, and `cut` or `has` and a number, or `remove`: the file is cut to so many bytes, has so many, or is removed
+/// - `file`, a path, and `cut` or `has` and a number, `put` or `holds` and bytes, or `remove`: the file is cut to so many bytes, has so
+///   many, is made of these or holds these, or is removed
 /// - `second` and a host file: a second host of this file writes nothing
 #[derive(Drop)]
 pub struct Around<'a> {
@@ -94,11 +95,33 @@ fn has_length(rt: &HostRuntime, path: &str, len: u64) -> bool {
     }
 }
 
-fn file_goes(rt: &HostRuntime, words: &str) -> bool {
+/// Whether a file is made of the bytes.
+fn is_put(rt: &HostRuntime, path: &str, bytes: &[u8]) -> bool {
+    match fs::File::create(rt, path) {
+        Ok(mut file) => file.write_all(bytes).is_ok(),
+        Err(_) => false,
+    }
+}
+
+/// Whether the file holds these bytes alone, of which there are five at most.
+fn holds(rt: &HostRuntime, path: &str, bytes: &[u8]) -> bool {
+    let mut found = [0; 5];
+    let Some(front) = found.get_mut(..bytes.len()) else {
+        return false;
+    };
+    match fs::File::open(rt, path) {
+        Ok(mut file) => file.read_exact(front).is_ok() && &*front == bytes,
+        Err(_) => false,
+    }
+}
+
+fn file_goes(rt: &HostRuntime, words: &str, bytes: &[u8]) -> bool {
     let (path, act) = first_word(words);
     match word(act, 0) {
         "cut" => cut(rt, path, number(act, 1)),
         "has" => has_length(rt, path, number(act, 1)),
+        "put" => is_put(rt, path, bytes),
+        "holds" => holds(rt, path, bytes) && has_length(rt, path, bytes.len() as u64),
         "remove" => fs::remove_file(rt, path).is_ok(),
         _ => false,
     }
@@ -180,7 +203,7 @@ impl<'a> Around<'a> {
             }
             "stream" => Some(self.stream_goes(words, bytes)),
             "socket" => Some(self.socket_goes(words, bytes)),
-            "file" => Some(file_goes(self.rt, words)),
+            "file" => Some(file_goes(self.rt, words, bytes)),
             "second" => Some(is_second_shut(self.rt, words)),
             "ports" => Some(self.has_ports(words)),
             _ => None,

@@ -214,11 +214,11 @@ journal worked_rows_journal_kept
 --
 # What was written is read again, with zeros around it, also at the end of the disk. A second host can't open the file.
 ok read 0 = 0x0000000000
-ok write 3 = abc
+ok write 8195 = abc
 ok sync
 ok write 4194303 = xy
 ok sync
-ok read 2 = 0x0061626300
+ok read 8194 = 0x0061626300
 ok read 4194302 = 0x0078790000
 ok read 1073741819 = 0x0000000000
 second journal worked_rows_journal_kept
@@ -227,7 +227,7 @@ journal worked_rows_journal_kept
 
 --
 # The next host reads what the first wrote.
-ok read 2 = 0x0061626300
+ok read 8194 = 0x0061626300
 ok write 0 = q
 ok sync
 file worked_rows_journal_kept has 8388608
@@ -242,7 +242,126 @@ ok sync
 file worked_rows_journal_cut cut 2
 no read 0 = abc
 no sync
-file worked_rows_journal_cut remove";
+file worked_rows_journal_cut remove
+==
+events 0
+
+--
+# Files that are no journals: a text, one of a page and a bit, and one whose first slot has something behind the header.
+file worked_rows_text put = text
+file worked_rows_page put = LONG
+file worked_rows_slot put = 0x0000000000
+file worked_rows_slot cut 65
+file worked_rows_slot cut 4096
+==
+journal worked_rows_text
+
+--
+# Nothing is written to it.
+ports 0 0
+next failed
+no write 0 = FULL
+no sync
+file worked_rows_text holds = text
+file worked_rows_text remove
+==
+journal worked_rows_page
+
+--
+next failed
+no write 0 = FULL
+file worked_rows_page has 4097
+file worked_rows_page remove
+==
+journal worked_rows_slot
+
+--
+# Whole pages of zeros may be a journal, and one whose gate is open. The gate is the byte 0xa5.
+ok read 0 = 0x0000000000
+ok write 0 = 0xa5
+ok write 4096 = abc
+file worked_rows_slot has 4194304
+==
+journal worked_rows_slot
+
+--
+ok read 0 = 0xa500000000
+ok write 0 = 0x00
+==
+journal worked_rows_slot
+
+--
+# Here something stands in the first slot, behind a gate that isn't open.
+next failed
+no read 0 = FULL
+file worked_rows_slot remove
+==
+journal .
+
+--
+next failed
+no read 0 = FULL
+==
+journal worked_rows_reserved
+reserve 12000
+
+--
+# What is reserved is there from the start on, as whole pages, and the disk has no more.
+size 12288
+file worked_rows_reserved has 12288
+ok write 12285 = abc
+ok sync
+file worked_rows_reserved has 12288
+file worked_rows_reserved remove
+==
+journal worked_rows_lost
+
+--
+# A file that is gone from its path is seen at the next tick, and no call of the disk goes well then.
+ok write 0 = q
+ok sync
+file worked_rows_lost remove
+ok sync
+next tick
+no read 0 = FULL
+no write 0 = q
+no sync
+next tick
+==
+journal worked_rows_other
+
+--
+# The same of one that another file took the place of.
+ok sync
+file worked_rows_other remove
+file worked_rows_other put = text
+next tick
+no write 0 = q
+file worked_rows_other holds = text
+file worked_rows_other remove
+==
+http 127.0.0.1:0
+peer 3 127.0.0.1
+
+--
+# The time goes on by the clock that isn't set, whatever the wall clock says.
+connect
+at 100 opened 0 3
+wall 31536000
+at 101 tick
+wall 0
+at 102 tick
+==
+signal 127.0.0.1:0
+signal 127.0.0.2:0
+peer 5 127.0.0.1
+
+--
+# Datagrams that wait at the first of two sockets are handed in one after the other.
+times 140 socket 0 send = x
+times 140 next from 5 = x
+ok to 5 = one
+socket 0 hear = one";
 
 #[test]
 fn rows_of_the_edge(rt: HostRuntime) {

@@ -7,12 +7,17 @@ use std::alloc::Global;
 /// Rows stand apart by `==`. The first line of each is how many lines say something, or the fault and its line, and the others are the
 /// host file.
 const FILES: &str = "\
-said 8
+said 13
 # all of them
 journal /var/lib/dots/journal
+reserve 1073741824
 
-signal [::]:4646
+signal 192.0.2.53:4646
+signal 192.0.2.53:4647
+signal [2001:db8::53]:4646
+signal 192.0.2.54:4646
 http 127.0.0.1:0
+http [::1]:0
 peer 0 192.0.2.1
 peer 0 2001:db8::1
 peer 4294967294 [2001:db8::2]:65535
@@ -57,8 +62,36 @@ journal a
 journal b
 ==
 twice 2
-signal 127.0.0.1:0
-signal [::1]:0
+signal 127.0.0.1:1
+signal [::ffff:127.0.0.1]:1
+==
+twice 2
+reserve 0
+reserve 0
+==
+line 1
+reserve 1073741825
+==
+many 6
+http 127.0.0.1:1
+http 127.0.0.1:2
+signal 127.0.0.1:1
+http 127.0.0.1:3
+http 127.0.0.1:4
+http 127.0.0.1:5
+==
+said 2
+signal 0.0.0.0:4646
+http [::]:80
+==
+wildcard 3
+peer 0 192.0.2.1
+signal [::]:4646
+signal 127.0.0.1:4647
+==
+wildcard 2
+http 127.0.0.1:80
+http [::ffff:0.0.0.0]:81
 ==
 twice 2
 events 1
@@ -73,6 +106,8 @@ fn found(alloc: Global, file: &str) -> (&'static str, u64) {
         Ok(lines) => ("said", lines.len() as u64),
         Err(HostFault::Line { n }) => ("line", n),
         Err(HostFault::Twice { n }) => ("twice", n),
+        Err(HostFault::Many { n }) => ("many", n),
+        Err(HostFault::Wildcard { n }) => ("wildcard", n),
         Err(HostFault::NoMemory) => ("memory", 0),
     }
 }

@@ -13,6 +13,8 @@ use std::time::{Clock, Duration};
 pub struct SetClock<'a> {
     rt: &'a HostRuntime,
     seconds: Cell<Option<u64>>,
+    /// By how many seconds the wall clock is ahead of the other.
+    ahead: Cell<u64>,
 }
 
 impl<'a> SetClock<'a> {
@@ -20,11 +22,16 @@ impl<'a> SetClock<'a> {
         SetClock {
             rt,
             seconds: Cell::new(None),
+            ahead: Cell::new(0),
         }
     }
 
     pub fn set(&self, seconds: u64) {
         self.seconds.set(Some(seconds));
+    }
+
+    pub fn set_wall(&self, ahead: u64) {
+        self.ahead.set(ahead);
     }
 }
 
@@ -38,7 +45,7 @@ impl Clock for SetClock<'_> {
 
     fn since_1970(&self) -> io::Result<Duration> {
         match self.seconds.get() {
-            Some(seconds) => Ok(Duration::from_secs(seconds)),
+            Some(seconds) => Ok(Duration::from_secs(seconds.saturating_add(self.ahead.get()))),
             None => self.rt.since_1970(),
         }
     }
@@ -79,8 +86,8 @@ impl Files for SetClock<'_> {
         none()
     }
 
-    fn metadata(&self, _path: &str) -> io::Result<Metadata> {
-        none()
+    fn metadata(&self, path: &str) -> io::Result<Metadata> {
+        self.rt.metadata(path)
     }
 
     fn symlink_metadata(&self, _path: &str) -> io::Result<Metadata> {

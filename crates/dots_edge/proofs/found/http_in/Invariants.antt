@@ -1,7 +1,0 @@
-use Rattle.std.proofs.Common.{◌≡◌, map, drop}
-use Rattle.dots_edge.specs.HostLine.{line_value}
-use Rattle.dots_edge.specs.Found.{http_in}
-use Rattle.dots_edge.proofs.found.http_in.Given as goal
-
-abbrev pub invariant-loop-line : goal.invariant-loop-line
-invariant-loop-line l = http_in (map line_value (drop l.line-index l.lines)) ≡ http_in (map line_value l.lines)

@@ -1,0 +1,5 @@
+pub mod HostLine
+pub mod HostFile
+pub mod FaultText
+pub mod Found
+pub mod Complaints
