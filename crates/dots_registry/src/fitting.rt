@@ -13,7 +13,7 @@ ghost use Rattle.dots_registry.specs.Fitting.{fits_now, fits_tables, has_peer};
 
 use crate::registry::Registry;
 use dots_history::{Change, Entry, is_within_bounds};
-use dots_laws::is_of_settings;
+use dots_laws::{is_of_mitigations, is_of_settings};
 use dots_settings::Settings;
 
 impl Registry {
@@ -65,24 +65,6 @@ impl Registry {
                 .collides(entry.domain, entry.cuid.bytes(), entry.peer);
         }
         true
-    }
-}
-
-/// Whether a mitigation is put or withdrawn.
-#[tactic(auto, unfolding(dots_laws::specs::Fits::is_of_mitigations))]
-fn is_of_mitigations(change: &Change) -> bool
-    ensures { result ≡ is_of_mitigations change.now }
-{
-    match change {
-        Change::Put(_) | Change::Withdraw { .. } => true,
-        Change::SetAlias(_)
-        | Change::DropAlias { .. }
-        | Change::SetAcl(_)
-        | Change::DropAcl { .. }
-        | Change::Register
-        | Change::Deregister
-        | Change::SetConfig { .. }
-        | Change::ClearConfig => false,
     }
 }
 

@@ -9,6 +9,7 @@ ghost use Rattle.held_resources.specs.Accepting.{keeps_room, takes, Takes};
 use crate::registered_client::RegisteredClient;
 use crate::rooms::Rooms;
 use dots_history::Change;
+use dots_laws::is_registration;
 use dots_lists::{NoMemory, Text};
 use std::alloc::Global;
 use std::marker::Model;
@@ -79,7 +80,7 @@ impl DomainClients {
     fn keeps_number(&self, cuid: &[u8], change: &Change) -> bool
         ensures { (peer : ℕ) → result ≡ nat_le (length (list_with self.now.rooms peer cuid.now change.now self.now.list)) self.now.rooms.clients }
     {
-        if registers(change) {
+        if is_registration(change) {
             return self.number() < self.rooms.clients;
         }
         true
@@ -146,25 +147,6 @@ fn change_one(list: &mut [RegisteredClient], place: usize, change: Change)
 {
     let client = &mut list[place];
     client.apply(change);
-}
-
-/// Whether a client registers.
-#[tactic(auto, unfolding(dots_laws::specs::Capacities::is_registration))]
-fn registers(change: &Change) -> bool
-    ensures { result ≡ is_registration change.now }
-{
-    match change {
-        Change::Register => true,
-        Change::Put(_)
-        | Change::Withdraw { .. }
-        | Change::SetAlias(_)
-        | Change::DropAlias { .. }
-        | Change::SetAcl(_)
-        | Change::DropAcl { .. }
-        | Change::Deregister
-        | Change::SetConfig { .. }
-        | Change::ClearConfig => false,
-    }
 }
 
 /// Whether the client, where there is one, has room for what a change makes of it.

@@ -9,7 +9,7 @@ ghost use Rattle.held_resources.specs.Accepting.{keeps_room};
 
 use crate::rooms::Rooms;
 use acl_lists::{Acl, Alias};
-use dots_history::Change;
+use dots_history::{Change, undoes_acl, undoes_alias};
 use dots_lists::{Name, NoMemory, Text};
 use std::alloc::Global;
 use std::marker::Model;
@@ -118,44 +118,6 @@ impl RegisteredClient {
     }
 }
 
-/// Whether the change takes the alias of this name away, or writes it anew.
-#[tactic(auto, unfolding(dots_history::specs::Entries::undoes_alias))]
-fn undoes_alias(name: &Name, change: &Change) -> bool
-    ensures { result ≡ undoes_alias name.now change.now }
-{
-    match change {
-        Change::SetAlias(other) => name.bytes() == other.name.bytes(),
-        Change::DropAlias { name: other } => name.bytes() == other.bytes(),
-        Change::Deregister => true,
-        Change::Put(_)
-        | Change::Withdraw { .. }
-        | Change::SetAcl(_)
-        | Change::DropAcl { .. }
-        | Change::Register
-        | Change::SetConfig { .. }
-        | Change::ClearConfig => false,
-    }
-}
-
-/// The same of the access list of this name.
-#[tactic(auto, unfolding(dots_history::specs::Entries::undoes_acl))]
-fn undoes_acl(name: &Name, change: &Change) -> bool
-    ensures { result ≡ undoes_acl name.now change.now }
-{
-    match change {
-        Change::SetAcl(other) => name.bytes() == other.name.bytes(),
-        Change::DropAcl { name: other } => name.bytes() == other.bytes(),
-        Change::Deregister => true,
-        Change::Put(_)
-        | Change::Withdraw { .. }
-        | Change::SetAlias(_)
-        | Change::DropAlias { .. }
-        | Change::Register
-        | Change::SetConfig { .. }
-        | Change::ClearConfig => false,
-    }
-}
-
 fn leave_aliases(aliases: &mut Vec<Alias>, change: &Change)
     ensures items { aliases.new.items ≡ filter (λ alias. not (undoes_alias alias.name change.now)) aliases.old.items }
     ensures capacity { vec_capacity aliases.new ≡ vec_capacity aliases.old }
@@ -182,14 +144,7 @@ fn push_written(aliases: &mut Vec<Alias>, acls: &mut Vec<Acl>, change: Change)
     match change {
         Change::SetAlias(alias) => aliases.push_reserved(alias),
         Change::SetAcl(acl) => acls.push_reserved(acl),
-        Change::Put(_)
-        | Change::Withdraw { .. }
-        | Change::DropAlias { .. }
-        | Change::DropAcl { .. }
-        | Change::Register
-        | Change::Deregister
-        | Change::SetConfig { .. }
-        | Change::ClearConfig => drop(change),
+        _ => drop(change),
     }
 }
 
@@ -241,15 +196,7 @@ fn writes_alias(change: &Change) -> bool
 {
     match change {
         Change::SetAlias(_) => true,
-        Change::Put(_)
-        | Change::Withdraw { .. }
-        | Change::DropAlias { .. }
-        | Change::SetAcl(_)
-        | Change::DropAcl { .. }
-        | Change::Register
-        | Change::Deregister
-        | Change::SetConfig { .. }
-        | Change::ClearConfig => false,
+        _ => false,
     }
 }
 
@@ -258,14 +205,6 @@ fn writes_acl(change: &Change) -> bool
 {
     match change {
         Change::SetAcl(_) => true,
-        Change::Put(_)
-        | Change::Withdraw { .. }
-        | Change::SetAlias(_)
-        | Change::DropAlias { .. }
-        | Change::DropAcl { .. }
-        | Change::Register
-        | Change::Deregister
-        | Change::SetConfig { .. }
-        | Change::ClearConfig => false,
+        _ => false,
     }
 }

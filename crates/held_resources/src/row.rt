@@ -5,7 +5,7 @@ ghost use Rattle.dots_history.specs.Entries.{is_leave, is_configuration, undoes_
 ghost use Rattle.held_resources.specs.Rows.{written_of, row_of, undone_of_client, undone_of_peer, is_undone};
 
 use crate::name::ShortName;
-use dots_history::{Change, Entry};
+use dots_history::{Change, Entry, is_configuration, is_leave};
 
 /// What an entry wrote that is held until a later one undoes it.
 #[derive(Drop)]
@@ -60,12 +60,7 @@ fn written_of(change: &Change) -> Option<HeldName>
             name: ShortName::of(&acl.name),
         }),
         Change::SetConfig { .. } => Some(HeldName::Configuration),
-        Change::Put(_)
-        | Change::Withdraw { .. }
-        | Change::DropAlias { .. }
-        | Change::DropAcl { .. }
-        | Change::Deregister
-        | Change::ClearConfig => None,
+        _ => None,
     }
 }
 
@@ -96,27 +91,8 @@ fn undone_of_peer(written: &HeldName, change: &Change) -> bool
     ensures { result ≡ undone_of_peer written.now change.now }
 {
     match written {
-        HeldName::Configuration => configures(change),
+        HeldName::Configuration => is_configuration(change),
         HeldName::Registration | HeldName::Alias { .. } | HeldName::Acl { .. } => false,
-    }
-}
-
-/// Whether the client leaves.
-#[tactic(auto, unfolding(dots_history::specs::Entries::is_leave))]
-fn is_leave(change: &Change) -> bool
-    ensures { result ≡ is_leave change.now }
-{
-    match change {
-        Change::Deregister => true,
-        Change::Put(_)
-        | Change::Withdraw { .. }
-        | Change::SetAlias(_)
-        | Change::DropAlias { .. }
-        | Change::SetAcl(_)
-        | Change::DropAcl { .. }
-        | Change::Register
-        | Change::SetConfig { .. }
-        | Change::ClearConfig => false,
     }
 }
 
@@ -129,13 +105,7 @@ fn undoes_alias(name: &ShortName, change: &Change) -> bool
         Change::SetAlias(other) => name.bytes() == other.name.bytes(),
         Change::DropAlias { name: other } => name.bytes() == other.bytes(),
         Change::Deregister => true,
-        Change::Put(_)
-        | Change::Withdraw { .. }
-        | Change::SetAcl(_)
-        | Change::DropAcl { .. }
-        | Change::Register
-        | Change::SetConfig { .. }
-        | Change::ClearConfig => false,
+        _ => false,
     }
 }
 
@@ -148,30 +118,6 @@ fn undoes_acl(name: &ShortName, change: &Change) -> bool
         Change::SetAcl(other) => name.bytes() == other.name.bytes(),
         Change::DropAcl { name: other } => name.bytes() == other.bytes(),
         Change::Deregister => true,
-        Change::Put(_)
-        | Change::Withdraw { .. }
-        | Change::SetAlias(_)
-        | Change::DropAlias { .. }
-        | Change::Register
-        | Change::SetConfig { .. }
-        | Change::ClearConfig => false,
-    }
-}
-
-/// Whether the change sets or deletes a session configuration.
-#[tactic(auto, unfolding(dots_history::specs::Entries::is_configuration))]
-fn configures(change: &Change) -> bool
-    ensures { result ≡ is_configuration change.now }
-{
-    match change {
-        Change::SetConfig { .. } | Change::ClearConfig => true,
-        Change::Put(_)
-        | Change::Withdraw { .. }
-        | Change::SetAlias(_)
-        | Change::DropAlias { .. }
-        | Change::SetAcl(_)
-        | Change::DropAcl { .. }
-        | Change::Register
-        | Change::Deregister => false,
+        _ => false,
     }
 }

@@ -8,6 +8,7 @@ ghost use Rattle.held_resources.specs.Rows.{row_of, rows_with, is_undone, slots_
 
 use crate::row::{HeldSlot, is_undone, row_of};
 use dots_history::{Change, Entry, SlotList, number_in};
+use dots_laws::is_of_mitigations;
 use dots_lists::NoMemory;
 use std::alloc::Global;
 use std::marker::Model;
@@ -86,24 +87,6 @@ fn leave_each(rows: &mut Vec<HeldSlot>, entry: &Entry)
     ensures capacity { vec_capacity rows.new ≡ vec_capacity rows.old }
 {
     rows.retain(|row| !is_undone(row, entry));
-}
-
-/// Whether the change puts or withdraws a mitigation. Such a change undoes nothing.
-#[tactic(auto, unfolding(dots_laws::specs::Fits::is_of_mitigations))]
-fn is_of_mitigations(change: &Change) -> bool
-    ensures { result ≡ is_of_mitigations change.now }
-{
-    match change {
-        Change::Put(_) | Change::Withdraw { .. } => true,
-        Change::SetAlias(_)
-        | Change::DropAlias { .. }
-        | Change::SetAcl(_)
-        | Change::DropAcl { .. }
-        | Change::Register
-        | Change::Deregister
-        | Change::SetConfig { .. }
-        | Change::ClearConfig => false,
-    }
 }
 
 /// Puts what the entry writes behind the others.

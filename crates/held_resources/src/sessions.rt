@@ -39,14 +39,7 @@ pub fn configure(sessions: &mut Vec<Session>, entry: &Entry)
             sessions.as_mut_slice(),
             entry,
         ),
-        Change::Put(_)
-        | Change::Withdraw { .. }
-        | Change::SetAlias(_)
-        | Change::DropAlias { .. }
-        | Change::SetAcl(_)
-        | Change::DropAcl { .. }
-        | Change::Register
-        | Change::Deregister => {}
+        _ => {}
     }
 }
 
@@ -73,13 +66,6 @@ fn configured(change: &Change, before: Option<(u32, Config)>) -> Option<(u32, Co
     match change {
         Change::SetConfig { sid, config } => Some((*sid, *config)),
         Change::ClearConfig => None,
-        Change::Put(_)
-        | Change::Withdraw { .. }
-        | Change::SetAlias(_)
-        | Change::DropAlias { .. }
-        | Change::SetAcl(_)
-        | Change::DropAcl { .. }
-        | Change::Register
-        | Change::Deregister => before,
+        _ => before,
     }
 }

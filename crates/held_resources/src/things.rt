@@ -25,7 +25,7 @@ use crate::rows::HeldSlots;
 use crate::sessions::{Session, configure, no_sessions};
 use crate::size::most_held;
 use acl_lists::{Acl, Alias};
-use dots_history::{Change, Config, Entry, SlotList};
+use dots_history::{Change, Config, Entry, SlotList, is_configuration};
 use dots_lists::{Name, NoMemory};
 use dots_settings::{Limits, Settings};
 use std::alloc::Global;
@@ -240,7 +240,7 @@ impl HeldThings {
     fn knows(&self, entry: &Entry) -> bool
         ensures { result ≡ is_known self.now.sizes entry.now }
     {
-        if configures(&entry.change) {
+        if is_configuration(&entry.change) {
             return has_peer(self.sessions.as_slice(), entry.peer);
         }
         usize::from(entry.domain) < self.domains.len()
@@ -308,31 +308,7 @@ fn registers_rightly(change: &Change, registered: bool) -> bool
     match change {
         Change::Register => !registered,
         Change::SetAlias(_) | Change::SetAcl(_) => registered,
-        Change::Put(_)
-        | Change::Withdraw { .. }
-        | Change::DropAlias { .. }
-        | Change::DropAcl { .. }
-        | Change::Deregister
-        | Change::SetConfig { .. }
-        | Change::ClearConfig => true,
-    }
-}
-
-/// Whether the change sets or deletes a session configuration.
-#[tactic(auto, unfolding(dots_history::specs::Entries::is_configuration))]
-fn configures(change: &Change) -> bool
-    ensures { result ≡ is_configuration change.now }
-{
-    match change {
-        Change::SetConfig { .. } | Change::ClearConfig => true,
-        Change::Put(_)
-        | Change::Withdraw { .. }
-        | Change::SetAlias(_)
-        | Change::DropAlias { .. }
-        | Change::SetAcl(_)
-        | Change::DropAcl { .. }
-        | Change::Register
-        | Change::Deregister => false,
+        _ => true,
     }
 }
 

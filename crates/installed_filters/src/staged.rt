@@ -80,14 +80,7 @@ fn copies(alloc: Global, entry: &Entry) -> Result<(Vec<ScrubRow>, Option<AclRow>
             let row = row_of_acl(alloc, entry, acl)?;
             Ok((Vec::new(alloc), Some(row)))
         }
-        Change::Withdraw { .. }
-        | Change::SetAlias(_)
-        | Change::DropAlias { .. }
-        | Change::DropAcl { .. }
-        | Change::Register
-        | Change::Deregister
-        | Change::SetConfig { .. }
-        | Change::ClearConfig => Ok((Vec::new(alloc), None)),
+        _ => Ok((Vec::new(alloc), None)),
     }
 }
 

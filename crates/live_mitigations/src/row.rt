@@ -13,7 +13,7 @@ ghost use Rattle.live_mitigations.specs.Judging.{put_or_nothing};
 ghost use Rattle.live_mitigations.specs.Reading.{fitted, status_number};
 
 use conflict_rules::Mitigates;
-use dots_history::{Change, Entry, Put, Status, is_granted_at, overlaps, put_of};
+use dots_history::{Change, Entry, Put, Status, is_granted_at, overlaps, put_of, withdrawn_mid};
 use dots_lists::Text;
 use std::marker::Model;
 
@@ -105,15 +105,7 @@ impl Row {
                 put,
                 status: Status::Open,
             }),
-            Change::Withdraw { .. }
-            | Change::SetAlias(_)
-            | Change::DropAlias { .. }
-            | Change::SetAcl(_)
-            | Change::DropAcl { .. }
-            | Change::Register
-            | Change::Deregister
-            | Change::SetConfig { .. }
-            | Change::ClearConfig => None,
+            _ => None,
         }
     }
 
@@ -211,18 +203,7 @@ impl Row {
     fn is_taken_back_by(&self, change: &Change) -> bool
         ensures { result ≡ takes_back self.now.put.change change.now }
     {
-        match change {
-            Change::Withdraw { mid } => self.put.mid == *mid,
-            Change::Put(_)
-            | Change::SetAlias(_)
-            | Change::DropAlias { .. }
-            | Change::SetAcl(_)
-            | Change::DropAcl { .. }
-            | Change::Register
-            | Change::Deregister
-            | Change::SetConfig { .. }
-            | Change::ClearConfig => false,
-        }
+        withdrawn_mid(change) == Some(self.put.mid)
     }
 
     /// Its status after one more entry. Once it is withdrawn it stays so: a second withdrawal changes nothing.

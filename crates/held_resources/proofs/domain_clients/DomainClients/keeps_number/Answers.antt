@@ -4,12 +4,12 @@ use Rattle.held_resources.specs.Tables.{Clients, list_with}
 use Rattle.held_resources.proofs.Places.{number_more, number_kept}
 use Rattle.held_resources.proofs.domain_clients.DomainClients.keeps_number.Goals as goal
 
-pub returns-then-registers : goal.returns-then-registers
-returns-then-registers c =
+pub returns-then-is_registration : goal.returns-then-is_registration
+returns-then-is_registration c =
     λ peer.
     ap (λ n. nat_lt n c.self.inside.rooms.clients) c.number.ensures
     ∙ ap (λ (v : Clients). nat_lt (length c.args.self.now.list) v.rooms.clients) c.self.view_is
-    ∙ number_more c.args.self.now.rooms peer c.args.cuid.now c.args.change.now c.args.self.now.list (sym c.registers.ensures ∙ c.if-registers.true)
+    ∙ number_more c.args.self.now.rooms peer c.args.cuid.now c.args.change.now c.args.self.now.list (sym c.is_registration.ensures ∙ c.if-is_registration.true)
 
 pub returns : goal.returns
 returns c =
@@ -22,5 +22,5 @@ returns c =
     c.self.inside.list.items
     c.self.inside.spare.items
     c.self.invariant.0
-    (sym c.registers.ensures ∙ c.if-registers.false))
+    (sym c.is_registration.ensures ∙ c.if-is_registration.false))
     ∙ ap (λ (v : Clients). nat_le (length (list_with v.rooms peer c.args.cuid.now c.args.change.now v.list)) v.rooms.clients) c.self.view_is

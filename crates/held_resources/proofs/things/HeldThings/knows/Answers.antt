@@ -8,8 +8,8 @@ use Rattle.held_resources.specs.Tables.{Tables, is_known, peer_of}
 use Rattle.held_resources.proofs.Configs.{any_peer}
 use Rattle.held_resources.proofs.things.HeldThings.knows.Goals as goal
 
-pub returns-then-configures : goal.returns-then-configures
-returns-then-configures c =
+pub returns-then-is_configuration : goal.returns-then-is_configuration
+returns-then-is_configuration c =
     c.has_peer.ensures
     ∙ ap (list_any (λ (s : Session). c.args.entry.now.peer == s.peer)) c.as_slice.ensures.value
     ∙ sym (any_peer c.args.entry.now.peer c.self.inside.sessions.items)
@@ -17,5 +17,5 @@ returns-then-configures c =
     (is_configuration c.args.entry.now.change)
     (list_any (λ other. c.args.entry.now.peer == other) (map peer_of c.self.inside.sessions.items))
     (nat_lt c.args.entry.now.domain (length c.self.inside.domains.items))
-    (sym c.configures.ensures ∙ c.if-configures.true))
+    (sym c.is_configuration.ensures ∙ c.if-is_configuration.true))
     ∙ ap (λ (t : Tables). is_known t.sizes c.args.entry.now) c.self.view_is
