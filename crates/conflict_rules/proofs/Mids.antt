@@ -125,12 +125,12 @@ module _ (settings : SettingsValue) (live : List Live) (client : ClientValue) (t
   pub taken : mid_judged ≡ Collision → judge_put settings live client time request ≡ Err faults.Collision
   taken is =
       elim (cases_Bool (collides live request.peer request.cuid)) [
-        | inl yes ↦
+        | inl there ↦
             cond-true
             (collides live request.peer request.cuid || is_of_another request.peer client)
             (Err faults.Collision)
             (known (find (has_mid request.cuid request.mid) live))
-            (ap (λ b. b || is_of_another request.peer client) yes)
+            (ap (λ b. b || is_of_another request.peer client) there)
         | inr none ↦ absurd (says_free Collision none is)
       ]
 
