@@ -5,6 +5,7 @@
 #![tactic(auto)]
 
 mod host;
+pub mod laws;
 mod seeing;
 
 pub use host::BlockHost;
