@@ -1,11 +1,12 @@
 -- One more act inside, and the same act as seen above.
 use Rattle.std.proofs.Common.{◌≡◌, ℕ, List, [], ◌∷◌, ◌++◌, Option, Some, None, refl, sym, ap, subst, ◌∙◌, append_assoc}
-use Rattle.std.specs.Prelude.{Bool, true, false, ◌+◌}
+use Rattle.std.specs.Prelude.{Bool, true, false, ◌+◌, IfSome}
 use Rattle.std.proofs.lemmas.Bool.{false≢true}
 use Rattle.dots_host.specs.declared.act.Act.{Act}
 use Rattle.dots_host.specs.Acts.{Timed, WireAct, Adds}
+use Rattle.dots_host.specs.Runs.{Added}
 use Rattle.coap_block.specs.Blocks.{Blocks}
-use Rattle.block_host.specs.Around.{wire_of, retimed, same_length, if_told, seen_above, IsSeen, AreSeen, Start, SeenSince, AreSince, GoesOnSeen}
+use Rattle.block_host.specs.Around.{wire_of, retimed, same_length, if_told, seen_above, IsSeen, AreSeen, Start, SeenSince, AreSince, GoesOnSeen, from_none, no_blocks, IsRunAround}
 
 same_push : {A B : Type 0} (xs : List A) (ys : List B) (x : A) (y : B) → same_length (xs ++ x ∷ []) (ys ++ y ∷ []) ≡ same_length xs ys
 same_push [] [] x y = refl
@@ -79,3 +80,21 @@ seen_goes_on (Some old) (Some new) before now log inner outer blocks blocks_now 
     (λ start since.
     since_told (same_length old log) (same_length (old ++ one ∷ []) (log ++ outer ∷ [])) start old (retimed old log) (retimed (old ++ one ∷ []) (log ++ outer ∷ [])) blocks blocks_now one same
     (same_push old log one outer) (retimed_push old log one outer) refl seen since)
+
+-- ---- a run around a host that had no acts
+
+pub from_first : (P : List Timed → Type 0) (inner : Option (List Timed)) (log : List Act) (blocks : Blocks) → Added (Some []) (seen_above inner log) P → AreSince from_none inner (seen_above inner log) blocks → IfSome inner (IsRunAround P)
+from_first P None log blocks added since = tt
+from_first P (Some inner) log blocks added since = told (same_length inner log) (retimed inner log) added since
+  where
+    told : (b : Bool) (outer : List Timed) → Added (Some []) (if_told b outer) P → AreSince from_none (Some inner) (if_told b outer) blocks → IsRunAround P inner
+    told false outer added since = absurd since
+    told true outer added since = record {
+      outers = outer;
+      blocks = blocks;
+      has = subst P (sym added.1) added.2;
+      are = subst (λ acts. AreSeen no_blocks acts outer blocks) (sym since.inner_is) (subst (λ acts. AreSeen no_blocks since.inners acts blocks) (sym since.outer_is) since.are);
+    }
+
+pub from_nothing : AreSince from_none (Some []) (seen_above (Some []) []) no_blocks
+from_nothing = record { inners = []; outers = []; inner_is = refl; outer_is = refl; are = refl }

@@ -101,3 +101,14 @@ AreSince start None outer blocks = ⊤
 abbrev pub GoesOnSeen : Option (List Timed) → List Act → Blocks → Option (List Timed) → List Act → Blocks → Type 0
 GoesOnSeen inner log blocks inner_now log_now blocks_now =
     (start : Start) → AreSince start inner (seen_above inner log) blocks → AreSince start inner_now (seen_above inner_now log_now) blocks_now
+
+-- before any act
+abbrev pub from_none : Start
+from_none = record { inner = []; outer = []; blocks = no_blocks }
+
+-- The acts of a host that had none are those of a run above, with this property, as the host around it handed them on.
+pub record IsRunAround (P : List Timed → Type 0) (inner : List Timed) : Type 0 where
+  pub outers : List Timed
+  pub blocks : Blocks
+  pub has : P outers
+  pub are : AreSeen no_blocks inner outers blocks

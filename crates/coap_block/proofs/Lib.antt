@@ -3,3 +3,4 @@ pub mod Sizes
 pub mod Cuts
 pub mod Asking
 pub mod Sending
+pub mod Values

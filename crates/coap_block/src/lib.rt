@@ -13,6 +13,7 @@ mod block;
 mod cut;
 mod cutting;
 mod kept;
+pub mod laws;
 mod replying;
 mod room;
 mod spelling;
