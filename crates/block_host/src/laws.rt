@@ -12,7 +12,8 @@ ghost use Rattle.block_host.specs.Fetching.{Fetch, Fetches};
 /// Where a peer fetches the blocks of one request with one size, none of them is missing and the last says that no more
 /// follow, the blocks joined are the body that the first was cut from.
 pub fn blocks_join()
-    ensures { (fetch : Fetch) (old : Blocks) (inner outer : Timed) (inners outers : List Timed) (body : List ℕ) (parts : List (List ℕ)) → Fetches fetch old inner outer inners outers body parts → concat parts ≡ body }
+    ensures { (fetch : Fetch) (old : Blocks) (inner outer : Timed) (inners outers : List Timed) (body : List ℕ)
+        (parts : List (List ℕ)) → Fetches fetch old inner outer inners outers body parts → concat parts ≡ body }
 {}
 
 /// What any run over a [`BlockHost`](crate::BlockHost) shows of its acts, it shows of acts that stand so to those of the host

@@ -30,7 +30,8 @@ fn see_datagram(cutting: &mut Cutting, from: u32, len: usize, room: &mut [u8]) -
 pub fn see(cutting: &mut Cutting, what: What, room: &mut [u8]) -> What
     requires room { length room.old ≡ MAX_EVENT_BYTES }
     requires within { IsWithin what MAX_EVENT_BYTES }
-    ensures sees { SeesEvent (event_of what room.old) (event_of result room.new) cutting.old.blocks cutting.new.blocks }
+    ensures sees { SeesEvent (event_of what room.old) (event_of result room.new)
+        cutting.old.blocks cutting.new.blocks }
     ensures within { IsWithin result MAX_EVENT_BYTES }
     ensures failed { OnFailed result (what ≡ What.Failed) }
 {
@@ -52,7 +53,8 @@ pub fn see(cutting: &mut Cutting, what: What, room: &mut [u8]) -> What
 
 /// Whether what leaves of a send was written.
 pub fn reply(cutting: &mut Cutting, out: &Out) -> bool
-    ensures { SendsOut (owned_of out.now) (leaves_of (owned_of out.now) result cutting.new.written) cutting.old.blocks cutting.new.blocks }
+    ensures { SendsOut (owned_of out.now) (leaves_of (owned_of out.now) result cutting.new.written)
+        cutting.old.blocks cutting.new.blocks }
 {
     match out {
         Out::To { peer, bytes } => cutting.reply(*peer, bytes),

@@ -56,7 +56,10 @@ fn follows(body: &[u8], block: &BlockOption) -> bool
 fn put_with_block(room: &mut Room, message: &Message<'_>, block: &BlockOption)
     requires is { IsBlock block.now }
     requires room { length room.old.held + 3 * length (options_bytes 0 message.now.options) + 6 ≤ room.old.most }
-    ensures { room.new ≡ record room.old { held = room.old.held ++ options_bytes 0 (with_block message.now.options block.now) } }
+    ensures { room.new ≡ record room.old {
+      held = room.old.held
+          ++ options_bytes 0 (with_block message.now.options block.now);
+    } }
 {
     let mut options = message.options();
     let last = put_options(room, 0, &mut options, Which::UpToBlock);

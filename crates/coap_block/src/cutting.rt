@@ -47,7 +47,8 @@ impl Model for Cutting {
 impl Cutting {
     /// Nothing is awaited and nothing is kept. Takes the memory for what is written.
     pub fn new(alloc: Global) -> Result<Cutting, NoMemory>
-        ensures { IfOk result (λ cutting. cutting ≡ record { blocks = record { awaited = None; kept = [] }; written = [] }) }
+        ensures { IfOk result (λ cutting.
+            cutting ≡ record { blocks = record { awaited = None; kept = [] }; written = [] }) }
     {
         let room = Room::new(alloc, MOST)?;
         let request = Room::new(alloc, MOST)?;
@@ -99,7 +100,8 @@ impl Cutting {
 
     /// A datagram is sent to the peer: whether what leaves was written, or it leaves as it is.
     pub fn reply(&mut self, peer: u32, bytes: &[u8]) -> bool
-        ensures { Sends self.old.blocks peer bytes.now (if result then self.new.written else bytes.now) self.new.blocks }
+        ensures { Sends self.old.blocks peer bytes.now
+            (if result then self.new.written else bytes.now) self.new.blocks }
     {
         let Some(awaited) = self.awaited else {
             return false;

@@ -15,6 +15,9 @@ pub fn value_again()
 /// A reply that is cut is a message again, whose one Block2 is that of the block, and says that more follow exactly where
 /// bytes of the body do.
 pub fn cut_is_message()
-    ensures is { (message : CoapMessage) (block : BlockOption) (body : List ℕ) → IsMessage message → IsBlock block → message.code ≡ 69 → IsMessage (cut_to message block body) }
-    ensures block { (message : CoapMessage) (block : BlockOption) (body : List ℕ) → IsBlock block → blocks_in message.options ≡ [] → asks_of (blocks_in (cut_to message block body).options) ≡ asks.Block (record block { more = follows body block }) }
+    ensures is { (message : CoapMessage) (block : BlockOption) (body : List ℕ)
+        → IsMessage message → IsBlock block → message.code ≡ 69 → IsMessage (cut_to message block body) }
+    ensures block { (message : CoapMessage) (block : BlockOption) (body : List ℕ)
+        → IsBlock block → blocks_in message.options ≡ []
+        → asks_of (blocks_in (cut_to message block body).options) ≡ asks.Block (record block { more = follows body block }) }
 {}

@@ -62,7 +62,8 @@ fn leave_others(kept: &mut Vec<KeptBody>, peer: u32)
 
 /// Keeps a body as the one of its peer. For want of memory the peer has none.
 fn keep(kept: &mut Vec<KeptBody>, peer: u32, request: &[u8], body: &[u8]) -> Result<(), NoMemory>
-    ensures ok { OnOk result (kept.new.items ≡ without_peer peer kept.old.items ++ record { peer = peer; request = request.now; body = body.now } ∷ []) }
+    ensures ok { OnOk result (kept.new.items
+        ≡ without_peer peer kept.old.items ++ record { peer = peer; request = request.now; body = body.now } ∷ []) }
     ensures err { OnErr result (kept.new.items ≡ without_peer peer kept.old.items) }
 {
     leave_others(kept, peer);
@@ -93,7 +94,8 @@ fn answer_first(
     requires size { block.now.exponent < 7 }
     requires head { head_size message.now ≤ MOST_WHOLE }
     requires room { room.old.most ≡ 4096 }
-    ensures answered { IsAnswered (first block.now) (asked_with request.now awaited.now) message.now kept.old.items room.new.held kept.new.items }
+    ensures answered { IsAnswered (first block.now) (asked_with request.now awaited.now) message.now
+        kept.old.items room.new.held kept.new.items }
     ensures most { room.new.most ≡ room.old.most }
 {
     match keep(kept, awaited.peer, request, message.payload()) {
@@ -108,7 +110,8 @@ fn answer_later(room: &mut Room, message: &Message<'_>, block: &BlockOption, bod
     requires size { block.now.exponent < 7 }
     requires head { head_size message.now ≤ MOST_WHOLE }
     requires room { room.old.most ≡ 4096 }
-    ensures answered { (asked : Asked) (kept : List KeptBody) → IsAnswered (later_of block.now body.now) asked message.now kept room.new.held kept }
+    ensures answered { (asked : Asked) (kept : List KeptBody)
+        → IsAnswered (later_of block.now body.now) asked message.now kept room.new.held kept }
     ensures most { room.new.most ≡ room.old.most }
 {
     if begins_within(body, block) {
@@ -130,7 +133,9 @@ fn answer_block(
     requires is { IsBlock block.now }
     requires head { head_size message.now ≤ MOST_WHOLE }
     requires room { room.old.most ≡ 4096 }
-    ensures answered { IsAnswered (block_answer block.now (body_or (kept_for kept.old.items (asked_with request.now awaited.now)) message.now.payload)) (asked_with request.now awaited.now) message.now kept.old.items room.new.held kept.new.items }
+    ensures answered { let asked = asked_with request.now awaited.now in
+        let body = body_or (kept_for kept.old.items asked) message.now.payload in
+        IsAnswered (block_answer block.now body) asked message.now kept.old.items room.new.held kept.new.items }
     ensures most { room.new.most ≡ room.old.most }
 {
     if block.exponent > LARGEST {
@@ -161,7 +166,9 @@ pub fn answer_reply(
     requires block { ForSome awaited.now.block IsBlock }
     requires before { before ≡ head_size message.now }
     requires room { room.old.most ≡ 4096 }
-    ensures answered { let asked = asked_with request.now awaited.now in IsAnswered (answer_of kept.old.items asked message.now) asked message.now kept.old.items (if result then room.new.held else spelling message.now) kept.new.items }
+    ensures answered { let asked = asked_with request.now awaited.now in
+        IsAnswered (answer_of kept.old.items asked message.now) asked message.now kept.old.items
+        (if result then room.new.held else spelling message.now) kept.new.items }
     ensures most { room.new.most ≡ room.old.most }
 {
     if before > MOST_WHOLE {

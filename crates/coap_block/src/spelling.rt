@@ -68,8 +68,12 @@ fn put_extension(room: &mut Room, number: usize)
 pub fn put_option(room: &mut Room, previous: u16, number: u16, value: &[u8])
     requires rises { previous ≤ number }
     requires size { length value.now ≤ 65804 }
-    requires room { length room.old.held + length (option_bytes previous (record { number = number; value = value.now })) ≤ room.old.most }
-    ensures { room.new ≡ record room.old { held = room.old.held ++ option_bytes previous (record { number = number; value = value.now }) } }
+    requires room { length room.old.held + length (option_bytes previous (record { number = number; value = value.now }))
+        ≤ room.old.most }
+    ensures { room.new ≡ record room.old {
+      held = room.old.held
+          ++ option_bytes previous (record { number = number; value = value.now });
+    } }
 {
     let delta = (number - previous) as usize;
     room.put(&[16 * nibble_of(delta) + nibble_of(value.len())]);
@@ -82,7 +86,10 @@ pub fn put_option(room: &mut Room, previous: u16, number: u16, value: &[u8])
 pub fn put_options(room: &mut Room, previous: u16, options: &mut Options<'_>, which: Which) -> u16
     requires are { AreOptions previous (among which options.old) }
     requires room { length room.old.held + length (options_bytes previous (among which options.old)) ≤ room.old.most }
-    ensures written { room.new ≡ record room.old { held = room.old.held ++ options_bytes previous (among which options.old) } }
+    ensures written { room.new ≡ record room.old {
+      held = room.old.held
+          ++ options_bytes previous (among which options.old);
+    } }
     ensures last { result ≡ last_number previous (among which options.old) }
 {
     let mut previous = previous;
