@@ -7,7 +7,7 @@ ghost use Rattle.coap_block.specs.Blocks.{Sees, Sends};
 
 use crate::awaiting::{Awaiting, see_message};
 use crate::kept::KeptBody;
-use crate::replying::answer_reply;
+use crate::replying::{MAX_KEPT, answer_reply};
 use crate::room::Room;
 use coap_message::decode;
 use dots_lists::NoMemory;
@@ -41,7 +41,7 @@ impl Model for Cutting {
       written = cutting.room.held;
     } };
 
-    ghost invariant = { λ cutting. (cutting.room.most ≡ 4096) × (cutting.request.most ≡ 4096) × AsksBlock cutting.awaited };
+    ghost invariant = { λ cutting. (cutting.room.most ≡ 4096) × (cutting.request.most ≡ 4096) × AsksBlock cutting.awaited × (length cutting.kept.items ≤ 64) };
 }
 
 impl Cutting {
@@ -100,8 +100,9 @@ impl Cutting {
 
     /// A datagram is sent to the peer: whether what leaves was written, or it leaves as it is.
     pub fn reply(&mut self, peer: u32, bytes: &[u8]) -> bool
-        ensures { Sends self.old.blocks peer bytes.now
+        ensures sends { Sends self.old.blocks peer bytes.now
             (if result then self.new.written else bytes.now) self.new.blocks }
+        ensures few { length self.new.blocks.kept ≤ MAX_KEPT }
     {
         let Some(awaited) = self.awaited else {
             return false;

@@ -22,5 +22,6 @@ pub use asks::Asks;
 pub use block::{BlockOption, Uint};
 pub use cutting::{Cutting, MOST};
 pub use kept::KeptBody;
+pub use replying::MAX_KEPT;
 pub use room::Room;
 pub use spelling::Which;

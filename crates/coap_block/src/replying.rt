@@ -1,6 +1,6 @@
 //! What becomes of a reply.
 
-ghost use Rattle.std.specs.Prelude.{◌≡◌, ◌≤◌, ◌<◌, ◌==◌, ◌&&◌, ◌++◌, [], ◌∷◌, bytes_eq, List, find, OnOk, OnErr, if◌then◌else◌};
+ghost use Rattle.std.specs.Prelude.{◌≡◌, ◌≤◌, ◌<◌, ◌==◌, ◌&&◌, ◌++◌, [], ◌∷◌, bytes_eq, List, length, find, OnOk, OnErr, if◌then◌else◌};
 ghost use Rattle.std.specs.Option.{ForSome, option_copied};
 ghost use Rattle.coap_message.specs.Message.{spelling};
 ghost use Rattle.coap_block.specs.Blocks.{IsAnswered, Asked, answer_of, wanted_block, block_answer, later_of, head_size, kept_for, body_or, without_peer};
@@ -25,7 +25,7 @@ const LARGEST: u8 = 6;
 const MOST_WHOLE: usize = 1024;
 
 /// The most peers of which a body is kept.
-const MAX_KEPT: usize = 64;
+pub const MAX_KEPT: usize = 64;
 
 /// The block that a reply is cut to, or None where it stays whole.
 fn wanted_block(asked: Option<BlockOption>, payload: &[u8]) -> Option<BlockOption>
@@ -55,16 +55,19 @@ fn kept_for<'a>(kept: &'a [KeptBody], peer: u32, request: &[u8]) -> Option<&'a K
 
 /// Takes out the body of a peer.
 fn leave_others(kept: &mut Vec<KeptBody>, peer: u32)
-    ensures { kept.new.items ≡ without_peer peer kept.old.items }
+    ensures items { kept.new.items ≡ without_peer peer kept.old.items }
+    ensures fewer { length kept.new.items ≤ length kept.old.items }
 {
     kept.retain(|body| body.peer != peer);
 }
 
 /// Keeps a body as the one of its peer. For want of memory the peer has none.
 fn keep(kept: &mut Vec<KeptBody>, peer: u32, request: &[u8], body: &[u8]) -> Result<(), NoMemory>
+    requires few { length kept.old.items ≤ MAX_KEPT }
     ensures ok { OnOk result (kept.new.items
         ≡ without_peer peer kept.old.items ++ record { peer = peer; request = request.now; body = body.now } ∷ []) }
     ensures err { OnErr result (kept.new.items ≡ without_peer peer kept.old.items) }
+    ensures few { length kept.new.items ≤ MAX_KEPT }
 {
     leave_others(kept, peer);
     if kept.len() >= MAX_KEPT {
@@ -93,9 +96,11 @@ fn answer_first(
     requires is { IsBlock block.now }
     requires size { block.now.exponent < 7 }
     requires head { head_size message.now ≤ MOST_WHOLE }
+    requires few { length kept.old.items ≤ MAX_KEPT }
     requires room { room.old.most ≡ 4096 }
     ensures answered { IsAnswered (first block.now) (asked_with request.now awaited.now) message.now
         kept.old.items room.new.held kept.new.items }
+    ensures few { length kept.new.items ≤ MAX_KEPT }
     ensures most { room.new.most ≡ room.old.most }
 {
     match keep(kept, awaited.peer, request, message.payload()) {
@@ -132,10 +137,12 @@ fn answer_block(
 )
     requires is { IsBlock block.now }
     requires head { head_size message.now ≤ MOST_WHOLE }
+    requires few { length kept.old.items ≤ MAX_KEPT }
     requires room { room.old.most ≡ 4096 }
     ensures answered { let asked = asked_with request.now awaited.now in
         let body = body_or (kept_for kept.old.items asked) message.now.payload in
         IsAnswered (block_answer block.now body) asked message.now kept.old.items room.new.held kept.new.items }
+    ensures few { length kept.new.items ≤ MAX_KEPT }
     ensures most { room.new.most ≡ room.old.most }
 {
     if block.exponent > LARGEST {
@@ -165,10 +172,12 @@ pub fn answer_reply(
 ) -> bool
     requires block { ForSome awaited.now.block IsBlock }
     requires before { before ≡ head_size message.now }
+    requires few { length kept.old.items ≤ MAX_KEPT }
     requires room { room.old.most ≡ 4096 }
     ensures answered { let asked = asked_with request.now awaited.now in
         IsAnswered (answer_of kept.old.items asked message.now) asked message.now kept.old.items
         (if result then room.new.held else spelling message.now) kept.new.items }
+    ensures few { length kept.new.items ≤ MAX_KEPT }
     ensures most { room.new.most ≡ room.old.most }
 {
     if before > MOST_WHOLE {
