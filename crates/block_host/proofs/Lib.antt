@@ -1,0 +1,3 @@
+pub mod AroundLemmas
+pub mod Kept
+pub mod Joining

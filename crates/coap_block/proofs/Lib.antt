@@ -1,0 +1,6 @@
+pub mod Among
+pub mod Sizes
+pub mod Cuts
+pub mod Asking
+pub mod Sending
+pub mod Values

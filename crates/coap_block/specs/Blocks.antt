@@ -1,0 +1,201 @@
+-- Long answers in blocks (RFC 7959, sections 2.2 to 2.4): what is seen of a request, and what becomes of its reply.
+use Rattle.std.specs.Prelude.{◌≡◌, ℕ, ◌+◌, ◌*◌, ◌==◌, ◌&&◌, ◌⊎◌, not, nat_lt, nat_le, bytes_eq, if◌then◌else◌, Bool, true, false, List, [], ◌∷◌, ◌++◌, length, filter, find, take, drop, codes, Option, Some, None, ⊤}
+use Rattle.coap_message.specs.Message.{CoapOption, CoapMessage, IsMessage, options_bytes, spelling}
+use Rattle.coap_block.specs.declared.block.BlockOption.{BlockOption}
+use Rattle.coap_block.specs.declared.asks.Asks.{Asks}
+use Rattle.coap_block.specs.declared.asks.Asks.TheVariants as asks
+use Rattle.coap_block.specs.declared.kept.KeptBody.{KeptBody}
+use Rattle.coap_block.specs.declared.spelling.Which.TheVariants as which
+use Rattle.coap_block.specs.Option.{block_of, block_number, shortest, block_size, IsBlock}
+use Rattle.coap_block.specs.Spelling.{block_option, among, head_of}
+
+-- A GET whose reply is awaited: who sent it, its Message ID and token, the block that it asks for, where it asks for one, and the request, which is its path and query, spelled as options.
+pub record Asked : Type 0 where
+  pub peer : ℕ
+  pub identifier : ℕ
+  pub token : List ℕ
+  pub block : Option BlockOption
+  pub request : List ℕ
+
+-- the GET whose reply is awaited, and the bodies that are kept
+pub record Blocks : Type 0 where
+  pub awaited : Option Asked
+  pub kept : List KeptBody
+
+-- ---- requests
+
+-- the options that are Block2
+abbrev pub blocks_in : List CoapOption → List CoapOption
+blocks_in options = filter (λ option. option.number == block_option) options
+
+-- what a request asks of blocks: a block where it has exactly one Block2 of at most 3 bytes
+abbrev pub asks_of : List CoapOption → Asks
+asks_of [] = asks.Whole
+asks_of (o ∷ []) = if nat_le (length o.value) 3 then asks.Block (block_of o.value) else asks.Neither
+asks_of (o ∷ p ∷ os) = asks.Neither
+
+abbrev pub IsReadable : Asks → Type 0
+IsReadable (asks.Block block) = IsBlock block
+IsReadable _ = ⊤
+
+abbrev pub is_get : CoapMessage → Bool
+is_get message = message.code == 1
+
+-- path and query
+abbrev pub request_of : CoapMessage → List ℕ
+request_of message = options_bytes 0 (among which.PathAndQuery message.options)
+
+abbrev pub asked_for : ℕ → CoapMessage → Option BlockOption → Asked
+asked_for peer message block = record { peer = peer; identifier = message.identifier; token = message.token; block = block; request = request_of message }
+
+abbrev pub awaited_after : ℕ → CoapMessage → Asks → Option Asked
+awaited_after peer message asks.Whole = Some (asked_for peer message None)
+awaited_after peer message (asks.Block block) = Some (asked_for peer message (Some block))
+awaited_after peer message asks.Neither = None
+
+-- whose reply is awaited after a message: that of a GET, unless its Block2 can't be read
+abbrev pub awaited_by : ℕ → CoapMessage → Option Asked
+awaited_by peer message = if is_get message then awaited_after peer message (asks_of (blocks_in message.options)) else None
+
+abbrev pub without_block : CoapMessage → Asks → CoapMessage
+without_block message (asks.Block block) = record message { options = among which.ButBlock message.options }
+without_block message _ = message
+
+-- a GET with a block is seen without it, and any other message as it is
+abbrev pub seen_of : CoapMessage → CoapMessage
+seen_of message = if is_get message then without_block message (asks_of (blocks_in message.options)) else message
+
+-- the bytes spell no message
+abbrev pub IsNoMessage : List ℕ → Type 0
+IsNoMessage bytes = (message : CoapMessage) → IsMessage message → bytes ≡ spelling message → ⊥
+
+-- a message came, and was seen so
+pub record SeesMessage (peer : ℕ) (bytes seen : List ℕ) (awaited : Option Asked) : Type 0 where
+  pub message : CoapMessage
+  pub is : IsMessage message
+  pub spells : bytes ≡ spelling message
+  pub seen_as : seen ≡ spelling (seen_of message)
+  pub awaits : awaited ≡ awaited_by peer message
+
+-- a datagram came, and was seen so
+abbrev pub Sees : ℕ → List ℕ → List ℕ → Option Asked → Type 0
+Sees peer bytes seen awaited = SeesMessage peer bytes seen awaited ⊎ (IsNoMessage bytes × (seen ≡ bytes) × (awaited ≡ None))
+
+-- ---- blocks of a body
+
+-- the part of the body that the block is
+abbrev pub part_of : List ℕ → BlockOption → List ℕ
+part_of body block = take (block_size block.exponent) (drop (block.number * block_size block.exponent) body)
+
+-- whether bytes follow it
+abbrev pub follows : List ℕ → BlockOption → Bool
+follows body block = nat_lt (block.number * block_size block.exponent + block_size block.exponent) (length body)
+
+-- it begins before the body's end
+abbrev pub begins_within : List ℕ → BlockOption → Bool
+begins_within body block = nat_lt (block.number * block_size block.exponent) (length body)
+
+-- ---- replies
+
+-- 2.05 to the same peer, with the same token and Message ID
+abbrev pub is_reply : Asked → ℕ → CoapMessage → Bool
+is_reply asked peer message = asked.peer == peer && (message.code == 69 && (message.identifier == asked.identifier && bytes_eq message.token asked.token))
+
+-- the bytes before the payload
+abbrev pub head_size : CoapMessage → ℕ
+head_size message = length (head_of message) + length (options_bytes 0 message.options)
+
+-- the Block2 of a reply, which stands among the options by its number
+abbrev pub with_block : List CoapOption → BlockOption → List CoapOption
+with_block options block = among which.UpToBlock options ++ record { number = block_option; value = shortest (block_number block) } ∷ among which.BehindBlock options
+
+-- the reply cut to a block of the body
+abbrev pub cut_to : CoapMessage → BlockOption → List ℕ → CoapMessage
+cut_to message block body = record message { options = with_block message.options (record block { more = follows body block }); payload = part_of body block }
+
+-- 4.00, for a block that there isn't
+abbrev pub refusal : CoapMessage → CoapMessage
+refusal message = record message { code = 128; options = []; payload = codes "block" }
+
+-- 5.00, for want of memory
+abbrev pub unavailable : CoapMessage → CoapMessage
+unavailable message = record message { code = 160; options = []; payload = [] }
+
+-- the body that is kept for the peer and the request
+abbrev pub kept_for : List KeptBody → Asked → Option KeptBody
+kept_for kept asked = find (λ body. body.peer == asked.peer && bytes_eq body.request asked.request) kept
+
+abbrev pub body_or : Option KeptBody → List ℕ → List ℕ
+body_or (Some kept) body = kept.body
+body_or None body = body
+
+abbrev pub without_peer : ℕ → List KeptBody → List KeptBody
+without_peer peer kept = filter (λ body. not (body.peer == peer)) kept
+
+-- with the body as the one of its peer
+abbrev pub keeping : List KeptBody → Asked → List ℕ → List KeptBody
+keeping kept asked body = without_peer asked.peer kept ++ record { peer = asked.peer; request = asked.request; body = body } ∷ []
+
+-- what becomes of a reply
+pub data Answer : Type 0 where
+  -- it stays
+  same : Answer
+  -- the block that was asked for isn't there
+  refused : Answer
+  -- its payload is kept, and it is cut to this block
+  first : BlockOption → Answer
+  -- it is cut to this block of a body
+  later : BlockOption → List ℕ → Answer
+
+-- the first block of 1,024 bytes
+abbrev pub first_block : BlockOption
+first_block = record { number = 0; more = false; exponent = 6 }
+
+-- the block that a reply is cut to: the one that was asked for, or where none was the first one of a payload that is longer
+abbrev pub wanted_block : Option BlockOption → List ℕ → Option BlockOption
+wanted_block (Some block) payload = Some block
+wanted_block None payload = if nat_le (length payload) 1024 then None else Some first_block
+
+abbrev pub later_of : BlockOption → List ℕ → Answer
+later_of block body = if begins_within body block then later block body else refused
+
+abbrev pub block_answer : BlockOption → List ℕ → Answer
+block_answer block body = if block.exponent == 7 then refused else if block.number == 0 then first block else later_of block body
+
+abbrev pub wanted_answer : Option BlockOption → List ℕ → Answer
+wanted_answer None body = same
+wanted_answer (Some block) body = block_answer block body
+
+-- A reply with more than 1,024 bytes before its payload stays.
+abbrev pub answer_of : List KeptBody → Asked → CoapMessage → Answer
+answer_of kept asked message =
+    if nat_lt 1024 (head_size message) then same
+    else wanted_answer (wanted_block asked.block message.payload) (body_or (kept_for kept asked) message.payload)
+
+-- The reply leaves so, and these bodies are kept then. Where there is no memory to keep one, the peer has none.
+abbrev pub IsAnswered : Answer → Asked → CoapMessage → List KeptBody → List ℕ → List KeptBody → Type 0
+IsAnswered same asked message old out new = (out ≡ spelling message) × (new ≡ old)
+IsAnswered refused asked message old out new = (out ≡ spelling (refusal message)) × (new ≡ old)
+IsAnswered (later block body) asked message old out new = (out ≡ spelling (cut_to message block body)) × (new ≡ old)
+IsAnswered (first block) asked message old out new =
+    (out ≡ spelling (cut_to message block message.payload)) × (new ≡ keeping old asked message.payload)
+    ⊎ (out ≡ spelling (unavailable message)) × (new ≡ without_peer asked.peer old)
+
+-- the reply that was awaited was sent, and left so
+pub record Replies (old : Blocks) (peer : ℕ) (bytes out : List ℕ) (new : Blocks) : Type 0 where
+  pub message : CoapMessage
+  pub asked : Asked
+  pub is : IsMessage message
+  pub spells : bytes ≡ spelling message
+  pub awaited : old.awaited ≡ Some asked
+  pub reply : is_reply asked peer message ≡ true
+  pub answered : IsAnswered (answer_of old.kept asked message) asked message old.kept out new.kept
+  pub over : new.awaited ≡ None
+
+-- no reply that is awaited
+abbrev pub IsOther : Blocks → ℕ → List ℕ → Type 0
+IsOther old peer bytes = (message : CoapMessage) (asked : Asked) → IsMessage message → bytes ≡ spelling message → old.awaited ≡ Some asked → is_reply asked peer message ≡ false
+
+-- a datagram was sent to the peer, and left so
+abbrev pub Sends : Blocks → ℕ → List ℕ → List ℕ → Blocks → Type 0
+Sends old peer bytes out new = Replies old peer bytes out new ⊎ (IsOther old peer bytes × (out ≡ bytes) × (new ≡ old))

@@ -1,0 +1,5 @@
+pub mod Option
+pub mod Writing
+pub mod Spelling
+pub mod Blocks
+pub mod Knowing

@@ -1,0 +1,137 @@
+//! What is known between datagrams.
+
+ghost use Rattle.std.specs.Prelude.{◌≡◌, ◌≤◌, [], length, take, true, false, None, IfOk, if◌then◌else◌};
+ghost use Rattle.std.specs.Bool.{OnTrue};
+ghost use Rattle.coap_message.specs.Message.{payload_bytes};
+ghost use Rattle.coap_block.specs.Blocks.{Sees, Sends};
+
+use crate::awaiting::{Awaiting, see_message};
+use crate::kept::KeptBody;
+use crate::replying::{MAX_KEPT, answer_reply};
+use crate::room::Room;
+use coap_message::decode;
+use dots_lists::NoMemory;
+use std::alloc::Global;
+use std::marker::Model;
+
+/// The most bytes of a datagram that comes, and of one that is written here.
+pub const MOST: usize = 4096;
+
+/// The GET whose reply is awaited, and the bodies that are kept: at most one for each peer.
+#[derive(Drop)]
+pub struct Cutting {
+    room: Room,
+    request: Room,
+    awaited: Option<Awaiting>,
+    kept: Vec<KeptBody>,
+}
+
+impl Model for Cutting {
+    ghost use Rattle.std.specs.Prelude.{◌≡◌, ◌≤◌, length, option_map};
+    ghost use Rattle.std.specs.Option.{ForSome};
+    ghost use Rattle.coap_block.specs.Knowing.{Known, asked_with, AsksBlock};
+
+    ghost Value = { Known };
+
+    ghost view = { λ cutting. record {
+      blocks = record {
+        awaited = option_map (asked_with cutting.request.held) cutting.awaited;
+        kept = cutting.kept.items;
+      };
+      written = cutting.room.held;
+    } };
+
+    ghost invariant = { λ cutting. (cutting.room.most ≡ 4096) × (cutting.request.most ≡ 4096) × AsksBlock cutting.awaited × (length cutting.kept.items ≤ 64) };
+}
+
+impl Cutting {
+    /// Nothing is awaited and nothing is kept. Takes the memory for what is written.
+    pub fn new(alloc: Global) -> Result<Cutting, NoMemory>
+        ensures { IfOk result (λ cutting.
+            cutting ≡ record { blocks = record { awaited = None; kept = [] }; written = [] }) }
+    {
+        let room = Room::new(alloc, MOST)?;
+        let request = Room::new(alloc, MOST)?;
+        Ok(Cutting {
+            room,
+            request,
+            awaited: None,
+            kept: Vec::new(alloc),
+        })
+    }
+
+    /// What was written last.
+    pub fn written(&self) -> &[u8]
+        ensures { result.now ≡ self.now.written }
+    {
+        self.room.bytes()
+    }
+
+    /// A datagram came from the peer: whether what is seen of it was written, or it is seen as it is.
+    pub fn see(&mut self, peer: u32, datagram: &[u8]) -> bool
+        requires { length datagram.now ≤ MOST }
+        ensures sees { Sees peer datagram.now (if result then self.new.written else datagram.now) self.new.blocks.awaited }
+        ensures shorter { OnTrue result (length self.new.written ≤ length datagram.now) }
+        ensures kept { self.new.blocks.kept ≡ self.old.blocks.kept }
+    {
+        self.awaited = None;
+        let Ok(message) = decode(datagram) else {
+            return false;
+        };
+        let (awaited, written) = see_message(&mut self.room, &mut self.request, peer, &message);
+        self.awaited = awaited;
+        written
+    }
+
+    /// An event came that is no datagram: no reply is awaited any more.
+    pub fn skip(&mut self)
+        ensures { self.new ≡ record self.old { blocks = record self.old.blocks { awaited = None } } }
+    {
+        self.awaited = None;
+    }
+
+    /// A restart: nothing is awaited, and nothing is kept.
+    pub fn forget(&mut self)
+        ensures { self.new ≡ record self.old { blocks = record { awaited = None; kept = [] } } }
+    {
+        self.awaited = None;
+        self.kept.clear();
+    }
+
+    /// A datagram is sent to the peer: whether what leaves was written, or it leaves as it is.
+    pub fn reply(&mut self, peer: u32, bytes: &[u8]) -> bool
+        ensures sends { Sends self.old.blocks peer bytes.now
+            (if result then self.new.written else bytes.now) self.new.blocks }
+        ensures few { length self.new.blocks.kept ≤ MAX_KEPT }
+    {
+        let Some(awaited) = self.awaited else {
+            return false;
+        };
+        let Ok(message) = decode(bytes) else {
+            return false;
+        };
+        if !awaited.is_reply(peer, &message) {
+            return false;
+        }
+        self.awaited = None;
+        let before = bytes.len() - payload_len(message.payload());
+        answer_reply(
+            &mut self.room,
+            &mut self.kept,
+            self.request.bytes(),
+            &awaited,
+            &message,
+            before,
+        )
+    }
+}
+
+/// How many bytes a payload has with its marker.
+fn payload_len(payload: &[u8]) -> usize
+    ensures { result ≡ length (payload_bytes payload.now) }
+{
+    if payload.is_empty() {
+        return 0;
+    }
+    1 + payload.len()
+}
