@@ -4,3 +4,6 @@ pub mod Cuts
 pub mod Asking
 pub mod Sending
 pub mod Values
+pub mod AroundLemmas
+pub mod Kept
+pub mod Joining

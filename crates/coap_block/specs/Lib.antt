@@ -3,3 +3,6 @@ pub mod Writing
 pub mod Spelling
 pub mod Blocks
 pub mod Knowing
+pub mod Around
+pub mod AroundLaws
+pub mod Fetching

@@ -14,6 +14,8 @@ mod alias_rows;
 #[cfg(test)]
 mod beat_rows;
 #[cfg(test)]
+mod block_exchanges;
+#[cfg(test)]
 mod body_rows;
 #[cfg(test)]
 mod cbor_examples;

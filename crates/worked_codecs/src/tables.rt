@@ -1,11 +1,10 @@
 //! Tables of rows in text.
 
-use crate::agents;
 use crate::data_asking::{self, Form};
 use crate::row::Row;
 use crate::{
-    beat_rows, body_rows, cbor_rows, clock_rows, clock_scans, coap_rows, config_rows, cut_rows,
-    exchange_rows, reply_rows, request_rows, stream_rows, text_rows,
+    agents, beat_rows, body_rows, cbor_rows, clock_rows, clock_scans, coap_rows, config_rows,
+    cut_rows, exchange_rows, reply_rows, request_rows, stream_rows, text_rows,
 };
 use dots_lists::Name;
 use percent_encoding::percent_decode;

@@ -1,6 +1,6 @@
 use Rattle.std.specs.Prelude.{◌≡◌, true}
-use Rattle.block_host.proofs.AroundLemmas.{from_first, from_nothing}
-use Rattle.block_host.proofs.laws.run_around.Goals as goal
+use Rattle.coap_block.proofs.AroundLemmas.{from_first, from_nothing}
+use Rattle.coap_block.proofs.host_laws.run_around.Goals as goal
 
 pub returns-clause-begins : goal.returns-clause-begins
 returns-clause-begins c = from_nothing

@@ -1,9 +1,9 @@
 ghost use Rattle.std.specs.Prelude.{◌≡◌, List, [], Some, None, IfOk, IfErr, refl};
-ghost use Rattle.block_host.specs.Around.{seen_above, no_blocks, GoesOnSeen};
-ghost use Rattle.block_host.specs.AroundLaws.{same_then, kept_above, seen_still};
+ghost use Rattle.coap_block.specs.Around.{seen_above, no_blocks, GoesOnSeen};
+ghost use Rattle.coap_block.specs.AroundLaws.{same_then, kept_above, seen_still};
 
+use crate::cutting::Cutting;
 use crate::seeing::{reply, see, send_written};
-use coap_block::Cutting;
 use dots_disk::{Call, CallLog, Disk, Host};
 use dots_host::{Failed, Got, NoMemory, Out, Sent, Wire};
 use std::alloc::Global;
@@ -20,7 +20,7 @@ pub struct BlockHost<H> {
 }
 
 impl<H> Model for BlockHost<H> {
-    ghost use Rattle.block_host.specs.Around.{Wrapped};
+    ghost use Rattle.coap_block.specs.Around.{Wrapped};
 
     ghost Value = { Wrapped H };
 

@@ -6,7 +6,7 @@ use Rattle.dots_host.specs.declared.act.Act.{Act}
 use Rattle.dots_host.specs.Acts.{Timed, WireAct, Adds}
 use Rattle.dots_host.specs.Runs.{Added}
 use Rattle.coap_block.specs.Blocks.{Blocks}
-use Rattle.block_host.specs.Around.{wire_of, retimed, same_length, if_told, seen_above, IsSeen, AreSeen, Start, SeenSince, AreSince, GoesOnSeen, from_none, no_blocks, IsRunAround}
+use Rattle.coap_block.specs.Around.{wire_of, retimed, same_length, if_told, seen_above, IsSeen, AreSeen, Start, SeenSince, AreSince, GoesOnSeen, from_none, no_blocks, IsRunAround}
 
 same_push : {A B : Type 0} (xs : List A) (ys : List B) (x : A) (y : B) → same_length (xs ++ x ∷ []) (ys ++ y ∷ []) ≡ same_length xs ys
 same_push [] [] x y = refl

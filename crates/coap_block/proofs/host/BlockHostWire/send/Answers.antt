@@ -1,9 +1,9 @@
 use Rattle.std.proofs.Common.{refl, sym, subst}
 use Rattle.dots_host.specs.declared.act.Act.TheVariants as act
 use Rattle.dots_host.specs.Acts.{Adds, gave, given, owned_of, is_done}
-use Rattle.block_host.specs.Around.{seen_above, SendsOut, leaves_of, GoesOnSeen}
-use Rattle.block_host.proofs.AroundLemmas.{seen_adds, seen_goes_on}
-use Rattle.block_host.proofs.host.BlockHostWire.send.Goals as goal
+use Rattle.coap_block.specs.Around.{seen_above, SendsOut, leaves_of, GoesOnSeen}
+use Rattle.coap_block.proofs.AroundLemmas.{seen_adds, seen_goes_on}
+use Rattle.coap_block.proofs.host.BlockHostWire.send.Goals as goal
 
 pub returns-clause-acts : goal.returns-clause-acts
 returns-clause-acts g c =

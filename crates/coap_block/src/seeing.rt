@@ -4,9 +4,9 @@ ghost use Rattle.std.specs.Prelude.{◌≡◌, ◌≤◌, length, take};
 ghost use Rattle.dots_host.specs.Acts.{IsWithin, OnFailed, Adds, gave, event_of, owned_of, is_done};
 ghost use Rattle.dots_host.specs.declared.TheConstants.{MAX_EVENT_BYTES};
 ghost use Rattle.coap_block.specs.Blocks.{Sees};
-ghost use Rattle.block_host.specs.Around.{SeesEvent, SendsOut, leaves_of};
+ghost use Rattle.coap_block.specs.Around.{SeesEvent, SendsOut, leaves_of};
 
-use coap_block::Cutting;
+use crate::cutting::Cutting;
 use dots_disk::Host;
 use dots_host::{MAX_EVENT_BYTES, Out, Sent, What};
 

@@ -1,6 +1,6 @@
 //! Requests, the replies of a server, and what leaves of these.
 
-use block_host::BlockHost;
+use coap_block::BlockHost;
 use dots_disk::MemoryHost;
 use dots_host::{Act, Bytes, Event, MAX_EVENT_BYTES, Out, OwnedOut, What, Wire};
 use std::alloc::Global;

@@ -6,7 +6,7 @@ use Rattle.dots_host.specs.declared.out.OwnedOut.TheVariants as owned
 use Rattle.dots_host.specs.Acts.{Timed, WireAct, took, gave}
 use Rattle.coap_block.specs.declared.block.BlockOption.{BlockOption}
 use Rattle.coap_block.specs.Blocks.{Blocks, Replies, Answer, same, refused, first, later, answer_of, cut_to, part_of, follows}
-use Rattle.block_host.specs.Around.{IsSeen}
+use Rattle.coap_block.specs.Around.{IsSeen}
 
 -- who fetches, for which path and query, and in blocks of which size
 pub record Fetch : Type 0 where

@@ -4,7 +4,7 @@ use Rattle.dots_host.specs.Acts.{Timed}
 use Rattle.dots_host.specs.declared.act.Act.{Act}
 use Rattle.dots_disk.specs.Beside.{KeepsActs}
 use Rattle.coap_block.specs.Blocks.{Blocks}
-use Rattle.block_host.specs.Around.{seen_above, GoesOnSeen}
+use Rattle.coap_block.specs.Around.{seen_above, GoesOnSeen}
 
 pub same_then : {A : Type 0} (old mid new : A) → mid ≡ old → new ≡ mid → new ≡ old
 same_then old mid new a b = b ∙ a

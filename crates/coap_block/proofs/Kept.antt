@@ -6,7 +6,7 @@ use Rattle.coap_message.specs.Message.{CoapMessage}
 use Rattle.coap_block.specs.declared.block.BlockOption.{BlockOption}
 use Rattle.coap_block.specs.declared.kept.KeptBody.{KeptBody}
 use Rattle.coap_block.specs.Blocks.{Asked, first, later, answer_of, wanted_answer, wanted_block, block_answer, begins_within, body_or, kept_for, without_peer, head_size}
-use Rattle.block_host.specs.Fetching.{IsCutFrom}
+use Rattle.coap_block.specs.Fetching.{IsCutFrom}
 
 abbrev pub is_for : ℕ → List ℕ → KeptBody → Bool
 is_for peer request body = body.peer == peer && bytes_eq body.request request

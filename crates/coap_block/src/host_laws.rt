@@ -6,8 +6,8 @@ ghost use Rattle.dots_host.specs.Acts.{Timed};
 ghost use Rattle.dots_host.specs.Runs.{Added};
 ghost use Rattle.dots_host.specs.declared.act.Act.{Act};
 ghost use Rattle.coap_block.specs.Blocks.{Blocks};
-ghost use Rattle.block_host.specs.Around.{seen_above, AreSince, IsRunAround, from_none, no_blocks};
-ghost use Rattle.block_host.specs.Fetching.{Fetch, Fetches};
+ghost use Rattle.coap_block.specs.Around.{seen_above, AreSince, IsRunAround, from_none, no_blocks};
+ghost use Rattle.coap_block.specs.Fetching.{Fetch, Fetches};
 
 /// Where a peer fetches the blocks of one request with one size, none of them is missing and the last says that no more
 /// follow, the blocks joined are the body that the first was cut from.

@@ -1,3 +1,0 @@
-pub mod AroundLemmas
-pub mod Kept
-pub mod Joining
