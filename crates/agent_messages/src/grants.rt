@@ -2,7 +2,7 @@
 
 ghost use Rattle.std.specs.Prelude.{◌≡◌, ◌≢◌, ℤ, [], ◌∷◌, length, MatchOption, true, false};
 ghost use Rattle.cbor_profile.specs.Tree.{Tree, unsigned};
-ghost use Rattle.cbor_profile.specs.View.{tree_of};
+ghost use Rattle.cbor_profile.specs.ItemTrees.{tree_of};
 ghost use Rattle.reply_bodies.specs.Maps.{sole, integer};
 ghost use Rattle.reply_bodies.specs.Mitigations.{granted_scope, granted_tree};
 ghost use Rattle.agent_messages.specs.Grants.{IsGranted, only_of};

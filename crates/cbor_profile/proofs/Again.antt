@@ -12,7 +12,7 @@ use Rattle.cbor_profile.specs.Parts.{number_of}
 use Rattle.cbor_profile.specs.Tree.{Tree, unsigned, negative, byte_string, text, array, mapping, tag, boolean, null, Trees, no_items, item, items_of, count}
 use Rattle.cbor_profile.specs.Spelling.{width, begin, break, IsArgument, itself, follows, IsHead, Fits, AreParts, SpellsString, SpellsItems, SpellsPairs, SpellsPlain}
 use Rattle.cbor_profile.specs.Keys.{has_key, put}
-use Rattle.cbor_profile.specs.Reading.{parts_of, Read, ◌>>=◌, number_at, argument_at, content_at, checked, string_at, is_part, parts_at, items_at, open_items_at, pair_at, pairs_at, open_pairs_at, value_at, indefinite_at, item_at, start_of, start_with, begun_at}
+use Rattle.cbor_profile.specs.ItemReading.{parts_of, Read, ◌>>=◌, number_at, argument_at, content_at, checked, string_at, is_part, parts_at, items_at, open_items_at, pair_at, pairs_at, open_pairs_at, value_at, indefinite_at, item_at, start_of, start_with, begun_at}
 use Rattle.cbor_profile.proofs.Firsts.{HasArgument, start_at, item_begins, value_begins, open_begins, info_small, Starts, Starts-append}
 use Rattle.cbor_profile.proofs.Ordered.{Runs}
 

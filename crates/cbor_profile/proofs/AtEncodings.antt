@@ -18,7 +18,7 @@ use Rattle.cbor_profile.specs.declared.gathering.Place.TheVariants.{Last}
 use Rattle.cbor_profile.specs.Tree.{Tree, pairs_of}
 use Rattle.cbor_profile.specs.Canon.{canon}
 use Rattle.cbor_profile.specs.Valid.{RiseFrom}
-use Rattle.cbor_profile.specs.View.{tree_of, tree_pairs, pair_of}
+use Rattle.cbor_profile.specs.ItemTrees.{tree_of, tree_pairs, pair_of}
 use Rattle.cbor_profile.specs.Keys.{key_order, has_key, put}
 use Rattle.cbor_profile.specs.Gathering.{encoded_pairs, AreEncoded, AllBefore, gathered, IsOpenFor}
 use Rattle.cbor_profile.proofs.KeyOrder.{order_flip}

@@ -7,7 +7,7 @@ use Rattle.cbor_profile.specs.declared.major.Major.TheVariants as major_type
 use Rattle.cbor_profile.specs.declared.head.Start.{Start}
 use Rattle.cbor_profile.specs.declared.head.Start.TheVariants as start
 use Rattle.cbor_profile.specs.Parts.{number_of}
-use Rattle.cbor_profile.specs.Reading.{major_of, simple_start, sized_start, start_with}
+use Rattle.cbor_profile.specs.ItemReading.{major_of, simple_start, sized_start, start_with}
 use Rattle.cbor_profile.proofs.Firsts.{HasArgument}
 
 abbrev pub AreBytes : List ℕ → Type 0

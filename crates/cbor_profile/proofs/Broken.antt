@@ -12,7 +12,7 @@ use Rattle.cbor_profile.specs.Parts.{number_of}
 use Rattle.cbor_profile.specs.Tree.{Tree, unsigned, negative, byte_string, text, array, mapping, tag, items_of, pairs_of}
 use Rattle.cbor_profile.specs.Spelling.{begin, SpellsWithin}
 use Rattle.cbor_profile.specs.Breaking.{IsReserved, IsUnsupported, IsNesting, BreaksPlain, BreaksNest, GoesOn, IsNumber, IsStringType, BreaksWithin}
-use Rattle.cbor_profile.specs.Reading.{parts_of, Read, ◌>>=◌, argument_at, string_at, parts_at, items_at, open_items_at, pairs_at, open_pairs_at, major_of, start_of, simple, value_at, indefinite_at, begun_at, item_at}
+use Rattle.cbor_profile.specs.ItemReading.{parts_of, Read, ◌>>=◌, argument_at, string_at, parts_at, items_at, open_items_at, pairs_at, open_pairs_at, major_of, start_of, simple, value_at, indefinite_at, begun_at, item_at}
 use Rattle.cbor_profile.proofs.Results.{bind_err, err_is, not_both, broken}
 use Rattle.cbor_profile.proofs.Firsts.{HasArgument, item_begins, nothing_short}
 use Rattle.cbor_profile.proofs.Beginnings.{byte_is, HasOpen, Begins, begins}

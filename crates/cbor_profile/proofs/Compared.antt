@@ -11,8 +11,8 @@ use Rattle.cbor_profile.specs.Canon.{canon, canon_items, canon_pairs}
 use Rattle.cbor_profile.specs.Parts.{number_of, major, argument, content}
 use Rattle.cbor_profile.specs.Valid.{IsSound, AreSound, ArePairsSound}
 use Rattle.cbor_profile.specs.declared.item.Item.{Item}
-use Rattle.cbor_profile.specs.View.{tree_of}
-use Rattle.cbor_profile.proofs.Views.{dropped, items_view, pairs_view}
+use Rattle.cbor_profile.specs.ItemTrees.{tree_of}
+use Rattle.cbor_profile.proofs.ItemTrees.{dropped, items_value, pairs_value}
 use Rattle.cbor_profile.proofs.Heads.{one_head}
 use Rattle.cbor_profile.proofs.Fronts.{argument_fits, parts, one_front}
 
@@ -108,45 +108,45 @@ pair_unequal k v l w o f g apart e =
 
 -- ---- the loops over items and pairs
 
-sound_at : (xs : List Item) (i : ℕ) (x : Item) → AreSound (items_view xs) → i < length xs → x ≡ get_or xs i x → IsSound (tree_of x)
+sound_at : (xs : List Item) (i : ℕ) (x : Item) → AreSound (items_value xs) → i < length xs → x ≡ get_or xs i x → IsSound (tree_of x)
 sound_at [] i x h lt is = absurd (omega arith)
 sound_at (y ∷ ys) zero x h lt is = subst (λ (z : Item). IsSound (tree_of z)) (sym is) h.0
 sound_at (y ∷ ys) (suc i) x h lt is = sound_at ys i x h.1 (omega arith) is
 
-pair_sound_at : (xs : List (Item × Item)) (i : ℕ) (x : Item × Item) → ArePairsSound (pairs_view xs) → i < length xs → x ≡ get_or xs i x → IsSound (tree_of x.0) × IsSound (tree_of x.1)
+pair_sound_at : (xs : List (Item × Item)) (i : ℕ) (x : Item × Item) → ArePairsSound (pairs_value xs) → i < length xs → x ≡ get_or xs i x → IsSound (tree_of x.0) × IsSound (tree_of x.1)
 pair_sound_at [] i x h lt is = absurd (omega arith)
 pair_sound_at (y ∷ ys) zero x h lt is = subst (λ (z : Item × Item). IsSound (tree_of z.0) × IsSound (tree_of z.1)) (sym is) (h.0, h.1)
 pair_sound_at (y ∷ ys) (suc i) x h lt is = pair_sound_at ys i x h.2 (omega arith) is
 
 -- the next items of two arrays, and those after them
 pub record NextItems (xs ys : List Item) (i : ℕ) (x y : Item) : Type 0 where
-  pub left_sound : AreSound (items_view xs)
-  pub right_sound : AreSound (items_view ys)
+  pub left_sound : AreSound (items_value xs)
+  pub right_sound : AreSound (items_value ys)
   pub left_in : i < length xs
   pub right_in : i < length ys
   pub left_is : x ≡ get_or xs i x
   pub right_is : y ≡ get_or ys i y
 
 next_items : (xs ys : List Item) (i : ℕ) (x y : Item) → NextItems xs ys i x y
-    → order (canon_items (items_view (drop i xs))) (canon_items (items_view (drop i ys)))
-    ≡ ordering_then (order (canon (tree_of x)) (canon (tree_of y))) (order (canon_items (items_view (drop (i + 1) xs))) (canon_items (items_view (drop (i + 1) ys))))
+    → order (canon_items (items_value (drop i xs))) (canon_items (items_value (drop i ys)))
+    ≡ ordering_then (order (canon (tree_of x)) (canon (tree_of y))) (order (canon_items (items_value (drop (i + 1) xs))) (canon_items (items_value (drop (i + 1) ys))))
 next_items xs ys i x y next =
     let first = dropped xs i x next.left_in next.left_is in
     let second = dropped ys i y next.right_in next.right_is in
     rw (first, second)
-    (order_items (tree_of x) (tree_of y) (items_view (drop (i + 1) xs)) (items_view (drop (i + 1) ys))
+    (order_items (tree_of x) (tree_of y) (items_value (drop (i + 1) xs)) (items_value (drop (i + 1) ys))
     (sound_at xs i x next.left_sound next.left_in next.left_is) (sound_at ys i y next.right_sound next.right_in next.right_is))
 
-pub items_go_on : (all : Ordering) (xs ys : List Item) (i : ℕ) (x y : Item) → NextItems xs ys i x y → all ≡ order (canon_items (items_view (drop i xs))) (canon_items (items_view (drop i ys)))
-    → order (canon (tree_of x)) (canon (tree_of y)) ≡ Equal → all ≡ order (canon_items (items_view (drop (i + 1) xs))) (canon_items (items_view (drop (i + 1) ys)))
+pub items_go_on : (all : Ordering) (xs ys : List Item) (i : ℕ) (x y : Item) → NextItems xs ys i x y → all ≡ order (canon_items (items_value (drop i xs))) (canon_items (items_value (drop i ys)))
+    → order (canon (tree_of x)) (canon (tree_of y)) ≡ Equal → all ≡ order (canon_items (items_value (drop (i + 1) xs))) (canon_items (items_value (drop (i + 1) ys)))
 items_go_on all xs ys i x y next so_far is =
-    let rest = order (canon_items (items_view (drop (i + 1) xs))) (canon_items (items_view (drop (i + 1) ys))) in
+    let rest = order (canon_items (items_value (drop (i + 1) xs))) (canon_items (items_value (drop (i + 1) ys))) in
     so_far ∙ next_items xs ys i x y next ∙ ap (λ (o : Ordering). ordering_then o rest) is
 
-pub items_differ : (all o : Ordering) (xs ys : List Item) (i : ℕ) (x y : Item) → NextItems xs ys i x y → all ≡ order (canon_items (items_view (drop i xs))) (canon_items (items_view (drop i ys)))
+pub items_differ : (all o : Ordering) (xs ys : List Item) (i : ℕ) (x y : Item) → NextItems xs ys i x y → all ≡ order (canon_items (items_value (drop i xs))) (canon_items (items_value (drop i ys)))
     → (o ≡ Equal → ⊥) → o ≡ order (canon (tree_of x)) (canon (tree_of y)) → o ≡ all
 items_differ all o xs ys i x y next so_far apart is =
-    let rest = order (canon_items (items_view (drop (i + 1) xs))) (canon_items (items_view (drop (i + 1) ys))) in
+    let rest = order (canon_items (items_value (drop (i + 1) xs))) (canon_items (items_value (drop (i + 1) ys))) in
     sym (then_unequal o rest apart) ∙ ap (λ (p : Ordering). ordering_then p rest) is ∙ sym (next_items xs ys i x y next) ∙ sym so_far
 
 pub sounds_at : (xs ys : List Item) (i : ℕ) (x y : Item) → NextItems xs ys i x y → IsSound (tree_of x) × IsSound (tree_of y)
@@ -154,8 +154,8 @@ sounds_at xs ys i x y next = (sound_at xs i x next.left_sound next.left_in next.
 
 -- the same of pairs
 pub record NextPairs (xs ys : List (Item × Item)) (i : ℕ) (x y : Item × Item) : Type 0 where
-  pub left_sound : ArePairsSound (pairs_view xs)
-  pub right_sound : ArePairsSound (pairs_view ys)
+  pub left_sound : ArePairsSound (pairs_value xs)
+  pub right_sound : ArePairsSound (pairs_value ys)
   pub left_in : i < length xs
   pub right_in : i < length ys
   pub left_is : x ≡ get_or xs i x
@@ -171,25 +171,25 @@ abbrev pub pair_order : Item × Item → Item × Item → Ordering
 pair_order x y = order (canon (tree_of x.0) ++ canon (tree_of x.1)) (canon (tree_of y.0) ++ canon (tree_of y.1))
 
 next_pairs : (xs ys : List (Item × Item)) (i : ℕ) (x y : Item × Item) → NextPairs xs ys i x y
-    → order (canon_pairs (pairs_view (drop i xs))) (canon_pairs (pairs_view (drop i ys)))
-    ≡ ordering_then (pair_order x y) (order (canon_pairs (pairs_view (drop (i + 1) xs))) (canon_pairs (pairs_view (drop (i + 1) ys))))
+    → order (canon_pairs (pairs_value (drop i xs))) (canon_pairs (pairs_value (drop i ys)))
+    ≡ ordering_then (pair_order x y) (order (canon_pairs (pairs_value (drop (i + 1) xs))) (canon_pairs (pairs_value (drop (i + 1) ys))))
 next_pairs xs ys i x y next =
     let first = dropped xs i x next.left_in next.left_is in
     let second = dropped ys i y next.right_in next.right_is in
     let left = left_pair xs ys i x y next in
     let right = right_pair xs ys i x y next in
     rw (first, second)
-    (order_pairs (tree_of x.0) (tree_of x.1) (tree_of y.0) (tree_of y.1) (pairs_view (drop (i + 1) xs)) (pairs_view (drop (i + 1) ys)) left.0 left.1 right.0 right.1)
+    (order_pairs (tree_of x.0) (tree_of x.1) (tree_of y.0) (tree_of y.1) (pairs_value (drop (i + 1) xs)) (pairs_value (drop (i + 1) ys)) left.0 left.1 right.0 right.1)
 
 pub pairs_go_on : (all : Ordering) (xs ys : List (Item × Item)) (i : ℕ) (x y : Item × Item) → NextPairs xs ys i x y
-    → all ≡ order (canon_pairs (pairs_view (drop i xs))) (canon_pairs (pairs_view (drop i ys))) → pair_order x y ≡ Equal
-    → all ≡ order (canon_pairs (pairs_view (drop (i + 1) xs))) (canon_pairs (pairs_view (drop (i + 1) ys)))
+    → all ≡ order (canon_pairs (pairs_value (drop i xs))) (canon_pairs (pairs_value (drop i ys))) → pair_order x y ≡ Equal
+    → all ≡ order (canon_pairs (pairs_value (drop (i + 1) xs))) (canon_pairs (pairs_value (drop (i + 1) ys)))
 pairs_go_on all xs ys i x y next so_far is =
-    let rest = order (canon_pairs (pairs_view (drop (i + 1) xs))) (canon_pairs (pairs_view (drop (i + 1) ys))) in
+    let rest = order (canon_pairs (pairs_value (drop (i + 1) xs))) (canon_pairs (pairs_value (drop (i + 1) ys))) in
     so_far ∙ next_pairs xs ys i x y next ∙ ap (λ (o : Ordering). ordering_then o rest) is
 
 pub pairs_differ : (all o : Ordering) (xs ys : List (Item × Item)) (i : ℕ) (x y : Item × Item) → NextPairs xs ys i x y
-    → all ≡ order (canon_pairs (pairs_view (drop i xs))) (canon_pairs (pairs_view (drop i ys))) → (o ≡ Equal → ⊥) → o ≡ pair_order x y → o ≡ all
+    → all ≡ order (canon_pairs (pairs_value (drop i xs))) (canon_pairs (pairs_value (drop i ys))) → (o ≡ Equal → ⊥) → o ≡ pair_order x y → o ≡ all
 pairs_differ all o xs ys i x y next so_far apart is =
-    let rest = order (canon_pairs (pairs_view (drop (i + 1) xs))) (canon_pairs (pairs_view (drop (i + 1) ys))) in
+    let rest = order (canon_pairs (pairs_value (drop (i + 1) xs))) (canon_pairs (pairs_value (drop (i + 1) ys))) in
     sym (then_unequal o rest apart) ∙ ap (λ (p : Ordering). ordering_then p rest) is ∙ sym (next_pairs xs ys i x y next) ∙ sym so_far

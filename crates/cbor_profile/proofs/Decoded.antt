@@ -6,11 +6,11 @@ use Rattle.cbor_profile.specs.declared.fault.CborFault.TheVariants.{Short, Reser
 use Rattle.cbor_profile.specs.declared.item.Item.{Item}
 use Rattle.cbor_profile.specs.Tree.{Tree}
 use Rattle.cbor_profile.specs.Valid.{IsValid}
-use Rattle.cbor_profile.specs.View.{tree_of}
+use Rattle.cbor_profile.specs.ItemTrees.{tree_of}
 use Rattle.cbor_profile.specs.Spelling.{Spells}
 use Rattle.cbor_profile.specs.Breaking.{Refuses}
-use Rattle.cbor_profile.specs.Reading.{Gives, whole}
-use Rattle.cbor_profile.proofs.Readings.{whole_found, whole_again, whole_broken, whole_refused}
+use Rattle.cbor_profile.specs.ItemReading.{Gives, whole}
+use Rattle.cbor_profile.proofs.WholeReading.{whole_found, whole_again, whole_broken, whole_refused}
 use Rattle.cbor_profile.proofs.Sound.{Held}
 
 pub found_is : (bytes : List ℕ) (r : Result Item CborFault) → Held bytes → Gives tree_of r (whole bytes) → IfOk r (λ item. IsValid (tree_of item) × Spells bytes (tree_of item) 0)

@@ -13,7 +13,7 @@ use Rattle.cbor_profile.specs.declared.major.Major.TheVariants as major_type
 use Rattle.cbor_profile.specs.Parts.{number_of}
 use Rattle.cbor_profile.specs.Spelling.{width, break, IsHead, AreParts}
 use Rattle.cbor_profile.specs.Breaking.{IsCut, BreaksString, BreaksPart}
-use Rattle.cbor_profile.specs.Reading.{Read, ◌>>=◌, argument_at, number_at, content_at, checked, string_at, is_part, parts_at}
+use Rattle.cbor_profile.specs.ItemReading.{Read, ◌>>=◌, argument_at, number_at, content_at, checked, string_at, is_part, parts_at}
 use Rattle.cbor_profile.proofs.Results.{bind_err, err_is, not_both, chosen, done, broken}
 use Rattle.cbor_profile.proofs.Taken.{Argument, argument_taken, content_taken, String, string_taken, one_part, part_is}
 

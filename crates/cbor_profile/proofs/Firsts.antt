@@ -10,7 +10,7 @@ use Rattle.cbor_profile.specs.declared.head.Start.TheVariants as start
 use Rattle.cbor_profile.specs.Parts.{number_of}
 use Rattle.cbor_profile.specs.Tree.{Tree}
 use Rattle.cbor_profile.specs.Spelling.{break, IsArgument, itself, follows}
-use Rattle.cbor_profile.specs.Reading.{major_of, start_with, start_of, begun_at, value_at, indefinite_at, item_with, item_at, parts_of}
+use Rattle.cbor_profile.specs.ItemReading.{major_of, start_with, start_of, begun_at, value_at, indefinite_at, item_with, item_at, parts_of}
 use Rattle.cbor_profile.proofs.Results.{not_both}
 
 -- major types other than 7

@@ -9,9 +9,9 @@ use Rattle.cbor_profile.specs.declared.head.Start.{Start}
 use Rattle.cbor_profile.specs.declared.item.Item.{Unsigned}
 use Rattle.cbor_profile.specs.declared.head.Start.TheVariants as start
 use Rattle.cbor_profile.specs.Tree.{Tree, unsigned}
-use Rattle.cbor_profile.specs.View.{tree_of}
-use Rattle.cbor_profile.proofs.Views.{tree_of-Unsigned}
-use Rattle.cbor_profile.specs.Reading.{Gives, argument_at, value_at, indefinite_at, begun_at, start_with, start_of, item_with, item_at, parts_of}
+use Rattle.cbor_profile.specs.ItemTrees.{tree_of}
+use Rattle.cbor_profile.proofs.ItemTrees.{tree_of-Unsigned}
+use Rattle.cbor_profile.specs.ItemReading.{Gives, argument_at, value_at, indefinite_at, begun_at, start_with, start_of, item_with, item_at, parts_of}
 
 item_parts : (levels end : ℕ) (bytes : List ℕ) → item_at levels end bytes ≡ item_with (parts_of levels end) end bytes
 unfolding item_at

@@ -4,7 +4,7 @@ pub mod Fronts
 pub mod Heads
 pub mod KeyOrder
 pub mod Places
-pub mod Views
+pub mod ItemTrees
 pub mod Written
 pub mod Again
 pub mod Beginnings
@@ -22,7 +22,7 @@ pub mod Ordered
 pub mod Paired
 pub mod PartFaults
 pub mod Parts
-pub mod Readings
+pub mod WholeReading
 pub mod Refusals
 pub mod Refused
 pub mod Results

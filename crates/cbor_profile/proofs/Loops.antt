@@ -7,7 +7,7 @@ use Rattle.cbor_profile.specs.declared.fault.CborFault.TheVariants.{Short, Reser
 use Rattle.cbor_profile.specs.declared.major.Major.{Major}
 use Rattle.cbor_profile.specs.Tree.{Tree}
 use Rattle.cbor_profile.specs.Spelling.{break}
-use Rattle.cbor_profile.specs.Reading.{Read, ◌>>=◌, Fails, is_part, string_at, parts_at, items_at, open_items_at, pair_at, pairs_at, open_pairs_at}
+use Rattle.cbor_profile.specs.ItemReading.{Read, ◌>>=◌, Fails, is_part, string_at, parts_at, items_at, open_items_at, pair_at, pairs_at, open_pairs_at}
 
 -- what was read before, and what is still read
 abbrev pub with_front : {A : Type 0} → List A → Read (List A) → Read (List A)

@@ -5,10 +5,10 @@ use Rattle.cbor_profile.specs.declared.item.Item.{Bytes, Text, Array, Map}
 use Rattle.cbor_profile.specs.declared.item.ItemList.{ItemList}
 use Rattle.cbor_profile.specs.declared.item.PairList.{PairList}
 use Rattle.cbor_profile.specs.Tree.{Tree, byte_string, text}
-use Rattle.cbor_profile.specs.View.{tree_of, trees, tree_pairs}
-use Rattle.cbor_profile.specs.Reading.{Read, Fails, as_bytes, as_text, as_array, as_map}
+use Rattle.cbor_profile.specs.ItemTrees.{tree_of, trees, tree_pairs}
+use Rattle.cbor_profile.specs.ItemReading.{Read, Fails, as_bytes, as_text, as_array, as_map}
 use Rattle.cbor_profile.proofs.Loops.{fails_then}
-use Rattle.cbor_profile.proofs.Views.{tree_of-Bytes, tree_of-Text, tree_of-Array, tree_of-Map}
+use Rattle.cbor_profile.proofs.ItemTrees.{tree_of-Bytes, tree_of-Text, tree_of-Array, tree_of-Map}
 
 made : (t u : Tree) (rest : List ℕ) (read : Read Tree) → read ≡ Ok (u, rest) → t ≡ u → read ≡ Ok (t, rest)
 made t u rest read good is = good ∙ ap (λ (t : Tree). Ok (t, rest)) (sym is)

@@ -5,7 +5,7 @@ use Rattle.std.proofs.lemmas.List.{append-nil}
 use Rattle.cbor_profile.specs.declared.major.Major.TheVariants as major_type
 use Rattle.cbor_profile.specs.Tree.{Tree, unsigned, negative, byte_string, text, array, mapping, tag, boolean, null, Trees, Pairs, count}
 use Rattle.cbor_profile.specs.Spelling.{begin, break, SpellsItems, SpellsPairs, Holds, IsInOrder, SpellsPlain, SpellsNest, SpellsWithin}
-use Rattle.cbor_profile.specs.Reading.{Read, argument_at, items_at, pairs_at, value_at, indefinite_at, item_at, start_with}
+use Rattle.cbor_profile.specs.ItemReading.{Read, argument_at, items_at, pairs_at, value_at, indefinite_at, item_at, start_with}
 use Rattle.cbor_profile.proofs.Firsts.{open_begins, Starts, read_starts}
 use Rattle.cbor_profile.proofs.Again.{argument_again, head_begins, plain_again, list_of, items_list, items_again, open_items_again, pairs_again, open_pairs_again}
 use Rattle.cbor_profile.proofs.Ordered.{Runs, in_order_runs}

@@ -10,7 +10,7 @@ use Rattle.cbor_profile.specs.Tree.{Tree, Trees, no_items, item, count}
 use Rattle.cbor_profile.specs.Spelling.{break, SpellsItems, SpellsPairs}
 use Rattle.cbor_profile.specs.Breaking.{AreDistinct, BreaksPair}
 use Rattle.cbor_profile.specs.Keys.{has_key, put}
-use Rattle.cbor_profile.specs.Reading.{Read, ◌>>=◌, items_at, open_items_at, pair_at, pairs_at, open_pairs_at}
+use Rattle.cbor_profile.specs.ItemReading.{Read, ◌>>=◌, items_at, open_items_at, pair_at, pairs_at, open_pairs_at}
 use Rattle.cbor_profile.proofs.Results.{bind_err, err_is, not_both, chosen, broken}
 use Rattle.cbor_profile.proofs.Firsts.{Starts}
 use Rattle.cbor_profile.proofs.Nested.{PartStarts}

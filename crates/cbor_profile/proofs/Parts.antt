@@ -2,7 +2,7 @@
 use Rattle.std.proofs.Common.{◌≡◌, ℕ, zero, suc, ◌-◌, ◌<◌, List, length, Some, refl, ap, arith}
 use Rattle.cbor_profile.specs.declared.major.Major.{Major}
 use Rattle.cbor_profile.specs.declared.major.Major.TheVariants as major_type
-use Rattle.cbor_profile.specs.Reading.{as_bytes, as_text, string_at, parts_at, array_at, map_at, tag_at, open_array_at, open_map_at, item_at, parts_of, value_at, indefinite_at}
+use Rattle.cbor_profile.specs.ItemReading.{as_bytes, as_text, string_at, parts_at, array_at, map_at, tag_at, open_array_at, open_map_at, item_at, parts_of, value_at, indefinite_at}
 
 parts_there : (levels end : ℕ) → 0 < levels → parts_of levels end ≡ Some (item_at (levels - 1) end)
 parts_there zero end lt = absurd (omega arith)

@@ -9,7 +9,7 @@ use Rattle.cbor_profile.specs.declared.item.Item.{Item}
 use Rattle.cbor_profile.specs.Tree.{Tree, pairs_of}
 use Rattle.cbor_profile.specs.Canon.{canon}
 use Rattle.cbor_profile.specs.Valid.{IsSound, RiseFrom, KeysRise}
-use Rattle.cbor_profile.specs.View.{tree_of, pair_of}
+use Rattle.cbor_profile.specs.ItemTrees.{tree_of, pair_of}
 use Rattle.cbor_profile.specs.Keys.{key_order, has_key}
 use Rattle.cbor_profile.proofs.KeyOrder.{order_then, order_flip}
 
@@ -27,9 +27,9 @@ IsGreater k p = key_order p.0 k ≡ Greater
 pub view_at : (pairs : List (Item × Item)) (i : ℕ) (x : Item × Item) → i < length pairs → x ≡ get_or pairs i x → pair_of x ≡ get_or (map pair_of pairs) i (pair_of x)
 view_at pairs i x lt is = ap pair_of is ∙ sym (get_or-map pair_of pairs i x (pair_of x) lt)
 
-pub length_view : (pairs : List (Item × Item)) → length (map pair_of pairs) ≡ length pairs
-length_view [] = refl
-length_view (x ∷ xs) = ap suc (length_view xs)
+pub length_value : (pairs : List (Item × Item)) → length (map pair_of pairs) ≡ length pairs
+length_value [] = refl
+length_value (x ∷ xs) = ap suc (length_value xs)
 
 pub sound_at : (ps : List (Tree × Tree)) (i : ℕ) (p : Tree × Tree) → AllByRecursion KeySound ps → i < length ps → p ≡ get_or ps i p → IsSound p.0
 sound_at [] i p all lt is = absurd (omega arith)
@@ -83,13 +83,13 @@ greater_none (p ∷ ps) k all = unequal_has k p ps Greater all.0 refl (greater_n
 
 -- ---- the same of the items
 
-within_view : (pairs : List (Item × Item)) (i : ℕ) → i < length pairs → i < length (map pair_of pairs)
-within_view pairs i lt = let same = length_view pairs in omega arith
+within_value : (pairs : List (Item × Item)) (i : ℕ) → i < length pairs → i < length (map pair_of pairs)
+within_value pairs i lt = let same = length_value pairs in omega arith
 
 pub last_sound : (pairs : List (Item × Item)) (x : Item × Item) → AllByRecursion (λ p. IsSound p.0) (map pair_of pairs) → 0 < length pairs → x ≡ get_or pairs (length pairs - 1) x → IsSound (tree_of x.0)
 last_sound pairs x all some is =
     let lt : length pairs - 1 < length pairs = omega arith in
-    sound_at (map pair_of pairs) (length pairs - 1) (pair_of x) all (within_view pairs _ lt) (view_at pairs _ x lt is)
+    sound_at (map pair_of pairs) (length pairs - 1) (pair_of x) all (within_value pairs _ lt) (view_at pairs _ x lt is)
 
 take_whole : (ps : List (Tree × Tree)) (k : Tree) (n : ℕ) → length ps ≤ n → AllByRecursion (IsLess k) (take n ps) → AllByRecursion (IsLess k) ps
 take_whole [] k n le all = tt
@@ -100,8 +100,8 @@ module _ (pairs : List (Item × Item)) (k : Tree) (x : Item × Item) (some : 0 <
   pub last_less : KeysRise (pairs_of (map pair_of pairs)) → key_order (tree_of x.0) k ≡ Less → AllByRecursion (λ p. key_order p.0 k ≡ Less) (map pair_of pairs)
   last_less rise less =
       let lt : length pairs - 1 < length pairs = omega arith in
-      let before = less_before (map pair_of pairs) k (length pairs - 1) (pair_of x) rise (within_view pairs _ lt) (view_at pairs _ x lt is) less in
-      take_whole (map pair_of pairs) k (length pairs - 1 + 1) (omega (arith, length_view pairs)) before
+      let before = less_before (map pair_of pairs) k (length pairs - 1) (pair_of x) rise (within_value pairs _ lt) (view_at pairs _ x lt is) less in
+      take_whole (map pair_of pairs) k (length pairs - 1 + 1) (omega (arith, length_value pairs)) before
 
   pub last_equal : key_order (tree_of x.0) k ≡ Equal → has_key k (map pair_of pairs) ≡ true
-  last_equal same = let lt : length pairs - 1 < length pairs = omega arith in has_at (map pair_of pairs) k (length pairs - 1) (pair_of x) (within_view pairs _ lt) (view_at pairs _ x lt is) same
+  last_equal same = let lt : length pairs - 1 < length pairs = omega arith in has_at (map pair_of pairs) k (length pairs - 1) (pair_of x) (within_value pairs _ lt) (view_at pairs _ x lt is) same

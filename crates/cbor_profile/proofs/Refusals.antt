@@ -12,7 +12,7 @@ use Rattle.cbor_profile.specs.Parts.{number_of}
 use Rattle.cbor_profile.specs.Tree.{Tree, unsigned, negative, byte_string, text, array, mapping, tag, items_of, pairs_of}
 use Rattle.cbor_profile.specs.Spelling.{begin, AreParts, SpellsItems, SpellsPairs, SpellsWithin}
 use Rattle.cbor_profile.specs.Breaking.{IsNesting, IsCut, BreaksString, BreaksPart, BreaksPlain, BreaksPair, BreaksNest, GoesOn, AreDistinct, IsDeep, IsNumber, IsStringType, BreaksWithin}
-use Rattle.cbor_profile.specs.Reading.{parts_of, Read, argument_at, string_at, parts_at, items_at, open_items_at, pairs_at, open_pairs_at, start_of, start_with, value_at, indefinite_at, item_at}
+use Rattle.cbor_profile.specs.ItemReading.{parts_of, Read, argument_at, string_at, parts_at, items_at, open_items_at, pairs_at, open_pairs_at, start_of, start_with, value_at, indefinite_at, item_at}
 use Rattle.cbor_profile.proofs.Firsts.{HasArgument, value_begins, open_begins, nothing_short}
 use Rattle.cbor_profile.proofs.Again.{argument_again, head_begins, IsStringMajor}
 use Rattle.cbor_profile.proofs.Nested.{within_again, within_starts}

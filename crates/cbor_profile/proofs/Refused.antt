@@ -17,7 +17,7 @@ use Rattle.cbor_profile.specs.Tree.{Tree, Trees, no_items, item, count}
 use Rattle.cbor_profile.specs.Spelling.{width, begin, break, IsArgument, IsHead, IsString, AreParts, SpellsItems, SpellsPairs, SpellsWithin}
 use Rattle.cbor_profile.specs.Breaking.{IsReserved, IsUnsupported, BreaksString, BreaksPart, BreaksPair}
 use Rattle.cbor_profile.specs.Keys.{has_key, put}
-use Rattle.cbor_profile.specs.Reading.{Read, ◌>>=◌, argument_at, content_at, checked, string_at, is_part, parts_at, items_at, open_items_at, pair_at, pairs_at, open_pairs_at, start_of, start_with, major_of, begun_at, item_at}
+use Rattle.cbor_profile.specs.ItemReading.{Read, ◌>>=◌, argument_at, content_at, checked, string_at, is_part, parts_at, items_at, open_items_at, pair_at, pairs_at, open_pairs_at, start_of, start_with, major_of, begun_at, item_at}
 use Rattle.cbor_profile.proofs.Results.{broken, err_is}
 use Rattle.cbor_profile.proofs.Firsts.{item_begins, info_small, Starts, Starts-append}
 use Rattle.cbor_profile.proofs.Beginnings.{Begins, begins}

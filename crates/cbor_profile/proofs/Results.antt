@@ -2,7 +2,7 @@
 use Rattle.std.proofs.Common.{◌≡◌, Bool, true, false, cond, Result, Ok, Err, refl, ap, inl, inr}
 use Rattle.std.specs.Prelude.{◌⊎◌}
 use Rattle.cbor_profile.specs.declared.fault.CborFault.{CborFault}
-use Rattle.cbor_profile.specs.Reading.{◌>>=◌}
+use Rattle.cbor_profile.specs.ItemReading.{◌>>=◌}
 
 abbrev pub done : {A : Type 0} → A → Result A CborFault
 done x = Ok x

@@ -6,16 +6,16 @@ use Rattle.cbor_profile.specs.declared.fault.CborFault.TheVariants.{Duplicate}
 use Rattle.cbor_profile.specs.Tree.{Tree, pairs_of}
 use Rattle.cbor_profile.specs.Valid.{IsSound, KeysRise}
 use Rattle.cbor_profile.specs.declared.item.Item.{Unsigned}
-use Rattle.cbor_profile.specs.View.{tree_of}
+use Rattle.cbor_profile.specs.ItemTrees.{tree_of}
 use Rattle.cbor_profile.specs.Gathering.{AllBefore}
 use Rattle.cbor_profile.specs.Keys.{has_key}
-use Rattle.cbor_profile.specs.Reading.{Read, Fails, pairs_at}
+use Rattle.cbor_profile.specs.ItemReading.{Read, Fails, pairs_at}
 use Rattle.cbor_profile.proofs.AtEncodings.{behind_fresh, behind_put}
 use Rattle.cbor_profile.proofs.Keys.{put_sound}
 use Rattle.cbor_profile.proofs.Loops.{pairs_fail, pairs_go}
 use Rattle.cbor_profile.proofs.KeyOrder.{after_nothing}
 use Rattle.cbor_profile.proofs.Ordered.{put_rises}
-use Rattle.cbor_profile.proofs.Views.{tree_of-Unsigned}
+use Rattle.cbor_profile.proofs.ItemTrees.{tree_of-Unsigned}
 use Rattle.cbor_profile.proofs.Paired.{key_fails, key_again, value_fails, pair_made}
 
 pub number_sound : (number : ℕ) → number < 2 ^ 64 → IsSound (tree_of (Unsigned number))

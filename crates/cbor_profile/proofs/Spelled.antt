@@ -8,7 +8,7 @@ use Rattle.cbor_profile.specs.declared.head.Start.{Start}
 use Rattle.cbor_profile.specs.Parts.{number_of}
 use Rattle.cbor_profile.specs.Tree.{Tree, unsigned, negative, byte_string, text, array, mapping, tag, items_of, pairs_of, count}
 use Rattle.cbor_profile.specs.Spelling.{begin, break, IsHead, SpellsString, Holds, SpellsPlain, SpellsWithin}
-use Rattle.cbor_profile.specs.Reading.{parts_of, Read, ◌>>=◌, argument_at, string_at, parts_at, items_at, open_items_at, pairs_at, open_pairs_at, major_of, start_of, simple, value_at, indefinite_at, begun_at, item_at}
+use Rattle.cbor_profile.specs.ItemReading.{parts_of, Read, ◌>>=◌, argument_at, string_at, parts_at, items_at, open_items_at, pairs_at, open_pairs_at, major_of, start_of, simple, value_at, indefinite_at, begun_at, item_at}
 use Rattle.cbor_profile.proofs.Results.{done, bind_ok, ok_is, not_both}
 use Rattle.cbor_profile.proofs.Firsts.{HasArgument, item_begins, nothing_short}
 use Rattle.cbor_profile.proofs.Beginnings.{AreBytes, bytes_rest, byte_is, HasOpen, Begins, begins}

@@ -7,7 +7,7 @@ use Rattle.cbor_profile.specs.Head.{head, information, following}
 use Rattle.cbor_profile.specs.Canon.{canon, canon_items, canon_pairs}
 use Rattle.cbor_profile.specs.Valid.{IsSound, AreSound, ArePairsSound, depth, items_depth, pairs_depth}
 use Rattle.cbor_profile.specs.Spelling.{IsArgument, itself, follows, IsHead, Fits, SpellsString, Holds, SpellsItems, SpellsPairs, SpellsPlain, SpellsNest, SpellsWithin}
-use Rattle.cbor_profile.specs.Reading.{item_at}
+use Rattle.cbor_profile.specs.ItemReading.{item_at}
 use Rattle.cbor_profile.proofs.Results.{ok_is}
 use Rattle.cbor_profile.proofs.Heads.{Size, none, one, two, four, eight, size_of}
 use Rattle.cbor_profile.proofs.Nested.{within_again}

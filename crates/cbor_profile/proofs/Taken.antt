@@ -13,7 +13,7 @@ use Rattle.cbor_profile.specs.Parts.{number_of}
 use Rattle.cbor_profile.specs.Tree.{Tree, items_of, count}
 use Rattle.cbor_profile.specs.Spelling.{width, break, IsArgument, itself, follows, Fits, IsString, AreParts, SpellsItems, SpellsPairs}
 use Rattle.cbor_profile.specs.Keys.{has_key, put}
-use Rattle.cbor_profile.specs.Reading.{Read, ◌>>=◌, argument_at, number_at, content_at, checked, string_at, is_part, parts_at, items_at, open_items_at, pair_at, pairs_at, open_pairs_at}
+use Rattle.cbor_profile.specs.ItemReading.{Read, ◌>>=◌, argument_at, number_at, content_at, checked, string_at, is_part, parts_at, items_at, open_items_at, pair_at, pairs_at, open_pairs_at}
 use Rattle.cbor_profile.proofs.Results.{bind_ok, ok_is, not_both, chosen, done, broken}
 use Rattle.cbor_profile.proofs.Beginnings.{AreBytes, bytes_rest}
 use Rattle.cbor_profile.proofs.Ordered.{Runs}
@@ -188,8 +188,8 @@ pub record Pairs (Part : List ℕ → Tree → Type 0) (acc : List (Tree × Tree
   pub runs : Runs acc read final
 
 module _ (Part : List ℕ → Tree → Type 0) (read : List ℕ → Read Tree) (takes : Takes Part read) where
-  one_more : (bytes rest : List ℕ) (t : Tree) (ts : List Tree) (mid : List ℕ) (one : Took Part bytes (t, mid)) → Items Part mid ts rest → Items Part bytes (t ∷ ts) rest
-  one_more bytes rest t ts mid one more = record {
+  one_more : (bytes rest : List ℕ) (t : Tree) (ts : List Tree) (between : List ℕ) (one : Took Part bytes (t, between)) → Items Part between ts rest → Items Part bytes (t ∷ ts) rest
+  one_more bytes rest t ts between one more = record {
     content = one.front ++ more.content;
     is = one.is ∙ ap (λ (l : List ℕ). one.front ++ l) more.is ∙ sym (append_assoc one.front more.content rest);
     items = (one.front, more.content, refl, one.part, more.items);

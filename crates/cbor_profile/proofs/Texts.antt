@@ -3,7 +3,7 @@ use Rattle.std.proofs.Common.{◌≡◌, ℕ, List, Option, Some, None, Ok, Err,
 use Rattle.std.specs.Prelude.{IfSome, IfNone, IsUtf8}
 use Rattle.cbor_profile.specs.declared.fault.CborFault.TheVariants.{NotUtf8}
 use Rattle.cbor_profile.specs.declared.major.Major.TheVariants as major_type
-use Rattle.cbor_profile.specs.Reading.{argument_at, content_at, string_at}
+use Rattle.cbor_profile.specs.ItemReading.{argument_at, content_at, string_at}
 use Rattle.cbor_profile.proofs.Again.{checked_again}
 use Rattle.cbor_profile.proofs.Refused.{checked_refused}
 

@@ -12,7 +12,7 @@ use Rattle.cbor_profile.specs.declared.gathering.Place.TheVariants as place
 use Rattle.cbor_profile.specs.Tree.{Tree, pairs_of}
 use Rattle.cbor_profile.specs.Canon.{canon}
 use Rattle.cbor_profile.specs.Valid.{IsSound, KeysRise}
-use Rattle.cbor_profile.specs.View.{tree_of, tree_pairs, pair_of}
+use Rattle.cbor_profile.specs.ItemTrees.{tree_of, tree_pairs, pair_of}
 use Rattle.cbor_profile.specs.Keys.{key_order}
 
 -- the pairs of a map from encodings to pairs

@@ -6,9 +6,9 @@ pub mod Kind
 pub mod Parts
 pub mod Tree
 pub mod Valid
-pub mod View
+pub mod ItemTrees
 pub mod Breaking
 pub mod FaultText
-pub mod Reading
+pub mod ItemReading
 pub mod Spelling
 pub mod Within

@@ -5,7 +5,7 @@ use Rattle.cbor_profile.specs.declared.item.Item.{Item}
 use Rattle.cbor_profile.specs.Tree.{Tree, Trees, Pairs}
 use Rattle.cbor_profile.specs.Canon.{canon}
 use Rattle.cbor_profile.specs.Valid.{IsSound, AreSound, ArePairsSound, RiseFrom, depth, items_depth, pairs_depth}
-use Rattle.cbor_profile.specs.View.{tree_of}
+use Rattle.cbor_profile.specs.ItemTrees.{tree_of}
 
 pub record IsWithin (levels : ℕ) (tree : Tree) : Type 0 where
   pub sound : IsSound tree

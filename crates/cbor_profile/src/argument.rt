@@ -2,13 +2,13 @@
 
 ghost use Rattle.std.specs.Prelude.{◌≤◌, length, IfOk};
 ghost use Rattle.std.specs.Int.{w8, w16, w32, w64};
-ghost use Rattle.cbor_profile.specs.Reading.{Gives, number_at, argument_at};
+ghost use Rattle.cbor_profile.specs.ItemReading.{Gives, number_at, argument_at};
 
 use crate::fault::CborFault;
 
 /// The argument of an initial byte with this additional information, and the bytes behind it. The input ends at
 /// the place `end`.
-#[tactic(auto, unfolding(crate::specs::Reading::argument_at))]
+#[tactic(auto, unfolding(crate::specs::ItemReading::argument_at))]
 pub(crate) fn read_argument(end: usize, info: u8, bytes: &[u8]) -> Result<(u64, &[u8]), CborFault>
     ensures value { Gives (λ x. (x.0, x.1.now)) result (argument_at end info bytes.now) }
     ensures shorter { IfOk result (λ x. length x.1.now ≤ length bytes.now) }

@@ -8,7 +8,7 @@ ghost use Rattle.cbor_profile.specs.declared.item.Item.TheVariants.{Unsigned};
 ghost use Rattle.cbor_profile.specs.Tree.{pairs_of};
 ghost use Rattle.cbor_profile.specs.Canon.{canon};
 ghost use Rattle.cbor_profile.specs.Valid.{IsSound, KeysRise};
-ghost use Rattle.cbor_profile.specs.View.{tree_of, tree_pairs, pair_of};
+ghost use Rattle.cbor_profile.specs.ItemTrees.{tree_of, tree_pairs, pair_of};
 ghost use Rattle.cbor_profile.specs.Keys.{has_key, put};
 ghost use Rattle.cbor_profile.specs.Gathering.{encoded_pairs, AreEncoded, gathered, IsGathered, IsKept, AllBefore, IsAtEncoding, IsOpenFor};
 

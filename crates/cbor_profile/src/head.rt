@@ -1,7 +1,7 @@
 //! What the first byte of an item says (RFC 8949, section 3).
 
 ghost use Rattle.std.specs.Prelude.{◌≡◌, ◌/◌};
-ghost use Rattle.cbor_profile.specs.Reading.{major_of, simple_start, sized_start, start_with, start_of};
+ghost use Rattle.cbor_profile.specs.ItemReading.{major_of, simple_start, sized_start, start_with, start_of};
 
 use crate::major::Major;
 
@@ -44,7 +44,7 @@ fn major_of(number: u8) -> Major
     }
 }
 
-#[tactic(auto, unfolding(crate::specs::Reading::start_with))]
+#[tactic(auto, unfolding(crate::specs::ItemReading::start_with))]
 fn start_with(major: Major, info: u8) -> Start
     ensures { result ≡ start_with major info }
 {

@@ -1,6 +1,6 @@
 ghost use Rattle.std.specs.Prelude.{◌≡◌, ◌<◌, [], ◌∷◌, ◌++◌, vec_len, vec_capacity, OnOk, OnErr, IfOk, map, option_map};
 ghost use Rattle.cbor_profile.specs.Kind.{number_in, text_in, items_in, pairs_in};
-ghost use Rattle.cbor_profile.specs.View.{tree_of, trees, tree_pairs, items_of, pairs_of};
+ghost use Rattle.cbor_profile.specs.ItemTrees.{tree_of, trees, tree_pairs, items_of, pairs_of};
 
 use dots_lists::{Bytes, NoMemory, Text};
 use std::alloc::Global;

@@ -7,7 +7,7 @@ ghost use Rattle.cbor_profile.specs.Head.{head};
 ghost use Rattle.cbor_profile.specs.Canon.{canon, canon_items, canon_pairs};
 ghost use Rattle.cbor_profile.specs.Parts.{number_of, major, argument, content};
 ghost use Rattle.cbor_profile.specs.Valid.{IsSound, AreSound, ArePairsSound};
-ghost use Rattle.cbor_profile.specs.View.{tree_of, items_of, pairs_of};
+ghost use Rattle.cbor_profile.specs.ItemTrees.{tree_of, items_of, pairs_of};
 
 use crate::head_bytes::{FALSE, HeadBytes, NULL, TRUE};
 use crate::item::Item;

@@ -6,8 +6,8 @@ ghost use Rattle.cbor_profile.specs.declared.fault.CborFault.{CborFault};
 ghost use Rattle.cbor_profile.specs.declared.fault.CborFault.TheVariants.{NoMemory};
 ghost use Rattle.cbor_profile.specs.Tree.{Tree, pairs_of};
 ghost use Rattle.cbor_profile.specs.Valid.{IsValid, IsSound, KeysRise};
-ghost use Rattle.cbor_profile.specs.Reading.{item_read, Gives, simple, items_at, pair_at, pairs_at, as_array, as_map, array_at, map_at, tag_at, open_array_at, open_map_at, value_at, indefinite_at, item_at, parts_of, whole};
-ghost use Rattle.cbor_profile.specs.View.{tree_of, tree_pairs};
+ghost use Rattle.cbor_profile.specs.ItemReading.{item_read, Gives, simple, items_at, pair_at, pairs_at, as_array, as_map, array_at, map_at, tag_at, open_array_at, open_map_at, value_at, indefinite_at, item_at, parts_of, whole};
+ghost use Rattle.cbor_profile.specs.ItemTrees.{tree_of, tree_pairs};
 ghost use Rattle.cbor_profile.specs.Gathering.{gathered, IsGathered};
 ghost use Rattle.cbor_profile.specs.Spelling.{Spells};
 ghost use Rattle.cbor_profile.specs.Breaking.{Refuses};
@@ -27,7 +27,7 @@ use std::cmp::Ordering;
 pub const MAX_DEPTH: u8 = 16;
 
 /// An item that is all of the bytes, as `whole` reads it.
-#[tactic(auto, unfolding(crate::specs::Reading::whole))]
+#[tactic(auto, unfolding(crate::specs::ItemReading::whole))]
 fn read_whole(alloc: Global, bytes: &[u8]) -> Result<Item, CborFault>
     ensures { Gives tree_of result (whole bytes.now) }
 {
@@ -63,7 +63,7 @@ fn read_item(
 
 /// The same, by way of what the first byte begins.
 #[cycle(reader)]
-#[tactic(auto, unfolding(crate::specs::Reading::item_with, crate::specs::Reading::begun_at))]
+#[tactic(auto, unfolding(crate::specs::ItemReading::item_with, crate::specs::ItemReading::begun_at))]
 fn read_long_item(
     alloc: Global,
     end: usize,
@@ -88,7 +88,7 @@ fn read_long_item(
 
 /// The item whose initial byte has this major type and additional information, and stands at the place `at`.
 #[cycle(reader)]
-#[tactic(auto, unfolding(crate::specs::Reading::value_at))]
+#[tactic(auto, unfolding(crate::specs::ItemReading::value_at))]
 fn read_value(
     alloc: Global,
     end: usize,
@@ -134,7 +134,7 @@ fn simple_item(number: u8) -> Item
 
 /// The item of indefinite length of this major type, behind its initial byte.
 #[cycle(reader)]
-#[tactic(auto, unfolding(crate::specs::Reading::indefinite_at))]
+#[tactic(auto, unfolding(crate::specs::ItemReading::indefinite_at))]
 fn read_indefinite(
     alloc: Global,
     end: usize,
@@ -390,7 +390,7 @@ fn read_open_map(
 
 /// Puts the next pair in its place among those before it, and answers the bytes behind it.
 #[cycle(reader)]
-#[tactic(auto, unfolding(crate::specs::Reading::pair_at))]
+#[tactic(auto, unfolding(crate::specs::ItemReading::pair_at))]
 fn read_pair<'a>(
     alloc: Global,
     end: usize,

@@ -2,7 +2,7 @@
 
 ghost use Rattle.std.specs.Prelude.{◌≡◌, ◌≤◌, ◌<◌, ◌+◌, ℕ, length, IfOk};
 ghost use Rattle.cbor_profile.specs.declared.major.Major.TheVariants as major_type;
-ghost use Rattle.cbor_profile.specs.Reading.{item_read, Gives, argument_at, content_at, raw_at, string_at, is_part, parts_at, as_bytes, as_text};
+ghost use Rattle.cbor_profile.specs.ItemReading.{item_read, Gives, argument_at, content_at, raw_at, string_at, is_part, parts_at, as_bytes, as_text};
 
 use crate::argument::read_argument;
 use crate::fault::CborFault;
@@ -30,7 +30,7 @@ pub(crate) fn read_byte_string(
 }
 
 /// A text of definite length, whose initial byte stands at the place `at`.
-#[tactic(auto, unfolding(crate::specs::Reading::string_at))]
+#[tactic(auto, unfolding(crate::specs::ItemReading::string_at))]
 pub(crate) fn read_text(
     alloc: Global,
     end: usize,
@@ -130,7 +130,7 @@ fn is_part(major: Major, first: u8) -> bool
 }
 
 /// The content of a byte string of definite length, whose initial byte stands at the place `at`.
-#[tactic(auto, unfolding(crate::specs::Reading::string_at))]
+#[tactic(auto, unfolding(crate::specs::ItemReading::string_at))]
 fn read_raw(end: usize, at: usize, info: u8, bytes: &[u8]) -> Result<(&[u8], &[u8]), CborFault>
     ensures value { Gives (λ x. (x.0.now, x.1.now)) result (string_at end at major_type.Bytes info bytes.now) }
     ensures shorter { IfOk result (λ x. length x.1.now ≤ length bytes.now) }
@@ -141,7 +141,7 @@ fn read_raw(end: usize, at: usize, info: u8, bytes: &[u8]) -> Result<(&[u8], &[u
 }
 
 /// The content of a text of definite length, whose initial byte stands at the place `at`.
-#[tactic(auto, unfolding(crate::specs::Reading::string_at))]
+#[tactic(auto, unfolding(crate::specs::ItemReading::string_at))]
 fn read_str(end: usize, at: usize, info: u8, bytes: &[u8]) -> Result<(&str, &[u8]), CborFault>
     ensures value { Gives (λ x. (x.0.now, x.1.now)) result (string_at end at major_type.Text info bytes.now) }
     ensures shorter { IfOk result (λ x. length x.1.now ≤ length bytes.now) }

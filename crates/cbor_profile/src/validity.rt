@@ -3,7 +3,7 @@
 ghost use Rattle.std.specs.Prelude.{◌<◌, ◌^◌, ◌↔◌, [], length, IsTrue, IsUtf8, IfSome, map};
 ghost use Rattle.cbor_profile.specs.Canon.{canon};
 ghost use Rattle.cbor_profile.specs.Valid.{IsValid, IsSound, IsBefore};
-ghost use Rattle.cbor_profile.specs.View.{tree_of, items_of, pairs_of};
+ghost use Rattle.cbor_profile.specs.ItemTrees.{tree_of, items_of, pairs_of};
 ghost use Rattle.cbor_profile.specs.Within.{IsWithin, AreWithin, ArePairsWithin, canon_of};
 
 use crate::item::Item;

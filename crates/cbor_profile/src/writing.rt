@@ -6,7 +6,7 @@ ghost use Rattle.cbor_profile.specs.Parts.{number_of};
 ghost use Rattle.cbor_profile.specs.Canon.{canon, canon_items, canon_pairs};
 ghost use Rattle.cbor_profile.specs.Tree.{array, mapping};
 ghost use Rattle.cbor_profile.specs.Valid.{IsValid};
-ghost use Rattle.cbor_profile.specs.View.{tree_of, trees, tree_pairs, items_of, pairs_of};
+ghost use Rattle.cbor_profile.specs.ItemTrees.{tree_of, trees, tree_pairs, items_of, pairs_of};
 
 use crate::head_bytes::{FALSE, HeadBytes, NULL, TRUE};
 use crate::item::{Item, ItemList, PairList};

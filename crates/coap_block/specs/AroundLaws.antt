@@ -6,8 +6,8 @@ use Rattle.dots_disk.specs.Beside.{KeepsActs}
 use Rattle.coap_block.specs.Blocks.{Blocks}
 use Rattle.coap_block.specs.Around.{seen_above, GoesOnSeen}
 
-pub same_then : {A : Type 0} (old mid new : A) → mid ≡ old → new ≡ mid → new ≡ old
-same_then old mid new a b = b ∙ a
+pub same_then : {A : Type 0} (old between new : A) → between ≡ old → new ≡ between → new ≡ old
+same_then old between new a b = b ∙ a
 
 -- where the acts inside are kept, and none came above, those above are kept
 pub kept_above : (old new : Option (List Timed)) (log log_now : List Act) → log_now ≡ log → KeepsActs old new → KeepsActs (seen_above old log) (seen_above new log_now)

@@ -3,7 +3,7 @@ pub mod Firsts
 pub mod Lasts
 pub mod Noting
 pub mod Places
-pub mod Standing
+pub mod HistoryRings
 pub mod Times
 pub mod Turning
 pub mod Unions

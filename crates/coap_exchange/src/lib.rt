@@ -8,7 +8,7 @@
 //!
 //! Neither knows a clock or a socket: times and random words are handed in. Only their calls of the name `new` take memory.
 //!
-//! Start reading at `specs/Rings.antt` and `specs/Resending.antt`; [`laws`] has what they come to, and how the rings stand for a
+//! Start reading at `specs/Rings.antt` and `specs/Resending.antt`; [`laws`] has what they come to, and how the rings represent a
 //! history.
 #![tactic(auto)]
 

@@ -7,7 +7,7 @@ use Rattle.std.proofs.lemmas.Bool.{ne_eqb}
 use Rattle.coap_message.specs.declared.fault.CoapFault.{CoapFault}
 use Rattle.coap_message.specs.declared.fault.CoapFault.TheVariants.{EmptyPayload}
 use Rattle.coap_message.specs.Breaks.{OptionsBreak, rest_break, option_break}
-use Rattle.coap_message.specs.Reading.{option_at, options_in, Splits}
+use Rattle.coap_message.specs.MessageReading.{option_at, options_in, Splits}
 use Rattle.coap_message.proofs.Steps.{IsBytes, IsBytes-drop}
 use Rattle.coap_message.proofs.OneOption.{option_takes}
 use Rattle.coap_message.proofs.OptionList.{options_again}

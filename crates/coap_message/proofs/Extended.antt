@@ -5,7 +5,7 @@ use Rattle.std.specs.Int.{w16, from_be_bytes, to_be_bytes}
 use Rattle.std.proofs.lemmas.Bool.{cases_lt, ltb-true, lt-ltb, le-ltb, eqb-true}
 use Rattle.std.proofs.lemmas.Nat.{be_bytes_2, from_be_bytes-to_be_bytes_2}
 use Rattle.coap_message.specs.Message.{nibble, extension}
-use Rattle.coap_message.specs.Reading.{one_byte, two_bytes, extended_at}
+use Rattle.coap_message.specs.MessageReading.{one_byte, two_bytes, extended_at}
 use Rattle.coap_message.proofs.Steps.{IsBytes, IsBytes-rest, chosen, some, some_is}
 
 abbrev pub HowExtended : ℕ → List ℕ → ℕ × List ℕ → Type 0

@@ -7,7 +7,7 @@ use Rattle.std.proofs.lemmas.List.{drop-drop, length-drop}
 use Rattle.coap_message.specs.declared.fault.CoapFault.{CoapFault}
 use Rattle.coap_message.specs.declared.fault.CoapFault.TheVariants.{EmptyPayload}
 use Rattle.coap_message.specs.Message.{CoapOption, CoapMessage, IsMessage, last_number, payload_bytes, spelling}
-use Rattle.coap_message.specs.Reading.{◌>>=◌, Head, kind_of, head_at, extended_at, option_at, Splits}
+use Rattle.coap_message.specs.MessageReading.{◌>>=◌, Head, kind_of, head_at, extended_at, option_at, Splits}
 use Rattle.coap_message.specs.Breaks.{head_break, behind_head, length_break, option_break, rest_break, OptionsBreak, Breaks}
 use Rattle.coap_message.proofs.Steps.{chosen, some, some_is, bind_some, guard_some}
 use Rattle.coap_message.proofs.OptionList.{one_ending, payload_none, marker_none}

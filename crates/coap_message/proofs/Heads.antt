@@ -7,7 +7,7 @@ use Rattle.std.proofs.lemmas.Nat.{be_bytes_2, from_be_bytes-to_be_bytes_2}
 use Rattle.coap_message.specs.declared.kind.Kind.{Kind}
 use Rattle.coap_message.specs.declared.kind.Kind.TheVariants.{Con, Non, Ack, Rst}
 use Rattle.coap_message.specs.Message.{kind_number, header}
-use Rattle.coap_message.specs.Reading.{Head, kind_of, head_at}
+use Rattle.coap_message.specs.MessageReading.{Head, kind_of, head_at}
 use Rattle.coap_message.proofs.Steps.{IsBytes, IsBytes-drop, some_is, some, guard_some}
 use Rattle.coap_message.proofs.Extended.{two_fit}
 

@@ -3,7 +3,7 @@ use Rattle.std.proofs.Common.{◌≡◌, ℕ, ◌+◌, ◌-◌, ◌*◌, ◌/◌
 use Rattle.std.proofs.lemmas.Bool.{cases_lt, ltb-false, lt-ltb, le-ltb}
 use Rattle.std.proofs.lemmas.List.{take_at, drop_at, take-append-drop, length-append, length-take}
 use Rattle.coap_message.specs.Message.{CoapOption, nibble, extension, option_bytes}
-use Rattle.coap_message.specs.Reading.{◌>>=◌, extended_at, option_at}
+use Rattle.coap_message.specs.MessageReading.{◌>>=◌, extended_at, option_at}
 use Rattle.coap_message.proofs.Steps.{IsBytes, IsBytes-drop, IsBytes-rest, bind_some, some, some_is, guard_some}
 use Rattle.coap_message.proofs.Extended.{Extended, extended_takes, extended_again}
 

@@ -3,7 +3,7 @@ use Rattle.std.proofs.Common.{◌≡◌, ℕ, zero, suc, ◌+◌, ◌/◌, ◌%�
 use Rattle.std.specs.Prelude.{◌⊎◌}
 use Rattle.std.proofs.lemmas.List.{length-drop}
 use Rattle.coap_message.specs.Message.{last_number, CoapOption, AreOptions, option_bytes, options_bytes, payload_bytes}
-use Rattle.coap_message.specs.Reading.{◌>>=◌, extended_at, option_at, options_within, options_in}
+use Rattle.coap_message.specs.MessageReading.{◌>>=◌, extended_at, option_at, options_within, options_in}
 use Rattle.coap_message.proofs.Steps.{bind_some, some_is, guard_some}
 use Rattle.coap_message.proofs.Extended.{extended_shorter}
 use Rattle.coap_message.proofs.OneOption.{option_again}

@@ -1,7 +1,7 @@
 -- A message that is read is the one that was written, and no other is.
 use Rattle.std.proofs.Common.{◌≡◌, ℕ, List, [], ◌∷◌, ◌++◌, Some, None, refl, sym, ap, ◌∙◌, append_assoc}
 use Rattle.coap_message.specs.Message.{last_number, CoapOption, CoapMessage, IsMessage, header, options_bytes, payload_bytes, spelling}
-use Rattle.coap_message.specs.Reading.{Head, head_at, Splits}
+use Rattle.coap_message.specs.MessageReading.{Head, head_at, Splits}
 use Rattle.coap_message.proofs.Steps.{IsBytes, some_is}
 use Rattle.coap_message.proofs.Heads.{head_takes, head_again}
 use Rattle.coap_message.proofs.OptionList.{one_ending, payload_none}

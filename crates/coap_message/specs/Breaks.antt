@@ -3,7 +3,7 @@ use Rattle.std.specs.Prelude.{◌≡◌, ℕ, ◌+◌, ◌-◌, ◌/◌, ◌%◌
 use Rattle.coap_message.specs.declared.fault.CoapFault.{CoapFault}
 use Rattle.coap_message.specs.declared.fault.CoapFault.TheVariants.{Short, Version, TokenLength, EmptyWithMore, ReservedNibble, NumberTooLarge, EmptyPayload}
 use Rattle.coap_message.specs.Message.{CoapOption, AreOptions, options_bytes, last_number}
-use Rattle.coap_message.specs.Reading.{extended_at}
+use Rattle.coap_message.specs.MessageReading.{extended_at}
 
 -- Below, `end` is how many bytes there are, and `at` is the place of an option's first byte.
 

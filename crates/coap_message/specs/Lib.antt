@@ -1,6 +1,6 @@
 pub mod Message
-pub mod Reading
-pub mod Views
+pub mod MessageReading
+pub mod CodeValues
 pub mod Parts
 pub mod Writing
 pub mod Padding

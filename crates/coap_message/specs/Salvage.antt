@@ -2,7 +2,7 @@
 use Rattle.std.specs.Prelude.{ℕ, ◌/◌, ◌%◌, List, [], ◌∷◌, Option, Some, None, ◌==◌, if◌then◌else◌}
 use Rattle.std.specs.Int.{w16, from_be_bytes}
 use Rattle.coap_message.specs.declared.kind.Kind.{Kind}
-use Rattle.coap_message.specs.Reading.{kind_of}
+use Rattle.coap_message.specs.MessageReading.{kind_of}
 
 -- there, exactly where there are four bytes and the version is 1
 abbrev pub salvaged : List ℕ → Option (Kind × ℕ)

@@ -1,7 +1,7 @@
 ghost use Rattle.std.specs.Prelude.{◌≡◌, ◌≤◌, ℕ, List, length, IfOk, IfErr, Ok};
 ghost use Rattle.coap_message.specs.Breaks.{Breaks, OptionsBreak};
 ghost use Rattle.coap_message.specs.Message.{CoapMessage, CoapOption, IsMessage, spelling};
-ghost use Rattle.coap_message.specs.Reading.{Splits, options_in};
+ghost use Rattle.coap_message.specs.MessageReading.{Splits, options_in};
 
 use crate::PAYLOAD_MARKER;
 use crate::fault::CoapFault;

@@ -1,7 +1,7 @@
 ghost use Rattle.std.specs.Prelude.{◌≡◌, Some, IfErr};
 ghost use Rattle.coap_message.specs.Breaks.{head_break};
-ghost use Rattle.coap_message.specs.Reading.{Reads, head_at, kind_of};
-ghost use Rattle.coap_message.specs.Views.{head_view};
+ghost use Rattle.coap_message.specs.MessageReading.{Reads, head_at, kind_of};
+ghost use Rattle.coap_message.specs.CodeValues.{head_value};
 
 use crate::fault::CoapFault;
 use crate::head::Head;
@@ -20,9 +20,9 @@ pub(crate) fn kind_of(bits: u8) -> Kind
 }
 
 /// The header and the token in front of the bytes, and the bytes behind them.
-#[tactic(auto, unfolding(crate::specs::Reading::head_at))]
+#[tactic(auto, unfolding(crate::specs::MessageReading::head_at))]
 pub(crate) fn read_head(bytes: &[u8]) -> Result<(Head<'_>, &[u8]), CoapFault>
-    ensures read { Reads (λ x. (head_view x.0, x.1.now)) result (head_at bytes.now) }
+    ensures read { Reads (λ x. (head_value x.0, x.1.now)) result (head_at bytes.now) }
     ensures fault { IfErr result (λ fault. head_break bytes.now ≡ Some fault) }
 {
     let [first, code, high, low, rest @ ..] = bytes else {

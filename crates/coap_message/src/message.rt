@@ -17,7 +17,7 @@ pub struct Message<'a> {
 impl<'a> Model for Message<'a> {
     ghost use Rattle.std.specs.Prelude.{ℕ, List};
     ghost use Rattle.coap_message.specs.Message.{CoapMessage, IsMessage};
-    ghost use Rattle.coap_message.specs.Reading.{message_in};
+    ghost use Rattle.coap_message.specs.MessageReading.{message_in};
 
     ghost Value = { CoapMessage };
 
@@ -29,12 +29,12 @@ impl<'a> Model for Message<'a> {
 impl<'a> Message<'a> {
     ghost use Rattle.std.specs.Prelude.{◌≡◌, ◌≤◌, length};
     ghost use Rattle.coap_message.specs.Message.{IsMessage, AreOptions};
-    ghost use Rattle.coap_message.specs.Views.{head_view};
-    ghost use Rattle.coap_message.specs.Reading.{message_from};
+    ghost use Rattle.coap_message.specs.CodeValues.{head_value};
+    ghost use Rattle.coap_message.specs.MessageReading.{message_from};
 
     pub(crate) fn new(head: Head<'a>, options: &'a [u8], payload: &'a [u8]) -> Self
-        requires { IsMessage (message_from (head_view head) options.now payload.now) }
-        ensures { result ≡ message_from (head_view head.entry) options.now payload.now }
+        requires { IsMessage (message_from (head_value head) options.now payload.now) }
+        ensures { result ≡ message_from (head_value head.entry) options.now payload.now }
     {
         Message {
             kind: head.kind,

@@ -12,7 +12,7 @@ pub struct MessageRest<'a> {
 impl<'a> Model for MessageRest<'a> {
     ghost use Rattle.std.specs.Prelude.{ℕ, List};
     ghost use Rattle.coap_message.specs.Message.{AreOptions};
-    ghost use Rattle.coap_message.specs.Reading.{Rest, options_in};
+    ghost use Rattle.coap_message.specs.MessageReading.{Rest, options_in};
 
     ghost Value = { Rest };
 
@@ -27,7 +27,7 @@ impl<'a> Model for MessageRest<'a> {
 impl<'a> MessageRest<'a> {
     ghost use Rattle.std.specs.Prelude.{◌≡◌};
     ghost use Rattle.coap_message.specs.Message.{AreOptions};
-    ghost use Rattle.coap_message.specs.Reading.{options_in};
+    ghost use Rattle.coap_message.specs.MessageReading.{options_in};
 
     pub(crate) fn new(options: &'a [u8], payload: &'a [u8]) -> Self
         requires { AreOptions 0 (options_in 0 options.now) }

@@ -1,13 +1,13 @@
 ghost use Rattle.std.specs.Prelude.{◌≡◌, ◌==◌, ◌||◌, ◌/◌, ◌%◌, ◌≤◌, length, Some, IfSome, IfErr};
 ghost use Rattle.coap_message.specs.Breaks.{option_break};
-ghost use Rattle.coap_message.specs.Reading.{Gives, Reads, extended_at, option_at};
-ghost use Rattle.coap_message.specs.Views.{row_view};
+ghost use Rattle.coap_message.specs.MessageReading.{Gives, Reads, extended_at, option_at};
+ghost use Rattle.coap_message.specs.CodeValues.{option_value};
 
 use crate::fault::CoapFault;
 use crate::option::OptionRow;
 
 /// A delta or a length with this nibble, its extension in front of the bytes, and the bytes behind that.
-#[tactic(auto, unfolding(crate::specs::Reading::extended_at))]
+#[tactic(auto, unfolding(crate::specs::MessageReading::extended_at))]
 fn read_extended(nibble: u8, bytes: &[u8]) -> Option<(usize, &[u8])>
     ensures value { Gives (λ x. (x.0, x.1.now)) result (extended_at nibble bytes.now) }
     ensures bound { IfSome result (λ x. x.0 ≤ 65804) }
@@ -36,14 +36,14 @@ fn has_reserved_nibble(first: u8) -> bool
 
 /// The option in front of the bytes, behind one with the number `previous`, and the bytes behind it. The bytes
 /// end at the place `end`.
-#[tactic(auto, unfolding(crate::specs::Reading::option_at, crate::specs::Breaks::option_break))]
+#[tactic(auto, unfolding(crate::specs::MessageReading::option_at, crate::specs::Breaks::option_break))]
 pub(crate) fn read_option<'a>(
     end: usize,
     previous: u16,
     bytes: &'a [u8],
 ) -> Result<(OptionRow<'a>, &'a [u8]), CoapFault>
     requires { length bytes.now ≤ end }
-    ensures read { Reads (λ x. (row_view x.0, x.1.now)) result (option_at previous bytes.now) }
+    ensures read { Reads (λ x. (option_value x.0, x.1.now)) result (option_at previous bytes.now) }
     ensures fault { IfErr result (λ fault. option_break end previous bytes.now ≡ Some fault) }
 {
     let Some((first, rest)) = bytes.split_first() else {

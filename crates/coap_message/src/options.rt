@@ -12,7 +12,7 @@ pub struct Options<'a> {
 impl<'a> Model for Options<'a> {
     ghost use Rattle.std.specs.Prelude.{ℕ, List};
     ghost use Rattle.coap_message.specs.Message.{CoapOption};
-    ghost use Rattle.coap_message.specs.Reading.{options_in};
+    ghost use Rattle.coap_message.specs.MessageReading.{options_in};
 
     ghost Value = { List CoapOption };
 
@@ -23,9 +23,9 @@ impl<'a> Iterator for Options<'a> {
     type Item = OptionRow<'a>;
 
     ghost use Rattle.std.specs.Iterator.{YieldsFirstBy, item_count};
-    ghost use Rattle.coap_message.specs.Views.{row_view};
+    ghost use Rattle.coap_message.specs.CodeValues.{option_value};
 
-    ghost next_gives = { YieldsFirstBy row_view (λ options. options) };
+    ghost next_gives = { YieldsFirstBy option_value (λ options. options) };
 
     ghost remaining = { item_count (λ options. options) };
 

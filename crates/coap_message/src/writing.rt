@@ -1,6 +1,6 @@
 ghost use Rattle.std.specs.Prelude.{◌≡◌, ◌≤◌, ◌+◌, ℕ, length};
 ghost use Rattle.coap_message.specs.Message.{nibble, extension, option_bytes};
-ghost use Rattle.coap_message.specs.Views.{row_view};
+ghost use Rattle.coap_message.specs.CodeValues.{option_value};
 ghost use Rattle.coap_message.specs.Writing.{put_at};
 
 use crate::option::OptionRow;
@@ -62,9 +62,9 @@ fn put_extension(into: &mut [u8], at: usize, number: usize) -> usize
 pub(crate) fn put_option(into: &mut [u8], at: usize, previous: u16, row: &OptionRow) -> usize
     requires rises { previous ≤ row.now.number }
     requires size { length row.now.value.now ≤ 65804 }
-    requires room { at + length (option_bytes previous (row_view row.now)) ≤ length into.old }
-    ensures behind { result ≡ at + length (option_bytes previous (row_view row.now)) }
-    ensures written { into.new ≡ put_at at (option_bytes previous (row_view row.now)) into.old }
+    requires room { at + length (option_bytes previous (option_value row.now)) ≤ length into.old }
+    ensures behind { result ≡ at + length (option_bytes previous (option_value row.now)) }
+    ensures written { into.new ≡ put_at at (option_bytes previous (option_value row.now)) into.old }
 {
     let delta = (row.number - previous) as usize;
     let first = 16 * nibble_of(delta) + nibble_of(row.value.len());

@@ -351,7 +351,7 @@ rooms_stay pairs room old new same have peer = same.room peer ∙ have peer
 pub same_room : (chains : ChainsValue) → SameRoom chains chains
 same_room chains = record { limit = refl; room = λ peer. refl }
 
-pub same_room_then : {old mid new : ChainsValue} → SameRoom mid new → SameRoom old mid → SameRoom old new
+pub same_room_then : {old between new : ChainsValue} → SameRoom between new → SameRoom old between → SameRoom old new
 same_room_then later first = record { limit = later.limit ∙ first.limit; room = λ peer. later.room peer ∙ first.room peer }
 
 -- ---- how many there are of a peer

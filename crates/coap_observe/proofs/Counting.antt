@@ -11,8 +11,8 @@ use Rattle.coap_exchange.specs.Firsts.{replace_at}
 use Rattle.coap_exchange.specs.Pairs.{is_pair}
 use Rattle.coap_observe.specs.Chains.{is_pair_of, room_for}
 use Rattle.coap_observe.specs.Rolls.{peer_of}
-use Rattle.coap_observe.specs.Observed.{ObservedValue, is_of, is_token, told, registered_again}
-use Rattle.coap_observe.specs.Observing.{own_of, has_room, registered_first, entered, told_or_gone, AreOf, AreBounded}
+use Rattle.coap_observe.specs.Observed.{ObservedValue, is_of, is_token, notified, registered_again}
+use Rattle.coap_observe.specs.Observing.{own_of, has_room, registered_first, entered, notified_or_gone, AreOf, AreBounded}
 
 -- ---- those that a test keeps
 
@@ -134,34 +134,34 @@ few_of_peer (pair ∷ pairs) room peer xs bounded =
 -- ---- one that was told of something, or is gone
 
 by_nil : (seen : List (ℕ × ℕ)) (id : ℕ) (o : ObservedValue) (q : ObservedValue → Bool) (rest : List ObservedValue) (count : ℕ)
-    → q (told id seen o) ≡ q o → tally q rest ≤ count → tally q (told_or_gone id seen o ++ rest) ≤ cond (q o) 1 0 + count
+    → q (notified id seen o) ≡ q o → tally q rest ≤ count → tally q (notified_or_gone id seen o ++ rest) ≤ cond (q o) 1 0 + count
 by_nil [] id o q rest count same less = omega (arith, less)
 by_nil (s ∷ seen) id o q rest count same less =
-    let own : cond (q (told id (s ∷ seen) o)) 1 0 ≡ cond (q o) 1 0 = ap (λ b. cond {A = ℕ} b 1 0) same in
+    let own : cond (q (notified id (s ∷ seen) o)) 1 0 ≡ cond (q o) 1 0 = ap (λ b. cond {A = ℕ} b 1 0) same in
     omega (arith, less, own)
 
-count_told : (peer domain place id : ℕ) (list : ObservedValue → List (ℕ × ℕ)) (xs : List ObservedValue)
-    → tally (is_of peer domain) (replace_at place (λ o. told_or_gone id (list o) o) xs) ≤ tally (is_of peer domain) xs
-count_told peer domain place id list [] = omega arith
-count_told peer domain zero id list (o ∷ os) = by_nil (list o) id o (is_of peer domain) os (tally (is_of peer domain) os) refl (omega arith)
-count_told peer domain (suc place) id list (o ∷ os) = let rest = count_told peer domain place id list os in omega (arith, rest)
+count_notified : (peer domain place id : ℕ) (list : ObservedValue → List (ℕ × ℕ)) (xs : List ObservedValue)
+    → tally (is_of peer domain) (replace_at place (λ o. notified_or_gone id (list o) o) xs) ≤ tally (is_of peer domain) xs
+count_notified peer domain place id list [] = omega arith
+count_notified peer domain zero id list (o ∷ os) = by_nil (list o) id o (is_of peer domain) os (tally (is_of peer domain) os) refl (omega arith)
+count_notified peer domain (suc place) id list (o ∷ os) = let rest = count_notified peer domain place id list os in omega (arith, rest)
 
-known_told : (pairs : List Pair) (place id : ℕ) (list : ObservedValue → List (ℕ × ℕ)) (xs : List ObservedValue) → AreOf pairs xs
-    → AreOf pairs (replace_at place (λ o. told_or_gone id (list o) o) xs)
-known_told pairs place id list [] known = record {}
-known_told pairs zero id list (o ∷ os) known = by_list (list o)
+known_notified : (pairs : List Pair) (place id : ℕ) (list : ObservedValue → List (ℕ × ℕ)) (xs : List ObservedValue) → AreOf pairs xs
+    → AreOf pairs (replace_at place (λ o. notified_or_gone id (list o) o) xs)
+known_notified pairs place id list [] known = record {}
+known_notified pairs zero id list (o ∷ os) known = by_list (list o)
   where
-    by_list : (seen : List (ℕ × ℕ)) → AreOf pairs (told_or_gone id seen o ++ os)
+    by_list : (seen : List (ℕ × ℕ)) → AreOf pairs (notified_or_gone id seen o ++ os)
     by_list [] = known.1
     by_list (s ∷ seen) = (known.0, known.1)
-known_told pairs (suc place) id list (o ∷ os) known = (known.0, known_told pairs place id list os known.1)
+known_notified pairs (suc place) id list (o ∷ os) known = (known.0, known_notified pairs place id list os known.1)
 
-pub bounded_told : (pairs : List Pair) (room place id : ℕ) (list : ObservedValue → List (ℕ × ℕ)) (xs : List ObservedValue) → AreBounded pairs room xs
-    → AreBounded pairs room (replace_at place (λ o. told_or_gone id (list o) o) xs)
-bounded_told pairs room place id list xs bounded = record {
-  known = known_told pairs place id list xs bounded.known;
+pub bounded_notified : (pairs : List Pair) (room place id : ℕ) (list : ObservedValue → List (ℕ × ℕ)) (xs : List ObservedValue) → AreBounded pairs room xs
+    → AreBounded pairs room (replace_at place (λ o. notified_or_gone id (list o) o) xs)
+bounded_notified pairs room place id list xs bounded = record {
+  known = known_notified pairs place id list xs bounded.known;
   few = λ peer domain.
-      let less = count_told peer domain place id list xs in
+      let less = count_notified peer domain place id list xs in
       let all = bounded.few peer domain in
       omega (arith, less, all);
 }

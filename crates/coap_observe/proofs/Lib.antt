@@ -3,10 +3,10 @@ pub mod Counting
 pub mod Entering
 pub mod Firsts
 pub mod Keying
-pub mod Leaving
+pub mod Departing
 pub mod Numbers
 pub mod Pairing
 pub mod Rolling
 pub mod Seeing
-pub mod Telling
+pub mod Notifying
 pub mod Walking

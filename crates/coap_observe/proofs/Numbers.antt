@@ -5,7 +5,7 @@ use Rattle.std.proofs.lemmas.Slice.Eq.{bytes_eq-Decides}
 use Rattle.std.proofs.lemmas.Bool.{and_parts, and_from, eqb-true, eq-eqb, cases_Bool, cond-true, cond-false, false≢true, both_ways, not_from_true}
 use Rattle.coap_observe.specs.declared.observer.Observer.{Observer}
 use Rattle.coap_observe.specs.Seen.{Lists, list_for, same_one, same_seen}
-use Rattle.coap_observe.specs.Observed.{ObservedValue, Sending, Replies, Notifies, next_number, number_after, is_token, is_due, told, registered_again, after_sending, numbers_of}
+use Rattle.coap_observe.specs.Observed.{ObservedValue, Sending, Replies, Notifies, next_number, number_after, is_token, is_due, notified, registered_again, after_sending, numbers_of}
 use Rattle.coap_exchange.proofs.Firsts.{one_there}
 use Rattle.coap_observe.specs.Observing.{own_of, number_for, registered_first, entered}
 
@@ -74,15 +74,15 @@ pub due_differs : (lists : Lists) (o : ObservedValue) → is_due lists o ≡ tru
 due_differs lists o due same =
     both_ways (is_due lists o) (not_from_true (same_seen o.seen (list_for lists o.observer)) (ap (same_seen o.seen) (sym same) ∙ own_list o.seen)) due
 
-pub told_same : (lists : Lists) (o : ObservedValue) → is_due lists o ≡ false → o.seen ≡ list_for lists o.observer
-told_same lists o not_due = same_lists o.seen (list_for lists o.observer) (of_not (same_seen o.seen (list_for lists o.observer)) not_due)
+pub notified_same : (lists : Lists) (o : ObservedValue) → is_due lists o ≡ false → o.seen ≡ list_for lists o.observer
+notified_same lists o not_due = same_lists o.seen (list_for lists o.observer) (of_not (same_seen o.seen (list_for lists o.observer)) not_due)
   where
     of_not : (b : Bool) → not b ≡ false → b ≡ true
     of_not true is = refl
     of_not false is = sym is
 
-pub then_told : (lists : Lists) (id : ℕ) (o : ObservedValue) → is_due lists (told id (list_for lists o.observer) o) ≡ false
-then_told lists id o = ap not (own_list (list_for lists o.observer))
+pub then_notified : (lists : Lists) (id : ℕ) (o : ObservedValue) → is_due lists (notified id (list_for lists o.observer) o) ≡ false
+then_notified lists id o = ap not (own_list (list_for lists o.observer))
 
 -- ---- the number of a reply
 

@@ -40,8 +40,8 @@ abbrev pub is_due : Lists → ObservedValue → Bool
 is_due lists o = not (same_seen o.seen (list_for lists o.observer))
 
 -- it is told what there is to see, by a notification of this Message ID
-abbrev pub told : ℕ → List (ℕ × ℕ) → ObservedValue → ObservedValue
-told id seen o = record { observer = o.observer; number = next_number o.number; last = Some id; seen = seen }
+abbrev pub notified : ℕ → List (ℕ × ℕ) → ObservedValue → ObservedValue
+notified id seen o = record { observer = o.observer; number = next_number o.number; last = Some id; seen = seen }
 
 -- it is registered again, perhaps for something else, and its numbers go on
 abbrev pub registered_again : Observer → List (ℕ × ℕ) → ObservedValue → ObservedValue
@@ -56,7 +56,7 @@ pub data Sending : Type 0 where
 
 abbrev pub after_sending : ObservedValue → Sending → ObservedValue
 after_sending o (Replies observer seen) = registered_again observer seen o
-after_sending o (Notifies id seen) = told id seen o
+after_sending o (Notifies id seen) = notified id seen o
 
 -- the numbers that these have, in their order
 abbrev pub numbers_of : ObservedValue → List Sending → List ℕ

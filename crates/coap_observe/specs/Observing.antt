@@ -6,7 +6,7 @@ use Rattle.dots_history.specs.Histories.{tally, is_nil}
 use Rattle.coap_exchange.specs.declared.pair.Pair.{Pair}
 use Rattle.coap_observe.specs.declared.observer.Observer.{Observer}
 use Rattle.coap_observe.specs.Seen.{Lists, list_for}
-use Rattle.coap_observe.specs.Observed.{ObservedValue, next_number, is_token, is_of, had_id, is_due, told, registered_again}
+use Rattle.coap_observe.specs.Observed.{ObservedValue, next_number, is_token, is_of, had_id, is_due, notified, registered_again}
 
 -- the observers in the order of their registration, for which peers and domains there may be some, and how many for each
 pub record ObserversValue : Type 0 where
@@ -73,11 +73,11 @@ pub record IsNextDue (lists : Lists) (from : ℕ) (observed : List ObservedValue
   pub gone_is : gone ≡ is_nil (list_for lists one.observer)
 
 -- an observer that was told of something left to see stays, and one that is gone goes
-abbrev pub told_or_gone : ℕ → List (ℕ × ℕ) → ObservedValue → List ObservedValue
-told_or_gone id seen o = if is_nil seen then [] else told id seen o ∷ []
+abbrev pub notified_or_gone : ℕ → List (ℕ × ℕ) → ObservedValue → List ObservedValue
+notified_or_gone id seen o = if is_nil seen then [] else notified id seen o ∷ []
 
 abbrev pub after_notice : Lists → ℕ → ObservedValue → List ObservedValue
-after_notice lists id o = told_or_gone id (list_for lists o.observer) o
+after_notice lists id o = notified_or_gone id (list_for lists o.observer) o
 
 -- ---- what always holds
 

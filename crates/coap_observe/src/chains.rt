@@ -110,13 +110,13 @@ impl Chains {
     }
 
     /// This key of the peer goes.
-    pub fn leave(&mut self, peer: u32, key: usize)
+    pub fn depart(&mut self, peer: u32, key: usize)
         requires { has_slot key (keys_in peer self.old.chains) ≡ true }
         ensures others { self.new ≡ record { limit = self.old.limit; chains = one_left peer key self.old.chains } }
         ensures gone { IsNowhere key self.new.chains }
     {
         match self.place(peer) {
-            Some(at) => self.keys.leave(at, key),
+            Some(at) => self.keys.depart(at, key),
             None => {}
         }
     }

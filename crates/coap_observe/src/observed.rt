@@ -1,5 +1,5 @@
 ghost use Rattle.std.specs.Prelude.{◌≡◌, ◌+◌, ◌<◌, ◌%◌, bytes_eq};
-ghost use Rattle.coap_observe.specs.Observed.{next_number, is_token, is_of, had_id, same_id, is_due, told, registered_again};
+ghost use Rattle.coap_observe.specs.Observed.{next_number, is_token, is_of, had_id, same_id, is_due, notified, registered_again};
 ghost use Rattle.coap_observe.specs.Observing.{registered_first};
 
 use crate::observer::Observer;
@@ -88,8 +88,8 @@ impl Observed {
     }
 
     /// It was told this by a notification of this Message ID.
-    pub fn tell(&mut self, seen: SeenList, id: u16)
-        ensures { self.new ≡ told id seen self.old }
+    pub fn notify(&mut self, seen: SeenList, id: u16)
+        ensures { self.new ≡ notified id seen self.old }
     {
         self.number = next_number(self.number);
         self.last = Some(id);

@@ -7,7 +7,7 @@ ghost use Rattle.linked_orders.specs.Links.{Distinct};
 ghost use Rattle.coap_observe.specs.Chains.{chain_at, room_in, AreChained, SameRoom};
 ghost use Rattle.coap_observe.specs.Rolls.{keys_of, observed_of, one_at, without_key, first_key, peer_of};
 ghost use Rattle.coap_observe.specs.Observed.{is_token, is_of, had_id, is_due};
-ghost use Rattle.coap_observe.specs.Observing.{ObserversValue, own_of, has_room, number_for, entered, registered, deregistered, without_id, NoneIsDue, IsNextDue, told_or_gone, after_notice};
+ghost use Rattle.coap_observe.specs.Observing.{ObserversValue, own_of, has_room, number_for, entered, registered, deregistered, without_id, NoneIsDue, IsNextDue, notified_or_gone, after_notice};
 ghost use Rattle.coap_exchange.specs.Pairs.{is_pair, pairs_of};
 
 use crate::chains::Chains;
@@ -112,7 +112,7 @@ impl Observers {
     pub fn deregister(&mut self, peer: u32, token: &[u8])
         ensures { self.new ≡ record self.old { observed = deregistered peer token.now self.old.observed } }
     {
-        leave_others(&mut self.roll, &mut self.chains, peer, token);
+        retain_others(&mut self.roll, &mut self.chains, peer, token);
     }
 
     /// Takes the observer of this peer away whose last notification had this Message ID, where there is one: it was
@@ -120,7 +120,7 @@ impl Observers {
     pub fn reset(&mut self, peer: u32, id: u16)
         ensures { self.new ≡ record self.old { observed = without_id peer id self.old.observed } }
     {
-        leave_other_ids(&mut self.roll, &mut self.chains, peer, id);
+        retain_other_ids(&mut self.roll, &mut self.chains, peer, id);
     }
 
     /// The first observer at the place `from` or behind it that is due: what there is to see isn't what it was told last.
@@ -134,11 +134,11 @@ impl Observers {
 
     /// A notification to the observer at this place was sent with this Message ID. Where nothing is left to
     /// see the observer goes, so that the next one has its place.
-    pub fn told<V: Views>(&mut self, views: &V, place: usize, id: u16)
+    pub fn notified<V: Views>(&mut self, views: &V, place: usize, id: u16)
         requires { place < length self.old.observed }
         ensures { self.new ≡ record self.old { observed = replace_at place (after_notice (V.lists views.now) id) self.old.observed } }
     {
-        tell(&mut self.roll, &mut self.chains, views, place, id);
+        notify(&mut self.roll, &mut self.chains, views, place, id);
     }
 }
 
@@ -312,10 +312,10 @@ fn remove_key(roll: &mut Roll, chains: &mut Chains, peer: u32, key: usize)
     ensures room { SameRoom chains.old chains.new }
 {
     roll.remove(key);
-    chains.leave(peer, key);
+    chains.depart(peer, key);
 }
 
-fn leave_others(roll: &mut Roll, chains: &mut Chains, peer: u32, token: &[u8])
+fn retain_others(roll: &mut Roll, chains: &mut Chains, peer: u32, token: &[u8])
     requires chained { AreChained chains.old.chains roll.old.rows }
     ensures items { observed_of roll.new.rows ≡ deregistered peer token.now (observed_of roll.old.rows) }
     ensures capacity { roll.new.room ≡ roll.old.room }
@@ -327,7 +327,7 @@ fn leave_others(roll: &mut Roll, chains: &mut Chains, peer: u32, token: &[u8])
     }
 }
 
-fn leave_other_ids(roll: &mut Roll, chains: &mut Chains, peer: u32, id: u16)
+fn retain_other_ids(roll: &mut Roll, chains: &mut Chains, peer: u32, id: u16)
     requires chained { AreChained chains.old.chains roll.old.rows }
     ensures items { observed_of roll.new.rows ≡ without_id peer id (observed_of roll.old.rows) }
     ensures capacity { roll.new.room ≡ roll.old.room }
@@ -368,7 +368,7 @@ fn is_next<V: Views>(one: &Observed, views: &V, place: usize, from: usize) -> bo
 }
 
 /// The observer at this place was told what there is to see, or goes where there is nothing.
-fn tell<V: Views>(roll: &mut Roll, chains: &mut Chains, views: &V, place: usize, id: u16)
+fn notify<V: Views>(roll: &mut Roll, chains: &mut Chains, views: &V, place: usize, id: u16)
     requires at { place < length roll.old.rows }
     requires chained { AreChained chains.old.chains roll.old.rows }
     ensures items { observed_of roll.new.rows ≡ replace_at place (after_notice (V.lists views.now) id) (observed_of roll.old.rows) }
@@ -384,5 +384,5 @@ fn tell<V: Views>(roll: &mut Roll, chains: &mut Chains, views: &V, place: usize,
         remove_key(roll, chains, peer, key);
         return;
     }
-    roll.tell(key, seen, id);
+    roll.notify(key, seen, id);
 }

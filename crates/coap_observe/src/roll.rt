@@ -1,7 +1,7 @@
 //! The observers that there are, each under a key that it keeps.
 
 ghost use Rattle.std.specs.Prelude.{◌≡◌, ◌+◌, ◌<◌, ◌≤◌, ◌∷◌, [], ◌++◌, true, false, length, option_copied, option_map, slice_index_or, Some, IfOk};
-ghost use Rattle.coap_observe.specs.Observed.{told, registered_again};
+ghost use Rattle.coap_observe.specs.Observed.{notified, registered_again};
 ghost use Rattle.coap_observe.specs.Rolls.{RollValue, keys_of, has_key, one_at, without_key, with_key};
 
 use crate::observed::Observed;
@@ -118,16 +118,16 @@ impl Roll {
         ensures { self.new ≡ record { room = self.old.room; rows = without_key key self.old.rows } }
     {
         let _gone = self.ones.remove(key);
-        self.order.leave(key);
+        self.order.depart(key);
     }
 
     /// The observer under this key was told this by a notification of this Message ID.
-    pub fn tell(&mut self, key: usize, seen: SeenList, id: u16)
+    pub fn notify(&mut self, key: usize, seen: SeenList, id: u16)
         requires { has_key key self.old.rows ≡ true }
-        ensures { self.new ≡ record { room = self.old.room; rows = with_key key (told id seen) self.old.rows } }
+        ensures { self.new ≡ record { room = self.old.room; rows = with_key key (notified id seen) self.old.rows } }
     {
         let mut one = self.ones.remove(key);
-        one.tell(seen, id);
+        one.notify(seen, id);
         self.ones.insert_reserved(one);
     }
 

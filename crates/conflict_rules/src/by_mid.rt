@@ -42,8 +42,8 @@ pub fn judge_mid<T: Mitigates>(
 pub fn collides<T: Mitigates>(live: &[T], peer: u32, cuid: &[u8]) -> bool
     ensures { result ≡ collides (map T.live live.now) peer cuid.now }
 {
-    for held in live {
-        if is_of(held, cuid) && held.peer() != peer {
+    for mitigation in live {
+        if is_of(mitigation, cuid) && mitigation.peer() != peer {
             return true;
         }
     }
@@ -53,9 +53,9 @@ pub fn collides<T: Mitigates>(live: &[T], peer: u32, cuid: &[u8]) -> bool
 fn judge_same_mid<T: Mitigates>(live: &[T], cuid: &[u8], mid: u32, asked: &Asked) -> MidJudgement
     ensures { result ≡ judge_same_mid cuid.now mid asked.now 0 (map T.live live.now) }
 {
-    for (at, held) in live.iter().enumerate() {
-        if has_mid(held, cuid, mid) {
-            if asks_the_same(&held.put().asked, asked) {
+    for (at, mitigation) in live.iter().enumerate() {
+        if has_mid(mitigation, cuid, mid) {
+            if asks_the_same(&mitigation.put().asked, asked) {
                 return MidJudgement::Refresh { at };
             }
             return MidJudgement::Changed;
@@ -64,8 +64,8 @@ fn judge_same_mid<T: Mitigates>(live: &[T], cuid: &[u8], mid: u32, asked: &Asked
     MidJudgement::New
 }
 
-fn has_mid<T: Mitigates>(held: &T, cuid: &[u8], mid: u32) -> bool
-    ensures { result ≡ has_mid cuid.now mid (T.live held.now) }
+fn has_mid<T: Mitigates>(mitigation: &T, cuid: &[u8], mid: u32) -> bool
+    ensures { result ≡ has_mid cuid.now mid (T.live mitigation.now) }
 {
-    stands_for(held, cuid) && held.put().mid == mid
+    stands_for(mitigation, cuid) && mitigation.put().mid == mid
 }

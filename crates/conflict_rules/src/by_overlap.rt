@@ -95,25 +95,27 @@ fn highest_mid<T: Mitigates>(live: &[T], cuid: &[u8], request: &Request<'_>) -> 
     ensures { result ≡ highest_mid (map T.live live.now) cuid.now request.now }
 {
     let mut highest = None;
-    for held in live {
-        if is_higher(held, cuid, request) {
-            highest = Some(greatest_from(held.put().mid, highest));
+    for mitigation in live {
+        if is_higher(mitigation, cuid, request) {
+            highest = Some(greatest_from(mitigation.put().mid, highest));
         }
     }
     highest
 }
 
-fn is_higher<T: Mitigates>(held: &T, cuid: &[u8], request: &Request<'_>) -> bool
-    ensures { result ≡ is_higher cuid.now request.now (T.live held.now) }
+fn is_higher<T: Mitigates>(mitigation: &T, cuid: &[u8], request: &Request<'_>) -> bool
+    ensures { result ≡ is_higher cuid.now request.now (T.live mitigation.now) }
 {
-    stands_for(held, cuid) && request.mid < held.put().mid && request.overlaps_own(held.put())
+    stands_for(mitigation, cuid)
+        && request.mid < mitigation.put().mid
+        && request.overlaps_own(mitigation.put())
 }
 
 fn is_contested<T: Mitigates>(live: &[T], cuid: &[u8], request: &Request<'_>) -> bool
     ensures { result ≡ is_contested (map T.live live.now) cuid.now request.now }
 {
-    for held in live {
-        if stands_against(held, cuid) && request.overlaps_another(held.put()) {
+    for mitigation in live {
+        if stands_against(mitigation, cuid) && request.overlaps_another(mitigation.put()) {
             return true;
         }
     }
@@ -124,8 +126,8 @@ fn staying<T: Mitigates>(live: &[T], cuid: &[u8], request: &Request<'_>) -> u64
     ensures { result ≡ staying (map T.live live.now) cuid.now request.now }
 {
     let mut number = 0;
-    for held in live {
-        if !would_end(held, cuid, request) {
+    for mitigation in live {
+        if !would_end(mitigation, cuid, request) {
             number += 1;
         }
     }
@@ -136,18 +138,18 @@ fn own_staying<T: Mitigates>(live: &[T], cuid: &[u8], request: &Request<'_>) -> 
     ensures { result ≡ own_staying (map T.live live.now) cuid.now request.now }
 {
     let mut number = 0;
-    for held in live {
-        if is_of(held, cuid) && !would_end(held, cuid, request) {
+    for mitigation in live {
+        if is_of(mitigation, cuid) && !would_end(mitigation, cuid, request) {
             number += 1;
         }
     }
     number
 }
 
-fn would_end<T: Mitigates>(held: &T, cuid: &[u8], request: &Request<'_>) -> bool
-    ensures { result ≡ would_end cuid.now request.now (T.live held.now) }
+fn would_end<T: Mitigates>(mitigation: &T, cuid: &[u8], request: &Request<'_>) -> bool
+    ensures { result ≡ would_end cuid.now request.now (T.live mitigation.now) }
 {
-    is_of(held, cuid) && request.replaces(held.put())
+    is_of(mitigation, cuid) && request.replaces(mitigation.put())
 }
 
 fn judge_room(own: u64, all: u64, limits: &Limits) -> Judgement

@@ -43,7 +43,7 @@ pub trait Mitigates {
 }
 
 impl Mitigates for Live {
-    ghost live = { λ held. held };
+    ghost live = { λ mitigation. mitigation };
 
     fn peer(&self) -> u32 {
         self.peer
@@ -63,22 +63,22 @@ impl Mitigates for Live {
 }
 
 /// Whether it is of the client.
-pub(crate) fn is_of<T: Mitigates>(held: &T, cuid: &[u8]) -> bool
-    ensures { result ≡ is_of cuid.now (T.live held.now) }
+pub(crate) fn is_of<T: Mitigates>(mitigation: &T, cuid: &[u8]) -> bool
+    ensures { result ≡ is_of cuid.now (T.live mitigation.now) }
 {
-    held.cuid() == cuid
+    mitigation.cuid() == cuid
 }
 
 /// Whether it stands and is of the client.
-pub(crate) fn stands_for<T: Mitigates>(held: &T, cuid: &[u8]) -> bool
-    ensures { result ≡ stands_for cuid.now (T.live held.now) }
+pub(crate) fn stands_for<T: Mitigates>(mitigation: &T, cuid: &[u8]) -> bool
+    ensures { result ≡ stands_for cuid.now (T.live mitigation.now) }
 {
-    held.is_standing() && is_of(held, cuid)
+    mitigation.is_standing() && is_of(mitigation, cuid)
 }
 
 /// Whether it stands and is of another client.
-pub(crate) fn stands_against<T: Mitigates>(held: &T, cuid: &[u8]) -> bool
-    ensures { result ≡ stands_against cuid.now (T.live held.now) }
+pub(crate) fn stands_against<T: Mitigates>(mitigation: &T, cuid: &[u8]) -> bool
+    ensures { result ≡ stands_against cuid.now (T.live mitigation.now) }
 {
-    held.is_standing() && !is_of(held, cuid)
+    mitigation.is_standing() && !is_of(mitigation, cuid)
 }

@@ -47,8 +47,10 @@ fn bit(place: usize, is_set: bool) -> u64
 fn meets_another<T: Mitigates>(live: &[T], cuid: &[u8], prefix: &Prefix) -> bool
     ensures { result ≡ meets_another (map T.live live.now) cuid.now prefix.now }
 {
-    for held in live {
-        if stands_against(held, cuid) && meets_some(prefix, held.put().targets.items()) {
+    for mitigation in live {
+        if stands_against(mitigation, cuid)
+            && meets_some(prefix, mitigation.put().targets.items())
+        {
             return true;
         }
     }

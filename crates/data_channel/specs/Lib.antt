@@ -3,6 +3,6 @@ pub mod Places
 pub mod Heads
 pub mod Bodies
 pub mod Rest
-pub mod Views
+pub mod JsonValues
 pub mod Replies
 pub mod RejectText

@@ -76,5 +76,5 @@ IsAt path (Some place) = IsPathOf path place
 IsAt path None = (place : Place) → IsPathOf path place → ⊥
 
 -- what the code's places stand for
-abbrev pub place_view : code.Place → Place
-place_view place = record { kind = place.kind; client = place.client.now; name = place.name.now }
+abbrev pub place_value : code.Place → Place
+place_value place = record { kind = place.kind; client = place.client.now; name = place.name.now }

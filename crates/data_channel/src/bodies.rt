@@ -7,7 +7,7 @@ ghost use Rattle.list_json.specs.declared.fault.Member.TheVariants as the;
 ghost use Rattle.list_json.specs.Steps.{Gives, needed};
 ghost use Rattle.data_channel.specs.declared.request.Wanted.TheVariants as wanted;
 ghost use Rattle.data_channel.specs.Bodies.{sole_item, client_in, listed_alias, spelled_alias, alias_body, listed_acl, spelled_acl, acl_body, same_name, named_alias, named_acl, names_acl, posted, whole_request};
-ghost use Rattle.data_channel.specs.Views.{ReadsValue};
+ghost use Rattle.data_channel.specs.JsonValues.{ReadsValue};
 
 use crate::request::{RestRequest, Wanted};
 use acl_lists::{Acl, Alias};

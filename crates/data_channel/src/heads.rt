@@ -2,7 +2,7 @@
 
 ghost use Rattle.std.specs.Prelude.{◌≡◌, option_map};
 ghost use Rattle.data_channel.specs.Heads.{Gives, UnlessNoMemory, name_in_path, resource_of, verb_in, ignored_query, root_head, client_head, aliases_head, acls_head, alias_head, acl_head, head_with, head_at, IsHead, is_yang_json};
-ghost use Rattle.data_channel.specs.Paths.{place_view};
+ghost use Rattle.data_channel.specs.Paths.{place_value};
 
 use crate::place::{Kind, Place, has_query, path_of, place_in};
 use crate::reject::{Allow, RestReject};
@@ -28,7 +28,7 @@ fn name_in_path(alloc: Global, segment: &[u8]) -> Result<Name, RestReject>
 
 /// The resource, its names decoded.
 fn resource_of(alloc: Global, place: &Place) -> Result<Resource, RestReject>
-    ensures { Gives result (resource_of (place_view place.now)) }
+    ensures { Gives result (resource_of (place_value place.now)) }
 {
     match place.kind {
         Kind::Root => Ok(Resource::Root),
@@ -146,7 +146,7 @@ fn head_at(
     verb: Option<Verb>,
     query: bool,
 ) -> Result<Head, RestReject>
-    ensures { Gives result (head_at (option_map place_view found.now) verb query) }
+    ensures { Gives result (head_at (option_map place_value found.now) verb query) }
 {
     let Some(place) = found else {
         return Err(RestReject::NotFound);

@@ -2,7 +2,7 @@
 
 ghost use Rattle.std.specs.Prelude.{◌≡◌, ◌≤◌, ◌==◌, option_map, length};
 ghost use Rattle.std.specs.List.{position_or_len};
-ghost use Rattle.data_channel.specs.Paths.{is_segment, place_view};
+ghost use Rattle.data_channel.specs.Paths.{is_segment, place_value};
 ghost use Rattle.data_channel.specs.Places.{path_of, has_query, behind_front, unnamed, named, below_client, client_place, below_root, place_in};
 
 /// The root of the data channel.
@@ -96,7 +96,7 @@ fn is_segment(bytes: &[u8]) -> bool
 
 /// The resource of this kind that has no name.
 fn unnamed(kind: Kind, client: &[u8]) -> Place<'_>
-    ensures { place_view result ≡ unnamed kind client.now }
+    ensures { place_value result ≡ unnamed kind client.now }
 {
     Place {
         kind,
@@ -107,7 +107,7 @@ fn unnamed(kind: Kind, client: &[u8]) -> Place<'_>
 
 /// The resource of this kind whose name stands in one segment at the end of the path.
 fn named<'a>(kind: Kind, client: &'a [u8], name: &'a [u8]) -> Option<Place<'a>>
-    ensures { option_map place_view result ≡ named kind client.now name.now }
+    ensures { option_map place_value result ≡ named kind client.now name.now }
 {
     if !is_segment(name) {
         return None;
@@ -117,7 +117,7 @@ fn named<'a>(kind: Kind, client: &'a [u8], name: &'a [u8]) -> Option<Place<'a>>
 
 /// The resource of a client, or of what stands below it.
 fn below_client<'a>(client: &'a [u8], below: &'a [u8]) -> Option<Place<'a>>
-    ensures { option_map place_view result ≡ below_client client.now below.now }
+    ensures { option_map place_value result ≡ below_client client.now below.now }
 {
     if below == b"".as_slice() {
         return Some(unnamed(Kind::Client, client));
@@ -138,14 +138,14 @@ fn below_client<'a>(client: &'a [u8], below: &'a [u8]) -> Option<Place<'a>>
 }
 
 fn client_place(rest: &[u8]) -> Option<Place<'_>>
-    ensures { option_map place_view result ≡ client_place rest.now }
+    ensures { option_map place_value result ≡ client_place rest.now }
 {
     let (client, below) = rest.split_at(place_of_first(rest, b'/'));
     below_client(client, below)
 }
 
 fn below_root(below: &[u8]) -> Option<Place<'_>>
-    ensures { option_map place_view result ≡ below_root below.now }
+    ensures { option_map place_value result ≡ below_root below.now }
 {
     if below == b"".as_slice() {
         return Some(unnamed(Kind::Root, b""));
@@ -158,7 +158,7 @@ fn below_root(below: &[u8]) -> Option<Place<'_>>
 
 /// The resource of a path, or None where there is none.
 pub fn place_in(path: &[u8]) -> Option<Place<'_>>
-    ensures { option_map place_view result ≡ place_in path.now }
+    ensures { option_map place_value result ≡ place_in path.now }
 {
     match behind_front(ROOT, path) {
         Some(below) => below_root(below),

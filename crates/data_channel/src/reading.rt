@@ -1,7 +1,7 @@
 //! Requests of the data channel.
 
 ghost use Rattle.std.specs.Prelude.{◌≡◌, Some, None, option_map, IfOk, IfErr, Err};
-ghost use Rattle.http_cut.specs.Requests.{request_view};
+ghost use Rattle.http_cut.specs.Requests.{request_value};
 ghost use Rattle.serde_json.specs.View.{view};
 ghost use Rattle.list_json.specs.Steps.{Gives as GivesBody};
 ghost use Rattle.data_channel.specs.Bodies.{whole_request};
@@ -46,7 +46,7 @@ fn answer(
     wanted: Wanted,
     request: &HttpRequest,
 ) -> Result<RestRequest, RestReject>
-    ensures { UnlessNoMemory result (IsAnswer wanted (request_view request.now).media request.now.body.now result) }
+    ensures { UnlessNoMemory result (IsAnswer wanted (request_value request.now).media request.now.body.now result) }
 {
     if is_yang_json(&request.media) {
         let value = json_of(alloc, room, request.body)?;
@@ -62,7 +62,7 @@ pub fn read_rest(
     room: &mut JsonRoom,
     request: &HttpRequest,
 ) -> Result<RestRequest, RestReject>
-    ensures { UnlessNoMemory result (Rest (request_view request.now) result) }
+    ensures { UnlessNoMemory result (Rest (request_value request.now) result) }
 {
     match head_of(alloc, request.method, request.target)? {
         Head::Plain(asked) => Ok(asked),

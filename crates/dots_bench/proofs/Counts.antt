@@ -1,7 +1,7 @@
 -- A list of items or pairs is as long as the list of their trees.
 use Rattle.std.proofs.Common.{◌≡◌, suc, List, [], ◌∷◌, length, map, refl, sym, ap, ◌∙◌}
 use Rattle.cbor_profile.specs.Tree.{Tree, count, pair_count}
-use Rattle.cbor_profile.specs.View.{items_of, pairs_of}
+use Rattle.cbor_profile.specs.ItemTrees.{items_of, pairs_of}
 
 trees_counted : (trees : List Tree) → count (items_of trees) ≡ length trees
 trees_counted [] = refl

@@ -5,7 +5,7 @@ ghost use Rattle.coap_message.specs.Breaks.{Breaks};
 ghost use Rattle.coap_message.specs.Message.{CoapMessage, IsMessage, spelling};
 ghost use Rattle.cbor_profile.specs.Tree.{Tree};
 ghost use Rattle.cbor_profile.specs.Spelling.{Spells};
-ghost use Rattle.cbor_profile.specs.View.{tree_of};
+ghost use Rattle.cbor_profile.specs.ItemTrees.{tree_of};
 ghost use Rattle.dots_bench.specs.Parts.{parts_in};
 
 use crate::bodies::repeat_json;

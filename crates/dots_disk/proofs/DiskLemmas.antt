@@ -80,16 +80,16 @@ pub seen_wire : (call : Act) → IsOfWire call → (medium : Medium) → (after 
 seen_wire call is medium = ap (λ medium. medium.seen) (after_wire medium call is)
 
 -- a call that was recorded where there was room for it
-pub records_from : (old mid new : Stored) (call : Act) → mid.acts ≡ old.acts → mid.whole ≡ old.whole → mid.base ≡ old.base → mid.extent ≡ old.extent → Records mid new call → Records old new call
-records_from old mid new call acts whole base extent made = record {
+pub records_from : (old between new : Stored) (call : Act) → between.acts ≡ old.acts → between.whole ≡ old.whole → between.base ≡ old.base → between.extent ≡ old.extent → Records between new call → Records old new call
+records_from old between new call acts whole base extent made = record {
   acts = made.acts ∙ ap (λ acts. acts ++ call ∷ []) acts;
   whole = made.whole ∙ whole;
   base = made.base ∙ base;
   extent = made.extent ∙ extent;
 }
 
-pub records_in_room : (old mid new : Stored) (call : Act) → MakesRoom old mid → Records mid new call → Records old new call
-records_in_room old mid new call room made = records_from old mid new call room.acts room.whole room.base room.extent made
+pub records_in_room : (old between new : Stored) (call : Act) → MakesRoom old between → Records between new call → Records old new call
+records_in_room old between new call room made = records_from old between new call room.acts room.whole room.base room.extent made
 
 -- a call of the wire that was recorded, or not
 pub seen_may_rest : (made : Bool) (base : List ℕ) (acts later : List Act) (call : Act) (bytes : ℕ → ℕ) → IsOfWire call → MatchBool made (later ≡ acts ++ call ∷ []) (later ≡ acts)
@@ -128,8 +128,8 @@ pub handed : (old : Hosted) (disk : Stored) (later : List Coming) (call : Act) �
 handed old disk later call made one = λ whole. (sym made.whole ∙ whole, call ∷ [], made.acts, (later, one, refl))
 
 -- a host's disk before and after a call
-pub carried : (old same mid new : Stored) (call : Act) → same ≡ old → new ≡ mid → Records same mid call → Records old new call
-carried old same mid new call before after made = subst (λ new. Records old new call) (sym after) (subst (λ old. Records old mid call) before made)
+pub carried : (old same between new : Stored) (call : Act) → same ≡ old → new ≡ between → Records same between call → Records old new call
+carried old same between new call before after made = subst (λ new. Records old new call) (sym after) (subst (λ old. Records old between call) before made)
 
 -- the wire tells one act more
 pub adds_by : (old new : Stored) (event : Event) (at : ℕ) → Records old new (act.Took event at) → Adds (told old.whole old.acts) (length old.acts) (told new.whole new.acts) (length new.acts) (took event at)

@@ -11,22 +11,22 @@ use Rattle.dots_disk.specs.Hosted.{Hosted, HandsOut, KeepsWire}
 pub hands_out_same : (host : Hosted) → HandsOut host host
 hands_out_same host = λ whole. (whole, [], sym (append-nil host.disk.acts), refl)
 
-pub hands_out_then : (old mid new : Hosted) → HandsOut old mid → HandsOut mid new → HandsOut old new
-hands_out_then old mid new a b = λ whole.
+pub hands_out_then : (old between new : Hosted) → HandsOut old between → HandsOut between new → HandsOut old new
+hands_out_then old between new a b = λ whole.
     let second = b whole in
     let first = a second.0 in (
       first.0,
       first.1 ++ second.1,
       second.2 ∙ ap (λ front. front ++ second.1) first.2 ∙ append_assoc old.disk.acts first.1 second.1,
-      hands_then old.coming mid.coming new.coming first.1 second.1 first.3 second.3,
+      hands_then old.coming between.coming new.coming first.1 second.1 first.3 second.3,
     )
 
 pub keeps_wire_same : (host : Hosted) → KeepsWire host host
 keeps_wire_same host = record { disk = goes_on_same host.disk; coming = refl; faults = refl }
 
-pub keeps_wire_then : (old mid new : Hosted) → KeepsWire old mid → KeepsWire mid new → KeepsWire old new
-keeps_wire_then old mid new a b = record {
-  disk = goes_on_then old.disk mid.disk new.disk a.disk b.disk;
+pub keeps_wire_then : (old between new : Hosted) → KeepsWire old between → KeepsWire between new → KeepsWire old new
+keeps_wire_then old between new a b = record {
+  disk = goes_on_then old.disk between.disk new.disk a.disk b.disk;
   coming = b.coming ∙ a.coming;
   faults = b.faults ∙ a.faults;
 }

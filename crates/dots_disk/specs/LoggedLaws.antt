@@ -10,8 +10,8 @@ use Rattle.dots_disk.specs.StoredLaws.{of_disk_then, keeps_media_same, keeps_med
 pub adds_calls_same : (disk : Logged) → AddsCalls disk disk
 adds_calls_same disk = record { more = []; grown = sym (append-nil disk.acts); disk = tt }
 
-pub adds_calls_then : (old mid new : Logged) → AddsCalls old mid → AddsCalls mid new → AddsCalls old new
-adds_calls_then old mid new a b = record {
+pub adds_calls_then : (old between new : Logged) → AddsCalls old between → AddsCalls between new → AddsCalls old new
+adds_calls_then old between new a b = record {
   more = a.more ++ b.more;
   grown = b.grown ∙ ap (λ acts. acts ++ b.more) a.grown ∙ append_assoc old.acts a.more b.more;
   disk = of_disk_then a.more b.more a.disk b.disk;
@@ -20,9 +20,9 @@ adds_calls_then old mid new a b = record {
 pub keeps_logged_same : (disk : Logged) → KeepsLogged disk disk
 keeps_logged_same disk = record { media = keeps_media_same (media_since disk.acts); extent = refl; faults = refl }
 
-pub keeps_logged_then : (old mid new : Logged) → KeepsLogged old mid → KeepsLogged mid new → KeepsLogged old new
-keeps_logged_then old mid new a b = record {
-  media = keeps_media_then (media_since old.acts) (media_since mid.acts) (media_since new.acts) a.media b.media;
+pub keeps_logged_then : (old between new : Logged) → KeepsLogged old between → KeepsLogged between new → KeepsLogged old new
+keeps_logged_then old between new a b = record {
+  media = keeps_media_then (media_since old.acts) (media_since between.acts) (media_since new.acts) a.media b.media;
   extent = b.extent ∙ a.extent;
   faults = b.faults ∙ a.faults;
 }

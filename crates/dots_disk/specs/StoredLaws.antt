@@ -19,8 +19,8 @@ of_disk_then (call ∷ front) back a b = (a.0, of_disk_then front back a.1 b)
 pub goes_on_same : (disk : Stored) → GoesOn disk disk
 goes_on_same disk = record { more = []; grown = sym (append-nil disk.acts); disk = tt; whole = λ is. is }
 
-pub goes_on_then : (old mid new : Stored) → GoesOn old mid → GoesOn mid new → GoesOn old new
-goes_on_then old mid new a b = record {
+pub goes_on_then : (old between new : Stored) → GoesOn old between → GoesOn between new → GoesOn old new
+goes_on_then old between new a b = record {
   more = a.more ++ b.more;
   grown = b.grown ∙ ap (λ acts. acts ++ b.more) a.grown ∙ append_assoc old.acts a.more b.more;
   disk = of_disk_then a.more b.more a.disk b.disk;
@@ -33,26 +33,26 @@ each_then : (front back : List Medium) (P : Medium → Type 0) → EachMedium fr
 each_then [] back P a b = b
 each_then (medium ∷ front) back P a b = (a.0, each_then front back P a.1 b)
 
-each_same : (media : List Medium) (old mid : Medium) → mid ≡ old → EachMedium media (λ medium. medium ≡ mid) → EachMedium media (λ medium. medium ≡ old)
-each_same media old mid same each = subst (λ now. EachMedium media (λ medium. medium ≡ now)) same each
+each_same : (media : List Medium) (old between : Medium) → between ≡ old → EachMedium media (λ medium. medium ≡ between) → EachMedium media (λ medium. medium ≡ old)
+each_same media old between same each = subst (λ now. EachMedium media (λ medium. medium ≡ now)) same each
 
 pub keeps_media_same : (media : Media) → KeepsMedia (Some media) (Some media)
 keeps_media_same media = ([], sym (append-nil (all_media media)), tt, refl)
 
-pub keeps_media_then : (old mid new : Media) → KeepsMedia (Some old) (Some mid) → KeepsMedia (Some mid) (Some new) → KeepsMedia (Some old) (Some new)
-keeps_media_then old mid new a b = (
+pub keeps_media_then : (old between new : Media) → KeepsMedia (Some old) (Some between) → KeepsMedia (Some between) (Some new) → KeepsMedia (Some old) (Some new)
+keeps_media_then old between new a b = (
   a.0 ++ b.0,
   b.1 ∙ ap (λ media. media ++ b.0) a.1 ∙ append_assoc (all_media old) a.0 b.0,
-  each_then a.0 b.0 (λ medium. medium ≡ old.now) a.2 (each_same b.0 old.now mid.now a.3 b.2),
+  each_then a.0 b.0 (λ medium. medium ≡ old.now) a.2 (each_same b.0 old.now between.now a.3 b.2),
   b.3 ∙ a.3,
 )
 
 pub keeps_disk_same : (disk : Stored) → KeepsDisk disk disk
 keeps_disk_same disk = record { media = keeps_media_same (media_of disk); extent = refl; faults = refl }
 
-pub keeps_disk_then : (old mid new : Stored) → KeepsDisk old mid → KeepsDisk mid new → KeepsDisk old new
-keeps_disk_then old mid new a b = record {
-  media = keeps_media_then (media_of old) (media_of mid) (media_of new) a.media b.media;
+pub keeps_disk_then : (old between new : Stored) → KeepsDisk old between → KeepsDisk between new → KeepsDisk old new
+keeps_disk_then old between new a b = record {
+  media = keeps_media_then (media_of old) (media_of between) (media_of new) a.media b.media;
   extent = b.extent ∙ a.extent;
   faults = b.faults ∙ a.faults;
 }

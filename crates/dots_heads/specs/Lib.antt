@@ -1,9 +1,9 @@
-pub mod HeadViews
+pub mod HeadValues
 pub mod Heads
-pub mod OperationViews
+pub mod OperationValues
 pub mod Operations
 pub mod Options
-pub mod PathViews
+pub mod PathValues
 pub mod Paths
 pub mod RejectText
 pub mod Wordings

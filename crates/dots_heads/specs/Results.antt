@@ -42,9 +42,9 @@ abbrev pub Reads : {A B : Type 0} → (A → B) → Result A Reject → Result B
 Reads view (Ok x) read = read ≡ Ok (view x)
 Reads view (Err e) read = read ≡ Err e
 
-abbrev pub Leaves : {A Done : Type 0} → Result Done Reject → A → Result A Reject → Type 0
-Leaves (Ok done) new read = read ≡ Ok new
-Leaves (Err e) new read = read ≡ Err e
+abbrev pub ReadsInto : {A Done : Type 0} → Result Done Reject → A → Result A Reject → Type 0
+ReadsInto (Ok done) new read = read ≡ Ok new
+ReadsInto (Err e) new read = read ≡ Err e
 
 -- a fact of an answer, unless it is want of memory
 abbrev pub Fulfils : Reject → Type 0 → Type 0

@@ -4,8 +4,8 @@ ghost use Rattle.std.specs.Prelude.{◌≡◌, ◌≤◌, length, None, IfOk, If
 ghost use Rattle.std.specs.Option.{option_copied};
 ghost use Rattle.dots_heads.specs.Options.{first_critical, value_of, values_of};
 ghost use Rattle.dots_heads.specs.Heads.{refuse_critical, refuse_hop_limit, refuse_media, refuse_format, content_named, content_of, observe_of, head_of};
-ghost use Rattle.dots_heads.specs.HeadViews.{head_view};
-ghost use Rattle.dots_heads.specs.OperationViews.{IsNamed};
+ghost use Rattle.dots_heads.specs.HeadValues.{head_value};
+ghost use Rattle.dots_heads.specs.OperationValues.{IsNamed};
 ghost use Rattle.dots_heads.specs.Results.{Reads};
 
 use crate::operation::{Method, Operation, method_of, operation_of};
@@ -131,7 +131,7 @@ fn observe_of(message: &Message<'_>) -> Observe
 
 /// What the message, which comes from a gateway or from a client, says before its body, or the first refusal. Takes no memory.
 pub fn read_head<'a>(message: &Message<'a>, gateway: bool) -> Result<Head<'a>, Reject>
-    ensures value { Reads head_view result (head_of message.now gateway) }
+    ensures value { Reads head_value result (head_of message.now gateway) }
     ensures named { IfOk result (λ head. IsNamed head.operation) }
 {
     refuse_critical(message)?;

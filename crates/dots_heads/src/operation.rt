@@ -4,8 +4,8 @@ ghost use Rattle.std.specs.Prelude.{◌≡◌, ◌==◌, IfOk};
 ghost use Rattle.std.specs.List.{list_any};
 ghost use Rattle.std.specs.Option.{option_copied};
 ghost use Rattle.dots_heads.specs.Operations.{method_in, method_of, is_client_name, client_name, is_identifier, identifier, optional, domain_of, mitigation_path, mitigation_operation, config_operation, operation_of};
-ghost use Rattle.dots_heads.specs.OperationViews.{path_view, operation_view, HasNames, IsNamed};
-ghost use Rattle.dots_heads.specs.PathViews.{resource_view};
+ghost use Rattle.dots_heads.specs.OperationValues.{path_value, operation_value, HasNames, IsNamed};
+ghost use Rattle.dots_heads.specs.PathValues.{resource_value};
 ghost use Rattle.dots_heads.specs.Results.{Gives, Reads};
 
 use crate::path::Resource;
@@ -57,7 +57,7 @@ fn method_in(code: u8) -> Option<Method>
 
 /// The method of a code, if the resource has it: a heartbeat has PUT alone.
 pub fn method_of(resource: &Resource<'_>, code: u8) -> Result<Method, Reject>
-    ensures { result ≡ method_of (resource_view resource.now) code }
+    ensures { result ≡ method_of (resource_value resource.now) code }
 {
     match (resource, method_in(code)) {
         (_, None) => Err(Reject::Method),
@@ -143,8 +143,8 @@ fn checked_parameters<'a>(
     cuid: Option<&'a [u8]>,
     mid: Option<&'a [u8]>,
 ) -> Result<Parameters<'a>, Reject>
-    ensures value { Reads path_view result (mitigation_path gateway (option_copied cdid.entry) (option_copied cuid.entry) (option_copied mid.entry)) }
-    ensures named { IfOk result (λ parameters. HasNames (path_view parameters)) }
+    ensures value { Reads path_value result (mitigation_path gateway (option_copied cdid.entry) (option_copied cuid.entry) (option_copied mid.entry)) }
+    ensures named { IfOk result (λ parameters. HasNames (path_value parameters)) }
 {
     let cdid = domain_of(gateway, cdid)?;
     let Some(text) = cuid else {
@@ -160,7 +160,7 @@ fn mitigation_operation<'a>(
     method: Method,
     parameters: Parameters<'a>,
 ) -> Result<Operation<'a>, Reject>
-    ensures { Reads operation_view result (mitigation_operation method (path_view parameters.entry)) }
+    ensures { Reads operation_value result (mitigation_operation method (path_value parameters.entry)) }
 {
     match (method, parameters.mid) {
         (Method::Get, _) => Ok(Operation::GetMitigation(parameters)),
@@ -172,7 +172,7 @@ fn mitigation_operation<'a>(
 
 /// What the method wants of the configuration.
 fn config_operation<'a>(method: Method, sid: Option<u32>) -> Result<Operation<'a>, Reject>
-    ensures { Reads operation_view result (config_operation method sid) }
+    ensures { Reads operation_value result (config_operation method sid) }
 {
     match (method, sid) {
         (Method::Get, sid) => Ok(Operation::GetConfig(sid)),
@@ -188,7 +188,7 @@ pub fn operation_of<'a>(
     method: Method,
     gateway: bool,
 ) -> Result<Operation<'a>, Reject>
-    ensures value { Reads operation_view result (operation_of (resource_view resource.entry) method gateway) }
+    ensures value { Reads operation_value result (operation_of (resource_value resource.entry) method gateway) }
     ensures named { IfOk result IsNamed }
 {
     match resource {
@@ -207,8 +207,8 @@ pub fn operation_of<'a>(
 impl<'a> Parameters<'a> {
     /// The parameters as values of their own.
     pub fn path(&self, alloc: Global) -> Result<MitigationPath, Reject>
-        requires { HasNames (path_view self.now) }
-        ensures { Gives result (Ok (path_view self.now)) }
+        requires { HasNames (path_value self.now) }
+        ensures { Gives result (Ok (path_value self.now)) }
     {
         let cdid = match self.cdid {
             Some(text) => Name::new(alloc, text)?,

@@ -4,7 +4,7 @@ ghost use Rattle.std.specs.Prelude.{◌≡◌, [], ◌∷◌, MatchOption, optio
 ghost use Rattle.std.specs.Option.{option_copied};
 ghost use Rattle.dots_heads.specs.Options.{values_of};
 ghost use Rattle.dots_heads.specs.Paths.{take_parameter, mitigation_at, config_at, resource_named, resource_at, ended};
-ghost use Rattle.dots_heads.specs.PathViews.{resource_view};
+ghost use Rattle.dots_heads.specs.PathValues.{resource_value};
 
 use crate::options::{URI_PATH, next_value};
 use coap_message::{Message, Options};
@@ -90,7 +90,7 @@ impl<'a> Segments<'a> {
 
     /// The resource, if no segment is left.
     fn ended(&self, resource: Resource<'a>) -> Option<Resource<'a>>
-        ensures { option_map resource_view result ≡ ended (resource_view resource.entry) self.now }
+        ensures { option_map resource_value result ≡ ended (resource_value resource.entry) self.now }
     {
         if self.next.is_some() {
             return None;
@@ -99,7 +99,7 @@ impl<'a> Segments<'a> {
     }
 
     fn mitigation(&mut self) -> Option<Resource<'a>>
-        ensures { option_map resource_view result ≡ mitigation_at self.old }
+        ensures { option_map resource_value result ≡ mitigation_at self.old }
     {
         let cdid = self.parameter(b"cdid=");
         let cuid = self.parameter(b"cuid=");
@@ -108,7 +108,7 @@ impl<'a> Segments<'a> {
     }
 
     fn config(&mut self) -> Option<Resource<'a>>
-        ensures { option_map resource_view result ≡ config_at self.old }
+        ensures { option_map resource_value result ≡ config_at self.old }
     {
         let sid = self.parameter(b"sid=");
         self.ended(Resource::Config { sid })
@@ -116,7 +116,7 @@ impl<'a> Segments<'a> {
 
     /// The resource of this name, whose parameters are left.
     fn resource(&mut self, name: &[u8]) -> Option<Resource<'a>>
-        ensures { option_map resource_view result ≡ resource_named name.now self.old }
+        ensures { option_map resource_value result ≡ resource_named name.now self.old }
     {
         if name == MITIGATE {
             return self.mitigation();
@@ -133,7 +133,7 @@ impl<'a> Segments<'a> {
 
 /// The resource of the path of a message, if there is one.
 pub fn resource_of<'a>(message: &Message<'a>) -> Option<Resource<'a>>
-    ensures { option_map resource_view result ≡ resource_at (values_of 11 message.now.options) }
+    ensures { option_map resource_value result ≡ resource_at (values_of 11 message.now.options) }
 {
     let mut segments = Segments::of(message);
     let Some(first) = segments.next() else {

@@ -78,12 +78,12 @@ option_any test None = false
 option_any test (Some x) = test x
 
 -- a mitigation that was granted at this time isn't over at time t
-unfoldable pub lasts : ℕ → ℕ → Change → Bool
-lasts t at change = option_any (λ put. granted_at t at put.granted) (put_of change)
+unfoldable pub is_unexpired : ℕ → ℕ → Change → Bool
+is_unexpired t at change = option_any (λ put. granted_at t at put.granted) (put_of change)
 
 -- the entry is a mitigation, and its lifetime isn't over
 unfoldable pub runs : ℕ → Entry → Bool
-runs t entry = lasts t entry.time entry.change
+runs t entry = is_unexpired t entry.time entry.change
 
 -- what the signal channel changes
 unfoldable pub is_signal : Change → Bool
@@ -130,13 +130,13 @@ undoes_acl name change.Deregister = true
 undoes_acl name _ = false
 
 -- the client leaves (RFC 8783, section 5.2)
-unfoldable pub is_leave : Change → Bool
-is_leave change.Deregister = true
-is_leave _ = false
+unfoldable pub is_deregister : Change → Bool
+is_deregister change.Deregister = true
+is_deregister _ = false
 
 -- of two changes of one client, the later undoes the earlier
 unfoldable pub undoes_of_client : Change → Change → Bool
-undoes_of_client change.Register later = is_leave later
+undoes_of_client change.Register later = is_deregister later
 undoes_of_client (change.SetAlias alias) later = undoes_alias alias.name later
 undoes_of_client (change.SetAcl acl) later = undoes_acl acl.name later
 undoes_of_client _ later = false

@@ -5,4 +5,4 @@ pub mod Keeping
 pub mod Places
 pub mod Rows
 pub mod Slots
-pub mod Viewing
+pub mod HandedOut

@@ -2,7 +2,7 @@
 
 ghost use Rattle.std.specs.Prelude.{◌≡◌};
 ghost use Rattle.std.specs.List.{list_any};
-ghost use Rattle.dots_history.specs.Entries.{is_held, undoes, undoes_of_client, undoes_alias, undoes_acl, is_leave, is_configuration, undoes_of_peer, reconfigures};
+ghost use Rattle.dots_history.specs.Entries.{is_held, undoes, undoes_of_client, undoes_alias, undoes_acl, is_deregister, is_configuration, undoes_of_peer, reconfigures};
 ghost use Rattle.dots_history.specs.Histories.{stays};
 
 use crate::change::Change;
@@ -56,7 +56,7 @@ fn undoes_of_client(earlier: &Change, later: &Change) -> bool
     ensures { result ≡ undoes_of_client earlier.now later.now }
 {
     match earlier {
-        Change::Register => is_leave(later),
+        Change::Register => is_deregister(later),
         Change::SetAlias(alias) => undoes_alias(&alias.name, later),
         Change::SetAcl(acl) => undoes_acl(&acl.name, later),
         _ => false,
@@ -90,9 +90,9 @@ pub fn undoes_acl(name: &Name, later: &Change) -> bool
 }
 
 /// Whether a client leaves by the change.
-#[tactic(auto, unfolding(crate::specs::Entries::is_leave))]
-pub fn is_leave(change: &Change) -> bool
-    ensures { result ≡ is_leave change.now }
+#[tactic(auto, unfolding(crate::specs::Entries::is_deregister))]
+pub fn is_deregister(change: &Change) -> bool
+    ensures { result ≡ is_deregister change.now }
 {
     matches!(change, Change::Deregister)
 }

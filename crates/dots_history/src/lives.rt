@@ -1,7 +1,7 @@
 //! Which mitigations are live.
 
 ghost use Rattle.std.specs.Prelude.{◌≡◌, ◌+◌, nat_lt};
-ghost use Rattle.dots_history.specs.Entries.{granted_at, lasts, runs};
+ghost use Rattle.dots_history.specs.Entries.{granted_at, is_unexpired, runs};
 ghost use Rattle.dots_history.specs.Histories.{step, status, live};
 ghost use Rattle.dots_history.specs.declared.status.Status.TheVariants.{Open};
 
@@ -24,9 +24,9 @@ pub fn is_granted_at(t: u64, at: u64, granted: i32) -> bool
     granted == INDEFINITE || i128::from(t) < i128::from(at) + i128::from(granted)
 }
 
-#[tactic(auto, unfolding(crate::specs::Entries::lasts))]
-fn lasts(t: u64, at: u64, change: &Change) -> bool
-    ensures { result ≡ lasts t at change.now }
+#[tactic(auto, unfolding(crate::specs::Entries::is_unexpired))]
+fn is_unexpired(t: u64, at: u64, change: &Change) -> bool
+    ensures { result ≡ is_unexpired t at change.now }
 {
     match put_of(change) {
         Some(put) => is_granted_at(t, at, put.granted),
@@ -39,7 +39,7 @@ fn lasts(t: u64, at: u64, change: &Change) -> bool
 fn runs(t: u64, entry: &Entry) -> bool
     ensures { result ≡ runs t entry.now }
 {
-    lasts(t, entry.time, &entry.change)
+    is_unexpired(t, entry.time, &entry.change)
 }
 
 /// The status of a mitigation after one more entry.

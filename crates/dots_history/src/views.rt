@@ -2,7 +2,7 @@
 
 ghost use Rattle.std.specs.Prelude.{◌≡◌, IfOk, map};
 ghost use Rattle.dots_history.specs.Histories.{mitigations, held};
-ghost use Rattle.dots_history.specs.Viewing.{mitigation_of};
+ghost use Rattle.dots_history.specs.HandedOut.{mitigation_of};
 
 use crate::entry::Entry;
 use crate::holding::is_still_held;

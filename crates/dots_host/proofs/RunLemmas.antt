@@ -16,8 +16,8 @@ added_weaker old None P Q a w = tt
 added_weaker None (Some ys) P Q a w = a
 added_weaker (Some xs) (Some ys) P Q a w = (a.0, a.1, w a.0 a.2)
 
-pub added_then : (old mid new : Option (List Timed)) (P Q R : List Timed → Type 0) → Added old mid P → Added mid new Q → ((front back : List Timed) → P front → Q back → R (front ++ back)) → Added old new R
-added_then old mid None P Q R a b join = tt
+pub added_then : (old between new : Option (List Timed)) (P Q R : List Timed → Type 0) → Added old between P → Added between new Q → ((front back : List Timed) → P front → Q back → R (front ++ back)) → Added old new R
+added_then old between None P Q R a b join = tt
 added_then old None (Some zs) P Q R a b join = absurd b
 added_then None (Some ys) (Some zs) P Q R a b join = absurd a
 added_then (Some xs) (Some ys) (Some zs) P Q R a b join = (
@@ -34,12 +34,12 @@ added_by (Some xs) (Some ys) before now done P a p = ((record { moment = before;
 module _ {S : Type 0} (step : S → Event → ℕ → List (S × OwnedOut) → S → Type 0) where
   -- ---- runs that are joined
 
-  pub trace_then : (old mid new : Owing S) (front back : List Timed) (told later : List S) → Trace step old front told mid → Trace step mid back later new
+  pub trace_then : (old between new : Owing S) (front back : List Timed) (told later : List S) → Trace step old front told between → Trace step between back later new
       → Trace step old (front ++ back) (told ++ later) new
-  trace_then old mid new [] back [] later a b = subst (λ start. Trace step start back later new) a b
-  trace_then old mid new (timed ∷ front) back (state ∷ told) later a b = (a.0, a.1, trace_then a.0 mid new front back told later a.2 b)
-  trace_then old mid new [] back (state ∷ told) later a b = absurd a
-  trace_then old mid new (timed ∷ front) back [] later a b = absurd a
+  trace_then old between new [] back [] later a b = subst (λ start. Trace step start back later new) a b
+  trace_then old between new (timed ∷ front) back (state ∷ told) later a b = (a.0, a.1, trace_then a.0 between new front back told later a.2 b)
+  trace_then old between new [] back (state ∷ told) later a b = absurd a
+  trace_then old between new (timed ∷ front) back [] later a b = absurd a
 
   -- one act more
   pub trace_one : (old new : Owing S) (timed : Timed) (told : S) → ToldStep step old timed.act told new → Trace step old (timed ∷ []) (told ∷ []) new
@@ -57,9 +57,9 @@ sends_first [] = []
 sends_first (timed ∷ acts) = onto_sends timed.act (sends_first acts)
 
 module _ {S : Type 0} (step : S → Event → ℕ → List (S × OwnedOut) → S → Type 0) where
-  owed_by : (old mid : Owing S) (act : WireAct) (told : S) (later : List OwnedOut) → ToldStep step old act told mid → outs_of mid.owed ≡ later → outs_of old.owed ≡ onto_sends act later
-  owed_by old mid (took event at) told later s rest = ap outs_of s.0
-  owed_by old mid (gave out done) told later s rest = ap outs_of s.0 ∙ ap (λ outs. out ∷ outs) rest
+  owed_by : (old between : Owing S) (act : WireAct) (told : S) (later : List OwnedOut) → ToldStep step old act told between → outs_of between.owed ≡ later → outs_of old.owed ≡ onto_sends act later
+  owed_by old between (took event at) told later s rest = ap outs_of s.0
+  owed_by old between (gave out done) told later s rest = ap outs_of s.0 ∙ ap (λ outs. out ∷ outs) rest
 
   -- what is owed is sent before the next event
   owed_first : (old : Owing S) (acts : List Timed) (trace : List S) (new : S) → Trace step old acts trace (resting new) → outs_of old.owed ≡ sends_first acts
@@ -83,14 +83,14 @@ module _ {S : Type 0} (step : S → Event → ℕ → List (S × OwnedOut) → S
   first_same x y xs ys e = (cc, cc)
 
   -- one act leads to one state of owing, and tells one state, where the run goes on to the same sends
-  one_step : IsDetermined → (old mid other : Owing S) (act : WireAct) (told state : S) → ToldStep step old act told mid → ToldStep step old act state other
-      → outs_of mid.owed ≡ outs_of other.owed → mid ≡ other
-  one_step determined old mid other (took event at) told state a b outs =
-      let same = determined old.last event at mid.owed other.owed mid.last other.last a.1 b.1 outs in
-      same_owing mid other same.0 same.1
-  one_step determined old mid other (gave out done) told state a b outs =
-      let rest = first_same (told, out) (state, out) mid.owed other.owed (sym a.0 ∙ b.0) in
-      same_owing mid other rest.1 (a.1 ∙ sym b.1)
+  one_step : IsDetermined → (old between other : Owing S) (act : WireAct) (told state : S) → ToldStep step old act told between → ToldStep step old act state other
+      → outs_of between.owed ≡ outs_of other.owed → between ≡ other
+  one_step determined old between other (took event at) told state a b outs =
+      let same = determined old.last event at between.owed other.owed between.last other.last a.1 b.1 outs in
+      same_owing between other same.0 same.1
+  one_step determined old between other (gave out done) told state a b outs =
+      let rest = first_same (told, out) (state, out) between.owed other.owed (sym a.0 ∙ b.0) in
+      same_owing between other rest.1 (a.1 ∙ sym b.1)
 
   pub one_run : IsDetermined → (old : Owing S) (acts : List Timed) (trace states : List S) (new other : S)
       → Trace step old acts trace (resting new) → Trace step old acts states (resting other) → new ≡ other

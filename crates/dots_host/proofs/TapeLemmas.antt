@@ -26,9 +26,9 @@ gave_last moment now (act.Read o ∷ acts) out done is = gave_last (moment + 1) 
 gave_last moment now (act.Wrote a b o ∷ acts) out done is = gave_last (moment + 1) now acts out done (omega arith)
 gave_last moment now (act.Synced o ∷ acts) out done is = gave_last (moment + 1) now acts out done (omega arith)
 
-pub adds_took : (old mid new : Bool) (acts room after : List Act) (event : Event) (at : ℕ) → mid ≡ old → new ≡ mid → room ≡ acts → after ≡ room ++ act.Took event at ∷ []
+pub adds_took : (old between new : Bool) (acts room after : List Act) (event : Event) (at : ℕ) → between ≡ old → new ≡ between → room ≡ acts → after ≡ room ++ act.Took event at ∷ []
     → Adds (told old acts) (length acts) (told new after) (length after) (took event at)
-adds_took old mid new acts room after event at first second third fourth =
+adds_took old between new acts room after event at first second third fourth =
     let whole : new ≡ old = second ∙ first in
     let grown : after ≡ acts ++ act.Took event at ∷ [] = fourth ∙ ap (λ xs. xs ++ act.Took event at ∷ []) third in
     rw (whole, grown) (told_took old)
@@ -37,9 +37,9 @@ adds_took old mid new acts room after event at first second third fourth =
     told_took true = (took_last 0 (length acts) acts event at (omega arith), length_push acts (act.Took event at))
     told_took false = tt
 
-pub adds_gave : (old mid new : Bool) (acts room after : List Act) (out : OwnedOut) (done : Bool) → mid ≡ old → new ≡ mid → room ≡ acts → after ≡ room ++ act.Gave out done ∷ []
+pub adds_gave : (old between new : Bool) (acts room after : List Act) (out : OwnedOut) (done : Bool) → between ≡ old → new ≡ between → room ≡ acts → after ≡ room ++ act.Gave out done ∷ []
     → Adds (told old acts) (length acts) (told new after) (length after) (gave out done)
-adds_gave old mid new acts room after out done first second third fourth =
+adds_gave old between new acts room after out done first second third fourth =
     let whole : new ≡ old = second ∙ first in
     let grown : after ≡ acts ++ act.Gave out done ∷ [] = fourth ∙ ap (λ xs. xs ++ act.Gave out done ∷ []) third in
     rw (whole, grown) (told_gave old)

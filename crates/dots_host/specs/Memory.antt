@@ -60,4 +60,4 @@ HandsOne coming _ later = later ≡ coming
 -- the calls, one after the other
 abbrev pub Hands : List Coming → List Act → List Coming → Type 0
 Hands coming [] later = later ≡ coming
-Hands coming (call ∷ calls) later = (mid : List Coming) × HandsOne coming call mid × Hands mid calls later
+Hands coming (call ∷ calls) later = (between : List Coming) × HandsOne coming call between × Hands between calls later

@@ -22,7 +22,7 @@ ToldStep step old (gave out done) told new = (old.owed ≡ (told, out) ∷ new.o
 -- the acts, one after the other, and beside each the state that it tells
 abbrev pub Trace : {S : Type 0} → (S → Event → ℕ → List (S × OwnedOut) → S → Type 0) → Owing S → List Timed → List S → Owing S → Type 0
 Trace step old [] [] new = new ≡ old
-Trace {S} step old (timed ∷ acts) (told ∷ trace) new = (mid : Owing S) × ToldStep step old timed.act told mid × Trace step mid acts trace new
+Trace {S} step old (timed ∷ acts) (told ∷ trace) new = (between : Owing S) × ToldStep step old timed.act told between × Trace step between acts trace new
 Trace step old [] (told ∷ trace) new = ⊥
 Trace step old (timed ∷ acts) [] new = ⊥
 

@@ -4,7 +4,7 @@ use Rattle.cbor_profile.specs.Tree.{count}
 use Rattle.cbor_profile.specs.declared.item.Item.{Item}
 use Rattle.dots_heads.specs.declared.reject.Reject.{Reject}
 use Rattle.dots_keys.specs.Configurations.{fraction_in}
-use Rattle.dots_keys.specs.FieldViews.{items_seen}
+use Rattle.dots_keys.specs.FieldValues.{items_seen}
 use Rattle.dots_keys.specs.Mitigations.{only_item}
 use Rattle.dots_heads.specs.Results.{◌>>=◌}
 

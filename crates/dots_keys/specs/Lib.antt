@@ -1,5 +1,5 @@
 pub mod Configurations
-pub mod FieldViews
+pub mod FieldValues
 pub mod Fields
 pub mod Heartbeats
 pub mod Keys

@@ -1,11 +1,11 @@
 //! The body of a configuration (RFC 9132, section 4.5.2).
 
 ghost use Rattle.std.specs.Prelude.{◌≡◌};
-ghost use Rattle.cbor_profile.specs.View.{tree_of};
+ghost use Rattle.cbor_profile.specs.ItemTrees.{tree_of};
 ghost use Rattle.dots_keys.specs.Configurations.{config_key_of, config_field, no_config, signal_config, configuration_of};
 ghost use Rattle.dots_keys.specs.Fields.{each_field};
-ghost use Rattle.dots_keys.specs.FieldViews.{fields_left};
-ghost use Rattle.dots_heads.specs.Results.{Leaves};
+ghost use Rattle.dots_keys.specs.FieldValues.{fields_left};
+ghost use Rattle.dots_heads.specs.Results.{ReadsInto};
 
 use crate::fields::Fields;
 use crate::offer::offer_under;
@@ -41,7 +41,7 @@ fn config_key_of(key: u8) -> Option<ConfigKey>
 impl ConfigBody {
     /// Adds what a field says.
     fn take(&mut self, key: u8, value: &Item) -> Result<(), Reject>
-        ensures { Leaves result self.new (config_field self.old key (tree_of value.now)) }
+        ensures { ReadsInto result self.new (config_field self.old key (tree_of value.now)) }
     {
         match config_key_of(key) {
             Some(ConfigKey::Mitigating) => {

@@ -1,9 +1,9 @@
 //! The fields of a map.
 
 ghost use Rattle.std.specs.Prelude.{◌≡◌, [], ◌∷◌, ℕ, List, Ok, Err, IfOk, IfErr, OnOk, MatchResult, MatchOption};
-ghost use Rattle.cbor_profile.specs.View.{tree_of};
+ghost use Rattle.cbor_profile.specs.ItemTrees.{tree_of};
 ghost use Rattle.dots_keys.specs.Fields.{Field, known, unknown, fields_of, first_field, refusal_of, all_unsigned};
-ghost use Rattle.dots_keys.specs.FieldViews.{fields_left, pairs_seen};
+ghost use Rattle.dots_keys.specs.FieldValues.{fields_left, pairs_seen};
 ghost use Rattle.dots_heads.specs.Results.{Reads, unknown_key};
 
 use crate::keys::{Role, key_role};

@@ -1,7 +1,7 @@
 //! The body of a heartbeat (RFC 9132, section 4.7).
 
 ghost use Rattle.std.specs.Prelude.{◌≡◌};
-ghost use Rattle.cbor_profile.specs.View.{tree_of};
+ghost use Rattle.cbor_profile.specs.ItemTrees.{tree_of};
 ghost use Rattle.dots_keys.specs.Fields.{sole_field};
 ghost use Rattle.dots_keys.specs.Heartbeats.{peer_status, heartbeat_of};
 

@@ -1,7 +1,7 @@
 //! The body of a request for a mitigation (RFC 9132, section 4.4.1).
 
 ghost use Rattle.std.specs.Prelude.{◌≡◌, ◌≢◌, [], ◌∷◌, length, MatchOption};
-ghost use Rattle.cbor_profile.specs.View.{tree_of};
+ghost use Rattle.cbor_profile.specs.ItemTrees.{tree_of};
 ghost use Rattle.dots_keys.specs.Fields.{sole_field};
 ghost use Rattle.dots_keys.specs.Mitigations.{only_scope, mitigation_of};
 ghost use Rattle.dots_heads.specs.Results.{Gives};

@@ -1,7 +1,7 @@
 //! Numbers as values of a configuration (RFC 9132, section 4.5.2).
 
 ghost use Rattle.std.specs.Prelude.{◌≡◌};
-ghost use Rattle.cbor_profile.specs.View.{tree_of};
+ghost use Rattle.cbor_profile.specs.ItemTrees.{tree_of};
 ghost use Rattle.dots_keys.specs.Configurations.{number_under, decimal_under, hundredths_of_one, fraction_in, decimal_in, current_decimal};
 ghost use Rattle.cbor_profile.specs.Kind.{items_in};
 

@@ -1,11 +1,11 @@
 //! The values that are offered for one state of a session (RFC 9132, section 4.5.2).
 
 ghost use Rattle.std.specs.Prelude.{◌≡◌};
-ghost use Rattle.cbor_profile.specs.View.{tree_of};
+ghost use Rattle.cbor_profile.specs.ItemTrees.{tree_of};
 ghost use Rattle.dots_keys.specs.Configurations.{offer_key_of, offer_field, no_offer, offers_nothing, offer_under};
 ghost use Rattle.dots_keys.specs.Fields.{each_field};
-ghost use Rattle.dots_keys.specs.FieldViews.{fields_left};
-ghost use Rattle.dots_heads.specs.Results.{Leaves};
+ghost use Rattle.dots_keys.specs.FieldValues.{fields_left};
+ghost use Rattle.dots_heads.specs.Results.{ReadsInto};
 
 use crate::fields::Fields;
 use crate::numbers::{decimal_under, number_under};
@@ -81,7 +81,7 @@ impl Offer {
 
     /// Adds what a field says.
     fn take(&mut self, key: u8, value: &Item) -> Result<(), Reject>
-        ensures { Leaves result self.new (offer_field self.old key (tree_of value.now)) }
+        ensures { ReadsInto result self.new (offer_field self.old key (tree_of value.now)) }
     {
         match offer_key_of(key) {
             Some(OfferKey::Interval) => {

@@ -1,9 +1,9 @@
 //! A range of ports in `target-port-range` (RFC 9132, section 4.4.1).
 
 ghost use Rattle.std.specs.Prelude.{◌≡◌};
-ghost use Rattle.cbor_profile.specs.View.{tree_of};
+ghost use Rattle.cbor_profile.specs.ItemTrees.{tree_of};
 ghost use Rattle.dots_keys.specs.Fields.{each_field};
-ghost use Rattle.dots_keys.specs.FieldViews.{fields_left};
+ghost use Rattle.dots_keys.specs.FieldValues.{fields_left};
 ghost use Rattle.dots_keys.specs.Mitigations.{range_key_of, port_of, not_below, range_field, no_ports, range_with, range_of};
 
 use crate::fields::Fields;

@@ -2,13 +2,13 @@
 
 ghost use Rattle.std.specs.Prelude.{◌≡◌, ◌≢◌, ◌/◌, Err, IsOk, IfOk, IfErr};
 ghost use Rattle.cbor_profile.specs.Spelling.{Spells};
-ghost use Rattle.cbor_profile.specs.View.{tree_of};
-ghost use Rattle.dots_heads.specs.HeadViews.{head_view};
+ghost use Rattle.cbor_profile.specs.ItemTrees.{tree_of};
+ghost use Rattle.dots_heads.specs.HeadValues.{head_value};
 ghost use Rattle.dots_heads.specs.Heads.{head_of};
 ghost use Rattle.dots_keys.specs.Askable.{IsAskable};
 ghost use Rattle.dots_keys.specs.Lifetimes.{HasLifetime};
 ghost use Rattle.dots_keys.specs.Meaning.{IsBody, AnswersBody, ReadsAs, Means, put_mitigation_with, put_config_with, put_heartbeat_with};
-ghost use Rattle.dots_heads.specs.OperationViews.{IsNamed};
+ghost use Rattle.dots_heads.specs.OperationValues.{IsNamed};
 ghost use Rattle.dots_heads.specs.Results.{Fulfils, UnlessNoMemory};
 
 use crate::configuration::configuration_of;
@@ -41,7 +41,7 @@ pub fn read_request(alloc: Global, message: &Message<'_>, gateway: bool) -> Resu
 /// The request of this head with this payload.
 fn complete(alloc: Global, head: &Head<'_>, payload: &[u8]) -> Result<Request, Reject>
     requires { IsNamed head.now.operation }
-    ensures { UnlessNoMemory result (ReadsAs (Ok (head_view head.now)) payload.now result) }
+    ensures { UnlessNoMemory result (ReadsAs (Ok (head_value head.now)) payload.now result) }
 {
     match head.operation {
         Operation::PutMitigation(parameters) => {

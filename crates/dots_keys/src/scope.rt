@@ -1,9 +1,9 @@
 //! The scope of a mitigation (RFC 9132, section 4.4.1).
 
 ghost use Rattle.std.specs.Prelude.{◌≡◌};
-ghost use Rattle.cbor_profile.specs.View.{tree_of};
+ghost use Rattle.cbor_profile.specs.ItemTrees.{tree_of};
 ghost use Rattle.dots_keys.specs.Fields.{each_field};
-ghost use Rattle.dots_keys.specs.FieldViews.{fields_left};
+ghost use Rattle.dots_keys.specs.FieldValues.{fields_left};
 ghost use Rattle.dots_keys.specs.Mitigations.{scope_key_of, scope_field, nothing_asked, whole_scope, has_target, lifetime_of, refuse_trigger, scope_of};
 ghost use Rattle.dots_heads.specs.Results.{Gives, Stores};
 

@@ -2,9 +2,9 @@
 
 ghost use Rattle.std.specs.Prelude.{◌≡◌, option_map};
 ghost use Rattle.cbor_profile.specs.Kind.{items_in};
-ghost use Rattle.cbor_profile.specs.View.{tree_of};
+ghost use Rattle.cbor_profile.specs.ItemTrees.{tree_of};
 ghost use Rattle.ip_scope.specs.PrefixReader.{prefix_in};
-ghost use Rattle.dots_keys.specs.FieldViews.{items_seen};
+ghost use Rattle.dots_keys.specs.FieldValues.{items_seen};
 ghost use Rattle.dots_keys.specs.Mitigations.{at_most, array_under, prefix_of, protocol_of, name_of, range_of};
 ghost use Rattle.dots_heads.specs.Results.{Gives};
 

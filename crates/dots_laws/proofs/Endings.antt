@@ -7,7 +7,7 @@ use Rattle.dots_history.specs.declared.entry.Entry.{Entry}
 use Rattle.dots_history.specs.declared.put.Put.{Put}
 use Rattle.dots_history.specs.declared.status.Status.{Status}
 use Rattle.dots_history.specs.declared.status.Status.TheVariants.{Ended, Open, Withdrawn}
-use Rattle.dots_history.specs.Entries.{put_of, granted_at, option_any, lasts, runs}
+use Rattle.dots_history.specs.Entries.{put_of, granted_at, option_any, is_unexpired, runs}
 use Rattle.dots_history.specs.Histories.{Mitigation, live, seconds_left, seconds_of, seconds_of_grant}
 use Rattle.dots_laws.specs.Views.{mitigations_at}
 use Rattle.dots_laws.specs.Tables.{Over, Until, end_of_grant, end_of_put, end_of, is_before, seconds_until, is_due}
@@ -23,7 +23,7 @@ put_end t at None = refl
 put_end t at (Some put) = granted_end t at put.granted
 
 runs_end : (t : ℕ) (put : Entry) → runs t put ≡ is_before t (end_of_put put.time (put_of put.change))
-unfolding runs lasts
+unfolding runs is_unexpired
 runs_end t put = put_end t put.time (put_of put.change)
 
 or_false : (b : Bool) → (b || false) ≡ b

@@ -14,7 +14,7 @@ use Rattle.dots_history.specs.declared.put.Put.{Put}
 use Rattle.dots_history.specs.declared.status.Status.TheVariants.{Open}
 use Rattle.dots_history.specs.declared.change.Change.{Change}
 use Rattle.dots_history.specs.declared.change.Change.TheVariants as change
-use Rattle.dots_history.specs.Entries.{same_client, put_of, withdrawn_mid, holds_of_both, overlaps, ends, replaces, withdraws, takes_back, is_held, undoes, undoes_of_client, undoes_alias, undoes_acl, is_leave, undoes_of_peer, is_configuration, reconfigures}
+use Rattle.dots_history.specs.Entries.{same_client, put_of, withdrawn_mid, holds_of_both, overlaps, ends, replaces, withdraws, takes_back, is_held, undoes, undoes_of_client, undoes_alias, undoes_acl, is_deregister, undoes_of_peer, is_configuration, reconfigures}
 use Rattle.dots_history.specs.Histories.{Mitigation, Within, tally, is_nil, live, step, mitigations, held}
 use Rattle.dots_history.specs.Keeping.{moved}
 use Rattle.dots_settings.specs.Lookups.{no_domain, role_of, prefixes_of}
@@ -286,7 +286,7 @@ has_domains settings (x ∷ xs) e all own =
 -- ---- registered clients
 leaves_both : (c x later : Change) → is_registration c ≡ true → is_alias x || is_list x ≡ true → undoes_of_client c later ≡ true
     → undoes_of_client x later ≡ true
-unfolding is_registration is_alias is_list undoes_of_client undoes_alias undoes_acl is_leave
+unfolding is_registration is_alias is_list undoes_of_client undoes_alias undoes_acl is_deregister
 leaves_both change.Register (change.SetAlias alias) change.Deregister is own undone = refl
 leaves_both change.Register (change.SetAlias alias) _ is own undone = absurd (false≢true undone)
 leaves_both change.Register (change.SetAcl acl) change.Deregister is own undone = refl
@@ -300,7 +300,7 @@ registration_of_client change.Register later is = refl
 registration_of_client _ later is = absurd (false≢true is)
 
 owned_not_registered : (c later : Change) → is_registration c ≡ true → is_alias later || is_list later ≡ true → undoes_of_client c later ≡ false
-unfolding is_registration is_alias is_list undoes_of_client is_leave
+unfolding is_registration is_alias is_list undoes_of_client is_deregister
 owned_not_registered change.Register (change.SetAlias alias) is own = refl
 owned_not_registered change.Register (change.SetAcl acl) is own = refl
 owned_not_registered change.Register _ is own = absurd (false≢true own)

@@ -35,9 +35,9 @@ kept_is_part keep passed (e ∷ later) =
     (λ out. part_more (kept_by keep (pass passed e) later) e later (kept_is_part keep (pass passed e) later))
 
 -- its times don't fall
-pub within_more : (low mid high : ℕ) (entries : List Entry) → low ≤ mid → Within mid entries high → Within low entries high
-within_more low mid high [] less within = le_trans less within
-within_more low mid high (e ∷ later) less within = (le_trans less within.0, within.1)
+pub within_more : (low between high : ℕ) (entries : List Entry) → low ≤ between → Within between entries high → Within low entries high
+within_more low between high [] less within = le_trans less within
+within_more low between high (e ∷ later) less within = (le_trans less within.0, within.1)
 
 pub kept_within : (keep : Keeper) (passed : List Mitigation) (low high : ℕ) (entries : List Entry) → Within low entries high → Within low (kept_by keep passed entries) high
 kept_within keep passed low high [] within = within

@@ -6,7 +6,7 @@ use Rattle.dots_history.specs.declared.entry.Entry.{Entry}
 use Rattle.dots_history.specs.declared.put.Put.{Put}
 use Rattle.dots_history.specs.declared.status.Status.{Status}
 use Rattle.dots_history.specs.declared.status.Status.TheVariants.{Ended, Open, Withdrawn}
-use Rattle.dots_history.specs.Entries.{ends, withdraws, runs, lasts, granted_at, option_any, put_of}
+use Rattle.dots_history.specs.Entries.{ends, withdraws, runs, is_unexpired, granted_at, option_any, put_of}
 use Rattle.dots_history.specs.Histories.{Within, step, status, live}
 use Rattle.dots_history.proofs.Fates.{ended_stays}
 
@@ -33,7 +33,7 @@ option_no_more t u at None less out = refl
 option_no_more t u at (Some p) less out = granted_no_more t u at p.granted less out
 
 pub runs_no_more : (t u : ℕ) (put : Entry) → t ≤ u → runs t put ≡ false → runs u put ≡ false
-unfolding runs lasts
+unfolding runs is_unexpired
 runs_no_more t u put less out = option_no_more t u put.time (put_of put.change) less out
 
 -- over time

@@ -14,7 +14,7 @@ pub mod Views
 pub mod Calmness
 pub mod Counting
 pub mod Fitting
-pub mod Reading
+pub mod HistoryReading
 pub mod Alone
 pub mod Keyed
 pub mod Bounding

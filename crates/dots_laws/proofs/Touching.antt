@@ -9,7 +9,7 @@ use Rattle.dots_history.specs.declared.status.Status.{Status}
 use Rattle.dots_history.specs.declared.status.Status.TheVariants.{Ended, Open, Withdrawn}
 use Rattle.dots_history.specs.declared.change.Change.{Change}
 use Rattle.dots_history.specs.declared.change.Change.TheVariants as change
-use Rattle.dots_history.specs.Entries.{same_client, put_of, withdrawn_mid, holds_of_both, overlaps, replaces, ends, takes_back, withdraws, granted_at, option_any, lasts, runs, is_signal, signals, is_held}
+use Rattle.dots_history.specs.Entries.{same_client, put_of, withdrawn_mid, holds_of_both, overlaps, replaces, ends, takes_back, withdraws, granted_at, option_any, is_unexpired, runs, is_signal, signals, is_held}
 use Rattle.dots_history.specs.Histories.{step, live}
 
 -- the second of two that are there
@@ -44,7 +44,7 @@ held_no_put _ is = refl
 
 -- what is no mitigation is never live
 pub no_put_no_run : (t : ℕ) (e : Entry) → put_of e.change ≡ None → runs t e ≡ false
-unfolding runs lasts
+unfolding runs is_unexpired
 no_put_no_run t e none = ap (option_any (λ (p : Put). granted_at t e.time p.granted)) none
 
 pub never_live : (t : ℕ) (e : Entry) (s : Status) → put_of e.change ≡ None → live t e s ≡ false

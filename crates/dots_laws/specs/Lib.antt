@@ -1,7 +1,7 @@
 pub mod Calm
 pub mod Capacities
 pub mod Firsts
-pub mod Reading
+pub mod HistoryReading
 pub mod Views
 pub mod Tables
 pub mod Turns

@@ -19,7 +19,7 @@ ghost use Rattle.dots_settings.specs.Settings.{SettingsValue};
 ghost use Rattle.dots_laws.specs.Calm.{IsCalmBy, is_own, capacities_of};
 ghost use Rattle.dots_laws.specs.Capacities.{Capacities, KeepsCapacities, belongs, most_named};
 ghost use Rattle.dots_laws.specs.Firsts.{IsFirstEnder};
-ghost use Rattle.dots_laws.specs.Reading.{SaySame};
+ghost use Rattle.dots_laws.specs.HistoryReading.{SaySame};
 ghost use Rattle.dots_laws.specs.Turns.{Turn, TurnsRise, time_after, applied, view_after};
 ghost use Rattle.dots_laws.specs.Views.{view_at, view_with, mitigations_of};
 ghost use Rattle.dots_laws.specs.Containing.{scrubs_inside, lists_inside};

@@ -10,38 +10,38 @@ use Rattle.dots_laws.proofs.CalmCuts.{calm_more, named_is_calm}
 use Rattle.dots_laws.specs.Filed.{Filed, slot_of}
 use Rattle.dots_registry.specs.Kept.{filed, named_slots}
 use Rattle.dots_registry.proofs.Numbering.{filed_rise}
-use Rattle.dots_registry.specs.Standing.{time_of, number_remembered}
-use Rattle.dots_registry.specs.Filed.{StandsIn}
+use Rattle.dots_registry.specs.RegistryValues.{time_of, number_remembered}
+use Rattle.dots_registry.specs.Filed.{RepresentsFiled}
 use Rattle.slot_store.proofs.Steps.{begins, leaves_as}
-use Rattle.slot_journal.specs.Held.{entries_at}
-use Rattle.dots_ledger.specs.Standing.{LedgerValue, StandsFor, joins_at}
+use Rattle.slot_journal.specs.DiskEntries.{entries_at}
+use Rattle.dots_ledger.specs.LedgerValues.{LedgerValue, Represents, joins_at}
 use Rattle.dots_ledger.specs.Crashes.{HoldsEither, HoldsOne}
 use Rattle.dots_ledger.proofs.Slots.{named_there}
-use Rattle.dots_ledger.proofs.Standing.{joins_entries, kept_with, later_of, kept_again}
+use Rattle.dots_ledger.proofs.LedgerValues.{joins_entries, kept_with, later_of, kept_again}
 
 -- the entries, or what the view names
-pub compacting : (ledger : LedgerValue) (settings : SettingsValue) (history entries : List Entry) (e : Entry) (image : ℕ → ℕ) → StandsFor ledger settings history entries
+pub compacting : (ledger : LedgerValue) (settings : SettingsValue) (history entries : List Entry) (e : Entry) (image : ℕ → ℕ) → Represents ledger settings history entries
     → HoldsOne settings entries (kept (number_remembered ledger.registry) (time_of ledger.registry) entries) image
     → HoldsEither settings (number_remembered ledger.registry) (time_of ledger.registry) history e image
-compacting ledger settings history entries e image stands (inl old) = inl (record { entries = entries; holds = old; calm = stands.calm; kept = stands.kept })
-compacting ledger settings history entries e image stands (inr few) =
+compacting ledger settings history entries e image represents (inl old) = inl (record { entries = entries; holds = old; calm = represents.calm; kept = represents.kept })
+compacting ledger settings history entries e image represents (inr few) =
     inl (record {
       entries = kept (number_remembered ledger.registry) (time_of ledger.registry) entries;
       holds = few;
-      calm = named_is_calm settings (number_remembered ledger.registry) (time_of ledger.registry) entries stands.calm;
-      kept = kept_again ledger settings history entries stands;
+      calm = named_is_calm settings (number_remembered ledger.registry) (time_of ledger.registry) entries represents.calm;
+      kept = kept_again ledger settings history entries represents;
     })
 
 -- the entries, or one more
-pub appending : (ledger : LedgerValue) (settings : SettingsValue) (history entries : List Entry) (e : Entry) (image : ℕ → ℕ) → StandsFor ledger settings history entries
+pub appending : (ledger : LedgerValue) (settings : SettingsValue) (history entries : List Entry) (e : Entry) (image : ℕ → ℕ) → Represents ledger settings history entries
     → joins_at settings (time_of ledger.registry) history e ≡ true → HoldsOne settings entries (entries ++ e ∷ []) image
     → HoldsEither settings (number_remembered ledger.registry) (time_of ledger.registry) history e image
-appending ledger settings history entries e image stands joins (inl old) = inl (record { entries = entries; holds = old; calm = stands.calm; kept = stands.kept })
-appending ledger settings history entries e image stands joins (inr more) =
+appending ledger settings history entries e image represents joins (inl old) = inl (record { entries = entries; holds = old; calm = represents.calm; kept = represents.kept })
+appending ledger settings history entries e image represents joins (inr more) =
     inr (record {
       entries = entries ++ e ∷ [];
       holds = more;
-      calm = calm_more settings entries e stands.calm (joins_entries ledger settings history entries e stands joins);
+      calm = calm_more settings entries e represents.calm (joins_entries ledger settings history entries e represents joins);
       kept = kept_with
           (number_remembered ledger.registry)
           (time_of ledger.registry)
@@ -49,15 +49,15 @@ appending ledger settings history entries e image stands joins (inr more) =
           entries
           history
           (later_of settings (time_of ledger.registry) history e joins)
-          stands.kept;
+          represents.kept;
     })
 
 -- what the slots of a compaction hold
-pub entries_kept : (ledger : LedgerValue) (settings : SettingsValue) (history entries : List Entry) (keep : List ℕ) → StandsFor ledger settings history entries
-    → ((all : List Filed) → StandsIn ledger.registry all → Rises (map slot_of all) → keep ≡ named_slots (number_remembered ledger.registry) (time_of ledger.registry) all)
+pub entries_kept : (ledger : LedgerValue) (settings : SettingsValue) (history entries : List Entry) (keep : List ℕ) → Represents ledger settings history entries
+    → ((all : List Filed) → RepresentsFiled ledger.registry all → Rises (map slot_of all) → keep ≡ named_slots (number_remembered ledger.registry) (time_of ledger.registry) all)
     → entries_at entries keep ≡ kept (number_remembered ledger.registry) (time_of ledger.registry) entries
-entries_kept ledger settings history entries keep stands named =
-    ap (entries_at entries) (named (filed entries) stands.stands_in (filed_rise entries))
+entries_kept ledger settings history entries keep represents named =
+    ap (entries_at entries) (named (filed entries) represents.represents_filed (filed_rise entries))
     ∙ named_there (number_remembered ledger.registry) (time_of ledger.registry) entries
 
 -- ---- over two calls
@@ -65,24 +65,24 @@ entries_kept ledger settings history entries keep stands named =
 pub stays_left : (old new : Option Media) (P : (ℕ → ℕ) → Type 0) → new ≡ old → Leaves old new P
 stays_left old new P same = subst (λ m. Leaves old m P) (sym same) (begins old P)
 
-pub leaves_compacting : (old new : Option Media) (ledger : LedgerValue) (settings : SettingsValue) (history entries : List Entry) (e : Entry) → StandsFor ledger settings history entries
+pub leaves_compacting : (old new : Option Media) (ledger : LedgerValue) (settings : SettingsValue) (history entries : List Entry) (e : Entry) → Represents ledger settings history entries
     → Leaves old new (HoldsOne settings entries (kept (number_remembered ledger.registry) (time_of ledger.registry) entries))
     → Leaves old new (HoldsEither settings (number_remembered ledger.registry) (time_of ledger.registry) history e)
-leaves_compacting old new ledger settings history entries e stands =
+leaves_compacting old new ledger settings history entries e represents =
     leaves_as
     old
     new
     (HoldsOne settings entries (kept (number_remembered ledger.registry) (time_of ledger.registry) entries))
     (HoldsEither settings (number_remembered ledger.registry) (time_of ledger.registry) history e)
-    (λ image. compacting ledger settings history entries e image stands)
+    (λ image. compacting ledger settings history entries e image represents)
 
-pub leaves_appending : (old new : Option Media) (ledger : LedgerValue) (settings : SettingsValue) (history entries : List Entry) (e : Entry) → StandsFor ledger settings history entries
+pub leaves_appending : (old new : Option Media) (ledger : LedgerValue) (settings : SettingsValue) (history entries : List Entry) (e : Entry) → Represents ledger settings history entries
     → joins_at settings (time_of ledger.registry) history e ≡ true → Leaves old new (HoldsOne settings entries (entries ++ e ∷ []))
     → Leaves old new (HoldsEither settings (number_remembered ledger.registry) (time_of ledger.registry) history e)
-leaves_appending old new ledger settings history entries e stands joins =
+leaves_appending old new ledger settings history entries e represents joins =
     leaves_as
     old
     new
     (HoldsOne settings entries (entries ++ e ∷ []))
     (HoldsEither settings (number_remembered ledger.registry) (time_of ledger.registry) history e)
-    (λ image. appending ledger settings history entries e image stands joins)
+    (λ image. appending ledger settings history entries e image represents joins)

@@ -1,4 +1,4 @@
-pub mod Standing
+pub mod LedgerValues
 pub mod Slots
 pub mod Images
 pub mod Answering

@@ -22,27 +22,27 @@ use Rattle.dots_registry.proofs.Numbering.{filed_entries, filed_more}
 use Rattle.dots_laws.specs.Filed.{Filed}
 use Rattle.slot_store.specs.Layout.{place_of, needed_of}
 use Rattle.slot_store.proofs.Steps.{rests_as}
-use Rattle.slot_store.specs.Standing.{JournalValue}
+use Rattle.slot_store.specs.StoreValues.{JournalValue}
 use Rattle.slot_journal.specs.declared.fault.JournalFault.{JournalFault}
 use Rattle.slot_journal.specs.declared.fault.JournalFault.TheVariants as fault
 use Rattle.slot_journal.specs.Sizes.{slots_of}
-use Rattle.slot_journal.specs.Held.{HasRecord, Holds}
-use Rattle.slot_journal.specs.Held as journal
+use Rattle.slot_journal.specs.DiskEntries.{HasRecord, Holds}
+use Rattle.slot_journal.specs.DiskEntries as journal
 use Rattle.slot_journal.specs.Refused.{Refuses, Caused}
 use Rattle.slot_journal.proofs.Crashing.{held_not_refused, one_history}
-use Rattle.dots_registry.specs.Standing.{RegistryValue, IsOf, time_of, number_remembered}
-use Rattle.dots_registry.specs.Standing as registry
-use Rattle.dots_registry.specs.Filed.{StandsIn, most_kept}
+use Rattle.dots_registry.specs.RegistryValues.{RegistryValue, IsOf, time_of, number_remembered}
+use Rattle.dots_registry.specs.RegistryValues as registry
+use Rattle.dots_registry.specs.Filed.{RepresentsFiled, most_kept}
 use Rattle.dots_registry.specs.Fitting.{FitsIn, fits_now}
 use Rattle.dots_registry.proofs.Conditions.{timed_within}
-use Rattle.dots_ledger.specs.Standing.{LedgerValue, StandsFor}
+use Rattle.dots_ledger.specs.LedgerValues.{LedgerValue, Represents}
 use Rattle.dots_ledger.specs.Beginning.{HasTaken, IsApart, joins_now, RefusesEntries, RefusesLedger, IsFailure}
 
 -- ---- one entry
 
--- the tables stand for the entries that were taken
-pub taken_stand : (settings : SettingsValue) (entries : List Entry) (r : RegistryValue) → HasTaken settings entries r → registry.StandsFor r entries
-taken_stand settings entries r taken = subst (registry.StandsFor r) (filed_entries entries) taken.stands_in.stands
+-- the tables represent the entries that were taken
+pub taken_stand : (settings : SettingsValue) (entries : List Entry) (r : RegistryValue) → HasTaken settings entries r → registry.Represents r entries
+taken_stand settings entries r taken = subst (registry.Represents r) (filed_entries entries) taken.represents_filed.represents
 
 last_more : (t : ℕ) (entries : List Entry) (e : Entry) → last_or t (entries ++ e ∷ []) ≡ e.time
 last_more t [] e = refl
@@ -80,30 +80,30 @@ early_apart settings before e r taken early = false_from_ne_true (joins settings
     by_time late = let same = taken.time in omega (arith, early, late, same)
 
 -- what joins can be applied
-pub fits_taken : (settings : SettingsValue) (r : RegistryValue) (before : List Entry) (e : Entry) → IsOf settings r → registry.StandsFor r before
+pub fits_taken : (settings : SettingsValue) (r : RegistryValue) (before : List Entry) (e : Entry) → IsOf settings r → registry.Represents r before
     → joins_now settings r before e ≡ true → FitsIn r e
-fits_taken settings r before e is_of stands is = record {
+fits_taken settings r before e is_of represents is = record {
   settings = settings;
   entries = before;
   is_of = is_of;
-  stands = stands;
+  represents = represents;
   fits = (and_parts (fits_now settings r before e) (came_rightly e && has_one_peer e (mitigations (time_of r) before)) is).0;
 }
 
 -- one entry more
 pub taken_more : (settings : SettingsValue) (before : List Entry) (slot : ℕ) (e staged : Entry) (old new : RegistryValue) → staged ≡ e
     → (IsOf settings old → IsOf settings new)
-    → (StandsIn old (filed before) → StandsIn new (filed before ++ record { entry = staged; slot = slot } ∷ []))
+    → (RepresentsFiled old (filed before) → RepresentsFiled new (filed before ++ record { entry = staged; slot = slot } ∷ []))
     → time_of new ≡ staged.time → slot ≡ length before → joins settings before e ≡ true → HasTaken settings before old
     → HasTaken settings (before ++ e ∷ []) new
 taken_more settings before slot e staged old new same keep file time place is taken = record {
   is_of = keep taken.is_of;
-  stands_in = subst
-      (StandsIn new)
+  represents_filed = subst
+      (RepresentsFiled new)
       (ap (λ (x : Entry). filed before ++ record { entry = x; slot = slot } ∷ []) same
       ∙ ap (λ (k : ℕ). filed before ++ record { entry = e; slot = k } ∷ []) place
       ∙ sym (filed_more before e))
-      (file taken.stands_in);
+      (file taken.represents_filed);
   calm = calm_more settings before e taken.calm is;
   time = time ∙ ap (λ (x : Entry). x.time) same ∙ sym (last_more 0 before e);
 }
@@ -148,16 +148,16 @@ time_small settings entries r at now taken each early is =
 
 pub stands_begun : (settings : SettingsValue) (entries : List Entry) (taken : RegistryValue) (ledger : LedgerValue) → HasTaken settings entries taken
     → (IsOf settings taken → IsOf settings ledger.registry)
-    → ((es : List Entry) → registry.StandsFor taken es → registry.StandsFor ledger.registry es)
-    → ((all : List Filed) → StandsIn taken all → StandsIn ledger.registry all)
+    → ((es : List Entry) → registry.Represents taken es → registry.Represents ledger.registry es)
+    → ((all : List Filed) → RepresentsFiled taken all → RepresentsFiled ledger.registry all)
     → ledger.journal.used ≡ length entries → ledger.journal.slots ≡ slots_of settings
-    → ((r : RegistryValue) → IsOf settings r → most_kept r < slots_of settings) → StandsFor ledger settings entries entries
+    → ((r : RegistryValue) → IsOf settings r → most_kept r < slots_of settings) → Represents ledger settings entries entries
 stands_begun settings entries taken ledger has keep stand file used slots few =
     let less = few ledger.registry (keep has.is_of) in
     record {
       is_of = keep has.is_of;
       registry = stand entries (taken_stand settings entries taken has);
-      stands_in = file (filed entries) has.stands_in;
+      represents_filed = file (filed entries) has.represents_filed;
       calm = has.calm;
       kept = kept_refl (number_remembered ledger.registry) (time_of ledger.registry) entries;
       used = used;
@@ -171,13 +171,13 @@ time_begun settings entries r at time now taken is most = most ∙ ap (max at) (
 -- ---- why none begins
 
 -- as many slots are in use as there are entries
-pub used_many : (new : Option Media) (settings : SettingsValue) (j : JournalValue) (entries : List Entry) → RestsWith new (journal.StandsFor j settings entries)
+pub used_many : (new : Option Media) (settings : SettingsValue) (j : JournalValue) (entries : List Entry) → RestsWith new (journal.Represents j settings entries)
     → j.used ≡ length entries
 used_many None settings j entries rests = absurd rests
-used_many (Some media) settings j entries rests = rests.1.stands.used ∙ length-map entries record_bytes
+used_many (Some media) settings j entries rests = rests.1.represents.used ∙ length-map entries record_bytes
 
 pub refuses_stray : (settings : SettingsValue) (extent : ℕ) (seen : ℕ → ℕ) (new : Option Media) (j : JournalValue) (entries : List Entry) (why : JournalFault)
-    → j.slots ≡ slots_of settings → Holds settings seen entries → RestsWith new (journal.StandsFor j settings entries) → RefusesEntries settings j entries why
+    → j.slots ≡ slots_of settings → Holds settings seen entries → RestsWith new (journal.Represents j settings entries) → RefusesEntries settings j entries why
     → RefusesLedger settings extent seen new why
 refuses_stray settings extent seen new j entries (fault.NotOurs at) slots holds rests why =
     inr (record {
@@ -187,12 +187,12 @@ refuses_stray settings extent seen new j entries (fault.NotOurs at) slots holds 
       apart = why.1;
       there = rests_as
           new
-          (journal.StandsFor j settings entries)
+          (journal.Represents j settings entries)
           (λ image. at ≡ place_of (slots_of settings) (image 48 % 2) why.0)
-          (λ image stands.
+          (λ image represents.
           why.2
           ∙ ap (λ n. place_of n (j.selector % 2) why.0) slots
-          ∙ ap (λ n. place_of (slots_of settings) (n % 2) why.0) (sym stands.stands.selector))
+          ∙ ap (λ n. place_of (slots_of settings) (n % 2) why.0) (sym represents.represents.selector))
           rests;
     })
 refuses_stray settings extent seen new j entries fault.NoMemory slots holds rests why = tt

@@ -12,10 +12,10 @@ use Rattle.dots_settings.specs.Settings.{SettingsValue, IsSettings, IsNoStranger
 use Rattle.dots_history.specs.Slots.{Slots}
 use Rattle.dots_laws.specs.Calm.{numbers_from}
 use Rattle.coap_exchange.specs.Pairs.{below, pairs_with_each, pair_with, pairs_of_role, pairs_of_row, pairs_of}
-use Rattle.dots_registry.specs.Standing.{RegistryValue, IsOf}
+use Rattle.dots_registry.specs.RegistryValues.{RegistryValue, IsOf}
 use Rattle.dots_registry.specs.Filed.{most_kept}
 use Rattle.slot_journal.specs.Sizes.{is_client_role, clients_of, gateways_of, kept_of_domain, actors_of, kept_at_most, slots_of}
-use Rattle.dots_ledger.proofs.Standing.{pair_actor, most_by, most_is}
+use Rattle.dots_ledger.proofs.LedgerValues.{pair_actor, most_by, most_is}
 
 -- ---- lengths
 

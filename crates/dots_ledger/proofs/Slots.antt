@@ -11,7 +11,7 @@ use Rattle.dots_registry.specs.Kept.{filed_kept_by, filed_kept, named_slots, fil
 use Rattle.dots_registry.proofs.Staying.{by_first, kept_entries}
 use Rattle.dots_registry.proofs.Numbering.{named_are, filed_entries}
 use Rattle.slot_store.specs.Copying.{AreSlots}
-use Rattle.slot_journal.specs.Held.{entries_at}
+use Rattle.slot_journal.specs.DiskEntries.{entries_at}
 
 -- each stands at its place among these entries
 abbrev Stand : List Entry → List Filed → Type 0

@@ -1,4 +1,4 @@
--- A registry and a ledger that stand for entries with the view of a history stand for the whole history, where its entries are the
+-- A registry and a ledger that represent entries with the view of a history represent the whole history, where its entries are the
 -- settings' own.
 use Rattle.std.proofs.Common.{◌≡◌, ℕ, Bool, true, not, List, [], ◌∷◌, map, filter, inl, inr, refl, sym, ap, ◌∙◌, subst}
 use Rattle.std.specs.Prelude.{nat_lt}
@@ -14,18 +14,18 @@ use Rattle.dots_laws.specs.Tables.{bare, bare_mitigation, ring}
 use Rattle.dots_laws.specs.Views.{mitigations_of}
 use Rattle.dots_laws.proofs.Apart.{apart}
 use Rattle.dots_laws.proofs.Bare.{bare_mitigations}
-use Rattle.live_mitigations.specs.Standing.{LiveValue, puts, is_inside}
-use Rattle.live_mitigations.specs.Standing as lives
+use Rattle.live_mitigations.specs.LiveValues.{LiveValue, puts, is_inside}
+use Rattle.live_mitigations.specs.LiveValues as lives
 use Rattle.held_resources.specs.Tables.{Have}
 use Rattle.coap_exchange.specs.Rings.{RingValue}
 use Rattle.coap_exchange.specs.Noting.{Remembers, AllRemember, said_by_entry}
-use Rattle.installed_filters.proofs.Standing.{rows_same}
+use Rattle.installed_filters.proofs.HistoryRows.{rows_same}
 use Rattle.installed_filters.proofs.Limits.{limits_same}
-use Rattle.dots_registry.specs.Standing.{RegistryValue, IsOf, time_of, number_remembered, has_ring}
-use Rattle.dots_registry.specs.Standing as registry
+use Rattle.dots_registry.specs.RegistryValues.{RegistryValue, IsOf, time_of, number_remembered, has_ring}
+use Rattle.dots_registry.specs.RegistryValues as registry
 use Rattle.dots_registry.proofs.Rings.{own_has_ring}
-use Rattle.dots_registry.proofs.Standing.{own_inside}
-use Rattle.dots_ledger.specs.Standing.{LedgerValue, StandsFor}
+use Rattle.dots_registry.proofs.RegistryValues.{own_inside}
+use Rattle.dots_ledger.specs.LedgerValues.{LedgerValue, Represents}
 
 -- ---- by the settings
 
@@ -69,13 +69,13 @@ same_ring : (n peer domain : ℕ) (few all : List Entry) → recent n few ≡ re
 same_ring n peer domain few all same =
     sym (recent_are_lasts n peer domain few) ∙ ap (filter (signals peer domain)) same ∙ recent_are_lasts n peer domain all
 
-live_whole : (live : LiveValue) (few all : List Entry) → mitigations live.time few ≡ mitigations live.time all → lives.StandsFor live few
-    → list_all (is_inside live.domains) all ≡ true → Within 0 all live.time → lives.StandsFor live all
-live_whole live few all same stands inside within = record {
+live_whole : (live : LiveValue) (few all : List Entry) → mitigations live.time few ≡ mitigations live.time all → lives.Represents live few
+    → list_all (is_inside live.domains) all ≡ true → Within 0 all live.time → lives.Represents live all
+live_whole live few all same represents inside within = record {
   in_order = within;
   inside = inside;
-  are_tables = stands.are_tables;
-  rows = λ domain less. stands.rows domain less ∙ same_alone live.time domain few all same;
+  are_tables = represents.are_tables;
+  rows = λ domain less. represents.rows domain less ∙ same_alone live.time domain few all same;
 }
 
 remember_whole : (n : ℕ) (rings : List RingValue) (few all : List Entry) → recent n few ≡ recent n all → AllRemember n rings few → AllRemember n rings all
@@ -85,9 +85,9 @@ remember_whole n rings few all same remembers = λ peer domain r there.
 
 -- ---- the whole
 
-pub registry_whole : (settings : SettingsValue) (r : RegistryValue) (few all : List Entry) → IsOf settings r → registry.StandsFor r few
-    → Kept (number_remembered r) (time_of r) few all → list_all (is_own settings) all ≡ true → Within 0 all (time_of r) → registry.StandsFor r all
-registry_whole settings r few all is_of stands same own within =
+pub registry_whole : (settings : SettingsValue) (r : RegistryValue) (few all : List Entry) → IsOf settings r → registry.Represents r few
+    → Kept (number_remembered r) (time_of r) few all → list_all (is_own settings) all ≡ true → Within 0 all (time_of r) → registry.Represents r all
+registry_whole settings r few all is_of represents same own within =
     let alive : mitigations (time_of r) few ≡ mitigations (time_of r) all = ap (λ (v : View). v.mitigations) same.same_view in
     let standing : held few ≡ held all = ap (λ (v : View). v.held) same.same_view in
     record {
@@ -96,25 +96,25 @@ registry_whole settings r few all is_of stands same own within =
           few
           all
           alive
-          stands.live
+          represents.live
           (own_passes settings (is_inside r.live.domains) (λ e is. inside_of settings r e is_of is) all own)
           within;
-      held = subst (Have r.held) standing stands.held;
-      remembered = remember_whole (number_remembered r) r.rings few all (ap (λ (v : View). v.recent) same.same_view) stands.remembered;
+      held = subst (Have r.held) standing represents.held;
+      remembered = remember_whole (number_remembered r) r.rings few all (ap (λ (v : View). v.recent) same.same_view) represents.remembered;
       signalled = own_passes settings (has_ring r.rings) (λ e is. own_has_ring settings r e is_of is) all own;
-      filters = rows_same r.filters (time_of r) all few (sym alive) (sym standing) stands.filters;
-      limits = limits_same r.live.limits (time_of r) all few (sym alive) (sym standing) stands.limits;
+      filters = rows_same r.filters (time_of r) all few (sym alive) (sym standing) represents.filters;
+      limits = limits_same r.live.limits (time_of r) all few (sym alive) (sym standing) represents.limits;
     }
 
-pub ledger_whole : (ledger : LedgerValue) (settings : SettingsValue) (entries history : List Entry) → StandsFor ledger settings entries entries
+pub ledger_whole : (ledger : LedgerValue) (settings : SettingsValue) (entries history : List Entry) → Represents ledger settings entries entries
     → Kept (number_remembered ledger.registry) (time_of ledger.registry) entries history → list_all (is_own settings) history ≡ true
-    → Within 0 history (time_of ledger.registry) → StandsFor ledger settings history entries
-ledger_whole ledger settings entries history stands same own within = record {
-  is_of = stands.is_of;
-  registry = registry_whole settings ledger.registry entries history stands.is_of stands.registry same own within;
-  stands_in = stands.stands_in;
-  calm = stands.calm;
+    → Within 0 history (time_of ledger.registry) → Represents ledger settings history entries
+ledger_whole ledger settings entries history represents same own within = record {
+  is_of = represents.is_of;
+  registry = registry_whole settings ledger.registry entries history represents.is_of represents.registry same own within;
+  represents_filed = represents.represents_filed;
+  calm = represents.calm;
   kept = same;
-  used = stands.used;
-  free = stands.free;
+  used = represents.used;
+  free = represents.free;
 }

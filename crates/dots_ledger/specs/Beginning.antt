@@ -8,26 +8,26 @@ use Rattle.dots_history.specs.Histories.{mitigations}
 use Rattle.dots_laws.specs.Calm.{came_rightly}
 use Rattle.dots_laws.specs.Fits.{last_time, joins, is_calm, has_one_peer}
 use Rattle.dots_registry.specs.Kept.{filed}
-use Rattle.dots_registry.specs.Standing.{RegistryValue, IsOf, time_of}
-use Rattle.dots_registry.specs.Filed.{StandsIn}
+use Rattle.dots_registry.specs.RegistryValues.{RegistryValue, IsOf, time_of}
+use Rattle.dots_registry.specs.Filed.{RepresentsFiled}
 use Rattle.dots_registry.specs.Fitting.{fits_now}
 use Rattle.slot_store.specs.Layout.{place_of}
 use Rattle.slot_store.specs.Gates.{Sees}
-use Rattle.slot_store.specs.Standing.{JournalValue}
+use Rattle.slot_store.specs.StoreValues.{JournalValue}
 use Rattle.slot_journal.specs.declared.fault.JournalFault.{JournalFault}
 use Rattle.slot_journal.specs.declared.fault.JournalFault.TheVariants as fault
 use Rattle.slot_journal.specs.Sizes.{slots_of}
 use Rattle.std.specs.List.{AllByRecursion}
-use Rattle.slot_journal.specs.Held.{Holds, HasRecord}
-use Rattle.slot_journal.specs.Held as journal
+use Rattle.slot_journal.specs.DiskEntries.{Holds, HasRecord}
+use Rattle.slot_journal.specs.DiskEntries as journal
 use Rattle.slot_journal.specs.Refused.{Refuses}
-use Rattle.dots_ledger.specs.Standing.{LedgerValue, StandsFor}
+use Rattle.dots_ledger.specs.LedgerValues.{LedgerValue, Represents}
 
 -- A registry of these settings has the tables of these entries, each in the slot of its place, at the time of the last one; and the
 -- entries are calm.
 pub record HasTaken (settings : SettingsValue) (entries : List Entry) (registry : RegistryValue) : Type 0 where
   pub is_of : IsOf settings registry
-  pub stands_in : StandsIn registry (filed entries)
+  pub represents_filed : RepresentsFiled registry (filed entries)
   pub calm : is_calm settings entries ≡ true
   pub time : time_of registry ≡ last_time entries
 
@@ -41,15 +41,15 @@ abbrev pub joins_now : SettingsValue → RegistryValue → List Entry → Entry 
 joins_now settings registry before e =
     fits_now settings registry before e && (came_rightly e && has_one_peer e (mitigations (time_of registry) before))
 
--- A ledger begins with the entries that the disk held: it stands for them at the greater of this time and that of the last one, and the
+-- A ledger begins with the entries that the disk held: it represents them at the greater of this time and that of the last one, and the
 -- disk rests with them.
 pub record HasBegun (settings : SettingsValue) (at : ℕ) (start now : Option Media) (ledger : LedgerValue) : Type 0 where
   pub entries : List Entry
   pub each : AllByRecursion HasRecord entries
-  pub stands : StandsFor ledger settings entries entries
+  pub represents : Represents ledger settings entries entries
   pub time : time_of ledger.registry ≡ max at (last_time entries)
   pub held : (seen : ℕ → ℕ) → Sees start seen → Holds settings seen entries
-  pub rests : (seen : ℕ → ℕ) → Sees start seen → RestsWith now (journal.StandsFor ledger.journal settings entries)
+  pub rests : (seen : ℕ → ℕ) → Sees start seen → RestsWith now (journal.Represents ledger.journal settings entries)
 
 -- ---- why it doesn't
 

@@ -4,7 +4,7 @@ use Rattle.dots_settings.specs.Settings.{SettingsValue}
 use Rattle.dots_history.specs.declared.entry.Entry.{Entry}
 use Rattle.dots_history.specs.Histories.{Kept}
 use Rattle.dots_laws.specs.Fits.{is_calm}
-use Rattle.slot_journal.specs.Held.{Holds}
+use Rattle.slot_journal.specs.DiskEntries.{Holds}
 
 -- An image of a disk holds calm entries that are a part of this history with its view at this time, when n messages are remembered.
 pub record HoldsKept (settings : SettingsValue) (n t : ℕ) (history : List Entry) (image : ℕ → ℕ) : Type 0 where

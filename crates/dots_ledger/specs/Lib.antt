@@ -1,3 +1,3 @@
-pub mod Standing
+pub mod LedgerValues
 pub mod Crashes
 pub mod Beginning

@@ -5,14 +5,14 @@ ghost use Rattle.dots_disk.specs.Becoming.{Leaves, RestsWith};
 ghost use Rattle.dots_settings.specs.Settings.{SettingsValue};
 ghost use Rattle.dots_history.specs.declared.entry.Entry.{Entry};
 ghost use Rattle.dots_laws.specs.Fits.{is_calm};
-ghost use Rattle.dots_registry.specs.Standing.{RegistryValue, IsOf};
+ghost use Rattle.dots_registry.specs.RegistryValues.{RegistryValue, IsOf};
 ghost use Rattle.dots_registry.specs.Filed.{most_kept};
 ghost use Rattle.slot_store.specs.Layout.{needed_of};
 ghost use Rattle.slot_store.specs.Opening.{Is};
 ghost use Rattle.slot_store.specs.Gates.{Sees};
 ghost use Rattle.slot_journal.specs.declared.fault.JournalFault.{JournalFault};
 ghost use Rattle.slot_journal.specs.Sizes.{slots_of};
-ghost use Rattle.slot_journal.specs.Held.{Holds};
+ghost use Rattle.slot_journal.specs.DiskEntries.{Holds};
 ghost use Rattle.slot_journal.specs.Refused.{Caused};
 ghost use Rattle.dots_ledger.specs.Beginning.{HasTaken, HasBegun, RefusesLedger, IsFailure};
 
@@ -45,7 +45,7 @@ impl Ledger {
         ensures moments { (seen : ℕ → ℕ) (entries : List Entry) → RestsWith (D.media disk.old) (Is seen) → Holds settings.now seen entries
             → Leaves (D.media disk.old) (D.media disk.new) (λ image. Holds settings.now image entries) }
 
-        // It stands for what the disk held, which is calm, and the disk rests with that.
+        // It represents what the disk held, which is calm, and the disk rests with that.
         ensures recovered { IfOk result (HasBegun settings.now at (D.media disk.old) (D.media disk.new)) }
         ensures size { IfOk result (λ ledger. (ledger.journal.slots ≡ slots_of settings.now) × (needed_of (slots_of settings.now) ≤ D.extent disk.new)) }
 

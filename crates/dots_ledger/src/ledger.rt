@@ -7,10 +7,10 @@ ghost use Rattle.dots_history.specs.declared.entry.Entry.{Entry};
 ghost use Rattle.dots_history.specs.Keeping.{kept};
 ghost use Rattle.dots_settings.specs.Settings.{SettingsValue};
 ghost use Rattle.live_mitigations.specs.Ends.{never};
-ghost use Rattle.dots_registry.specs.Standing.{time_of, number_remembered};
+ghost use Rattle.dots_registry.specs.RegistryValues.{time_of, number_remembered};
 ghost use Rattle.slot_store.specs.Layout.{needed_of};
-ghost use Rattle.slot_journal.specs.Held as journal;
-ghost use Rattle.dots_ledger.specs.Standing.{StandsFor, CanAccept, joins_at};
+ghost use Rattle.slot_journal.specs.DiskEntries as journal;
+ghost use Rattle.dots_ledger.specs.LedgerValues.{Represents, CanAccept, joins_at};
 ghost use Rattle.dots_ledger.specs.Crashes.{HoldsEither, HoldsOne};
 
 use dots_disk::Disk;
@@ -31,13 +31,13 @@ pub struct Ledger {
 impl Model for Ledger {
     ghost use Rattle.std.specs.Prelude.{◌≤◌};
     ghost use Rattle.dots_registry.specs.Filed.{most_kept};
-    ghost use Rattle.dots_ledger.specs.Standing.{LedgerValue, IsStanding};
+    ghost use Rattle.dots_ledger.specs.LedgerValues.{LedgerValue, RepresentsSome};
 
     ghost Value = { LedgerValue };
 
     ghost view = { λ ledger. record { registry = ledger.registry; journal = ledger.journal } };
 
-    ghost invariant = { λ ledger. IsStanding (record { registry = ledger.registry; journal = ledger.journal }) × (most_kept ledger.registry ≤ ledger.keep.room) };
+    ghost invariant = { λ ledger. RepresentsSome (record { registry = ledger.registry; journal = ledger.journal }) × (most_kept ledger.registry ≤ ledger.keep.room) };
 }
 
 impl Ledger {
@@ -52,8 +52,8 @@ impl Ledger {
     pub fn tick(&mut self, now: u64)
         requires later { time_of self.old.registry ≤ now }
         requires bounded { now < never }
-        ensures stands { (settings : SettingsValue) (history entries : List Entry) → StandsFor self.old settings history entries
-            → StandsFor self.new settings history entries }
+        ensures represents { (settings : SettingsValue) (history entries : List Entry) → Represents self.old settings history entries
+            → Represents self.new settings history entries }
         ensures time { time_of self.new.registry ≡ now }
         ensures journal { self.new.journal ≡ self.old.journal }
     {
@@ -77,19 +77,19 @@ impl Ledger {
         requires can { CanAccept self.old staged }
 
         // At each moment each image holds what has the view of the history, or of the history with the entry.
-        ensures moments { (settings : SettingsValue) (history entries : List Entry) → StandsFor self.old settings history entries
+        ensures moments { (settings : SettingsValue) (history entries : List Entry) → Represents self.old settings history entries
             → joins_at settings (time_of self.old.registry) history staged ≡ true
-            → RestsWith (D.media disk.old) (journal.StandsFor self.old.journal settings entries)
+            → RestsWith (D.media disk.old) (journal.Represents self.old.journal settings entries)
             → Leaves (D.media disk.old) (D.media disk.new) (HoldsEither settings (number_remembered self.old.registry) (time_of self.old.registry) history staged) }
 
-        // In the end it stands for the history with the entry, and the disk rests with what it then stands for.
-        ensures accepted { OnOk result ((settings : SettingsValue) (history entries : List Entry) → StandsFor self.old settings history entries
+        // In the end it represents the history with the entry, and the disk rests with what it then represents.
+        ensures accepted { OnOk result ((settings : SettingsValue) (history entries : List Entry) → Represents self.old settings history entries
             → joins_at settings (time_of self.old.registry) history staged ≡ true
-            → (few : List Entry) × StandsFor self.new settings (history ++ staged ∷ []) few
-            × (RestsWith (D.media disk.old) (journal.StandsFor self.old.journal settings entries)
-            → RestsWith (D.media disk.new) (journal.StandsFor self.new.journal settings few))) }
-        ensures refused { OnErr result ((settings : SettingsValue) (history entries : List Entry) → StandsFor self.old settings history entries
-            → (few : List Entry) × StandsFor self.new settings history few) }
+            → (few : List Entry) × Represents self.new settings (history ++ staged ∷ []) few
+            × (RestsWith (D.media disk.old) (journal.Represents self.old.journal settings entries)
+            → RestsWith (D.media disk.new) (journal.Represents self.new.journal settings few))) }
+        ensures refused { OnErr result ((settings : SettingsValue) (history entries : List Entry) → Represents self.old settings history entries
+            → (few : List Entry) × Represents self.new settings history few) }
 
         ensures time { OnOk result (time_of self.new.registry ≡ staged.time) }
         ensures still { OnErr result (time_of self.new.registry ≡ time_of self.old.registry) }
@@ -107,13 +107,13 @@ impl Ledger {
     /// Compacts the journal where no slot is free.
     fn make_room<D: Disk>(&mut self, disk: &mut D) -> Result<(), DiskFault>
         requires size { needed_of self.old.journal.slots ≤ D.extent disk.old }
-        ensures moments { (settings : SettingsValue) (history entries : List Entry) → StandsFor self.old settings history entries
-            → RestsWith (D.media disk.old) (journal.StandsFor self.old.journal settings entries)
+        ensures moments { (settings : SettingsValue) (history entries : List Entry) → Represents self.old settings history entries
+            → RestsWith (D.media disk.old) (journal.Represents self.old.journal settings entries)
             → Leaves (D.media disk.old) (D.media disk.new) (HoldsOne settings entries (kept (number_remembered self.old.registry) (time_of self.old.registry) entries)) }
-        ensures compacted { OnOk result ((settings : SettingsValue) (history entries : List Entry) → StandsFor self.old settings history entries
-            → (few : List Entry) × StandsFor self.new settings history few
-            × (RestsWith (D.media disk.old) (journal.StandsFor self.old.journal settings entries)
-            → RestsWith (D.media disk.new) (journal.StandsFor self.new.journal settings few))) }
+        ensures compacted { OnOk result ((settings : SettingsValue) (history entries : List Entry) → Represents self.old settings history entries
+            → (few : List Entry) × Represents self.new settings history few
+            × (RestsWith (D.media disk.old) (journal.Represents self.old.journal settings entries)
+            → RestsWith (D.media disk.new) (journal.Represents self.new.journal settings few))) }
         ensures room { OnOk result (self.new.journal.used < self.new.journal.slots) }
         ensures same { OnErr result (self.new ≡ self.old) }
         ensures time { time_of self.new.registry ≡ time_of self.old.registry }
@@ -132,13 +132,13 @@ impl Ledger {
     /// Keeps in the journal what the view names alone.
     fn compact<D: Disk>(&mut self, disk: &mut D) -> Result<(), DiskFault>
         requires size { needed_of self.old.journal.slots ≤ D.extent disk.old }
-        ensures moments { (settings : SettingsValue) (history entries : List Entry) → StandsFor self.old settings history entries
-            → RestsWith (D.media disk.old) (journal.StandsFor self.old.journal settings entries)
+        ensures moments { (settings : SettingsValue) (history entries : List Entry) → Represents self.old settings history entries
+            → RestsWith (D.media disk.old) (journal.Represents self.old.journal settings entries)
             → Leaves (D.media disk.old) (D.media disk.new) (HoldsOne settings entries (kept (number_remembered self.old.registry) (time_of self.old.registry) entries)) }
-        ensures compacted { OnOk result ((settings : SettingsValue) (history entries : List Entry) → StandsFor self.old settings history entries
-            → StandsFor self.new settings history (kept (number_remembered self.old.registry) (time_of self.old.registry) entries)
-            × (RestsWith (D.media disk.old) (journal.StandsFor self.old.journal settings entries)
-            → RestsWith (D.media disk.new) (journal.StandsFor self.new.journal settings (kept (number_remembered self.old.registry) (time_of self.old.registry) entries)))) }
+        ensures compacted { OnOk result ((settings : SettingsValue) (history entries : List Entry) → Represents self.old settings history entries
+            → Represents self.new settings history (kept (number_remembered self.old.registry) (time_of self.old.registry) entries)
+            × (RestsWith (D.media disk.old) (journal.Represents self.old.journal settings entries)
+            → RestsWith (D.media disk.new) (journal.Represents self.new.journal settings (kept (number_remembered self.old.registry) (time_of self.old.registry) entries)))) }
         ensures room { OnOk result (self.new.journal.used < self.new.journal.slots) }
         ensures same { OnErr result (self.new ≡ self.old) }
         ensures time { time_of self.new.registry ≡ time_of self.old.registry }
@@ -160,14 +160,14 @@ impl Ledger {
         requires size { needed_of self.old.journal.slots ≤ D.extent disk.old }
         requires room { self.old.journal.used < self.old.journal.slots }
         requires can { CanAccept self.old staged }
-        ensures moments { (settings : SettingsValue) (history entries : List Entry) → StandsFor self.old settings history entries
-            → RestsWith (D.media disk.old) (journal.StandsFor self.old.journal settings entries)
+        ensures moments { (settings : SettingsValue) (history entries : List Entry) → Represents self.old settings history entries
+            → RestsWith (D.media disk.old) (journal.Represents self.old.journal settings entries)
             → Leaves (D.media disk.old) (D.media disk.new) (HoldsOne settings entries (entries ++ staged ∷ [])) }
-        ensures appended { OnOk result ((settings : SettingsValue) (history entries : List Entry) → StandsFor self.old settings history entries
+        ensures appended { OnOk result ((settings : SettingsValue) (history entries : List Entry) → Represents self.old settings history entries
             → joins_at settings (time_of self.old.registry) history staged ≡ true
-            → StandsFor self.new settings (history ++ staged ∷ []) (entries ++ staged ∷ [])
-            × (RestsWith (D.media disk.old) (journal.StandsFor self.old.journal settings entries)
-            → RestsWith (D.media disk.new) (journal.StandsFor self.new.journal settings (entries ++ staged ∷ [])))) }
+            → Represents self.new settings (history ++ staged ∷ []) (entries ++ staged ∷ [])
+            × (RestsWith (D.media disk.old) (journal.Represents self.old.journal settings entries)
+            → RestsWith (D.media disk.new) (journal.Represents self.new.journal settings (entries ++ staged ∷ [])))) }
         ensures same { OnErr result (self.new ≡ self.old) }
         ensures time { OnOk result (time_of self.new.registry ≡ staged.time) }
         ensures slots { self.new.journal.slots ≡ self.old.journal.slots }

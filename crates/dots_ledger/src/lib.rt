@@ -1,4 +1,4 @@
-//! What a server has accepted: on its disk, and in the tables that stand for it.
+//! What a server has accepted: on its disk, and in the tables that represent it.
 //!
 //! A [`Ledger`] has a journal and a registry. [`Ledger::begin`] recovers the entries of a disk, and makes the tables anew of them
 //! (`specs/Beginning`). [`Ledger::accept`] appends an entry to the journal, and then takes it into the tables; where

@@ -5,8 +5,8 @@ ghost use Rattle.std.specs.List.{AllByRecursion};
 ghost use Rattle.dots_history.specs.declared.entry.Entry.{Entry};
 ghost use Rattle.dots_history.specs.Bounds.{within_bounds};
 ghost use Rattle.dots_laws.specs.Fits.{joins};
-ghost use Rattle.dots_registry.specs.Standing.{StandsFor, IsOf};
-ghost use Rattle.slot_journal.specs.Held.{HasRecord};
+ghost use Rattle.dots_registry.specs.RegistryValues.{Represents, IsOf};
+ghost use Rattle.slot_journal.specs.DiskEntries.{HasRecord};
 ghost use Rattle.dots_ledger.specs.Beginning.{HasTaken, HasTakenSome, joins_now, RefusesEntries};
 
 use dots_history::Entry;
@@ -78,7 +78,7 @@ fn take(
 /// Whether an entry at the time joins the entries of which these are the tables.
 fn joins(registry: &Registry, settings: &Settings, entry: &Entry) -> bool
     requires { IsOf settings.now registry.now }
-    ensures { (before : List Entry) → StandsFor registry.now before → result ≡ joins_now settings.now registry.now before entry.now }
+    ensures { (before : List Entry) → Represents registry.now before → result ≡ joins_now settings.now registry.now before entry.now }
 {
     registry.fits(settings, entry) && came_rightly(entry) && registry.has_one_peer(entry)
 }

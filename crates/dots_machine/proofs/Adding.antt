@@ -31,7 +31,7 @@ module _ (settings : SettingsValue) (old : State) (peer : ℕ) (datagram : List 
   adds_so : (v : Verdict) → Decides settings old peer datagram v → Adds (after v old)
   adds_so verdict.Silent decides = inl refl
   adds_so (verdict.Reply reply) decides = inl refl
-  adds_so (verdict.Told reply) decides = inl refl
+  adds_so (verdict.LongReply reply) decides = inl refl
   adds_so (verdict.Accept reply entry) decides = inr (entry, refl, accepts_so reply entry decides)
 
   module _ (are : AreBytes datagram) (sends : List OwnedOut) (new : State) where

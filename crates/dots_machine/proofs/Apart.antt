@@ -27,7 +27,7 @@ use Rattle.dots_machine.specs.declared.verdict.Verdict.TheVariants as verdict
 use Rattle.dots_machine.specs.Domains.{domain_for, session_domain}
 use Rattle.dots_machine.specs.Targets.{scope_fault}
 use Rattle.dots_machine.specs.Replies.{not_implemented}
-use Rattle.dots_machine.specs.Repeats.{Sent, sent_for}
+use Rattle.dots_machine.specs.MessageRepeats.{Sent, sent_for}
 use Rattle.dots_machine.specs.Mitigations.{sent_by, request_of, judged, lives}
 use Rattle.dots_machine.specs.Machine.{State, later, asks_for, DecidesRequest, Rules, Decides, by_silence, by_rules, for_want_of_memory, sends_of, after, Answers, Step}
 use Rattle.dots_machine.specs.Verdicts.{repeated, unless_repeated, unless_faulty, put_verdict, is_taken, stands_as, delete_by, delete_verdict, get_by, get_verdict, in_domain, with_mid, put_in, put_for, delete_in, delete_for, get_for, config_for, asked_verdict}
@@ -41,7 +41,7 @@ module _ (settings : SettingsValue) where
     same_after : (v : Verdict) → SameFor domain (after v one) (after v other)
     same_after verdict.Silent = same
     same_after (verdict.Reply reply) = same
-    same_after (verdict.Told reply) = same
+    same_after (verdict.LongReply reply) = same
     same_after (verdict.Accept reply entry) = record {
       time = same.time;
       entries = filter-append (λ e. e.domain == domain) one.history (entry ∷ []) ∙ ap (λ entries. entries ++ alone domain (entry ∷ [])) same.entries
@@ -55,7 +55,7 @@ module _ (settings : SettingsValue) where
     pub untouched : (another : ℕ) (v : Verdict) → another ≢ domain → AcceptsWell another v → Untouched v
     untouched another verdict.Silent there well = refl
     untouched another (verdict.Reply reply) there well = refl
-    untouched another (verdict.Told reply) there well = refl
+    untouched another (verdict.LongReply reply) there well = refl
     untouched another (verdict.Accept reply entry) there well =
         filter-append (λ e. e.domain == domain) one.history (entry ∷ []) ∙ by_test (entry.domain == domain) refl
       where

@@ -77,7 +77,7 @@ stranger_nowhere settings who r domain is found =
 refusal_adds_nothing : (v : Verdict) (state : State) → IsRefusal v → after v state ≡ state
 refusal_adds_nothing verdict.Silent state none = refl
 refusal_adds_nothing (verdict.Reply reply) state none = refl
-refusal_adds_nothing (verdict.Told reply) state none = absurd none
+refusal_adds_nothing (verdict.LongReply reply) state none = absurd none
 refusal_adds_nothing (verdict.Accept reply entry) state none = absurd none
 
 dismissal_adds_nothing : (d : Dismissal) (state : State) → after (dismissal_verdict d) state ≡ state
@@ -176,7 +176,7 @@ module _ (settings : SettingsValue) (domain : ℕ) (old : State) (turn : Turn) (
       time_kept : (v : Verdict) → (after v now).time ≡ now.time
       time_kept verdict.Silent = refl
       time_kept (verdict.Reply reply) = refl
-      time_kept (verdict.Told reply) = refl
+      time_kept (verdict.LongReply reply) = refl
       time_kept (verdict.Accept reply entry) = refl
 
       -- for the domain
@@ -207,7 +207,7 @@ module _ (settings : SettingsValue) (domain : ℕ) (old : State) (turn : Turn) (
           added : (v : Verdict) → AcceptsWell domain v → alone domain (after v now).history ≡ alone domain old.history ++ entries_of v
           added verdict.Silent well = sym (append-nil (alone domain old.history))
           added (verdict.Reply reply) well = sym (append-nil (alone domain old.history))
-          added (verdict.Told reply) well = sym (append-nil (alone domain old.history))
+          added (verdict.LongReply reply) well = sym (append-nil (alone domain old.history))
           added (verdict.Accept reply entry) well =
               filter-append (λ e. e.domain == domain) old.history (entry ∷ [])
               ∙ ap (λ es. alone domain old.history ++ es) (cond-true (entry.domain == domain) (entry ∷ []) [] (grind (arith, nat_tests, well.1)))
@@ -273,16 +273,16 @@ module _ (settings : SettingsValue) (domain : ℕ) (old : State) (turn : Turn) (
   one_turn_isolated is = by_event turn.what is.owed refl is.sent is.step
 
 module _ (settings : SettingsValue) (domain : ℕ) where
-  isolated_then : (old : State) (turn : Turn) (mid : State) (turns : List Turn) (new : State) → IsTurn settings old turn mid → IsIsolated settings mid turns new domain
-      → Taken settings domain old turn mid ⊎ Passed settings domain old turn mid → IsIsolated settings old (turn ∷ turns) new domain
-  isolated_then old turn mid turns new is rest (inl (taken, takes, decided, decides, told, entries)) = record {
+  isolated_then : (old : State) (turn : Turn) (between : State) (turns : List Turn) (new : State) → IsTurn settings old turn between → IsIsolated settings between turns new domain
+      → Taken settings domain old turn between ⊎ Passed settings domain old turn between → IsIsolated settings old (turn ∷ turns) new domain
+  isolated_then old turn between turns new is rest (inl (taken, takes, decided, decides, told, entries)) = record {
     requests = taken ∷ rest.requests;
-    are = (mid, is, inl (taken, rest.requests, refl, takes, rest.are));
+    are = (between, is, inl (taken, rest.requests, refl, takes, rest.are));
     make = (decided, decides, told, subst (λ es. Make settings es rest.requests (alone domain new.history)) entries rest.make);
   }
-  isolated_then old turn mid turns new is rest (inr (passes, entries)) = record {
+  isolated_then old turn between turns new is rest (inr (passes, entries)) = record {
     requests = rest.requests;
-    are = (mid, is, inr (passes, rest.are));
+    are = (between, is, inr (passes, rest.are));
     make = subst (λ es. Make settings es rest.requests (alone domain new.history)) entries rest.make;
   }
 

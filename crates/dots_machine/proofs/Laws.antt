@@ -9,7 +9,7 @@ use Rattle.dots_machine.specs.Endings.{KeepsLaws}
 use Rattle.dots_machine.proofs.Adding.{run_adds}
 use Rattle.dots_machine.proofs.Isolation.{run_isolated}
 use Rattle.dots_machine.proofs.Ordering.{run_orderly}
-use Rattle.dots_machine.proofs.Repeating.{run_repeats}
+use Rattle.dots_machine.proofs.RepeatAnswers.{run_repeats}
 
 pub keeps_laws : (settings : SettingsValue) (from : State) (acts : List Timed) (trace : List State) (new : State) → Trace (Step settings) (resting from) acts trace (resting new)
     → KeepsLaws settings from (turns_of acts) new

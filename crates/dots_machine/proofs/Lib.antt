@@ -1,9 +1,9 @@
 pub mod Apart
-pub mod Repeats
+pub mod MessageRepeats
 pub mod OneAnswer
 pub mod OneRequest
 pub mod OneState
-pub mod Repeating
+pub mod RepeatAnswers
 pub mod Outcomes
 pub mod Verdicts
 pub mod Turns
@@ -15,4 +15,4 @@ pub mod Ordering
 pub mod Laws
 pub mod Surviving
 pub mod Going
-pub mod Kept
+pub mod RememberedMessages

@@ -7,7 +7,7 @@ use Rattle.dots_host.specs.declared.event.Event.TheVariants as event
 use Rattle.dots_host.specs.declared.out.OwnedOut.{OwnedOut}
 use Rattle.dots_host.specs.Runs.{outs_of, each_telling}
 use Rattle.dots_host.proofs.RunLemmas.{outs_back}
-use Rattle.cbor_profile.proofs.Readings.{held, same_reading, same_front, one_fault, not_spelled}
+use Rattle.cbor_profile.proofs.WholeReading.{held, same_reading, same_front, one_fault, not_spelled}
 use Rattle.coap_message.specs.Message.{CoapMessage, header, options_bytes, payload_bytes, spelling}
 use Rattle.dots_keys.proofs.OneMeaning.{OneReading}
 use Rattle.dots_settings.specs.Settings.{SettingsValue}

@@ -2,7 +2,7 @@
 use Rattle.std.proofs.Common.{◌≡◌, ℕ, Bool, List, [], Some, None, Result, Ok, Err, refl, sym, ap, ◌∙◌, subst}
 use Rattle.cbor_profile.specs.Tree.{Tree}
 use Rattle.cbor_profile.specs.Spelling.{Spells}
-use Rattle.cbor_profile.proofs.Readings.{same_reading}
+use Rattle.cbor_profile.proofs.WholeReading.{same_reading}
 use Rattle.coap_message.specs.Message.{CoapMessage, IsMessage, spelling}
 use Rattle.coap_message.proofs.Whole.{one_message}
 use Rattle.coap_message.proofs.Faults.{breaks_no_message}

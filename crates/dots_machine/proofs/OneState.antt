@@ -29,13 +29,13 @@ SendsSuccess _ = ⊥
 refusal_sends : (v : Verdict) (peer : ℕ) → IsRefusal v → SendsSuccess (sends_of v peer) → ⊥
 refusal_sends verdict.Silent peer none s = s
 refusal_sends (verdict.Reply reply) peer none s = false≢true (sym none ∙ s)
-refusal_sends (verdict.Told reply) peer none s = none
+refusal_sends (verdict.LongReply reply) peer none s = none
 refusal_sends (verdict.Accept reply entry) peer none s = none
 
 refusal_is_no_accept : (v : Verdict) → IsRefusal v → IsAccept v → ⊥
 refusal_is_no_accept verdict.Silent none a = a
 refusal_is_no_accept (verdict.Reply reply) none a = a
-refusal_is_no_accept (verdict.Told reply) none a = a
+refusal_is_no_accept (verdict.LongReply reply) none a = a
 refusal_is_no_accept (verdict.Accept reply entry) none a = none
 
 module _ (settings : SettingsValue) (state : State) (peer : ℕ) (datagram : List ℕ) where
@@ -52,7 +52,7 @@ module _ (settings : SettingsValue) (state : State) (peer : ℕ) (datagram : Lis
       told (verdict.Accept reply entry) a well = well
       told verdict.Silent a well = absurd a
       told (verdict.Reply reply) a well = absurd a
-      told (verdict.Told reply) a well = absurd a
+      told (verdict.LongReply reply) a well = absurd a
 
   -- who accepts, and who sends the same, decide the same
   one_accept : (v w : Verdict) → Decides settings state peer datagram v → Decides settings state peer datagram w → sends_of v peer ≡ sends_of w peer → IsAccept v → v ≡ w
@@ -83,13 +83,13 @@ module _ (settings : SettingsValue) (state : State) (peer : ℕ) (datagram : Lis
   by_verdicts v (verdict.Accept reply entry) d e same = sym (ap (λ v. after v state) (one_accept (verdict.Accept reply entry) v e d (sym same) tt))
   by_verdicts verdict.Silent verdict.Silent d e same = refl
   by_verdicts verdict.Silent (verdict.Reply r) d e same = refl
-  by_verdicts verdict.Silent (verdict.Told r) d e same = refl
+  by_verdicts verdict.Silent (verdict.LongReply r) d e same = refl
   by_verdicts (verdict.Reply q) verdict.Silent d e same = refl
   by_verdicts (verdict.Reply q) (verdict.Reply r) d e same = refl
-  by_verdicts (verdict.Reply q) (verdict.Told r) d e same = refl
-  by_verdicts (verdict.Told q) verdict.Silent d e same = refl
-  by_verdicts (verdict.Told q) (verdict.Reply r) d e same = refl
-  by_verdicts (verdict.Told q) (verdict.Told r) d e same = refl
+  by_verdicts (verdict.Reply q) (verdict.LongReply r) d e same = refl
+  by_verdicts (verdict.LongReply q) verdict.Silent d e same = refl
+  by_verdicts (verdict.LongReply q) (verdict.Reply r) d e same = refl
+  by_verdicts (verdict.LongReply q) (verdict.LongReply r) d e same = refl
 
   answered_once : (sends : List OwnedOut) (new last : State) → Answers settings state peer datagram sends new → Answers settings state peer datagram sends last → new ≡ last
   answered_once sends new last a b =

@@ -20,7 +20,7 @@ use Rattle.dots_heads.specs.declared.reject.Reject.TheVariants as reject
 use Rattle.dots_heads.specs.declared.request.Content.{Content}
 use Rattle.dots_keys.specs.declared.request.Request.{Request}
 use Rattle.dots_keys.specs.declared.request.Request.TheVariants as request
-use Rattle.live_mitigations.specs.Reading.{Shown}
+use Rattle.live_mitigations.specs.LiveViews.{LiveView}
 use Rattle.conflict_rules.specs.declared.fault.PutFault.{PutFault}
 use Rattle.conflict_rules.specs.declared.fault.PutFault.TheVariants as faults
 use Rattle.conflict_rules.specs.declared.judging.Judged.{Judged}
@@ -38,8 +38,8 @@ use Rattle.dots_machine.specs.declared.verdict.Verdict.TheVariants as verdict
 use Rattle.dots_machine.specs.Domains.{domain_for, session_domain}
 use Rattle.dots_machine.specs.Targets.{scope_fault}
 use Rattle.dots_machine.specs.Replies.{not_implemented}
-use Rattle.dots_machine.specs.Repeats.{Sent, sent_for, UnlessRepeated, repeats, is_new}
-use Rattle.dots_machine.specs.Mitigations.{entry_of, sent_by, request_of, refusal, judged, UnlessFaulty, client_for, ByRules, DecidesPut, DecidesDelete, name_taken, withdraws, gone, tell, DecidesGet, name_in_use, tells}
+use Rattle.dots_machine.specs.MessageRepeats.{Sent, sent_for, UnlessRepeated, repeats, is_new}
+use Rattle.dots_machine.specs.Mitigations.{entry_of, sent_by, request_of, refusal, judged, UnlessFaulty, client_for, ByRules, DecidesPut, DecidesDelete, name_taken, withdraws, gone, get_reply, DecidesGet, name_in_use, replies}
 use Rattle.dots_machine.specs.Machine.{State, later, restarted, with_entry, asks_for, InDomain, WithMid, PutIn, PutFor, DeleteIn, DeleteFor, GetFor, ConfigFor, DecidesRequest, option_verdict, reject_verdict, dismissal_verdict, Rules, Decides, by_silence, by_rules, for_want_of_memory, after, Step}
 use Rattle.dots_machine.specs.Orderly.{ShareNone, HigherStays, IsOrderly}
 use Rattle.dots_machine.specs.Turns.{Turn, IsTurn, EachTurn, turns_of}
@@ -95,13 +95,13 @@ module _ (settings : SettingsValue) (state : State) where
   of_delete from mid v (withdraws put free has is) = subst AcceptsAs (sym is) (inr (from, mid, _, refl))
   of_delete from mid v (gone free none is) = subst AcceptsAs (sym is) tt
 
-  of_tell : (x : Exchange) (content : Content) (ms : List Shown) → AcceptsAs (tell x content ms)
+  of_tell : (x : Exchange) (content : Content) (ms : List LiveView) → AcceptsAs (get_reply x content ms)
   of_tell x content [] = tt
   of_tell x content (m ∷ ms) = tt
 
   of_get : (from : ClientRequest) (mid : Option ℕ) (content : Content) (v : Verdict) → DecidesGet state.time state.history from mid content v → AcceptsAs v
   of_get from mid content v (name_in_use in_use is) = subst AcceptsAs (sym is) tt
-  of_get from mid content v (tells free is) = subst AcceptsAs (sym is) (of_tell from.exchange content _)
+  of_get from mid content v (replies free is) = subst AcceptsAs (sym is) (of_tell from.exchange content _)
 
   of_domain : (x : Exchange) (found : Option ℕ) (P : ℕ → Verdict → Type 0) (v : Verdict) → ((d : ℕ) → P d v → AcceptsAs v) → InDomain x found P v → AcceptsAs v
   of_domain x None P v each is = subst AcceptsAs (sym is) tt
@@ -196,7 +196,7 @@ module _ (settings : SettingsValue) (state : State) where
   verdict_keeps : (v : Verdict) → AcceptsAs v → IsOrderly state → IsOrderly (after v state)
   verdict_keeps verdict.Silent how orderly = orderly
   verdict_keeps (verdict.Reply reply) how orderly = orderly
-  verdict_keeps (verdict.Told reply) how orderly = orderly
+  verdict_keeps (verdict.LongReply reply) how orderly = orderly
   verdict_keeps (verdict.Accept reply entry) (inl granted) orderly = granted_keeps entry granted orderly
   verdict_keeps (verdict.Accept reply entry) (inr withdrawn) orderly = withdrawn_keeps entry withdrawn orderly
 

@@ -13,7 +13,7 @@ use Rattle.dots_heads.specs.declared.request.MitigationPath.{MitigationPath}
 use Rattle.dots_keys.specs.declared.request.Request.{Request}
 use Rattle.dots_keys.specs.declared.request.Request.TheVariants as request
 use Rattle.dots_keys.specs.declared.request.MitigationBody.{MitigationBody}
-use Rattle.live_mitigations.specs.Reading.{Shown}
+use Rattle.live_mitigations.specs.LiveViews.{LiveView}
 use Rattle.conflict_rules.specs.declared.fault.PutFault.{PutFault}
 use Rattle.conflict_rules.specs.declared.fault.PutFault.TheVariants as faults
 use Rattle.conflict_rules.specs.declared.judging.Judged.{Judged}
@@ -31,8 +31,8 @@ use Rattle.dots_machine.specs.declared.verdict.Verdict.TheVariants as verdict
 use Rattle.dots_machine.specs.Domains.{domain_for, session_domain}
 use Rattle.dots_machine.specs.Targets.{scope_fault}
 use Rattle.dots_machine.specs.Replies.{grant_code, rejection, not_implemented}
-use Rattle.dots_machine.specs.Repeats.{sent_for}
-use Rattle.dots_machine.specs.Mitigations.{sent_by, request_of, refusal, judged, lives, tell}
+use Rattle.dots_machine.specs.MessageRepeats.{sent_for}
+use Rattle.dots_machine.specs.Mitigations.{sent_by, request_of, refusal, judged, lives, get_reply}
 use Rattle.dots_machine.specs.Machine.{State, asks_for, option_verdict, reject_verdict, dismissal_verdict}
 use Rattle.dots_machine.specs.Apart.{domain_of}
 use Rattle.dots_machine.specs.Verdicts.{repeated, unless_repeated, unless_faulty, put_verdict, is_taken, stands_as, delete_by, delete_verdict, get_by, get_verdict, in_domain, with_mid, put_in, put_for, delete_in, delete_for, get_for, config_for, asked_verdict, verdict_on}
@@ -120,7 +120,7 @@ module _ (settings : SettingsValue) (state : State) where
       by_test false true = (refl, refl)
       by_test false false = tt
 
-  tell_accepts : (x : Exchange) (domain : ℕ) (content : Content) (ms : List Shown) → AcceptsWell domain (tell x content ms)
+  tell_accepts : (x : Exchange) (domain : ℕ) (content : Content) (ms : List LiveView) → AcceptsWell domain (get_reply x content ms)
   tell_accepts x domain content [] = tt
   tell_accepts x domain content (m ∷ ms) = tt
 
@@ -182,7 +182,7 @@ module _ (settings : SettingsValue) (state : State) where
   of_domain : (domain : ℕ) (v : Verdict) → AcceptsWell domain v → SucceedsWell v
   of_domain domain verdict.Silent well = tt
   of_domain domain (verdict.Reply reply) well = tt
-  of_domain domain (verdict.Told reply) well = tt
+  of_domain domain (verdict.LongReply reply) well = tt
   of_domain domain (verdict.Accept reply entry) well = well.0
 
   in_domain_succeeds : (x : Exchange) (found : Option ℕ) (f : ℕ → Verdict) → ((d : ℕ) → AcceptsWell d (f d)) → SucceedsWell (in_domain x found f)
@@ -201,7 +201,7 @@ module _ (settings : SettingsValue) (state : State) where
   refusal_succeeds : (v : Verdict) → IsRefusal v → SucceedsWell v
   refusal_succeeds verdict.Silent none = tt
   refusal_succeeds (verdict.Reply reply) none = tt
-  refusal_succeeds (verdict.Told reply) none = tt
+  refusal_succeeds (verdict.LongReply reply) none = tt
   refusal_succeeds (verdict.Accept reply entry) none = absurd none
 
   dismissal_succeeds : (d : Dismissal) → SucceedsWell (dismissal_verdict d)

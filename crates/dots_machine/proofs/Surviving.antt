@@ -20,7 +20,7 @@ use Rattle.dots_ledger.specs.Crashes.{HoldsKept}
 use Rattle.dots_machine.specs.declared.verdict.Verdict.{Verdict}
 use Rattle.dots_machine.specs.declared.verdict.Verdict.TheVariants as verdict
 use Rattle.dots_machine.specs.Machine.{State, later, after, Step}
-use Rattle.dots_machine.specs.Surviving.{Story, entries_told, shown, time_told, time_at, past_of, NoneBefore, StandsAt, EachFrom, LeavesAt}
+use Rattle.dots_machine.specs.Surviving.{Story, entries_shown, shown, time_shown, time_at, past_of, NoneBefore, MeansAt, EachFrom, LeavesAt}
 
 -- ---- runs with all that they tell
 
@@ -31,12 +31,12 @@ module _ (settings : SettingsValue) where
   story_length old new (timed ∷ acts) [] s = absurd s
   story_length old new (timed ∷ acts) (told ∷ trace) s = let same = story_length s.0 new acts trace s.3 in omega (arith, same)
 
-  pub story_then : (old mid new : Owing State) (front back : List Timed) (told later : List State) → Story settings old front told mid → Story settings mid back later new
+  pub story_then : (old between new : Owing State) (front back : List Timed) (told later : List State) → Story settings old front told between → Story settings between back later new
       → Story settings old (front ++ back) (told ++ later) new
-  story_then old mid new [] back [] later a b = subst (λ start. Story settings start back later new) a b
-  story_then old mid new (timed ∷ front) back (state ∷ told) later a b = (a.0, a.1, a.2, story_then a.0 mid new front back told later a.3 b)
-  story_then old mid new [] back (state ∷ told) later a b = absurd a
-  story_then old mid new (timed ∷ front) back [] later a b = absurd a
+  story_then old between new [] back [] later a b = subst (λ start. Story settings start back later new) a b
+  story_then old between new (timed ∷ front) back (state ∷ told) later a b = (a.0, a.1, a.2, story_then a.0 between new front back told later a.3 b)
+  story_then old between new [] back (state ∷ told) later a b = absurd a
+  story_then old between new (timed ∷ front) back [] later a b = absurd a
 
   pub story_trace : (old new : Owing State) (acts : List Timed) (trace : List State) → Story settings old acts trace new → Trace (Step settings) old acts trace new
   story_trace old new [] [] s = s
@@ -67,14 +67,14 @@ shown_then m [] back [] later n same = refl
 shown_then m [] back (state ∷ told) later n same = absurd (omega (arith, same))
 shown_then m (timed ∷ front) back [] later n same = absurd (omega (arith, same))
 shown_then m (timed ∷ front) back (state ∷ told) later n same =
-    shown_then m front back told later (if nat_lt timed.moment m then entries_told timed.act state n else n) (omega (arith, same))
+    shown_then m front back told later (if nat_lt timed.moment m then entries_shown timed.act state n else n) (omega (arith, same))
 
 time_then : (m : ℕ) (front back : List Timed) (told later : List State) (t : ℕ) → length front ≡ length told → time_at m (front ++ back) (told ++ later) t ≡ time_at m back later (time_at m front told t)
 time_then m [] back [] later t same = refl
 time_then m [] back (state ∷ told) later t same = absurd (omega (arith, same))
 time_then m (timed ∷ front) back [] later t same = absurd (omega (arith, same))
 time_then m (timed ∷ front) back (state ∷ told) later t same =
-    time_then m front back told later (if nat_lt timed.moment m then time_told timed.act state t else t) (omega (arith, same))
+    time_then m front back told later (if nat_lt timed.moment m then time_shown timed.act state t else t) (omega (arith, same))
 
 pub none_earlier : (m n : ℕ) (acts : List Timed) → m ≤ n → NoneBefore n acts → NoneBefore m acts
 none_earlier m n [] le late = tt
@@ -84,13 +84,13 @@ shown_late : (m : ℕ) (acts : List Timed) (trace : List State) (n : ℕ) → No
 shown_late m [] trace n late = refl
 shown_late m (timed ∷ acts) [] n late = refl
 shown_late m (timed ∷ acts) (told ∷ trace) n late =
-    ap (λ b. shown m acts trace (if b then entries_told timed.act told n else n)) (no_earlier timed.moment m late.0) ∙ shown_late m acts trace n late.1
+    ap (λ b. shown m acts trace (if b then entries_shown timed.act told n else n)) (no_earlier timed.moment m late.0) ∙ shown_late m acts trace n late.1
 
 time_late : (m : ℕ) (acts : List Timed) (trace : List State) (t : ℕ) → NoneBefore m acts → time_at m acts trace t ≡ t
 time_late m [] trace t late = refl
 time_late m (timed ∷ acts) [] t late = refl
 time_late m (timed ∷ acts) (told ∷ trace) t late =
-    ap (λ b. time_at m acts trace (if b then time_told timed.act told t else t)) (no_earlier timed.moment m late.0) ∙ time_late m acts trace t late.1
+    ap (λ b. time_at m acts trace (if b then time_shown timed.act told t else t)) (no_earlier timed.moment m late.0) ∙ time_late m acts trace t late.1
 
 -- ---- sends
 
@@ -103,7 +103,7 @@ abbrev pub TellFew : ℕ → List (State × OwnedOut) → Type 0
 TellFew most [] = Unit {0}
 TellFew most (send ∷ owed) = (length send.0.history ≤ most) × TellFew most owed
 
-few_told : (act : WireAct) (out : OwnedOut) (told : State) (b : Bool) (n most : ℕ) → IsSend out act → n ≤ most → length told.history ≤ most → (if b then entries_told act told n else n) ≤ most
+few_told : (act : WireAct) (out : OwnedOut) (told : State) (b : Bool) (n most : ℕ) → IsSend out act → n ≤ most → length told.history ≤ most → (if b then entries_shown act told n else n) ≤ most
 few_told (took e at) out told b n most s less few = absurd s
 few_told (gave o d) out told true n most s less few = few
 few_told (gave o d) out told false n most s less few = less
@@ -113,10 +113,10 @@ shown_sends m moment [] [] n most g less few = less
 shown_sends m moment [] (timed ∷ acts) n most g less few = absurd g
 shown_sends m moment (send ∷ owed) [] n most g less few = absurd g
 shown_sends m moment (send ∷ owed) (timed ∷ acts) n most g less few =
-    shown_sends m (moment + 1) owed acts (if nat_lt timed.moment m then entries_told timed.act send.0 n else n) most g.2
+    shown_sends m (moment + 1) owed acts (if nat_lt timed.moment m then entries_shown timed.act send.0 n else n) most g.2
     (few_told timed.act send.1 send.0 (nat_lt timed.moment m) n most g.1 less few.0) few.1
 
-no_time_told : (act : WireAct) (out : OwnedOut) (told : State) (b : Bool) (t : ℕ) → IsSend out act → (if b then time_told act told t else t) ≡ t
+no_time_told : (act : WireAct) (out : OwnedOut) (told : State) (b : Bool) (t : ℕ) → IsSend out act → (if b then time_shown act told t else t) ≡ t
 no_time_told (took e at) out told b t s = absurd s
 no_time_told (gave o d) out told true t s = refl
 no_time_told (gave o d) out told false t s = refl
@@ -157,7 +157,7 @@ same_grows old new is = ([], is ∙ sym (append-nil old.history))
 verdict_grows : (v : Verdict) (state : State) → Grows state (after v state)
 verdict_grows verdict.Silent state = same_grows state state refl
 verdict_grows (verdict.Reply reply) state = same_grows state state refl
-verdict_grows (verdict.Told reply) state = same_grows state state refl
+verdict_grows (verdict.LongReply reply) state = same_grows state state refl
 verdict_grows (verdict.Accept reply entry) state = (entry ∷ [], refl)
 
 -- a step adds to the history, or leaves it
@@ -175,7 +175,7 @@ step_grows settings old event.Restart at owed new step = same_grows old new (ap 
 after_time : (v : Verdict) (state : State) → (after v state).time ≡ state.time
 after_time verdict.Silent state = refl
 after_time (verdict.Reply reply) state = refl
-after_time (verdict.Told reply) state = refl
+after_time (verdict.LongReply reply) state = refl
 after_time (verdict.Accept reply entry) state = refl
 
 moved_on : (old new : State) (at : ℕ) → last_time old.history ≤ old.time → new.time ≡ max at old.time → last_time old.history ≤ new.time
@@ -216,14 +216,14 @@ many old new added is =
     omega (arith, count, before, after_it, both)
 
 module _ (P : ℕ → (ℕ → ℕ) → Type 0) where
-  pub leaves_at_then : (old mid new : Option Media) → LeavesAt old mid P → LeavesAt mid new P → LeavesAt old new P
-  leaves_at_then None mid new a b = absurd a
+  pub leaves_at_then : (old between new : Option Media) → LeavesAt old between P → LeavesAt between new P → LeavesAt old new P
+  leaves_at_then None between new a b = absurd a
   leaves_at_then (Some old) None new a b = absurd a
-  leaves_at_then (Some old) (Some mid) None a b = absurd b
-  leaves_at_then (Some old) (Some mid) (Some new) a b = (
+  leaves_at_then (Some old) (Some between) None a b = absurd b
+  leaves_at_then (Some old) (Some between) (Some new) a b = (
     a.0 ++ b.0,
     b.1 ∙ ap (λ media. media ++ b.0) a.1 ∙ append_assoc (all_media old) a.0 b.0,
-    each_then (length old.past + 1) a.0 b.0 P a.2 (subst (λ k. EachFrom k b.0 P) (let count = many old mid a.0 a.1 in omega (arith, count)) b.2),
+    each_then (length old.past + 1) a.0 b.0 P a.2 (subst (λ k. EachFrom k b.0 P) (let count = many old between a.0 a.1 in omega (arith, count)) b.2),
   )
 
   pub leaves_at_none : (media : Option Media) (Any : (ℕ → ℕ) → Type 0) → RestsWith media Any → LeavesAt media media P
@@ -321,11 +321,11 @@ module _ (settings : SettingsValue) (start : State) where
 
   -- the moments before the turn
   older : (acts more : List Timed) (trace told : List State) (history extra : List Entry) (m : ℕ) (image : ℕ → ℕ) → length acts ≡ length trace → NoneBefore m more
-      → StandsAt settings start acts trace history m image → StandsAt settings start (acts ++ more) (trace ++ told) (history ++ extra) m image
+      → MeansAt settings start acts trace history m image → MeansAt settings start (acts ++ more) (trace ++ told) (history ++ extra) m image
   older acts more trace told history extra m image same late stands = record {
     count = stands.count;
     within = let within = stands.within in let longer = length-append history extra in omega (arith, within, longer);
-    told = subst (λ n. n ≤ stands.count) (sym (shown_then m acts more trace told first_entries same ∙ shown_late m more told (shown m acts trace first_entries) late)) stands.told;
+    has_shown = subst (λ n. n ≤ stands.count) (sym (shown_then m acts more trace told first_entries same ∙ shown_late m more told (shown m acts trace first_entries) late)) stands.has_shown;
     holds = subst (λ t. Held t (take stands.count (history ++ extra)) image) (sym (time_then m acts more trace told start.time same ∙ time_late m more told (time_at m acts trace start.time) late))
         (subst (λ es. Held (time_at m acts trace start.time) es image) (sym (take_front stands.count history extra stands.within)) stands.holds);
   }
@@ -348,18 +348,18 @@ module _ (settings : SettingsValue) (start : State) where
 
     newer : (m next : ℕ) (image : ℕ → ℕ) (count : ℕ) → moment < m → Gives next (outs_of owed) more → count ≤ length new.history
         → shown m more (told_by owed) (shown m acts trace first_entries) ≤ count → Held new.time (take count new.history) image
-        → StandsAt settings start (acts ++ event_taken ∷ more) (trace ++ new ∷ told_by owed) new.history m image
+        → MeansAt settings start (acts ++ event_taken ∷ more) (trace ++ new ∷ told_by owed) new.history m image
     newer m next image count less gives within told holds = record {
       count = count;
       within = within;
-      told = subst (λ n. n ≤ count) (sym (shown_here m)) told;
+      has_shown = subst (λ n. n ≤ count) (sym (shown_here m)) told;
       holds = subst (λ t. Held t (take count new.history) image) (sym (time_here m next less gives)) holds;
     }
 
     module _ (old : State) (grown : (extra : List Entry) × (new.history ≡ old.history ++ extra)) (few : TellFew (length new.history) owed)
         (bounded : (m : ℕ) → shown m acts trace first_entries ≤ length old.history) where
       abbrev Whole : ℕ → (ℕ → ℕ) → Type 0
-      Whole m image = StandsAt settings start (acts ++ event_taken ∷ more) (trace ++ new ∷ told_by owed) new.history m image
+      Whole m image = MeansAt settings start (acts ++ event_taken ∷ more) (trace ++ new ∷ told_by owed) new.history m image
 
       grown_length : length old.history ≤ length new.history
       grown_length = let is = ap length grown.1 ∙ length-append old.history grown.0 in omega (arith, is)
@@ -397,7 +397,7 @@ module _ (settings : SettingsValue) (start : State) where
 
       -- the event is taken, and then it is written
       pub survives_writing : (first a b c : Option Media) (next : ℕ) → past_of a ≡ moment → past_of c ≤ next → Gives next (outs_of owed) more
-          → LeavesAt first a (StandsAt settings start acts trace old.history) → RestsWith a (Held new.time old.history) → KeepsMedia a b
+          → LeavesAt first a (MeansAt settings start acts trace old.history) → RestsWith a (Held new.time old.history) → KeepsMedia a b
           → Leaves b c (λ image. Held new.time old.history image ⊎ Held new.time new.history image) → LeavesAt first c Whole
       survives_writing first a b c next here le gives leaves rests keeps writes =
           let Before : (ℕ → ℕ) → Type 0 = λ image. Held new.time old.history image in
@@ -405,8 +405,8 @@ module _ (settings : SettingsValue) (start : State) where
           let rests_b = rests_still a b Before rests keeps in
           let later_b = keeps_past a b Before rests keeps in
           let later_c = leaves_past b c Before Either rests_b writes in
-          let front : LeavesAt first a Whole = leaves_at_so first a (StandsAt settings start acts trace old.history) Whole (λ k under image stands.
-          subst (λ es. StandsAt settings start (acts ++ event_taken ∷ more) (trace ++ new ∷ told_by owed) es k image) (sym grown.1)
+          let front : LeavesAt first a Whole = leaves_at_so first a (MeansAt settings start acts trace old.history) Whole (λ k under image stands.
+          subst (λ es. MeansAt settings start (acts ++ event_taken ∷ more) (trace ++ new ∷ told_by owed) es k image) (sym grown.1)
           (older acts (event_taken ∷ more) trace (new ∷ told_by owed) old.history grown.0 k image same
           (omega (arith, under, here), gives_late k next (outs_of owed) more (omega (arith, under, later_b, later_c, le)) gives) stands)) leaves in
           let taken : LeavesAt a b Whole = leaves_there Whole a b Before Before rests (λ k low high image holds.
@@ -426,18 +426,18 @@ module _ (settings : SettingsValue) (start : State) where
 
 pub survives_opening : (settings : SettingsValue) (start : State) (first a b : Option Media) (acts : List Timed) (trace : List State) (history extra : List Entry) → history ≡ start.history ++ extra → NoneBefore (past_of a) acts
     → (Any : (ℕ → ℕ) → Type 0) → RestsWith first Any → Leaves first a (HoldsKept settings settings.limits.remembered start.time start.history)
-    → LeavesAt a b (StandsAt settings start acts trace history) → LeavesAt first b (StandsAt settings start acts trace history)
+    → LeavesAt a b (MeansAt settings start acts trace history) → LeavesAt first b (MeansAt settings start acts trace history)
 survives_opening settings start first a b acts trace history extra grown late Any rests leaves rest =
-    let Whole : ℕ → (ℕ → ℕ) → Type 0 = λ m image. StandsAt settings start acts trace history m image in
+    let Whole : ℕ → (ℕ → ℕ) → Type 0 = λ m image. MeansAt settings start acts trace history m image in
     let Before : (ℕ → ℕ) → Type 0 = λ image. HoldsKept settings settings.limits.remembered start.time start.history image in
     leaves_at_then Whole first a b (leaves_there Whole first a Any Before rests opened leaves) rest
   where
-    opened : (k : ℕ) → past_of first < k → k ≤ past_of a → (image : ℕ → ℕ) → HoldsKept settings settings.limits.remembered start.time start.history image → StandsAt settings start acts trace history k image
+    opened : (k : ℕ) → past_of first < k → k ≤ past_of a → (image : ℕ → ℕ) → HoldsKept settings settings.limits.remembered start.time start.history image → MeansAt settings start acts trace history k image
     opened k low high image holds =
         let none = none_earlier k (past_of a) acts high late in record {
           count = length start.history;
           within = let longer = ap length grown ∙ length-append start.history extra in omega (arith, longer);
-          told = subst (λ n. n ≤ length start.history) (sym (shown_late k acts trace (length start.history) none)) (le_refl (length start.history));
+          has_shown = subst (λ n. n ≤ length start.history) (sym (shown_late k acts trace (length start.history) none)) (le_refl (length start.history));
           holds = subst (λ t. HoldsKept settings settings.limits.remembered t (take (length start.history) history) image) (sym (time_late k acts trace start.time none))
               (subst (λ es. HoldsKept settings settings.limits.remembered start.time es image)
               (sym (ap (take (length start.history)) grown ∙ take_front (length start.history) start.history extra (le_refl (length start.history)) ∙ take_all start.history)) holds);

@@ -8,10 +8,10 @@ use Rattle.dots_machine.specs.Machine.{State, Step}
 use Rattle.dots_machine.specs.Turns.{Turn, onto_sends, first_sends, onto_turns, turns_of, IsTurn, EachTurn}
 
 module _ (settings : SettingsValue) where
-  owed_by : (old mid : Owing State) (act : WireAct) (told : State) (sends : List OwnedOut) → ToldStep (Step settings) old act told mid → outs_of mid.owed ≡ sends
+  owed_by : (old between : Owing State) (act : WireAct) (told : State) (sends : List OwnedOut) → ToldStep (Step settings) old act told between → outs_of between.owed ≡ sends
       → outs_of old.owed ≡ onto_sends act sends
-  owed_by old mid (took event at) told sends s rest = ap outs_of s.0
-  owed_by old mid (gave out done) told sends s rest = ap outs_of s.0 ∙ ap (λ outs. out ∷ outs) rest
+  owed_by old between (took event at) told sends s rest = ap outs_of s.0
+  owed_by old between (gave out done) told sends s rest = ap outs_of s.0 ∙ ap (λ outs. out ∷ outs) rest
 
   -- what is owed is sent before the next event
   owed_first : (old : Owing State) (acts : List Timed) (trace : List State) (new : State) → Trace (Step settings) old acts trace (resting new) → outs_of old.owed ≡ first_sends acts
@@ -23,10 +23,10 @@ module _ (settings : SettingsValue) where
   abbrev Turning : State → List Turn → State → Type 0
   Turning old turns new = EachTurn (IsTurn settings) old turns new
 
-  by_act : (old mid : Owing State) (act : WireAct) (told : State) (sends : List OwnedOut) (turns : List Turn) (new : State) → ToldStep (Step settings) old act told mid → outs_of mid.owed ≡ sends
-      → Turning mid.last turns new → Turning old.last (onto_turns act sends turns) new
-  by_act old mid (took event at) told sends turns new s sent rest = (mid.last, record { owed = mid.owed; step = s.1; sent = sent }, rest)
-  by_act old mid (gave out done) told sends turns new s sent rest = subst (λ state. Turning state turns new) s.1 rest
+  by_act : (old between : Owing State) (act : WireAct) (told : State) (sends : List OwnedOut) (turns : List Turn) (new : State) → ToldStep (Step settings) old act told between → outs_of between.owed ≡ sends
+      → Turning between.last turns new → Turning old.last (onto_turns act sends turns) new
+  by_act old between (took event at) told sends turns new s sent rest = (between.last, record { owed = between.owed; step = s.1; sent = sent }, rest)
+  by_act old between (gave out done) told sends turns new s sent rest = subst (λ state. Turning state turns new) s.1 rest
 
   pub by_turns : (old : Owing State) (acts : List Timed) (trace : List State) (new : State) → Trace (Step settings) old acts trace (resting new) → Turning old.last (turns_of acts) new
   by_turns old [] [] new t = ap (λ owing. owing.last) t

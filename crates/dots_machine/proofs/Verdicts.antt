@@ -19,7 +19,7 @@ use Rattle.dots_keys.specs.declared.request.Request.TheVariants as request
 use Rattle.dots_keys.specs.declared.request.MitigationBody.{MitigationBody}
 use Rattle.conflict_rules.specs.ByMid.{has_mid}
 use Rattle.live_mitigations.specs.Judging.{live_of, put_or_nothing}
-use Rattle.live_mitigations.specs.Reading.{status_number, shown, of_cuid, shown_of}
+use Rattle.live_mitigations.specs.LiveViews.{status_number, live_view, of_cuid, live_views_of}
 use Rattle.dots_history.specs.Entries.{put_of}
 use Rattle.conflict_rules.specs.declared.fault.PutFault.{PutFault}
 use Rattle.conflict_rules.specs.declared.judging.Judged.{Judged}
@@ -38,11 +38,11 @@ use Rattle.dots_machine.specs.declared.verdict.Verdict.TheVariants as verdict
 use Rattle.dots_machine.specs.Domains.{domain_for, session_domain}
 use Rattle.dots_machine.specs.Targets.{scope_fault}
 use Rattle.dots_machine.specs.Replies.{not_implemented}
-use Rattle.dots_machine.specs.Repeats.{Sent, sent_for, UnlessRepeated, repeats, is_new}
-use Rattle.dots_machine.specs.Mitigations.{sent_by, request_of, judged, client_for, UnlessFaulty, ByRules, DecidesPut, IsInUse, DecidesDelete, name_taken, withdraws, gone, lives, DecidesGet, name_in_use, tells}
+use Rattle.dots_machine.specs.MessageRepeats.{Sent, sent_for, UnlessRepeated, repeats, is_new}
+use Rattle.dots_machine.specs.Mitigations.{sent_by, request_of, judged, client_for, UnlessFaulty, ByRules, DecidesPut, IsInUse, DecidesDelete, name_taken, withdraws, gone, lives, DecidesGet, name_in_use, replies}
 use Rattle.dots_machine.specs.Machine.{State, asks_for, InDomain, WithMid, PutIn, PutFor, DeleteIn, DeleteFor, GetFor, ConfigFor, DecidesRequest, Rules}
 use Rattle.dots_machine.specs.Verdicts.{repeated, unless_repeated, unless_faulty, put_verdict, is_taken, stands_as, delete_by, delete_verdict, get_by, get_verdict, in_domain, with_mid, put_in, put_for, delete_in, delete_for, get_for, config_for, asked_verdict, verdict_on}
-use Rattle.dots_machine.proofs.Repeats.{is_repeated, is_remembered, none_remembered, never_repeated}
+use Rattle.dots_machine.proofs.MessageRepeats.{is_repeated, is_remembered, none_remembered, never_repeated}
 
 -- ---- what stands, as it is shown and as the rules see it
 two_is_open : (s : Status) → (status_number s == 2) ≡ is_open s
@@ -63,7 +63,7 @@ other_one true false mid is = refl
 other_one false false mid is = refl
 
 module _ (t : ℕ) (cuid : List ℕ) (mid : ℕ) where
-  same_standing : (ms : List Mitigation) → list_any (stands_as mid) (shown_of t cuid ms) ≡ list_any (has_mid cuid mid) (map live_of ms)
+  same_standing : (ms : List Mitigation) → list_any (stands_as mid) (live_views_of t cuid ms) ≡ list_any (has_mid cuid mid) (map live_of ms)
   same_standing [] = refl
   same_standing (m ∷ ms) =
       let go = same_standing ms in
@@ -74,10 +74,10 @@ module _ (t : ℕ) (cuid : List ℕ) (mid : ℕ) where
       own
       (m ∷ of_cuid cuid ms)
       (of_cuid cuid ms)
-      (λ xs. list_any (stands_as mid) (map (shown t) xs) ≡ (((is_open m.status && own) && of_mid) || rest))
+      (λ xs. list_any (stands_as mid) (map (live_view t) xs) ≡ (((is_open m.status && own) && of_mid) || rest))
       (λ is.
-      ap (λ b. (of_mid && b) || list_any (stands_as mid) (shown_of t cuid ms)) (two_is_open m.status)
-      ∙ ap (λ b. b || list_any (stands_as mid) (shown_of t cuid ms)) (own_one (is_open m.status) own of_mid is)
+      ap (λ b. (of_mid && b) || list_any (stands_as mid) (live_views_of t cuid ms)) (two_is_open m.status)
+      ∙ ap (λ b. b || list_any (stands_as mid) (live_views_of t cuid ms)) (own_one (is_open m.status) own of_mid is)
       ∙ ap (λ b. ((is_open m.status && own) && of_mid) || b) go)
       (λ out. go ∙ sym (ap (λ b. b || rest) (other_one (is_open m.status) own of_mid out)))
 
@@ -129,14 +129,14 @@ module _ (time : ℕ) (history : List Entry) (from : ClientRequest) where
   module _ (mid : Option ℕ) (content : Content) where
     get_valued : (v : Verdict) → DecidesGet time history from mid content v → v ≡ get_verdict time history from mid content
     get_valued v (name_in_use in_use is) = is ∙ sym (ap (λ b. get_by from.exchange mid content b (lives time history from)) (taken_true in_use))
-    get_valued v (tells free is) = is ∙ sym (ap (λ b. get_by from.exchange mid content b (lives time history from)) (taken_false free))
+    get_valued v (replies free is) = is ∙ sym (ap (λ b. get_by from.exchange mid content b (lives time history from)) (taken_false free))
 
     get_there : DecidesGet time history from mid content (get_verdict time history from mid content)
     get_there = by_test (is_taken time history from) refl
       where
         by_test : (in_use : Bool) → is_taken time history from ≡ in_use → DecidesGet time history from mid content (get_by from.exchange mid content in_use (lives time history from))
         by_test true is = name_in_use (taken_so is) refl
-        by_test false is = tells (free_so is) refl
+        by_test false is = replies (free_so is) refl
 
 -- ---- on a message that may be a repeat
 module _ (settings : SettingsValue) (t : ℕ) (history : List Entry) (sent : Sent) (P : Verdict → Type 0) (w : Verdict) where

@@ -18,26 +18,26 @@ use Rattle.slot_store.specs.Layout.{needed_of}
 use Rattle.slot_journal.specs.Sizes.{slots_of}
 use Rattle.slot_journal.specs.declared.fault.JournalFault.{JournalFault}
 use Rattle.slot_journal.specs.declared.fault.JournalFault.TheVariants as faults
-use Rattle.slot_journal.specs.Held.{Holds}
+use Rattle.slot_journal.specs.DiskEntries.{Holds}
 use Rattle.dots_history.specs.declared.entry.Entry.{Entry}
 use Rattle.dots_laws.specs.Fits.{is_calm}
 use Rattle.dots_ledger.specs.Beginning.{RefusesLedger, IsFailure}
 use Rattle.hex.specs.Hex.{encode_lower}
 use Rattle.plain_text.specs.HexText.{IsHex}
 use Rattle.coap_message.specs.Message.{CoapMessage, IsMessage, spelling}
-use Rattle.message_text.specs.declared.showing.Shown.TheVariants as shown
-use Rattle.message_text.specs.Showing.{IsShown}
+use Rattle.message_text.specs.declared.printing.Printed.TheVariants as printed
+use Rattle.message_text.specs.Printing.{IsPrinted}
 use Rattle.dots_machine.specs.declared.ending.Ending.{Ending}
 use Rattle.dots_machine.specs.declared.ending.Ending.TheVariants as ending
-use Rattle.dots_machine.specs.declared.ending.Showing.{Showing}
-use Rattle.dots_machine.specs.declared.ending.Showing.TheVariants as showing
+use Rattle.dots_machine.specs.declared.ending.Printing.{Printing}
+use Rattle.dots_machine.specs.declared.ending.Printing.TheVariants as printings
 use Rattle.dots_machine.specs.declared.ending.Stop.{Stop}
 use Rattle.dots_machine.specs.declared.ending.Stop.TheVariants as stop
 use Rattle.dots_machine.specs.Commands.{is_served, is_show, is_command, second_of}
 use Rattle.dots_machine.specs.Machine.{State, begun_from}
 use Rattle.dots_machine.specs.Turns.{Turn, EachTurn, turns_of}
 use Rattle.dots_machine.specs.Adding.{AddsExactly}
-use Rattle.dots_machine.specs.Repeated.{AnswersRepeats}
+use Rattle.dots_machine.specs.RepeatAnswers.{AnswersRepeats}
 use Rattle.dots_machine.specs.Isolation.{IsIsolated}
 use Rattle.dots_machine.specs.Orderly.{IsOrderly}
 use Rattle.dots_machine.specs.Surviving.{Story, Survives}
@@ -53,9 +53,9 @@ recovery_status (faults.SettingsChanged stored given) = 8
 recovery_status (faults.TooSmall needed found) = 10
 
 abbrev pub status_of : Ending → ℕ
-status_of (ending.Shown showing.Written) = 0
+status_of (ending.Printed printings.Written) = 0
 status_of (ending.Served stop.Ended) = 0
-status_of (ending.Shown showing.Unreadable) = 1
+status_of (ending.Printed printings.Unreadable) = 1
 status_of ending.WrongWords = 2
 status_of (ending.Refused fault) = 3
 status_of ending.NoMemory = 4
@@ -63,7 +63,7 @@ status_of ending.SettingsFailed = 5
 status_of (ending.Served stop.NextFailed) = 5
 status_of (ending.Served stop.DiskFailed) = 6
 status_of ending.ReportFailed = 9
-status_of (ending.Shown showing.Failed) = 9
+status_of (ending.Printed printings.Failed) = 9
 status_of (ending.Served stop.TooMany) = 11
 status_of (ending.Unrecovered fault) = recovery_status fault
 status_of (ending.Served (stop.Unrecovered fault)) = recovery_status fault
@@ -122,19 +122,19 @@ IsFound _ = ⊤
 -- What is said of the acts of a server with these settings that began from a state: they are a run of the machine, which owes nothing in the
 -- end, but where the disk failed in the middle of an event; it keeps the laws; and where nothing was pending on the disk at the start, a
 -- crash at any moment leaves a disk that means a front of the history, with all that was told before.
-pub record Lived (settings : SettingsValue) (start : State) (how : Stop) (before now : Outside) (trace : List State) (end : Owing State) (acts : List Timed) : Type 0 where
+pub record HasRun (settings : SettingsValue) (start : State) (how : Stop) (before now : Outside) (trace : List State) (end : Owing State) (acts : List Timed) : Type 0 where
   pub ran : Ran settings start trace end how acts
   pub laws : end.owed ≡ [] → KeepsLaws settings start (turns_of acts) end.last
   pub survives : (seen : ℕ → ℕ) → RestsWith before.media (Is seen) → Survives settings start before.media now.media acts trace end.last.history
 
 -- A run from what the disk held, where the disk is told: the acts are a run of the machine from there; at a restart the disk isn't refused; each
 -- filter of the last state lies inside the domain of the request that made it; and it wrote of this state what it says.
-pub record LivesFrom (settings : SettingsValue) (held : List Entry) (how : Stop) (before now : Outside) (wrote : State → Type 0) : Type 0 where
+pub record RunsFrom (settings : SettingsValue) (held : List Entry) (how : Stop) (before now : Outside) (wrote : State → Type 0) : Type 0 where
   pub end : Owing State
   pub settled : IsSettled how end
   pub found : IsFound how
   pub trace : List State
-  pub lived : Added before.acts now.acts (Lived settings (begun_from held) how before now trace end)
+  pub has_run : Added before.acts now.acts (HasRun settings (begun_from held) how before now trace end)
   pub contained : Contained settings end.last
   pub reports : wrote end.last
 
@@ -144,7 +144,7 @@ pub record Serves (settings : SettingsValue) (how : Stop) (before now : Outside)
   pub held : List Entry
   pub calm : is_calm settings held ≡ true
   pub was_held : (seen : ℕ → ℕ) → Sees before.media seen → Holds settings seen held
-  pub lives : (seen : ℕ → ℕ) → Sees before.media seen → LivesFrom settings held how before now wrote
+  pub runs_from : (seen : ℕ → ℕ) → Sees before.media seen → RunsFrom settings held how before now wrote
   pub any : (state : State) × Contained settings state × wrote state
 
 -- where a disk is refused for what it holds its line is written, the whole of it or, where the sink failed, a beginning; and nothing where the
@@ -188,18 +188,18 @@ ServesTo (ending.Unrecovered fault) settings before now = Unrecovers settings fa
 ServesTo _ settings before now = ⊥
 
 -- what was written of a word that was to be shown
-abbrev pub Shows : Showing → List ℕ → Option (List ℕ) → Option (List ℕ) → Type 0 → Type 0
-Shows showing.Written word old new failed = (text : List ℕ) × IsShown word (shown.Message text) × Appends old new text
-Shows showing.Failed word old new failed = (text : List ℕ) × IsShown word (shown.Message text) × AppendsBeginning old new text × failed
-Shows showing.Unreadable word old new failed = (text : List ℕ) × IsShown word (shown.Fault text) × Writes old new text failed
+abbrev pub Prints : Printing → List ℕ → Option (List ℕ) → Option (List ℕ) → Type 0 → Type 0
+Prints printings.Written word old new failed = (text : List ℕ) × IsPrinted word (printed.Message text) × Appends old new text
+Prints printings.Failed word old new failed = (text : List ℕ) × IsPrinted word (printed.Message text) × AppendsBeginning old new text × failed
+Prints printings.Unreadable word old new failed = (text : List ℕ) × IsPrinted word (printed.Fault text) × Writes old new text failed
 
 -- What a run of this ending has done with these words. Where it didn't come to serve, the host told no act; where it came to its host, its
 -- settings are those of the file, where the source told its bytes.
 abbrev pub Behaves : Ending → List (List ℕ) → Outside → Outside → Type 0
 Behaves ending.WrongWords words before now =
     (is_command words ≡ false) × (now.acts ≡ before.acts) × Writes before.held now.held (codes "words\n") (ReportFailed before now)
-Behaves (ending.Shown how) words before now =
-    (is_show words ≡ true) × (now.acts ≡ before.acts) × Shows how (second_of words) before.held now.held (ReportFailed before now)
+Behaves (ending.Printed how) words before now =
+    (is_show words ≡ true) × (now.acts ≡ before.acts) × Prints how (second_of words) before.held now.held (ReportFailed before now)
 Behaves (ending.Refused fault) words before now =
     (is_served words ≡ true) × (now.acts ≡ before.acts) × ¬ (IsNoLineFault fault) × IfSome before.left (λ bytes. SettingsFail bytes fault)
     × Writes before.held now.held (fault_line fault) (ReportFailed before now)

@@ -51,10 +51,10 @@ pub data PassesBy (settings : SettingsValue) (domain : ℕ) (turn : Turn) : Type
 abbrev pub HasRequests : SettingsValue → ℕ → State → List Turn → List TakenUp → State → Type 0
 HasRequests settings domain old [] requests new = (requests ≡ []) × (new ≡ old)
 HasRequests settings domain old (turn ∷ turns) requests new =
-    (mid : State) × IsTurn settings old turn mid
-    × (((taken : TakenUp) × (rest : List TakenUp) × (requests ≡ taken ∷ rest) × TakesUp settings domain turn mid taken
-    × HasRequests settings domain mid turns rest new)
-    ⊎ (PassesBy settings domain turn × HasRequests settings domain mid turns requests new))
+    (between : State) × IsTurn settings old turn between
+    × (((taken : TakenUp) × (rest : List TakenUp) × (requests ≡ taken ∷ rest) × TakesUp settings domain turn between taken
+    × HasRequests settings domain between turns rest new)
+    ⊎ (PassesBy settings domain turn × HasRequests settings domain between turns requests new))
 
 -- what a verdict adds to the history
 abbrev pub entries_of : Verdict → List Entry

@@ -34,7 +34,7 @@ use Rattle.dots_machine.specs.Domains.{is_gateway, domain_for, session_domain}
 use Rattle.dots_machine.specs.Exchanges.{exchange_in, dismissed}
 use Rattle.dots_machine.specs.Requests.{IsReceived}
 use Rattle.dots_machine.specs.Replies.{not_implemented, unavailable, reset_message, rejection, bad_parameter}
-use Rattle.dots_machine.specs.Repeats.{sent_for, UnlessRepeated}
+use Rattle.dots_machine.specs.MessageRepeats.{sent_for, UnlessRepeated}
 use Rattle.dots_machine.specs.Mitigations.{sent_by, DecidesPut, DecidesDelete, DecidesGet}
 
 -- the history, and the time of the last event
@@ -156,7 +156,7 @@ pub data Decides (settings : SettingsValue) (state : State) (peer : ℕ) (datagr
 abbrev pub sends_of : Verdict → ℕ → List OwnedOut
 sends_of verdict.Silent peer = []
 sends_of (verdict.Reply reply) peer = owned.To peer reply ∷ []
-sends_of (verdict.Told reply) peer = owned.To peer reply ∷ []
+sends_of (verdict.LongReply reply) peer = owned.To peer reply ∷ []
 sends_of (verdict.Accept reply entry) peer = owned.To peer reply ∷ []
 
 abbrev pub after : Verdict → State → State

@@ -13,7 +13,7 @@ use Rattle.dots_history.specs.declared.change.Change.TheVariants as change
 use Rattle.dots_history.specs.declared.put.Put.{Put}
 use Rattle.dots_laws.specs.Tables.{Client}
 use Rattle.dots_heads.specs.declared.request.Content.{Content}
-use Rattle.live_mitigations.specs.Reading.{Shown, shown_in}
+use Rattle.live_mitigations.specs.LiveViews.{LiveView, live_views_in}
 use Rattle.reply_bodies.specs.declared.conflict.ConflictCause.TheVariants as cause
 use Rattle.conflict_rules.specs.declared.fault.PutFault.{PutFault}
 use Rattle.conflict_rules.specs.declared.fault.PutFault.TheVariants as faults
@@ -27,8 +27,8 @@ use Rattle.dots_machine.specs.declared.client_request.ClientRequest.{ClientReque
 use Rattle.dots_machine.specs.declared.verdict.Verdict.{Verdict}
 use Rattle.dots_machine.specs.declared.verdict.Verdict.TheVariants as verdict
 use Rattle.dots_machine.specs.Targets.{scope_fault}
-use Rattle.dots_machine.specs.Repeats.{Sent, sent_for, UnlessRepeated}
-use Rattle.dots_machine.specs.Replies.{granting, conflicting, deleted, telling, absent, bad_target, bad_request, at_capacity, unavailable}
+use Rattle.dots_machine.specs.MessageRepeats.{Sent, sent_for, UnlessRepeated}
+use Rattle.dots_machine.specs.Replies.{granting, conflicting, deleted, mitigations_reply, absent, bad_target, bad_request, at_capacity, unavailable}
 
 -- the message by which its repeats are known
 abbrev pub key_of : Kind → ℕ → MessageKey
@@ -60,12 +60,12 @@ request_of asked =
 
 -- the answer to one that can't be granted
 abbrev pub refusal : Exchange → ℕ → PutFault → Verdict
-refusal exchange mid faults.Collision = verdict.Told (conflicting exchange (Some mid) cause.Collision)
+refusal exchange mid faults.Collision = verdict.LongReply (conflicting exchange (Some mid) cause.Collision)
 refusal exchange mid faults.Changed = verdict.Reply (bad_request exchange (codes "changed"))
 refusal exchange mid faults.UnknownAlias = verdict.Reply (bad_request exchange (codes "unknown alias"))
 refusal exchange mid faults.TooMany = verdict.Reply (bad_request exchange (codes "too many"))
-refusal exchange mid (faults.Higher higher) = verdict.Told (conflicting exchange (Some mid) (cause.Higher higher))
-refusal exchange mid (faults.Other prefixes) = verdict.Told (conflicting exchange (Some mid) (cause.Other prefixes))
+refusal exchange mid (faults.Higher higher) = verdict.LongReply (conflicting exchange (Some mid) (cause.Higher higher))
+refusal exchange mid (faults.Other prefixes) = verdict.LongReply (conflicting exchange (Some mid) (cause.Other prefixes))
 refusal exchange mid (faults.Capacity which number) = verdict.Reply (at_capacity exchange)
 refusal exchange mid faults.NoMemory = verdict.Reply (unavailable exchange)
 
@@ -109,7 +109,7 @@ withdrawal time from mid =
 
 -- The name is taken; or a mitigation of the mid stands, and is withdrawn; or none does: any other is gone already, or about to go.
 pub data DecidesDelete (time : ℕ) (history : List Entry) (from : ClientRequest) (mid : ℕ) (decided : Verdict) : Type 0 where
-  name_taken : IsInUse time history from → decided ≡ verdict.Told (conflicting from.exchange (Some mid) cause.Collision)
+  name_taken : IsInUse time history from → decided ≡ verdict.LongReply (conflicting from.exchange (Some mid) cause.Collision)
       → DecidesDelete time history from mid decided
   withdraws : (put : Put) → ¬ (IsInUse time history from) → HasMid time history (client_for from) mid put
       → decided ≡ withdrawal time from mid → DecidesDelete time history from mid decided
@@ -119,21 +119,21 @@ pub data DecidesDelete (time : ℕ) (history : List Entry) (from : ClientRequest
 -- ---- mitigations are read (section 4.4.2)
 
 -- the client's live mitigations, in order of their entries
-abbrev pub lives : ℕ → List Entry → ClientRequest → List Shown
-lives time history from = shown_in from.domain from.cuid time history
+abbrev pub lives : ℕ → List Entry → ClientRequest → List LiveView
+lives time history from = live_views_in from.domain from.cuid time history
 
 -- any is wanted, or that of the one mid
-abbrev pub is_wanted : Option ℕ → Shown → Bool
+abbrev pub is_wanted : Option ℕ → LiveView → Bool
 is_wanted None m = true
 is_wanted (Some mid) m = m.put.mid == mid
 
-abbrev pub tell : Exchange → Content → List Shown → Verdict
-tell exchange content [] = verdict.Reply (absent exchange)
-tell exchange content (m ∷ ms) = verdict.Told (telling exchange content (m ∷ ms))
+abbrev pub get_reply : Exchange → Content → List LiveView → Verdict
+get_reply exchange content [] = verdict.Reply (absent exchange)
+get_reply exchange content (m ∷ ms) = verdict.LongReply (mitigations_reply exchange content (m ∷ ms))
 
 -- the name is taken; or the client's live mitigations are told, or the one of a mid
 pub data DecidesGet (time : ℕ) (history : List Entry) (from : ClientRequest) (mid : Option ℕ) (content : Content) (decided : Verdict) : Type 0 where
-  name_in_use : IsInUse time history from → decided ≡ verdict.Told (conflicting from.exchange mid cause.Collision)
+  name_in_use : IsInUse time history from → decided ≡ verdict.LongReply (conflicting from.exchange mid cause.Collision)
       → DecidesGet time history from mid content decided
-  tells : ¬ (IsInUse time history from) → decided ≡ tell from.exchange content (filter (is_wanted mid) (lives time history from))
+  replies : ¬ (IsInUse time history from) → decided ≡ get_reply from.exchange content (filter (is_wanted mid) (lives time history from))
       → DecidesGet time history from mid content decided

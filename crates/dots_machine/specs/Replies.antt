@@ -18,7 +18,7 @@ use Rattle.reply_bodies.specs.declared.reply.Reply.TheVariants as reply
 use Rattle.reply_bodies.specs.Maps.{field, map_of, integer}
 use Rattle.reply_bodies.specs.Mitigations.{asked_fields, mitigations_with}
 use Rattle.reply_bodies.specs.Replies.{reply_tree}
-use Rattle.live_mitigations.specs.Reading.{Shown}
+use Rattle.live_mitigations.specs.LiveViews.{LiveView}
 use Rattle.conflict_rules.specs.declared.judging.Judged.{Judged}
 use Rattle.dots_machine.specs.declared.target.TargetFault.{TargetFault}
 use Rattle.dots_machine.specs.declared.exchange.Exchange.{Exchange}
@@ -75,20 +75,20 @@ deleted exchange = plain DELETED exchange []
 
 -- Of a mitigation the client is told what was asked for and the seconds left, the start and the status, or one of these parts
 -- (section 4.4.2).
-abbrev pub config_told : Content → Shown → List (Tree × Tree)
-config_told State m = []
-config_told _ m = asked_fields m.put.asked ++ field LIFETIME (integer m.left)
+abbrev pub config_fields : Content → LiveView → List (Tree × Tree)
+config_fields State m = []
+config_fields _ m = asked_fields m.put.asked ++ field LIFETIME (integer m.left)
 
-abbrev pub state_told : Content → Shown → List (Tree × Tree)
-state_told Config m = []
-state_told _ m = field MITIGATION_START (unsigned m.put.start) ++ field STATUS (unsigned m.status)
+abbrev pub state_fields : Content → LiveView → List (Tree × Tree)
+state_fields Config m = []
+state_fields _ m = field MITIGATION_START (unsigned m.put.start) ++ field STATUS (unsigned m.status)
 
-abbrev pub told : Content → Shown → Tree
-told content m = map_of (field MID (unsigned m.put.mid) ++ config_told content m ++ state_told content m)
+abbrev pub mitigation_fields : Content → LiveView → Tree
+mitigation_fields content m = map_of (field MID (unsigned m.put.mid) ++ config_fields content m ++ state_fields content m)
 
 -- 2.05 Content, with these mitigations in their order
-abbrev pub telling : Exchange → Content → List Shown → List ℕ
-telling exchange content ms = with_body CONTENT exchange (canon (mitigations_with (map (told content) ms)))
+abbrev pub mitigations_reply : Exchange → Content → List LiveView → List ℕ
+mitigations_reply exchange content ms = with_body CONTENT exchange (canon (mitigations_with (map (mitigation_fields content) ms)))
 
 -- 4.04 Not Found, where there is none
 abbrev pub absent : Exchange → List ℕ

@@ -11,42 +11,42 @@ use Rattle.dots_machine.specs.Machine.{State, Step}
 -- ---- a run with all that it tells
 
 -- an event that was taken tells the state after it
-abbrev pub Tells : WireAct → State → Owing State → Type 0
-Tells (took event at) told new = told ≡ new.last
-Tells (gave out done) told new = ⊤
+abbrev pub ShowsState : WireAct → State → Owing State → Type 0
+ShowsState (took event at) told new = told ≡ new.last
+ShowsState (gave out done) told new = ⊤
 
 -- The acts, one after the other, are a run of the machine, and beside each stands the state that it tells: beside an event the state after
 -- it, and beside a send the one with which it was owed.
 abbrev pub Story : SettingsValue → Owing State → List Timed → List State → Owing State → Type 0
 Story settings old [] [] new = new ≡ old
 Story settings old (timed ∷ acts) (told ∷ trace) new =
-    (mid : Owing State) × ToldStep (Step settings) old timed.act told mid × Tells timed.act told mid × Story settings mid acts trace new
+    (between : Owing State) × ToldStep (Step settings) old timed.act told between × ShowsState timed.act told between × Story settings between acts trace new
 Story settings old [] (told ∷ trace) new = ⊥
 Story settings old (timed ∷ acts) [] new = ⊥
 
 -- ---- what was told before a moment
 
 -- a send tells the entries of its state, and an event none
-abbrev pub entries_told : WireAct → State → ℕ → ℕ
-entries_told (took event at) told n = n
-entries_told (gave out done) told n = length told.history
+abbrev pub entries_shown : WireAct → State → ℕ → ℕ
+entries_shown (took event at) told n = n
+entries_shown (gave out done) told n = length told.history
 
 -- How many entries were told before the moment: those of the last send that was handed in before it, or so many where there is none.
 abbrev pub shown : ℕ → List Timed → List State → ℕ → ℕ
 shown m [] trace n = n
 shown m (timed ∷ acts) [] n = n
-shown m (timed ∷ acts) (told ∷ trace) n = shown m acts trace (if nat_lt timed.moment m then entries_told timed.act told n else n)
+shown m (timed ∷ acts) (told ∷ trace) n = shown m acts trace (if nat_lt timed.moment m then entries_shown timed.act told n else n)
 
 -- an event moves the time, and a send doesn't
-abbrev pub time_told : WireAct → State → ℕ → ℕ
-time_told (took event at) told t = told.time
-time_told (gave out done) told t = t
+abbrev pub time_shown : WireAct → State → ℕ → ℕ
+time_shown (took event at) told t = told.time
+time_shown (gave out done) told t = t
 
 -- The time of the machine at the moment: that after the last event that was taken before it, or this one where there is none.
 abbrev pub time_at : ℕ → List Timed → List State → ℕ → ℕ
 time_at m [] trace t = t
 time_at m (timed ∷ acts) [] t = t
-time_at m (timed ∷ acts) (told ∷ trace) t = time_at m acts trace (if nat_lt timed.moment m then time_told timed.act told t else t)
+time_at m (timed ∷ acts) (told ∷ trace) t = time_at m acts trace (if nat_lt timed.moment m then time_shown timed.act told t else t)
 
 -- how many calls were made of a host, where its disk is told
 abbrev pub past_of : Option Media → ℕ
@@ -62,10 +62,10 @@ NoneBefore m (timed ∷ acts) = (m ≤ timed.moment) × NoneBefore m acts
 
 -- At the moment the image holds calm entries that are a part of a front of the history, with the view of that front at the machine's time; and
 -- the front has at least the entries that were told before.
-pub record StandsAt (settings : SettingsValue) (start : State) (acts : List Timed) (trace : List State) (history : List Entry) (m : ℕ) (image : ℕ → ℕ) : Type 0 where
+pub record MeansAt (settings : SettingsValue) (start : State) (acts : List Timed) (trace : List State) (history : List Entry) (m : ℕ) (image : ℕ → ℕ) : Type 0 where
   pub count : ℕ
   pub within : count ≤ length history
-  pub told : shown m acts trace (length start.history) ≤ count
+  pub has_shown : shown m acts trace (length start.history) ≤ count
   pub holds : HoldsKept settings settings.limits.remembered (time_at m acts trace start.time) (take count history) image
 
 -- the disk at each moment, from this one on, has the property in each image that a crash may leave of it
@@ -80,4 +80,4 @@ LeavesAt _ _ P = ⊥
 
 -- A run survives a crash at any moment: of the disk as it was before the run and as it is after it, and of the history to which the run came.
 abbrev pub Survives : SettingsValue → State → Option Media → Option Media → List Timed → List State → List Entry → Type 0
-Survives settings start before now acts trace history = LeavesAt before now (StandsAt settings start acts trace history)
+Survives settings start before now acts trace history = LeavesAt before now (MeansAt settings start acts trace history)

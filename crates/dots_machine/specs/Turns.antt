@@ -39,4 +39,4 @@ pub record IsTurn (settings : SettingsValue) (old : State) (turn : Turn) (new : 
 -- from the one state to the other, the property holds of each turn, which goes on from the state that the one before it left
 abbrev pub EachTurn : (State → Turn → State → Type 0) → State → List Turn → State → Type 0
 EachTurn Holds old [] new = new ≡ old
-EachTurn Holds old (turn ∷ turns) new = (mid : State) × Holds old turn mid × EachTurn Holds mid turns new
+EachTurn Holds old (turn ∷ turns) new = (between : State) × Holds old turn between × EachTurn Holds between turns new

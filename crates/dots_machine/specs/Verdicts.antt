@@ -11,7 +11,7 @@ use Rattle.dots_heads.specs.declared.request.MitigationPath.{MitigationPath}
 use Rattle.dots_keys.specs.declared.request.Request.{Request}
 use Rattle.dots_keys.specs.declared.request.Request.TheVariants as request
 use Rattle.dots_keys.specs.declared.request.MitigationBody.{MitigationBody}
-use Rattle.live_mitigations.specs.Reading.{Shown}
+use Rattle.live_mitigations.specs.LiveViews.{LiveView}
 use Rattle.reply_bodies.specs.declared.conflict.ConflictCause.TheVariants as cause
 use Rattle.dots_registry.specs.Judging.{collides, judge_request}
 use Rattle.dots_machine.specs.declared.target.TargetFault.{TargetFault}
@@ -25,8 +25,8 @@ use Rattle.dots_machine.specs.declared.verdict.Verdict.TheVariants as verdict
 use Rattle.dots_machine.specs.Domains.{domain_for, session_domain}
 use Rattle.dots_machine.specs.Targets.{scope_fault}
 use Rattle.dots_machine.specs.Replies.{conflicting, deleted, bad_target, bad_parameter, not_implemented}
-use Rattle.dots_machine.specs.Repeats.{Sent, sent_for}
-use Rattle.dots_machine.specs.Mitigations.{sent_by, request_of, judged, client_for, withdrawal, lives, is_wanted, tell}
+use Rattle.dots_machine.specs.MessageRepeats.{Sent, sent_for}
+use Rattle.dots_machine.specs.Mitigations.{sent_by, request_of, judged, client_for, withdrawal, lives, is_wanted, get_reply}
 use Rattle.dots_machine.specs.Machine.{State, asks_for, reject_verdict, dismissal_verdict}
 
 -- ---- a message that came before
@@ -58,12 +58,12 @@ abbrev pub is_taken : ℕ → List Entry → ClientRequest → Bool
 is_taken time history from = collides time history from.peer (client_for from)
 
 -- it stands, and has this mid
-abbrev pub stands_as : ℕ → Shown → Bool
+abbrev pub stands_as : ℕ → LiveView → Bool
 stands_as mid m = (m.put.mid == mid) && (m.status == 2)
 
 -- by whether the name is taken, and whether one of the mid stands
 abbrev pub delete_by : ℕ → ClientRequest → ℕ → Bool → Bool → Verdict
-delete_by time from mid true stands = verdict.Told (conflicting from.exchange (Some mid) cause.Collision)
+delete_by time from mid true stands = verdict.LongReply (conflicting from.exchange (Some mid) cause.Collision)
 delete_by time from mid false true = withdrawal time from mid
 delete_by time from mid false false = verdict.Reply (deleted from.exchange)
 
@@ -74,9 +74,9 @@ delete_verdict time history from mid =
 -- ---- mitigations are read
 
 -- by whether the name is taken, and the client's live mitigations
-abbrev pub get_by : Exchange → Option ℕ → Content → Bool → List Shown → Verdict
-get_by exchange mid content true ms = verdict.Told (conflicting exchange mid cause.Collision)
-get_by exchange mid content false ms = tell exchange content (filter (is_wanted mid) ms)
+abbrev pub get_by : Exchange → Option ℕ → Content → Bool → List LiveView → Verdict
+get_by exchange mid content true ms = verdict.LongReply (conflicting exchange mid cause.Collision)
+get_by exchange mid content false ms = get_reply exchange content (filter (is_wanted mid) ms)
 
 abbrev pub get_verdict : ℕ → List Entry → ClientRequest → Option ℕ → Content → Verdict
 get_verdict time history from mid content =

@@ -10,7 +10,7 @@ pub enum Ending {
     /// The words are no command.
     WrongWords,
     /// A word was shown.
-    Shown(Showing),
+    Printed(Printing),
     /// The settings were read and are refused.
     Refused(SettingsFault),
     /// The settings couldn't be read.
@@ -27,7 +27,7 @@ pub enum Ending {
 
 /// What came of a word that was to be shown.
 #[derive(Clone, Copy)]
-pub enum Showing {
+pub enum Printing {
     /// The lines of the message that it writes are written.
     Written,
     /// They couldn't be written.
@@ -57,13 +57,13 @@ impl Ending {
         ensures { result ≡ status_of self }
     {
         match self {
-            Ending::Shown(Showing::Written) | Ending::Served(Stop::Ended) => 0,
-            Ending::Shown(Showing::Unreadable) => 1,
+            Ending::Printed(Printing::Written) | Ending::Served(Stop::Ended) => 0,
+            Ending::Printed(Printing::Unreadable) => 1,
             Ending::WrongWords => 2,
             Ending::Refused(_) => 3,
             Ending::NoMemory => 4,
             Ending::SettingsFailed | Ending::Served(Stop::NextFailed) => 5,
-            Ending::ReportFailed | Ending::Shown(Showing::Failed) => 9,
+            Ending::ReportFailed | Ending::Printed(Printing::Failed) => 9,
             Ending::Served(Stop::DiskFailed) => 6,
             Ending::Served(Stop::TooMany) => 11,
             Ending::Unrecovered(fault) | Ending::Served(Stop::Unrecovered(fault)) => {

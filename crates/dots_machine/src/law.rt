@@ -17,22 +17,22 @@ ghost use Rattle.dots_settings.specs.Lookups.{role_of};
 ghost use Rattle.dots_disk.specs.Media.{Media};
 ghost use Rattle.slot_store.specs.Gates.{Sees};
 ghost use Rattle.slot_store.specs.Layout.{needed_of};
-ghost use Rattle.slot_journal.specs.Held.{Holds};
+ghost use Rattle.slot_journal.specs.DiskEntries.{Holds};
 ghost use Rattle.slot_journal.specs.Sizes.{slots_of};
 ghost use Rattle.dots_history.specs.Histories.{Kept, tally};
-ghost use Rattle.dots_machine.specs.Surviving.{StandsAt, shown, time_at};
+ghost use Rattle.dots_machine.specs.Surviving.{MeansAt, shown, time_at};
 ghost use Rattle.dots_machine.specs.Endings.{GivesSettings, IsReady};
 ghost use Rattle.dots_machine.specs.Apart.{domain_of, SameFor, StaysApart};
 ghost use Rattle.dots_machine.specs.Answering.{AreBytes, IsHandedIn, IsUnavailable};
 ghost use Rattle.dots_machine.specs.Domains.{is_gateway};
 ghost use Rattle.dots_machine.specs.Requests.{IsReceived};
-ghost use Rattle.dots_machine.specs.Repeats.{sent_for, IsRepeatOf};
-ghost use Rattle.dots_machine.specs.Repeating.{heard_for, AsksToChange};
+ghost use Rattle.dots_machine.specs.MessageRepeats.{sent_for, IsRepeatOf};
+ghost use Rattle.dots_machine.specs.RepeatRule.{heard_for, AsksToChange};
 ghost use Rattle.dots_machine.specs.Machine.{State, later, is_stranger, DecidesRequest, Rules, Step};
 ghost use Rattle.dots_machine.specs.Verdicts.{verdict_on};
 ghost use Rattle.dots_machine.specs.Turns.{Turn, IsTurn, EachTurn, turns_of};
 ghost use Rattle.dots_machine.specs.Adding.{AddsExactly};
-ghost use Rattle.dots_machine.specs.Repeated.{AnswersRepeats};
+ghost use Rattle.dots_machine.specs.RepeatAnswers.{AnswersRepeats};
 ghost use Rattle.dots_machine.specs.Isolation.{IsIsolated};
 ghost use Rattle.dots_machine.specs.Orderly.{IsOrderly};
 ghost use Rattle.dots_machine.specs.declared.exchange.Exchange.{Exchange};
@@ -126,15 +126,15 @@ pub fn mitigations_stand_apart()
         → IsOrderly from → Trace (Step settings) (resting from) acts trace (resting new) → IsOrderly new }
 {}
 
-/// Runs go on from one another over a crash. Where an image stands for what a run had accepted and told at a moment, and a read of the disk of another run
+/// Runs go on from one another over a crash. Where an image represents what a run had accepted and told at a moment, and a read of the disk of another run
 /// gives this image, then what that run recovered (the entries that its disk held, as `was_held` of `Serves` says) means a front of what the first one
 /// accepted, with all that was told before the moment (`found`). And the disk is ready for it, if it is large enough (`ready`), so it isn't refused.
 pub fn runs_go_on()
     ensures found { (settings : SettingsValue) (start : State) (acts : List Timed) (trace : List State) (history : List Entry) (m : ℕ) (image : ℕ → ℕ) (media : Option Media) (held : List Entry)
-        → StandsAt settings start acts trace history m image → Sees media image → ((seen : ℕ → ℕ) → Sees media seen → Holds settings seen held)
+        → MeansAt settings start acts trace history m image → Sees media image → ((seen : ℕ → ℕ) → Sees media seen → Holds settings seen held)
         → (count : ℕ) × (count ≤ length history) × (shown m acts trace (length start.history) ≤ count)
         × Kept settings.limits.remembered (time_at m acts trace start.time) held (take count history) }
     ensures ready { (start : State) (acts : List Timed) (trace : List State) (history : List Entry) (m : ℕ) (image : ℕ → ℕ) (left : Option (List ℕ)) (media : Option Media) (extent : ℕ)
-        → (gives : GivesSettings left) → StandsAt gives.settings start acts trace history m image → Sees media image → needed_of (slots_of gives.settings) ≤ extent
+        → (gives : GivesSettings left) → MeansAt gives.settings start acts trace history m image → Sees media image → needed_of (slots_of gives.settings) ≤ extent
         → IsReady left media extent }
 {}

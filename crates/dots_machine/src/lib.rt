@@ -2,8 +2,8 @@
 //! reported, what the words of the command line ask for, and how a run ends.
 //!
 //! The definitions are in `specs/`, one file for each: `Domains`, `Targets`, `Exchanges` (what is dismissed at once),
-//! `Requests` (what a datagram is), `Replies`, `Repeats` (which messages are repeats, and what they are answered), `Mitigations` (what is
-//! decided on requests for them, by the places of the entries), `Machine` (the state, verdicts and a step), `Repeating` (which requests
+//! `Requests` (what a datagram is), `Replies`, `MessageRepeats` (which messages are repeats, and what they are answered), `Mitigations` (what is
+//! decided on requests for them, by the places of the entries), `Machine` (the state, verdicts and a step), `RepeatRule` (which requests
 //! come to the rule on repeats), `Verdicts` (the same verdict as a value, by which a server is proved), `Apart` (how
 //! domains stay apart), `Turns` (a run by turns), `Adding` (when an entry is added), `Isolation` (what becomes of a domain over a run),
 //! `Orderly` (which mitigations stand beside each other), `Report`, `Commands`, `Outside` (what stood before and after) and `Endings`
@@ -27,7 +27,7 @@ mod verdict;
 
 pub use client_request::ClientRequest;
 pub use dismissal::Dismissal;
-pub use ending::{Ending, Showing, Stop};
+pub use ending::{Ending, Printing, Stop};
 pub use exchange::Exchange;
 pub use law::{
     domains_are_isolated, domains_stay_apart, entries_are_accepted, mitigations_stand_apart,

@@ -10,7 +10,7 @@ pub enum Verdict {
     /// A reply that changes nothing.
     Reply(ShortMessage),
     /// The same, with a body of any length.
-    Told(Bytes),
+    LongReply(Bytes),
     /// An accepted change, and the reply that it carries.
     Accept { reply: ShortMessage, entry: Staged },
 }

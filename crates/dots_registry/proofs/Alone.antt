@@ -6,7 +6,7 @@ use Rattle.std.proofs.lemmas.Bool.{both_ways, cond_both, cond-false, cases_Bool,
 use Rattle.acl_lists.specs.declared.alias.Alias.{Alias}
 use Rattle.dots_settings.specs.Settings.{SettingsValue}
 use Rattle.dots_history.specs.declared.entry.Entry.{Entry}
-use Rattle.dots_history.specs.Entries.{is_held, undoes, is_leave, option_any}
+use Rattle.dots_history.specs.Entries.{is_held, undoes, is_deregister, option_any}
 use Rattle.dots_history.specs.Histories.{mitigations, stays, held, alone}
 use Rattle.dots_laws.specs.Capacities.{is_registration}
 use Rattle.dots_laws.specs.Tables.{Client, is_of}
@@ -15,7 +15,7 @@ use Rattle.dots_laws.proofs.Apart.{apart}
 use Rattle.dots_laws.proofs.Single.{is_of_client}
 use Rattle.conflict_rules.specs.ByMid as by_mid
 use Rattle.live_mitigations.specs.Judging.{live_of, lives_of}
-use Rattle.live_mitigations.specs.Reading.{shown_of, shown_in}
+use Rattle.live_mitigations.specs.LiveViews.{live_views_of, live_views_in}
 use Rattle.held_resources.specs.Held.{aliases_of, registers, registrant, of_client}
 use Rattle.held_resources.proofs.Holdings.{reg_undone}
 use Rattle.held_resources.proofs.Written.{aliases_alone}
@@ -71,8 +71,8 @@ left_out false client e rest out = refl
 unmoved : (client : Client) (e x : Entry) → is_registration e.change ≡ true → is_of client e ≡ true → is_of client x ≡ false → undoes e x ≡ false
 unmoved client e x registers of out =
     reg_undone e x registers
-    ∙ ap (λ c. is_leave x.change && is_of c x) (is_of_client client e of)
-    ∙ and_right (is_leave x.change) (is_of client x) out
+    ∙ ap (λ c. is_deregister x.change && is_of c x) (is_of_client client e of)
+    ∙ and_right (is_deregister x.change) (is_of client x) out
 
 undone_alone : (client : Client) (e : Entry) (later : List Entry) → is_registration e.change ≡ true → is_of client e ≡ true
     → list_any (undoes e) (of_client client later) ≡ list_any (undoes e) later
@@ -155,5 +155,5 @@ collides_apart t one other peer client same =
     (same_registrant client one other same)
 
 pub shown_apart : (t : ℕ) (one other : List Entry) (domain : ℕ) (cuid : List ℕ) → alone domain one ≡ alone domain other
-    → shown_in domain cuid t one ≡ shown_in domain cuid t other
-shown_apart t one other domain cuid same = ap (shown_of t cuid) (same_mitigations domain t one other same)
+    → live_views_in domain cuid t one ≡ live_views_in domain cuid t other
+shown_apart t one other domain cuid same = ap (live_views_of t cuid) (same_mitigations domain t one other same)

@@ -12,21 +12,21 @@ use Rattle.dots_history.specs.declared.status.Status.{Status}
 use Rattle.dots_history.specs.declared.status.Status.TheVariants.{Ended, Open, Withdrawn}
 use Rattle.dots_lists.specs.Name.{is_name}
 use Rattle.dots_history.specs.Bounds.{within_bounds, change_within}
-use Rattle.dots_history.specs.Entries.{same_client, runs, lasts, granted_at, put_of, option_any}
+use Rattle.dots_history.specs.Entries.{same_client, runs, is_unexpired, granted_at, put_of, option_any}
 use Rattle.dots_history.specs.Histories.{Mitigation, Within, live, status, tally, mitigations, held}
 use Rattle.dots_laws.specs.Calm.{is_of_settings}
 use Rattle.dots_laws.specs.Fits as laws
-use Rattle.live_mitigations.specs.Standing.{LiveValue, puts, is_inside, keeps_live_room, has_live_room}
-use Rattle.live_mitigations.specs.Standing as lives
-use Rattle.live_mitigations.proofs.Standing.{quiet_inside}
+use Rattle.live_mitigations.specs.LiveValues.{LiveValue, puts, is_inside, keeps_live_room, has_live_room}
+use Rattle.live_mitigations.specs.LiveValues as lives
+use Rattle.live_mitigations.proofs.LiveValues.{quiet_inside}
 use Rattle.live_mitigations.proofs.Room.{has_room_is}
 use Rattle.held_resources.specs.Tables.{sizes_of}
 use Rattle.held_resources.specs.Accepting.{accepts, keeps_rooms}
-use Rattle.held_resources.proofs.Standing.{accepted_by}
+use Rattle.held_resources.proofs.HistoryTables.{accepted_by}
 use Rattle.held_resources.proofs.Lawful.{accepts_own}
-use Rattle.dots_registry.specs.Standing.{RegistryValue, IsOf, StandsFor, time_of}
+use Rattle.dots_registry.specs.RegistryValues.{RegistryValue, IsOf, Represents, time_of}
 use Rattle.dots_registry.specs.Fitting.{FitsIn, fits_then, fits_now, fits_tables}
-use Rattle.dots_registry.proofs.Standing.{own_inside}
+use Rattle.dots_registry.proofs.RegistryValues.{own_inside}
 
 -- ---- what isn't of a domain
 
@@ -35,7 +35,7 @@ none_there None is = refl
 none_there (Some put) is = absurd (false≢true (sym is))
 
 pub never_live : (t : ℕ) (e : Entry) (s : Status) → puts e ≡ false → live t e s ≡ false
-unfolding runs lasts
+unfolding runs is_unexpired
 never_live t e Ended quiet = refl
 never_live t e Open quiet = ap (λ b. b || false) (ap (option_any (λ (put : Put). granted_at t e.time put.granted)) (none_there (put_of e.change) quiet))
 never_live t e (Withdrawn at) quiet =
@@ -68,15 +68,15 @@ unfolding same_client
 out_of_client e x out = ap (λ b. b && bytes_eq e.cuid x.cuid) out
 
 -- an entry of no domain finds room
-outside_room : (live : LiveValue) (entries : List Entry) (e : Entry) → live.domains ≤ e.domain → puts e ≡ false → lives.StandsFor live entries
+outside_room : (live : LiveValue) (entries : List Entry) (e : Entry) → live.domains ≤ e.domain → puts e ≡ false → lives.Represents live entries
     → has_live_room live.limits entries e ≡ true
-outside_room live entries e past quiet stands =
+outside_room live entries e past quiet represents =
     let all : list_all (is_inside live.domains) (entries ++ e ∷ []) ≡ true =
     list_all-append (is_inside live.domains) entries (e ∷ [])
     ∙ and_from
     (list_all (is_inside live.domains) entries)
     (list_all (is_inside live.domains) (e ∷ []))
-    stands.inside
+    represents.inside
     (and_from (is_inside live.domains e) true (quiet_inside live.domains e quiet) refl) in
     let domain = none_counts (λ (x : Entry). x.domain == e.domain) e.time live.domains (entries ++ e ∷ []) (λ x less. ne_eqb x.domain e.domain (apart x less)) all in
     let client = none_counts (same_client e) e.time live.domains (entries ++ e ∷ []) (λ x less. out_of_client e x (ne_eqb e.domain x.domain (turned x less))) all in
@@ -119,12 +119,12 @@ by_tables settings registry entries e =
     && (nat_lt e.time 281474976710656
     && (is_of_settings settings e && (accepts registry.held.sizes entries e && has_live_room registry.live.limits entries e)))
 
-fits_is : (settings : SettingsValue) (registry : RegistryValue) (entries : List Entry) (e : Entry) → IsOf settings registry → StandsFor registry entries
+fits_is : (settings : SettingsValue) (registry : RegistryValue) (entries : List Entry) (e : Entry) → IsOf settings registry → Represents registry entries
     → fits_then settings registry entries e ≡ by_tables settings registry entries e
-fits_is settings registry entries e is_of stands =
+fits_is settings registry entries e is_of represents =
     elim (cases_Bool (nat_le (time_of registry) e.time)) [
       | inl later ↦
-          let last : laws.last_time entries ≤ time_of registry = last_within 0 (time_of registry) entries stands.live.in_order in
+          let last : laws.last_time entries ≤ time_of registry = last_within 0 (time_of registry) entries represents.live.in_order in
           let less : time_of registry ≤ e.time = leb-true (time_of registry) e.time later in
           let after : nat_le (laws.last_time entries) e.time ≡ true = le-leb (laws.last_time entries) e.time (omega (arith, last, less)) in
           let standing = held (entries ++ e ∷ []) in
@@ -188,10 +188,10 @@ timed_within e is =
 abbrev is_possible : SettingsValue → Entry → Bool
 is_possible settings e = within_bounds e && is_of_settings settings e
 
-fits_asked : (settings : SettingsValue) (registry : RegistryValue) (entries : List Entry) (e : Entry) → IsOf settings registry → StandsFor registry entries
+fits_asked : (settings : SettingsValue) (registry : RegistryValue) (entries : List Entry) (e : Entry) → IsOf settings registry → Represents registry entries
     → fits_now settings registry entries e ≡ (is_possible settings e && fits_tables registry entries e)
-fits_asked settings registry entries e is_of stands =
-    ap (λ b. within_bounds e && b) (fits_is settings registry entries e is_of stands)
+fits_asked settings registry entries e is_of represents =
+    ap (λ b. within_bounds e && b) (fits_is settings registry entries e is_of represents)
     ∙ asked_first
     (within_bounds e)
     (nat_le (time_of registry) e.time)
@@ -200,15 +200,15 @@ fits_asked settings registry entries e is_of stands =
     (accepts registry.held.sizes entries e && has_live_room registry.live.limits entries e)
     (timed_within e)
 
-pub fits_possible : (settings : SettingsValue) (registry : RegistryValue) (entries : List Entry) (e : Entry) → IsOf settings registry → StandsFor registry entries
+pub fits_possible : (settings : SettingsValue) (registry : RegistryValue) (entries : List Entry) (e : Entry) → IsOf settings registry → Represents registry entries
     → is_possible settings e ≡ true → fits_now settings registry entries e ≡ fits_tables registry entries e
-fits_possible settings registry entries e is_of stands is =
-    fits_asked settings registry entries e is_of stands ∙ ap (λ b. b && fits_tables registry entries e) is
+fits_possible settings registry entries e is_of represents is =
+    fits_asked settings registry entries e is_of represents ∙ ap (λ b. b && fits_tables registry entries e) is
 
-pub fits_impossible : (settings : SettingsValue) (registry : RegistryValue) (entries : List Entry) (e : Entry) → IsOf settings registry → StandsFor registry entries
+pub fits_impossible : (settings : SettingsValue) (registry : RegistryValue) (entries : List Entry) (e : Entry) → IsOf settings registry → Represents registry entries
     → is_possible settings e ≡ false → fits_now settings registry entries e ≡ false
-fits_impossible settings registry entries e is_of stands is =
-    fits_asked settings registry entries e is_of stands ∙ ap (λ b. b && fits_tables registry entries e) is
+fits_impossible settings registry entries e is_of represents is =
+    fits_asked settings registry entries e is_of represents ∙ ap (λ b. b && fits_tables registry entries e) is
 
 pub possible_inside : (settings : SettingsValue) (registry : RegistryValue) (e : Entry) → IsOf settings registry → is_possible settings e ≡ true → puts e ≡ true
     → e.domain < registry.live.domains
@@ -216,14 +216,14 @@ possible_inside settings registry e is_of is put =
     own_inside settings registry e is_of (and_parts (within_bounds e) (is_of_settings settings e) is).1 put
 
 pub room_outside : (inside now : RegistryValue) (domains : ℕ) (entries : List Entry) (e : Entry) → inside ≡ now → domains ≡ inside.live.domains → domains ≤ e.domain
-    → (puts e ≡ true → e.domain < now.live.domains) → StandsFor now entries → true ≡ has_live_room now.live.limits entries e
-room_outside inside now domains entries e same are past within stands =
+    → (puts e ≡ true → e.domain < now.live.domains) → Represents now entries → true ≡ has_live_room now.live.limits entries e
+room_outside inside now domains entries e same are past within represents =
     let all : domains ≡ now.live.domains = are ∙ ap (λ (r : RegistryValue). r.live.domains) same in
-    sym (outside_room now.live entries e (omega (arith, past, all)) (false_from_ne_true (puts e) (λ put. let less = within put in omega (arith, less, past, all))) stands.live)
+    sym (outside_room now.live entries e (omega (arith, past, all)) (false_from_ne_true (puts e) (λ put. let less = within put in omega (arith, less, past, all))) represents.live)
 
 -- ---- whichever history
 
-same_room : (settings : SettingsValue) (registry : RegistryValue) (xs ys : List Entry) (e : Entry) → IsOf settings registry → StandsFor registry xs → StandsFor registry ys
+same_room : (settings : SettingsValue) (registry : RegistryValue) (xs ys : List Entry) (e : Entry) → IsOf settings registry → Represents registry xs → Represents registry ys
     → is_possible settings e ≡ true → time_of registry ≤ e.time
     → has_live_room registry.live.limits xs e ≡ has_live_room registry.live.limits ys e
 same_room settings registry xs ys e is_of of_xs of_ys possible later =
@@ -238,11 +238,11 @@ same_room settings registry xs ys e is_of of_xs of_ys possible later =
           outside_room registry.live xs e past quiet of_xs.live ∙ sym (outside_room registry.live ys e past quiet of_ys.live)
     ]
 
-same_accepted : (registry : RegistryValue) (xs ys : List Entry) (e : Entry) → StandsFor registry xs → StandsFor registry ys
+same_accepted : (registry : RegistryValue) (xs ys : List Entry) (e : Entry) → Represents registry xs → Represents registry ys
     → accepts registry.held.sizes xs e ≡ accepts registry.held.sizes ys e
 same_accepted registry xs ys e of_xs of_ys = accepted_by registry.held xs e of_xs.held ∙ sym (accepted_by registry.held ys e of_ys.held)
 
-same_tables : (settings : SettingsValue) (registry : RegistryValue) (xs ys : List Entry) (e : Entry) → IsOf settings registry → StandsFor registry xs → StandsFor registry ys
+same_tables : (settings : SettingsValue) (registry : RegistryValue) (xs ys : List Entry) (e : Entry) → IsOf settings registry → Represents registry xs → Represents registry ys
     → is_possible settings e ≡ true → fits_tables registry xs e ≡ fits_tables registry ys e
 same_tables settings registry xs ys e is_of of_xs of_ys possible = by_time (nat_le (time_of registry) e.time) refl
   where
@@ -256,7 +256,7 @@ same_tables settings registry xs ys e is_of of_xs of_ys possible = by_time (nat_
         (λ b. accepts registry.held.sizes ys e && b)
         (same_room settings registry xs ys e is_of of_xs of_ys possible (leb-true (time_of registry) e.time later))
 
-pub same_fits : (settings : SettingsValue) (registry : RegistryValue) (xs ys : List Entry) (e : Entry) → IsOf settings registry → StandsFor registry xs → StandsFor registry ys
+pub same_fits : (settings : SettingsValue) (registry : RegistryValue) (xs ys : List Entry) (e : Entry) → IsOf settings registry → Represents registry xs → Represents registry ys
     → fits_now settings registry xs e ≡ fits_now settings registry ys e
 same_fits settings registry xs ys e is_of of_xs of_ys =
     elim (cases_Bool (is_possible settings e)) [
@@ -267,12 +267,12 @@ same_fits settings registry xs ys e is_of of_xs of_ys =
       | inr out ↦ fits_impossible settings registry xs e is_of of_xs out ∙ sym (fits_impossible settings registry ys e is_of of_ys out)
     ]
 
-pub fits_some : (settings : SettingsValue) (registry : RegistryValue) (entries : List Entry) (e : Entry) → IsOf settings registry → StandsFor registry entries
+pub fits_some : (settings : SettingsValue) (registry : RegistryValue) (entries : List Entry) (e : Entry) → IsOf settings registry → Represents registry entries
     → fits_now settings registry entries e ≡ true → FitsIn registry e
-fits_some settings registry entries e is_of stands is = record {
+fits_some settings registry entries e is_of represents is = record {
   settings = settings;
   entries = entries;
   is_of = is_of;
-  stands = stands;
+  represents = represents;
   fits = is;
 }

@@ -26,7 +26,7 @@ use Rattle.conflict_rules.specs.Live.{is_of, stands_for, would_end}
 use Rattle.conflict_rules.specs.ByMid.{has_mid}
 use Rattle.conflict_rules.specs.ByOverlap.{staying, own_staying}
 use Rattle.conflict_rules.proofs.Ending.{ended}
-use Rattle.live_mitigations.specs.Standing.{puts}
+use Rattle.live_mitigations.specs.LiveValues.{puts}
 use Rattle.live_mitigations.specs.Judging.{put_or_nothing, live_of, lives_of}
 use Rattle.live_mitigations.proofs.Rows.{puts_none}
 use Rattle.held_resources.proofs.Holdings.{turned_eq, turned_bytes}

@@ -29,10 +29,10 @@ use Rattle.dots_laws.proofs.Bare.{bare_mitigations}
 use Rattle.dots_laws.proofs.Bounding.{named_few}
 use Rattle.dots_laws.proofs.GoingOn.{held_push}
 use Rattle.dots_laws.proofs.Joining.{fits_so, same_by, tally_held, tally_same}
-use Rattle.live_mitigations.specs.Standing.{LiveValue, SameButRows, SlotsAre, SlotsCome, kept_of, puts}
-use Rattle.live_mitigations.specs.Standing as lives
+use Rattle.live_mitigations.specs.LiveValues.{LiveValue, SameButRows, SlotsAre, SlotsCome, rows_for, puts}
+use Rattle.live_mitigations.specs.LiveValues as lives
 use Rattle.live_mitigations.proofs.Bared.{bared, bared_entries, are_bared, bared_are}
-use Rattle.live_mitigations.proofs.SlotsStanding.{come_later}
+use Rattle.live_mitigations.proofs.SlotsOfRows.{come_later}
 use Rattle.held_resources.specs.declared.row.HeldSlot.{HeldSlot}
 use Rattle.held_resources.specs.Rows.{HeldRows, written_of, row_with, rows_of, rows_with, is_undone, rows_more as rows_more_of}
 use Rattle.held_resources.specs.Sizes.{most_held}
@@ -41,18 +41,18 @@ use Rattle.held_resources.proofs.Going.{rows_more, none_undone}
 use Rattle.held_resources.proofs.Lawful.{known_of}
 use Rattle.held_resources.proofs.Names.{is_short}
 use Rattle.held_resources.proofs.Sizing.{most_of, most_is}
-use Rattle.held_resources.proofs.Standing.{stands_with}
+use Rattle.held_resources.proofs.HistoryTables.{stands_with}
 use Rattle.coap_exchange.specs.Pairs.{pairs_of}
 use Rattle.coap_exchange.specs.Rings.{RingValue, empty_ring, is_ring_of, noted}
 use Rattle.coap_exchange.specs.Noting.{message_of}
 use Rattle.installed_filters.specs.Filters.{FiltersValue}
-use Rattle.installed_filters.specs.Standing.{KeepsLimits}
+use Rattle.installed_filters.specs.HistoryRows.{KeepsLimits}
 use Rattle.installed_filters.proofs.Limits.{limits_with}
 use Rattle.dots_registry.specs.Kept.{RingsAre}
-use Rattle.dots_registry.specs.Standing.{RegistryValue, StandsFor, IsOf, time_of, domains_of, limits_of, number_remembered, has_ring, rings_with, silent}
+use Rattle.dots_registry.specs.RegistryValues.{RegistryValue, Represents, IsOf, time_of, domains_of, limits_of, number_remembered, has_ring, rings_with, silent}
 use Rattle.dots_registry.specs.Fitting.{FitsIn, fits_now, fits_then}
-use Rattle.dots_registry.specs.Filed.{StandsIn, HasSlots, IsFiled, capacities_in, actor_of, most_kept, is_alias_of}
-use Rattle.dots_registry.proofs.Standing.{joined, fits_within, fits_later, fits_ring, own_of, accepted, puts_kind}
+use Rattle.dots_registry.specs.Filed.{RepresentsFiled, HasSlots, IsFiled, capacities_in, actor_of, most_kept, is_alias_of}
+use Rattle.dots_registry.proofs.RegistryValues.{joined, fits_within, fits_later, fits_ring, own_of, accepted, puts_kind}
 use Rattle.dots_registry.proofs.Conditions.{same_fits}
 use Rattle.dots_registry.proofs.Few.{rows_few}
 use Rattle.dots_registry.proofs.Going.{from_ring, rings_start, rings_noted, rings_other, last_more}
@@ -84,9 +84,9 @@ slots_still old new domains limits sizes room has = record {
 
 pub filed_first : (live : LiveValue) (held : Tables) (rings : List RingValue) (filters : FiltersValue) (settings : SettingsValue) (room : ℕ)
     → live.limits ≡ settings.limits → live.time ≡ 0 → rings ≡ map (empty_ring settings.limits.remembered) (pairs_of settings) → SlotsAre 0 live.tables []
-    → held.slots ≡ record { room = room; rows = [] } → StandsFor (joined live held rings filters None) [] → StandsIn (joined live held rings filters None) []
-filed_first live held rings filters settings room limits at made are none stands = record {
-  stands = stands;
+    → held.slots ≡ record { room = room; rows = [] } → Represents (joined live held rings filters None) [] → RepresentsFiled (joined live held rings filters None) []
+filed_first live held rings filters settings room limits at made are none represents = record {
+  represents = represents;
   slots = record {
     live = subst (λ t. SlotsAre t live.tables []) (sym at) are;
     messages = subst
@@ -120,33 +120,33 @@ slots_first_room live held rings filters settings domains limits sizes none = re
 -- ---- the time
 
 -- the live mitigations of a domain, by the entries in their slots
-rows_bared : (live : LiveValue) (filed : List Filed) (domain : ℕ) → domain < live.domains → lives.StandsFor live (map entry_of filed)
-    → kept_of live domain ≡ mitigations live.time (alone domain (map entry_of (map bared filed)))
-rows_bared live filed domain within stands =
-    stands.rows domain within ∙ ap (λ es. mitigations live.time (alone domain es)) (sym (bared_entries filed))
+rows_bared : (live : LiveValue) (filed : List Filed) (domain : ℕ) → domain < live.domains → lives.Represents live (map entry_of filed)
+    → rows_for live domain ≡ mitigations live.time (alone domain (map entry_of (map bared filed)))
+rows_bared live filed domain within represents =
+    represents.rows domain within ∙ ap (λ es. mitigations live.time (alone domain es)) (sym (bared_entries filed))
 
-come_now : (now : ℕ) (registry : RegistryValue) (filed : List Filed) → time_of registry ≤ now → StandsIn registry filed
+come_now : (now : ℕ) (registry : RegistryValue) (filed : List Filed) → time_of registry ≤ now → RepresentsFiled registry filed
     → SlotsCome now registry.live.tables (map bared filed)
-come_now now registry filed less stands =
+come_now now registry filed less represents =
     come_later
     (time_of registry)
     now
     registry.live.tables
     (map bared filed)
     less
-    (λ domain within. rows_bared registry.live filed domain (subst (λ n. domain < n) stands.stands.live.are_tables.number within) stands.stands.live)
-    (are_bared (time_of registry) registry.live.tables filed stands.slots.live)
+    (λ domain within. rows_bared registry.live filed domain (subst (λ n. domain < n) represents.represents.live.are_tables.number within) represents.represents.live)
+    (are_bared (time_of registry) registry.live.tables filed represents.slots.live)
 
 pub filed_later : (now : ℕ) (inside old : RegistryValue) (live : LiveValue) (filters : FiltersValue) (filed : List Filed) → inside ≡ old
     → time_of old ≤ now → live.limits ≡ inside.live.limits → live.time ≡ now
     → ((all : List Filed) → SlotsCome now inside.live.tables all → SlotsAre now live.tables all)
-    → (StandsFor old (map entry_of filed) → StandsFor (joined live inside.held inside.rings filters inside.last) (map entry_of filed))
-    → StandsIn old filed → StandsIn (joined live inside.held inside.rings filters inside.last) filed
-filed_later now inside old live filters filed same less limits at come new stands =
-    let here : StandsIn inside filed = subst (λ r. StandsIn r filed) (sym same) stands in
+    → (Represents old (map entry_of filed) → Represents (joined live inside.held inside.rings filters inside.last) (map entry_of filed))
+    → RepresentsFiled old filed → RepresentsFiled (joined live inside.held inside.rings filters inside.last) filed
+filed_later now inside old live filters filed same less limits at come new represents =
+    let here : RepresentsFiled inside filed = subst (λ r. RepresentsFiled r filed) (sym same) represents in
     let later : time_of inside ≤ now = subst (λ r. time_of r ≤ now) (sym same) less in
     record {
-      stands = new stands.stands;
+      represents = new represents.represents;
       slots = record {
         live = subst
             (λ t. SlotsAre t live.tables filed)
@@ -246,17 +246,17 @@ keeps_by registry t es limits owned aliased = record {
 }
 
 -- a compaction keeps at most so many
-pub few_kept : (registry : RegistryValue) (filed : List Filed) → StandsIn registry filed
+pub few_kept : (registry : RegistryValue) (filed : List Filed) → RepresentsFiled registry filed
     → length (kept (number_remembered registry) (time_of registry) (map entry_of filed)) ≤ most_kept registry
-few_kept registry filed stands =
+few_kept registry filed represents =
     let es = map entry_of filed in
     named_few
     (capacities_in registry)
     (number_remembered registry)
     (time_of registry)
     es
-    (all_belong registry es stands.stands.signalled stands.known)
-    (keeps_by registry (time_of registry) es stands.stands.limits stands.stands.held.owned stands.aliased)
+    (all_belong registry es represents.represents.signalled represents.known)
+    (keeps_by registry (time_of registry) es represents.represents.limits represents.represents.held.owned represents.aliased)
 
 -- ---- one more entry
 
@@ -264,18 +264,18 @@ entries_more : (filed : List Filed) (x : Filed) → map entry_of (filed ++ x ∷
 entries_more filed x = map-append entry_of filed (x ∷ [])
 
 -- it fits the entries in their slots
-fits_here : (registry : RegistryValue) (x : Filed) (filed : List Filed) (fits : FitsIn registry x.entry) → StandsFor registry (map entry_of filed)
+fits_here : (registry : RegistryValue) (x : Filed) (filed : List Filed) (fits : FitsIn registry x.entry) → Represents registry (map entry_of filed)
     → laws.fits fits.settings (map entry_of filed) x.entry ≡ true
-fits_here registry x filed fits stands =
+fits_here registry x filed fits represents =
     let es = map entry_of filed in
     let now : fits_now fits.settings registry es x.entry ≡ true =
-    same_fits fits.settings registry es fits.entries x.entry fits.is_of stands fits.stands ∙ fits.fits in
+    same_fits fits.settings registry es fits.entries x.entry fits.is_of represents fits.represents ∙ fits.fits in
     let parts = and_parts (within_bounds x.entry) (fits_then fits.settings registry es x.entry) now in
     (and_parts (nat_le (time_of registry) x.entry.time) (laws.fits fits.settings es x.entry) parts.1).1
 
-aliased_more : (registry : RegistryValue) (x : Filed) (filed : List Filed) (fits : FitsIn registry x.entry) → StandsIn registry filed → (client : Entry)
+aliased_more : (registry : RegistryValue) (x : Filed) (filed : List Filed) (fits : FitsIn registry x.entry) → RepresentsFiled registry filed → (client : Entry)
     → tally (is_alias_of client) (held (map entry_of filed ++ x.entry ∷ [])) ≤ (limits_of registry).aliases
-aliased_more registry x filed fits stands client =
+aliased_more registry x filed fits represents client =
     let e = x.entry in
     let es = map entry_of filed in
     elim (cases_Bool (is_alias_of client e)) [
@@ -291,22 +291,22 @@ aliased_more registry x filed fits stands client =
           (is_alias_of e)
           (λ y. ap (λ b. is_alias y.change && b) (same_by client e y same))
           (held (es ++ e ∷ []))))
-          (fits_so fits.settings es e (fits_here registry x filed fits stands.stands)).aliased)
+          (fits_so fits.settings es e (fits_here registry x filed fits represents.represents)).aliased)
       | inr out ↦
           le_trans
           (subst (λ hs. tally (is_alias_of client) hs ≤ tally (is_alias_of client) (held es)) (sym (held_push e es)) (tally_held (is_alias_of client) e (held es) out))
-          (stands.aliased client)
+          (represents.aliased client)
     ]
 
-known_more : (registry : RegistryValue) (x : Filed) (filed : List Filed) (fits : FitsIn registry x.entry) → StandsIn registry filed
+known_more : (registry : RegistryValue) (x : Filed) (filed : List Filed) (fits : FitsIn registry x.entry) → RepresentsFiled registry filed
     → list_all (is_known registry.held.sizes) (map entry_of filed ++ x.entry ∷ []) ≡ true
-known_more registry x filed fits stands =
+known_more registry x filed fits represents =
     let known = is_known registry.held.sizes in
     let own : known x.entry ≡ true =
     ap (λ (s : Sizes). is_known s x.entry) fits.is_of.sizes
-    ∙ known_of fits.settings x.entry (own_of fits.settings (map entry_of filed) x.entry (fits_here registry x filed fits stands.stands)) in
+    ∙ known_of fits.settings x.entry (own_of fits.settings (map entry_of filed) x.entry (fits_here registry x filed fits represents.represents)) in
     list_all-append known (map entry_of filed) (x.entry ∷ [])
-    ∙ and_from (list_all known (map entry_of filed)) (list_all known (x.entry ∷ [])) stands.known (and_from (known x.entry) true own refl)
+    ∙ and_from (list_all known (map entry_of filed)) (list_all known (x.entry ∷ [])) represents.known (and_from (known x.entry) true own refl)
 
 rings_more : (n : ℕ) (rings : List RingValue) (x : Filed) (filed : List Filed) → RingsAre n rings filed → RingsAre n (rings_with x.slot x.entry rings) (filed ++ x ∷ [])
 rings_more n rings x filed are =
@@ -339,18 +339,18 @@ pub filed_more : (inside old : RegistryValue) (live : LiveValue) (held : Tables)
     (filed : List Filed)
     → inside ≡ old → FitsIn old e → SameButRows inside.live live → held.sizes ≡ inside.held.sizes
     → rings ≡ rings_with slot e inside.rings → held.slots.rows ≡ rows_with (record { entry = e; slot = slot }) inside.held.slots.rows
-    → (lives.StandsFor inside.live (map entry_of filed) → SlotsAre (time_of inside) inside.live.tables filed
+    → (lives.Represents inside.live (map entry_of filed) → SlotsAre (time_of inside) inside.live.tables filed
     → SlotsAre (time_of inside) live.tables (filed ++ record { entry = e; slot = slot } ∷ []))
-    → (StandsFor old (map entry_of filed) → StandsFor (joined live held rings filters (Some slot)) (map entry_of filed ++ e ∷ []))
-    → StandsIn old filed → StandsIn (joined live held rings filters (Some slot)) (filed ++ record { entry = e; slot = slot } ∷ [])
-filed_more inside old live held rings filters slot e filed same fits but sizes made written slots_are new stands =
+    → (Represents old (map entry_of filed) → Represents (joined live held rings filters (Some slot)) (map entry_of filed ++ e ∷ []))
+    → RepresentsFiled old filed → RepresentsFiled (joined live held rings filters (Some slot)) (filed ++ record { entry = e; slot = slot } ∷ [])
+filed_more inside old live held rings filters slot e filed same fits but sizes made written slots_are new represents =
     let x : Filed = record { entry = e; slot = slot } in
-    let here : StandsIn inside filed = subst (λ r. StandsIn r filed) (sym same) stands in
+    let here : RepresentsFiled inside filed = subst (λ r. RepresentsFiled r filed) (sym same) represents in
     let fits_in : FitsIn inside e = subst (λ r. FitsIn r e) (sym same) fits in
     record {
-      stands = subst (StandsFor (joined live held rings filters (Some slot))) (sym (entries_more filed x)) (new stands.stands);
+      represents = subst (Represents (joined live held rings filters (Some slot))) (sym (entries_more filed x)) (new represents.represents);
       slots = record {
-        live = subst (λ t. SlotsAre t live.tables (filed ++ x ∷ [])) (sym but.time) (slots_are here.stands.live here.slots.live);
+        live = subst (λ t. SlotsAre t live.tables (filed ++ x ∷ [])) (sym but.time) (slots_are here.represents.live here.slots.live);
         messages = subst
             (λ (l : Limits). RingsAre l.remembered rings (filed ++ x ∷ []))
             (sym but.limits)
@@ -390,9 +390,9 @@ short_name e is =
       | inr there ↦ is_short e.cuid there
     ]
 
-held_room : (inside : RegistryValue) (x : Filed) (filed : List Filed) → FitsIn inside x.entry → HasSlots inside → x.entry.time ≡ time_of inside → StandsIn inside filed
+held_room : (inside : RegistryValue) (x : Filed) (filed : List Filed) → FitsIn inside x.entry → HasSlots inside → x.entry.time ≡ time_of inside → RepresentsFiled inside filed
     → length (rows_with x inside.held.slots.rows) ≤ inside.held.slots.room
-held_room inside x filed fits room at stands =
+held_room inside x filed fits room at represents =
     let e = x.entry in
     let es = map entry_of filed in
     let more = es ++ e ∷ [] in
@@ -407,30 +407,30 @@ held_room inside x filed fits room at stands =
     es
     e
     (fits_later inside e fits)
-    (fits_here inside x filed fits stands.stands)
+    (fits_here inside x filed fits represents.represents)
     (fits_within inside e fits)
-    (subst (λ (l : Limits). KeepsLimits l (time_of inside) es) fits.is_of.limits stands.stands.limits)) in
+    (subst (λ (l : Limits). KeepsLimits l (time_of inside) es) fits.is_of.limits represents.represents.limits)) in
     let owned : list_all (has_client (held more)) (held more) ≡ true =
-    (stands_with inside.held es e x.slot stands.stands.held (accepted inside e fits)).owned in
+    (stands_with inside.held es e x.slot represents.represents.held (accepted inside e fits)).owned in
     let rings : list_all (has_ring inside.rings) more ≡ true =
     list_all-append (has_ring inside.rings) es (e ∷ [])
     ∙ and_from
     (list_all (has_ring inside.rings) es)
     (list_all (has_ring inside.rings) (e ∷ []))
-    stands.stands.signalled
+    represents.represents.signalled
     (and_from (has_ring inside.rings e) true (fits_ring inside inside e refl fits) refl) in
     let few : length (rows_of (filed ++ x ∷ [])) ≤ most_named (capacities_in inside) 0 =
     rows_few
     (capacities_in inside)
     e.time
     (filed ++ x ∷ [])
-    (ap (list_all (belongs (capacities_in inside))) whole ∙ all_belong inside more rings (known_more inside x filed fits stands))
+    (ap (list_all (belongs (capacities_in inside))) whole ∙ all_belong inside more rings (known_more inside x filed fits represents))
     (subst
     (KeepsCapacities (capacities_in inside) e.time)
     (sym whole)
-    (keeps_by inside e.time more limits owned (aliased_more inside x filed fits stands))) in
+    (keeps_by inside e.time more limits owned (aliased_more inside x filed fits represents))) in
     let rows : length (rows_with x inside.held.slots.rows) ≡ length (rows_of (filed ++ x ∷ [])) =
-    ap (λ rs. length (rows_with x rs)) stands.slots.rows ∙ ap length (sym (rows_more filed x)) in
+    ap (λ rs. length (rows_with x rs)) represents.slots.rows ∙ ap length (sym (rows_more filed x)) in
     let most = room.held in
     omega (arith, few, rows, most)
 
@@ -445,7 +445,7 @@ room_here inside old slot e entry same filed fits at is =
     subst
     (λ (x : Entry). length (rows_with (record { entry = x; slot = slot }) inside.held.slots.rows) ≤ inside.held.slots.room)
     (sym is)
-    (held_room inside (record { entry = e; slot = slot }) filed.filed (subst (λ r. FitsIn r e) (sym same) fits) filed.room (at ∙ ap time_of (sym same)) filed.stands)
+    (held_room inside (record { entry = e; slot = slot }) filed.filed (subst (λ r. FitsIn r e) (sym same) fits) filed.room (at ∙ ap time_of (sym same)) filed.represents)
 
 pub rows_here : (old new : HeldRows) (slot : ℕ) (e entry : Entry) → entry ≡ silent e → new ≡ rows_more_of (record { entry = entry; slot = slot }) old
     → new ≡ rows_more_of (record { entry = e; slot = slot }) old

@@ -18,37 +18,37 @@ use Rattle.dots_history.specs.Histories.{Mitigation, mitigations, held}
 use Rattle.dots_history.specs.Rows.{acl_of, plain_rows, acl_rows}
 use Rattle.dots_laws.specs.Fits as laws
 use Rattle.dots_laws.specs.Tables.{client_of}
-use Rattle.live_mitigations.specs.Standing.{LiveValue, kept_of, puts, is_inside}
-use Rattle.live_mitigations.specs.Standing as lives
-use Rattle.live_mitigations.proofs.Standing.{within_inside, quiet_inside}
+use Rattle.live_mitigations.specs.LiveValues.{LiveValue, rows_for, puts, is_inside}
+use Rattle.live_mitigations.specs.LiveValues as lives
+use Rattle.live_mitigations.proofs.LiveValues.{within_inside, quiet_inside}
 use Rattle.held_resources.specs.Held.{acls_of}
 use Rattle.held_resources.specs.Tables.{Tables, is_known, sizes_of, tables_with}
 use Rattle.held_resources.specs.Tables as things
 use Rattle.held_resources.proofs.Lawful.{same_held, known_of}
-use Rattle.held_resources.proofs.Standing.{stands_with}
+use Rattle.held_resources.proofs.HistoryTables.{stands_with}
 use Rattle.installed_filters.specs.Filters.{FiltersValue, filters_put, filters_written, some_of, everyone}
-use Rattle.installed_filters.specs.Standing.{KeepsLimits, HasRoom, scrub_room_of, acl_room_of}
-use Rattle.installed_filters.specs.Standing as rows
+use Rattle.installed_filters.specs.HistoryRows.{KeepsLimits, HasRoom, scrub_room_of, acl_room_of}
+use Rattle.installed_filters.specs.HistoryRows as rows
 use Rattle.installed_filters.proofs.Limits.{limits_with}
 use Rattle.installed_filters.proofs.Room.{scrubs_fit, lists_fit}
-use Rattle.installed_filters.proofs.Standing.{put_stands, write_stands, client_mitigates, live_inside}
+use Rattle.installed_filters.proofs.HistoryRows.{put_stands, write_stands, client_mitigates, live_inside}
 use Rattle.installed_filters.proofs.Waking.{mitigates}
-use Rattle.dots_registry.specs.Standing.{RegistryValue, IsOf, StandsFor, time_of}
+use Rattle.dots_registry.specs.RegistryValues.{RegistryValue, IsOf, Represents, time_of}
 use Rattle.dots_registry.specs.Fitting.{FitsIn, fits_then, fits_now}
-use Rattle.dots_registry.proofs.Standing.{Filtered, fits_inside, fits_later, fits_within, law_fits, own_of, own_inside, puts_kind, accepted}
+use Rattle.dots_registry.proofs.RegistryValues.{Filtered, fits_inside, fits_later, fits_within, law_fits, own_of, own_inside, puts_kind, accepted}
 use Rattle.dots_registry.proofs.Conditions.{same_fits}
 
--- it fits each history for which the registry stands
-law_for : (inside : RegistryValue) (e : Entry) (entries : List Entry) (fits : FitsIn inside e) → StandsFor inside entries → laws.fits fits.settings entries e ≡ true
-law_for inside e entries fits stands =
+-- it fits each history that the registry represents
+law_for : (inside : RegistryValue) (e : Entry) (entries : List Entry) (fits : FitsIn inside e) → Represents inside entries → laws.fits fits.settings entries e ≡ true
+law_for inside e entries fits represents =
     let now : fits_now fits.settings inside entries e ≡ true =
-    same_fits fits.settings inside entries fits.entries e fits.is_of stands fits.stands ∙ fits.fits in
+    same_fits fits.settings inside entries fits.entries e fits.is_of represents fits.represents ∙ fits.fits in
     let parts = and_parts (within_bounds e) (fits_then fits.settings inside entries e) now in
     (and_parts (nat_le (time_of inside) e.time) (laws.fits fits.settings entries e) parts.1).1
 
-limits_after : (inside : RegistryValue) (e : Entry) (entries : List Entry) → FitsIn inside e → e.time ≡ time_of inside → StandsFor inside entries
+limits_after : (inside : RegistryValue) (e : Entry) (entries : List Entry) → FitsIn inside e → e.time ≡ time_of inside → Represents inside entries
     → KeepsLimits inside.live.limits inside.live.time (entries ++ e ∷ [])
-limits_after inside e entries fits at stands =
+limits_after inside e entries fits at represents =
     subst
     (λ t. KeepsLimits inside.live.limits t (entries ++ e ∷ []))
     at
@@ -61,13 +61,13 @@ limits_after inside e entries fits at stands =
     entries
     e
     (fits_later inside e fits)
-    (law_for inside e entries fits stands)
+    (law_for inside e entries fits represents)
     (fits_within inside e fits)
-    (subst (λ (l : Limits). KeepsLimits l inside.live.time entries) fits.is_of.limits stands.limits)))
+    (subst (λ (l : Limits). KeepsLimits l inside.live.time entries) fits.is_of.limits represents.limits)))
 
-inside_after : (inside : RegistryValue) (e : Entry) (entries : List Entry) → is_inside inside.live.domains e ≡ true → StandsFor inside entries
+inside_after : (inside : RegistryValue) (e : Entry) (entries : List Entry) → is_inside inside.live.domains e ≡ true → Represents inside entries
     → list_all (λ (m : Mitigation). nat_lt m.put.domain inside.live.domains) (mitigations inside.live.time (entries ++ e ∷ [])) ≡ true
-inside_after inside e entries own stands =
+inside_after inside e entries own represents =
     live_inside
     inside.live.time
     inside.live.domains
@@ -76,7 +76,7 @@ inside_after inside e entries own stands =
     ∙ and_from
     (list_all (is_inside inside.live.domains) entries)
     (list_all (is_inside inside.live.domains) (e ∷ []))
-    stands.live.inside
+    represents.live.inside
     (and_from (is_inside inside.live.domains e) true own refl))
 
 -- ---- an entry that puts a mitigation
@@ -88,11 +88,11 @@ pub put_within : (inside old : RegistryValue) (e : Entry) → inside ≡ old →
 put_within inside old e same fits put = domain_of inside e (fits_inside inside old e same fits) put
 
 rows_after_put : (inside : RegistryValue) (e : Entry) (new : FiltersValue) (entries : List Entry) → FitsIn inside e → e.time ≡ time_of inside → puts e ≡ true
-    → new ≡ filters_put e (kept_of inside.live e.domain) inside.filters → StandsFor inside entries
-    → rows.StandsFor new inside.live.time (entries ++ e ∷ [])
-rows_after_put inside e new entries fits at put made stands =
+    → new ≡ filters_put e (rows_for inside.live e.domain) inside.filters → Represents inside entries
+    → rows.Represents new inside.live.time (entries ++ e ∷ [])
+rows_after_put inside e new entries fits at put made represents =
     subst
-    (λ t. rows.StandsFor new t (entries ++ e ∷ []))
+    (λ t. rows.Represents new t (entries ++ e ∷ []))
     at
     (put_stands
     inside.live
@@ -103,35 +103,35 @@ rows_after_put inside e new entries fits at put made stands =
     at
     (domain_of inside e fits put)
     put
-    stands.live
-    stands.filters
+    represents.live
+    represents.filters
     made
     (same_held e entries (puts_kind e put).0))
 
 pub put_filtered : (inside old : RegistryValue) (e : Entry) (new : FiltersValue) (entries : List Entry) → inside ≡ old → FitsIn old e → e.time ≡ time_of old
-    → puts e ≡ true → new ≡ filters_put e (kept_of inside.live e.domain) inside.filters → StandsFor inside entries
+    → puts e ≡ true → new ≡ filters_put e (rows_for inside.live e.domain) inside.filters → Represents inside entries
     → Filtered inside new (entries ++ e ∷ [])
-put_filtered inside old e new entries same fits at put made stands =
+put_filtered inside old e new entries same fits at put made represents =
     let here = fits_inside inside old e same fits in
     let now : e.time ≡ time_of inside = at ∙ sym (ap time_of same) in
     record {
-      filters_are = rows_after_put inside e new entries here now put made stands;
-      limits_are = limits_after inside e entries here now stands;
+      filters_are = rows_after_put inside e new entries here now put made represents;
+      limits_are = limits_after inside e entries here now represents;
     }
 
 pub put_fits : (inside old : RegistryValue) (e : Entry) → inside ≡ old → FitsIn old e → e.time ≡ time_of old → puts e ≡ true
-    → length (filters_put e (kept_of inside.live e.domain) inside.filters).scrubs ≤ inside.filters.scrub_room
+    → length (filters_put e (rows_for inside.live e.domain) inside.filters).scrubs ≤ inside.filters.scrub_room
 put_fits inside old e same fits at put =
     let here = fits_inside inside old e same fits in
     let now : e.time ≡ time_of inside = at ∙ sym (ap time_of same) in
-    let after = rows_after_put inside e (filters_put e (kept_of inside.live e.domain) inside.filters) here.entries here now put refl here.stands in
+    let after = rows_after_put inside e (filters_put e (rows_for inside.live e.domain) inside.filters) here.entries here now put refl here.represents in
     let most = scrubs_fit
     inside.live.domains
     inside.live.limits
     inside.live.time
     (here.entries ++ e ∷ [])
-    (inside_after inside e here.entries (within_inside inside.live.domains e (domain_of inside e here put)) here.stands)
-    (limits_after inside e here.entries here now here.stands) in
+    (inside_after inside e here.entries (within_inside inside.live.domains e (domain_of inside e here put)) here.represents)
+    (limits_after inside e here.entries here now here.represents) in
     let long = ap length after.scrubs in
     let room : inside.filters.scrub_room ≡ scrub_room_of inside.live.domains inside.live.limits =
     here.is_of.filters.scrubs ∙ sym (ap (λ n. scrub_room_of n inside.live.limits) here.is_of.domains ∙ ap (scrub_room_of (length here.settings.domains)) here.is_of.limits) in
@@ -161,11 +161,11 @@ list_inside inside e acl fits is =
 
 rows_after_write : (inside : RegistryValue) (e : Entry) (mitigating : Bool) (acls : List Acl) (new : FiltersValue) (entries : List Entry) → FitsIn inside e
     → e.time ≡ time_of inside → puts e ≡ false → new ≡ filters_written mitigating acls e inside.filters
-    → (e.domain < inside.live.domains → mitigating ≡ some_of everyone e.cuid (kept_of inside.live e.domain))
-    → acls ≡ acls_of (client_of e) (held entries) → StandsFor inside entries → rows.StandsFor new inside.live.time (entries ++ e ∷ [])
-rows_after_write inside e mitigating acls new entries fits at quiet made by_kept are stands =
+    → (e.domain < inside.live.domains → mitigating ≡ some_of everyone e.cuid (rows_for inside.live e.domain))
+    → acls ≡ acls_of (client_of e) (held entries) → Represents inside entries → rows.Represents new inside.live.time (entries ++ e ∷ [])
+rows_after_write inside e mitigating acls new entries fits at quiet made by_kept are represents =
     subst
-    (λ t. rows.StandsFor new t (entries ++ e ∷ []))
+    (λ t. rows.Represents new t (entries ++ e ∷ []))
     at
     (write_stands
     inside.live
@@ -177,29 +177,29 @@ rows_after_write inside e mitigating acls new entries fits at quiet made by_kept
     entries
     at
     quiet
-    stands.live
-    stands.filters
+    represents.live
+    represents.filters
     made
     (λ acl is.
-    let within = list_inside inside e acl fits is in by_kept within ∙ client_mitigates inside.live e entries within stands.live)
+    let within = list_inside inside e acl fits is in by_kept within ∙ client_mitigates inside.live e entries within represents.live)
     are)
 
 pub write_filtered : (inside old : RegistryValue) (e : Entry) (mitigating : Bool) (acls : List Acl) (new : FiltersValue) (entries : List Entry) → inside ≡ old
     → FitsIn old e → e.time ≡ time_of old → puts e ≡ false → new ≡ filters_written mitigating acls e inside.filters
-    → (e.domain < inside.live.domains → mitigating ≡ some_of everyone e.cuid (kept_of inside.live e.domain))
-    → (things.StandsFor inside.held entries → acls ≡ acls_of (client_of e) (held entries)) → StandsFor inside entries
+    → (e.domain < inside.live.domains → mitigating ≡ some_of everyone e.cuid (rows_for inside.live e.domain))
+    → (things.Represents inside.held entries → acls ≡ acls_of (client_of e) (held entries)) → Represents inside entries
     → Filtered inside new (entries ++ e ∷ [])
-write_filtered inside old e mitigating acls new entries same fits at quiet made by_kept are stands =
+write_filtered inside old e mitigating acls new entries same fits at quiet made by_kept are represents =
     let here = fits_inside inside old e same fits in
     let now : e.time ≡ time_of inside = at ∙ sym (ap time_of same) in
     record {
-      filters_are = rows_after_write inside e mitigating acls new entries here now quiet made by_kept (are stands.held) stands;
-      limits_are = limits_after inside e entries here now stands;
+      filters_are = rows_after_write inside e mitigating acls new entries here now quiet made by_kept (are represents.held) represents;
+      limits_are = limits_after inside e entries here now represents;
     }
 
 pub write_fits : (inside old : RegistryValue) (e : Entry) (mitigating : Bool) (acls : List Acl) → inside ≡ old → FitsIn old e → e.time ≡ time_of old → puts e ≡ false
-    → (e.domain < inside.live.domains → mitigating ≡ some_of everyone e.cuid (kept_of inside.live e.domain))
-    → ((entries : List Entry) → things.StandsFor inside.held entries → acls ≡ acls_of (client_of e) (held entries))
+    → (e.domain < inside.live.domains → mitigating ≡ some_of everyone e.cuid (rows_for inside.live e.domain))
+    → ((entries : List Entry) → things.Represents inside.held entries → acls ≡ acls_of (client_of e) (held entries))
     → length (filters_written mitigating acls e inside.filters).acls ≤ inside.filters.acl_room
 write_fits inside old e mitigating acls same fits at quiet by_kept are =
     let here = fits_inside inside old e same fits in
@@ -216,9 +216,9 @@ write_fits inside old e mitigating acls same fits at quiet by_kept are =
     quiet
     refl
     by_kept
-    (are here.entries here.stands.held)
-    here.stands in
-    let things_after = stands_with inside.held here.entries e 0 here.stands.held (accepted inside e here) in
+    (are here.entries here.represents.held)
+    here.represents in
+    let things_after = stands_with inside.held here.entries e 0 here.represents.held (accepted inside e here) in
     let most = lists_fit
     (tables_with (record { entry = e; slot = 0 }) inside.held).sizes
     inside.live.limits
@@ -226,7 +226,7 @@ write_fits inside old e mitigating acls same fits at quiet by_kept are =
     (here.entries ++ e ∷ [])
     things_after.known
     things_after.owned
-    (limits_after inside e here.entries here now here.stands) in
+    (limits_after inside e here.entries here now here.represents) in
     let long = ap length after.acls in
     let room : inside.filters.acl_room ≡ acl_room_of inside.held.sizes.domains inside.live.limits =
     here.is_of.filters.acls

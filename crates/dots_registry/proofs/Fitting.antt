@@ -21,11 +21,11 @@ use Rattle.dots_laws.specs.Views.{mitigations_at}
 use Rattle.held_resources.specs.Tables.{rooms_of}
 use Rattle.held_resources.specs.Accepting.{accepts, keeps_rooms}
 use Rattle.held_resources.proofs.Lawful.{same_held, accepts_own}
-use Rattle.live_mitigations.specs.Standing.{has_live_room}
+use Rattle.live_mitigations.specs.LiveValues.{has_live_room}
 use Rattle.live_mitigations.specs.Judging.{lives_of}
 use Rattle.conflict_rules.specs.declared.judging.Judged.{Judged}
 use Rattle.conflict_rules.specs.Requests.{Request}
-use Rattle.dots_registry.specs.Standing.{RegistryValue, IsOf, StandsFor, time_of}
+use Rattle.dots_registry.specs.RegistryValues.{RegistryValue, IsOf, Represents, time_of}
 use Rattle.dots_registry.specs.Fitting.{fits_now}
 use Rattle.dots_registry.specs.Judging.{client_in, judge_request}
 use Rattle.dots_registry.proofs.Conditions.{fits_possible}
@@ -50,7 +50,7 @@ rightly standing e is =
     (ap (λ b. not b || is_registered standing e) none.1)
 
 module _ (settings : SettingsValue) (registry : RegistryValue) (entries : List Entry) (e : Entry) (is_of : IsOf settings registry)
-    (stands : StandsFor registry entries) (clients : ClientsKeepLimits settings.limits (time_of registry) entries) (own : is_own settings e ≡ true)
+    (represents : Represents registry entries) (clients : ClientsKeepLimits settings.limits (time_of registry) entries) (own : is_own settings e ≡ true)
     (within : within_bounds e ≡ true) (at : e.time ≡ time_of registry) (is : is_of_mitigations e.change ≡ true)
     (keeps : Keeps settings.limits (time_of registry) entries e) where
   of_settings : is_of_settings settings e ≡ true
@@ -67,12 +67,12 @@ module _ (settings : SettingsValue) (registry : RegistryValue) (entries : List E
       and_from
       (nat_le registered settings.limits.clients)
       (nat_le aliased settings.limits.aliases && nat_le listed settings.limits.acls)
-      (le-leb registered settings.limits.clients (subst (λ (l : Limits). registered ≤ l.clients) same_limits (stands.limits.registered e.domain)))
+      (le-leb registered settings.limits.clients (subst (λ (l : Limits). registered ≤ l.clients) same_limits (represents.limits.registered e.domain)))
       (and_from
       (nat_le aliased settings.limits.aliases)
       (nat_le listed settings.limits.acls)
       (le-leb aliased settings.limits.aliases (clients.aliased e))
-      (le-leb listed settings.limits.acls (subst (λ (l : Limits). listed ≤ l.acls) same_limits (stands.limits.listed e))))
+      (le-leb listed settings.limits.acls (subst (λ (l : Limits). listed ≤ l.acls) same_limits (represents.limits.listed e))))
 
   accepted : accepts registry.held.sizes entries e ≡ true
   accepted =
@@ -104,12 +104,12 @@ module _ (settings : SettingsValue) (registry : RegistryValue) (entries : List E
       (subst
       (λ (l : Limits). tally (λ (m : Mitigation). m.put.domain == e.domain) (mitigations t entries) ≤ l.domain_mitigations)
       same_limits
-      (stands.limits.live e.domain))))
+      (represents.limits.live e.domain))))
       (le-leb of_client settings.limits.client_mitigations (keeps.of_client (clients.live e)))
 
   pub kept_fits : fits_now settings registry entries e ≡ true
   kept_fits =
-      fits_possible settings registry entries e is_of stands (and_from (within_bounds e) (is_of_settings settings e) within of_settings)
+      fits_possible settings registry entries e is_of represents (and_from (within_bounds e) (is_of_settings settings e) within of_settings)
       ∙ and_from
       (nat_le (time_of registry) e.time)
       (accepts registry.held.sizes entries e && has_live_room registry.live.limits entries e)
@@ -239,19 +239,19 @@ granted_keeps settings t entries domain request judged e at is of cuid asks =
     granted_room settings t entries client request judged e at (granted_by settings (lives_of e.domain t entries) client t request judged here) cuid asks
 
 pub fits_granted : (settings : SettingsValue) (registry : RegistryValue) (entries : List Entry) (domain : ℕ) (request : Request) (judged : Judged) (e : Entry)
-    → IsOf settings registry → StandsFor registry entries → ClientsKeepLimits settings.limits (time_of registry) entries
+    → IsOf settings registry → Represents registry entries → ClientsKeepLimits settings.limits (time_of registry) entries
     → is_own settings e ≡ true → within_bounds e ≡ true → e.time ≡ time_of registry
     → judge_request settings (time_of registry) entries domain request ≡ Ok judged
     → e.peer ≡ request.peer → e.domain ≡ domain → e.cuid ≡ request.cuid → e.change ≡ change.Put judged.put
     → fits_now settings registry entries e ≡ true
-fits_granted settings registry entries domain request judged e is_of stands clients own within at is peer of cuid asks =
+fits_granted settings registry entries domain request judged e is_of represents clients own within at is peer of cuid asks =
     kept_fits
     settings
     registry
     entries
     e
     is_of
-    stands
+    represents
     clients
     own
     within
@@ -281,17 +281,17 @@ unfolding is_of_mitigations
 withdrawal_kind e mid is = ap is_of_mitigations is
 
 pub fits_withdrawal : (settings : SettingsValue) (registry : RegistryValue) (entries : List Entry) (mid : ℕ) (e : Entry) → e.change ≡ change.Withdraw mid
-    → IsOf settings registry → StandsFor registry entries → ClientsKeepLimits settings.limits (time_of registry) entries
+    → IsOf settings registry → Represents registry entries → ClientsKeepLimits settings.limits (time_of registry) entries
     → is_own settings e ≡ true → within_bounds e ≡ true → e.time ≡ time_of registry
     → fits_now settings registry entries e ≡ true
-fits_withdrawal settings registry entries mid e is is_of stands clients own within at =
+fits_withdrawal settings registry entries mid e is is_of represents clients own within at =
     kept_fits
     settings
     registry
     entries
     e
     is_of
-    stands
+    represents
     clients
     own
     within

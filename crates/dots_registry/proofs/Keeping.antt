@@ -1,4 +1,4 @@
--- A registry stands for each part of a history that has its view, and nothing of it is left open.
+-- A registry represents each part of a history that has its view, and nothing of it is left open.
 use Rattle.std.proofs.Common.{◌≡◌, ℕ, ◌<◌, ◌≤◌, true, List, [], ◌∷◌, map, filter, inl, inr, sym, ap, ◌∙◌, subst, arith}
 use Rattle.std.specs.List.{list_all}
 use Rattle.dots_settings.specs.Settings.{SettingsValue}
@@ -17,16 +17,16 @@ use Rattle.dots_laws.specs.Containing.{scrubs_inside, lists_inside}
 use Rattle.dots_laws.proofs.Containing.{scrub_rows_inside, acl_rows_inside}
 use Rattle.dots_laws.proofs.Parts.{part_list_all}
 use Rattle.dots_laws.proofs.Views.{dropping}
-use Rattle.live_mitigations.specs.Standing.{LiveValue, kept_of, is_inside}
-use Rattle.live_mitigations.specs.Standing as lives
+use Rattle.live_mitigations.specs.LiveValues.{LiveValue, rows_for, is_inside}
+use Rattle.live_mitigations.specs.LiveValues as lives
 use Rattle.held_resources.specs.Tables.{Have, SameButSlots}
-use Rattle.held_resources.proofs.Standing.{one_value}
+use Rattle.held_resources.proofs.HistoryTables.{one_value}
 use Rattle.coap_exchange.specs.Rings.{RingValue, messages_of, reply_to}
 use Rattle.coap_exchange.specs.Noting.{Remembers, AllRemember, said_by_entry}
 use Rattle.dots_history.specs.Rows.{plain_rows, acl_rows}
-use Rattle.installed_filters.proofs.Standing.{rows_same}
+use Rattle.installed_filters.proofs.HistoryRows.{rows_same}
 use Rattle.installed_filters.proofs.Limits.{limits_same}
-use Rattle.dots_registry.specs.Standing.{RegistryValue, StandsFor, SameSize, time_of, number_remembered, has_ring}
+use Rattle.dots_registry.specs.RegistryValues.{RegistryValue, Represents, SameSize, time_of, number_remembered, has_ring}
 use Rattle.dots_registry.proofs.Rings.{replies}
 
 -- ---- the times of a part
@@ -56,14 +56,14 @@ ring_by_recent : (n peer domain : ℕ) (few all : List Entry) → recent n few �
 ring_by_recent n peer domain few all same =
     sym (recent_are_lasts n peer domain few) ∙ ap (filter (signals peer domain)) same ∙ recent_are_lasts n peer domain all
 
-live_part : (live : LiveValue) (few all : List Entry) → IsPart few all → mitigations live.time few ≡ mitigations live.time all → lives.StandsFor live all
-    → lives.StandsFor live few
-live_part live few all part same stands = record {
-  in_order = within_part 0 live.time few all part stands.in_order;
-  inside = part_list_all (is_inside live.domains) few all part stands.inside;
-  are_tables = stands.are_tables;
+live_part : (live : LiveValue) (few all : List Entry) → IsPart few all → mitigations live.time few ≡ mitigations live.time all → lives.Represents live all
+    → lives.Represents live few
+live_part live few all part same represents = record {
+  in_order = within_part 0 live.time few all part represents.in_order;
+  inside = part_list_all (is_inside live.domains) few all part represents.inside;
+  are_tables = represents.are_tables;
   rows = λ domain within.
-      stands.rows domain within
+      represents.rows domain within
       ∙ alone_by_all live.time domain all
       ∙ ap (λ ms. mitigations_of domain (map bare_mitigation ms)) (sym same)
       ∙ sym (alone_by_all live.time domain few);
@@ -74,13 +74,13 @@ remember_part n rings few all same remembers = λ peer domain r there.
     let is : Remembers n all peer domain r = remembers peer domain r there in
     record { room = is.room; messages = is.messages ∙ ap (map said_by_entry) (sym (ring_by_recent n peer domain few all same)) }
 
-pub part_stands : (registry : RegistryValue) (few all : List Entry) → Kept (number_remembered registry) (time_of registry) few all → StandsFor registry all
-    → StandsFor registry few
-part_stands registry few all same stands = record {
-  live = live_part registry.live few all same.is_part (ap (λ (v : View). v.mitigations) same.same_view) stands.live;
-  held = subst (Have registry.held) (sym (ap (λ (v : View). v.held) same.same_view)) stands.held;
-  remembered = remember_part (number_remembered registry) registry.rings few all (ap (λ (v : View). v.recent) same.same_view) stands.remembered;
-  signalled = part_list_all (has_ring registry.rings) few all same.is_part stands.signalled;
+pub part_stands : (registry : RegistryValue) (few all : List Entry) → Kept (number_remembered registry) (time_of registry) few all → Represents registry all
+    → Represents registry few
+part_stands registry few all same represents = record {
+  live = live_part registry.live few all same.is_part (ap (λ (v : View). v.mitigations) same.same_view) represents.live;
+  held = subst (Have registry.held) (sym (ap (λ (v : View). v.held) same.same_view)) represents.held;
+  remembered = remember_part (number_remembered registry) registry.rings few all (ap (λ (v : View). v.recent) same.same_view) represents.remembered;
+  signalled = part_list_all (has_ring registry.rings) few all same.is_part represents.signalled;
   filters = rows_same
       registry.filters
       (time_of registry)
@@ -88,7 +88,7 @@ part_stands registry few all same stands = record {
       all
       (ap (λ (v : View). v.mitigations) same.same_view)
       (ap (λ (v : View). v.held) same.same_view)
-      stands.filters;
+      represents.filters;
   limits = limits_same
       registry.live.limits
       (time_of registry)
@@ -96,32 +96,32 @@ part_stands registry few all same stands = record {
       all
       (ap (λ (v : View). v.mitigations) same.same_view)
       (ap (λ (v : View). v.held) same.same_view)
-      stands.limits;
+      represents.limits;
 }
 
-pub named_stands : (registry : RegistryValue) (entries : List Entry) → Calm entries → StandsFor registry entries
-    → StandsFor registry (kept (number_remembered registry) (time_of registry) entries)
-named_stands registry entries calm stands =
+pub named_stands : (registry : RegistryValue) (entries : List Entry) → Calm entries → Represents registry entries
+    → Represents registry (kept (number_remembered registry) (time_of registry) entries)
+named_stands registry entries calm represents =
     part_stands
     registry
     (kept (number_remembered registry) (time_of registry) entries)
     entries
-    (dropping (number_remembered registry) (time_of registry) entries stands.live.in_order calm)
-    stands
+    (dropping (number_remembered registry) (time_of registry) entries represents.live.in_order calm)
+    represents
 
 -- ---- one for a history
 
-pub same_kept : (a b : RegistryValue) (entries : List Entry) → SameSize a b → StandsFor a entries → StandsFor b entries → (domain : ℕ) → domain < a.live.domains
-    → kept_of a.live domain ≡ kept_of b.live domain
+pub same_kept : (a b : RegistryValue) (entries : List Entry) → SameSize a b → Represents a entries → Represents b entries → (domain : ℕ) → domain < a.live.domains
+    → rows_for a.live domain ≡ rows_for b.live domain
 same_kept a b entries same of_a of_b domain within =
     of_a.live.rows domain within
     ∙ ap (λ t. mitigations t (alone domain (map bare entries))) same.time
     ∙ sym (of_b.live.rows domain (subst (λ n. domain < n) same.domains within))
 
-pub same_things : (a b : RegistryValue) (entries : List Entry) → SameSize a b → StandsFor a entries → StandsFor b entries → SameButSlots a.held b.held
+pub same_things : (a b : RegistryValue) (entries : List Entry) → SameSize a b → Represents a entries → Represents b entries → SameButSlots a.held b.held
 same_things a b entries same of_a of_b = one_value a.held b.held entries same.sizes of_a.held of_b.held
 
-pub same_replies : (a b : RegistryValue) (entries : List Entry) → SameSize a b → StandsFor a entries → StandsFor b entries → (now peer domain id : ℕ)
+pub same_replies : (a b : RegistryValue) (entries : List Entry) → SameSize a b → Represents a entries → Represents b entries → (now peer domain id : ℕ)
     → reply_to id now (messages_of peer domain a.rings) ≡ reply_to id now (messages_of peer domain b.rings)
 same_replies a b entries same of_a of_b now peer domain id =
     replies a entries (number_remembered a) now peer domain id of_a.remembered of_a.signalled
@@ -136,21 +136,21 @@ same_replies a b entries same of_a of_b now peer domain id =
     (subst (λ n. AllRemember n b.rings entries) (sym (ap (λ (l : Limits). l.remembered) same.limits)) of_b.remembered)
     of_b.signalled)
 
-pub same_scrubs : (a b : RegistryValue) (entries : List Entry) → SameSize a b → StandsFor a entries → StandsFor b entries → a.filters.scrubs ≡ b.filters.scrubs
+pub same_scrubs : (a b : RegistryValue) (entries : List Entry) → SameSize a b → Represents a entries → Represents b entries → a.filters.scrubs ≡ b.filters.scrubs
 same_scrubs a b entries same of_a of_b =
     of_a.filters.scrubs ∙ ap (λ t. plain_rows t entries) same.time ∙ sym of_b.filters.scrubs
 
-pub same_acls : (a b : RegistryValue) (entries : List Entry) → SameSize a b → StandsFor a entries → StandsFor b entries → a.filters.acls ≡ b.filters.acls
+pub same_acls : (a b : RegistryValue) (entries : List Entry) → SameSize a b → Represents a entries → Represents b entries → a.filters.acls ≡ b.filters.acls
 same_acls a b entries same of_a of_b = of_a.filters.acls ∙ ap (λ t. acl_rows t entries) same.time ∙ sym of_b.filters.acls
 
 -- ---- inside the domains
 
-pub scrubs_inside_domains : (settings : SettingsValue) (registry : RegistryValue) (entries : List Entry) → StandsFor registry entries
+pub scrubs_inside_domains : (settings : SettingsValue) (registry : RegistryValue) (entries : List Entry) → Represents registry entries
     → list_all (is_own settings) entries ≡ true → list_all (scrubs_inside settings) registry.filters.scrubs ≡ true
-scrubs_inside_domains settings registry entries stands own =
-    ap (list_all (scrubs_inside settings)) stands.filters.scrubs ∙ scrub_rows_inside settings (time_of registry) entries own
+scrubs_inside_domains settings registry entries represents own =
+    ap (list_all (scrubs_inside settings)) represents.filters.scrubs ∙ scrub_rows_inside settings (time_of registry) entries own
 
-pub acls_inside_domains : (settings : SettingsValue) (registry : RegistryValue) (entries : List Entry) → StandsFor registry entries
+pub acls_inside_domains : (settings : SettingsValue) (registry : RegistryValue) (entries : List Entry) → Represents registry entries
     → list_all (is_own settings) entries ≡ true → list_all (lists_inside settings) registry.filters.acls ≡ true
-acls_inside_domains settings registry entries stands own =
-    ap (list_all (lists_inside settings)) stands.filters.acls ∙ acl_rows_inside settings (time_of registry) entries own
+acls_inside_domains settings registry entries represents own =
+    ap (list_all (lists_inside settings)) represents.filters.acls ∙ acl_rows_inside settings (time_of registry) entries own

@@ -12,7 +12,7 @@ pub mod Judging
 pub mod OnePeer
 pub mod CalmLimits
 pub mod Rings
-pub mod Standing
+pub mod RegistryValues
 pub mod Conditions
 pub mod Keeping
 pub mod Filtering

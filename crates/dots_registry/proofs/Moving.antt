@@ -14,7 +14,7 @@ use Rattle.dots_laws.specs.Filed.{Filed, entry_of, refiled}
 use Rattle.live_mitigations.specs.Slots.{withdrawal_in, slots_by, live_slots}
 use Rattle.live_mitigations.specs.Rows.{LiveTable, slots_or_none}
 use Rattle.live_mitigations.specs.Numbers.{renumbered, table_renumbered}
-use Rattle.live_mitigations.specs.Standing.{SlotsAre, filed_alone}
+use Rattle.live_mitigations.specs.LiveValues.{SlotsAre, filed_alone}
 use Rattle.dots_registry.specs.Kept.{last_slot}
 use Rattle.dots_registry.proofs.Going.{filter_refiled}
 

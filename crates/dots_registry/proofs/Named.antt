@@ -7,7 +7,7 @@ use Rattle.dots_history.specs.Keeping.{names, pass, kept_places}
 use Rattle.dots_history.specs.Slots.{Rises}
 use Rattle.dots_laws.specs.KeptPlaces.{at_places, union, live_places, withdrawal_places, recent_places, last_places, held_places}
 use Rattle.dots_laws.proofs.KeptPlaces.{places_of_parts}
-use Rattle.live_mitigations.specs.Standing.{is_inside, SlotsAre}
+use Rattle.live_mitigations.specs.LiveValues.{is_inside, SlotsAre}
 use Rattle.coap_exchange.specs.Rings.{RingValue, all_slots}
 use Rattle.dots_laws.specs.Filed.{Filed, entry_of, slot_of}
 use Rattle.live_mitigations.specs.Rows.{LiveTable}
@@ -17,7 +17,7 @@ use Rattle.live_mitigations.proofs.Domains as domains
 use Rattle.held_resources.specs.Rows.{rows_of, slots_in}
 use Rattle.held_resources.proofs.Named.{slots_by, at_filed, slots_named}
 use Rattle.dots_registry.specs.Kept.{RingsAre, last_slot, kept_slots}
-use Rattle.dots_registry.specs.Standing.{has_ring}
+use Rattle.dots_registry.specs.RegistryValues.{has_ring}
 use Rattle.dots_registry.proofs.Recents.{recents, rings_are_recents}
 
 or_false : (b : Bool) → (b || false) ≡ b

@@ -9,9 +9,9 @@ use Rattle.dots_history.specs.Entries.{same_client}
 use Rattle.dots_history.specs.Histories.{Mitigation, live, status, mitigations}
 use Rattle.dots_laws.specs.Views.{mitigations_of}
 use Rattle.conflict_rules.specs.ByMid.{collides}
-use Rattle.live_mitigations.specs.Standing.{puts, is_inside}
+use Rattle.live_mitigations.specs.LiveValues.{puts, is_inside}
 use Rattle.live_mitigations.specs.Judging.{live_of, lives_of}
-use Rattle.dots_registry.specs.Standing.{RegistryValue, StandsFor, time_of}
+use Rattle.dots_registry.specs.RegistryValues.{RegistryValue, Represents, time_of}
 use Rattle.dots_registry.specs.Fitting.{has_peer}
 use Rattle.dots_registry.proofs.Conditions.{never_live, inside_or_quiet, out_of_client}
 
@@ -78,7 +78,7 @@ all_outside e t domains (x ∷ later) past all =
         ]
 
 pub peers_outside : (inside now : RegistryValue) (domains : ℕ) (e : Entry) (entries : List Entry) → inside ≡ now → domains ≡ inside.live.domains → domains ≤ e.domain
-    → StandsFor now entries → true ≡ list_all (has_peer e) (mitigations (time_of now) entries)
-peers_outside inside now domains e entries same are past stands =
+    → Represents now entries → true ≡ list_all (has_peer e) (mitigations (time_of now) entries)
+peers_outside inside now domains e entries same are past represents =
     let all : domains ≡ now.live.domains = are ∙ ap (λ (r : RegistryValue). r.live.domains) same in
-    sym (all_outside e (time_of now) now.live.domains entries (omega (arith, past, all)) stands.live.inside)
+    sym (all_outside e (time_of now) now.live.domains entries (omega (arith, past, all)) represents.live.inside)

@@ -12,7 +12,7 @@ use Rattle.coap_exchange.specs.Rings.{RingValue, is_ring_of, slots_of, all_slots
 use Rattle.dots_laws.specs.Filed.{Filed, entry_of, slot_of}
 use Rattle.live_mitigations.proofs.Members.{has, any_append}
 use Rattle.dots_registry.specs.Kept.{is_from, RingsAre}
-use Rattle.dots_registry.specs.Standing.{has_ring}
+use Rattle.dots_registry.specs.RegistryValues.{has_ring}
 use Rattle.dots_registry.proofs.Going.{from_ring}
 
 -- the slots of the entries that are among the last n of their peer and domain

@@ -19,8 +19,8 @@ use Rattle.coap_exchange.specs.declared.pair.Pair.{Pair}
 use Rattle.coap_exchange.specs.Pairs.{is_pair, pair_with, below, pairs_of_role, pairs_of_row}
 use Rattle.coap_exchange.specs.Rings.{RingValue, is_ring_of, messages_of, reply_to, noted}
 use Rattle.coap_exchange.specs.Noting.{AllRemember, message_of}
-use Rattle.coap_exchange.proofs.Standing.{noted_remembers, other_remembers, replies_remembered, pairs_noted}
-use Rattle.dots_registry.specs.Standing.{RegistryValue, IsOf, StandsFor, time_of, number_remembered, has_ring, pair_of, rings_with}
+use Rattle.coap_exchange.proofs.HistoryRings.{noted_remembers, other_remembers, replies_remembered, pairs_noted}
+use Rattle.dots_registry.specs.RegistryValues.{RegistryValue, IsOf, Represents, time_of, number_remembered, has_ring, pair_of, rings_with}
 
 -- ---- by the settings
 
@@ -235,11 +235,11 @@ replies registry entries n t peer domain id all signalled =
           ∙ ap (option_map (λ (e : Entry). e.reply)) (sym (nothing_remembered n t peer domain id registry.rings entries none signalled))
     ]
 
-pub repeat_is : (inside now : RegistryValue) (t peer domain id : ℕ) (entries : List Entry) → inside ≡ now → t ≡ time_of inside → StandsFor now entries
+pub repeat_is : (inside now : RegistryValue) (t peer domain id : ℕ) (entries : List Entry) → inside ≡ now → t ≡ time_of inside → Represents now entries
     → reply_to id t (messages_of peer domain inside.rings)
     ≡ option_map (λ (e : Entry). e.reply) (remembered (number_remembered now) (time_of now) peer domain id entries)
-repeat_is inside now t peer domain id entries same is stands =
-    let here : StandsFor inside entries = subst (λ r. StandsFor r entries) (sym same) stands in
+repeat_is inside now t peer domain id entries same is represents =
+    let here : Represents inside entries = subst (λ r. Represents r entries) (sym same) represents in
     subst
     (λ r.
     reply_to id t (messages_of peer domain inside.rings)

@@ -1,4 +1,4 @@
--- What a compaction keeps, and that the registry stands for it.
+-- What a compaction keeps, and that the registry represents it.
 use Rattle.std.proofs.Common.{◌≡◌, ℕ, ◌+◌, ◌≤◌, true, cond, List, [], ◌∷◌, length, map, Option, refl, sym, ap, subst, ◌∙◌, arith}
 use Rattle.std.specs.Prelude.{nat_lt, ◌==◌, option_map}
 use Rattle.std.specs.List.{list_all}
@@ -15,24 +15,24 @@ use Rattle.dots_laws.proofs.Views.{kept_held}
 use Rattle.dots_laws.specs.Filed.{Filed, entry_of, slot_of, refiled}
 use Rattle.dots_settings.specs.Settings.{SettingsValue}
 use Rattle.live_mitigations.specs.Numbers.{live_renumbered}
-use Rattle.live_mitigations.specs.Standing.{LiveValue, is_inside}
-use Rattle.live_mitigations.proofs.SlotsStanding.{renumbered_stands}
+use Rattle.live_mitigations.specs.LiveValues.{LiveValue, is_inside}
+use Rattle.live_mitigations.proofs.SlotsOfRows.{renumbered_stands}
 use Rattle.held_resources.specs.declared.row.HeldSlot.{HeldSlot}
 use Rattle.held_resources.specs.Rows.{renumbered as held_renumbered}
 use Rattle.held_resources.specs.Tables.{Tables, is_known, tables_renumbered}
 use Rattle.held_resources.proofs.Going.{rows_moved}
-use Rattle.held_resources.proofs.Standing.{same_stands}
+use Rattle.held_resources.proofs.HistoryTables.{same_stands}
 use Rattle.coap_exchange.specs.Rings.{RingValue, ring_renumbered}
-use Rattle.coap_exchange.proofs.Standing.{moved_remembers, pairs_moved}
+use Rattle.coap_exchange.proofs.HistoryRings.{moved_remembers, pairs_moved}
 use Rattle.dots_registry.specs.Kept.{all_kept, kept_slots, last_slot, filed_kept, named_slots, filed}
-use Rattle.dots_registry.specs.Standing.{RegistryValue, StandsFor, IsOf, time_of, number_remembered}
-use Rattle.dots_registry.specs.Filed.{StandsIn, HasSlots, IsFiled, slots_kept, most_kept, is_alias_of}
+use Rattle.dots_registry.specs.RegistryValues.{RegistryValue, Represents, IsOf, time_of, number_remembered}
+use Rattle.dots_registry.specs.Filed.{RepresentsFiled, HasSlots, IsFiled, slots_kept, most_kept, is_alias_of}
 use Rattle.dots_registry.proofs.Named.{kept_named}
 use Rattle.dots_registry.proofs.Going.{rings_moved}
 use Rattle.dots_registry.proofs.Moving.{same_entries, slots_moved, last_moved}
 use Rattle.dots_registry.proofs.Staying.{kept_entries, kept_stay}
 use Rattle.dots_registry.proofs.Numbering.{named_are, named_rise, kept_are_first, union_nil}
-use Rattle.dots_registry.proofs.Standing.{joined}
+use Rattle.dots_registry.proofs.RegistryValues.{joined}
 use Rattle.dots_registry.proofs.Rings.{still_signalled}
 use Rattle.dots_registry.proofs.Keeping.{named_stands}
 use Rattle.dots_registry.proofs.Filed.{few_kept, slots_still}
@@ -63,14 +63,14 @@ named_many n t all =
     ∙ sym (length-map (filed_kept n t all) entry_of)
     ∙ ap length (kept_entries (names n t) [] all)
 
-union_named : (registry : RegistryValue) (all : List Filed) → StandsIn registry all
+union_named : (registry : RegistryValue) (all : List Filed) → RepresentsFiled registry all
     → union (all_kept (slots_kept registry) registry.rings) [] ≡ union (named_slots (number_remembered registry) (time_of registry) all) []
-union_named registry all stands =
+union_named registry all represents =
     let tables = registry.live.tables in
     ap
     (λ o. union (all_kept (record { tables = tables; rows = registry.held.slots; last = o }) registry.rings) [])
-    stands.slots.last
-    ∙ ap (λ rows. union (kept_numbers rows) []) stands.slots.rows
+    represents.slots.last
+    ∙ ap (λ rows. union (kept_numbers rows) []) represents.slots.rows
     ∙ kept_named
     (number_remembered registry)
     (time_of registry)
@@ -79,10 +79,10 @@ union_named registry all stands =
     all
     []
     (record {})
-    stands.slots.live
-    (subst (λ k. list_all (is_inside k) (map entry_of all) ≡ true) (sym stands.stands.live.are_tables.number) stands.stands.live.inside)
-    stands.slots.messages
-    stands.stands.signalled
+    represents.slots.live
+    (subst (λ k. list_all (is_inside k) (map entry_of all) ≡ true) (sym represents.represents.live.are_tables.number) represents.represents.live.inside)
+    represents.slots.messages
+    represents.represents.signalled
   where
     kept_numbers : List HeldSlot → List ℕ
     kept_numbers rows = kept_slots registry.live.tables registry.rings (last_slot all) rows
@@ -91,16 +91,16 @@ pub few_slots : (registry : RegistryValue) → IsFiled registry → length (unio
 few_slots registry is =
     let n = number_remembered registry in
     let t = time_of registry in
-    let same = ap length (union_named registry is.filed is.stands) in
+    let same = ap length (union_named registry is.filed is.represents) in
     let fewer = union_few (named_slots n t is.filed) in
     let many = named_many n t is.filed in
-    let few = few_kept registry is.filed is.stands in
+    let few = few_kept registry is.filed is.represents in
     omega (arith, same, fewer, many, few)
 
-pub slots_are_named : (registry : RegistryValue) (all : List Filed) → StandsIn registry all → Rises (map slot_of all)
+pub slots_are_named : (registry : RegistryValue) (all : List Filed) → RepresentsFiled registry all → Rises (map slot_of all)
     → union (all_kept (slots_kept registry) registry.rings) [] ≡ named_slots (number_remembered registry) (time_of registry) all
-slots_are_named registry all stands rises =
-    union_named registry all stands
+slots_are_named registry all represents rises =
+    union_named registry all represents
     ∙ union_nil
     (named_slots (number_remembered registry) (time_of registry) all)
     (named_rise (number_remembered registry) (time_of registry) all rises)
@@ -138,62 +138,62 @@ moved_of keep settings registry is_of = record {
   filters = is_of.filters;
 }
 
-pub moved_stands : (keep : List ℕ) (registry : RegistryValue) (entries : List Entry) → StandsFor registry entries → StandsFor (renumbered keep registry) entries
-moved_stands keep registry entries stands = record {
-  live = renumbered_stands keep registry.live entries stands.live;
-  held = same_stands (tables_renumbered keep registry.held) registry.held entries (record { sizes = refl; clients = refl; sessions = refl }) stands.held;
-  remembered = moved_remembers (number_remembered registry) keep registry.rings entries stands.remembered;
-  signalled = still_signalled registry.rings (map (ring_renumbered keep) registry.rings) entries (pairs_moved keep registry.rings) stands.signalled;
-  filters = stands.filters;
-  limits = stands.limits;
+pub moved_stands : (keep : List ℕ) (registry : RegistryValue) (entries : List Entry) → Represents registry entries → Represents (renumbered keep registry) entries
+moved_stands keep registry entries represents = record {
+  live = renumbered_stands keep registry.live entries represents.live;
+  held = same_stands (tables_renumbered keep registry.held) registry.held entries (record { sizes = refl; clients = refl; sessions = refl }) represents.held;
+  remembered = moved_remembers (number_remembered registry) keep registry.rings entries represents.remembered;
+  signalled = still_signalled registry.rings (map (ring_renumbered keep) registry.rings) entries (pairs_moved keep registry.rings) represents.signalled;
+  filters = represents.filters;
+  limits = represents.limits;
 }
 
 -- the same entries in slots with new numbers
-pub moved_in : (keep : List ℕ) (registry : RegistryValue) (all : List Filed) → StandsIn registry all → StandsIn (renumbered keep registry) (map (refiled keep) all)
-moved_in keep registry all stands =
+pub moved_in : (keep : List ℕ) (registry : RegistryValue) (all : List Filed) → RepresentsFiled registry all → RepresentsFiled (renumbered keep registry) (map (refiled keep) all)
+moved_in keep registry all represents =
     let same : map entry_of all ≡ map entry_of (map (refiled keep) all) = sym (same_entries keep all) in
     record {
-      stands = subst (StandsFor (renumbered keep registry)) same (moved_stands keep registry (map entry_of all) stands.stands);
+      represents = subst (Represents (renumbered keep registry)) same (moved_stands keep registry (map entry_of all) represents.represents);
       slots = record {
-        live = slots_moved (time_of registry) keep registry.live.tables all stands.slots.live;
-        messages = rings_moved (number_remembered registry) keep registry.rings all stands.slots.messages;
-        last = ap (option_map (number_in keep)) stands.slots.last ∙ sym (last_moved keep all);
-        rows = ap (map (held_renumbered keep)) stands.slots.rows ∙ rows_moved keep all;
+        live = slots_moved (time_of registry) keep registry.live.tables all represents.slots.live;
+        messages = rings_moved (number_remembered registry) keep registry.rings all represents.slots.messages;
+        last = ap (option_map (number_in keep)) represents.slots.last ∙ sym (last_moved keep all);
+        rows = ap (map (held_renumbered keep)) represents.slots.rows ∙ rows_moved keep all;
       };
-      known = subst (λ es. list_all (is_known registry.held.sizes) es ≡ true) same stands.known;
-      aliased = λ client. subst (λ es. tally (is_alias_of client) (held es) ≤ registry.live.limits.aliases) same (stands.aliased client);
+      known = subst (λ es. list_all (is_known registry.held.sizes) es ≡ true) same represents.known;
+      aliased = λ client. subst (λ es. tally (is_alias_of client) (held es) ≤ registry.live.limits.aliases) same (represents.aliased client);
     }
 
 pub moved_room : (keep : List ℕ) (registry : RegistryValue) → HasSlots registry → HasSlots (renumbered keep registry)
 moved_room keep registry room = slots_still registry (renumbered keep registry) refl refl refl refl room
 
 -- what the view names is stood for
-kept_in : (registry : RegistryValue) (all : List Filed) → StandsIn registry all → Calm (map entry_of all)
-    → StandsIn registry (filed_kept (number_remembered registry) (time_of registry) all)
-kept_in registry all stands calm =
+kept_in : (registry : RegistryValue) (all : List Filed) → RepresentsFiled registry all → Calm (map entry_of all)
+    → RepresentsFiled registry (filed_kept (number_remembered registry) (time_of registry) all)
+kept_in registry all represents calm =
     let n = number_remembered registry in
     let t = time_of registry in
     let es = map entry_of all in
     let same : kept n t es ≡ map entry_of (filed_kept n t all) = sym (kept_entries (names n t) [] all) in
     record {
-      stands = subst (StandsFor registry) same (named_stands registry es calm stands.stands);
-      slots = kept_stay n t (slots_kept registry) registry.rings all stands.stands.live.in_order calm stands.slots;
-      known = subst (λ xs. list_all (is_known registry.held.sizes) xs ≡ true) same (part_list_all (is_known registry.held.sizes) (kept n t es) es (kept_is_part (names n t) [] es) stands.known);
+      represents = subst (Represents registry) same (named_stands registry es calm represents.represents);
+      slots = kept_stay n t (slots_kept registry) registry.rings all represents.represents.live.in_order calm represents.slots;
+      known = subst (λ xs. list_all (is_known registry.held.sizes) xs ≡ true) same (part_list_all (is_known registry.held.sizes) (kept n t es) es (kept_is_part (names n t) [] es) represents.known);
       aliased = λ client.
           subst
           (λ xs. tally (is_alias_of client) (held xs) ≤ registry.live.limits.aliases)
           same
-          (subst (λ hs. tally (is_alias_of client) hs ≤ registry.live.limits.aliases) (sym (kept_held n t [] es calm)) (stands.aliased client));
+          (subst (λ hs. tally (is_alias_of client) hs ≤ registry.live.limits.aliases) (sym (kept_held n t [] es calm)) (represents.aliased client));
     }
 
-pub compacted_in : (keep : List ℕ) (registry : RegistryValue) (all : List Filed) → StandsIn registry all → Rises (map slot_of all) → Calm (map entry_of all)
+pub compacted_in : (keep : List ℕ) (registry : RegistryValue) (all : List Filed) → RepresentsFiled registry all → Rises (map slot_of all) → Calm (map entry_of all)
     → keep ≡ named_slots (number_remembered registry) (time_of registry) all
-    → StandsIn (renumbered keep registry) (filed (kept (number_remembered registry) (time_of registry) (map entry_of all)))
-compacted_in keep registry all stands rises calm is =
+    → RepresentsFiled (renumbered keep registry) (filed (kept (number_remembered registry) (time_of registry) (map entry_of all)))
+compacted_in keep registry all represents rises calm is =
     let n = number_remembered registry in
     let t = time_of registry in
     let few = filed_kept n t all in
     subst
-    (StandsIn (renumbered keep registry))
+    (RepresentsFiled (renumbered keep registry))
     (ap (λ (ks : List ℕ). map (refiled ks) few) is ∙ kept_are_first n t all rises)
-    (moved_in keep registry few (kept_in registry all stands calm))
+    (moved_in keep registry few (kept_in registry all represents calm))

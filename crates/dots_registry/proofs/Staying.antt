@@ -19,7 +19,7 @@ use Rattle.coap_exchange.specs.Rings.{RingValue}
 use Rattle.live_mitigations.specs.declared.slots.MitigationSlots.{MitigationSlots}
 use Rattle.dots_laws.specs.Filed.{Filed, entry_of, slot_of}
 use Rattle.live_mitigations.specs.Slots.{withdrawal_in, slots_by, live_slots}
-use Rattle.live_mitigations.specs.Standing.{filed_alone}
+use Rattle.live_mitigations.specs.LiveValues.{filed_alone}
 use Rattle.live_mitigations.proofs.Domains.{status_own, withdrawal_own}
 use Rattle.held_resources.specs.Rows.{row_of, rows_of}
 use Rattle.dots_registry.specs.Kept.{is_from, RingsAre, last_slot, KeptValue, AreOf, filed_kept_by, filed_kept}

@@ -10,12 +10,12 @@ use Rattle.dots_laws.specs.Filed.{Filed, entry_of}
 use Rattle.held_resources.specs.Tables.{is_known}
 use Rattle.coap_exchange.specs.Rings.{RingValue}
 use Rattle.dots_registry.specs.Kept.{KeptValue, AreOf}
-use Rattle.dots_registry.specs.Standing.{RegistryValue, StandsFor, time_of, domains_of, limits_of, number_remembered}
+use Rattle.dots_registry.specs.RegistryValues.{RegistryValue, Represents, time_of, domains_of, limits_of, number_remembered}
 
 abbrev pub actor_of : RingValue → ℕ × ℕ
 actor_of ring = (ring.pair.peer, ring.pair.domain)
 
--- how much a history may come to for which it stands
+-- how much a history may come to that it represents
 abbrev pub capacities_in : RegistryValue → Capacities
 capacities_in registry = record {
   actors = map actor_of registry.rings;
@@ -39,10 +39,10 @@ is_alias_of client e = is_alias e.change && same_client client e
 abbrev pub slots_kept : RegistryValue → KeptValue
 slots_kept registry = record { tables = registry.live.tables; rows = registry.held.slots; last = registry.last }
 
--- It stands for a history whose entries stand in slots: it stands for the history; the slots that are kept are those of the entries of
+-- It represents a history whose entries stand in slots: it represents the history; the slots that are kept are those of the entries of
 -- which it has what is left; and the entries are of its domains and peers, and leave no client more aliases than there may be.
-pub record StandsIn (registry : RegistryValue) (filed : List Filed) : Type 0 where
-  pub stands : StandsFor registry (map entry_of filed)
+pub record RepresentsFiled (registry : RegistryValue) (filed : List Filed) : Type 0 where
+  pub represents : Represents registry (map entry_of filed)
   pub slots : AreOf (number_remembered registry) (time_of registry) (slots_kept registry) registry.rings filed
   pub known : list_all (is_known registry.held.sizes) (map entry_of filed) ≡ true
   pub aliased : (client : Entry) → tally (is_alias_of client) (held (map entry_of filed)) ≤ (limits_of registry).aliases
@@ -52,8 +52,8 @@ pub record HasSlots (registry : RegistryValue) : Type 0 where
   pub domains : registry.held.sizes.domains ≡ domains_of registry
   pub held : registry.held.slots.room ≡ most_named (capacities_in registry) 0
 
--- There are entries in slots for which it stands, and it has room for the slots.
+-- There are entries in slots that it represents, and it has room for the slots.
 pub record IsFiled (registry : RegistryValue) : Type 0 where
   pub filed : List Filed
-  pub stands : StandsIn registry filed
+  pub represents : RepresentsFiled registry filed
   pub room : HasSlots registry

@@ -6,9 +6,9 @@ use Rattle.dots_history.specs.Bounds.{within_bounds}
 use Rattle.dots_history.specs.Entries.{same_client}
 use Rattle.dots_history.specs.Histories.{Mitigation}
 use Rattle.dots_laws.specs.Fits as laws
-use Rattle.live_mitigations.specs.Standing.{has_live_room}
+use Rattle.live_mitigations.specs.LiveValues.{has_live_room}
 use Rattle.held_resources.specs.Accepting.{accepts}
-use Rattle.dots_registry.specs.Standing.{RegistryValue, StandsFor, IsOf, time_of}
+use Rattle.dots_registry.specs.RegistryValues.{RegistryValue, Represents, IsOf, time_of}
 
 -- the entry isn't before the registry's time, and fits a history by the settings
 abbrev pub fits_then : SettingsValue → RegistryValue → List Entry → Entry → Bool
@@ -23,13 +23,13 @@ abbrev pub fits_tables : RegistryValue → List Entry → Entry → Bool
 fits_tables registry entries e =
     nat_le (time_of registry) e.time && (accepts registry.held.sizes entries e && has_live_room registry.live.limits entries e)
 
--- There are settings of which the registry is, and a history for which it stands, so that the entry fits this history by
+-- There are settings of which the registry is, and a history that it represents, so that the entry fits this history by
 -- these settings and isn't before the registry's time.
 pub record FitsIn (registry : RegistryValue) (e : Entry) : Type 0 where
   pub settings : SettingsValue
   pub entries : List Entry
   pub is_of : IsOf settings registry
-  pub stands : StandsFor registry entries
+  pub represents : Represents registry entries
   pub fits : fits_now settings registry entries e ≡ true
 
 -- a mitigation is of another client than the entry, or has its peer

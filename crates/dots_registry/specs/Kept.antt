@@ -10,7 +10,7 @@ use Rattle.dots_laws.specs.KeptPlaces.{at_places}
 use Rattle.coap_exchange.specs.declared.pair.Pair.{Pair}
 use Rattle.coap_exchange.specs.Rings.{RingValue, slots_of, all_slots}
 use Rattle.live_mitigations.specs.Rows.{LiveTable}
-use Rattle.live_mitigations.specs.Standing.{SlotsAre}
+use Rattle.live_mitigations.specs.LiveValues.{SlotsAre}
 use Rattle.live_mitigations.specs.Numbers.{all_numbers}
 use Rattle.held_resources.specs.declared.row.HeldSlot.{HeldSlot}
 use Rattle.held_resources.specs.Rows.{HeldRows, rows_of, slots_in}

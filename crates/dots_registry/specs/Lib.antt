@@ -1,8 +1,8 @@
 pub mod Limits
 pub mod Judgements
-pub mod Standing
+pub mod RegistryValues
 pub mod Kept
 pub mod Fitting
 pub mod Judging
-pub mod Viewing
+pub mod ObserverViews
 pub mod Filed

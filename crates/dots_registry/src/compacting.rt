@@ -9,13 +9,13 @@ ghost use Rattle.dots_history.specs.Slots.{Rises, number_in};
 ghost use Rattle.dots_laws.specs.Filed.{Filed, entry_of, slot_of};
 ghost use Rattle.dots_laws.specs.KeptPlaces.{union};
 ghost use Rattle.dots_registry.specs.Kept.{named_slots, filed, kept_slots};
-ghost use Rattle.dots_registry.specs.Standing.{StandsFor, IsOf, time_of, number_remembered};
-ghost use Rattle.dots_registry.specs.Filed.{StandsIn, most_kept};
+ghost use Rattle.dots_registry.specs.RegistryValues.{Represents, IsOf, time_of, number_remembered};
+ghost use Rattle.dots_registry.specs.Filed.{RepresentsFiled, most_kept};
 
 use crate::registry::Registry;
 use coap_exchange::Remembered;
 use dots_history::{SlotList, number_in};
-use held_resources::HeldThings;
+use held_resources::HeldResources;
 use live_mitigations::LiveMitigations;
 
 impl Registry {
@@ -24,7 +24,7 @@ impl Registry {
     pub fn kept(&self, into: &mut SlotList)
         requires empty { into.old.items ≡ [] }
         requires room { most_kept self.now ≤ into.old.room }
-        ensures kept { (all : List Filed) → StandsIn self.now all → Rises (map slot_of all)
+        ensures kept { (all : List Filed) → RepresentsFiled self.now all → Rises (map slot_of all)
             → into.new.items ≡ named_slots (number_remembered self.now) (time_of self.now) all }
         ensures few { length into.new.items ≤ most_kept self.now }
         ensures room { into.new.room ≡ into.old.room }
@@ -36,10 +36,10 @@ impl Registry {
     /// [`Registry::kept`] gave, what it names then stands in the first slots. Takes no memory.
     pub fn moved(&mut self, keep: &[u32])
         requires { Rises keep.now }
-        ensures stands { (entries : List Entry) → StandsFor self.old entries → StandsFor self.new entries }
-        ensures filed { (all : List Filed) → StandsIn self.old all → Rises (map slot_of all) → Calm (map entry_of all)
+        ensures represents { (entries : List Entry) → Represents self.old entries → Represents self.new entries }
+        ensures filed { (all : List Filed) → RepresentsFiled self.old all → Rises (map slot_of all) → Calm (map entry_of all)
             → keep.now ≡ named_slots (number_remembered self.old) (time_of self.old) all
-            → StandsIn self.new (filed (kept (number_remembered self.old) (time_of self.old) (map entry_of all))) }
+            → RepresentsFiled self.new (filed (kept (number_remembered self.old) (time_of self.old) (map entry_of all))) }
         ensures time { time_of self.new ≡ time_of self.old }
         ensures settings { (settings : SettingsValue) → IsOf settings self.old → IsOf settings self.new }
     {
@@ -53,7 +53,7 @@ impl Registry {
 /// Puts all slots that are kept into the list, which has room for them.
 fn put_slots(
     live: &LiveMitigations,
-    held: &HeldThings,
+    held: &HeldResources,
     remembered: &Remembered,
     last: Option<u32>,
     into: &mut SlotList,

@@ -3,10 +3,10 @@
 ghost use Rattle.std.specs.Prelude.{◌<◌, ◌≤◌, List};
 ghost use Rattle.dots_history.specs.declared.entry.Entry.{Entry};
 ghost use Rattle.live_mitigations.specs.Ends.{never};
-ghost use Rattle.live_mitigations.specs.Standing.{ComesTo, SameButRows, SlotsCome};
-ghost use Rattle.live_mitigations.specs.Standing as lives;
+ghost use Rattle.live_mitigations.specs.LiveValues.{ComesTo, SameButRows, SlotsCome};
+ghost use Rattle.live_mitigations.specs.LiveValues as lives;
 ghost use Rattle.installed_filters.specs.Filters.{SameRoom};
-ghost use Rattle.installed_filters.specs.Standing.{StandsFor};
+ghost use Rattle.installed_filters.specs.HistoryRows.{Represents};
 ghost use Rattle.dots_laws.specs.Filed.{Filed};
 
 use installed_filters::InstalledFilters;
@@ -18,13 +18,13 @@ pub(crate) fn expire_all(live: &mut LiveMitigations, filters: &mut InstalledFilt
     requires bounded { now < never }
     ensures comes { (entries : List Entry) → ComesTo now live.old entries → ComesTo now live.new entries }
     ensures same { SameButRows live.old live.new }
-    ensures stands { (entries : List Entry) → live.old.time ≤ now → lives.StandsFor live.old entries → StandsFor filters.old live.old.time entries
-        → StandsFor filters.new now entries }
+    ensures represents { (entries : List Entry) → live.old.time ≤ now → lives.Represents live.old entries → Represents filters.old live.old.time entries
+        → Represents filters.new now entries }
     ensures room { SameRoom filters.old filters.new }
     ensures slots { (filed : List Filed) → SlotsCome now live.old.tables filed → SlotsCome now live.new.tables filed }
 {
     while let Some(domain) = live.next_due(now) {
-        filters.leave_live(domain, live.rows(domain), now);
+        filters.retain_live(domain, live.rows(domain), now);
         live.expire(domain, now);
     }
 }

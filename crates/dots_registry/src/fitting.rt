@@ -7,8 +7,8 @@ ghost use Rattle.dots_history.specs.Histories.{mitigations};
 ghost use Rattle.dots_laws.specs.Calm.{is_of_settings};
 ghost use Rattle.dots_laws.specs.Fits.{is_of_mitigations, has_one_peer};
 ghost use Rattle.dots_history.specs.declared.entry.Entry.{Entry};
-ghost use Rattle.live_mitigations.specs.Standing.{puts, has_live_room};
-ghost use Rattle.dots_registry.specs.Standing.{StandsFor, IsOf, time_of, domains_of, limits_of};
+ghost use Rattle.live_mitigations.specs.LiveValues.{puts, has_live_room};
+ghost use Rattle.dots_registry.specs.RegistryValues.{Represents, IsOf, time_of, domains_of, limits_of};
 ghost use Rattle.dots_registry.specs.Fitting.{fits_now, fits_tables, has_peer};
 
 use crate::registry::Registry;
@@ -22,7 +22,7 @@ impl Registry {
     /// registers, and only one that is writes aliases and access lists; and after it the capacities are kept.
     pub fn fits(&self, settings: &Settings, entry: &Entry) -> bool
         requires { IsOf settings.now self.now }
-        ensures { (entries : List Entry) → StandsFor self.now entries → result ≡ fits_now settings.now self.now entries entry.now }
+        ensures { (entries : List Entry) → Represents self.now entries → result ≡ fits_now settings.now self.now entries entry.now }
     {
         is_possible(settings, entry) && self.takes(entry)
     }
@@ -30,7 +30,7 @@ impl Registry {
     /// Whether it is not before the registry's time, and what the history comes to with it is allowed.
     fn takes(&self, entry: &Entry) -> bool
         requires { puts entry.now ≡ true → entry.now.domain < domains_of self.now }
-        ensures { (entries : List Entry) → StandsFor self.now entries → result ≡ fits_tables self.now entries entry.now }
+        ensures { (entries : List Entry) → Represents self.now entries → result ≡ fits_tables self.now entries entry.now }
     {
         self.time() <= entry.time && self.held.fits(entry) && self.has_live_room(entry)
     }
@@ -40,7 +40,7 @@ impl Registry {
     fn has_live_room(&self, entry: &Entry) -> bool
         requires later { time_of self.now ≤ entry.now.time }
         requires inside { puts entry.now ≡ true → entry.now.domain < domains_of self.now }
-        ensures { (entries : List Entry) → StandsFor self.now entries → result ≡ has_live_room (limits_of self.now) entries entry.now }
+        ensures { (entries : List Entry) → Represents self.now entries → result ≡ has_live_room (limits_of self.now) entries entry.now }
     {
         if entry.domain < self.live.domains() {
             return self.live.has_room(entry);
@@ -50,14 +50,14 @@ impl Registry {
 
     /// Whether an entry that puts or withdraws a mitigation has the peer of each live mitigation of its client.
     pub fn has_one_peer(&self, entry: &Entry) -> bool
-        ensures { (entries : List Entry) → StandsFor self.now entries → result ≡ has_one_peer entry.now (mitigations (time_of self.now) entries) }
+        ensures { (entries : List Entry) → Represents self.now entries → result ≡ has_one_peer entry.now (mitigations (time_of self.now) entries) }
     {
         !is_of_mitigations(&entry.change) || self.are_of_peer(entry)
     }
 
     /// Whether each live mitigation of the entry's client has the entry's peer.
     fn are_of_peer(&self, entry: &Entry) -> bool
-        ensures { (entries : List Entry) → StandsFor self.now entries → result ≡ list_all (has_peer entry.now) (mitigations (time_of self.now) entries) }
+        ensures { (entries : List Entry) → Represents self.now entries → result ≡ list_all (has_peer entry.now) (mitigations (time_of self.now) entries) }
     {
         if entry.domain < self.live.domains() {
             return !self

@@ -16,11 +16,11 @@ ghost use Rattle.dots_laws.specs.Fits.{fits};
 ghost use Rattle.dots_laws.specs.Tables.{Client};
 ghost use Rattle.conflict_rules.specs.ByMid.{has_mid};
 ghost use Rattle.live_mitigations.specs.Judging.{lives_of};
-ghost use Rattle.live_mitigations.specs.Reading.{shown_in};
+ghost use Rattle.live_mitigations.specs.LiveViews.{live_views_in};
 ghost use Rattle.conflict_rules.specs.declared.fault.PutFault.{PutFault};
 ghost use Rattle.conflict_rules.specs.declared.judging.Judged.{Judged};
 ghost use Rattle.conflict_rules.specs.Requests.{Request};
-ghost use Rattle.dots_registry.specs.Standing.{RegistryValue, StandsFor, IsOf, time_of};
+ghost use Rattle.dots_registry.specs.RegistryValues.{RegistryValue, Represents, IsOf, time_of};
 ghost use Rattle.dots_registry.specs.Fitting.{fits_now};
 ghost use Rattle.dots_registry.specs.Judging.{collides, judge_request};
 ghost use Rattle.dots_registry.specs.Limits.{ClientsKeepLimits};
@@ -46,7 +46,7 @@ pub fn what_is_granted_is_own_and_fits()
         → e.peer ≡ request.peer → e.domain ≡ domain → e.cuid ≡ request.cuid → e.change ≡ change.Put judged.put
         → within_bounds e ≡ true }
     ensures fits { (settings : SettingsValue) (registry : RegistryValue) (entries : List Entry) (domain : ℕ) (request : Request) (judged : Judged) (e : Entry)
-        → IsOf settings registry → StandsFor registry entries → ClientsKeepLimits settings.limits (time_of registry) entries
+        → IsOf settings registry → Represents registry entries → ClientsKeepLimits settings.limits (time_of registry) entries
         → is_own settings e ≡ true → within_bounds e ≡ true → e.time ≡ time_of registry
         → judge_request settings (time_of registry) entries domain request ≡ Ok judged
         → e.peer ≡ request.peer → e.domain ≡ domain → e.cuid ≡ request.cuid → e.change ≡ change.Put judged.put
@@ -66,7 +66,7 @@ pub fn what_is_withdrawn_is_own_and_fits()
     ensures bounded { (mid : ℕ) (e : Entry) → e.change ≡ change.Withdraw mid
         → e.time < 2 ^ 48 → is_name e.cuid ≡ true → length e.reply ≤ 64 → within_bounds e ≡ true }
     ensures fits { (settings : SettingsValue) (registry : RegistryValue) (entries : List Entry) (mid : ℕ) (e : Entry) → e.change ≡ change.Withdraw mid
-        → IsOf settings registry → StandsFor registry entries → ClientsKeepLimits settings.limits (time_of registry) entries
+        → IsOf settings registry → Represents registry entries → ClientsKeepLimits settings.limits (time_of registry) entries
         → is_own settings e ≡ true → within_bounds e ≡ true → e.time ≡ time_of registry
         → fits_now settings registry entries e ≡ true }
     ensures limits { (limits : Limits) (t : ℕ) (entries : List Entry) (mid : ℕ) (e : Entry) → e.change ≡ change.Withdraw mid
@@ -91,7 +91,7 @@ pub fn judgements_are_apart()
     ensures collides { (t : ℕ) (one other : List Entry) (peer : ℕ) (client : Client) → alone client.domain one ≡ alone client.domain other
         → collides t one peer client ≡ collides t other peer client }
     ensures shown { (t : ℕ) (one other : List Entry) (domain : ℕ) (cuid : List ℕ) → alone domain one ≡ alone domain other
-        → shown_in domain cuid t one ≡ shown_in domain cuid t other }
+        → live_views_in domain cuid t one ≡ live_views_in domain cuid t other }
 {}
 
 /// A request is judged exactly as it is by the places of the entries: the first rule that applies, by what stands, lives or is held

@@ -4,7 +4,7 @@ ghost use Rattle.std.specs.Prelude.{◌<◌, List, IsSome, IfSome};
 ghost use Rattle.lifetime_clock.specs.Lifetime.{IsLifetime};
 ghost use Rattle.dots_history.specs.declared.entry.Entry.{Entry};
 ghost use Rattle.conflict_rules.specs.Results.{Gives};
-ghost use Rattle.dots_registry.specs.Standing.{StandsFor, time_of, domains_of};
+ghost use Rattle.dots_registry.specs.RegistryValues.{Represents, time_of, domains_of};
 ghost use Rattle.dots_registry.specs.Judging.{judge_request, asked_by};
 
 use crate::registry::Registry;
@@ -27,7 +27,7 @@ impl Registry {
         requires within { domain < domains_of self.now }
         requires mid { IsSome path.now.mid }
         requires lifetime { IsLifetime body.now.lifetime }
-        ensures { (entries : List Entry) → StandsFor self.now entries
+        ensures { (entries : List Entry) → Represents self.now entries
             → IfSome path.now.mid (λ mid. Gives result (judge_request settings.now (time_of self.now) entries domain (asked_by peer path.now body.now mid))) }
     {
         let request = PutRequest {
@@ -49,7 +49,7 @@ impl Registry {
     ) -> Result<Judged, PutFault>
         requires within { domain < domains_of self.now }
         requires lifetime { IsLifetime request.now.lifetime }
-        ensures { (entries : List Entry) → StandsFor self.now entries
+        ensures { (entries : List Entry) → Represents self.now entries
             → Gives result (judge_request settings.now (time_of self.now) entries domain request.now) }
     {
         let client = Client {

@@ -1,7 +1,7 @@
-//! The registry: the tables that stand for a history at a time.
+//! The registry: the tables that represent a history at a time.
 //!
-//! A [`Registry`] keeps no old entries. Its value is what a history comes to, as far as its tables show it (`specs/Standing`),
-//! and the contract of each call is said for every history that it stands for: [`Registry::apply`] makes it stand for the
+//! A [`Registry`] keeps no old entries. Its value is what a history comes to, as far as its tables show it (`specs/RegistryValues`),
+//! and the contract of each call is said for every history that it represents: [`Registry::apply`] makes it represent the
 //! history with one more entry, [`Registry::tick`] for the same history at a later time, and each reader answers what the
 //! definitions of `dots_history` say of that history at that time. Only [`Registry::new`], [`Registry::stage`],
 //! [`Registry::judge_request`] and [`Registry::judge_put`] take memory.
@@ -12,7 +12,7 @@
 //! registry itself. [`slot_laws`] joins them.
 //!
 //! It joins the tables of `live_mitigations`, `held_resources`, `coap_exchange` and `installed_filters`. The settings of which it is
-//! (`IsOf`) stay with the caller. [`laws`] says that it also stands for what a compaction keeps, and that nothing of it is left
+//! (`IsOf`) stay with the caller. [`laws`] says that it also represents what a compaction keeps, and that nothing of it is left
 //! open.
 #![tactic(auto)]
 

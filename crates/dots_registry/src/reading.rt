@@ -4,10 +4,10 @@ ghost use Rattle.std.specs.Prelude.{◌≡◌, ◌<◌, ◌==◌, List, option_c
 ghost use Rattle.std.specs.List.{list_any};
 ghost use Rattle.dots_history.specs.declared.entry.Entry.{Entry};
 ghost use Rattle.dots_history.specs.Histories.{mitigations, held, remembered};
-ghost use Rattle.live_mitigations.specs.Reading.{shown_in};
+ghost use Rattle.live_mitigations.specs.LiveViews.{live_views_in};
 ghost use Rattle.held_resources.specs.Held.{aliases_of, acls_of, alias_named, acl_named, is_registered, registrant, is_of_another, config_of, number_of, reached};
-ghost use Rattle.held_resources.specs.Tables.{most_of, told};
-ghost use Rattle.dots_registry.specs.Standing.{StandsFor, time_of, domains_of, number_remembered};
+ghost use Rattle.held_resources.specs.Tables.{most_of, config_now};
+ghost use Rattle.dots_registry.specs.RegistryValues.{Represents, time_of, domains_of, number_remembered};
 ghost use Rattle.dots_registry.specs.Judging.{collides};
 
 use crate::registry::Registry;
@@ -20,7 +20,7 @@ use live_mitigations::Mitigations;
 impl Registry {
     /// The reply to a repeat of a message of this peer for this domain with this Message ID (RFC 7252, section 4.5).
     pub fn repeat(&self, peer: u32, domain: u16, id: u16) -> Option<&[u8]>
-        ensures { (entries : List Entry) → StandsFor self.now entries
+        ensures { (entries : List Entry) → Represents self.now entries
             → option_copied result ≡ option_map (λ e. e.reply) (remembered (number_remembered self.now) (time_of self.now) peer domain id entries) }
     {
         self.remembered.look(peer, domain, id, self.live.time())
@@ -30,14 +30,14 @@ impl Registry {
     /// registration has another one (RFC 9132, section 4.4.1.3).
     pub fn collides(&self, domain: u16, cuid: &[u8], peer: u32) -> bool
         requires { domain < domains_of self.now }
-        ensures { (entries : List Entry) → StandsFor self.now entries → result ≡ collides (time_of self.now) entries peer (record { domain = domain; cuid = cuid.now }) }
+        ensures { (entries : List Entry) → Represents self.now entries → result ≡ collides (time_of self.now) entries peer (record { domain = domain; cuid = cuid.now }) }
     {
         self.live.collides(domain, cuid, peer) || self.is_of_another(domain, cuid, peer)
     }
 
     /// Whether another peer registered the client.
     fn is_of_another(&self, domain: u16, cuid: &[u8], peer: u32) -> bool
-        ensures { (entries : List Entry) → StandsFor self.now entries → result ≡ is_of_another peer (record { domain = domain; cuid = cuid.now }) (held entries) }
+        ensures { (entries : List Entry) → Represents self.now entries → result ≡ is_of_another peer (record { domain = domain; cuid = cuid.now }) (held entries) }
     {
         match self.held.registrant(domain, cuid) {
             Some(registrant) => registrant != peer,
@@ -48,49 +48,49 @@ impl Registry {
     /// The live mitigations of a client, in order of their entries (RFC 9132, section 4.4.2).
     pub fn mitigations<'a>(&'a self, domain: u16, cuid: &'a [u8]) -> Mitigations<'a>
         requires { domain < domains_of self.now }
-        ensures { (entries : List Entry) → StandsFor self.now entries → result ≡ shown_in domain cuid.now (time_of self.now) entries }
+        ensures { (entries : List Entry) → Represents self.now entries → result ≡ live_views_in domain cuid.now (time_of self.now) entries }
     {
         self.live.mitigations(domain, cuid)
     }
 
     /// Whether a live mitigation has this peer.
     pub fn mitigating(&self, peer: u32) -> bool
-        ensures { (entries : List Entry) → StandsFor self.now entries → result ≡ list_any (λ m. m.put.peer == peer) (mitigations (time_of self.now) entries) }
+        ensures { (entries : List Entry) → Represents self.now entries → result ≡ list_any (λ m. m.put.peer == peer) (mitigations (time_of self.now) entries) }
     {
         self.live.mitigating(peer)
     }
 
     /// Whether the client is registered (RFC 8783, section 5.1).
     pub fn registered(&self, domain: u16, cuid: &[u8]) -> bool
-        ensures { (entries : List Entry) → StandsFor self.now entries → result ≡ is_registered (record { domain = domain; cuid = cuid.now }) (held entries) }
+        ensures { (entries : List Entry) → Represents self.now entries → result ≡ is_registered (record { domain = domain; cuid = cuid.now }) (held entries) }
     {
         self.held.registered(domain, cuid)
     }
 
     /// The peer that registered the client; None where it isn't registered.
     pub fn registrant(&self, domain: u16, cuid: &[u8]) -> Option<u32>
-        ensures { (entries : List Entry) → StandsFor self.now entries → result ≡ registrant (record { domain = domain; cuid = cuid.now }) (held entries) }
+        ensures { (entries : List Entry) → Represents self.now entries → result ≡ registrant (record { domain = domain; cuid = cuid.now }) (held entries) }
     {
         self.held.registrant(domain, cuid)
     }
 
     /// The aliases of a client, in order of writing; none where it isn't registered (RFC 8783, section 6).
     pub fn aliases(&self, domain: u16, cuid: &[u8]) -> &[Alias]
-        ensures { (entries : List Entry) → StandsFor self.now entries → result.now ≡ aliases_of (record { domain = domain; cuid = cuid.now }) (held entries) }
+        ensures { (entries : List Entry) → Represents self.now entries → result.now ≡ aliases_of (record { domain = domain; cuid = cuid.now }) (held entries) }
     {
         self.held.aliases(domain, cuid)
     }
 
     /// The access lists of a client, in order of writing; none where it isn't registered (RFC 8783, section 7).
     pub fn acls(&self, domain: u16, cuid: &[u8]) -> &[Acl]
-        ensures { (entries : List Entry) → StandsFor self.now entries → result.now ≡ acls_of (record { domain = domain; cuid = cuid.now }) (held entries) }
+        ensures { (entries : List Entry) → Represents self.now entries → result.now ≡ acls_of (record { domain = domain; cuid = cuid.now }) (held entries) }
     {
         self.held.acls(domain, cuid)
     }
 
     /// The alias of this name of a client.
     pub fn alias(&self, domain: u16, cuid: &[u8], name: &Name) -> Option<&Alias>
-        ensures { (entries : List Entry) → StandsFor self.now entries
+        ensures { (entries : List Entry) → Represents self.now entries
             → option_copied result ≡ alias_named name.now (aliases_of (record { domain = domain; cuid = cuid.now }) (held entries)) }
     {
         self.held.alias(domain, cuid, name)
@@ -98,7 +98,7 @@ impl Registry {
 
     /// The access list of this name of a client.
     pub fn acl(&self, domain: u16, cuid: &[u8], name: &Name) -> Option<&Acl>
-        ensures { (entries : List Entry) → StandsFor self.now entries
+        ensures { (entries : List Entry) → Represents self.now entries
             → option_copied result ≡ acl_named name.now (acls_of (record { domain = domain; cuid = cuid.now }) (held entries)) }
     {
         self.held.acl(domain, cuid, name)
@@ -106,7 +106,7 @@ impl Registry {
 
     /// The session configuration of a peer, with its sid (RFC 9132, section 4.5.2).
     pub fn config(&self, peer: u32) -> Option<(u32, &Config)>
-        ensures { (entries : List Entry) → StandsFor self.now entries → option_map told result ≡ config_of peer (held entries) }
+        ensures { (entries : List Entry) → Represents self.now entries → option_map config_now result ≡ config_of peer (held entries) }
     {
         self.held.config(peer)
     }
@@ -114,7 +114,7 @@ impl Registry {
     /// None where the client's domain has room for one more client, or the client for one more alias or access list; else
     /// the number that there may be, which is reached.
     pub fn room_for(&self, domain: u16, cuid: &[u8], kind: RoomKind) -> Option<u64>
-        ensures { (entries : List Entry) → StandsFor self.now entries
+        ensures { (entries : List Entry) → Represents self.now entries
             → result ≡ reached (most_of self.now.held.sizes.rooms kind) (number_of kind (record { domain = domain; cuid = cuid.now }) (held entries)) }
     {
         self.held.room_for(domain, cuid, kind)

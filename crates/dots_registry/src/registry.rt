@@ -6,14 +6,14 @@ ghost use Rattle.dots_settings.specs.Settings.{SettingsValue};
 ghost use Rattle.dots_history.specs.declared.entry.Entry.{Entry};
 ghost use Rattle.coap_exchange.specs.Rings.{RingValue};
 ghost use Rattle.live_mitigations.specs.Ends.{never};
-ghost use Rattle.live_mitigations.specs.Standing.{puts, kept_of};
-ghost use Rattle.filter_table.specs.Held.{row_of_scrub, row_of_acl, active_rows};
+ghost use Rattle.live_mitigations.specs.LiveValues.{puts, rows_for};
+ghost use Rattle.filter_table.specs.TableRows.{row_of_scrub, row_of_acl, active_rows};
 ghost use Rattle.dots_history.specs.Rows.{plain_rows, acl_rows};
 ghost use Rattle.installed_filters.specs.Filters.{rows_put, list_put, needs_rows, some_of, everyone};
-ghost use Rattle.dots_registry.specs.Standing.{StandsFor, IsOf, time_of, has_ring, silent, answered, rings_with};
+ghost use Rattle.dots_registry.specs.RegistryValues.{Represents, IsOf, time_of, has_ring, silent, answered, rings_with};
 ghost use Rattle.dots_registry.specs.Fitting.{FitsIn};
 ghost use Rattle.dots_laws.specs.Filed.{Filed};
-ghost use Rattle.dots_registry.specs.Filed.{StandsIn};
+ghost use Rattle.dots_registry.specs.Filed.{RepresentsFiled};
 
 use crate::expiring::expire_all;
 use coap_exchange::Remembered;
@@ -22,7 +22,7 @@ use dots_lists::{Bytes, NoMemory};
 use dots_settings::Settings;
 use filter_rows::{AclRow, ScrubRow};
 use filter_table::FilterTable;
-use held_resources::HeldThings;
+use held_resources::HeldResources;
 use installed_filters::{InstalledFilters, Staged, is_mitigating};
 use live_mitigations::{LiveMitigations, puts};
 use std::alloc::Global;
@@ -34,7 +34,7 @@ use std::mem;
 pub struct Registry {
     pub(crate) alloc: Global,
     pub(crate) live: LiveMitigations,
-    pub(crate) held: HeldThings,
+    pub(crate) held: HeldResources,
     pub(crate) remembered: Remembered,
     filters: InstalledFilters,
     /// The slot of a journal in which the last entry stands.
@@ -42,7 +42,7 @@ pub struct Registry {
 }
 
 impl Model for Registry {
-    ghost use Rattle.dots_registry.specs.Standing.{RegistryValue};
+    ghost use Rattle.dots_registry.specs.RegistryValues.{RegistryValue};
     ghost use Rattle.dots_registry.specs.Filed.{IsFiled};
 
     ghost Value = { RegistryValue };
@@ -68,13 +68,13 @@ impl Registry {
     /// That of the empty history at time 0, with the room that the settings say. Only this call and [`Registry::stage`] take
     /// memory.
     pub fn new(alloc: Global, settings: &Settings) -> Result<Self, NoMemory>
-        ensures stands { IfOk result (λ registry. StandsFor registry []) }
-        ensures filed { IfOk result (λ registry. StandsIn registry []) }
+        ensures represents { IfOk result (λ registry. Represents registry []) }
+        ensures filed { IfOk result (λ registry. RepresentsFiled registry []) }
         ensures settings { IfOk result (λ registry. IsOf settings.now registry) }
         ensures time { IfOk result (λ registry. time_of registry ≡ 0) }
     {
         let live = LiveMitigations::new(alloc, settings)?;
-        let held = match HeldThings::new(alloc, settings) {
+        let held = match HeldResources::new(alloc, settings) {
             Ok(held) => held,
             Err(fault) => return Err(give_up(live, fault)),
         };
@@ -112,8 +112,8 @@ impl Registry {
     pub fn tick(&mut self, now: u64)
         requires later { time_of self.old ≤ now }
         requires bounded { now < never }
-        ensures stands { (entries : List Entry) → StandsFor self.old entries → StandsFor self.new entries }
-        ensures filed { (filed : List Filed) → StandsIn self.old filed → StandsIn self.new filed }
+        ensures represents { (entries : List Entry) → Represents self.old entries → Represents self.new entries }
+        ensures filed { (filed : List Filed) → RepresentsFiled self.old filed → RepresentsFiled self.new filed }
         ensures time { time_of self.new ≡ now }
         ensures rings { self.new.rings ≡ self.old.rings }
         ensures settings { (settings : SettingsValue) → IsOf settings self.old → IsOf settings self.new }
@@ -134,8 +134,8 @@ impl Registry {
     /// The rows that filter: those of the live mitigations, each active, in order of the entries, their targets and their
     /// prefixes; and those of the access lists that are held, in order of writing.
     pub fn filters(&self) -> &FilterTable
-        ensures scrubs { (entries : List Entry) → StandsFor self.now entries → map row_of_scrub result.now.scrubs ≡ plain_rows (time_of self.now) entries }
-        ensures acls { (entries : List Entry) → StandsFor self.now entries → map row_of_acl result.now.acls ≡ acl_rows (time_of self.now) entries }
+        ensures scrubs { (entries : List Entry) → Represents self.now entries → map row_of_scrub result.now.scrubs ≡ plain_rows (time_of self.now) entries }
+        ensures acls { (entries : List Entry) → Represents self.now entries → map row_of_acl result.now.acls ≡ acl_rows (time_of self.now) entries }
     {
         self.filters.table()
     }
@@ -144,8 +144,8 @@ impl Registry {
     /// entry is remembered with the slot.
     pub fn apply(&mut self, staged: Staged, slot: u32)
         requires { FitsIn self.old staged }
-        ensures stands { (entries : List Entry) → StandsFor self.old entries → StandsFor self.new (entries ++ staged ∷ []) }
-        ensures filed { (filed : List Filed) → StandsIn self.old filed → StandsIn self.new (filed ++ record { entry = staged; slot = slot } ∷ []) }
+        ensures represents { (entries : List Entry) → Represents self.old entries → Represents self.new (entries ++ staged ∷ []) }
+        ensures filed { (filed : List Filed) → RepresentsFiled self.old filed → RepresentsFiled self.new (filed ++ record { entry = staged; slot = slot } ∷ []) }
         ensures time { time_of self.new ≡ staged.time }
         ensures slot { self.new.rings ≡ rings_with slot staged self.old.rings }
         ensures settings { (settings : SettingsValue) → IsOf settings self.old → IsOf settings self.new }
@@ -167,8 +167,8 @@ impl Registry {
         requires at { entry.time ≡ time_of self.old }
         requires puts { puts entry ≡ true }
         requires staged { scrubs.items ≡ rows_put entry }
-        ensures stands { (entries : List Entry) → StandsFor self.old entries → StandsFor self.new (entries ++ entry ∷ []) }
-        ensures filed { (filed : List Filed) → StandsIn self.old filed → StandsIn self.new (filed ++ record { entry = entry; slot = slot } ∷ []) }
+        ensures represents { (entries : List Entry) → Represents self.old entries → Represents self.new (entries ++ entry ∷ []) }
+        ensures filed { (filed : List Filed) → RepresentsFiled self.old filed → RepresentsFiled self.new (filed ++ record { entry = entry; slot = slot } ∷ []) }
         ensures time { time_of self.new ≡ time_of self.old }
         ensures slot { self.new.rings ≡ rings_with slot entry self.old.rings }
         ensures settings { (settings : SettingsValue) → IsOf settings self.old → IsOf settings self.new }
@@ -186,8 +186,8 @@ impl Registry {
         requires at { entry.time ≡ time_of self.old }
         requires puts { puts entry ≡ false }
         requires staged { list ≡ list_put entry }
-        ensures stands { (entries : List Entry) → StandsFor self.old entries → StandsFor self.new (entries ++ entry ∷ []) }
-        ensures filed { (filed : List Filed) → StandsIn self.old filed → StandsIn self.new (filed ++ record { entry = entry; slot = slot } ∷ []) }
+        ensures represents { (entries : List Entry) → Represents self.old entries → Represents self.new (entries ++ entry ∷ []) }
+        ensures filed { (filed : List Filed) → RepresentsFiled self.old filed → RepresentsFiled self.new (filed ++ record { entry = entry; slot = slot } ∷ []) }
         ensures time { time_of self.new ≡ time_of self.old }
         ensures slot { self.new.rings ≡ rings_with slot entry self.old.rings }
         ensures settings { (settings : SettingsValue) → IsOf settings self.old → IsOf settings self.new }
@@ -210,7 +210,7 @@ fn give_up<T: Drop>(tables: T, fault: NoMemory) -> NoMemory {
 
 /// Whether the entry's client has a live mitigation, where its domain is one of these.
 fn has_live(live: &LiveMitigations, entry: &Entry) -> bool
-    ensures { entry.now.domain < live.now.domains → result ≡ some_of everyone entry.now.cuid (kept_of live.now entry.now.domain) }
+    ensures { entry.now.domain < live.now.domains → result ≡ some_of everyone entry.now.cuid (rows_for live.now entry.now.domain) }
 {
     if entry.domain < live.domains() {
         return is_mitigating(live.rows(entry.domain), entry.cuid.bytes());

@@ -9,11 +9,11 @@ ghost use Rattle.dots_history.specs.Slots.{Rises};
 ghost use Rattle.dots_laws.specs.Filed.{Filed, entry_of, slot_of, refiled};
 ghost use Rattle.dots_laws.specs.KeptPlaces.{at_places, union};
 ghost use Rattle.live_mitigations.specs.Rows.{LiveTable};
-ghost use Rattle.live_mitigations.specs.Standing.{is_inside, SlotsAre};
+ghost use Rattle.live_mitigations.specs.LiveValues.{is_inside, SlotsAre};
 ghost use Rattle.held_resources.specs.Rows.{rows_of};
 ghost use Rattle.coap_exchange.specs.Rings.{RingValue};
 ghost use Rattle.dots_registry.specs.Kept.{RingsAre, last_slot, kept_slots, KeptValue, AreOf, filed_kept, named_slots, filed};
-ghost use Rattle.dots_registry.specs.Standing.{has_ring};
+ghost use Rattle.dots_registry.specs.RegistryValues.{has_ring};
 
 /// The slots that are kept at a time are those in which the entries stand that the view of the history names.
 pub fn kept_slots_are_named()

@@ -2,9 +2,9 @@
 
 ghost use Rattle.std.specs.Prelude.{◌≡◌, ◌≤◌, ℕ, ◌&&◌, bytes_eq, ◌<◌, List, length, slice_get};
 ghost use Rattle.dots_history.specs.declared.entry.Entry.{Entry};
-ghost use Rattle.live_mitigations.specs.Reading.{shown, shown_of, shown_in, status_number};
-ghost use Rattle.dots_registry.specs.Standing.{StandsFor, time_of, domains_of};
-ghost use Rattle.dots_registry.specs.Viewing.{seen, seen_of, seen_among, is_wanted, views_of};
+ghost use Rattle.live_mitigations.specs.LiveViews.{live_view, live_views_of, live_views_in, status_number};
+ghost use Rattle.dots_registry.specs.RegistryValues.{Represents, time_of, domains_of};
+ghost use Rattle.dots_registry.specs.ObserverViews.{seen, seen_of, seen_among, is_wanted, views_of};
 
 use crate::registry::Registry;
 use coap_observe::Views;
@@ -25,8 +25,8 @@ impl Registry {
         place: usize,
     ) -> Option<(u32, u8)>
         ensures value { result ≡ slice_get (views_of self.now domain cuid.now mid) place }
-        ensures history { (entries : List Entry) → StandsFor self.now entries → domain < domains_of self.now
-            → result ≡ slice_get (seen_of mid (shown_in domain cuid.now (time_of self.now) entries)) place }
+        ensures history { (entries : List Entry) → Represents self.now entries → domain < domains_of self.now
+            → result ≡ slice_get (seen_of mid (live_views_in domain cuid.now (time_of self.now) entries)) place }
         ensures few { length (views_of self.now domain cuid.now mid) ≤ 64 }
     {
         if domain < self.live.domains() {
@@ -46,7 +46,7 @@ impl Views for Registry {
 
 /// What there is to see at this place of the client's mitigations, or of the one of this mid, up to the most.
 fn view_of(rows: &[Row], cuid: &[u8], mid: Option<u32>, place: usize) -> Option<(u32, u8)>
-    ensures { (t : ℕ) → result ≡ slice_get (seen_of mid (shown_of t cuid.now rows.now)) place }
+    ensures { (t : ℕ) → result ≡ slice_get (seen_of mid (live_views_of t cuid.now rows.now)) place }
 {
     if place < MAX_SEEN {
         return seen_at(rows, cuid, mid, place);
@@ -72,20 +72,20 @@ fn seen_at(rows: &[Row], cuid: &[u8], mid: Option<u32>, place: usize) -> Option<
 
 /// Its mid and its status.
 fn seen(row: &Row) -> (u32, u8)
-    ensures { (t : ℕ) → result ≡ seen (shown t row.now) }
+    ensures { (t : ℕ) → result ≡ seen (live_view t row.now) }
 {
     (row.put().mid, status_number(row.status()))
 }
 
 /// Whether the mitigation is of the client, and of the mid where one is asked for.
 fn is_seen(row: &Row, cuid: &[u8], mid: Option<u32>) -> bool
-    ensures { (t : ℕ) → result ≡ (bytes_eq row.now.put.cuid cuid.now && is_wanted mid (shown t row.now)) }
+    ensures { (t : ℕ) → result ≡ (bytes_eq row.now.put.cuid cuid.now && is_wanted mid (live_view t row.now)) }
 {
     row.cuid().bytes() == cuid && is_wanted(row, mid)
 }
 
 fn is_wanted(row: &Row, mid: Option<u32>) -> bool
-    ensures { (t : ℕ) → result ≡ is_wanted mid (shown t row.now) }
+    ensures { (t : ℕ) → result ≡ is_wanted mid (live_view t row.now) }
 {
     match mid {
         Some(mid) => row.put().mid == mid,

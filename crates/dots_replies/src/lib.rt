@@ -9,7 +9,7 @@ mod receiving;
 mod replies;
 
 pub use entries::{copies, entry_of};
-pub use long_replies::{conflicting, telling};
+pub use long_replies::{conflicting, mitigations_reply};
 pub use receiving::receive;
 pub use replies::{
     absent, at_capacity, bad_parameter, bad_request, bad_target, deleted, granting,

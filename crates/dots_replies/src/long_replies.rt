@@ -28,7 +28,11 @@ pub fn conflicting(
 }
 
 /// 2.05, with these mitigations (RFC 9132, section 4.4.2).
-pub fn telling(alloc: Global, exchange: &Exchange, views: ViewList<'_>) -> Result<Bytes, NoMemory>
+pub fn mitigations_reply(
+    alloc: Global,
+    exchange: &Exchange,
+    views: ViewList<'_>,
+) -> Result<Bytes, NoMemory>
     ensures { IfOk result (λ reply. reply ≡ with_body CONTENT exchange.now (canon (views_tree views.entry))) }
 {
     let body = body_of(alloc, &Reply::Mitigations(views))?;

@@ -2,8 +2,8 @@
 
 ghost use Rattle.std.specs.Prelude.{◌++◌, flat_map, map, codes, decimal};
 ghost use Rattle.filter_rows.specs.Fates.{fate_by_rows};
-ghost use Rattle.filter_rows.specs.Told.{fate_of};
-ghost use Rattle.filter_table.specs.Held.{row_of_scrub, row_of_acl, active_rows};
+ghost use Rattle.filter_rows.specs.HandedOut.{fate_of};
+ghost use Rattle.filter_table.specs.TableRows.{row_of_scrub, row_of_acl, active_rows};
 ghost use Rattle.dots_settings.specs.Lookups.{prefixes_of};
 ghost use Rattle.dots_machine.specs.Report.{any_or, texts_of, ports_text, scrub_line, fate_text, packet_line, packet_lines};
 ghost use Rattle.dots_report.specs.Gathering.{sunk, Puts};

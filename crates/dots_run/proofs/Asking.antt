@@ -3,11 +3,11 @@ use Rattle.std.proofs.Common.{◌≡◌, ◌≢◌, ℕ, ◌⊎◌, inl, inr, Bo
 use Rattle.std.proofs.lemmas.Bool.Decides.{nat_tests}
 use Rattle.std.specs.Prelude.{bytes_eq, is_some}
 use Rattle.dots_machine.specs.Commands.{is_word, is_replay, is_serve, is_served, is_show, is_command}
-use Rattle.dots_run.specs.declared.told.Told.{Told}
-use Rattle.dots_run.specs.declared.told.Told.TheVariants as told
+use Rattle.dots_run.specs.declared.topic_outcome.TopicOutcome.{TopicOutcome}
+use Rattle.dots_run.specs.declared.topic_outcome.TopicOutcome.TheVariants as outcomes
 use Rattle.dots_run.specs.declared.topic.Topic.{Topic}
 use Rattle.dots_run.specs.declared.topic.Topic.TheVariants as topic
-use Rattle.dots_run.specs.Telling.{told_status, has_source}
+use Rattle.dots_run.specs.Reporting.{outcome_status, has_source}
 use Rattle.dots_run.proofs.Commands.{served_by}
 use Rattle.dots_run.specs.Topics.{is_check, is_alone, is_check_script, is_help, is_version, topic_of, is_known}
 
@@ -125,39 +125,39 @@ pub no_topic : (words : List (List ℕ)) (asked : Topic) (P : Type 0) → topic_
 no_topic words asked P none some = absurd (cc (sym none ∙ some))
 
 -- how telling ended, by the status
-pub never_two : (end : Told) → told_status end ≡ 2 → ⊥
-never_two told.Written is = absurd (omega (arith, is))
-never_two told.Failed is = absurd (omega (arith, is))
-never_two told.AtFault is = absurd (omega (arith, is))
-never_two told.Unread is = absurd (omega (arith, is))
-never_two told.NoMemory is = absurd (omega (arith, is))
+pub never_two : (end : TopicOutcome) → outcome_status end ≡ 2 → ⊥
+never_two outcomes.Written is = absurd (omega (arith, is))
+never_two outcomes.Failed is = absurd (omega (arith, is))
+never_two outcomes.AtFault is = absurd (omega (arith, is))
+never_two outcomes.Unread is = absurd (omega (arith, is))
+never_two outcomes.NoMemory is = absurd (omega (arith, is))
 
-pub status_unread : (end : Told) → told_status end ≡ 5 → end ≡ told.Unread
-status_unread told.Written is = absurd (omega (arith, is))
-status_unread told.Failed is = absurd (omega (arith, is))
-status_unread told.AtFault is = absurd (omega (arith, is))
-status_unread told.Unread is = refl
-status_unread told.NoMemory is = absurd (omega (arith, is))
+pub status_unread : (end : TopicOutcome) → outcome_status end ≡ 5 → end ≡ outcomes.Unread
+status_unread outcomes.Written is = absurd (omega (arith, is))
+status_unread outcomes.Failed is = absurd (omega (arith, is))
+status_unread outcomes.AtFault is = absurd (omega (arith, is))
+status_unread outcomes.Unread is = refl
+status_unread outcomes.NoMemory is = absurd (omega (arith, is))
 
-pub status_unwritten : (end : Told) → told_status end ≡ 9 → end ≡ told.Failed
-status_unwritten told.Written is = absurd (omega (arith, is))
-status_unwritten told.Failed is = refl
-status_unwritten told.AtFault is = absurd (omega (arith, is))
-status_unwritten told.Unread is = absurd (omega (arith, is))
-status_unwritten told.NoMemory is = absurd (omega (arith, is))
+pub status_unwritten : (end : TopicOutcome) → outcome_status end ≡ 9 → end ≡ outcomes.Failed
+status_unwritten outcomes.Written is = absurd (omega (arith, is))
+status_unwritten outcomes.Failed is = refl
+status_unwritten outcomes.AtFault is = absurd (omega (arith, is))
+status_unwritten outcomes.Unread is = absurd (omega (arith, is))
+status_unwritten outcomes.NoMemory is = absurd (omega (arith, is))
 
-pub status_sound : (end : Told) → (end ≡ told.Written) ⊎ (end ≡ told.NoMemory) → (told_status end ≡ 0) ⊎ (told_status end ≡ 4)
-status_sound end (inl is) = inl (subst (λ end. told_status end ≡ 0) (sym is) refl)
-status_sound end (inr is) = inr (subst (λ end. told_status end ≡ 4) (sym is) refl)
+pub status_sound : (end : TopicOutcome) → (end ≡ outcomes.Written) ⊎ (end ≡ outcomes.NoMemory) → (outcome_status end ≡ 0) ⊎ (outcome_status end ≡ 4)
+status_sound end (inl is) = inl (subst (λ end. outcome_status end ≡ 0) (sym is) refl)
+status_sound end (inr is) = inr (subst (λ end. outcome_status end ≡ 4) (sym is) refl)
 
-pub status_at_fault : (end : Told) → (end ≡ told.AtFault) ⊎ (end ≡ told.NoMemory) → (told_status end ≡ 3) ⊎ (told_status end ≡ 4)
-status_at_fault end (inl is) = inl (subst (λ end. told_status end ≡ 3) (sym is) refl)
-status_at_fault end (inr is) = inr (subst (λ end. told_status end ≡ 4) (sym is) refl)
+pub status_at_fault : (end : TopicOutcome) → (end ≡ outcomes.AtFault) ⊎ (end ≡ outcomes.NoMemory) → (outcome_status end ≡ 3) ⊎ (outcome_status end ≡ 4)
+status_at_fault end (inl is) = inl (subst (λ end. outcome_status end ≡ 3) (sym is) refl)
+status_at_fault end (inr is) = inr (subst (λ end. outcome_status end ≡ 4) (sym is) refl)
 
 -- no read of the file failed, where the status says neither that nor want of memory
-pub status_heard : (end : Told) (P : Type 0) → (end ≡ told.NoMemory) ⊎ ((end ≡ told.Unread) ⊎ P) → told_status end ≢ 4 → told_status end ≢ 5 → P
-status_heard end P (inl is) four five = absurd (four (subst (λ end. told_status end ≡ 4) (sym is) refl))
-status_heard end P (inr (inl is)) four five = absurd (five (subst (λ end. told_status end ≡ 5) (sym is) refl))
+pub status_heard : (end : TopicOutcome) (P : Type 0) → (end ≡ outcomes.NoMemory) ⊎ ((end ≡ outcomes.Unread) ⊎ P) → outcome_status end ≢ 4 → outcome_status end ≢ 5 → P
+status_heard end P (inl is) four five = absurd (four (subst (λ end. outcome_status end ≡ 4) (sym is) refl))
+status_heard end P (inr (inl is)) four five = absurd (five (subst (λ end. outcome_status end ≡ 5) (sym is) refl))
 status_heard end P (inr (inr same)) four five = same
 
 pub one_topic : (words : List (List ℕ)) (asked other : Topic) → topic_of words ≡ Some asked → topic_of words ≡ Some other → asked ≡ other

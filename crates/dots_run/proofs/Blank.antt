@@ -9,7 +9,7 @@ use Rattle.dots_settings.specs.Settings.{SettingsValue, AreLimits, IsSettings}
 use Rattle.dots_settings.proofs.Sound.{given_settings}
 use Rattle.slot_store.specs.Layout.{needed_of}
 use Rattle.slot_journal.specs.Sizes.{is_client_role, kept_of_domain, actors_of, slots_of}
-use Rattle.slot_journal.specs.Held.{Holds}
+use Rattle.slot_journal.specs.DiskEntries.{Holds}
 use Rattle.dots_machine.specs.Endings.{GivesSettings, IsReady}
 
 -- it holds no entry

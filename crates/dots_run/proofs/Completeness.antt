@@ -5,8 +5,8 @@ use Rattle.std.proofs.lemmas.Bool.Decides.{nat_tests}
 use Rattle.std.specs.Prelude.{IfSome, bytes_eq}
 use Rattle.coap_message.specs.Message.{spelling}
 use Rattle.coap_message.proofs.Faults.{breaks_no_message}
-use Rattle.message_text.specs.declared.showing.Shown.TheVariants as shown
-use Rattle.message_text.specs.Showing.{IsShown, ShowsFault, ShowsNoHex}
+use Rattle.message_text.specs.declared.printing.Printed.TheVariants as printed
+use Rattle.message_text.specs.Printing.{IsPrinted, PrintsFault, PrintsNoHex}
 use Rattle.dots_host.specs.Causes.{Rose}
 use Rattle.dots_settings.specs.declared.fault.SettingsFault.{SettingsFault}
 use Rattle.dots_settings.specs.File.{SettingsAre, SettingsFail}
@@ -17,12 +17,12 @@ use Rattle.slot_store.specs.Layout.{needed_of}
 use Rattle.slot_journal.specs.declared.fault.JournalFault.{JournalFault}
 use Rattle.slot_journal.specs.declared.fault.JournalFault.TheVariants as faults
 use Rattle.slot_journal.specs.Sizes.{slots_of}
-use Rattle.slot_journal.specs.Held.{Holds}
+use Rattle.slot_journal.specs.DiskEntries.{Holds}
 use Rattle.dots_ledger.specs.Beginning.{IsFailure}
 use Rattle.dots_ledger.proofs.Recovering.{fails_alone}
 use Rattle.dots_machine.specs.declared.ending.Ending.{Ending}
 use Rattle.dots_machine.specs.declared.ending.Ending.TheVariants as ending
-use Rattle.dots_machine.specs.declared.ending.Showing.TheVariants as showing
+use Rattle.dots_machine.specs.declared.ending.Printing.TheVariants as printings
 use Rattle.dots_machine.specs.declared.ending.Stop.TheVariants as stop
 use Rattle.dots_machine.specs.Commands.{is_word, is_replay, is_serve, is_served, is_show, is_command, second_of}
 use Rattle.dots_run.proofs.Commands.{served_by}
@@ -118,7 +118,7 @@ module _ (words : List (List ℕ)) (before now : Outside) where
 
   pub ends_refused : (how : Ending) → is_served words ≡ true → GivesFault before.left → Heard how → Behaves how words before now → EndsRefused how
   ends_refused ending.WrongWords served given heard behaves = absurd (served_is_command words served behaves.0)
-  ends_refused (ending.Shown how) served given heard behaves = absurd (one_command words served behaves.0)
+  ends_refused (ending.Printed how) served given heard behaves = absurd (one_command words served behaves.0)
   ends_refused (ending.Refused fault) served given heard behaves = inl (refl, refused_heard fault heard)
   ends_refused ending.NoMemory served given heard behaves = inr (inl refl)
   ends_refused ending.SettingsFailed served given heard behaves = inr (inr (refl, behaves.3))
@@ -150,7 +150,7 @@ module _ (words : List (List ℕ)) (before now : Outside) where
 
     pub ends_well : (how : Ending) → is_served words ≡ true → Behaves how words before now → EndsWell (status_of how)
     ends_well ending.WrongWords served behaves = absurd (served_is_command words served behaves.0)
-    ends_well (ending.Shown how) served behaves = absurd (one_command words served behaves.0)
+    ends_well (ending.Printed how) served behaves = absurd (one_command words served behaves.0)
     ends_well (ending.Refused fault) served behaves = absurd (never_refused fault ready.gives behaves.3)
     ends_well ending.NoMemory served behaves = inr (inl refl)
     ends_well ending.SettingsFailed served behaves = absurd (read behaves.3)
@@ -159,23 +159,23 @@ module _ (words : List (List ℕ)) (before now : Outside) where
     ends_well (ending.Served stop.NextFailed) served behaves = absurd (came behaves.3.any.2.1)
     ends_well (ending.Served stop.TooMany) served behaves = inr (inr refl)
     ends_well (ending.Served stop.DiskFailed) served behaves = absurd (kept behaves.3.any.2.1)
-    ends_well (ending.Served (stop.Unrecovered fault)) served behaves = wants_memory fault (behaves.3.lives ready.seen ready.sees).found behaves.3.any.2.1
+    ends_well (ending.Served (stop.Unrecovered fault)) served behaves = wants_memory fault (behaves.3.runs_from ready.seen ready.sees).found behaves.3.any.2.1
     ends_well ending.ReportFailed served behaves = absurd (written behaves.3.1)
 
-  no_fault_shown : (word text : List ℕ) → IsReadable word → ShowsFault word text ⊎ ShowsNoHex word text → ⊥
+  no_fault_shown : (word text : List ℕ) → IsReadable word → PrintsFault word text ⊎ PrintsNoHex word text → ⊥
   no_fault_shown word text readable (inl fault) =
       let same = one_text _ _ _ readable.writes.bytes_are fault.writes.bytes_are in
       breaks_no_message _ fault.fault readable.message fault.breaks readable.is (sym same)
   no_fault_shown word text readable (inr no_hex) = no_hex.none (spelling readable.message) readable.writes
 
-  readable_of : (word text : List ℕ) → IsShown word (shown.Message text) → IsReadable word
+  readable_of : (word text : List ℕ) → IsPrinted word (printed.Message text) → IsReadable word
   readable_of word text shows = record { message = shows.message; is = shows.is; writes = shows.writes }
 
   pub ends_shown : (how : Ending) → is_show words ≡ true → IsReadable (second_of words) → (ReportFailed before now → ⊥) → Behaves how words before now → (status_of how ≡ 0) ⊎ (status_of how ≡ 4)
   ends_shown ending.WrongWords show readable written behaves = absurd (show_is_command words show behaves.0)
-  ends_shown (ending.Shown showing.Written) show readable written behaves = inl refl
-  ends_shown (ending.Shown showing.Failed) show readable written behaves = absurd (written behaves.2.3)
-  ends_shown (ending.Shown showing.Unreadable) show readable written behaves = absurd (no_fault_shown (second_of words) behaves.2.0 readable behaves.2.1)
+  ends_shown (ending.Printed printings.Written) show readable written behaves = inl refl
+  ends_shown (ending.Printed printings.Failed) show readable written behaves = absurd (written behaves.2.3)
+  ends_shown (ending.Printed printings.Unreadable) show readable written behaves = absurd (no_fault_shown (second_of words) behaves.2.0 readable behaves.2.1)
   ends_shown (ending.Refused fault) show readable written behaves = absurd (one_command words behaves.0 show)
   ends_shown ending.NoMemory show readable written behaves = inr refl
   ends_shown ending.SettingsFailed show readable written behaves = absurd (one_command words behaves.0 show)
@@ -185,9 +185,9 @@ module _ (words : List (List ℕ)) (before now : Outside) where
 
   pub ends_unreadable : (how : Ending) → is_show words ≡ true → (IsReadable (second_of words) → ⊥) → Behaves how words before now → (status_of how ≡ 1) ⊎ (status_of how ≡ 4)
   ends_unreadable ending.WrongWords show none behaves = absurd (show_is_command words show behaves.0)
-  ends_unreadable (ending.Shown showing.Written) show none behaves = absurd (none (readable_of (second_of words) behaves.2.0 behaves.2.1))
-  ends_unreadable (ending.Shown showing.Failed) show none behaves = absurd (none (readable_of (second_of words) behaves.2.0 behaves.2.1))
-  ends_unreadable (ending.Shown showing.Unreadable) show none behaves = inl refl
+  ends_unreadable (ending.Printed printings.Written) show none behaves = absurd (none (readable_of (second_of words) behaves.2.0 behaves.2.1))
+  ends_unreadable (ending.Printed printings.Failed) show none behaves = absurd (none (readable_of (second_of words) behaves.2.0 behaves.2.1))
+  ends_unreadable (ending.Printed printings.Unreadable) show none behaves = inl refl
   ends_unreadable (ending.Refused fault) show none behaves = absurd (one_command words behaves.0 show)
   ends_unreadable ending.NoMemory show none behaves = inr refl
   ends_unreadable ending.SettingsFailed show none behaves = absurd (one_command words behaves.0 show)
@@ -198,9 +198,9 @@ module _ (words : List (List ℕ)) (before now : Outside) where
   -- a status of 2 is that of wrong words alone
   pub wrong_words : (how : Ending) → status_of how ≡ 2 → Behaves how words before now → is_command words ≡ false
   wrong_words ending.WrongWords is behaves = behaves.0
-  wrong_words (ending.Shown showing.Written) is behaves = absurd (omega (arith, is))
-  wrong_words (ending.Shown showing.Failed) is behaves = absurd (omega (arith, is))
-  wrong_words (ending.Shown showing.Unreadable) is behaves = absurd (omega (arith, is))
+  wrong_words (ending.Printed printings.Written) is behaves = absurd (omega (arith, is))
+  wrong_words (ending.Printed printings.Failed) is behaves = absurd (omega (arith, is))
+  wrong_words (ending.Printed printings.Unreadable) is behaves = absurd (omega (arith, is))
   wrong_words (ending.Refused fault) is behaves = absurd (omega (arith, is))
   wrong_words ending.NoMemory is behaves = absurd (omega (arith, is))
   wrong_words ending.SettingsFailed is behaves = absurd (omega (arith, is))
@@ -214,7 +214,7 @@ module _ (words : List (List ℕ)) (before now : Outside) where
 
   pub no_command : (how : Ending) → is_command words ≡ false → Behaves how words before now → status_of how ≡ 2
   no_command ending.WrongWords none behaves = refl
-  no_command (ending.Shown how) none behaves = absurd (show_is_command words behaves.0 none)
+  no_command (ending.Printed how) none behaves = absurd (show_is_command words behaves.0 none)
   no_command (ending.Refused fault) none behaves = absurd (served_is_command words behaves.0 none)
   no_command ending.NoMemory none behaves = absurd (true≢false (sym behaves.0 ∙ none))
   no_command ending.SettingsFailed none behaves = absurd (served_is_command words behaves.0 none)
@@ -225,9 +225,9 @@ module _ (words : List (List ℕ)) (before now : Outside) where
   -- what must have failed where the status is 5, and where it is 9
   pub has_read : (how : Ending) → status_of how ≡ 5 → Behaves how words before now → SourceFailed before now ⊎ WireFailed before now
   has_read ending.WrongWords is behaves = absurd (omega (arith, is))
-  has_read (ending.Shown showing.Written) is behaves = absurd (omega (arith, is))
-  has_read (ending.Shown showing.Failed) is behaves = absurd (omega (arith, is))
-  has_read (ending.Shown showing.Unreadable) is behaves = absurd (omega (arith, is))
+  has_read (ending.Printed printings.Written) is behaves = absurd (omega (arith, is))
+  has_read (ending.Printed printings.Failed) is behaves = absurd (omega (arith, is))
+  has_read (ending.Printed printings.Unreadable) is behaves = absurd (omega (arith, is))
   has_read (ending.Refused fault) is behaves = absurd (omega (arith, is))
   has_read ending.NoMemory is behaves = absurd (omega (arith, is))
   has_read ending.SettingsFailed is behaves = inl behaves.3
@@ -241,9 +241,9 @@ module _ (words : List (List ℕ)) (before now : Outside) where
 
   pub has_written : (how : Ending) → status_of how ≡ 9 → Behaves how words before now → ReportFailed before now
   has_written ending.WrongWords is behaves = absurd (omega (arith, is))
-  has_written (ending.Shown showing.Written) is behaves = absurd (omega (arith, is))
-  has_written (ending.Shown showing.Failed) is behaves = behaves.2.3
-  has_written (ending.Shown showing.Unreadable) is behaves = absurd (omega (arith, is))
+  has_written (ending.Printed printings.Written) is behaves = absurd (omega (arith, is))
+  has_written (ending.Printed printings.Failed) is behaves = behaves.2.3
+  has_written (ending.Printed printings.Unreadable) is behaves = absurd (omega (arith, is))
   has_written (ending.Refused fault) is behaves = absurd (omega (arith, is))
   has_written ending.NoMemory is behaves = absurd (omega (arith, is))
   has_written ending.SettingsFailed is behaves = absurd (omega (arith, is))
@@ -265,9 +265,9 @@ module _ (words : List (List ℕ)) (before now : Outside) where
 
   pub has_failed : (how : Ending) → status_of how ≡ 6 → Behaves how words before now → DiskFailed before now
   has_failed ending.WrongWords is behaves = absurd (omega (arith, is))
-  has_failed (ending.Shown showing.Written) is behaves = absurd (omega (arith, is))
-  has_failed (ending.Shown showing.Failed) is behaves = absurd (omega (arith, is))
-  has_failed (ending.Shown showing.Unreadable) is behaves = absurd (omega (arith, is))
+  has_failed (ending.Printed printings.Written) is behaves = absurd (omega (arith, is))
+  has_failed (ending.Printed printings.Failed) is behaves = absurd (omega (arith, is))
+  has_failed (ending.Printed printings.Unreadable) is behaves = absurd (omega (arith, is))
   has_failed (ending.Refused fault) is behaves = absurd (omega (arith, is))
   has_failed ending.NoMemory is behaves = absurd (omega (arith, is))
   has_failed ending.SettingsFailed is behaves = absurd (omega (arith, is))
@@ -282,7 +282,7 @@ module _ (words : List (List ℕ)) (before now : Outside) where
 -- a status of these is one of an ending before the host is called
 pub not_served : (how : Ending) → 1 ≤ status_of how → status_of how ≤ 3 → has_hosted how ≡ false
 not_served ending.WrongWords low high = refl
-not_served (ending.Shown how) low high = refl
+not_served (ending.Printed how) low high = refl
 not_served (ending.Refused fault) low high = refl
 not_served ending.NoMemory low high = refl
 not_served ending.SettingsFailed low high = refl

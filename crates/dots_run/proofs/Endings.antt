@@ -8,10 +8,10 @@ use Rattle.file_checks.specs.declared.checked.Unchecked.TheVariants as unchecked
 use Rattle.file_checks.specs.Checks.{ChecksSettings, ChecksScript}
 use Rattle.dots_run.specs.declared.topic.Topic.{Topic}
 use Rattle.dots_run.specs.declared.topic.Topic.TheVariants as topic
-use Rattle.dots_run.specs.declared.told.Told.{Told}
-use Rattle.dots_run.specs.declared.told.Told.TheVariants as told
+use Rattle.dots_run.specs.declared.topic_outcome.TopicOutcome.{TopicOutcome}
+use Rattle.dots_run.specs.declared.topic_outcome.TopicOutcome.TheVariants as outcomes
 use Rattle.dots_run.specs.Usage.{usage_text, version_text}
-use Rattle.dots_run.specs.Telling.{Checks, Finds, Reports, Tells, Comes, IsOf, IsSound, IsAtFault}
+use Rattle.dots_run.specs.Reporting.{Checks, Finds, Reports, ReportsTopic, Comes, IsOf, IsSound, IsAtFault}
 use Rattle.dots_run.proofs.Once.{one_text}
 
 -- what a call that checks says of its answer
@@ -22,7 +22,7 @@ checks check left failed (Err unchecked.ReadFailed) is cause = cause refl
 checks check left failed (Err unchecked.NoMemory) is cause = tt
 
 -- memory ran out, the file couldn't be read, or no read of it failed
-pub heard : (found : Result Checked Unchecked) (end : Told) (old new : Option (List ℕ)) (failed P : Type 0) → OnOk found P → Reports found end old new failed → (end ≡ told.NoMemory) ⊎ ((end ≡ told.Unread) ⊎ P)
+pub heard : (found : Result Checked Unchecked) (end : TopicOutcome) (old new : Option (List ℕ)) (failed P : Type 0) → OnOk found P → Reports found end old new failed → (end ≡ outcomes.NoMemory) ⊎ ((end ≡ outcomes.Unread) ⊎ P)
 heard (Ok found) end old new failed P same reports = inr (inr same)
 heard (Err unchecked.ReadFailed) end old new failed P same reports = inr (inl reports.0)
 heard (Err unchecked.NoMemory) end old new failed P same reports = inl reports.0
@@ -30,7 +30,7 @@ heard (Err unchecked.NoMemory) end old new failed P same reports = inl reports.0
 ok_once : (x y : Checked) (found : Result Checked Unchecked) → found ≡ Ok x → found ≡ Ok y → x ≡ y
 ok_once x y found a b = cc (sym a ∙ b)
 
-module _ (end : Told) (left old new : Option (List ℕ)) (unread unwritten : Type 0) where
+module _ (end : TopicOutcome) (left old new : Option (List ℕ)) (unread unwritten : Type 0) where
   come : (check : List ℕ → Checked → Type 0) (one other : Checked) → Comes check left one → IfSome left (λ bytes. check bytes other) → Comes check left other
   come check one other comes is = record { bytes = comes.bytes; told = comes.told; is = subst (λ left. IfSome left (λ bytes. check bytes other)) comes.told is }
 
@@ -48,8 +48,8 @@ module _ (end : Told) (left old new : Option (List ℕ)) (unread unwritten : Typ
   must_read topic.Usage finds read = absurd (cc finds)
   must_read topic.Version finds read = absurd (cc finds)
 
-  pub has_read : (asked : Topic) → Tells asked end left old new unread unwritten → end ≡ told.Unread → unread
-  has_read asked tells is = by tells.found tells.finds tells.reports
+  pub has_read : (asked : Topic) → ReportsTopic asked end left old new unread unwritten → end ≡ outcomes.Unread → unread
+  has_read asked reported is = by reported.found reported.finds reported.reports
     where
       of_topic : (topic : Topic) → Finds topic left unread (Err unchecked.ReadFailed) → unread
       of_topic topic.Settings finds = finds
@@ -64,8 +64,8 @@ module _ (end : Told) (left old new : Option (List ℕ)) (unread unwritten : Typ
       by (Err unchecked.ReadFailed) finds ended = of_topic asked finds
       by (Err unchecked.NoMemory) finds ended = absurd (cc (sym is ∙ ended.0))
 
-  pub has_written : (topic : Topic) → Tells topic end left old new unread unwritten → end ≡ told.Failed → unwritten
-  has_written topic tells is = by tells.found tells.reports
+  pub has_written : (topic : Topic) → ReportsTopic topic end left old new unread unwritten → end ≡ outcomes.Failed → unwritten
+  has_written topic reported is = by reported.found reported.reports
     where
       by : (found : Result Checked Unchecked) → Reports found end old new unwritten → unwritten
       by (Ok (checked.Good text)) (inl ended) = absurd (cc (sym is ∙ ended.0))
@@ -74,27 +74,27 @@ module _ (end : Told) (left old new : Option (List ℕ)) (unread unwritten : Typ
       by (Err unchecked.ReadFailed) ended = absurd (cc (sym is ∙ ended.0))
       by (Err unchecked.NoMemory) ended = absurd (cc (sym is ∙ ended.0))
 
-  good_end : (text : List ℕ) (found : Checked) → checked.Good text ≡ found → (unwritten → ⊥) → Reports (Ok found) end old new unwritten → (end ≡ told.Written) ⊎ (end ≡ told.NoMemory)
+  good_end : (text : List ℕ) (found : Checked) → checked.Good text ≡ found → (unwritten → ⊥) → Reports (Ok found) end old new unwritten → (end ≡ outcomes.Written) ⊎ (end ≡ outcomes.NoMemory)
   good_end text (checked.Good other) is written (inl ended) = inl ended.0
   good_end text (checked.Good other) is written (inr ended) = absurd (written ended.2)
   good_end text (checked.AtFault other) is written ended = absurd (cc is)
 
-  fault_end : (text : List ℕ) (found : Checked) → checked.AtFault text ≡ found → Reports (Ok found) end old new unwritten → (end ≡ told.AtFault) ⊎ (end ≡ told.NoMemory)
+  fault_end : (text : List ℕ) (found : Checked) → checked.AtFault text ≡ found → Reports (Ok found) end old new unwritten → (end ≡ outcomes.AtFault) ⊎ (end ≡ outcomes.NoMemory)
   fault_end text (checked.Good other) is ended = absurd (cc is)
   fault_end text (checked.AtFault other) is ended = inl ended.0
 
-  pub ends_well : (topic : Topic) → Tells topic end left old new unread unwritten → IsSound topic left → (unread → ⊥) → (unwritten → ⊥) → (end ≡ told.Written) ⊎ (end ≡ told.NoMemory)
-  ends_well topic tells sound read written = by tells.found tells.finds tells.reports
+  pub ends_well : (topic : Topic) → ReportsTopic topic end left old new unread unwritten → IsSound topic left → (unread → ⊥) → (unwritten → ⊥) → (end ≡ outcomes.Written) ⊎ (end ≡ outcomes.NoMemory)
+  ends_well topic reported sound read written = by reported.found reported.finds reported.reports
     where
-      by : (found : Result Checked Unchecked) → Finds topic left unread found → Reports found end old new unwritten → (end ≡ told.Written) ⊎ (end ≡ told.NoMemory)
+      by : (found : Result Checked Unchecked) → Finds topic left unread found → Reports found end old new unwritten → (end ≡ outcomes.Written) ⊎ (end ≡ outcomes.NoMemory)
       by (Ok found) finds reports = good_end sound.0 found (found_is topic (checked.Good sound.0) found sound.1 finds) written reports
       by (Err unchecked.ReadFailed) finds reports = absurd (must_read topic finds read)
       by (Err unchecked.NoMemory) finds reports = inr reports.0
 
-  pub ends_at_fault : (topic : Topic) → Tells topic end left old new unread unwritten → IsAtFault topic left → (unread → ⊥) → (end ≡ told.AtFault) ⊎ (end ≡ told.NoMemory)
-  ends_at_fault topic tells fault read = by tells.found tells.finds tells.reports
+  pub ends_at_fault : (topic : Topic) → ReportsTopic topic end left old new unread unwritten → IsAtFault topic left → (unread → ⊥) → (end ≡ outcomes.AtFault) ⊎ (end ≡ outcomes.NoMemory)
+  ends_at_fault topic reported fault read = by reported.found reported.finds reported.reports
     where
-      by : (found : Result Checked Unchecked) → Finds topic left unread found → Reports found end old new unwritten → (end ≡ told.AtFault) ⊎ (end ≡ told.NoMemory)
+      by : (found : Result Checked Unchecked) → Finds topic left unread found → Reports found end old new unwritten → (end ≡ outcomes.AtFault) ⊎ (end ≡ outcomes.NoMemory)
       by (Ok found) finds reports = fault_end fault.0 found (found_is topic (checked.AtFault fault.0) found fault.1 finds) reports
       by (Err unchecked.ReadFailed) finds reports = absurd (must_read topic finds read)
       by (Err unchecked.NoMemory) finds reports = inr reports.0

@@ -10,7 +10,7 @@ use Rattle.file_checks.specs.Checks.{ChecksSettings, ChecksScript, fault_report}
 use Rattle.file_checks.specs.Summary.{summary}
 use Rattle.dots_run.specs.declared.topic.Topic.{Topic}
 use Rattle.dots_run.specs.declared.topic.Topic.TheVariants as topic
-use Rattle.dots_run.specs.Telling.{Comes, IsOf}
+use Rattle.dots_run.specs.Reporting.{Comes, IsOf}
 use Rattle.dots_run.proofs.Scripts.{one_check}
 
 one_settings_check : (file : List ℕ) (one other : Checked) → ChecksSettings file one → ChecksSettings file other → one ≡ other

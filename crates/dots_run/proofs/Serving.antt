@@ -20,7 +20,7 @@ use Rattle.dots_laws.specs.Calm.{is_own}
 use Rattle.dots_laws.specs.Fits.{is_calm, last_time}
 use Rattle.dots_laws.proofs.Composing.{kept_refl}
 use Rattle.dots_laws.proofs.Containing.{scrub_rows_inside, acl_rows_inside}
-use Rattle.slot_journal.specs.Held.{Holds}
+use Rattle.slot_journal.specs.DiskEntries.{Holds}
 use Rattle.dots_ledger.specs.Crashes.{HoldsKept}
 use Rattle.dots_machine.specs.declared.ending.Ending.{Ending}
 use Rattle.dots_machine.specs.declared.ending.Ending.TheVariants as ending
@@ -31,10 +31,10 @@ use Rattle.dots_machine.specs.Outside.{Outside}
 use Rattle.dots_machine.specs.Report.{Contained, report_of}
 use Rattle.dots_machine.specs.Surviving.{Story, past_of, NoneBefore, Survives}
 use Rattle.dots_machine.specs.Commands.{is_served}
-use Rattle.dots_machine.specs.Endings.{has_hosted, Ran, Lived, LivesFrom, Reports, ServesTo, Behaves}
+use Rattle.dots_machine.specs.Endings.{has_hosted, Ran, HasRun, RunsFrom, Reports, ServesTo, Behaves}
 use Rattle.dots_machine.proofs.Laws.{keeps_laws}
 use Rattle.dots_machine.proofs.Surviving.{story_trace, survives_opening}
-use Rattle.dots_server.specs.Living.{Came}
+use Rattle.dots_server.specs.Running.{Came}
 use Rattle.dots_run.specs.Refusals.{Wrote}
 use Rattle.dots_server.proofs.Turning.{none_added}
 
@@ -45,44 +45,44 @@ contained_by settings state own = record { scrubs = scrub_rows_inside settings s
 resting_end : (end : Owing State) → end.owed ≡ [] → end ≡ resting end.last
 resting_end end none = ap (λ (owed : List (State × OwnedOut)). record { last = end.last; owed = owed }) none
 
-module _ (settings : SettingsValue) (held : List Entry) (how : Stop) (before mid now : Outside) (end : Owing State) (calm : is_calm settings held ≡ true)
-    (silent : KeepsActs before.acts mid.acts) (opened : (seen : ℕ → ℕ) → RestsWith before.media (Is seen) → Leaves before.media mid.media (λ image. Holds settings image held)) where
+module _ (settings : SettingsValue) (held : List Entry) (how : Stop) (before between now : Outside) (end : Owing State) (calm : is_calm settings held ≡ true)
+    (silent : KeepsActs before.acts between.acts) (opened : (seen : ℕ → ℕ) → RestsWith before.media (Is seen) → Leaves before.media between.media (λ image. Holds settings image held)) where
   abbrev from : State
   from = begun_from held
 
   held_first : (image : ℕ → ℕ) → Holds settings image held → HoldsKept settings settings.limits.remembered from.time from.history image
   held_first image holds = record { entries = held; holds = holds; calm = calm; kept = kept_refl settings.limits.remembered from.time held }
 
-  lived_by : (trace : List State) (acts : List Timed) → (grows : (extra : List Entry) × (end.last.history ≡ held ++ extra)) → Ran settings from trace end how acts → NoneBefore (past_of mid.media) acts
-      → Survives settings from mid.media now.media acts trace end.last.history → Lived settings from how before now trace end acts
+  lived_by : (trace : List State) (acts : List Timed) → (grows : (extra : List Entry) × (end.last.history ≡ held ++ extra)) → Ran settings from trace end how acts → NoneBefore (past_of between.media) acts
+      → Survives settings from between.media now.media acts trace end.last.history → HasRun settings from how before now trace end acts
   lived_by trace acts grows ran late survives = record {
     ran = ran;
     laws = λ none. keeps_laws settings from acts trace end.last (story_trace settings (resting from) (resting end.last) acts trace (subst (λ e. Story settings (resting from) acts trace e) (resting_end end none) ran.run));
     survives = λ seen rests.
-        survives_opening settings from before.media mid.media now.media acts trace end.last.history grows.0 grows.1 late (Is seen) rests
-        (leaves_as before.media mid.media (λ image. Holds settings image held) (HoldsKept settings settings.limits.remembered from.time from.history) held_first (opened seen rests)) survives;
+        survives_opening settings from before.media between.media now.media acts trace end.last.history grows.0 grows.1 late (Is seen) rests
+        (leaves_as before.media between.media (λ image. Holds settings image held) (HoldsKept settings settings.limits.remembered from.time from.history) held_first (opened seen rests)) survives;
   }
 
-  pub lives_from : (wrote : State → Type 0) → Came settings from how mid.media now.media mid.acts now.acts end → wrote end.last → LivesFrom settings held how before now wrote
+  pub lives_from : (wrote : State → Type 0) → Came settings from how between.media now.media between.acts now.acts end → wrote end.last → RunsFrom settings held how before now wrote
   lives_from wrote came reports = record {
     end = end;
     settled = came.settled;
     found = came.found;
     trace = came.trace;
-    lived = added_then before.acts mid.acts now.acts (λ more. more ≡ []) _ (Lived settings from how before now came.trace end) (none_added before.acts mid.acts silent) came.told
-        (λ front back none told. subst (λ f. Lived settings from how before now came.trace end (f ++ back)) (sym none) (lived_by came.trace back came.grows told.0 told.1 told.2));
+    has_run = added_then before.acts between.acts now.acts (λ more. more ≡ []) _ (HasRun settings from how before now came.trace end) (none_added before.acts between.acts silent) came.told
+        (λ front back none told. subst (λ f. HasRun settings from how before now came.trace end (f ++ back)) (sym none) (lived_by came.trace back came.grows told.0 told.1 told.2));
     contained = contained_by settings end.last came.own;
     reports = reports;
   }
 
-module _ (settings : SettingsValue) (held : List Entry) (before mid now : Outside) (calm : is_calm settings held ≡ true)
-    (silent : KeepsActs before.acts mid.acts) (opened : (seen : ℕ → ℕ) → RestsWith before.media (Is seen) → Leaves before.media mid.media (λ image. Holds settings image held))
+module _ (settings : SettingsValue) (held : List Entry) (before between now : Outside) (calm : is_calm settings held ≡ true)
+    (silent : KeepsActs before.acts between.acts) (opened : (seen : ℕ → ℕ) → RestsWith before.media (Is seen) → Leaves before.media between.media (λ image. Holds settings image held))
     (was_held : (seen : ℕ → ℕ) → Sees before.media seen → Holds settings seen held) where
   -- a run with this ending came there, where the disk is told
   abbrev pub CameThere : Ending → Type 0
   CameThere how =
       (seen : ℕ → ℕ) → Sees before.media seen
-      → (stopped : Stop) × (end : Owing State) × Came settings (begun_from held) stopped mid.media now.media mid.acts now.acts end × Wrote how stopped settings end.last before now
+      → (stopped : Stop) × (end : Owing State) × Came settings (begun_from held) stopped between.media now.media between.acts now.acts end × Wrote how stopped settings end.last before now
 
   abbrev pub WroteAny : Ending → Type 0
   WroteAny how = (stopped : Stop) × (state : State) × (list_all (is_own settings) state.history ≡ true) × Wrote how stopped settings state before now
@@ -92,10 +92,10 @@ module _ (settings : SettingsValue) (held : List Entry) (before mid now : Outsid
     held = held;
     calm = calm;
     was_held = was_held;
-    lives = λ seen sees.
+    runs_from = λ seen sees.
         let (stopped, end, there, wrote) = came seen sees in
-        lives_from settings held how before mid now end calm silent opened (Reports how settings before now)
-        (subst (λ h. Came settings (begun_from held) h mid.media now.media mid.acts now.acts end) (sym wrote.0) there) wrote.1;
+        lives_from settings held how before between now end calm silent opened (Reports how settings before now)
+        (subst (λ h. Came settings (begun_from held) h between.media now.media between.acts now.acts end) (sym wrote.0) there) wrote.1;
     any = (any.1, contained_by settings any.1 any.2, any.3.1);
   }
   serves_to ending.ReportFailed came any = (
@@ -103,16 +103,16 @@ module _ (settings : SettingsValue) (held : List Entry) (before mid now : Outsid
       held = held;
       calm = calm;
       was_held = was_held;
-      lives = λ seen sees.
+      runs_from = λ seen sees.
           let (stopped, end, there, wrote) = came seen sees in
-          lives_from settings held stop.Ended before mid now end calm silent opened (λ state. AppendsBeginning before.held now.held (report_of settings state))
-          (subst (λ h. Came settings (begun_from held) h mid.media now.media mid.acts now.acts end) (sym wrote.0) there) wrote.1;
+          lives_from settings held stop.Ended before between now end calm silent opened (λ state. AppendsBeginning before.held now.held (report_of settings state))
+          (subst (λ h. Came settings (begun_from held) h between.media now.media between.acts now.acts end) (sym wrote.0) there) wrote.1;
       any = (any.1, contained_by settings any.1 any.2, any.3.1);
     },
     any.3.2,
   )
   serves_to ending.WrongWords came any = absurd any.3
-  serves_to (ending.Shown how) came any = absurd any.3
+  serves_to (ending.Printed how) came any = absurd any.3
   serves_to (ending.Refused fault) came any = absurd any.3
   serves_to ending.SettingsFailed came any = absurd any.3
   serves_to ending.NoMemory came any = absurd any.3
@@ -139,7 +139,7 @@ behaves_hosted words before now (ending.Served how) hosted served settings are s
 behaves_hosted words before now ending.ReportFailed hosted served settings are serves = (served, settings, are, serves)
 behaves_hosted words before now (ending.Unrecovered fault) hosted served settings are serves = (served, settings, are, serves)
 behaves_hosted words before now ending.WrongWords hosted served settings are serves = absurd (cc hosted)
-behaves_hosted words before now (ending.Shown how) hosted served settings are serves = absurd (cc hosted)
+behaves_hosted words before now (ending.Printed how) hosted served settings are serves = absurd (cc hosted)
 behaves_hosted words before now (ending.Refused fault) hosted served settings are serves = absurd (cc hosted)
 behaves_hosted words before now ending.SettingsFailed hosted served settings are serves = absurd (cc hosted)
 behaves_hosted words before now ending.NoMemory hosted served settings are serves = absurd (cc hosted)

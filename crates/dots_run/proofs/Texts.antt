@@ -4,7 +4,7 @@ use Rattle.dots_host.specs.Acts.{Timed}
 use Rattle.dots_host.specs.Runs.{Added}
 use Rattle.dots_host.specs.Writing.{AppendsBeginning}
 use Rattle.dots_script.specs.Lines.{to_come}
-use Rattle.dots_script.specs.Accounts.{Standing, Accounts}
+use Rattle.dots_script.specs.Accounts.{Outer, Accounts}
 use Rattle.dots_settings.specs.Settings.{SettingsValue}
 use Rattle.dots_machine.specs.declared.ending.Ending.{Ending}
 use Rattle.dots_machine.specs.declared.ending.Ending.TheVariants as ending
@@ -16,12 +16,12 @@ use Rattle.slot_store.specs.Gates.{Sees}
 use Rattle.slot_journal.proofs.Crashing.{one_history}
 use Rattle.dots_machine.specs.Machine.{State, begun_from}
 use Rattle.dots_machine.specs.Outside.{Outside}
-use Rattle.dots_machine.specs.Endings.{Lived, LivesFrom, Serves, Reports, Behaves, has_hosted}
+use Rattle.dots_machine.specs.Endings.{HasRun, RunsFrom, Serves, Reports, Behaves, has_hosted}
 use Rattle.dots_machine.specs.Report.{report_of}
 use Rattle.dots_run.specs.Scripted.{Replays, JoinsTexts}
 use Rattle.dots_run.proofs.Blank.{zeros_hold_nothing}
 
-abbrev pub standing_of : Option (List ℕ) → Option (List ℕ) → ℕ → Standing
+abbrev pub standing_of : Option (List ℕ) → Option (List ℕ) → ℕ → Outer
 standing_of script held failures = record { script = script; held = held; failures = failures }
 
 all_added : (acts : List Timed) (P : List Timed → Type 0) → Added (Some []) (Some acts) P → P acts
@@ -32,7 +32,7 @@ no_more acts keeps = keeps
 
 -- the disk of a script's host is told, and holds nothing before the first call
 module _ (words : List (List ℕ)) (before after : Outside) (acts : List Timed) (none : before.acts ≡ Some []) (some : after.acts ≡ Some acts) (empty : before.media ≡ Some (blank []))
-    (start now : Standing) (accounts : Accounts start now acts) where
+    (start now : Outer) (accounts : Accounts start now acts) where
   sees_zeros : Sees before.media (byte_of [])
   sees_zeros = subst (λ media. Sees media (byte_of [])) (sym empty) refl
 
@@ -41,22 +41,22 @@ module _ (words : List (List ℕ)) (before after : Outside) (acts : List Timed) 
 
   served : (settings : SettingsValue) (how : Stop) (wrote : State → Type 0) → Serves settings how before after wrote → Replays settings how before after start now wrote
   served settings how wrote serves =
-      let lives = subst (λ held. LivesFrom settings held how before after wrote) (held_nothing settings how wrote serves) (serves.lives (byte_of []) sees_zeros) in
-      let lived : Added (Some []) (Some acts) (Lived settings (begun_from []) how before after lives.trace lives.end) =
-      subst (λ old. Added old (Some acts) (Lived settings (begun_from []) how before after lives.trace lives.end)) none
-      (subst (λ new. Added before.acts new (Lived settings (begun_from []) how before after lives.trace lives.end)) some lives.lived) in
+      let runs_from = subst (λ held. RunsFrom settings held how before after wrote) (held_nothing settings how wrote serves) (serves.runs_from (byte_of []) sees_zeros) in
+      let has_run : Added (Some []) (Some acts) (HasRun settings (begun_from []) how before after runs_from.trace runs_from.end) =
+      subst (λ old. Added old (Some acts) (HasRun settings (begun_from []) how before after runs_from.trace runs_from.end)) none
+      (subst (λ new. Added before.acts new (HasRun settings (begun_from []) how before after runs_from.trace runs_from.end)) some runs_from.has_run) in
       record {
         acts = acts;
-        end = lives.end;
-        trace = lives.trace;
-        lived = all_added acts (Lived settings (begun_from []) how before after lives.trace lives.end) lived;
+        end = runs_from.end;
+        trace = runs_from.trace;
+        has_run = all_added acts (HasRun settings (begun_from []) how before after runs_from.trace runs_from.end) has_run;
         accounts = accounts;
-        reports = lives.reports;
+        reports = runs_from.reports;
       }
 
   pub joins : (how : Ending) → Behaves how words before after → (has_hosted how ≡ false → now ≡ start) → JoinsTexts how before after start now
   joins ending.WrongWords behaves same = same refl
-  joins (ending.Shown showing) behaves same = same refl
+  joins (ending.Printed showing) behaves same = same refl
   joins (ending.Refused fault) behaves same = same refl
   joins ending.SettingsFailed behaves same = same refl
   joins ending.NoMemory behaves same = same refl

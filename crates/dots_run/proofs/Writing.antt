@@ -13,7 +13,7 @@ use Rattle.dots_machine.specs.Machine.{State}
 use Rattle.dots_machine.specs.Outside.{Outside}
 use Rattle.dots_machine.specs.Report.{report_of}
 use Rattle.dots_machine.specs.Endings.{WritesRefusal}
-use Rattle.dots_server.specs.Living.{StopsFor}
+use Rattle.dots_server.specs.Running.{StopsFor}
 use Rattle.dots_run.specs.Refusals.{Counts, Wrote, WritesStop}
 
 module _ (settings : SettingsValue) (state : State) (held held_now : Option (List ℕ)) (report report_now wire wire_now disk disk_now : ℕ) (before now : Outside)

@@ -1,5 +1,5 @@
 pub mod Usage
-pub mod Telling
+pub mod Reporting
 pub mod Refusals
 pub mod Outcomes
 pub mod Programs

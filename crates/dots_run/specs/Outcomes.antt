@@ -4,7 +4,7 @@ use Rattle.dots_machine.specs.Commands.{is_served, is_show, second_of}
 use Rattle.dots_machine.specs.Endings.{GivesFault, IsReady, IsReadable}
 use Rattle.dots_machine.specs.Outside.{Outside, SourceFailed, WireFailed, DiskFailed, ReportFailed}
 use Rattle.dots_run.specs.declared.topic.Topic.{Topic}
-use Rattle.dots_run.specs.Telling.{IsSound, IsAtFault}
+use Rattle.dots_run.specs.Reporting.{IsSound, IsAtFault}
 use Rattle.dots_run.specs.Topics.{topic_of, is_known}
 
 pub record Outcome (words : List (List ℕ)) (status : ℕ) (before now : Outside) : Type 0 where

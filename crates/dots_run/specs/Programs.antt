@@ -1,33 +1,33 @@
 -- What a run over a script has done, and over which file.
 use Rattle.std.specs.Prelude.{◌≡◌, ℕ, true, false, List, Option, Some, None}
-use Rattle.dots_script.specs.Accounts.{Standing}
+use Rattle.dots_script.specs.Accounts.{Outer}
 use Rattle.dots_machine.specs.declared.ending.Ending.{Ending}
 use Rattle.dots_machine.specs.Commands.{second_of}
 use Rattle.dots_machine.specs.Endings.{status_of, Behaves, GivesSettings, IsReady}
 use Rattle.dots_machine.specs.Outside.{Outside, SourceFailed, ReportFailed}
-use Rattle.dots_run.specs.declared.told.Told.{Told}
+use Rattle.dots_run.specs.declared.topic_outcome.TopicOutcome.{TopicOutcome}
 use Rattle.dots_run.specs.declared.topic.Topic.{Topic}
-use Rattle.dots_run.specs.Telling.{told_status, Tells}
+use Rattle.dots_run.specs.Reporting.{outcome_status, ReportsTopic}
 use Rattle.dots_run.specs.Outcomes.{Outcome}
 use Rattle.dots_run.specs.Scripted.{JoinsTexts}
 use Rattle.dots_run.specs.Topics.{topic_of, names_settings}
 
 -- A run that told of a topic with this status: nothing was taken from the script's host or sent by it.
-pub record HasTold (topic : Topic) (status : ℕ) (before now : Outside) (start end : Standing) : Type 0 where
-  pub how : Told
-  pub status_is : status ≡ told_status how
-  pub tells : Tells topic how before.left before.held now.held (SourceFailed before now) (ReportFailed before now)
+pub record HasReported (topic : Topic) (status : ℕ) (before now : Outside) (start end : Outer) : Type 0 where
+  pub how : TopicOutcome
+  pub status_is : status ≡ outcome_status how
+  pub reported : ReportsTopic topic how before.left before.held now.held (SourceFailed before now) (ReportFailed before now)
   pub no_acts : now.acts ≡ before.acts
-  pub stands : end ≡ start
+  pub stays : end ≡ start
 
 -- A run of these words with this status, from what stood outside before to what stands there now, and from where the script and the
 -- sink of its sends stood to where they stand.
-pub record Runs (words : List (List ℕ)) (status : ℕ) (before now : Outside) (start end : Standing) : Type 0 where
+pub record Runs (words : List (List ℕ)) (status : ℕ) (before now : Outside) (start end : Outer) : Type 0 where
   -- What it has done, by the ending that its status is of. From text to text: what the machine sends on the events of the script's lines
   -- stands line by line in the sink, and the machine's report in the report.
   pub machine : topic_of words ≡ None → (ending : Ending) × (status ≡ status_of ending) × Behaves ending words before now × JoinsTexts ending before now start end
   -- what is told without serving
-  pub told : (topic : Topic) → topic_of words ≡ Some topic → HasTold topic status before now start end
+  pub told : (topic : Topic) → topic_of words ≡ Some topic → HasReported topic status before now start end
   -- what the status says of the words, of the settings and of what failed
   pub outcome : Outcome words status before now
   -- the disk of a script's host holds nothing at first, and has the size that any settings need

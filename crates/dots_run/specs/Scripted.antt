@@ -5,7 +5,7 @@ use Rattle.dots_host.specs.Runs.{Owing}
 use Rattle.dots_host.specs.Writing.{AppendsBeginning}
 use Rattle.dots_disk.specs.Media.{blank}
 use Rattle.dots_disk.specs.Logged.{media_since, acts_told}
-use Rattle.dots_script.specs.Accounts.{Standing, Accounts}
+use Rattle.dots_script.specs.Accounts.{Outer, Accounts}
 use Rattle.dots_script.specs.Scripting.{Scripting}
 use Rattle.dots_settings.specs.Settings.{SettingsValue}
 use Rattle.dots_settings.specs.File.{SettingsAre}
@@ -15,7 +15,7 @@ use Rattle.dots_machine.specs.declared.ending.Stop.{Stop}
 use Rattle.dots_machine.specs.declared.ending.Stop.TheVariants as stop
 use Rattle.dots_machine.specs.Machine.{State, begun_from}
 use Rattle.dots_machine.specs.Outside.{Outside}
-use Rattle.dots_machine.specs.Endings.{Lived, Reports}
+use Rattle.dots_machine.specs.Endings.{HasRun, Reports}
 use Rattle.dots_machine.specs.Report.{report_of}
 
 -- What stands outside a run over a script: before its first call no act, and a disk of 2^30 zeros; and then what its host has done.
@@ -48,15 +48,15 @@ outside_with left source_faults host held report_faults = record {
 -- Some acts are a run of the machine with these settings from an empty disk, which stops so, keeps the laws, and survives a crash at any moment.
 -- Their events are, in order, those of the script's lines, their sends are, line by line, what the sink of sends was written, and of the last
 -- state this was written.
-pub record Replays (settings : SettingsValue) (how : Stop) (before after : Outside) (start now : Standing) (wrote : State → Type 0) : Type 0 where
+pub record Replays (settings : SettingsValue) (how : Stop) (before after : Outside) (start now : Outer) (wrote : State → Type 0) : Type 0 where
   pub acts : List Timed
   pub end : Owing State
   pub trace : List State
-  pub lived : Lived settings (begun_from []) how before after trace end acts
+  pub has_run : HasRun settings (begun_from []) how before after trace end acts
   pub accounts : Accounts start now acts
   pub reports : wrote end.last
 
-abbrev pub JoinsTexts : Ending → Outside → Outside → Standing → Standing → Type 0
+abbrev pub JoinsTexts : Ending → Outside → Outside → Outer → Outer → Type 0
 JoinsTexts (ending.Served how) before after start now =
     (settings : SettingsValue) × IfSome before.left (λ bytes. SettingsAre bytes settings) × Replays settings how before after start now (Reports how settings before after)
 JoinsTexts ending.ReportFailed before after start now =

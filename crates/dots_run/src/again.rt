@@ -8,7 +8,7 @@ ghost use Rattle.slot_store.specs.Gates.{Sees};
 ghost use Rattle.slot_store.specs.Opening.{Is};
 ghost use Rattle.slot_store.specs.Layout.{needed_of};
 ghost use Rattle.slot_journal.specs.Sizes.{slots_of};
-ghost use Rattle.slot_journal.specs.Held.{Holds};
+ghost use Rattle.slot_journal.specs.DiskEntries.{Holds};
 ghost use Rattle.slot_journal.specs.declared.fault.JournalFault.{JournalFault};
 ghost use Rattle.dots_history.specs.declared.entry.Entry.{Entry};
 ghost use Rattle.dots_settings.specs.Settings.{SettingsValue};
@@ -17,7 +17,7 @@ ghost use Rattle.dots_machine.specs.Commands.{is_served};
 ghost use Rattle.dots_machine.specs.Endings.{status_of, Behaves, Unrecovers, GivesSettings};
 ghost use Rattle.dots_machine.specs.Machine.{begun_from};
 ghost use Rattle.dots_machine.specs.Outside.{Outside, outside};
-ghost use Rattle.dots_run.specs.Leaving.{CrashLeaves, HasLived, GoesOn};
+ghost use Rattle.dots_run.specs.Leaving.{CrashLeaves, HasServed, GoesOn};
 ghost use Rattle.dots_run.specs.Topics.{topic_of};
 
 use crate::running::run;
@@ -48,23 +48,23 @@ pub fn run_again<H: Host, S: Source, K: Sink, G: Host, T: Source, L: Sink>(
     // What the second run begins from is what the first one's clause says of the crash: a front of what that accepted, with all that it had told
     // before. So it is at each moment, whatever the crash leaves and however the two ended, where the first disk had nothing pending at the start and
     // both tell.
-    ensures goes_on { (settings_of : SettingsValue) (before now : Outside) (first : HasLived settings_of before now)
+    ensures goes_on { (settings_of : SettingsValue) (before now : Outside) (first : HasServed settings_of before now)
         → before.media ≡ H.media host.old → now.media ≡ H.media host.new
         → (seen : ℕ → ℕ) (sees : Sees before.media seen) → RestsWith before.media (Is seen) → (xs ys : List Timed) → before.acts ≡ Some xs → now.acts ≡ Some ys
         → (m : ℕ) (image : ℕ → ℕ) → CrashLeaves m (H.media host.old) (H.media host.new) image → Sees (G.media other.old) image
-        → (then after : Outside) (second : HasLived settings_of then after) → then.media ≡ G.media other.old
-        → (acts : List Timed) × (ys ≡ xs ++ acts) × GoesOn settings_of (begun_from first.held) acts (first.lives seen sees).trace (first.lives seen sees).end.last.history m second.held }
+        → (then after : Outside) (second : HasServed settings_of then after) → then.media ≡ G.media other.old
+        → (acts : List Timed) × (ys ≡ xs ++ acts) × GoesOn settings_of (begun_from first.held) acts (first.runs_from seen sees).trace (first.runs_from seen sees).end.last.history m second.held }
 
     // Where the first run recovered nothing, the second one recovers what the disk had held.
     ensures opens { (settings_of : SettingsValue) (fault : JournalFault) (before now : Outside) (first : Unrecovers settings_of fault before now)
         → before.media ≡ H.media host.old → now.media ≡ H.media host.new
         → (seen : ℕ → ℕ) (entries : List Entry) → RestsWith before.media (Is seen) → Holds settings_of seen entries
         → (m : ℕ) (image : ℕ → ℕ) → CrashLeaves m (H.media host.old) (H.media host.new) image → Sees (G.media other.old) image
-        → (then after : Outside) (second : HasLived settings_of then after) → then.media ≡ G.media other.old → second.held ≡ entries }
+        → (then after : Outside) (second : HasServed settings_of then after) → then.media ≡ G.media other.old → second.held ≡ entries }
 
     // And that disk isn't refused: where it is large enough and nothing fails, the second run goes well, want of memory and 2^40 events without End
     // aside.
-    ensures well { (settings_of : SettingsValue) (before now : Outside) (first : HasLived settings_of before now)
+    ensures well { (settings_of : SettingsValue) (before now : Outside) (first : HasServed settings_of before now)
         → before.media ≡ H.media host.old → now.media ≡ H.media host.new
         → (seen : ℕ → ℕ) (sees : Sees before.media seen) → RestsWith before.media (Is seen) → (xs ys : List Timed) → before.acts ≡ Some xs → now.acts ≡ Some ys
         → (m : ℕ) (image : ℕ → ℕ) → CrashLeaves m (H.media host.old) (H.media host.new) image → Sees (G.media other.old) image

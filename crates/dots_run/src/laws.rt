@@ -2,7 +2,7 @@
 
 ghost use Rattle.std.specs.Prelude.{◌≡◌, ℕ, List, Option};
 ghost use Rattle.file_checks.specs.declared.checked.Checked.{Checked};
-ghost use Rattle.dots_run.specs.Telling.{IsOf};
+ghost use Rattle.dots_run.specs.Reporting.{IsOf};
 
 use crate::topic::Topic;
 

@@ -9,16 +9,16 @@ ghost use Rattle.dots_settings.specs.Settings.{SettingsValue};
 ghost use Rattle.dots_history.specs.declared.entry.Entry.{Entry};
 ghost use Rattle.dots_laws.specs.Calm.{is_own};
 ghost use Rattle.slot_store.specs.Layout.{needed_of};
-ghost use Rattle.slot_journal.specs.Held as journal;
+ghost use Rattle.slot_journal.specs.DiskEntries as journal;
 ghost use Rattle.dots_machine.specs.declared.ending.Ending as endings;
 ghost use Rattle.dots_machine.specs.declared.ending.Ending.TheVariants as ending;
 ghost use Rattle.dots_machine.specs.declared.ending.Stop.{Stop};
 ghost use Rattle.dots_machine.specs.Commands.{is_served, is_show, is_command, second_of};
-ghost use Rattle.dots_machine.specs.Endings.{status_of, has_hosted, Shows, ServesTo, Behaves, GivesFault, IsReady, IsReadable};
+ghost use Rattle.dots_machine.specs.Endings.{status_of, has_hosted, Prints, ServesTo, Behaves, GivesFault, IsReady, IsReadable};
 ghost use Rattle.dots_machine.specs.Machine.{State};
 ghost use Rattle.dots_machine.specs.Outside.{Outside, outside};
-ghost use Rattle.dots_server.specs.Standing.{IsKept};
-ghost use Rattle.dots_server.specs.Living.{Came};
+ghost use Rattle.dots_server.specs.ServerValues.{IsKept};
+ghost use Rattle.dots_server.specs.Running.{Came};
 ghost use Rattle.dots_run.specs.Refusals.{Counts, Wrote, WritesStop};
 
 use crate::refusals::write_refusal;
@@ -26,10 +26,10 @@ use crate::words::{is_served, word_to_show};
 use dots_disk::Host;
 use dots_host::{MAX_EVENT_BYTES, Sink, Source, write_all};
 use dots_lists::NoMemory;
-use dots_machine::{Ending, Showing, Stop};
+use dots_machine::{Ending, Printing, Stop};
 use dots_server::{Server, take_events};
 use dots_settings::{Settings, SettingsFault, read_settings};
-use message_text::{Shown, show};
+use message_text::{Printed, lines_of};
 use std::alloc::Global;
 
 /// Does what the words ask of the machine, and answers the exit status. With `replay SETTINGS` the settings are read
@@ -96,8 +96,8 @@ fn ending_of<H: Host, S: Source, K: Sink>(
     ensures uncalled { has_hosted result ≡ false → host.new ≡ host.old }
 {
     if let Some(word) = word_to_show(words) {
-        match show_word(alloc, word, report) {
-            Ok(how) => return Ending::Shown(how),
+        match print_word(alloc, word, report) {
+            Ok(how) => return Ending::Printed(how),
             Err(_) => return Ending::NoMemory,
         }
     }
@@ -118,18 +118,18 @@ fn ending_of<H: Host, S: Source, K: Sink>(
 }
 
 /// Shows the message that a word writes, or its fault.
-fn show_word<K: Sink>(alloc: Global, word: &[u8], report: &mut K) -> Result<Showing, NoMemory>
-    ensures shows { IfOk result (λ how. Shows how word.now (K.holds report.old) (K.holds report.new) (Rose (K.faults report.old) (K.faults report.new))) }
+fn print_word<K: Sink>(alloc: Global, word: &[u8], report: &mut K) -> Result<Printing, NoMemory>
+    ensures prints { IfOk result (λ how. Prints how word.now (K.holds report.old) (K.holds report.new) (Rose (K.faults report.old) (K.faults report.new))) }
     ensures err { OnErr result (report.new ≡ report.old) }
 {
-    match show(alloc, word)? {
-        Shown::Message(text) => match write_all(report, text.items()) {
-            Ok(()) => return Ok(Showing::Written),
-            Err(_) => return Ok(Showing::Failed),
+    match lines_of(alloc, word)? {
+        Printed::Message(text) => match write_all(report, text.items()) {
+            Ok(()) => return Ok(Printing::Written),
+            Err(_) => return Ok(Printing::Failed),
         },
-        Shown::Fault(text) => {
+        Printed::Fault(text) => {
             let _ = write_all(report, text.items());
-            return Ok(Showing::Unreadable);
+            return Ok(Printing::Unreadable);
         }
     }
 }
@@ -161,7 +161,7 @@ fn serve<H: Host, K: Sink>(server: Server, host: &mut H, report: &mut K) -> Endi
     requires size { needed_of server.journal.slots ≤ H.extent host.old }
     // Where the disk is told, the run from what it holds, and what was written of its last state.
     ensures came { (settings : SettingsValue) (start : State) (held : List Entry) → IsKept server settings start held
-        → RestsWith (H.media host.old) (journal.StandsFor server.journal settings held)
+        → RestsWith (H.media host.old) (journal.Represents server.journal settings held)
         → (how : Stop) × (end : Owing State) × Came settings start how (H.media host.old) (H.media host.new) (H.acts host.old) (H.acts host.new) end
         × ((before now : Outside) → Counts before (K.holds report.old) (K.faults report.old) (H.Wire.faults host.old) (H.Disk.faults host.old)
         → Counts now (K.holds report.new) (K.faults report.new) (H.Wire.faults host.new) (H.Disk.faults host.new) → Wrote result how settings end.last before now) }

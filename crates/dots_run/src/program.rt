@@ -2,7 +2,7 @@
 
 ghost use Rattle.std.specs.Prelude.{◌≡◌, true, false, map, string_bytes, Option, Some, None, option_and_then, IfOk, OnErr, MatchOption};
 ghost use Rattle.std.specs.Fn.{FnOnceReturnsAt};
-ghost use Rattle.dots_script.specs.Accounts.{standing};
+ghost use Rattle.dots_script.specs.Accounts.{outer};
 ghost use Rattle.dots_run.specs.Scripted.{outside_first, outside_with};
 ghost use Rattle.dots_run.specs.Programs.{Runs, IsOpened};
 ghost use Rattle.dots_run.specs.Topics.{is_check_script};
@@ -70,7 +70,7 @@ pub fn run_program<
         (outside_first (option_and_then F.remaining file) 0 (R.contents report) 0)
         (outside_with (⟦<StdSource<F> as Source>⟧.left result.settings) (⟦<StdSource<F> as Source>⟧.faults result.settings) host (⟦<StdSink<R> as Sink>⟧.holds result.report) (⟦<StdSink<R> as Sink>⟧.faults result.report))
         (record { script = I.remaining input; held = O.contents sends; failures = 0 })
-        (standing ⟦<StdSource<I> as Source>⟧.left ⟦<StdSource<I> as Source>⟧.faults ⟦<StdSink<O> as Sink>⟧.holds host))) }
+        (outer ⟦<StdSource<I> as Source>⟧.left ⟦<StdSource<I> as Source>⟧.faults ⟦<StdSink<O> as Sink>⟧.holds host))) }
     // With `check-script` the script stands in the place of the settings, no file is opened, and no script is left to be served.
     ensures checked { IfOk words.now (λ list. is_check_script (map string_bytes list.items) ≡ true → MatchOption result.checked ⊥ (λ script.
         MatchOption result.host ((result.status ≡ 4) × (⟦<StdSource<I> as Source>⟧.left script ≡ I.remaining input) × (⟦<StdSink<R> as Sink>⟧.holds result.report ≡ R.contents report))
@@ -78,7 +78,7 @@ pub fn run_program<
         (outside_first (I.remaining input) 0 (R.contents report) 0)
         (outside_with (⟦<StdSource<I> as Source>⟧.left script) (⟦<StdSource<I> as Source>⟧.faults script) host (⟦<StdSink<R> as Sink>⟧.holds result.report) (⟦<StdSink<R> as Sink>⟧.faults result.report))
         (record { script = None; held = O.contents sends; failures = 0 })
-        (standing ⟦<StdSource<I> as Source>⟧.left ⟦<StdSource<I> as Source>⟧.faults ⟦<StdSink<O> as Sink>⟧.holds host)))) }
+        (outer ⟦<StdSource<I> as Source>⟧.left ⟦<StdSource<I> as Source>⟧.faults ⟦<StdSink<O> as Sink>⟧.holds host)))) }
 {
     let mut report = StdSink::new(report);
     let words = match words {
@@ -133,7 +133,7 @@ fn check_input<F: Read + Drop, I: Read + Drop, O: Write + Drop, R: Write + Drop>
         (outside_first (I.remaining input) 0 (⟦<StdSink<R> as Sink>⟧.holds report) (⟦<StdSink<R> as Sink>⟧.faults report))
         (outside_with (⟦<StdSource<I> as Source>⟧.left script) (⟦<StdSource<I> as Source>⟧.faults script) host (⟦<StdSink<R> as Sink>⟧.holds result.report) (⟦<StdSink<R> as Sink>⟧.faults result.report))
         (record { script = None; held = O.contents sends; failures = 0 })
-        (standing ⟦<StdSource<I> as Source>⟧.left ⟦<StdSource<I> as Source>⟧.faults ⟦<StdSink<O> as Sink>⟧.holds host))) }
+        (outer ⟦<StdSource<I> as Source>⟧.left ⟦<StdSource<I> as Source>⟧.faults ⟦<StdSink<O> as Sink>⟧.holds host))) }
 {
     let mut report = report;
     let mut script = StdSource::new(Some(input));

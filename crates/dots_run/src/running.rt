@@ -7,12 +7,12 @@ ghost use Rattle.dots_machine.specs.Commands.{is_served, is_show, second_of};
 ghost use Rattle.dots_machine.specs.Endings.{status_of, has_hosted, Behaves, GivesFault, IsReady, IsReadable};
 ghost use Rattle.dots_machine.specs.Outside.{outside};
 ghost use Rattle.dots_run.specs.declared.topic.Topic as topics;
-ghost use Rattle.dots_run.specs.declared.told.Told as tolds;
-ghost use Rattle.dots_run.specs.Telling.{told_status, Tells, IsSound, IsAtFault};
+ghost use Rattle.dots_run.specs.declared.topic_outcome.TopicOutcome as tolds;
+ghost use Rattle.dots_run.specs.Reporting.{outcome_status, ReportsTopic, IsSound, IsAtFault};
 ghost use Rattle.dots_run.specs.Topics.{is_check, is_check_script, topic_of, is_known};
 
 use crate::outcome::run_machine;
-use crate::telling::tell;
+use crate::reporting::report_topic;
 use crate::topics::topic_of;
 use dots_disk::Host;
 use dots_host::{Sink, Source};
@@ -41,7 +41,7 @@ pub fn run<H: Host, S: Source, K: Sink>(
         × (has_hosted ending ≡ false → host.new ≡ host.old) }
     // What is told without serving, where the words ask for that: what was found in the source, and what of it was written.
     ensures told { (topic : topics.Topic) → topic_of (map string_bytes words.now) ≡ Some topic
-        → (end : tolds.Told) × (result ≡ told_status end) × Tells topic end (S.left settings.old) (K.holds report.old) (K.holds report.new)
+        → (end : tolds.TopicOutcome) × (result ≡ outcome_status end) × ReportsTopic topic end (S.left settings.old) (K.holds report.old) (K.holds report.new)
         (Rose (S.faults settings.old) (S.faults settings.new)) (Rose (K.faults report.old) (K.faults report.new)) }
     // What the host says of its own calls.
     ensures leads { H.leads host.old host.new }
@@ -79,7 +79,7 @@ pub fn run<H: Host, S: Source, K: Sink>(
         → ¬ (Rose (S.faults settings.old) (S.faults settings.new)) → (result ≡ 3) ⊎ (result ≡ 4) }
 {
     match topic_of(words) {
-        Some(topic) => return tell(alloc, topic, settings, report).status(),
+        Some(topic) => return report_topic(alloc, topic, settings, report).status(),
         None => return run_machine(alloc, words, settings, host, report),
     }
 }

@@ -1,7 +1,7 @@
 //! The top call over a script.
 
 ghost use Rattle.std.specs.Prelude.{◌≡◌, map, string_bytes, Some, None, IfSome};
-ghost use Rattle.dots_script.specs.Accounts.{standing};
+ghost use Rattle.dots_script.specs.Accounts.{outer};
 ghost use Rattle.dots_run.specs.Scripted.{outside_first, outside_with};
 ghost use Rattle.dots_run.specs.Programs.{Runs};
 
@@ -39,7 +39,7 @@ pub fn run_script<P: Source + Drop, K: Sink + Drop, S: Source, R: Sink>(
         (outside_first (S.left settings.old) (S.faults settings.old) (R.holds report.old) (R.faults report.old))
         (outside_with (S.left settings.new) (S.faults settings.new) host (R.holds report.new) (R.faults report.new))
         (record { script = P.left script; held = K.holds sends; failures = P.faults script })
-        (standing P.left P.faults K.holds host)) }
+        (outer P.left P.faults K.holds host)) }
 {
     match ScriptHost::new(alloc, script, sends) {
         Ok(mut host) => {

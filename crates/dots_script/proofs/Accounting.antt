@@ -15,7 +15,7 @@ use Rattle.dots_host.specs.Memory.{Coming}
 use Rattle.dots_host.specs.Writing.{AppendsBeginning}
 use Rattle.dots_script.specs.Lines.{to_come, with_feed, with_feeds, AreSkipped, IsFault, Takes, Fails, Ends, NextIs}
 use Rattle.dots_script.specs.Sends.{line_of}
-use Rattle.dots_script.specs.Accounts.{AreMade, LineSays, event_in, events_among, IsTaken, HasRead, HasReadKnown, WireWrites, ActWrites, HasWritten, Standing, Accounts}
+use Rattle.dots_script.specs.Accounts.{AreMade, LineSays, event_in, events_among, IsTaken, HasRead, HasReadKnown, WireWrites, ActWrites, HasWritten, Outer, Accounts}
 use Rattle.dots_script.proofs.OneAnswer.{stops_at_fault, no_fault_at_end, no_fault_at_event}
 use Rattle.dots_script.proofs.Making.{made_then, made_one, feeds_append, skipped_say, few_said, events_push, took_back, nil_back}
 
@@ -204,7 +204,7 @@ appends_none (Some xs) (Some ys) is = ap (λ known. known_or known) is ∙ sym (
 
 -- ---- a call of next, and a call of send
 
-pub accounts_taken : (start old new : Standing) (before after : List Timed) (moment now : ℕ) (got : Event) (at : ℕ) → Adds (Some before) moment (Some after) now (took got at)
+pub accounts_taken : (start old new : Outer) (before after : List Timed) (moment now : ℕ) (got : Event) (at : ℕ) → Adds (Some before) moment (Some after) now (took got at)
     → NextIs old.script new.script got at (Rose old.failures new.failures) → old.failures ≤ new.failures → new.held ≡ old.held → Accounts start old before → Accounts start new after
 accounts_taken start old new before after moment now got at adds a later held h =
     let timed : Timed = record { moment = moment; act = took got at } in
@@ -247,7 +247,7 @@ piece_done old new out result is appends = record { text = line_of out; writes =
 pub piece_lost : (old new : Option (List ℕ)) (out : OwnedOut) (result : Sent) → result ≡ sent.Lost → AppendsBeginning old new (line_of out) → Piece old new out result
 piece_lost old new out result is part = record { text = part.front; writes = subst (λ (r : Sent). WireWrites (gave out (is_done r)) part.front) (sym is) (part.rest, part.split); appends = part.appends }
 
-pub accounts_given : (start old new : Standing) (before after : List Timed) (moment now : ℕ) (out : OwnedOut) (result : Sent) → Adds (Some before) moment (Some after) now (gave out (is_done result))
+pub accounts_given : (start old new : Outer) (before after : List Timed) (moment now : ℕ) (out : OwnedOut) (result : Sent) → Adds (Some before) moment (Some after) now (gave out (is_done result))
     → new.script ≡ old.script → new.failures ≡ old.failures → Piece old.held new.held out result → Accounts start old before → Accounts start new after
 accounts_given start old new before after moment now out result adds script failures one h =
     let timed : Timed = record { moment = moment; act = gave out (is_done result) } in
@@ -262,7 +262,7 @@ accounts_given start old new before after moment now out result adds script fail
 
 -- ---- nothing was called yet
 
-pub accounts_none : (start : Standing) → Accounts start start []
+pub accounts_none : (start : Outer) → Accounts start start []
 accounts_none start = record { later = omega arith; read = read_none start.script; written = record { text = []; made = refl; appends = Appends-nil start.held } }
   where
     read_none : (script : Option (List ℕ)) → HasReadKnown script script (Rose start.failures start.failures) []

@@ -18,9 +18,9 @@ read_none (Some xs) None ahead k = absurd k
 read_none (Some xs) (Some ys) ahead k = ap (λ rest. ahead ++ rest) k
 
 -- what stood between two places stands there, and more was read behind it
-pub filled : (ahead mid new : List ℕ) (start end count : ℕ) → start ≤ end → end ≤ length new → drop start (take end mid) ≡ ahead → take end new ≡ take end mid
+pub filled : (ahead between new : List ℕ) (start end count : ℕ) → start ≤ end → end ≤ length new → drop start (take end between) ≡ ahead → take end new ≡ take end between
     → drop start (take (end + count) new) ≡ ahead ++ take count (drop end new)
-filled ahead mid new start end count places within kept front =
+filled ahead between new start end count places within kept front =
     ap (λ xs. drop start xs) (take-add end count new)
     ∙ drop-append-le start (take end new) (take count (drop end new)) (omega (arith, length-take-le end new within))
     ∙ ap (λ xs. xs ++ take count (drop end new)) (ap (λ xs. drop start xs) front ∙ kept)

@@ -3,7 +3,7 @@ pub mod HexPieces
 pub mod Splits
 pub mod EventLines
 pub mod Feeds
-pub mod Reading
+pub mod LineReading
 pub mod OneAnswer
 pub mod Making
 pub mod Accounting

@@ -10,7 +10,7 @@ ghost use Rattle.dots_disk.specs.Logged.{zeros, media_since, acts_told, KeepsLog
 ghost use Rattle.dots_disk.specs.LoggedLaws.{keeps_logged_same, keeps_logged_then, one_moment_logged, keeps_acts_logged};
 ghost use Rattle.dots_script.specs.Lines.{to_come, NextIs};
 ghost use Rattle.dots_script.specs.Sends.{line_of};
-ghost use Rattle.dots_script.specs.Accounts.{Standing, AccountsSince};
+ghost use Rattle.dots_script.specs.Accounts.{Outer, AccountsSince};
 ghost use Rattle.dots_script.specs.Scripting.{KeepsScript};
 ghost use Rattle.dots_script.specs.ScriptingLaws.{keeps_script_same, keeps_script_then, script_leads};
 
@@ -143,7 +143,7 @@ impl<S: Source, K: Sink> Wire for ScriptHost<S, K> {
     ghost beside_then = { λ old mid new. keeps_logged_then old.disk mid.disk new.disk };
 
     // Whatever the start, the acts that it tells still are all that was read and written since.
-    ghost leads = { λ old new. (start : Standing) → AccountsSince S.left S.faults K.holds start old →
+    ghost leads = { λ old new. (start : Outer) → AccountsSince S.left S.faults K.holds start old →
         AccountsSince S.left S.faults K.holds start new };
 
     ghost leads_same = { λ _ _ accounts. accounts };
@@ -159,7 +159,7 @@ impl<S: Source, K: Sink> Wire for ScriptHost<S, K> {
         ensures later { self.old.faults ≤ self.new.faults }
         ensures cause { OnFailed result.what (Rose self.old.faults self.new.faults) }
         ensures beside { KeepsLogged self.old.disk self.new.disk }
-        ensures leads { (start : Standing) → AccountsSince S.left S.faults K.holds start self.old →
+        ensures leads { (start : Outer) → AccountsSince S.left S.faults K.holds start self.old →
             AccountsSince S.left S.faults K.holds start self.new }
 
         // What it answers is what the first line that isn't skipped says.
@@ -181,7 +181,7 @@ impl<S: Source, K: Sink> Wire for ScriptHost<S, K> {
             (acts_told self.new.disk) (length self.new.disk.acts) (given out.now result) }
         ensures faults { self.new.faults ≡ self.old.faults }
         ensures beside { KeepsLogged self.old.disk self.new.disk }
-        ensures leads { (start : Standing) → AccountsSince S.left S.faults K.holds start self.old →
+        ensures leads { (start : Outer) → AccountsSince S.left S.faults K.holds start self.old →
             AccountsSince S.left S.faults K.holds start self.new }
 
         // The line is written, or a beginning of it where the sink failed.

@@ -1,4 +1,4 @@
--- What a server stands for when it begins, and when it begins anew.
+-- What a server represents when it begins, and when it begins anew.
 use Rattle.std.proofs.Common.{◌≡◌, ℕ, ◌<◌, ◌≤◌, ◌^◌, true, List, [], ◌∷◌, max, Option, Some, None, refl, sym, ap, ◌∙◌, subst, arith, inr}
 use Rattle.std.specs.List.{list_all, AllByRecursion}
 use Rattle.std.proofs.lemmas.Bool.{and_from}
@@ -13,24 +13,24 @@ use Rattle.dots_history.specs.Bounds.{within_bounds}
 use Rattle.dots_history.specs.Histories.{Within, Kept, View, last}
 use Rattle.dots_laws.specs.Fits.{last_or, last_time}
 use Rattle.dots_laws.proofs.Composing.{kept_refl, kept_later}
-use Rattle.dots_registry.specs.Standing.{time_of, number_remembered}
+use Rattle.dots_registry.specs.RegistryValues.{time_of, number_remembered}
 use Rattle.slot_store.specs.Layout.{needed_of}
-use Rattle.slot_store.specs.Standing.{JournalValue}
+use Rattle.slot_store.specs.StoreValues.{JournalValue}
 use Rattle.slot_journal.specs.declared.fault.JournalFault.{JournalFault}
 use Rattle.slot_journal.specs.Sizes.{slots_of}
-use Rattle.slot_journal.specs.Held.{HasRecord, Holds, records_of}
-use Rattle.slot_journal.specs.Held as journal
+use Rattle.slot_journal.specs.DiskEntries.{HasRecord, Holds, records_of}
+use Rattle.slot_journal.specs.DiskEntries as journal
 use Rattle.slot_journal.proofs.Writing.{holds}
 use Rattle.slot_journal.proofs.Crashing.{one_history}
 use Rattle.dots_ledger.specs.Beginning.{RefusesLedger, IsFailure}
-use Rattle.dots_ledger.specs.Standing.{LedgerValue}
-use Rattle.dots_ledger.specs.Standing as ledger
+use Rattle.dots_ledger.specs.LedgerValues.{LedgerValue}
+use Rattle.dots_ledger.specs.LedgerValues as ledger
 use Rattle.dots_ledger.proofs.Recovering.{fails_alone}
 use Rattle.dots_ledger.proofs.Wholes.{ledger_whole}
 use Rattle.dots_registry.specs.Limits.{ClientsKeepLimits}
 use Rattle.dots_registry.proofs.CalmLimits.{limits_calm, limits_whole, own_calm, early_calm}
 use Rattle.dots_machine.specs.Machine.{State, begun_from, restarted}
-use Rattle.dots_server.specs.Standing.{ServerValue, ledger_of, IsKept, IsLiving}
+use Rattle.dots_server.specs.ServerValues.{ServerValue, ledger_of, IsKept, IsServing}
 
 -- ---- a server begins
 
@@ -39,33 +39,33 @@ bounded_by : (entries : List Entry) → AllByRecursion HasRecord entries → lis
 bounded_by [] each = refl
 bounded_by (e ∷ entries) each = and_from (within_bounds e) (list_all within_bounds entries) each.0.within (bounded_by entries each.1)
 
-module _ (settings : SettingsValue) (at : ℕ) (tables : LedgerValue) (held : List Entry) (early : at < 2 ^ 48) (stands : ledger.StandsFor tables settings held held)
+module _ (settings : SettingsValue) (at : ℕ) (tables : LedgerValue) (held : List Entry) (early : at < 2 ^ 48) (represents : ledger.Represents tables settings held held)
     (time : time_of tables.registry ≡ max at (last_time held)) (slots : tables.journal.slots ≡ slots_of settings) (each : AllByRecursion HasRecord held) where
   abbrev begun : ServerValue
   begun = record { settings = settings; registry = tables.registry; journal = tables.journal }
 
   pub begun_kept : IsKept begun settings (restarted (begun_from held) at) held
   begun_kept =
-      let young = early_calm settings held stands.calm in record {
-        stands = record {
-          stands = record {
+      let young = early_calm settings held represents.calm in record {
+        represents = record {
+          represents = record {
             settings_are = refl;
-            is_of = stands.is_of;
-            registry = stands.registry;
+            is_of = represents.is_of;
+            registry = represents.registry;
             time_is = time;
             early = omega (arith, early, young);
-            own = own_calm settings held stands.calm;
+            own = own_calm settings held represents.calm;
             bounded = bounded_by held each;
-            limits = limits_calm settings (max at (last_time held)) held stands.calm (omega arith);
+            limits = limits_calm settings (max at (last_time held)) held represents.calm (omega arith);
           };
-          ledger = stands;
+          ledger = represents;
           slots = slots;
         };
         rests = kept_refl settings.limits.remembered (last_time held) held;
       }
 
-  pub begun_lives : IsLiving begun
-  begun_lives = record { state = restarted (begun_from held) at; entries = held; stands = begun_kept.stands }
+  pub begun_lives : IsServing begun
+  begun_lives = record { state = restarted (begun_from held) at; entries = held; represents = begun_kept.represents }
 
 -- ---- a server begins anew
 
@@ -99,10 +99,10 @@ module _ (settings : SettingsValue) (at : ℕ) (old new : ServerValue) (state : 
   same_time = same_last settings.limits.remembered (last_time state.history) entries state.history kept.rests
 
   remembers : number_remembered new.registry ≡ settings.limits.remembered
-  remembers = ap (λ (limits : Limits). limits.remembered) begun_anew.stands.stands.is_of.limits
+  remembers = ap (λ (limits : Limits). limits.remembered) begun_anew.represents.represents.is_of.limits
 
   now : time_of new.registry ≡ max at (last_time state.history)
-  now = begun_anew.stands.stands.time_is ∙ ap (max at) same_time
+  now = begun_anew.represents.represents.time_is ∙ ap (max at) same_time
 
   kept_now : Kept (number_remembered new.registry) (time_of new.registry) entries state.history
   kept_now =
@@ -111,82 +111,82 @@ module _ (settings : SettingsValue) (at : ℕ) (old new : ServerValue) (state : 
 
   within_now : Within 0 state.history (time_of new.registry)
   within_now =
-      within_to 0 (last_time state.history) (time_of new.registry) state.history (omega (arith, now)) (within_or 0 (time_of old.registry) state.history kept.stands.stands.registry.live.in_order)
+      within_to 0 (last_time state.history) (time_of new.registry) state.history (omega (arith, now)) (within_or 0 (time_of old.registry) state.history kept.represents.represents.registry.live.in_order)
 
-  whole : ledger.StandsFor (ledger_of new) settings state.history entries
-  whole = ledger_whole (ledger_of new) settings entries state.history begun_anew.stands.ledger kept_now kept.stands.stands.own within_now
+  whole : ledger.Represents (ledger_of new) settings state.history entries
+  whole = ledger_whole (ledger_of new) settings entries state.history begun_anew.represents.ledger kept_now kept.represents.represents.own within_now
 
   pub restarted_kept : IsKept new settings (restarted state at) entries
   restarted_kept =
-      let young = begun_anew.stands.stands.early in record {
-        stands = record {
-          stands = record {
-            settings_are = begun_anew.stands.stands.settings_are;
+      let young = begun_anew.represents.represents.early in record {
+        represents = record {
+          represents = record {
+            settings_are = begun_anew.represents.represents.settings_are;
             is_of = whole.is_of;
             registry = whole.registry;
             time_is = now;
             early = subst (λ t. max at t < 2 ^ 48) same_time young;
-            own = kept.stands.stands.own;
-            bounded = kept.stands.stands.bounded;
+            own = kept.represents.represents.own;
+            bounded = kept.represents.represents.bounded;
             limits = limits_whole settings.limits settings.limits.remembered (max at (last_time state.history)) entries state.history
                 (kept_later settings.limits.remembered (last_time state.history) (max at (last_time state.history)) entries state.history (omega arith) kept.rests)
-                (subst (λ t. ClientsKeepLimits settings.limits (max at t) entries) same_time begun_anew.stands.stands.limits);
+                (subst (λ t. ClientsKeepLimits settings.limits (max at t) entries) same_time begun_anew.represents.represents.limits);
           };
           ledger = whole;
-          slots = begun_anew.stands.slots;
+          slots = begun_anew.represents.slots;
         };
         rests = kept.rests;
       }
 
 -- ---- the disk
 
--- a journal that stands for entries on an image: the image holds them
-pub stands_holds : (value : JournalValue) (settings : SettingsValue) (entries : List Entry) (image : ℕ → ℕ) → journal.StandsFor value settings entries image → Holds settings image entries
-stands_holds value settings entries image is = holds settings value.slots image (records_of entries) entries is.slots (record { same = refl; each = is.each }) (inr is.stands.journal)
+-- a journal that represents entries on an image: the image holds them
+pub stands_holds : (value : JournalValue) (settings : SettingsValue) (entries : List Entry) (image : ℕ → ℕ) → journal.Represents value settings entries image → Holds settings image entries
+stands_holds value settings entries image is = holds settings value.slots image (records_of entries) entries is.slots (record { same = refl; each = is.each }) (inr is.represents.journal)
 
 -- where the disk rests with them, a read gives them, and what is recovered is the same
 pub seen_of : (media : Option Media) (P : (ℕ → ℕ) → Type 0) → RestsWith media P → (seen : ℕ → ℕ) × Sees media seen × RestsWith media (Is seen) × P seen
 seen_of None P rests = absurd rests
 seen_of (Some media) P rests = (media.now.seen, refl, (rests.0, refl), rests.1)
 
-pub same_held : (settings : SettingsValue) (media : Option Media) (value : JournalValue) (entries found : List Entry) → RestsWith media (journal.StandsFor value settings entries)
+pub same_held : (settings : SettingsValue) (media : Option Media) (value : JournalValue) (entries found : List Entry) → RestsWith media (journal.Represents value settings entries)
     → ((seen : ℕ → ℕ) → Sees media seen → Holds settings seen found) → found ≡ entries
 same_held settings media value entries found rests found_there =
-    let (seen, sees, is, stands) = seen_of media (journal.StandsFor value settings entries) rests in
-    one_history settings seen found entries (found_there seen sees) (stands_holds value settings entries seen stands)
+    let (seen, sees, is, represents) = seen_of media (journal.Represents value settings entries) rests in
+    one_history settings seen found entries (found_there seen sees) (stands_holds value settings entries seen represents)
 
 -- ---- a restart finds what was left, under the settings that the server had
 
 module _ (settings given : SettingsValue) (same : given ≡ settings) (old : ServerValue) (state : State) (entries : List Entry) (kept : IsKept old settings state entries) (media media_new : Option Media)
-    (rests : RestsWith media (journal.StandsFor old.journal settings entries)) where
+    (rests : RestsWith media (journal.Represents old.journal settings entries)) where
   pub restart_moments : ((seen : ℕ → ℕ) (held : List Entry) → RestsWith media (Is seen) → Holds given seen held → Leaves media media_new (λ image. Holds given image held))
       → Leaves media media_new (λ image. Holds settings image entries)
   restart_moments moments =
-      let (seen, sees, is, stands) = seen_of media (journal.StandsFor old.journal settings entries) rests in
-      let holds = stands_holds old.journal settings entries seen stands in
+      let (seen, sees, is, represents) = seen_of media (journal.Represents old.journal settings entries) rests in
+      let holds = stands_holds old.journal settings entries seen represents in
       subst (λ s. Leaves media media_new (λ image. Holds s image entries)) same (moments seen entries is (subst (λ s. Holds s seen entries) (sym same) holds))
 
   pub restart_fails : (extent : ℕ) (fault : JournalFault) → needed_of (slots_of settings) ≤ extent
       → ((seen : ℕ → ℕ) → Sees media seen → RefusesLedger given extent seen media_new fault) → IsFailure fault
   restart_fails extent fault size refused =
-      let (seen, sees, is, stands) = seen_of media (journal.StandsFor old.journal settings entries) rests in
+      let (seen, sees, is, represents) = seen_of media (journal.Represents old.journal settings entries) rests in
       fails_alone settings extent seen media_new entries fault (subst (λ s. RefusesLedger s extent seen media_new fault) same (refused seen sees))
-      (stands_holds old.journal settings entries seen stands) kept.stands.ledger.calm size
+      (stands_holds old.journal settings entries seen represents) kept.represents.ledger.calm size
 
   module _ (at : ℕ) (new : ServerValue) where
     found_same : (held : List Entry) → IsKept new settings (restarted (begun_from held) at) held
-        → ((seen : ℕ → ℕ) → Sees media seen → Holds settings seen held × RestsWith media_new (journal.StandsFor new.journal settings held))
-        → IsKept new settings (restarted state at) entries × RestsWith media_new (journal.StandsFor new.journal settings entries)
+        → ((seen : ℕ → ℕ) → Sees media seen → Holds settings seen held × RestsWith media_new (journal.Represents new.journal settings held))
+        → IsKept new settings (restarted state at) entries × RestsWith media_new (journal.Represents new.journal settings entries)
     found_same held begun found =
-        let (seen, sees, is, stands) = seen_of media (journal.StandsFor old.journal settings entries) rests in
+        let (seen, sees, is, represents) = seen_of media (journal.Represents old.journal settings entries) rests in
         let one = same_held settings media old.journal entries held rests (λ seen sees. (found seen sees).0) in (
           restarted_kept settings at old new state entries kept (subst (λ es. IsKept new settings (restarted (begun_from es) at) es) one begun),
-          subst (λ es. RestsWith media_new (journal.StandsFor new.journal settings es)) one (found seen sees).1,
+          subst (λ es. RestsWith media_new (journal.Represents new.journal settings es)) one (found seen sees).1,
         )
 
     pub restart_found : (held : List Entry) → IsKept new given (restarted (begun_from held) at) held
-        → ((seen : ℕ → ℕ) → Sees media seen → Holds given seen held × RestsWith media_new (journal.StandsFor new.journal given held))
-        → IsKept new settings (restarted state at) entries × RestsWith media_new (journal.StandsFor new.journal settings entries)
+        → ((seen : ℕ → ℕ) → Sees media seen → Holds given seen held × RestsWith media_new (journal.Represents new.journal given held))
+        → IsKept new settings (restarted state at) entries × RestsWith media_new (journal.Represents new.journal settings entries)
     restart_found held begun found =
         found_same held (subst (λ s. IsKept new s (restarted (begun_from held) at) held) same begun)
-        (subst (λ s. (seen : ℕ → ℕ) → Sees media seen → Holds s seen held × RestsWith media_new (journal.StandsFor new.journal s held)) same found)
+        (subst (λ s. (seen : ℕ → ℕ) → Sees media seen → Holds s seen held × RestsWith media_new (journal.Represents new.journal s held)) same found)

@@ -4,11 +4,11 @@ mod Taking
 pub mod Acting
 pub mod Asked
 pub mod Accepting
-pub mod Keeping
+pub mod ServerValues
 pub mod Beginning
 pub mod Turning
 pub mod Received
 pub mod Reports
 pub mod Insides
-pub mod Told
+pub mod MitigationReplies
 pub mod Verdicts

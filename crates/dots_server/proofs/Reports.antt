@@ -2,7 +2,7 @@
 use Rattle.std.proofs.Common.{◌≡◌, ℕ, ◌+◌, List, [], ◌∷◌, ◌++◌, map, filter, flat_map, false, refl, ap, ◌∙◌}
 use Rattle.dots_host.proofs.WriteLemmas.{owes_all}
 use Rattle.filter_rows.specs.Fates.{fate_by_rows}
-use Rattle.filter_table.specs.Held.{HeldScrub, row_of_scrub, row_of_acl, is_active, active_rows}
+use Rattle.filter_table.specs.TableRows.{HeldScrub, row_of_scrub, row_of_acl, is_active, active_rows}
 use Rattle.filter_table.specs.declared.held.HeldAcl.{HeldAcl}
 use Rattle.dots_settings.specs.Settings.{SettingsValue}
 use Rattle.dots_settings.specs.Lookups.{prefixes_of}
@@ -10,7 +10,7 @@ use Rattle.dots_history.specs.Rows.{Row, plain_row, scrub_rows, plain_rows, acl_
 use Rattle.dots_machine.specs.Machine.{State}
 use Rattle.dots_machine.specs.Report.{scrub_line, packet_lines, report_of}
 use Rattle.dots_report.specs.Gathering.{Sunk, HasWritten}
-use Rattle.dots_server.specs.Standing.{ServerValue, StandsFor}
+use Rattle.dots_server.specs.ServerValues.{ServerValue, Represents}
 
 -- each row of a live mitigation is active
 all_active : (rows : List Row) → filter is_active (map plain_row rows) ≡ map plain_row rows
@@ -23,11 +23,11 @@ lines_of settings scrubs acls =
     flat_map (scrub_line settings) (active_rows scrubs)
     ++ packet_lines (fate_by_rows (prefixes_of settings) (map row_of_scrub scrubs) (map row_of_acl acls)) 1 settings.packets
 
-pub report_is : (server : ServerValue) (settings : SettingsValue) (state : State) (scrubs : List HeldScrub) (acls : List HeldAcl) → StandsFor server settings state
+pub report_is : (server : ServerValue) (settings : SettingsValue) (state : State) (scrubs : List HeldScrub) (acls : List HeldAcl) → Represents server settings state
     → map row_of_scrub scrubs ≡ plain_rows state.time state.history → map row_of_acl acls ≡ acl_rows state.time state.history
     → lines_of server.settings scrubs acls ≡ report_of settings state
-report_is server settings state scrubs acls stands rows lists =
-    ap (λ s. lines_of s scrubs acls) stands.settings_are
+report_is server settings state scrubs acls represents rows lists =
+    ap (λ s. lines_of s scrubs acls) represents.settings_are
     ∙ ap (λ active. flat_map (scrub_line settings) active ++ packet_lines (fate_by_rows (prefixes_of settings) (map row_of_scrub scrubs) (map row_of_acl acls)) 1 settings.packets)
     (ap (filter is_active) rows ∙ all_active (scrub_rows state.time state.history))
     ∙ ap (λ held. flat_map (scrub_line settings) (plain_rows state.time state.history) ++ packet_lines (fate_by_rows (prefixes_of settings) held (map row_of_acl acls)) 1 settings.packets) rows

@@ -20,17 +20,17 @@ use Rattle.dots_laws.proofs.Composing.{kept_later}
 use Rattle.slot_journal.specs.declared.fault.JournalFault.{JournalFault}
 use Rattle.slot_journal.specs.declared.fault.JournalFault.TheVariants as fault_is
 use Rattle.slot_journal.specs.Refused.{Caused}
-use Rattle.slot_journal.specs.Held.{Holds}
-use Rattle.slot_journal.specs.Held as journal
+use Rattle.slot_journal.specs.DiskEntries.{Holds}
+use Rattle.slot_journal.specs.DiskEntries as journal
 use Rattle.dots_ledger.specs.Beginning.{IsFailure}
 use Rattle.dots_machine.specs.declared.ending.Stop.{Stop}
 use Rattle.dots_machine.specs.declared.ending.Stop.TheVariants as stop
 use Rattle.dots_machine.specs.Endings.{Stops, IsSettled}
 use Rattle.dots_machine.specs.Machine.{State, restarted, Step}
-use Rattle.dots_server.specs.Standing.{ServerValue, IsKept}
+use Rattle.dots_server.specs.ServerValues.{ServerValue, IsKept}
 use Rattle.dots_server.specs.Turning.{IsServed, HoldsTurn}
 use Rattle.dots_server.proofs.Turning.{kept_still, added_behind}
-use Rattle.dots_server.specs.Living.{StopsFor}
+use Rattle.dots_server.specs.Running.{StopsFor}
 use Rattle.dots_server.specs.Taking.{IsTaken, MayStop, Took, StoppedAt}
 use Rattle.dots_server.proofs.Turns.{go_on_then}
 
@@ -40,17 +40,17 @@ module _ (settings : SettingsValue) (state : State) (at : ℕ) (old : ServerValu
   restart_holds image holds = inl (record {
     entries = entries;
     holds = holds;
-    calm = kept.stands.ledger.calm;
+    calm = kept.represents.ledger.calm;
     kept = kept_later settings.limits.remembered (last_time state.history) (restarted state at).time entries state.history (omega arith) kept.rests;
   })
 
   module _ (media media_new : Option Media) (acts acts_new : Option (List Timed)) (silent : KeepsActs acts acts_new)
-      (moments : RestsWith media (journal.StandsFor old.journal settings entries) → Leaves media media_new (λ image. Holds settings image entries)) where
-    restart_writes : RestsWith media (journal.StandsFor old.journal settings entries) → Leaves media media_new (HoldsTurn settings state (restarted state at))
+      (moments : RestsWith media (journal.Represents old.journal settings entries) → Leaves media media_new (λ image. Holds settings image entries)) where
+    restart_writes : RestsWith media (journal.Represents old.journal settings entries) → Leaves media media_new (HoldsTurn settings state (restarted state at))
     restart_writes rests = leaves_as media media_new (λ image. Holds settings image entries) (HoldsTurn settings state (restarted state at)) restart_holds (moments rests)
 
     -- the server began anew
-    pub restart_took : (now : ServerValue) (moment : ℕ) → IsMoment moment media_new → IsKept now settings (restarted state at) entries → RestsWith media_new (journal.StandsFor now.journal settings entries)
+    pub restart_took : (now : ServerValue) (moment : ℕ) → IsMoment moment media_new → IsKept now settings (restarted state at) entries → RestsWith media_new (journal.Represents now.journal settings entries)
         → Took settings state event.Restart at old now entries media media_new acts acts_new
     restart_took now moment here begun rests_new = record {
       owed = [];
@@ -59,7 +59,7 @@ module _ (settings : SettingsValue) (state : State) (at : ℕ) (old : ServerValu
       step = (refl, refl);
       kept = begun;
       turn = record {
-        mid = media_new;
+        between = media_new;
         moment = moment;
         is_moment = here;
         gives = added_behind acts acts_new acts_new (Gives moment []) silent (added_none acts_new (Gives moment []) tt);
@@ -75,7 +75,7 @@ module _ (settings : SettingsValue) (state : State) (at : ℕ) (old : ServerValu
       owed = [];
       new = restarted state at;
       step = (refl, refl);
-      broke = record { silent = silent; writes = restart_writes; own = kept.stands.stands.own };
+      broke = record { silent = silent; writes = restart_writes; own = kept.represents.represents.own };
       may = refl;
       found = found;
     }

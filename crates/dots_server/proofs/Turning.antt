@@ -32,7 +32,7 @@ module _ (settings : SettingsValue) (old new : State) (outs : List OwnedOut) (Be
   -- nothing is written
   pub unwritten : IsMoment moment media → Added acts acts_new (Gives moment outs) → KeepsMedia media media_new → Turned settings old new outs Before Before media media_new acts acts_new
   unwritten at gives sends = record {
-    mid = media;
+    between = media;
     moment = moment;
     is_moment = at;
     gives = gives;
@@ -63,7 +63,7 @@ module _ (settings : SettingsValue) (state new : State) (at : ℕ) (Before : (�
   pub turned_from : (outs : List OwnedOut) (After : (ℕ → ℕ) → Type 0) → Turned settings (later state at) new outs Before After media media_new acts acts_new
       → Turned settings state new outs Before After media media_new acts acts_new
   turned_from outs After turned = record {
-    mid = turned.mid;
+    between = turned.between;
     moment = turned.moment;
     is_moment = turned.is_moment;
     gives = turned.gives;

@@ -17,11 +17,11 @@ use Rattle.dots_machine.specs.declared.ending.Stop.{Stop}
 use Rattle.dots_machine.specs.declared.ending.Stop.TheVariants as stop
 use Rattle.dots_machine.specs.Endings.{Stops, Ran}
 use Rattle.dots_machine.specs.Machine.{State, Step}
-use Rattle.dots_machine.specs.Surviving.{Story, past_of, NoneBefore, StandsAt, Survives}
+use Rattle.dots_machine.specs.Surviving.{Story, past_of, NoneBefore, MeansAt, Survives}
 use Rattle.dots_machine.proofs.Surviving.{story_length, story_then, told_by, step_tells, step_grows, gives_late, none_then, leaves_at_none, leaves_at_past, later_past, survives_writing, survives_sending, bounded_still}
 use Rattle.dots_server.specs.Turning.{HoldsTurn, Turned}
 use Rattle.dots_server.proofs.Turning.{none_added}
-use Rattle.dots_server.specs.Living.{Lives}
+use Rattle.dots_server.specs.Running.{RunsTo}
 
 pub go_on_then : (front back : List Timed) → GoOn front → GoOn back → GoOn (front ++ back)
 go_on_then [] back f b = b
@@ -99,14 +99,14 @@ module _ (settings : SettingsValue) where
       → Story settings (resting old) (timed_at moment what at ∷ []) (new ∷ []) (owing new owed)
   taken_story old new moment what at owed s = (owing new owed, (refl, s), refl, refl)
 
-  pub begins : (state : State) (media : Option Media) (Any : (ℕ → ℕ) → Type 0) → RestsWith media Any → Lives settings state state 0 media media [] []
+  pub begins : (state : State) (media : Option Media) (Any : (ℕ → ℕ) → Type 0) → RestsWith media Any → RunsTo settings state state 0 media media [] []
   begins state media Any rests = record {
     story = refl;
     goes_on = tt;
     count = refl;
     later = tt;
     bounded = λ m. le_refl (length state.history);
-    survives = leaves_at_none (StandsAt settings state [] [] state.history) media Any rests;
+    survives = leaves_at_none (MeansAt settings state [] [] state.history) media Any rests;
   }
 
   module _ (from old new : State) (n moment at : ℕ) (what : Event) (owed : List (State × OwnedOut)) (trace : List State) (media a b : Option Media)
@@ -116,13 +116,13 @@ module _ (settings : SettingsValue) where
         let grown = step_grows settings old what at owed new step in
         (before.0 ++ grown.0, grown.1 ∙ ap (λ es. es ++ grown.0) before.1 ∙ append_assoc from.history before.0 grown.0)
 
-    past_start : (first now : Option Media) (front : List Timed) → Lives settings from old n first now trace front → past_of first ≤ past_of now
-    past_start first now front lives = leaves_at_past first now (StandsAt settings from front trace old.history) lives.survives
+    past_start : (first now : Option Media) (front : List Timed) → RunsTo settings from old n first now trace front → past_of first ≤ past_of now
+    past_start first now front lives = leaves_at_past first now (MeansAt settings from front trace old.history) lives.survives
 
     -- one more turn of the loop
-    lives_then : (c d : Option Media) (next : ℕ) (front acts : List Timed) → IsNoEnd (took what at) → Lives settings from old n media a trace front → Gives next (outs_of owed) acts
+    lives_then : (c d : Option Media) (next : ℕ) (front acts : List Timed) → IsNoEnd (took what at) → RunsTo settings from old n media a trace front → Gives next (outs_of owed) acts
         → IsMoment next c → Leaves b c (HoldsTurn settings old new) → RestsWith c (Held new.time new.history) → KeepsMedia c d
-        → Lives settings from new (n + 1) media d (trace ++ (new ∷ told_by owed)) (front ++ (timed_at moment what at ∷ acts))
+        → RunsTo settings from new (n + 1) media d (trace ++ (new ∷ told_by owed)) (front ++ (timed_at moment what at ∷ acts))
     lives_then c d next front acts goes lives g at_c writes rests_c sends =
         let same = story_length settings (resting from) (resting old) front trace lives.story in
         let count = lives.count in
@@ -143,22 +143,22 @@ module _ (settings : SettingsValue) where
               (omega (arith, past_a, later)) g written rests_c sends;
         }
 
-    pub turned : (d : Option Media) (Before After : (ℕ → ℕ) → Type 0) (now : ℕ) (xs ys zs ws : Option (List Timed)) → IsNoEnd (took what at) → Added xs ys (Lives settings from old n media a trace)
+    pub turned : (d : Option Media) (Before After : (ℕ → ℕ) → Type 0) (now : ℕ) (xs ys zs ws : Option (List Timed)) → IsNoEnd (took what at) → Added xs ys (RunsTo settings from old n media a trace)
         → Adds ys moment zs now (took what at) → (turn : Turned settings old new (outs_of owed) Before After b d zs ws) → RestsWith b Before
-        → (RestsWith turn.mid After → RestsWith turn.mid (Held new.time new.history))
-        → Added xs ws (Lives settings from new (n + 1) media d (trace ++ (new ∷ told_by owed)))
+        → (RestsWith turn.between After → RestsWith turn.between (Held new.time new.history))
+        → Added xs ws (RunsTo settings from new (n + 1) media d (trace ++ (new ∷ told_by owed)))
     turned d Before After now xs ys zs ws goes lives took_it turn rests_b holds =
         let timed : Timed = timed_at moment what at in
         let P : List Timed → Type 0 = λ more. more ≡ timed ∷ [] in
         let Q : List Timed → Type 0 = λ more. (acts : List Timed) × (more ≡ timed ∷ acts) × Gives turn.moment (outs_of owed) acts in
         let one = added_by ys zs moment now (took what at) P took_it refl in
         let both = added_then ys zs ws P (Gives turn.moment (outs_of owed)) Q one turn.gives (λ front back f g. (back, ap (λ xs. xs ++ back) f, g)) in
-        added_then xs ys ws (Lives settings from old n media a trace) Q (Lives settings from new (n + 1) media d (trace ++ (new ∷ told_by owed))) lives both (λ front back f q.
-        subst (λ xs. Lives settings from new (n + 1) media d (trace ++ (new ∷ told_by owed)) (front ++ xs)) (sym q.1)
-        (lives_then turn.mid d turn.moment front q.0 goes f q.2 turn.is_moment (turn.writes rests_b) (holds (turn.rests rests_b)) turn.sends))
+        added_then xs ys ws (RunsTo settings from old n media a trace) Q (RunsTo settings from new (n + 1) media d (trace ++ (new ∷ told_by owed))) lives both (λ front back f q.
+        subst (λ xs. RunsTo settings from new (n + 1) media d (trace ++ (new ∷ told_by owed)) (front ++ xs)) (sym q.1)
+        (lives_then turn.between d turn.moment front q.0 goes f q.2 turn.is_moment (turn.writes rests_b) (holds (turn.rests rests_b)) turn.sends))
 
     -- the event is the last, and nothing was sent for it
-    ends_then : (c : Option Media) (how : Stop) (front : List Timed) → Stops how (front ++ (timed_at moment what at ∷ [])) → Lives settings from old n media a trace front
+    ends_then : (c : Option Media) (how : Stop) (front : List Timed) → Stops how (front ++ (timed_at moment what at ∷ [])) → RunsTo settings from old n media a trace front
         → Leaves b c (HoldsTurn settings old new)
         → Ran settings from (trace ++ (new ∷ [])) (owing new owed) how (front ++ (timed_at moment what at ∷ [])) × NoneBefore (past_of media) (front ++ (timed_at moment what at ∷ [])) × Survives settings from media c (front ++ (timed_at moment what at ∷ [])) (trace ++ (new ∷ [])) new.history
     ends_then c how front stops lives writes =
@@ -174,7 +174,7 @@ module _ (settings : SettingsValue) where
           survives_writing settings from front trace same moment at what new [] [] old grown tt lives.bounded media a b c (past_of c) past_a (le_refl (past_of c)) tt lives.survives rests keeps writes,
         )
 
-    pub stopped : (c : Option Media) (how : Stop) (now : ℕ) (xs ys zs ws : Option (List Timed)) → Added xs ys (Lives settings from old n media a trace)
+    pub stopped : (c : Option Media) (how : Stop) (now : ℕ) (xs ys zs ws : Option (List Timed)) → Added xs ys (RunsTo settings from old n media a trace)
         → ((front : List Timed) → GoOn front → Stops how (front ++ (timed_at moment what at ∷ []))) → Adds ys moment zs now (took what at) → KeepsActs zs ws
         → Leaves b c (HoldsTurn settings old new)
         → Added xs ws (λ more. Ran settings from (trace ++ (new ∷ [])) (owing new owed) how more × NoneBefore (past_of media) more × Survives settings from media c more (trace ++ (new ∷ [])) new.history)
@@ -184,14 +184,14 @@ module _ (settings : SettingsValue) where
         let R : List Timed → Type 0 = λ more. Ran settings from (trace ++ (new ∷ [])) (owing new owed) how more × NoneBefore (past_of media) more × Survives settings from media c more (trace ++ (new ∷ [])) new.history in
         let one = added_by ys zs moment now (took what at) P took_it refl in
         let both = added_then ys zs ws P (λ more. more ≡ []) P one (none_added zs ws silent) (λ front back f none. ap (λ xs. front ++ xs) none ∙ append-nil front ∙ f) in
-        added_then xs ys ws (Lives settings from old n media a trace) P R lives both (λ front back f p.
+        added_then xs ys ws (RunsTo settings from old n media a trace) P R lives both (λ front back f p.
         subst (λ xs. R (front ++ xs)) (sym p) (ends_then c how front (says front f.goes_on) f writes))
 
   -- the loop has run out
-  pub ran_out : (from old : State) (n : ℕ) (trace : List State) (media now : Option Media) (a b : Option (List Timed)) → n ≡ 2 ^ 40 → Added a b (Lives settings from old n media now trace)
+  pub ran_out : (from old : State) (n : ℕ) (trace : List State) (media now : Option Media) (a b : Option (List Timed)) → n ≡ 2 ^ 40 → Added a b (RunsTo settings from old n media now trace)
       → Added a b (λ more. Ran settings from trace (resting old) stop.TooMany more × NoneBefore (past_of media) more × Survives settings from media now more trace old.history)
   ran_out from old n trace media now a b is lives =
-      added_weaker a b (Lives settings from old n media now trace) (λ more. Ran settings from trace (resting old) stop.TooMany more × NoneBefore (past_of media) more × Survives settings from media now more trace old.history) lives
+      added_weaker a b (RunsTo settings from old n media now trace) (λ more. Ran settings from trace (resting old) stop.TooMany more × NoneBefore (past_of media) more × Survives settings from media now more trace old.history) lives
       (λ more l. (record { run = l.story; stops = (l.goes_on, l.count ∙ is) }, l.later, l.survives))
 
 -- acts that stay as they were

@@ -16,8 +16,8 @@ use Rattle.conflict_rules.specs.declared.fault.PutFault.{PutFault}
 use Rattle.conflict_rules.specs.declared.fault.PutFault.TheVariants as faults
 use Rattle.conflict_rules.specs.declared.judging.Judged.{Judged}
 use Rattle.conflict_rules.specs.Results.{Fails}
-use Rattle.dots_registry.specs.Standing.{time_of, number_remembered}
-use Rattle.dots_registry.specs.Standing as registry
+use Rattle.dots_registry.specs.RegistryValues.{time_of, number_remembered}
+use Rattle.dots_registry.specs.RegistryValues as registry
 use Rattle.dots_registry.specs.Judging.{judge_request}
 use Rattle.dots_machine.specs.declared.target.TargetFault.{TargetFault}
 use Rattle.dots_machine.specs.declared.exchange.Exchange.{Exchange}
@@ -27,12 +27,12 @@ use Rattle.dots_machine.specs.declared.verdict.Verdict.TheVariants as verdict
 use Rattle.dots_machine.specs.Domains.{is_gateway, session_domain}
 use Rattle.dots_machine.specs.Targets.{scope_fault}
 use Rattle.dots_machine.specs.Replies.{bad_target, not_implemented}
-use Rattle.dots_machine.specs.Repeats.{Sent, sent_for}
+use Rattle.dots_machine.specs.MessageRepeats.{Sent, sent_for}
 use Rattle.dots_machine.specs.Mitigations.{sent_by, request_of, judged}
 use Rattle.dots_machine.specs.Machine.{State, is_stranger}
 use Rattle.dots_machine.specs.Verdicts.{repeated, unless_repeated, unless_faulty, put_verdict, in_domain, config_for}
 use Rattle.dots_server.specs.Asking.{role_with}
-use Rattle.dots_server.specs.Standing.{ServerValue, StandsFor, IsLiving}
+use Rattle.dots_server.specs.ServerValues.{ServerValue, Represents, IsServing}
 
 pub if_ok : {A E : Type 0} (r : Result A E) (P Q : A → Type 0) → ((x : A) → P x → Q x) → IfOk r P → IfOk r Q
 if_ok (Ok x) P Q f p = f x p
@@ -81,11 +81,11 @@ repeat_none (Some e) otherwise is = absurd (none-some e.reply is)
 repeat_none None otherwise is = refl
 
 -- the registry remembers by the settings, at the state's time
-pub remembered_here : (server : ServerValue) (settings : SettingsValue) (state : State) (sent : Sent) → StandsFor server settings state
+pub remembered_here : (server : ServerValue) (settings : SettingsValue) (state : State) (sent : Sent) → Represents server settings state
     → remembered (number_remembered server.registry) (time_of server.registry) sent.peer sent.domain sent.id state.history ≡ repeated settings state.time state.history sent
-remembered_here server settings state sent stands =
-    ap (λ (l : Limits). remembered l.remembered (time_of server.registry) sent.peer sent.domain sent.id state.history) stands.is_of.limits
-    ∙ ap (λ t. remembered settings.limits.remembered t sent.peer sent.domain sent.id state.history) stands.time_is
+remembered_here server settings state sent represents =
+    ap (λ (l : Limits). remembered l.remembered (time_of server.registry) sent.peer sent.domain sent.id state.history) represents.is_of.limits
+    ∙ ap (λ t. remembered settings.limits.remembered t sent.peer sent.domain sent.id state.history) represents.time_is
 
 reply_within : (e : Entry) → within_bounds e ≡ true → length e.reply ≤ 64
 reply_within e is =
@@ -109,23 +109,23 @@ remembered_within n t peer domain id (x ∷ later) e all is =
         by_test false here = absurd (none-some e here)
 
 -- what a registry remembers fits a short message
-pub reply_is_short : (server : ServerValue) (peer domain id : ℕ) (reply : List ℕ) → IsLiving server
-    → ((entries : List Entry) → registry.StandsFor server.registry entries
+pub reply_is_short : (server : ServerValue) (peer domain id : ℕ) (reply : List ℕ) → IsServing server
+    → ((entries : List Entry) → registry.Represents server.registry entries
     → Some reply ≡ reply_in (remembered (number_remembered server.registry) (time_of server.registry) peer domain id entries))
     → length reply ≤ 64
-reply_is_short server peer domain id reply living is = by_found found refl (is living.state.history living.stands.stands.registry)
+reply_is_short server peer domain id reply serving is = by_found found refl (is serving.state.history serving.represents.represents.registry)
   where
     found : Option Entry
-    found = remembered (number_remembered server.registry) (time_of server.registry) peer domain id living.state.history
+    found = remembered (number_remembered server.registry) (time_of server.registry) peer domain id serving.state.history
 
     by_found : (o : Option Entry) → found ≡ o → Some reply ≡ reply_in o → length reply ≤ 64
     by_found None at same = absurd (none-some reply (sym same))
     by_found (Some e) at same =
         subst (λ reply. length reply ≤ 64) (sym (same_Some reply e.reply same))
-        (remembered_within (number_remembered server.registry) (time_of server.registry) peer domain id living.state.history e living.stands.stands.bounded at)
+        (remembered_within (number_remembered server.registry) (time_of server.registry) peer domain id serving.state.history e serving.represents.represents.bounded at)
 
 -- ---- on a request for a mitigation
-module _ (server : ServerValue) (settings : SettingsValue) (state : State) (a : MitigationRequest) (stands : StandsFor server settings state) where
+module _ (server : ServerValue) (settings : SettingsValue) (state : State) (a : MitigationRequest) (represents : Represents server settings state) where
   abbrev fault : SettingsValue → Option TargetFault
   fault s = scope_fault s (prefixes_of s a.from.domain) a.body.asked
 
@@ -137,7 +137,7 @@ module _ (server : ServerValue) (settings : SettingsValue) (state : State) (a : 
 
   -- by the faults that the server finds
   decided_by : (f : Option TargetFault) → fault server.settings ≡ f → unless_faulty a.from.exchange f (unless_repeated known by_rules) ≡ put_verdict settings state.time state.history a
-  decided_by f is = ap (λ f. unless_faulty a.from.exchange f (unless_repeated known by_rules)) (sym is ∙ ap fault stands.settings_are)
+  decided_by f is = ap (λ f. unless_faulty a.from.exchange f (unless_repeated known by_rules)) (sym is ∙ ap fault represents.settings_are)
 
   pub server_finds_fault : (f : TargetFault) → fault server.settings ≡ Some f → verdict.Reply (bad_target a.from.exchange f) ≡ put_verdict settings state.time state.history a
   server_finds_fault f is = decided_by (Some f) is
@@ -152,13 +152,13 @@ module _ (server : ServerValue) (settings : SettingsValue) (state : State) (a : 
   pub judged_here : (r : Result Judged PutFault) → judge_request server.settings (time_of server.registry) state.history a.from.domain (request_of a) ≡ r
       → judge_request settings state.time state.history a.from.domain (request_of a) ≡ r
   judged_here r is =
-      sym (ap (λ s. judge_request s (time_of server.registry) state.history a.from.domain (request_of a)) stands.settings_are
-      ∙ ap (λ t. judge_request settings t state.history a.from.domain (request_of a)) stands.time_is)
+      sym (ap (λ s. judge_request s (time_of server.registry) state.history a.from.domain (request_of a)) represents.settings_are
+      ∙ ap (λ t. judge_request settings t state.history a.from.domain (request_of a)) represents.time_is)
       ∙ is
 
   pub server_judges : (r : Result Judged PutFault) → judge_request server.settings (time_of server.registry) state.history a.from.domain (request_of a) ≡ r
       → judged (time_of server.registry) a r ≡ by_rules
-  server_judges r is = ap (λ t. judged t a r) stands.time_is ∙ ap (judged state.time a) (sym (judged_here r is))
+  server_judges r is = ap (λ t. judged t a r) represents.time_is ∙ ap (judged state.time a) (sym (judged_here r is))
 
 -- ---- on a request to change the configuration of a session
 module _ (settings : SettingsValue) (state : State) (peer : ℕ) (x : Exchange) (own : Option ℕ) (own_is : role_of settings peer ≡ role_with own) (domain : ℕ)

@@ -1,5 +1,5 @@
-pub mod Living
+pub mod Running
 pub mod Taking
-pub mod Standing
+pub mod ServerValues
 pub mod Turning
 pub mod Asking

@@ -9,12 +9,12 @@ use Rattle.dots_host.specs.Runs.{outs_of}
 use Rattle.dots_disk.specs.Media.{Media}
 use Rattle.dots_settings.specs.Settings.{SettingsValue}
 use Rattle.dots_history.specs.declared.entry.Entry.{Entry}
-use Rattle.slot_journal.specs.Held as journal
+use Rattle.slot_journal.specs.DiskEntries as journal
 use Rattle.dots_machine.specs.declared.ending.Stop.{Stop}
 use Rattle.dots_machine.specs.declared.ending.Stop.TheVariants as stop
 use Rattle.dots_machine.specs.Endings.{IsFound}
 use Rattle.dots_machine.specs.Machine.{State, Step}
-use Rattle.dots_server.specs.Standing.{ServerValue, IsKept}
+use Rattle.dots_server.specs.ServerValues.{ServerValue, IsKept}
 use Rattle.dots_server.specs.Turning.{Turned, Broke}
 use Rattle.dots_host.specs.declared.event.Event.TheVariants as event
 
@@ -31,7 +31,7 @@ pub record Took (settings : SettingsValue) (state : State) (came : Event) (at : 
   pub few : List Entry
   pub step : Step settings state came at owed new
   pub kept : IsKept now settings new few
-  pub turn : Turned settings state new (outs_of owed) (journal.StandsFor old.journal settings entries) (journal.StandsFor now.journal settings few) media media_now acts acts_now
+  pub turn : Turned settings state new (outs_of owed) (journal.Represents old.journal settings entries) (journal.Represents now.journal settings few) media media_now acts acts_now
 
 -- an event at which a run may stop so
 abbrev pub MayStop : Stop → Event → Type 0
@@ -44,6 +44,6 @@ pub record StoppedAt (settings : SettingsValue) (state : State) (how : Stop) (ca
   pub owed : List (State × OwnedOut)
   pub new : State
   pub step : Step settings state came at owed new
-  pub broke : Broke settings state new (journal.StandsFor server.journal settings entries) media media_now acts acts_now
+  pub broke : Broke settings state new (journal.Represents server.journal settings entries) media media_now acts acts_now
   pub may : MayStop how came
   pub found : IsFound how

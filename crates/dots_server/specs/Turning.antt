@@ -30,13 +30,13 @@ HoldsTurn settings old new image =
 -- of the other; there it rests with those of the other; and from then on nothing is written, and the sends are given, one moment after the
 -- other. What the disk must rest with at the start, and does in the end, is said by two relations.
 pub record Turned (settings : SettingsValue) (old new : State) (outs : List OwnedOut) (before after : (ℕ → ℕ) → Type 0) (media media_new : Option Media) (acts acts_new : Option (List Timed)) : Type 0 where
-  pub mid : Option Media
+  pub between : Option Media
   pub moment : ℕ
-  pub is_moment : IsMoment moment mid
+  pub is_moment : IsMoment moment between
   pub gives : Added acts acts_new (Gives moment outs)
-  pub writes : RestsWith media before → Leaves media mid (HoldsTurn settings old new)
-  pub rests : RestsWith media before → RestsWith mid after
-  pub sends : KeepsMedia mid media_new
+  pub writes : RestsWith media before → Leaves media between (HoldsTurn settings old new)
+  pub rests : RestsWith media before → RestsWith between after
+  pub sends : KeepsMedia between media_new
 
 -- The disk failed on the way from the one state to the other: nothing was sent, and at each moment the disk has entries with the view of the
 -- one history or of the other. The entries of the other are the settings' own.

@@ -10,7 +10,7 @@ ghost use Rattle.dots_machine.specs.Domains.{domain_for};
 ghost use Rattle.dots_machine.specs.Verdicts.{asked_verdict, in_domain, with_mid, put_for, put_in, get_for, delete_for, delete_in};
 ghost use Rattle.dots_server.specs.Asking.{IsOwn, domain_asked, DecidesOn};
 ghost use Rattle.dots_replies.specs.Receiving.{IsGrantable};
-ghost use Rattle.dots_server.specs.Standing.{StandsFor, CanCarryOut};
+ghost use Rattle.dots_server.specs.ServerValues.{Represents, CanCarryOut};
 
 use crate::server::Server;
 use coap_message::Kind;
@@ -24,7 +24,7 @@ use dots_settings::Role;
 impl Server {
     /// What is decided on a datagram, that of a stranger being passed over in silence. What is accepted can be carried out.
     pub(crate) fn decide(&self, peer: u32, datagram: &[u8]) -> Verdict
-        ensures decides { (settings : SettingsValue) (state : State) → StandsFor self.now settings state → Decides settings state peer datagram.now result }
+        ensures decides { (settings : SettingsValue) (state : State) → Represents self.now settings state → Decides settings state peer datagram.now result }
         ensures ready { CanCarryOut result self.now }
     {
         match self.settings.domain_of(peer) {
@@ -37,7 +37,7 @@ impl Server {
     /// What is decided on the datagram of a client of this domain, or of a gateway.
     fn decide_known(&self, peer: u32, own: Option<u16>, datagram: &[u8]) -> Verdict
         requires own { IsOwn self.now.settings peer own }
-        ensures decides { (settings : SettingsValue) (state : State) → StandsFor self.now settings state → Decides settings state peer datagram.now result }
+        ensures decides { (settings : SettingsValue) (state : State) → Represents self.now settings state → Decides settings state peer datagram.now result }
         ensures ready { CanCarryOut result self.now }
     {
         match receive(self.alloc, datagram, own.is_none()) {
@@ -50,7 +50,7 @@ impl Server {
     fn decide_on(&self, peer: u32, own: Option<u16>, received: Received) -> Verdict
         requires own { IsOwn self.now.settings peer own }
         requires grantable { IsGrantable received }
-        ensures decides { (settings : SettingsValue) (state : State) → StandsFor self.now settings state → DecidesOn settings state peer received result }
+        ensures decides { (settings : SettingsValue) (state : State) → Represents self.now settings state → DecidesOn settings state peer received result }
         ensures ready { CanCarryOut result self.now }
     {
         match received {
@@ -75,7 +75,7 @@ impl Server {
     ) -> Result<Verdict, NoMemory>
         requires askable { IsAskable request }
         requires own { IsOwn self.now.settings peer own }
-        ensures decides { (settings : SettingsValue) (state : State) → StandsFor self.now settings state
+        ensures decides { (settings : SettingsValue) (state : State) → Represents self.now settings state
             → IfOk result (λ verdict. verdict ≡ asked_verdict settings state peer exchange request) }
         ensures ready { IfOk result (λ verdict. CanCarryOut verdict self.now) }
     {
@@ -107,7 +107,7 @@ impl Server {
     ) -> Result<Verdict, NoMemory>
         requires askable { IsAskableBody body }
         requires own { IsOwn self.now.settings peer own }
-        ensures decides { (settings : SettingsValue) (state : State) → StandsFor self.now settings state
+        ensures decides { (settings : SettingsValue) (state : State) → Represents self.now settings state
             → IfOk result (λ verdict. verdict ≡ in_domain exchange (domain_for settings (role_of settings peer) path.cdid) (put_for settings state peer exchange path body)) }
         ensures ready { IfOk result (λ verdict. CanCarryOut verdict self.now) }
     {
@@ -127,7 +127,7 @@ impl Server {
     ) -> Result<Verdict, NoMemory>
         requires askable { IsAskableBody body }
         requires acts { may_act self.now.settings (role_of self.now.settings from.peer) from.domain ≡ true }
-        ensures decides { (settings : SettingsValue) (state : State) → StandsFor self.now settings state
+        ensures decides { (settings : SettingsValue) (state : State) → Represents self.now settings state
             → IfOk result (λ verdict. verdict ≡ with_mid from.exchange mid (put_in settings state from body)) }
         ensures ready { IfOk result (λ verdict. CanCarryOut verdict self.now) }
     {
@@ -147,7 +147,7 @@ impl Server {
         content: Content,
     ) -> Result<Verdict, NoMemory>
         requires own { IsOwn self.now.settings peer own }
-        ensures decides { (settings : SettingsValue) (state : State) → StandsFor self.now settings state
+        ensures decides { (settings : SettingsValue) (state : State) → Represents self.now settings state
             → IfOk result (λ verdict. verdict ≡ in_domain exchange (domain_for settings (role_of settings peer) path.cdid) (get_for state peer exchange path content)) }
         ensures ready { IfOk result (λ verdict. CanCarryOut verdict self.now) }
     {
@@ -167,7 +167,7 @@ impl Server {
         path: MitigationPath,
     ) -> Result<Verdict, NoMemory>
         requires own { IsOwn self.now.settings peer own }
-        ensures decides { (settings : SettingsValue) (state : State) → StandsFor self.now settings state
+        ensures decides { (settings : SettingsValue) (state : State) → Represents self.now settings state
             → IfOk result (λ verdict. verdict ≡ in_domain exchange (domain_for settings (role_of settings peer) path.cdid) (delete_for settings state peer exchange path)) }
         ensures ready { IfOk result (λ verdict. CanCarryOut verdict self.now) }
     {
@@ -181,7 +181,7 @@ impl Server {
     /// What is decided on a request to withdraw, whose mid must be there.
     fn delete_with_mid(&self, from: &ClientRequest, mid: Option<u32>) -> Result<Verdict, NoMemory>
         requires acts { may_act self.now.settings (role_of self.now.settings from.now.peer) from.now.domain ≡ true }
-        ensures decides { (settings : SettingsValue) (state : State) → StandsFor self.now settings state
+        ensures decides { (settings : SettingsValue) (state : State) → Represents self.now settings state
             → IfOk result (λ verdict. verdict ≡ with_mid from.now.exchange mid (delete_in settings state from.now)) }
         ensures ready { IfOk result (λ verdict. CanCarryOut verdict self.now) }
     {

@@ -9,16 +9,16 @@ ghost use Rattle.dots_host.specs.declared.TheConstants.{MAX_EVENT_BYTES};
 ghost use Rattle.dots_settings.specs.Settings.{SettingsValue};
 ghost use Rattle.dots_history.specs.declared.entry.Entry.{Entry};
 ghost use Rattle.slot_store.specs.Layout.{needed_of};
-ghost use Rattle.slot_journal.specs.Held as journal;
+ghost use Rattle.slot_journal.specs.DiskEntries as journal;
 ghost use Rattle.dots_machine.specs.Machine.{State};
-ghost use Rattle.dots_server.specs.Standing.{StandsFor, IsKept};
-ghost use Rattle.dots_server.specs.Living.{Came, StopsFor, stop_of};
+ghost use Rattle.dots_server.specs.ServerValues.{Represents, IsKept};
+ghost use Rattle.dots_server.specs.Running.{Came, StopsFor, stop_of};
 ghost use Rattle.dots_server.specs.Taking.{IsTaken, Took, StoppedAt};
 
+use crate::server::Server;
 use dots_disk::Host;
 use dots_host::{Got, MAX_EVENT_BYTES, What};
 use dots_machine::Stop;
-use crate::server::Server;
 
 /// The most events of a run.
 const MAX_EVENTS: u64 = 1 << 40;
@@ -30,9 +30,9 @@ pub fn take_events<H: Host>(server: Server, host: &mut H, room: &mut [u8]) -> Re
     requires size { needed_of server.journal.slots ≤ H.extent host.old }
     // Where the disk is told, the run from what it holds: a run of the machine, which survives a crash at any moment.
     ensures came { (settings : SettingsValue) (start : State) (held : List Entry) → IsKept server settings start held
-        → RestsWith (H.media host.old) (journal.StandsFor server.journal settings held)
+        → RestsWith (H.media host.old) (journal.Represents server.journal settings held)
         → (end : Owing State) × Came settings start (stop_of result) (H.media host.old) (H.media host.new) (H.acts host.old) (H.acts host.new) end
-        × IfOk result (λ server. StandsFor server settings end.last) }
+        × IfOk result (λ server. Represents server settings end.last) }
     ensures settings { IfOk result (λ now. now.settings ≡ server.settings) }
     ensures stopped { IfErr result (λ how. StopsFor how (Rose (H.Wire.faults host.old) (H.Wire.faults host.new)) (Rose (H.Disk.faults host.old) (H.Disk.faults host.new))) }
     ensures leads { H.leads host.old host.new }
@@ -61,10 +61,10 @@ fn take_one<H: Host>(server: Server, host: &mut H, got: &Got, room: &[u8]) -> Re
     requires goes { IsTaken got.now.what }
     requires size { needed_of server.journal.slots ≤ H.extent host.old }
     ensures done { IfOk result (λ now. (settings : SettingsValue) (state : State) (entries : List Entry) → IsKept server settings state entries
-        → RestsWith (H.media host.old) (journal.StandsFor server.journal settings entries)
+        → RestsWith (H.media host.old) (journal.Represents server.journal settings entries)
         → Took settings state (event_of got.now.what room.now) got.now.at server now entries (H.media host.old) (H.media host.new) (H.acts host.old) (H.acts host.new)) }
     ensures failed { IfErr result (λ how. (settings : SettingsValue) (state : State) (entries : List Entry) → IsKept server settings state entries
-        → RestsWith (H.media host.old) (journal.StandsFor server.journal settings entries)
+        → RestsWith (H.media host.old) (journal.Represents server.journal settings entries)
         → StoppedAt settings state how (event_of got.now.what room.now) got.now.at server entries (H.media host.old) (H.media host.new) (H.acts host.old) (H.acts host.new)) }
     ensures settings { IfOk result (λ now. now.settings ≡ server.settings) }
     ensures size { IfOk result (λ now. needed_of now.journal.slots ≤ H.extent host.new) }

@@ -1,8 +1,8 @@
 //! The server: what it decides on an event, what it keeps, and what it sends.
 //!
 //! Start at [`Server`]. A datagram's bytes become what was received (`dots_replies`), that becomes a verdict, which is a value
-//! (`deciding`, `mitigations`, `repeating`), and one function carries a verdict out. What the server keeps stands for a state of the machine
-//! of `dots_machine` (`specs/Standing.antt`), and each call of [`Server::handle`] is one of its steps. The report is written
+//! (`deciding`, `mitigations`, `repeating`), and one function carries a verdict out. What the server keeps represents a state of the machine
+//! of `dots_machine` (`specs/ServerValues.antt`), and each call of [`Server::handle`] is one of its steps. The report is written
 //! by `dots_report`.
 #![tactic(auto)]
 

@@ -9,19 +9,19 @@ ghost use Rattle.dots_laws.specs.Calm.{may_act};
 ghost use Rattle.dots_history.specs.declared.entry.Entry.{Entry};
 ghost use Rattle.conflict_rules.specs.Results.{Gives};
 ghost use Rattle.conflict_rules.specs.declared.fault.PutFault.TheVariants as faults;
-ghost use Rattle.dots_registry.specs.Standing.{time_of, domains_of};
-ghost use Rattle.dots_registry.specs.Standing as registry;
+ghost use Rattle.dots_registry.specs.RegistryValues.{time_of, domains_of};
+ghost use Rattle.dots_registry.specs.RegistryValues as registry;
 ghost use Rattle.dots_registry.specs.Judging.{judge_request};
 ghost use Rattle.reply_bodies.specs.Mitigations.{scope_of};
 ghost use Rattle.dots_machine.specs.Machine.{State};
 ghost use Rattle.dots_lists.specs.Name.{is_name};
-ghost use Rattle.dots_machine.specs.Replies.{conflicting, deleted, granting, told};
+ghost use Rattle.dots_machine.specs.Replies.{conflicting, deleted, granting, mitigation_fields};
 ghost use Rattle.dots_machine.specs.Targets.{scope_fault};
 ghost use Rattle.dots_machine.specs.declared.verdict.Verdict.TheVariants as verdicts;
 ghost use Rattle.dots_machine.specs.Mitigations.{grant, entry_of, refusal, judged, request_of, lives, is_wanted};
 ghost use Rattle.dots_machine.specs.Verdicts.{put_verdict, is_taken, stands_as, delete_by, delete_verdict, delete_in, get_verdict};
-ghost use Rattle.live_mitigations.specs.Reading.{Shown, row_view};
-ghost use Rattle.dots_server.specs.Standing.{StandsFor, CanCarryOut};
+ghost use Rattle.live_mitigations.specs.LiveViews.{LiveView, row_view};
+ghost use Rattle.dots_server.specs.ServerValues.{Represents, CanCarryOut};
 
 use crate::server::Server;
 use conflict_rules::{Judged, PutFault, PutRequest};
@@ -33,7 +33,7 @@ use dots_machine::{
 use dots_registry::Registry;
 use dots_replies::{
     absent, at_capacity, bad_request, bad_target, conflicting, copies, deleted, entry_of, granting,
-    telling, unavailable,
+    mitigations_reply, unavailable,
 };
 use dots_settings::Settings;
 use live_mitigations::MitigationRow;
@@ -47,7 +47,7 @@ impl Server {
     pub(crate) fn decide_put(&self, asked: MitigationRequest) -> Result<Verdict, NoMemory>
         requires askable { IsAskableBody asked.body }
         requires acts { may_act self.now.settings (role_of self.now.settings asked.from.peer) asked.from.domain ≡ true }
-        ensures decides { (settings : SettingsValue) (state : State) → StandsFor self.now settings state
+        ensures decides { (settings : SettingsValue) (state : State) → Represents self.now settings state
             → IfOk result (λ verdict. verdict ≡ put_verdict settings state.time state.history asked) }
         ensures ready { IfOk result (λ verdict. CanCarryOut verdict self.now) }
     {
@@ -58,7 +58,7 @@ impl Server {
     fn decide_asked(&self, asked: &MitigationRequest) -> Result<Verdict, NoMemory>
         requires askable { IsAskableBody asked.now.body }
         requires acts { may_act self.now.settings (role_of self.now.settings asked.now.from.peer) asked.now.from.domain ≡ true }
-        ensures decides { (settings : SettingsValue) (state : State) → StandsFor self.now settings state
+        ensures decides { (settings : SettingsValue) (state : State) → Represents self.now settings state
             → IfOk result (λ verdict. verdict ≡ put_verdict settings state.time state.history asked.now) }
         ensures ready { IfOk result (λ verdict. CanCarryOut verdict self.now) }
     {
@@ -78,7 +78,7 @@ impl Server {
         requires askable { IsAskableBody asked.now.body }
         requires acts { may_act self.now.settings (role_of self.now.settings asked.now.from.peer) asked.now.from.domain ≡ true }
         requires clear { scope_fault self.now.settings (prefixes_of self.now.settings asked.now.from.domain) asked.now.body.asked ≡ None }
-        ensures decides { (settings : SettingsValue) (state : State) → StandsFor self.now settings state
+        ensures decides { (settings : SettingsValue) (state : State) → Represents self.now settings state
             → IfOk result (λ verdict. verdict ≡ judged state.time asked.now (judge_request settings state.time state.history asked.now.from.domain (request_of asked.now))) }
         ensures ready { IfOk result (λ verdict. CanCarryOut verdict self.now) }
     {
@@ -92,7 +92,7 @@ impl Server {
     fn judged(&self, asked: &MitigationRequest) -> Result<Judged, PutFault>
         requires askable { IsAskableBody asked.now.body }
         requires acts { may_act self.now.settings (role_of self.now.settings asked.now.from.peer) asked.now.from.domain ≡ true }
-        ensures { (entries : List Entry) → registry.StandsFor self.now.registry entries
+        ensures { (entries : List Entry) → registry.Represents self.now.registry entries
             → Gives result (judge_request self.now.settings (time_of self.now.registry) entries asked.now.from.domain (request_of asked.now)) }
     {
         judged_by(self.ledger.registry(), &self.settings, asked)
@@ -163,7 +163,7 @@ impl Server {
     /// What is decided on a request to withdraw the mitigation of a mid (RFC 9132, section 4.4.4).
     pub(crate) fn decide_delete(&self, from: &ClientRequest, mid: u32) -> Result<Verdict, NoMemory>
         requires acts { may_act self.now.settings (role_of self.now.settings from.now.peer) from.now.domain ≡ true }
-        ensures decides { (settings : SettingsValue) (state : State) → StandsFor self.now settings state
+        ensures decides { (settings : SettingsValue) (state : State) → Represents self.now settings state
             → IfOk result (λ verdict. verdict ≡ delete_in settings state from.now mid) }
         ensures ready { IfOk result (λ verdict. CanCarryOut verdict self.now) }
     {
@@ -177,7 +177,7 @@ impl Server {
     /// What the rules say of a request to withdraw.
     fn judge_delete(&self, from: &ClientRequest, mid: u32) -> Result<Verdict, NoMemory>
         requires acts { may_act self.now.settings (role_of self.now.settings from.now.peer) from.now.domain ≡ true }
-        ensures decides { (settings : SettingsValue) (state : State) → StandsFor self.now settings state
+        ensures decides { (settings : SettingsValue) (state : State) → Represents self.now settings state
             → IfOk result (λ verdict. verdict ≡ delete_verdict state.time state.history from.now mid) }
         ensures ready { IfOk result (λ verdict. CanCarryOut verdict self.now) }
     {
@@ -207,7 +207,7 @@ impl Server {
         content: Content,
     ) -> Result<Verdict, NoMemory>
         requires acts { may_act self.now.settings (role_of self.now.settings from.now.peer) from.now.domain ≡ true }
-        ensures decides { (settings : SettingsValue) (state : State) → StandsFor self.now settings state
+        ensures decides { (settings : SettingsValue) (state : State) → Represents self.now settings state
             → IfOk result (λ verdict. verdict ≡ get_verdict state.time state.history from.now mid content) }
         ensures ready { IfOk result (λ verdict. CanCarryOut verdict self.now) }
     {
@@ -218,7 +218,7 @@ impl Server {
         if views.items().is_empty() {
             return Ok(Verdict::Reply(absent(&from.exchange)));
         }
-        Ok(Verdict::Told(telling(self.alloc, &from.exchange, views)?))
+        Ok(Verdict::LongReply(mitigations_reply(self.alloc, &from.exchange, views)?))
     }
 
     /// The refusal for what stands in the way.
@@ -228,11 +228,11 @@ impl Server {
         mid: Option<u32>,
         cause: ConflictCause,
     ) -> Result<Verdict, NoMemory>
-        ensures verdict { IfOk result (λ verdict. verdict ≡ verdicts.Told (conflicting exchange.now mid cause)) }
+        ensures verdict { IfOk result (λ verdict. verdict ≡ verdicts.LongReply (conflicting exchange.now mid cause)) }
         ensures ready { IfOk result (λ verdict. CanCarryOut verdict self.now) }
     {
         match conflicting(self.alloc, exchange, mid, cause) {
-            Ok(reply) => Ok(Verdict::Told(reply)),
+            Ok(reply) => Ok(Verdict::LongReply(reply)),
             Err(fault) => Err(fault),
         }
     }
@@ -240,7 +240,7 @@ impl Server {
     /// Whether the client's name is in use by another peer.
     fn is_taken(&self, from: &ClientRequest) -> bool
         requires acts { may_act self.now.settings (role_of self.now.settings from.now.peer) from.now.domain ≡ true }
-        ensures { (settings : SettingsValue) (state : State) → StandsFor self.now settings state → result ≡ is_taken state.time state.history from.now }
+        ensures { (settings : SettingsValue) (state : State) → Represents self.now settings state → result ≡ is_taken state.time state.history from.now }
     {
         self.ledger
             .registry()
@@ -250,7 +250,7 @@ impl Server {
     /// Whether a mitigation of the client with this mid stands.
     fn stands(&self, from: &ClientRequest, mid: u32) -> bool
         requires acts { may_act self.now.settings (role_of self.now.settings from.now.peer) from.now.domain ≡ true }
-        ensures { (settings : SettingsValue) (state : State) → StandsFor self.now settings state
+        ensures { (settings : SettingsValue) (state : State) → Represents self.now settings state
             → result ≡ list_any (stands_as mid) (lives state.time state.history from.now) }
     {
         for row in self
@@ -273,8 +273,8 @@ impl Server {
         content: Content,
     ) -> Result<ViewList<'a>, NoMemory>
         requires acts { may_act self.now.settings (role_of self.now.settings from.now.peer) from.now.domain ≡ true }
-        ensures { (settings : SettingsValue) (state : State) → StandsFor self.now settings state
-            → IfOk result (λ views. map scope_of views ≡ map (told content) (filter (is_wanted mid) (lives state.time state.history from.now))) }
+        ensures { (settings : SettingsValue) (state : State) → Represents self.now settings state
+            → IfOk result (λ views. map scope_of views ≡ map (mitigation_fields content) (filter (is_wanted mid) (lives state.time state.history from.now))) }
     {
         let mut views = List::new(self.alloc);
         for row in self
@@ -295,7 +295,7 @@ fn push_wanted<'a>(
     mid: Option<u32>,
     content: Content,
 ) -> Result<(), NoMemory>
-    ensures { OnOk result (map scope_of views.new ≡ map scope_of views.old ++ map (told content) (filter (is_wanted mid) (row_view row.now ∷ []))) }
+    ensures { OnOk result (map scope_of views.new ≡ map scope_of views.old ++ map (mitigation_fields content) (filter (is_wanted mid) (row_view row.now ∷ []))) }
 {
     if !is_wanted(mid, row.put.mid) {
         return Ok(());
@@ -319,7 +319,7 @@ fn without(_change: Change, fault: NoMemory) -> Result<Verdict, NoMemory>
 
 /// Whether all are wanted, or the mid is the one that is.
 fn is_wanted(wanted: Option<u32>, mid: u32) -> bool
-    ensures { (m : Shown) → m.put.mid ≡ mid → result ≡ is_wanted wanted m }
+    ensures { (m : LiveView) → m.put.mid ≡ mid → result ≡ is_wanted wanted m }
 {
     match wanted {
         Some(wanted) => mid == wanted,
@@ -335,7 +335,7 @@ fn judged_by(
 ) -> Result<Judged, PutFault>
     requires askable { IsAskableBody asked.now.body }
     requires within { asked.now.from.domain < domains_of tables.now }
-    ensures { (entries : List Entry) → registry.StandsFor tables.now entries
+    ensures { (entries : List Entry) → registry.Represents tables.now entries
         → Gives result (judge_request settings.now (time_of tables.now) entries asked.now.from.domain (request_of asked.now)) }
 {
     let request = PutRequest {

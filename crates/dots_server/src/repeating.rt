@@ -4,11 +4,11 @@ ghost use Rattle.std.specs.Prelude.{◌≡◌, Some, option_map};
 ghost use Rattle.dots_settings.specs.Settings.{SettingsValue};
 ghost use Rattle.dots_settings.specs.Lookups.{role_of};
 ghost use Rattle.dots_machine.specs.Domains.{session_domain};
-ghost use Rattle.dots_machine.specs.Repeats.{sent_for};
+ghost use Rattle.dots_machine.specs.MessageRepeats.{sent_for};
 ghost use Rattle.dots_machine.specs.Machine.{State};
 ghost use Rattle.dots_machine.specs.Verdicts.{repeated, in_domain, config_for};
 ghost use Rattle.dots_server.specs.Asking.{role_with, IsOwn};
-ghost use Rattle.dots_server.specs.Standing.{StandsFor, CanCarryOut};
+ghost use Rattle.dots_server.specs.ServerValues.{Represents, CanCarryOut};
 
 use crate::server::Server;
 use dots_machine::{Exchange, ShortMessage, Verdict};
@@ -24,7 +24,7 @@ impl Server {
         domain: u16,
         exchange: &Exchange,
     ) -> Option<ShortMessage>
-        ensures { (settings : SettingsValue) (state : State) → StandsFor self.now settings state
+        ensures { (settings : SettingsValue) (state : State) → Represents self.now settings state
             → result ≡ option_map (λ entry. entry.reply) (repeated settings state.time state.history (sent_for peer exchange.now domain)) }
     {
         let reply = self.ledger.registry().repeat(peer, domain, exchange.id)?;
@@ -34,7 +34,7 @@ impl Server {
     /// What is decided on a request to change the configuration of a session.
     pub(crate) fn decide_config(&self, peer: u32, own: Option<u16>, exchange: &Exchange) -> Verdict
         requires own { IsOwn self.now.settings peer own }
-        ensures decides { (settings : SettingsValue) (state : State) → StandsFor self.now settings state
+        ensures decides { (settings : SettingsValue) (state : State) → Represents self.now settings state
             → result ≡ in_domain exchange.now (session_domain (role_of settings peer)) (config_for settings state peer exchange.now) }
         ensures ready { CanCarryOut result self.now }
     {

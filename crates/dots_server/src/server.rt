@@ -16,14 +16,14 @@ ghost use Rattle.slot_store.specs.Layout.{needed_of};
 ghost use Rattle.slot_store.specs.Opening.{Is};
 ghost use Rattle.slot_store.specs.Gates.{Sees};
 ghost use Rattle.slot_journal.specs.Sizes.{slots_of};
-ghost use Rattle.slot_journal.specs.Held.{Holds};
-ghost use Rattle.slot_journal.specs.Held as journal;
+ghost use Rattle.slot_journal.specs.DiskEntries.{Holds};
+ghost use Rattle.slot_journal.specs.DiskEntries as journal;
 ghost use Rattle.slot_journal.specs.Refused.{Caused};
 ghost use Rattle.slot_journal.specs.declared.fault.JournalFault.TheVariants as faults;
 ghost use Rattle.dots_ledger.specs.Beginning.{RefusesLedger, IsFailure};
 ghost use Rattle.dots_machine.specs.Machine.{State, begun_from, later, restarted, sends_of, after, Step};
 ghost use Rattle.dots_machine.specs.Report.{report_of};
-ghost use Rattle.dots_server.specs.Standing.{StandsFor, IsKept, CanCarryOut};
+ghost use Rattle.dots_server.specs.ServerValues.{Represents, IsKept, CanCarryOut};
 ghost use Rattle.dots_server.specs.Turning.{IsServed, Turned, Broke};
 
 use dots_disk::Host;
@@ -46,13 +46,13 @@ pub struct Server {
 }
 
 impl Model for Server {
-    ghost use Rattle.dots_server.specs.Standing.{ServerValue, IsLiving};
+    ghost use Rattle.dots_server.specs.ServerValues.{ServerValue, IsServing};
 
     ghost Value = { ServerValue };
 
     ghost view = { λ server. record { settings = server.settings; registry = server.ledger.registry; journal = server.ledger.journal } };
 
-    ghost invariant = { λ server. IsLiving (record { settings = server.settings; registry = server.ledger.registry; journal = server.ledger.journal }) };
+    ghost invariant = { λ server. IsServing (record { settings = server.settings; registry = server.ledger.registry; journal = server.ledger.journal }) };
 }
 
 /// The report couldn't be written.
@@ -77,9 +77,9 @@ impl Server {
         at: u64,
     ) -> Result<Self, JournalFault>
         requires early { at < 2 ^ 48 }
-        // It stands for calm entries, which are what the disk held, and the disk rests with them.
+        // It represents calm entries, which are what the disk held, and the disk rests with them.
         ensures begun { IfOk result (λ server. (held : List Entry) × IsKept server settings (restarted (begun_from held) at) held × (is_calm settings held ≡ true)
-            × ((seen : ℕ → ℕ) → Sees (H.media host.old) seen → Holds settings seen held × RestsWith (H.media host.new) (journal.StandsFor server.journal settings held))) }
+            × ((seen : ℕ → ℕ) → Sees (H.media host.old) seen → Holds settings seen held × RestsWith (H.media host.new) (journal.Represents server.journal settings held))) }
         ensures settings { IfOk result (λ server. server.settings ≡ settings) }
         ensures size { OnOk result (needed_of (slots_of settings) ≤ H.extent host.new) }
         ensures refused { IfErr result (λ fault. (seen : ℕ → ℕ) → Sees (H.media host.old) seen → RefusesLedger settings (H.extent host.old) seen (H.media host.new) fault) }
@@ -108,17 +108,17 @@ impl Server {
     pub fn restart<H: Host>(self, host: &mut H, at: u64) -> Result<Self, JournalFault>
         requires early { at < 2 ^ 48 }
         ensures restarted { IfOk result (λ server. (settings : SettingsValue) (state : State) (entries : List Entry) → IsKept self settings state entries
-            → RestsWith (H.media host.old) (journal.StandsFor self.journal settings entries)
-            → IsKept server settings (restarted state at) entries × RestsWith (H.media host.new) (journal.StandsFor server.journal settings entries)) }
+            → RestsWith (H.media host.old) (journal.Represents self.journal settings entries)
+            → IsKept server settings (restarted state at) entries × RestsWith (H.media host.new) (journal.Represents server.journal settings entries)) }
         ensures settings { IfOk result (λ server. server.settings ≡ self.settings) }
         ensures slots { IfOk result (λ server. server.journal.slots ≡ slots_of self.settings) }
         ensures size { OnOk result (needed_of (slots_of self.settings) ≤ H.extent host.new) }
         ensures moments { (settings : SettingsValue) (state : State) (entries : List Entry) → IsKept self settings state entries
-            → RestsWith (H.media host.old) (journal.StandsFor self.journal settings entries)
+            → RestsWith (H.media host.old) (journal.Represents self.journal settings entries)
             → Leaves (H.media host.old) (H.media host.new) (λ image. Holds settings image entries) }
         // What a server left is found again: there may be no memory, or the disk may fail, and else nothing is refused.
         ensures found { IfErr result (λ fault. (settings : SettingsValue) (state : State) (entries : List Entry) → IsKept self settings state entries
-            → RestsWith (H.media host.old) (journal.StandsFor self.journal settings entries) → needed_of (slots_of settings) ≤ H.extent host.old → IsFailure fault) }
+            → RestsWith (H.media host.old) (journal.Represents self.journal settings entries) → needed_of (slots_of settings) ≤ H.extent host.old → IsFailure fault) }
         ensures extent { H.extent host.new ≡ H.extent host.old }
         ensures cause { Caused (H.Disk.faults host.old) (H.Disk.faults host.new) result }
         ensures beside { H.Disk.beside host.old host.new }
@@ -161,11 +161,11 @@ impl Server {
         ensures done { OnOk result ((settings : SettingsValue) (state : State) (entries : List Entry) → IsKept self.old settings state entries
             → (owed : List (State × OwnedOut)) × (new : State) × (few : List Entry)
             × Step settings state (event_of got.now.what room.now) got.now.at owed new × IsKept self.new settings new few
-            × Turned settings state new (outs_of owed) (journal.StandsFor self.old.journal settings entries) (journal.StandsFor self.new.journal settings few)
+            × Turned settings state new (outs_of owed) (journal.Represents self.old.journal settings entries) (journal.Represents self.new.journal settings few)
             (H.media host.old) (H.media host.new) (H.acts host.old) (H.acts host.new)) }
         ensures failed { OnErr result ((settings : SettingsValue) (state : State) (entries : List Entry) → IsKept self.old settings state entries
             → (owed : List (State × OwnedOut)) × (new : State) × Step settings state (event_of got.now.what room.now) got.now.at owed new
-            × Broke settings state new (journal.StandsFor self.old.journal settings entries) (H.media host.old) (H.media host.new) (H.acts host.old) (H.acts host.new)) }
+            × Broke settings state new (journal.Represents self.old.journal settings entries) (H.media host.old) (H.media host.new) (H.acts host.old) (H.acts host.new)) }
         ensures settings { self.new.settings ≡ self.old.settings }
         ensures slots { self.new.journal.slots ≡ self.old.journal.slots }
         ensures extent { H.extent host.new ≡ H.extent host.old }
@@ -209,10 +209,10 @@ impl Server {
         requires size { needed_of self.old.journal.slots ≤ H.extent host.old }
         ensures done { OnOk result ((settings : SettingsValue) (state : State) (entries : List Entry) → IsKept self.old settings state entries
             → (few : List Entry) × IsKept self.new settings (after verdict state) few
-            × Turned settings state (after verdict state) (sends_of verdict peer) (journal.StandsFor self.old.journal settings entries) (journal.StandsFor self.new.journal settings few)
+            × Turned settings state (after verdict state) (sends_of verdict peer) (journal.Represents self.old.journal settings entries) (journal.Represents self.new.journal settings few)
             (H.media host.old) (H.media host.new) (H.acts host.old) (H.acts host.new)) }
         ensures failed { OnErr result ((settings : SettingsValue) (state : State) (entries : List Entry) → IsKept self.old settings state entries
-            → Broke settings state (after verdict state) (journal.StandsFor self.old.journal settings entries) (H.media host.old) (H.media host.new) (H.acts host.old) (H.acts host.new)) }
+            → Broke settings state (after verdict state) (journal.Represents self.old.journal settings entries) (H.media host.old) (H.media host.new) (H.acts host.old) (H.acts host.new)) }
         ensures settings { self.new.settings ≡ self.old.settings }
         ensures slots { self.new.journal.slots ≡ self.old.journal.slots }
         ensures extent { H.extent host.new ≡ H.extent host.old }
@@ -226,7 +226,7 @@ impl Server {
                 send_to(host, peer, reply.bytes());
                 return Ok(());
             }
-            Verdict::Told(reply) => {
+            Verdict::LongReply(reply) => {
                 send_to(host, peer, reply.items());
                 return Ok(());
             }
@@ -241,11 +241,11 @@ impl Server {
     /// Writes the report: a line for each row that mitigations install, in order of acceptance, and one for each sample packet.
     /// Takes no memory. Where the sink fails, a beginning was written.
     pub fn write_report<K: Sink>(&self, report: &mut K) -> Result<(), ReportFault>
-        // Whatever the host told, there is a state for which the server stands.
-        ensures any { (state : State) × StandsFor self.now self.now.settings state }
-        ensures ok { (settings : SettingsValue) (state : State) → StandsFor self.now settings state
+        // Whatever the host told, there is a state that the server represents.
+        ensures any { (state : State) × Represents self.now self.now.settings state }
+        ensures ok { (settings : SettingsValue) (state : State) → Represents self.now settings state
             → OnOk result (Appends (K.holds report.old) (K.holds report.new) (report_of settings state)) }
-        ensures err { (settings : SettingsValue) (state : State) → StandsFor self.now settings state
+        ensures err { (settings : SettingsValue) (state : State) → Represents self.now settings state
             → OnErr result (AppendsBeginning (K.holds report.old) (K.holds report.new) (report_of settings state)) }
         ensures cause { HasCause (K.faults report.old) (K.faults report.new) result }
     {

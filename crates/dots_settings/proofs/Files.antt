@@ -30,18 +30,18 @@ past_same : (file : List ℕ) (behind : List (List ℕ)) → is_past (content_of
 past_same file [] = longer (length file) (length (content_of file)) (length-take (2 ^ 16 + 1) file)
 past_same file (line ∷ behind) = refl
 
-pub fault_of_file : (file : List ℕ) (told : SettingsFault) → SettingsFail (content_of file) told → SettingsFail file told
-fault_of_file file told fail = record {
+pub fault_of_file : (file : List ℕ) (why : SettingsFault) → SettingsFail (content_of file) why → SettingsFail file why
+fault_of_file file why fail = record {
   before = fail.before;
   line = fail.line;
   behind = fail.behind;
   split = ap lines_of (sym (again file)) ∙ fail.split;
   rows = fail.rows;
   stand = fail.stand;
-  at_fault = subst (λ (b : Bool). MatchBool b (told ≡ fault.Capacity (length fail.before + 1)) (HasFault fail.rows (length fail.before + 1) fail.line told)) (past_same file fail.behind) fail.at_fault;
+  at_fault = subst (λ (b : Bool). MatchBool b (why ≡ fault.Capacity (length fail.before + 1)) (HasFault fail.rows (length fail.before + 1) fail.line why)) (past_same file fail.behind) fail.at_fault;
 }
 
-refusal_of_file : (file : List ℕ) (told : SettingsFault) → IsRefused (content_of file) told → IsRefused file told
+refusal_of_file : (file : List ℕ) (why : SettingsFault) → IsRefused (content_of file) why → IsRefused file why
 refusal_of_file file (fault.Line n) refused = fault_of_file file _ refused
 refusal_of_file file (fault.Twice n) refused = fault_of_file file _ refused
 refusal_of_file file (fault.Unknown n) refused = fault_of_file file _ refused
@@ -52,12 +52,12 @@ refusal_of_file file fault.NoMemory refused = tt
 
 pub told_settings : (left : Option (List ℕ)) (bytes : List ℕ) (result : Result SettingsValue SettingsFault) → IfSome left (λ file. bytes ≡ take (2 ^ 16 + 1) file) → IfOk result (SettingsAre bytes)
     → IfOk result (λ settings. IfSome left (λ file. SettingsAre file settings))
-told_settings left bytes (Err told) read are = tt
+told_settings left bytes (Err why) read are = tt
 told_settings None bytes (Ok settings) read are = tt
 told_settings (Some file) bytes (Ok settings) read are = settings_of_file file settings (subst (λ (xs : List ℕ). SettingsAre xs settings) read are)
 
 pub told_fault : (left : Option (List ℕ)) (bytes : List ℕ) (result : Result SettingsValue SettingsFault) → IfSome left (λ file. bytes ≡ take (2 ^ 16 + 1) file) → IfErr result (IsRefused bytes)
-    → IfErr result (λ told. IfSome left (λ file. IsRefused file told))
+    → IfErr result (λ why. IfSome left (λ file. IsRefused file why))
 told_fault left bytes (Ok settings) read refused = tt
-told_fault None bytes (Err told) read refused = tt
-told_fault (Some file) bytes (Err told) read refused = refusal_of_file file told (subst (λ (xs : List ℕ). IsRefused xs told) read refused)
+told_fault None bytes (Err why) read refused = tt
+told_fault (Some file) bytes (Err why) read refused = refusal_of_file file why (subst (λ (xs : List ℕ). IsRefused xs why) read refused)

@@ -74,28 +74,28 @@ faultless_at before (first ∷ front) row back are =
 none_some : {A : Type 0} (x : A) → None ≡ Some x → ⊥
 none_some x e = cc
 
-unskipped_of : (rows : List Row) (number : ℕ) (line : List ℕ) (told : SettingsFault) → HasFault rows number line told → is_skipped line ≡ false
-unskipped_of rows number line told (inl (unskipped, none, is)) = unskipped
-unskipped_of rows number line told (inr (unskipped, form, says, is)) = unskipped
+unskipped_of : (rows : List Row) (number : ℕ) (line : List ℕ) (why : SettingsFault) → HasFault rows number line why → is_skipped line ≡ false
+unskipped_of rows number line why (inl (unskipped, none, is)) = unskipped
+unskipped_of rows number line why (inr (unskipped, form, says, is)) = unskipped
 
-no_fault_here : (front front' : List Row) (number number' : ℕ) (line : List ℕ) (form : FormValue) (told : SettingsFault) → front' ≡ front → number' ≡ number → Says line form
-    → fault_of (draft_of front') number' form ≡ None → HasFault front number line told → ⊥
-no_fault_here front front' number number' line form told rows place says none (inl (unskipped, no_form, is)) = no_form form says
-no_fault_here front front' number number' line form told rows place says none (inr (unskipped, form', says', faulty)) =
-    none_some told (sym none ∙ (λ i. fault_of (draft_of (rows i)) (place i) (says_once line form form' says says' i)) ∙ faulty)
+no_fault_here : (front front' : List Row) (number number' : ℕ) (line : List ℕ) (form : FormValue) (why : SettingsFault) → front' ≡ front → number' ≡ number → Says line form
+    → fault_of (draft_of front') number' form ≡ None → HasFault front number line why → ⊥
+no_fault_here front front' number number' line form why rows place says none (inl (unskipped, no_form, is)) = no_form form says
+no_fault_here front front' number number' line form why rows place says none (inr (unskipped, form', says', faulty)) =
+    none_some why (sym none ∙ (λ i. fault_of (draft_of (rows i)) (place i) (says_once line form form' says says' i)) ∙ faulty)
 
 -- a line among others that stand has no fault
-stands_there : (before : List (List ℕ)) (line : List ℕ) (behind : List (List ℕ)) (rows front : List Row) (told : SettingsFault) → Stand (before ++ line ∷ behind) rows → Stand before front
-    → HasFault front (length before + 1) line told → ⊥
-stands_there before line behind rows front told stand stand_front at_fault = by (row_at 1 before line behind rows stand.read)
+stands_there : (before : List (List ℕ)) (line : List ℕ) (behind : List (List ℕ)) (rows front : List Row) (why : SettingsFault) → Stand (before ++ line ∷ behind) rows → Stand before front
+    → HasFault front (length before + 1) line why → ⊥
+stands_there before line behind rows front why stand stand_front at_fault = by (row_at 1 before line behind rows stand.read)
   where
     by : HasRowAt 1 before line rows → ⊥
     by at = here (is_skipped line) refl at.here
       where
         here : (b : Bool) → is_skipped line ≡ b → MatchBool b (Unit {0}) ((form : FormValue) × (back : List Row) × Says line form × (rows ≡ at.front ++ row_of (1 + length before) line form ∷ back)) → ⊥
-        here true e row = true≢false (sym e ∙ unskipped_of front (length before + 1) line told at_fault)
+        here true e row = true≢false (sym e ∙ unskipped_of front (length before + 1) line why at_fault)
         here false e (form, back, says, is) =
-            no_fault_here front at.front (length before + 1) (1 + length before) line form told (rows_once 1 before at.front front at.are stand_front.read) (omega arith) says
+            no_fault_here front at.front (length before + 1) (1 + length before) line form why (rows_once 1 before at.front front at.are stand_front.read) (omega arith) says
             (faultless_at [] at.front (row_of (1 + length before) line form) back (subst (AreFaultless []) is stand.faultless)) at_fault
 
 -- ---- settings and faults
@@ -108,13 +108,13 @@ not_behind file [] past = (refl, past)
 not_behind file (line ∷ behind) past = absurd (true≢false (sym past))
 
 -- where a file gives settings it has no fault
-pub no_settings_at_fault : (file : List ℕ) (settings : SettingsValue) (told : SettingsFault) → SettingsAre file settings → SettingsFail file told → ⊥
-no_settings_at_fault file settings told are fail = by (is_past file fail.behind) refl fail.at_fault
+pub no_settings_at_fault : (file : List ℕ) (settings : SettingsValue) (why : SettingsFault) → SettingsAre file settings → SettingsFail file why → ⊥
+no_settings_at_fault file settings why are fail = by (is_past file fail.behind) refl fail.at_fault
   where
-    by : (b : Bool) → is_past file fail.behind ≡ b → MatchBool b (told ≡ fault.Capacity (length fail.before + 1)) (HasFault fail.rows (length fail.before + 1) fail.line told) → ⊥
+    by : (b : Bool) → is_past file fail.behind ≡ b → MatchBool b (why ≡ fault.Capacity (length fail.before + 1)) (HasFault fail.rows (length fail.before + 1) fail.line why) → ⊥
     by true e at_fault = long_or_not (length file) (not_behind file fail.behind e).1 are.short
     by false e at_fault =
-        stands_there fail.before fail.line fail.behind are.rows fail.rows told (subst (λ (lines : List (List ℕ)). Stand lines are.rows) fail.split are.stand) fail.stand at_fault
+        stands_there fail.before fail.line fail.behind are.rows fail.rows why (subst (λ (lines : List (List ℕ)). Stand lines are.rows) fail.split are.stand) fail.stand at_fault
 
 pub one_settings : (file : List ℕ) (one other : SettingsValue) → SettingsAre file one → SettingsAre file other → one ≡ other
 one_settings file one other x y = x.given ∙ ap settings_of (rows_once 1 (lines_of (content_of file)) x.rows y.rows x.stand.read y.stand.read) ∙ sym y.given
@@ -122,8 +122,8 @@ one_settings file one other x y = x.given ∙ ap settings_of (rows_once 1 (lines
 -- two places in a list: the same, or the one before the other
 data Places (before : List (List ℕ)) (line : List ℕ) (behind before' : List (List ℕ)) (line' : List ℕ) (behind' : List (List ℕ)) : Type 0 where
   equal : before ≡ before' → line ≡ line' → behind ≡ behind' → Places before line behind before' line' behind'
-  earlier : (mid : List (List ℕ)) → before' ≡ before ++ line ∷ mid → behind ≡ mid ++ line' ∷ behind' → Places before line behind before' line' behind'
-  later : (mid : List (List ℕ)) → before ≡ before' ++ line' ∷ mid → behind' ≡ mid ++ line ∷ behind → Places before line behind before' line' behind'
+  earlier : (between : List (List ℕ)) → before' ≡ before ++ line ∷ between → behind ≡ between ++ line' ∷ behind' → Places before line behind before' line' behind'
+  later : (between : List (List ℕ)) → before ≡ before' ++ line' ∷ between → behind' ≡ between ++ line ∷ behind → Places before line behind before' line' behind'
 
 one_farther : (first : List ℕ) (before : List (List ℕ)) (line : List ℕ) (behind : List (List ℕ)) (first' : List ℕ) (before' : List (List ℕ)) (line' : List ℕ) (behind' : List (List ℕ)) → first ≡ first'
     → Places before line behind before' line' behind' → Places (first ∷ before) line behind (first' ∷ before') line' behind'
@@ -144,18 +144,18 @@ places (first ∷ before) line behind (first' ∷ before') line' behind' e =
     one_farther first before line behind first' before' line' behind' parts.0 (places before line behind before' line' behind' parts.1)
 
 -- a line that others follow fails by a fault of its own
-own_fault : (file : List ℕ) (told : SettingsFault) (fail : SettingsFail file told) (mid : List (List ℕ)) (line' : List ℕ) (behind' : List (List ℕ)) → fail.behind ≡ mid ++ line' ∷ behind'
-    → HasFault fail.rows (length fail.before + 1) fail.line told
-own_fault file told fail mid line' behind' more = rw (more_behind mid) at (subst (λ (xs : List (List ℕ)). MatchBool (is_past file xs) (told ≡ fault.Capacity (length fail.before + 1)) (HasFault fail.rows (length fail.before + 1) fail.line told)) more fail.at_fault)
+own_fault : (file : List ℕ) (why : SettingsFault) (fail : SettingsFail file why) (between : List (List ℕ)) (line' : List ℕ) (behind' : List (List ℕ)) → fail.behind ≡ between ++ line' ∷ behind'
+    → HasFault fail.rows (length fail.before + 1) fail.line why
+own_fault file why fail between line' behind' more = rw (more_behind between) at (subst (λ (xs : List (List ℕ)). MatchBool (is_past file xs) (why ≡ fault.Capacity (length fail.before + 1)) (HasFault fail.rows (length fail.before + 1) fail.line why)) more fail.at_fault)
   where
     more_behind : (xs : List (List ℕ)) → is_past file (xs ++ line' ∷ behind') ≡ false
     more_behind [] = refl
     more_behind (x ∷ xs) = refl
 
 -- no line in front of a failing one fails
-not_earlier : (file : List ℕ) (one other : SettingsFault) (x : SettingsFail file one) (y : SettingsFail file other) (mid : List (List ℕ)) → y.before ≡ x.before ++ x.line ∷ mid → x.behind ≡ mid ++ y.line ∷ y.behind → ⊥
-not_earlier file one other x y mid before behind =
-    stands_there x.before x.line mid y.rows x.rows one (subst (λ (lines : List (List ℕ)). Stand lines y.rows) before y.stand) x.stand (own_fault file one x mid y.line y.behind behind)
+not_earlier : (file : List ℕ) (one other : SettingsFault) (x : SettingsFail file one) (y : SettingsFail file other) (between : List (List ℕ)) → y.before ≡ x.before ++ x.line ∷ between → x.behind ≡ between ++ y.line ∷ y.behind → ⊥
+not_earlier file one other x y between before behind =
+    stands_there x.before x.line between y.rows x.rows one (subst (λ (lines : List (List ℕ)). Stand lines y.rows) before y.stand) x.stand (own_fault file one x between y.line y.behind behind)
 
 one_told : (front front' : List Row) (number number' : ℕ) (line line' : List ℕ) (one other : SettingsFault) → front ≡ front' → number ≡ number' → line ≡ line'
     → HasFault front number line one → HasFault front' number' line' other → one ≡ other
@@ -195,7 +195,7 @@ one_fault file one other x y = by (places x.before x.line x.behind y.before y.li
 -- ---- not neither
 
 -- Lines that stand with the rest of a file behind them: it can't be that there are neither settings nor a fault.
-neither_from : (file : List ℕ) → ((settings : SettingsValue) → SettingsAre file settings → ⊥) → ((told : SettingsFault) → SettingsFail file told → ⊥)
+neither_from : (file : List ℕ) → ((settings : SettingsValue) → SettingsAre file settings → ⊥) → ((why : SettingsFault) → SettingsFail file why → ⊥)
     → (rest lines : List (List ℕ)) (rows : List Row) → lines_of (content_of file) ≡ lines ++ rest → Stand lines rows → is_past file rest ≡ false → ⊥
 neither_from file none faultless [] lines rows split stand before =
     none (settings_of rows) (record {
@@ -210,13 +210,13 @@ neither_from file none faultless [] lines rows split stand before =
 neither_from file none faultless (line ∷ rest) lines rows split stand before =
     by (λ more stand before. neither_from file none faultless rest (lines ++ line ∷ []) more (split ∙ sym (append_assoc lines (line ∷ []) rest)) stand before) (is_past file rest) refl (is_skipped line) refl
   where
-    fails : (told : SettingsFault) → MatchBool (is_past file rest) (told ≡ fault.Capacity (length lines + 1)) (HasFault rows (length lines + 1) line told) → ⊥
-    fails told at_fault = faultless told (record { before = lines; line = line; behind = rest; split = split; rows = rows; stand = stand; at_fault = at_fault })
+    fails : (why : SettingsFault) → MatchBool (is_past file rest) (why ≡ fault.Capacity (length lines + 1)) (HasFault rows (length lines + 1) line why) → ⊥
+    fails why at_fault = faultless why (record { before = lines; line = line; behind = rest; split = split; rows = rows; stand = stand; at_fault = at_fault })
 
     judged : ((more : List Row) → Stand (lines ++ line ∷ []) more → ⊥) → is_past file rest ≡ false → is_skipped line ≡ false → (form : FormValue) → Says line form
         → (o : Option SettingsFault) → fault_of (draft_of rows) (length lines + 1) form ≡ o → ⊥
     judged on last unskipped form says None is = on (rows ++ row_of (length lines + 1) line form ∷ []) (stand_then_row lines rows line form (length lines + 1) stand unskipped says refl is)
-    judged on last unskipped form says (Some told) is = fails told (rw last (inr (unskipped, form, says, is)))
+    judged on last unskipped form says (Some why) is = fails why (rw last (inr (unskipped, form, says, is)))
 
     by : ((more : List Row) → Stand (lines ++ line ∷ []) more → is_past file rest ≡ false → ⊥) → (b : Bool) → is_past file rest ≡ b → (c : Bool) → is_skipped line ≡ c → ⊥
     by on true last c skipped = fails (fault.Capacity (length lines + 1)) (rw last refl)
@@ -228,5 +228,5 @@ at_start_of : (file : List ℕ) → is_past file (lines_of (content_of file)) �
 at_start_of [] = refl
 at_start_of (byte ∷ file) = bytes_left (byte ∷ file) byte (take (2 ^ 16) file)
 
-pub neither : (file : List ℕ) → ((settings : SettingsValue) → SettingsAre file settings → ⊥) → ((told : SettingsFault) → SettingsFail file told → ⊥) → ⊥
+pub neither : (file : List ℕ) → ((settings : SettingsValue) → SettingsAre file settings → ⊥) → ((why : SettingsFault) → SettingsFail file why → ⊥) → ⊥
 neither file none faultless = neither_from file none faultless (lines_of (content_of file)) [] [] refl stand_none (at_start_of file)

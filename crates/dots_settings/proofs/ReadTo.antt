@@ -70,10 +70,10 @@ past_end content rest line behind taken read small first past = record {
   at_fault = rw past (ap (λ n. fault.Capacity (n + 1)) read.number);
 }
 
-failed : (content rest line behind : List ℕ) (taken : Taken) (told : SettingsFault) → IsReadTo content rest taken → length content ≤ 2 ^ 16 + 1 → lines_of rest ≡ line ∷ lines_of behind
+failed : (content rest line behind : List ℕ) (taken : Taken) (why : SettingsFault) → IsReadTo content rest taken → length content ≤ 2 ^ 16 + 1 → lines_of rest ≡ line ∷ lines_of behind
     → is_past content (lines_of behind) ≡ false
-    → ((lines : List (List ℕ)) (rows : List Row) → HasTaken (record taken { number = taken.number + 1 }) lines rows → HasFault rows (taken.number + 1) line told) → SettingsFail content told
-failed content rest line behind taken told read small first before fault = record {
+    → ((lines : List (List ℕ)) (rows : List Row) → HasTaken (record taken { number = taken.number + 1 }) lines rows → HasFault rows (taken.number + 1) line why) → SettingsFail content why
+failed content rest line behind taken why read small first before fault = record {
   before = read.lines;
   line = line;
   behind = lines_of behind;
@@ -82,11 +82,11 @@ failed content rest line behind taken told read small first before fault = recor
   stand = read.has.stand;
   at_fault =
       let here = fault read.lines read.rows (record { stand = read.has.stand; said = read.has.said; hashed = read.has.hashed }) in
-      rw before (subst (λ n. HasFault read.rows (n + 1) line told) read.number here);
+      rw before (subst (λ n. HasFault read.rows (n + 1) line why) read.number here);
 }
 
-pub refused_line : (content rest line behind : List ℕ) (taken : Taken) (told : SettingsFault) → IsReadTo content rest taken → length content ≤ 2 ^ 16 + 1 → lines_of rest ≡ line ∷ lines_of behind
-    → is_past content (lines_of behind) ≡ false → RefusesLine line (record taken { number = taken.number + 1 }) told → IsRefused content told
+pub refused_line : (content rest line behind : List ℕ) (taken : Taken) (why : SettingsFault) → IsReadTo content rest taken → length content ≤ 2 ^ 16 + 1 → lines_of rest ≡ line ∷ lines_of behind
+    → is_past content (lines_of behind) ≡ false → RefusesLine line (record taken { number = taken.number + 1 }) why → IsRefused content why
 refused_line content rest line behind taken (fault.Line n) read small first before fault = failed content rest line behind taken _ read small first before fault
 refused_line content rest line behind taken (fault.Twice n) read small first before fault = failed content rest line behind taken _ read small first before fault
 refused_line content rest line behind taken (fault.Unknown n) read small first before fault = failed content rest line behind taken _ read small first before fault

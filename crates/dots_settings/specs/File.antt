@@ -29,9 +29,9 @@ pub record SettingsAre (file : List ℕ) (settings : SettingsValue) : Type 0 whe
 
 -- the line, which has this number and follows these rows, has none of the forms, or has a fault as it follows them
 abbrev pub HasFault : List Row → ℕ → List ℕ → SettingsFault → Type 0
-HasFault rows number line told =
-    ((is_skipped line ≡ false) × ((form : FormValue) → ¬ (Says line form)) × (told ≡ fault.Line number))
-    ⊎ ((is_skipped line ≡ false) × (form : FormValue) × Says line form × (fault_of (draft_of rows) number form ≡ Some told))
+HasFault rows number line why =
+    ((is_skipped line ≡ false) × ((form : FormValue) → ¬ (Says line form)) × (why ≡ fault.Line number))
+    ⊎ ((is_skipped line ≡ false) × (form : FormValue) × Says line form × (fault_of (draft_of rows) number form ≡ Some why))
 
 -- the byte after the 65,536th stands in the last of the lines that are read: no line is behind it
 abbrev pub is_past : List ℕ → List (List ℕ) → Bool
@@ -39,14 +39,14 @@ is_past file [] = nat_lt (2 ^ 16) (length file)
 is_past file (line ∷ lines) = false
 
 -- The lines before this one stand. In it stands the byte after the 65,536th, or else it has this fault.
-pub record SettingsFail (file : List ℕ) (told : SettingsFault) : Type 0 where
+pub record SettingsFail (file : List ℕ) (why : SettingsFault) : Type 0 where
   pub before : List (List ℕ)
   pub line : List ℕ
   pub behind : List (List ℕ)
   pub split : lines_of (content_of file) ≡ before ++ line ∷ behind
   pub rows : List Row
   pub stand : Stand before rows
-  pub at_fault : MatchBool (is_past file behind) (told ≡ fault.Capacity (length before + 1)) (HasFault rows (length before + 1) line told)
+  pub at_fault : MatchBool (is_past file behind) (why ≡ fault.Capacity (length before + 1)) (HasFault rows (length before + 1) line why)
 
 -- The first line at fault has that fault. Why a file couldn't be read, or for want of memory, is no fault of a line.
 abbrev pub IsRefused : List ℕ → SettingsFault → Type 0

@@ -25,4 +25,4 @@ pub record TakesLine (line : List ℕ) (old new : Taken) : Type 0 where
 abbrev pub RefusesLine : List ℕ → Taken → SettingsFault → Type 0
 RefusesLine line old fault.NoMemory = ⊤
 RefusesLine line old fault.ReadFault = ⊥
-RefusesLine line old told = (lines : List (List ℕ)) (rows : List Row) → HasTaken old lines rows → HasFault rows old.number line told
+RefusesLine line old why = (lines : List (List ℕ)) (rows : List Row) → HasTaken old lines rows → HasFault rows old.number line why

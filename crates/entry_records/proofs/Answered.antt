@@ -4,7 +4,7 @@ use Rattle.std.specs.Prelude.{IfOk, IfErr}
 use Rattle.dots_history.specs.declared.entry.Entry.{Entry}
 use Rattle.entry_records.specs.declared.fault.EntryFault.{EntryFault}
 use Rattle.entry_records.specs.declared.fault.EntryFault.TheVariants.{NotEntry, NoMemory}
-use Rattle.entry_records.specs.Reading.{Gives, record_at}
+use Rattle.entry_records.specs.RecordReading.{Gives, record_at}
 use Rattle.entry_records.specs.Records.{IsRecord, IsBroken}
 use Rattle.entry_records.proofs.Readers.{AreBytes}
 use Rattle.entry_records.proofs.Places.{read_record, read_is, read_broken, broken_is, one_answer, no_error}

@@ -16,7 +16,7 @@ use Rattle.ip_scope.specs.Prefix.{IsPrefix}
 use Rattle.entry_records.specs.declared.fault.EntryFault.{EntryFault}
 use Rattle.entry_records.specs.Values.{IsByte}
 use Rattle.entry_records.specs.Layout.{byte}
-use Rattle.entry_records.specs.Reading.{address_at, byte_at, leads, both_at, zeros}
+use Rattle.entry_records.specs.RecordReading.{address_at, byte_at, leads, both_at, zeros}
 use Rattle.entry_records.proofs.Readers.{IsReader, Sound, byte_reader, made_reader, pair_reader}
 
 pub pow_256 : (k : ℕ) → 256 ^ k ≡ 2 ^ (8 * k)

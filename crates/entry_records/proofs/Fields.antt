@@ -9,7 +9,7 @@ use Rattle.std.proofs.lemmas.List.{append-nil, length-append}
 use Rattle.std.proofs.lemmas.Nat.{be_bytes_2, be_bytes_4, be_bytes_8, from_be_bytes-to_be_bytes_2, from_be_bytes-to_be_bytes_4, from_be_bytes-to_be_bytes_8}
 use Rattle.entry_records.specs.Values.{IsByte}
 use Rattle.entry_records.specs.Layout.{byte, counted, listed}
-use Rattle.entry_records.specs.Reading.{Read, pair_at, both_at, second, prepended, items_at, bytes_at, number_at, between, within_at, counted_at, list_at}
+use Rattle.entry_records.specs.RecordReading.{Read, pair_at, both_at, second, prepended, items_at, bytes_at, number_at, between, within_at, counted_at, list_at}
 use Rattle.entry_records.proofs.Readers.{AreBytes, IsReader, Sound, byte_reader, made_reader, pair_reader, no_head}
 
 -- ---- a byte from the least to the most

@@ -7,7 +7,7 @@ use Rattle.std.proofs.Math.Nat.{pow-le-pow_right}
 use native.Mathlib.Numerals.{unary_clauses}
 use Rattle.entry_records.specs.declared.fault.EntryFault.{EntryFault}
 use Rattle.entry_records.specs.declared.fault.EntryFault.TheVariants.{NotEntry, NoMemory}
-use Rattle.entry_records.specs.Reading.{Read, ◌>>=◌, Stops, prepended, items_at, byte_at, address_at, leads, targets_at, target_at}
+use Rattle.entry_records.specs.RecordReading.{Read, ◌>>=◌, Stops, prepended, items_at, byte_at, address_at, leads, targets_at, target_at}
 use Rattle.dots_history.specs.declared.put.Target.{Target}
 
 -- what was read before, and what is still read

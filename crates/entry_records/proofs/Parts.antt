@@ -8,7 +8,7 @@ use Rattle.ip_scope.specs.declared.family.Family.{Family}
 use Rattle.ip_scope.specs.declared.family.Family.TheVariants.{V4, V6}
 use Rattle.entry_records.specs.Values.{IsByte, IsName, IfThere}
 use Rattle.entry_records.specs.Layout.{byte, counted, optional, flag_number, version}
-use Rattle.entry_records.specs.Reading.{Read, pair_at, second, nothing_at, items_at, byte_at, within_at, visible_at, name_at, optional_at, there_at, flag_at, is_version, family_of, version_at}
+use Rattle.entry_records.specs.RecordReading.{Read, pair_at, second, nothing_at, items_at, byte_at, within_at, visible_at, name_at, optional_at, there_at, flag_at, is_version, family_of, version_at}
 use Rattle.entry_records.proofs.Readers.{IsReader, Sound, byte_reader, made_reader, pair_reader}
 use Rattle.entry_records.proofs.Fields.{IsWithin, within_reader, is_between, between_most, between_least, AreItems, items_reader}
 

@@ -6,7 +6,7 @@ use Rattle.std.proofs.lemmas.Bool.Decides.{nat_tests}
 use Rattle.std.proofs.lemmas.List.{append-nil, length-append}
 use Rattle.dots_history.specs.declared.entry.Entry.{Entry}
 use Rattle.entry_records.specs.Layout.{record_bytes}
-use Rattle.entry_records.specs.Reading.{Read, ◌>>=◌, entry_at, alone, record_at}
+use Rattle.entry_records.specs.RecordReading.{Read, ◌>>=◌, entry_at, alone, record_at}
 use Rattle.entry_records.specs.Records.{IsRecord, IsSomeRecord, BeginsRecord, IsBroken}
 use Rattle.entry_records.proofs.Readers.{AreBytes, Sound, IsStuck, no_head}
 use Rattle.entry_records.proofs.Wholes.{MayBe, entry_reader}

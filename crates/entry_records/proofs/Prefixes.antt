@@ -15,7 +15,7 @@ use Rattle.acl_lists.specs.declared.port_test.PortTest.{PortTest}
 use Rattle.acl_lists.specs.declared.port_test.PortTest.TheVariants as port
 use Rattle.entry_records.specs.Values.{IsRange, IsTest}
 use Rattle.entry_records.specs.Layout.{byte, version, prefix_bytes, ports_bytes, test_number, test_value, test_bytes}
-use Rattle.entry_records.specs.Reading.{Read, pair_at, both_at, made_at, second, nothing_at, number_at, within_at, version_at, zeros, address_at, lowest_at, prefix_from, prefix_at, least_low, upper_at, ports_from, ports_at, value_at, test_at}
+use Rattle.entry_records.specs.RecordReading.{Read, pair_at, both_at, made_at, second, nothing_at, number_at, within_at, version_at, zeros, address_at, lowest_at, prefix_from, prefix_at, least_low, upper_at, ports_from, ports_at, value_at, test_at}
 use Rattle.entry_records.proofs.Digits.{IsAddress, address_reader, high_byte, small_mod}
 use Rattle.entry_records.proofs.Readers.{IsReader, made_reader, pair_reader}
 use Rattle.entry_records.proofs.Fields.{IsWithin, within_reader, is_between, between_most, between_least, both_reader, two_reader, byte_at_place}

@@ -3,7 +3,7 @@ use Rattle.std.proofs.Common.{◌≡◌, ℕ, ◌-◌, Bool, true, false, if◌t
 use Rattle.std.specs.List.{AllByRecursion}
 use Rattle.entry_records.specs.Values.{IsByte}
 use Rattle.entry_records.specs.Layout.{byte}
-use Rattle.entry_records.specs.Reading.{Read, ◌>>=◌, pair_at, made_at, byte_at}
+use Rattle.entry_records.specs.RecordReading.{Read, ◌>>=◌, pair_at, made_at, byte_at}
 
 abbrev pub AreBytes : List ℕ → Type 0
 AreBytes = AllByRecursion IsByte

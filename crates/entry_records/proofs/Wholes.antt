@@ -27,7 +27,7 @@ use Rattle.dots_history.specs.declared.put.Put.{Put}
 use Rattle.dots_history.specs.declared.put.Target.{Target}
 use Rattle.entry_records.specs.Values.{IsByte, IsName, IsRange, IfThere, IsTest, IsKey}
 use Rattle.entry_records.specs.Layout.{byte, counted, listed, optional, flag_number, prefix_bytes, ports_bytes, asked_bytes, alias_bytes, test_bytes, ace_bytes, family_number, activation_number, acl_bytes, target_bytes, put_bytes, values_bytes, config_bytes, change_number, change_fields, change_bytes, key_number, key_id, key_bytes, reply_bytes, record_bytes}
-use Rattle.entry_records.specs.Reading.{pair_at, both_at, second, prepended, number_at, within_at, bytes_at, time_of, time_at, visible_at, name_at, counted_at, list_at, optional_at, flag_at, prefix_at, ports_at, test_at, asked_from, asked_at, alias_from, alias_at, ace_from, ace_at, family_at, activation_of, activation_at, acl_from, acl_at, target_from, target_at, targets_at, all_targets_at, granted_at, put_from, put_at, values_from, values_at, config_from, config_at, fields_at, change_at, id_at, key_at, reply_at, entry_from, entry_at}
+use Rattle.entry_records.specs.RecordReading.{pair_at, both_at, second, prepended, number_at, within_at, bytes_at, time_of, time_at, visible_at, name_at, counted_at, list_at, optional_at, flag_at, prefix_at, ports_at, test_at, asked_from, asked_at, alias_from, alias_at, ace_from, ace_at, family_at, activation_of, activation_at, acl_from, acl_at, target_from, target_at, targets_at, all_targets_at, granted_at, put_from, put_at, values_from, values_at, config_from, config_at, fields_at, change_at, id_at, key_at, reply_at, entry_from, entry_at}
 use Rattle.entry_records.proofs.Readers.{AreBytes, IsReader, made_reader, pair_reader}
 use Rattle.entry_records.proofs.Fields.{IsWithin, within_reader, is_between, between_most, between_least, AtMost, AreSoMany, bytes_reader, byte_at_place, both_reader, two_reader, four_reader, eight_reader, bytes_of_8, list_reader, counted_reader}
 use Rattle.entry_records.proofs.Parts.{AreVisible, visible_reader, name_reader, optional_reader, flag_reader}

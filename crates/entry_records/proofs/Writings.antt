@@ -56,8 +56,8 @@ mul_suc : (k i : ℕ) → k * (i + 1) ≡ k * i + k
 mul_suc k i = simp unary_clauses (omega arith)
 
 -- one item more behind their number and the items before
-pub one_more : {A : Type 0} (f : A → List ℕ) (k i : ℕ) (xs : List A) (x : A) {n : ℕ} {old mid new : List ℕ} → i < length xs → x ≡ get_or xs i x
-    → Writes (1 + k * i) (n ∷ flat_map f (take i xs)) old mid → Writes k (f x) mid new → Writes (1 + k * (i + 1)) (n ∷ flat_map f (take (i + 1) xs)) old new
+pub one_more : {A : Type 0} (f : A → List ℕ) (k i : ℕ) (xs : List A) (x : A) {n : ℕ} {old between new : List ℕ} → i < length xs → x ≡ get_or xs i x
+    → Writes (1 + k * i) (n ∷ flat_map f (take i xs)) old between → Writes k (f x) between new → Writes (1 + k * (i + 1)) (n ∷ flat_map f (take (i + 1) xs)) old new
 one_more f k i xs x {n} few is before item =
     let step : take (i + 1) xs ≡ take i xs ++ (x ∷ []) = rw (add-one i) (next_item i xs x few is) in
     let most : 1 + k * i + k ≤ 1 + k * (i + 1) = rw (mul_suc k i) (omega arith) in
@@ -94,8 +94,8 @@ item_count i [] x few is = absurd (omega (arith, few))
 item_count zero (y ∷ targets) x few is = omega (arith, ap (λ (t : Target). length t.prefixes) is)
 item_count (suc i) (y ∷ targets) x few is = omega (arith, item_count i targets x (omega (arith, few)) is)
 
-pub one_target : (i : ℕ) (targets : List Target) (x : Target) {n : ℕ} {old mid new : List ℕ} → i < length targets → x ≡ get_or targets i x
-    → Writes (1 + (83 * i + 18 * prefix_count (take i targets))) (n ∷ flat_map target_bytes (take i targets)) old mid → Writes (83 + 18 * length x.prefixes) (target_bytes x) mid new
+pub one_target : (i : ℕ) (targets : List Target) (x : Target) {n : ℕ} {old between new : List ℕ} → i < length targets → x ≡ get_or targets i x
+    → Writes (1 + (83 * i + 18 * prefix_count (take i targets))) (n ∷ flat_map target_bytes (take i targets)) old between → Writes (83 + 18 * length x.prefixes) (target_bytes x) between new
     → Writes (1 + (83 * (i + 1) + 18 * prefix_count (take (i + 1) targets))) (n ∷ flat_map target_bytes (take (i + 1) targets)) old new
 one_target i targets x {n} few is before item =
     let step : take (i + 1) targets ≡ take i targets ++ (x ∷ []) = rw (add-one i) (next_item i targets x few is) in

@@ -2,5 +2,5 @@ pub mod Values
 pub mod Layout
 pub mod Records
 pub mod FaultText
-pub mod Reading
+pub mod RecordReading
 pub mod Writing

@@ -3,7 +3,7 @@
 ghost use Rattle.std.specs.Prelude.{◌≡◌, ◌-◌, ◌*◌, ◌%◌, ◌^◌, ◌<◌, ◌≤◌, min, IfOk, OnOk};
 ghost use Rattle.ip_scope.specs.Family.{width};
 ghost use Rattle.ip_scope.specs.Prefix.{IsPrefix};
-ghost use Rattle.entry_records.specs.Reading.{Gives, address_at, byte_at, leads, lowest_at, ports_at, prefix_at, test_at, upper_at, value_at, version_at, zeros};
+ghost use Rattle.entry_records.specs.RecordReading.{Gives, address_at, byte_at, leads, lowest_at, ports_at, prefix_at, test_at, upper_at, value_at, version_at, zeros};
 
 use crate::fault::EntryFault;
 use crate::reader::Reader;
@@ -26,7 +26,7 @@ fn zeros_of(family: Family) -> u8
 
 impl Reader<'_> {
     /// The family of a prefix, by the version of its protocol.
-    #[tactic(auto, unfolding(crate::specs::Reading::version_at, crate::specs::Reading::byte_at))]
+    #[tactic(auto, unfolding(crate::specs::RecordReading::version_at, crate::specs::RecordReading::byte_at))]
     fn version(&mut self) -> Result<Family, EntryFault>
         ensures value { Gives (λ x. (x, self.new.rest.now)) result (version_at self.old.end self.old.rest.now) }
         ensures end { OnOk result (self.new.end ≡ self.old.end) }
@@ -42,7 +42,7 @@ impl Reader<'_> {
     }
 
     /// A byte whose bits behind so many leading ones are zero.
-    #[tactic(auto, unfolding(crate::specs::Reading::byte_at))]
+    #[tactic(auto, unfolding(crate::specs::RecordReading::byte_at))]
     fn leading(&mut self, bits: u8) -> Result<u8, EntryFault>
         ensures value { Gives (λ x. (x, self.new.rest.now)) result (byte_at (leads bits) self.old.end self.old.rest.now) }
         ensures end { OnOk result (self.new.end ≡ self.old.end) }
@@ -78,7 +78,7 @@ impl Reader<'_> {
     }
 
     /// The number of the lowest address of a prefix of this family and length.
-    #[tactic(auto, unfolding(crate::specs::Reading::lowest_at))]
+    #[tactic(auto, unfolding(crate::specs::RecordReading::lowest_at))]
     fn lowest(&mut self, family: Family, bits: u8) -> Result<u128, EntryFault>
         requires { bits ≤ width family }
         ensures value { Gives (λ x. (x, self.new.rest.now)) result (lowest_at family bits self.old.end self.old.rest.now) }
@@ -90,7 +90,7 @@ impl Reader<'_> {
         self.address(ADDRESS - zeros, bits)
     }
 
-    #[tactic(auto, unfolding(crate::specs::Reading::prefix_at))]
+    #[tactic(auto, unfolding(crate::specs::RecordReading::prefix_at))]
     pub(crate) fn prefix(&mut self) -> Result<Prefix, EntryFault>
         ensures value { Gives (λ x. (x, self.new.rest.now)) result (prefix_at self.old.end self.old.rest.now) }
         ensures end { OnOk result (self.new.end ≡ self.old.end) }
@@ -105,7 +105,7 @@ impl Reader<'_> {
     }
 
     /// A port from this one on.
-    #[tactic(auto, unfolding(crate::specs::Reading::upper_at))]
+    #[tactic(auto, unfolding(crate::specs::RecordReading::upper_at))]
     fn upper(&mut self, lower: u16) -> Result<u16, EntryFault>
         ensures value { Gives (λ x. (x, self.new.rest.now)) result (upper_at lower self.old.end self.old.rest.now) }
         ensures end { OnOk result (self.new.end ≡ self.old.end) }
@@ -122,7 +122,7 @@ impl Reader<'_> {
         Ok(u16::from(high) * 256 + u16::from(low))
     }
 
-    #[tactic(auto, unfolding(crate::specs::Reading::ports_at))]
+    #[tactic(auto, unfolding(crate::specs::RecordReading::ports_at))]
     pub(crate) fn ports(&mut self) -> Result<PortRange, EntryFault>
         ensures value { Gives (λ x. (x, self.new.rest.now)) result (ports_at self.old.end self.old.rest.now) }
         ensures end { OnOk result (self.new.end ≡ self.old.end) }
@@ -151,7 +151,7 @@ impl Reader<'_> {
         }
     }
 
-    #[tactic(auto, unfolding(crate::specs::Reading::test_at))]
+    #[tactic(auto, unfolding(crate::specs::RecordReading::test_at))]
     pub(crate) fn port_test(&mut self) -> Result<PortTest, EntryFault>
         ensures value { Gives (λ x. (x, self.new.rest.now)) result (test_at self.old.end self.old.rest.now) }
         ensures end { OnOk result (self.new.end ≡ self.old.end) }

@@ -1,7 +1,7 @@
 //! Reading access lists, mitigations, session configurations and whole entries.
 
 ghost use Rattle.std.specs.Prelude.{◌≡◌, ◌≢◌, ◌≤◌, ℕ, length, Ok, Err, IfOk, IfErr, OnOk, sum_by};
-ghost use Rattle.entry_records.specs.Reading.{Gives, ace_at, acl_at, activation_at, all_targets_at, change_at, conditions_at, outcome_at, config_at, entry_at, family_at, fields_at, granted_at, id_at, items_at, key_at, list_at, optional_at, prefix_at, put_at, record_at, reply_at, target_at, targets_at, values_at, within_at};
+ghost use Rattle.entry_records.specs.RecordReading.{Gives, ace_at, acl_at, activation_at, all_targets_at, change_at, conditions_at, outcome_at, config_at, entry_at, family_at, fields_at, granted_at, id_at, items_at, key_at, list_at, optional_at, prefix_at, put_at, record_at, reply_at, target_at, targets_at, values_at, within_at};
 
 use crate::fault::EntryFault;
 use crate::lists::MAX_ITEMS;
@@ -27,7 +27,7 @@ const MAX_ALIASES: u8 = acl_lists::MAX_NAMES as u8;
 
 impl Reader<'_> {
     /// A prefix that may be there.
-    #[tactic(auto, unfolding(crate::specs::Reading::optional_at))]
+    #[tactic(auto, unfolding(crate::specs::RecordReading::optional_at))]
     fn optional_prefix(&mut self) -> Result<Option<Prefix>, EntryFault>
         ensures value { Gives (λ x. (x, self.new.rest.now)) result (optional_at prefix_at self.old.end self.old.rest.now) }
         ensures end { OnOk result (self.new.end ≡ self.old.end) }
@@ -39,7 +39,7 @@ impl Reader<'_> {
     }
 
     /// A protocol number that may be there.
-    #[tactic(auto, unfolding(crate::specs::Reading::optional_at))]
+    #[tactic(auto, unfolding(crate::specs::RecordReading::optional_at))]
     fn optional_protocol(&mut self) -> Result<Option<u8>, EntryFault>
         ensures value { Gives (λ x. (x, self.new.rest.now)) result (optional_at (within_at 0 255) self.old.end self.old.rest.now) }
         ensures end { OnOk result (self.new.end ≡ self.old.end) }
@@ -63,7 +63,7 @@ impl Reader<'_> {
         ))
     }
 
-    #[tactic(auto, unfolding(crate::specs::Reading::ace_at))]
+    #[tactic(auto, unfolding(crate::specs::RecordReading::ace_at))]
     fn ace(&mut self) -> Result<Ace, EntryFault>
         ensures value { Gives (λ x. (x, self.new.rest.now)) result (ace_at self.old.end self.old.rest.now) }
         ensures end { OnOk result (self.new.end ≡ self.old.end) }
@@ -96,7 +96,7 @@ impl Reader<'_> {
         Ok(aces)
     }
 
-    #[tactic(auto, unfolding(crate::specs::Reading::list_at))]
+    #[tactic(auto, unfolding(crate::specs::RecordReading::list_at))]
     fn aces(&mut self) -> Result<AceList, EntryFault>
         ensures value { Gives (λ x. (x, self.new.rest.now)) result (list_at 32 ace_at self.old.end self.old.rest.now) }
         ensures end { OnOk result (self.new.end ≡ self.old.end) }
@@ -126,7 +126,7 @@ impl Reader<'_> {
         }
     }
 
-    #[tactic(auto, unfolding(crate::specs::Reading::acl_at))]
+    #[tactic(auto, unfolding(crate::specs::RecordReading::acl_at))]
     fn acl(&mut self) -> Result<Acl, EntryFault>
         ensures value { Gives (λ x. (x, self.new.rest.now)) result (acl_at self.old.end self.old.rest.now) }
         ensures end { OnOk result (self.new.end ≡ self.old.end) }
@@ -140,7 +140,7 @@ impl Reader<'_> {
     }
 
     /// A target with at most so many prefixes.
-    #[tactic(auto, unfolding(crate::specs::Reading::target_at))]
+    #[tactic(auto, unfolding(crate::specs::RecordReading::target_at))]
     fn target(&mut self, room: u8) -> Result<Target, EntryFault>
         ensures value { Gives (λ x. (x, self.new.rest.now)) result (target_at room self.old.end self.old.rest.now) }
         ensures end { OnOk result (self.new.end ≡ self.old.end) }
@@ -153,7 +153,7 @@ impl Reader<'_> {
         })
     }
 
-    #[tactic(auto, unfolding(crate::specs::Reading::values_at))]
+    #[tactic(auto, unfolding(crate::specs::RecordReading::values_at))]
     fn values(&mut self) -> Result<Values, EntryFault>
         ensures value { Gives (λ x. (x, self.new.rest.now)) result (values_at self.old.end self.old.rest.now) }
         ensures end { OnOk result (self.new.end ≡ self.old.end) }
@@ -168,7 +168,7 @@ impl Reader<'_> {
         })
     }
 
-    #[tactic(auto, unfolding(crate::specs::Reading::config_at))]
+    #[tactic(auto, unfolding(crate::specs::RecordReading::config_at))]
     fn config(&mut self) -> Result<Config, EntryFault>
         ensures value { Gives (λ x. (x, self.new.rest.now)) result (config_at self.old.end self.old.rest.now) }
         ensures end { OnOk result (self.new.end ≡ self.old.end) }
@@ -202,7 +202,7 @@ impl Reader<'_> {
         }
     }
 
-    #[tactic(auto, unfolding(crate::specs::Reading::key_at))]
+    #[tactic(auto, unfolding(crate::specs::RecordReading::key_at))]
     fn key(&mut self) -> Result<MessageKey, EntryFault>
         ensures value { Gives (λ x. (x, self.new.rest.now)) result (key_at self.old.end self.old.rest.now) }
         ensures end { OnOk result (self.new.end ≡ self.old.end) }
@@ -211,7 +211,7 @@ impl Reader<'_> {
         self.id(number)
     }
 
-    #[tactic(auto, unfolding(crate::specs::Reading::reply_at))]
+    #[tactic(auto, unfolding(crate::specs::RecordReading::reply_at))]
     fn reply(&mut self) -> Result<Bytes, EntryFault>
         ensures value { Gives (λ x. (x, self.new.rest.now)) result (reply_at self.old.end self.old.rest.now) }
         ensures end { OnOk result (self.new.end ≡ self.old.end) }
@@ -235,7 +235,7 @@ impl Reader<'_> {
         Ok(targets)
     }
 
-    #[tactic(auto, unfolding(crate::specs::Reading::all_targets_at))]
+    #[tactic(auto, unfolding(crate::specs::RecordReading::all_targets_at))]
     fn targets(&mut self) -> Result<TargetList, EntryFault>
         ensures value { Gives (λ x. (x, self.new.rest.now)) result (all_targets_at self.old.end self.old.rest.now) }
         ensures end { OnOk result (self.new.end ≡ self.old.end) }
@@ -251,7 +251,7 @@ impl Reader<'_> {
         Ok(self.u32()?.cast_signed())
     }
 
-    #[tactic(auto, unfolding(crate::specs::Reading::put_at))]
+    #[tactic(auto, unfolding(crate::specs::RecordReading::put_at))]
     fn put(&mut self) -> Result<Put, EntryFault>
         ensures value { Gives (λ x. (x, self.new.rest.now)) result (put_at self.old.end self.old.rest.now) }
         ensures end { OnOk result (self.new.end ≡ self.old.end) }
@@ -265,7 +265,7 @@ impl Reader<'_> {
         })
     }
 
-    #[tactic(auto, unfolding(crate::specs::Reading::fields_at))]
+    #[tactic(auto, unfolding(crate::specs::RecordReading::fields_at))]
     fn set_config(&mut self) -> Result<Change, EntryFault>
         ensures value { Gives (λ x. (x, self.new.rest.now)) result (fields_at 9 self.old.end self.old.rest.now) }
         ensures end { OnOk result (self.new.end ≡ self.old.end) }
@@ -276,7 +276,7 @@ impl Reader<'_> {
     }
 
     /// The fields of a change of this number.
-    #[tactic(auto, unfolding(crate::specs::Reading::fields_at))]
+    #[tactic(auto, unfolding(crate::specs::RecordReading::fields_at))]
     fn fields(&mut self, number: u8) -> Result<Change, EntryFault>
         requires least { 1 ≤ number }
         requires most { number ≤ 10 }
@@ -297,7 +297,7 @@ impl Reader<'_> {
         }
     }
 
-    #[tactic(auto, unfolding(crate::specs::Reading::change_at))]
+    #[tactic(auto, unfolding(crate::specs::RecordReading::change_at))]
     fn change(&mut self) -> Result<Change, EntryFault>
         ensures value { Gives (λ x. (x, self.new.rest.now)) result (change_at self.old.end self.old.rest.now) }
         ensures end { OnOk result (self.new.end ≡ self.old.end) }
@@ -314,7 +314,7 @@ impl Reader<'_> {
         Ok((self.key()?, self.reply()?, self.change()?))
     }
 
-    #[tactic(auto, unfolding(crate::specs::Reading::entry_at))]
+    #[tactic(auto, unfolding(crate::specs::RecordReading::entry_at))]
     pub(crate) fn entry(&mut self) -> Result<Entry, EntryFault>
         ensures value { Gives (λ x. (x, self.new.rest.now)) result (entry_at self.old.end self.old.rest.now) }
         ensures end { OnOk result (self.new.end ≡ self.old.end) }

@@ -1,7 +1,7 @@
 //! Reading lists, and what a request or an alias names.
 
 ghost use Rattle.std.specs.Prelude.{◌≡◌, ◌≤◌, length, IfOk, OnOk};
-ghost use Rattle.entry_records.specs.Reading.{Gives, alias_at, asked_at, items_at, list_at, name_at, ports_at, prefix_at};
+ghost use Rattle.entry_records.specs.RecordReading.{Gives, alias_at, asked_at, items_at, list_at, name_at, ports_at, prefix_at};
 
 use crate::fault::EntryFault;
 use crate::reader::Reader;
@@ -29,7 +29,7 @@ impl Reader<'_> {
     }
 
     /// At most so many prefixes, behind their number.
-    #[tactic(auto, unfolding(crate::specs::Reading::list_at))]
+    #[tactic(auto, unfolding(crate::specs::RecordReading::list_at))]
     pub(crate) fn prefixes(&mut self, most: u8) -> Result<PrefixList, EntryFault>
         ensures value { Gives (λ x. (x, self.new.rest.now)) result (list_at most prefix_at self.old.end self.old.rest.now) }
         ensures end { OnOk result (self.new.end ≡ self.old.end) }
@@ -52,7 +52,7 @@ impl Reader<'_> {
         Ok(ranges)
     }
 
-    #[tactic(auto, unfolding(crate::specs::Reading::list_at))]
+    #[tactic(auto, unfolding(crate::specs::RecordReading::list_at))]
     pub(crate) fn ranges(&mut self) -> Result<PortList, EntryFault>
         ensures value { Gives (λ x. (x, self.new.rest.now)) result (list_at 16 ports_at self.old.end self.old.rest.now) }
         ensures end { OnOk result (self.new.end ≡ self.old.end) }
@@ -75,7 +75,7 @@ impl Reader<'_> {
     }
 
     /// At most so many names, behind their number.
-    #[tactic(auto, unfolding(crate::specs::Reading::list_at))]
+    #[tactic(auto, unfolding(crate::specs::RecordReading::list_at))]
     fn names(&mut self, most: u8) -> Result<NameList, EntryFault>
         ensures value { Gives (λ x. (x, self.new.rest.now)) result (list_at most name_at self.old.end self.old.rest.now) }
         ensures end { OnOk result (self.new.end ≡ self.old.end) }
@@ -85,7 +85,7 @@ impl Reader<'_> {
     }
 
     /// What is asked, with at most so many names of aliases.
-    #[tactic(auto, unfolding(crate::specs::Reading::asked_at))]
+    #[tactic(auto, unfolding(crate::specs::RecordReading::asked_at))]
     pub(crate) fn asked(&mut self, most_aliases: u8) -> Result<Asked, EntryFault>
         ensures value { Gives (λ x. (x, self.new.rest.now)) result (asked_at most_aliases self.old.end self.old.rest.now) }
         ensures end { OnOk result (self.new.end ≡ self.old.end) }
@@ -99,7 +99,7 @@ impl Reader<'_> {
         })
     }
 
-    #[tactic(auto, unfolding(crate::specs::Reading::alias_at))]
+    #[tactic(auto, unfolding(crate::specs::RecordReading::alias_at))]
     pub(crate) fn alias(&mut self) -> Result<Alias, EntryFault>
         ensures value { Gives (λ x. (x, self.new.rest.now)) result (alias_at self.old.end self.old.rest.now) }
         ensures end { OnOk result (self.new.end ≡ self.old.end) }

@@ -5,7 +5,7 @@ ghost use Rattle.std.specs.Char.{is_ascii_graphic};
 ghost use Rattle.std.specs.List.{list_all};
 ghost use Rattle.std.specs.Int.{w16, w32, w64};
 ghost use Rattle.entry_records.specs.declared.fault.EntryFault.TheVariants.{NotEntry};
-ghost use Rattle.entry_records.specs.Reading.{Gives, byte_at, bytes_at, counted_at, flag_at, items_at, number_at, time_at, visible_at, within_at};
+ghost use Rattle.entry_records.specs.RecordReading.{Gives, byte_at, bytes_at, counted_at, flag_at, items_at, number_at, time_at, visible_at, within_at};
 
 use crate::fault::EntryFault;
 use dots_lists::{Bytes, Name, Text};
@@ -27,7 +27,7 @@ pub(crate) struct Reader<'a> {
 
 impl<'a> Reader<'a> {
     /// A byte from `least` to `most`.
-    #[tactic(auto, unfolding(crate::specs::Reading::byte_at))]
+    #[tactic(auto, unfolding(crate::specs::RecordReading::byte_at))]
     pub(crate) fn within(&mut self, least: u8, most: u8) -> Result<u8, EntryFault>
         ensures value { Gives (λ x. (x, self.new.rest.now)) result (within_at least most self.old.end self.old.rest.now) }
         ensures end { OnOk result (self.new.end ≡ self.old.end) }
@@ -54,7 +54,7 @@ impl<'a> Reader<'a> {
     }
 
     /// A visible ASCII character.
-    #[tactic(auto, unfolding(crate::specs::Reading::byte_at))]
+    #[tactic(auto, unfolding(crate::specs::RecordReading::byte_at))]
     fn visible(&mut self) -> Result<u8, EntryFault>
         ensures value { Gives (λ x. (x, self.new.rest.now)) result (byte_at is_ascii_graphic self.old.end self.old.rest.now) }
         ensures end { OnOk result (self.new.end ≡ self.old.end) }
@@ -71,7 +71,7 @@ impl<'a> Reader<'a> {
     }
 
     /// So many bytes.
-    #[tactic(auto, unfolding(crate::specs::Reading::bytes_at))]
+    #[tactic(auto, unfolding(crate::specs::RecordReading::bytes_at))]
     pub(crate) fn split(&mut self, count: usize) -> Result<&'a [u8], EntryFault>
         ensures value { Gives (λ x. (x.now, self.new.rest.now)) result (bytes_at count self.old.end self.old.rest.now) }
         ensures end { OnOk result (self.new.end ≡ self.old.end) }
@@ -112,7 +112,7 @@ impl<'a> Reader<'a> {
     }
 
     /// Seconds below 2^48, in eight bytes.
-    #[tactic(auto, unfolding(crate::specs::Reading::time_at))]
+    #[tactic(auto, unfolding(crate::specs::RecordReading::time_at))]
     pub(crate) fn time(&mut self) -> Result<u64, EntryFault>
         ensures value { Gives (λ x. (x, self.new.rest.now)) result (time_at self.old.end self.old.rest.now) }
         ensures end { OnOk result (self.new.end ≡ self.old.end) }
@@ -131,7 +131,7 @@ impl<'a> Reader<'a> {
     }
 
     /// At most so many bytes, behind their number.
-    #[tactic(auto, unfolding(crate::specs::Reading::counted_at))]
+    #[tactic(auto, unfolding(crate::specs::RecordReading::counted_at))]
     pub(crate) fn counted(&mut self, most: u8) -> Result<Bytes, EntryFault>
         ensures value { Gives (λ x. (x, self.new.rest.now)) result (counted_at most self.old.end self.old.rest.now) }
         ensures end { OnOk result (self.new.end ≡ self.old.end) }
@@ -154,7 +154,7 @@ impl<'a> Reader<'a> {
     }
 
     /// From `least` to `most` visible characters, behind their number.
-    #[tactic(auto, unfolding(crate::specs::Reading::visible_at))]
+    #[tactic(auto, unfolding(crate::specs::RecordReading::visible_at))]
     fn characters(&mut self, least: u8, most: u8) -> Result<&'a [u8], EntryFault>
         ensures value { Gives (λ x. (x.now, self.new.rest.now)) result (visible_at least most self.old.end self.old.rest.now) }
         ensures end { OnOk result (self.new.end ≡ self.old.end) }

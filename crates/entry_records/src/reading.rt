@@ -1,7 +1,7 @@
 ghost use Rattle.std.specs.Prelude.{◌≡◌, ◌≢◌, ℕ, Ok, Err, IfOk, IfErr};
 ghost use Rattle.dots_history.specs.declared.entry.Entry.{Entry};
 ghost use Rattle.entry_records.specs.declared.fault.EntryFault.TheVariants.{NotEntry, NoMemory};
-ghost use Rattle.entry_records.specs.Reading.{Gives, record_at};
+ghost use Rattle.entry_records.specs.RecordReading.{Gives, record_at};
 ghost use Rattle.entry_records.specs.Records.{IsRecord, IsBroken};
 
 use crate::fault::EntryFault;

@@ -56,16 +56,16 @@ lines_from content number = drop (number - 1) (lines_of content)
 
 -- the line of the fault, and the one that says why
 abbrev pub report_with : SettingsFault → List ℕ → Bool → List ℕ
-report_with told line past =
-    (fault_text told ++ codes "\n") ++ remark_line (number_of told) (remark_of told past (fields_of line)) line (fields_of line)
+report_with why line past =
+    (fault_text why ++ codes "\n") ++ remark_line (number_of why) (remark_of why past (fields_of line)) line (fields_of line)
 
 abbrev pub fault_report : List ℕ → SettingsFault → List ℕ
-fault_report content told = report_with told (line_in (lines_from content (number_of told))) (past_in content (lines_from content (number_of told)))
+fault_report content why = report_with why (line_in (lines_from content (number_of why))) (past_in content (lines_from content (number_of why)))
 
 -- The file gives settings, and this is their summary; or this is the report of its first fault.
 abbrev pub ChecksSettings : List ℕ → Checked → Type 0
 ChecksSettings file (checked.Good text) = (settings : SettingsValue) × SettingsAre file settings × (text ≡ summary settings)
-ChecksSettings file (checked.AtFault text) = (told : SettingsFault) × SettingsFail file told × (text ≡ fault_report (content_of file) told)
+ChecksSettings file (checked.AtFault text) = (why : SettingsFault) × SettingsFail file why × (text ≡ fault_report (content_of file) why)
 
 -- ---- scripts
 

@@ -53,7 +53,7 @@ fn check_content(alloc: Global, content: &[u8]) -> Result<Checked, NoMemory>
         },
         Err(SettingsFault::NoMemory) => return Err(NoMemory),
         Err(SettingsFault::ReadFault) => unreachable!(),
-        Err(fault) => return tell_fault(alloc, content, fault),
+        Err(fault) => return answer_fault(alloc, content, fault),
     }
 }
 
@@ -65,7 +65,7 @@ fn summary_of(alloc: Global, settings: Settings) -> Result<Bytes, NoMemory>
 }
 
 /// That the file has this fault.
-fn tell_fault(alloc: Global, content: &[u8], fault: SettingsFault) -> Result<Checked, NoMemory>
+fn answer_fault(alloc: Global, content: &[u8], fault: SettingsFault) -> Result<Checked, NoMemory>
     requires short { length content.now ≤ 2 ^ 16 + 1 }
     requires fails { SettingsFail content.now fault }
     ensures { IfOk result (ChecksSettings content.now) }

@@ -1,3 +1,3 @@
 pub mod Fates
 pub mod Matching
-pub mod Told
+pub mod HandedOut

@@ -3,7 +3,7 @@
 ghost use Rattle.std.specs.Prelude.{◌≡◌, option_map, option_copied, filter, map, find};
 ghost use Rattle.acl_lists.specs.Matching.{ace_matches};
 ghost use Rattle.filter_rows.specs.Fates.{decision, decision_of_row, decision_of_rows, scrubs, greatest, greatest_from, fate_by_rows};
-ghost use Rattle.filter_rows.specs.Told.{fate_of, prefixes_in};
+ghost use Rattle.filter_rows.specs.HandedOut.{fate_of, prefixes_in};
 
 use crate::matching::is_scrubbed;
 use crate::rows::{AclRow, ScrubRow};

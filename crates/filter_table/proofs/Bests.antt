@@ -14,7 +14,7 @@ use Rattle.prefix_ranks.specs.Ranks.{kind_of, ranked, place_of, slot_of}
 use Rattle.prefix_ranks.specs.Covers.{covers, IsShort}
 use Rattle.prefix_ranks.proofs.Each.{each_insert, each_map, each_weaker}
 use Rattle.prefix_ranks.proofs.Covered.{cover_by}
-use Rattle.filter_table.specs.Held.{HeldScrub, rank_of, row_of_scrub}
+use Rattle.filter_table.specs.TableRows.{HeldScrub, rank_of, row_of_scrub}
 use Rattle.filter_table.specs.Rows.{in_slot}
 use Rattle.filter_table.specs.Best.{greater_of, best, mid_of, mid_in}
 use Rattle.filter_table.proofs.Gathered.{IsStored}

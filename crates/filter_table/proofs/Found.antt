@@ -8,7 +8,7 @@ use Rattle.prefix_ranks.specs.declared.rank.Rank.{Rank}
 use Rattle.prefix_ranks.specs.Ranks.{ranked, place_of, is_of_kind, is_of_number}
 use Rattle.prefix_ranks.proofs.Each.{each_insert, each_map, each_both, each_weaker}
 use Rattle.filter_table.specs.declared.turn.Turn.{Turn}
-use Rattle.filter_table.specs.Held.{HeldScrub, is_of, is_of_client, row_is_of, without_mitigation}
+use Rattle.filter_table.specs.TableRows.{HeldScrub, is_of, is_of_client, row_is_of, without_mitigation}
 use Rattle.filter_table.specs.Rows.{in_slot, gathered, passes, slot_is_of, mark_of, marks_of, is_turn, IsTied}
 use Rattle.filter_table.proofs.Gathered.{AreTied, scrub_of, one_tied, length-gathered, IsStored, Reaches, turn_read, default_same}
 use Rattle.filter_table.proofs.Orders.{each_filter}

@@ -4,7 +4,7 @@ use Rattle.std.specs.List.{insert, remove, prefix_len, AllByRecursion}
 use Rattle.ip_scope.specs.Prefix.{IsPrefix}
 use Rattle.filter_rows.specs.declared.rows.ScrubRow.{ScrubRow}
 use Rattle.filter_table.specs.declared.turn.Turn.{Turn}
-use Rattle.filter_table.specs.Held.{HeldScrub, scrub_in, is_of, is_of_client, row_is_of, row_woken, row_set, woken, scrub_set, row_of_scrub, number_after, renumbered, renumbered_from, place_of_scrub, scrub_at_place, rank_of}
+use Rattle.filter_table.specs.TableRows.{HeldScrub, scrub_in, is_of, is_of_client, row_is_of, row_woken, row_set, woken, scrub_set, row_of_scrub, number_after, renumbered, renumbered_from, place_of_scrub, scrub_at_place, rank_of}
 use Rattle.filter_table.specs.Rows.{or_empty, in_slot, added, gathered, place_of_turn, turn_at_place, woken_at, woken_in, IsTied}
 use Rattle.prefix_ranks.specs.declared.rank.Rank.{Rank}
 use Rattle.prefix_ranks.proofs.Each.{each_insert, each_remove, each_both}

@@ -5,4 +5,4 @@ pub mod There
 pub mod Gathered
 pub mod Bests
 pub mod Found
-pub mod Standing
+pub mod RowsInSlots

@@ -2,7 +2,7 @@
 use Rattle.std.proofs.Common.{◌≡◌, ◌≢◌, ℕ, ◌+◌, ◌≤◌, Bool, true, false, cond, if◌then◌else◌, ◌==◌, nat_le, nat_lt, List, [], ◌∷◌, map, zero, suc, refl, sym, ◌∙◌, arith, one-add, Some, None}
 use Rattle.std.specs.List.{insert, remove, prefix_len, filter, AllByRecursion}
 use Rattle.filter_table.specs.declared.held.HeldAcl.{HeldAcl}
-use Rattle.filter_table.specs.Held.{HeldScrub, scrub_in, is_of, scrub_set, acl_set, woken, activated, number_after, renumbered_from, renumbered, place_of_scrub, scrub_at_place}
+use Rattle.filter_table.specs.TableRows.{HeldScrub, scrub_in, is_of, scrub_set, acl_set, woken, activated, number_after, renumbered_from, renumbered, place_of_scrub, scrub_at_place}
 use Rattle.filter_table.specs.Laws.{AreInOrder, HaveTheirSlots}
 use Rattle.prefix_ranks.specs.Numbers.{Falls}
 use Rattle.prefix_ranks.proofs.Each.{each_insert, each_remove, each_weaker}

@@ -2,7 +2,7 @@
 use Rattle.std.proofs.Common.{◌≡◌, ℕ, ◌+◌, ◌<◌, ◌≤◌, cond, ◌==◌, List, [], ◌∷◌, map, length, get_or, take, length-take-le, zero, suc, refl, ap, ◌∙◌, arith}
 use Rattle.std.specs.List.{count_by, AllByRecursion}
 use Rattle.std.proofs.lemmas.List.Sums.{sum_by-cons}
-use Rattle.filter_table.specs.Held.{HeldScrub, number_after, renumbered_from, renumbered, place_of_scrub, scrub_at_place}
+use Rattle.filter_table.specs.TableRows.{HeldScrub, number_after, renumbered_from, renumbered, place_of_scrub, scrub_at_place}
 use Rattle.filter_table.specs.Slots.{HasEachSlot}
 
 after_at_most : (last number place : ℕ) → number_after last number place ≤ number + 1

@@ -8,7 +8,7 @@ use Rattle.std.proofs.lemmas.List.Sums.{sum_by-cons, prefix_len-le-length, sum_b
 use Rattle.std.proofs.lemmas.List.Edits.{length-insert, length-remove}
 use Rattle.prefix_ranks.specs.declared.rank.Rank.{Rank}
 use Rattle.prefix_ranks.specs.Ranks.{RankingValue, is_before, with_rank, ranked, place_of}
-use Rattle.filter_table.specs.Held.{HeldScrub, rank_of, ScrubsValue, scrub_in, with_scrub, woken, is_of, scrub_set}
+use Rattle.filter_table.specs.TableRows.{HeldScrub, rank_of, ScrubsValue, scrub_in, with_scrub, woken, is_of, scrub_set}
 use Rattle.filter_table.specs.Rows.{mark_of}
 use Rattle.filter_table.specs.Slots.{HasEachSlot, RanksAre}
 use Rattle.prefix_ranks.proofs.Each.{map_insert, map_remove}

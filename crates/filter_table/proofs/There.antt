@@ -5,7 +5,7 @@ use Rattle.std.proofs.lemmas.List.Elements.{All-nil, All-cons, All-head, All-tai
 use Rattle.ip_scope.specs.declared.family.Family.{Family}
 use Rattle.prefix_ranks.specs.declared.rank.Rank.{Rank}
 use Rattle.prefix_ranks.specs.Ranks.{kind_of, ranked, place_of, is_of_kind, slot_of}
-use Rattle.filter_table.specs.Held.{HeldScrub, rank_of, scrub_in}
+use Rattle.filter_table.specs.TableRows.{HeldScrub, rank_of, scrub_in}
 use Rattle.filter_table.specs.Table.{slots_of}
 
 abbrev pub HasRow : List HeldScrub → ℕ → Type 0

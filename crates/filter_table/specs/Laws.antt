@@ -1,7 +1,7 @@
 -- What the definitions of a filter table come to.
 use Rattle.std.specs.Prelude.{◌≢◌, ℕ, ◌≤◌, List, [], ◌∷◌}
 use Rattle.std.specs.List.{AllByRecursion}
-use Rattle.filter_table.specs.Held.{HeldScrub}
+use Rattle.filter_table.specs.TableRows.{HeldScrub}
 
 -- no place is above a later one
 abbrev pub AreInOrder : {A : Type 0} → (A → ℕ) → List A → Type 0

@@ -1,4 +1,4 @@
-pub mod Held
+pub mod TableRows
 pub mod Table
 pub mod Laws
 pub mod Rows

@@ -5,7 +5,7 @@ use Rattle.filter_rows.specs.declared.rows.ScrubRow.{ScrubRow}
 use Rattle.prefix_ranks.specs.declared.rank.Rank.{Rank}
 use Rattle.prefix_ranks.specs.Ranks.{is_of_kind, is_of_number}
 use Rattle.filter_table.specs.declared.turn.Turn.{Turn}
-use Rattle.filter_table.specs.Held.{HeldScrub, row_is_of, row_woken}
+use Rattle.filter_table.specs.TableRows.{HeldScrub, row_is_of, row_woken}
 
 abbrev pub or_empty : Option (Option ScrubRow) → Option ScrubRow
 or_empty None = None

@@ -5,7 +5,7 @@ use Rattle.filter_rows.specs.declared.rows.ScrubRow.{ScrubRow}
 use Rattle.prefix_ranks.specs.declared.rank.Rank.{Rank}
 use Rattle.prefix_ranks.specs.Ranks.{RankingValue, ranked}
 use Rattle.filter_table.specs.declared.turn.Turn.{Turn}
-use Rattle.filter_table.specs.Held.{HeldScrub, rank_of}
+use Rattle.filter_table.specs.TableRows.{HeldScrub, rank_of}
 use Rattle.filter_table.specs.Laws.{AreInOrder}
 use Rattle.filter_table.specs.Rows.{gathered, place_of_turn, mark_of, IsTied}
 

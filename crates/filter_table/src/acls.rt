@@ -2,7 +2,7 @@
 
 ghost use Rattle.std.specs.Prelude.{◌≡◌, ◌<◌, ◌≤◌, [], not, map, length, nat_le, IfOk, vec_capacity};
 ghost use Rattle.std.specs.List.{prefix_len};
-ghost use Rattle.filter_table.specs.Held.{AclsValue, with_acl, is_named, without_acl, activated, waits, renumbered, acl_at_place, place_of_acl};
+ghost use Rattle.filter_table.specs.TableRows.{AclsValue, with_acl, is_named, without_acl, activated, waits, renumbered, acl_at_place, place_of_acl};
 
 use crate::held::{HeldAcl, is_of_client, number_after};
 use acl_lists::Activation;
@@ -20,7 +20,7 @@ pub struct Acls {
 
 impl Model for Acls {
     ghost use Rattle.std.specs.Prelude.{◌≤◌, vec_capacity};
-    ghost use Rattle.filter_table.specs.Held.{AclsValue};
+    ghost use Rattle.filter_table.specs.TableRows.{AclsValue};
 
     ghost Value = { AclsValue };
 
@@ -64,7 +64,7 @@ impl Acls {
     pub fn drop_acl(&mut self, domain: u16, cuid: &[u8], name: &[u8])
         ensures { self.new ≡ record { room = self.old.room; held = without_acl domain cuid.now name.now self.old.held } }
     {
-        leave_others(&mut self.held, domain, cuid, name);
+        retain_others(&mut self.held, domain, cuid, name);
     }
 
     /// Says of each row of this client whose list is active while the client mitigates whether it is.
@@ -104,7 +104,7 @@ fn is_named(list: &HeldAcl, domain: u16, cuid: &[u8], name: &[u8]) -> bool
     is_of_client(domain, cuid, list.row.domain, &list.row.cuid) && list.row.acl.name.bytes() == name
 }
 
-fn leave_others(held: &mut Vec<HeldAcl>, domain: u16, cuid: &[u8], name: &[u8])
+fn retain_others(held: &mut Vec<HeldAcl>, domain: u16, cuid: &[u8], name: &[u8])
     ensures items { held.new.items ≡ without_acl domain cuid.now name.now held.old.items }
     ensures capacity { vec_capacity held.new ≡ vec_capacity held.old }
 {

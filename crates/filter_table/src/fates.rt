@@ -2,8 +2,8 @@
 
 ghost use Rattle.std.specs.Prelude.{◌≡◌, map, option_map};
 ghost use Rattle.filter_rows.specs.Fates.{decision_of_row, decision_of_rows, fate_by_rows};
-ghost use Rattle.filter_rows.specs.Told.{fate_of};
-ghost use Rattle.filter_table.specs.Held.{row_of_scrub, row_of_acl};
+ghost use Rattle.filter_rows.specs.HandedOut.{fate_of};
+ghost use Rattle.filter_table.specs.TableRows.{row_of_scrub, row_of_acl};
 ghost use Rattle.dots_settings.specs.Lookups.{prefixes_of};
 
 use crate::held::HeldAcl;

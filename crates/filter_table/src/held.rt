@@ -1,5 +1,5 @@
 ghost use Rattle.std.specs.Prelude.{◌≡◌, ◌<◌, ◌^◌, ◌-◌, ◌+◌};
-ghost use Rattle.filter_table.specs.Held.{is_of_client, number_after};
+ghost use Rattle.filter_table.specs.TableRows.{is_of_client, number_after};
 
 use dots_lists::Text;
 use filter_rows::AclRow;

@@ -2,7 +2,7 @@
 
 ghost use Rattle.std.specs.Prelude.{◌≡◌, ℕ, Bool, List, None, map};
 ghost use Rattle.filter_table.specs.declared.held.HeldAcl.{HeldAcl};
-ghost use Rattle.filter_table.specs.Held.{HeldScrub, scrub_in, with_scrub, without_mitigation, woken, with_acl, without_acl, activated, renumbered, place_of_scrub, scrub_at_place, place_of_acl, acl_at_place};
+ghost use Rattle.filter_table.specs.TableRows.{HeldScrub, scrub_in, with_scrub, without_mitigation, woken, with_acl, without_acl, activated, renumbered, place_of_scrub, scrub_at_place, place_of_acl, acl_at_place};
 ghost use Rattle.filter_table.specs.Laws.{AreInOrder, HaveTheirSlots};
 
 /// The rows of mitigations stay in order of place, whatever call is made.

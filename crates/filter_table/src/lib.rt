@@ -8,7 +8,7 @@
 //! by prefix and by mitigation. So what is moved where a row comes or goes is small numbers, and the rows of a mitigation are
 //! searched for by its domain and mid. Rows of access lists are few, and each call on them passes over all.
 //!
-//! Start reading at `specs/Table.antt` and `specs/Held.antt`; `specs/Rows.antt` has how the rows are stored.
+//! Start reading at `specs/Table.antt` and `specs/TableRows.antt`; `specs/Rows.antt` has how the rows are stored.
 #![tactic(auto)]
 
 mod acls;

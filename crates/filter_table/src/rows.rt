@@ -2,7 +2,7 @@
 
 ghost use Rattle.std.specs.Prelude.{◌≡◌, map, option_copied, IfSome, IfNone, [], ◌∷◌};
 ghost use Rattle.std.specs.Iterator.{YieldsFirstRef, item_count};
-ghost use Rattle.filter_table.specs.Held.{row_of_acl, active_rows};
+ghost use Rattle.filter_table.specs.TableRows.{row_of_acl, active_rows};
 ghost use Rattle.filter_table.specs.Rows.{gathered, active_in};
 
 use crate::held::HeldAcl;
@@ -21,7 +21,7 @@ pub struct ScrubRows<'a> {
 impl<'a> Model for ScrubRows<'a> {
     ghost use Rattle.std.specs.Prelude.{List};
     ghost use Rattle.filter_rows.specs.declared.rows.ScrubRow.{ScrubRow};
-    ghost use Rattle.filter_table.specs.Held.{active_rows};
+    ghost use Rattle.filter_table.specs.TableRows.{active_rows};
     ghost use Rattle.filter_table.specs.Rows.{gathered};
 
     ghost Value = { List ScrubRow };
@@ -89,7 +89,7 @@ pub struct AclRows<'a> {
 impl<'a> Model for AclRows<'a> {
     ghost use Rattle.std.specs.Prelude.{List, map};
     ghost use Rattle.filter_rows.specs.declared.rows.AclRow.{AclRow};
-    ghost use Rattle.filter_table.specs.Held.{row_of_acl};
+    ghost use Rattle.filter_table.specs.TableRows.{row_of_acl};
 
     ghost Value = { List AclRow };
 

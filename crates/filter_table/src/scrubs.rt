@@ -4,7 +4,7 @@ ghost use Rattle.std.specs.Prelude.{◌≡◌, ℕ, ◌<◌, ◌≤◌, ◌^◌,
 ghost use Rattle.std.specs.List.{prefix_len, position, insert, remove, AllByRecursion};
 ghost use Rattle.filter_rows.specs.Fates.{scrubbing_mid};
 ghost use Rattle.prefix_ranks.specs.Ranks.{kind_of, ranked, is_of_kind, slot_of};
-ghost use Rattle.filter_table.specs.Held.{ScrubsValue, scrub_in, with_scrub, without_mitigation, woken, renumbered, scrub_at_place, place_of_scrub, rank_of, row_of_scrub, active_rows};
+ghost use Rattle.filter_table.specs.TableRows.{ScrubsValue, scrub_in, with_scrub, without_mitigation, woken, renumbered, scrub_at_place, place_of_scrub, rank_of, row_of_scrub, active_rows};
 ghost use Rattle.filter_table.specs.Laws.{AreInOrder};
 ghost use Rattle.filter_table.specs.Rows.{gathered, place_of_turn, turn_at_place, mark_of, is_turn, IsTied};
 
@@ -38,7 +38,7 @@ pub struct Scrubs {
 
 impl Model for Scrubs {
     ghost use Rattle.std.specs.Prelude.{◌≤◌, vec_capacity};
-    ghost use Rattle.filter_table.specs.Held.{ScrubsValue};
+    ghost use Rattle.filter_table.specs.TableRows.{ScrubsValue};
     ghost use Rattle.filter_table.specs.Rows.{gathered};
     ghost use Rattle.filter_table.specs.Slots.{StandInSlots};
 

@@ -1,7 +1,7 @@
 //! Rows by the slot that they stand in.
 
 ghost use Rattle.std.specs.Prelude.{◌≡◌, ◌==◌, ◌&&◌, ◌<◌, ◌≤◌, None, Some, map, length, option_map, option_copied, [], IfOk, slice_set, vec_capacity};
-ghost use Rattle.filter_table.specs.Held.{is_of_client, row_is_of, row_woken};
+ghost use Rattle.filter_table.specs.TableRows.{is_of_client, row_is_of, row_woken};
 ghost use Rattle.filter_table.specs.Rows.{in_slot, slot_is_of, woken_at};
 ghost use Rattle.filter_table.specs.Slots.{HasEachSlot};
 

@@ -1,8 +1,8 @@
 ghost use Rattle.std.specs.Prelude.{◌≡◌, ℕ, ◌+◌, ◌<◌, ◌≤◌, ◌^◌, [], None, Some, map, filter, length, nat_lt, option_map, IsSome, IfOk};
 ghost use Rattle.std.specs.List.{All, AllByRecursion};
-ghost use Rattle.filter_rows.specs.Told.{fate_of};
+ghost use Rattle.filter_rows.specs.HandedOut.{fate_of};
 ghost use Rattle.filter_rows.specs.Fates.{fate_by_rows};
-ghost use Rattle.filter_table.specs.Held.{scrub_in, with_scrub, without_mitigation, woken, with_acl, without_acl, activated, renumbered, place_of_scrub, scrub_at_place, place_of_acl, acl_at_place, row_of_scrub, row_of_acl, active_rows};
+ghost use Rattle.filter_table.specs.TableRows.{scrub_in, with_scrub, without_mitigation, woken, with_acl, without_acl, activated, renumbered, place_of_scrub, scrub_at_place, place_of_acl, acl_at_place, row_of_scrub, row_of_acl, active_rows};
 ghost use Rattle.dots_settings.specs.Lookups.{prefixes_of};
 ghost use Rattle.filter_table.specs.Table.{TableValue, slots_of};
 

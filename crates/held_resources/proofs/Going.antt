@@ -8,7 +8,7 @@ use Rattle.std.proofs.lemmas.List.Elements.{filter-append}
 use Rattle.dots_history.specs.declared.entry.Entry.{Entry}
 use Rattle.dots_history.specs.declared.change.Change.{Change}
 use Rattle.dots_history.specs.declared.change.Change.TheVariants as change
-use Rattle.dots_history.specs.Entries.{is_held, is_leave, is_configuration, undoes, undoes_alias, undoes_acl, undoes_of_client, undoes_of_peer, reconfigures, same_client}
+use Rattle.dots_history.specs.Entries.{is_held, is_deregister, is_configuration, undoes, undoes_alias, undoes_acl, undoes_of_client, undoes_of_peer, reconfigures, same_client}
 use Rattle.dots_history.specs.Histories.{stays, held}
 use Rattle.dots_laws.specs.Fits.{is_of_mitigations}
 use Rattle.dots_laws.specs.Filed.{Filed, entry_of, refiled}
@@ -159,7 +159,7 @@ rows_moved keep (x ∷ later) =
 -- ---- mitigations undo nothing
 
 quiet_client : (w : HeldName) (c : Change) → is_of_mitigations c ≡ true → undone_of_client w c ≡ false
-unfolding is_of_mitigations is_leave undoes_alias undoes_acl
+unfolding is_of_mitigations is_deregister undoes_alias undoes_acl
 quiet_client written.Registration (change.Put put) is = refl
 quiet_client written.Registration (change.Withdraw mid) is = refl
 quiet_client written.Registration _ is = absurd (false≢true is)

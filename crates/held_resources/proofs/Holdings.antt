@@ -10,7 +10,7 @@ use Rattle.acl_lists.specs.declared.acl.Acl.{Acl}
 use Rattle.dots_history.specs.declared.entry.Entry.{Entry}
 use Rattle.dots_history.specs.declared.change.Change.{Change}
 use Rattle.dots_history.specs.declared.change.Change.TheVariants as change
-use Rattle.dots_history.specs.Entries.{same_client, is_held, undoes, undoes_of_client, undoes_of_peer, is_leave, is_configuration, reconfigures}
+use Rattle.dots_history.specs.Entries.{same_client, is_held, undoes, undoes_of_client, undoes_of_peer, is_deregister, is_configuration, reconfigures}
 use Rattle.dots_history.specs.Histories.{tally}
 use Rattle.dots_laws.specs.Capacities.{is_registration, has_client}
 use Rattle.dots_laws.specs.Tables.{Client, client_of, is_of}
@@ -55,7 +55,7 @@ by_domain domain x e in_x out_e =
     (x.domain == e.domain)
     (λ is. both_ways (e.domain == domain) out_e (eq-eqb e.domain domain (sym (eqb-true x.domain e.domain is) ∙ eqb-true x.domain domain in_x))))
 
-reg_parts : (c later : Change) → is_registration c ≡ true → (undoes_of_client c later ≡ is_leave later) × (undoes_of_peer c later ≡ false)
+reg_parts : (c later : Change) → is_registration c ≡ true → (undoes_of_client c later ≡ is_deregister later) × (undoes_of_peer c later ≡ false)
 unfolding is_registration undoes_of_client undoes_of_peer
 reg_parts change.Register later is = (refl, refl)
 reg_parts _ later is = absurd (false≢true is)
@@ -70,7 +70,7 @@ turned_and true false = refl
 turned_and false true = refl
 turned_and false false = refl
 
-pub reg_undone : (x e : Entry) → is_registration x.change ≡ true → undoes x e ≡ (is_leave e.change && is_of (client_of x) e)
+pub reg_undone : (x e : Entry) → is_registration x.change ≡ true → undoes x e ≡ (is_deregister e.change && is_of (client_of x) e)
 unfolding undoes reconfigures
 reg_undone x e is =
     let parts = reg_parts x.change e.change is in
@@ -80,7 +80,7 @@ reg_undone x e is =
     (and_right (x.peer == e.peer) (undoes_of_peer x.change e.change) parts.1)
     ∙ ap (λ b. b && undoes_of_client x.change e.change) (of_itself x e)
     ∙ ap (λ b. is_of (client_of x) e && b) parts.0
-    ∙ turned_and (is_of (client_of x) e) (is_leave e.change)
+    ∙ turned_and (is_of (client_of x) e) (is_deregister e.change)
 
 -- ---- what a client holds
 abbrev holding_by : Rooms → ℕ → List ℕ → List Alias → List Acl → Holding
@@ -164,7 +164,7 @@ module _ (rooms : Rooms) (domain : ℕ) where
             (λ gone. go ∙ sym (cond-false (counts x) (here ∷ holdings rooms domain es xs) (holdings rooms domain es xs) out))
       ]
 
-  left_others : (e : Entry) (es xs : List Entry) → (e.domain == domain) ≡ true → is_leave e.change ≡ true
+  left_others : (e : Entry) (es xs : List Entry) → (e.domain == domain) ≡ true → is_deregister e.change ≡ true
       → holdings rooms domain es (filter (λ x. not (undoes x e)) xs) ≡ filter (λ h. not (has_cuid e.cuid h)) (holdings rooms domain es xs)
   left_others e es [] own leaves = refl
   left_others e es (x ∷ xs) own leaves =
@@ -267,13 +267,13 @@ module _ (rooms : Rooms) (domain : ℕ) where
       e
       (held_with e es)
       es
-      (λ x is in_x. reg_undone x e is ∙ and_right (is_leave e.change) (is_of (client_of x) e) (by_domain domain x e in_x other))
+      (λ x is in_x. reg_undone x e is ∙ and_right (is_deregister e.change) (is_of (client_of x) e) (by_domain domain x e in_x other))
       ∙ none_changed e es es other
 
   -- one that neither registers nor leaves
-  quiet_holdings : (e : Entry) (es : List Entry) → (e.domain == domain) ≡ true → is_leave e.change ≡ false → is_registration e.change ≡ false
+  quiet_holdings : (e : Entry) (es : List Entry) → (e.domain == domain) ≡ true → is_deregister e.change ≡ false → is_registration e.change ≡ false
       → holdings rooms domain (held_with e es) (held_with e es) ≡ map (changed e.cuid e.change) (holdings rooms domain es es)
-  quiet_holdings e es own no_leave no_registration =
+  quiet_holdings e es own no_deregister no_registration =
       holdings-append (held_with e es) (filter (λ x. not (undoes x e)) es) (end e)
       ∙ ap
       (λ hs. holdings rooms domain (held_with e es) (filter (λ x. not (undoes x e)) es) ++ hs)
@@ -283,7 +283,7 @@ module _ (rooms : Rooms) (domain : ℕ) where
       e
       (held_with e es)
       es
-      (λ x is in_x. reg_undone x e is ∙ and_left (is_leave e.change) (is_of (client_of x) e) no_leave)
+      (λ x is in_x. reg_undone x e is ∙ and_left (is_deregister e.change) (is_of (client_of x) e) no_deregister)
       ∙ each_changed e es es own
 
 -- ---- lists of clients
@@ -318,23 +318,23 @@ pub record IsFresh (rooms : Rooms) (domain : ℕ) (e : Entry) (es : List Entry) 
   pub acls : acls_of (client_of e) es ≡ []
   pub none : list_any (has_cuid e.cuid) (holdings rooms domain es es) ≡ false
 
-leave_registers : (c : Change) → is_leave c ≡ true → is_registration c ≡ false
-unfolding is_leave is_registration
-leave_registers change.Deregister is = refl
-leave_registers _ is = absurd (false≢true is)
+registers_nothing : (c : Change) → is_deregister c ≡ true → is_registration c ≡ false
+unfolding is_deregister is_registration
+registers_nothing change.Deregister is = refl
+registers_nothing _ is = absurd (false≢true is)
 
-register_holds : (c : Change) → is_registration c ≡ true → (is_held c ≡ true) × (is_leave c ≡ false)
-unfolding is_leave is_registration is_held
+register_holds : (c : Change) → is_registration c ≡ true → (is_held c ≡ true) × (is_deregister c ≡ false)
+unfolding is_deregister is_registration is_held
 register_holds change.Register is = (refl, refl)
 register_holds _ is = absurd (false≢true is)
 
-leaving : (rooms : Rooms) (domain : ℕ) (e : Entry) (es : List Entry) → (e.domain == domain) ≡ true → is_leave e.change ≡ true
+leaving : (rooms : Rooms) (domain : ℕ) (e : Entry) (es : List Entry) → (e.domain == domain) ≡ true → is_deregister e.change ≡ true
     → holdings rooms domain (held_with e es) (held_with e es) ≡ filter (λ h. not (has_cuid e.cuid h)) (holdings rooms domain es es)
 leaving rooms domain e es own leaves =
     holdings-append rooms domain (held_with e es) (filter (λ x. not (undoes x e)) es) (cond (is_held e.change) (e ∷ []) [])
     ∙ ap
     (λ hs. holdings rooms domain (held_with e es) (filter (λ x. not (undoes x e)) es) ++ hs)
-    (no_end rooms domain e (held_with e es) (and_left (is_registration e.change) (e.domain == domain) (leave_registers e.change leaves)))
+    (no_end rooms domain e (held_with e es) (and_left (is_registration e.change) (e.domain == domain) (registers_nothing e.change leaves)))
     ∙ append-nil (holdings rooms domain (held_with e es) (filter (λ x. not (undoes x e)) es))
     ∙ left_others rooms domain e (held_with e es) es own leaves
     ∙ ap (filter (λ h. not (has_cuid e.cuid h))) (each_changed rooms domain e es es own)
@@ -362,7 +362,7 @@ registering rooms domain e es own same registers fresh =
     e
     (held_with e es)
     es
-    (λ x is in_x. reg_undone x e is ∙ and_left (is_leave e.change) (is_of (client_of x) e) kinds.1)
+    (λ x is in_x. reg_undone x e is ∙ and_left (is_deregister e.change) (is_of (client_of x) e) kinds.1)
     ∙ each_changed rooms domain e es es own
     ∙ unchanged e.cuid e.change (holdings rooms domain es es) fresh.none)
     ∙ ap (λ b. holdings rooms domain es es ++ holdings rooms domain (held_with e es) (cond b (e ∷ []) [])) kinds.0
@@ -374,13 +374,13 @@ registering rooms domain e es own same registers fresh =
 by_change : (rooms : Rooms) (domain : ℕ) (e : Entry) (es : List Entry) → (e.domain == domain) ≡ true
     → (is_registration e.change ≡ true → IsFresh rooms domain e es) → (c : Change) → e.change ≡ c
     → holdings rooms domain (held_with e es) (held_with e es) ≡ list_with rooms e.peer e.cuid c (holdings rooms domain es es)
-unfolding is_leave is_registration
+unfolding is_deregister is_registration
 by_change rooms domain e es own fresh change.Register same =
     let registers = ap is_registration same in
     registering rooms domain e es own same registers (fresh registers)
-by_change rooms domain e es own fresh change.Deregister same = leaving rooms domain e es own (ap is_leave same)
+by_change rooms domain e es own fresh change.Deregister same = leaving rooms domain e es own (ap is_deregister same)
 by_change rooms domain e es own fresh c same =
-    quiet_holdings rooms domain e es own (ap is_leave same) (ap is_registration same)
+    quiet_holdings rooms domain e es own (ap is_deregister same) (ap is_registration same)
     ∙ ap (λ c. map (changed e.cuid c) (holdings rooms domain es es)) same
 
 -- an entry of the domain

@@ -13,7 +13,7 @@ use Rattle.dots_settings.specs.Lookups.{role_of, prefixes_of}
 use Rattle.dots_history.specs.declared.entry.Entry.{Entry}
 use Rattle.dots_history.specs.declared.change.Change.{Change}
 use Rattle.dots_history.specs.declared.change.Change.TheVariants as change
-use Rattle.dots_history.specs.Entries.{same_client, is_held, undoes, undoes_of_client, undoes_of_peer, undoes_alias, undoes_acl, reconfigures, is_leave, is_configuration}
+use Rattle.dots_history.specs.Entries.{same_client, is_held, undoes, undoes_of_client, undoes_of_peer, undoes_alias, undoes_acl, reconfigures, is_deregister, is_configuration}
 use Rattle.dots_history.specs.Histories.{Mitigation, is_nil, held, tally, mitigations}
 use Rattle.dots_laws.specs.Calm.{is_of_settings, may_act, may_configure, change_inside}
 use Rattle.dots_laws.specs.Capacities.{is_registration, is_alias, is_list}
@@ -22,7 +22,7 @@ use Rattle.dots_laws.specs.Tables.{Client, is_of}
 use Rattle.dots_laws.specs.Views.{held_with}
 use Rattle.dots_laws.proofs.GoingOn.{held_push}
 use Rattle.held_resources.specs.Held.{aliases_of, acls_of, is_registered, of_client, written}
-use Rattle.held_resources.specs.Tables.{Have, StandsFor, Tables, sizes_of, is_known}
+use Rattle.held_resources.specs.Tables.{Have, Represents, Tables, sizes_of, is_known}
 use Rattle.held_resources.specs.Accepting.{accepts, keeps_rooms}
 use Rattle.held_resources.proofs.Written.{written_alone, with_other, other_aliases, other_acls}
 use Rattle.held_resources.proofs.Holdings.{turned_eq}
@@ -32,11 +32,11 @@ registration_of : Change → Option Change
 registration_of change.Register = Some change.Register
 registration_of _ = None
 
-leaves : Change → Change → Bool
-leaves registration later = is_leave later
+deregisters : Change → Change → Bool
+deregisters registration later = is_deregister later
 
-registration_agrees : (c a later : Change) → registration_of c ≡ Some a → (undoes_of_client c later ≡ leaves a later) × (undoes_of_peer c later ≡ false)
-unfolding registration_of leaves undoes_of_client undoes_of_peer
+registration_agrees : (c a later : Change) → registration_of c ≡ Some a → (undoes_of_client c later ≡ deregisters a later) × (undoes_of_peer c later ≡ false)
+unfolding registration_of deregisters undoes_of_client undoes_of_peer
 registration_agrees change.Register a later is = (refl, refl)
 registration_agrees _ a later is = absurd (none-some a is)
 
@@ -63,7 +63,7 @@ registered_by client (x ∷ es) = by_kind (is_of client x) (is_registered client
 pub registered_alone : (client : Client) (entries : List Entry) → is_registered client (held (of_client client entries)) ≡ is_registered client (held entries)
 registered_alone client entries =
     registered_by client (held (of_client client entries))
-    ∙ ap some_there (written_alone registration_of leaves registration_agrees registration_held client entries)
+    ∙ ap some_there (written_alone registration_of deregisters registration_agrees registration_held client entries)
     ∙ sym (registered_by client (held entries))
 
 pub registered_still : (client : Client) (e : Entry) (entries : List Entry) → is_of client e ≡ false
@@ -71,7 +71,7 @@ pub registered_still : (client : Client) (e : Entry) (entries : List Entry) → 
 registered_still client e entries other =
     ap (is_registered client) (held_push e entries)
     ∙ registered_by client (held_with e (held entries))
-    ∙ ap some_there (with_other registration_of leaves registration_agrees registration_held client e (held entries) other)
+    ∙ ap some_there (with_other registration_of deregisters registration_agrees registration_held client e (held entries) other)
     ∙ sym (registered_by client (held entries))
 
 pub aliases_still : (client : Client) (e : Entry) (entries : List Entry) → is_of client e ≡ false
@@ -84,7 +84,7 @@ acls_still client e entries other = ap (acls_of client) (held_push e entries) �
 
 -- ---- mitigations
 undoes_nothing : (c later : Change) → laws.is_of_mitigations later ≡ true → (undoes_of_client c later ≡ false) × (undoes_of_peer c later ≡ false)
-unfolding laws.is_of_mitigations undoes_of_client undoes_of_peer undoes_alias undoes_acl is_leave is_configuration
+unfolding laws.is_of_mitigations undoes_of_client undoes_of_peer undoes_alias undoes_acl is_deregister is_configuration
 undoes_nothing change.Register (change.Put put) is = (refl, refl)
 undoes_nothing change.Register (change.Withdraw mid) is = (refl, refl)
 undoes_nothing change.Register _ is = absurd (false≢true is)
@@ -128,9 +128,9 @@ same_held e entries is =
     ∙ append-nil (filter (λ x. not (undoes x e)) (held entries))
     ∙ all_stay e (held entries) is
 
-pub still_stands : (tables : Tables) (e : Entry) (entries : List Entry) → laws.is_of_mitigations e.change ≡ true → StandsFor tables entries
-    → StandsFor tables (entries ++ e ∷ [])
-still_stands tables e entries is stands = subst (Have tables) (sym (same_held e entries is)) stands
+pub still_stands : (tables : Tables) (e : Entry) (entries : List Entry) → laws.is_of_mitigations e.change ≡ true → Represents tables entries
+    → Represents tables (entries ++ e ∷ [])
+still_stands tables e entries is represents = subst (Have tables) (sym (same_held e entries is)) represents
 
 -- ---- what fits
 acts_below : (settings : SettingsValue) (r : Role) (domain : ℕ) → may_act settings r domain ≡ true → nat_lt domain (length settings.domains) ≡ true
@@ -202,16 +202,16 @@ accepts_own settings before e own =
 pub accepts_fitting : (settings : SettingsValue) (before : List Entry) (e : Entry) → laws.fits settings before e ≡ true
     → accepts (sizes_of settings) before e ≡ true
 accepts_fitting settings before e is =
-    let standing = held (before ++ e ∷ []) in
+    let held_now = held (before ++ e ∷ []) in
     let timed = nat_le (laws.last_time before) e.time && nat_lt e.time 281474976710656 in
-    let rooms = keeps_rooms (sizes_of settings).rooms e standing in
+    let rooms = keeps_rooms (sizes_of settings).rooms e held_now in
     let ms = mitigations e.time (before ++ e ∷ []) in
     let halves = and_parts
     (timed && is_of_settings settings e)
-    (laws.registers_rightly (held before) e && laws.keeps_room settings.limits e ms standing)
+    (laws.registers_rightly (held before) e && laws.keeps_room settings.limits e ms held_now)
     is in
     let own = and_parts timed (is_of_settings settings e) halves.0 in
-    let back = and_parts (laws.registers_rightly (held before) e) (laws.keeps_room settings.limits e ms standing) halves.1 in
+    let back = and_parts (laws.registers_rightly (held before) e) (laws.keeps_room settings.limits e ms held_now) halves.1 in
     let numbers = and_parts
     (nat_le (tally (λ (m : Mitigation). m.put.domain == e.domain) ms) settings.limits.domain_mitigations
     && nat_le (tally (λ (m : Mitigation). same_client e m.put) ms) settings.limits.client_mitigations)

@@ -2,7 +2,7 @@ pub mod Written
 pub mod Holdings
 pub mod Configs
 pub mod Places
-pub mod Standing
+pub mod HistoryTables
 pub mod Lawful
 pub mod Names
 pub mod Going

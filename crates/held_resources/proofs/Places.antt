@@ -198,11 +198,11 @@ register_keeps rooms list spare after left x y peer cuid sum apart have empty po
       is,
     )
 
-pub leave_keeps : (rooms : Rooms) (list spare after more : List Holding) (x y : Holding) (place : ℕ) (cuid : List ℕ)
+pub deregister_keeps : (rooms : Rooms) (list spare after more : List Holding) (x y : Holding) (place : ℕ) (cuid : List ℕ)
     → length list + length spare ≡ rooms.clients → AreApart list → HaveRooms rooms list → AreEmpty rooms spare
     → position (has_cuid cuid) list ≡ Some place → x ≡ get_or list place x → after ≡ remove list place → y ≡ no_holding x.rooms x.peer x.cuid → more ≡ spare ++ y ∷ []
     → Keeps rooms after more × (after ≡ filter (λ h. not (has_cuid cuid h)) list)
-leave_keeps rooms list spare after more x y place cuid sum apart have empty found at removed cleared pushed =
+deregister_keeps rooms list spare after more x y place cuid sum apart have empty found at removed cleared pushed =
     let facts = position-Some (has_cuid cuid) list place x found in
     let is : after ≡ filter (λ h. not (has_cuid cuid h)) list = removed ∙ left_there cuid list place x found apart in
     let rooms_is : x.rooms ≡ rooms = ap (λ (h : Holding). h.rooms) at ∙ rooms_at rooms list place x facts.0 have in
@@ -240,8 +240,8 @@ change_keeps rooms list spare after x place cuid c sum apart have empty found at
     )
 
 -- nothing changes where nobody has the cuid
-pub leave_none : (cuid : List ℕ) (list : List Holding) → position (has_cuid cuid) list ≡ None → filter (λ h. not (has_cuid cuid h)) list ≡ list
-leave_none cuid list is = all_left cuid list (none_there (has_cuid cuid) list is)
+pub deregister_none : (cuid : List ℕ) (list : List Holding) → position (has_cuid cuid) list ≡ None → filter (λ h. not (has_cuid cuid h)) list ≡ list
+deregister_none cuid list is = all_left cuid list (none_there (has_cuid cuid) list is)
 
 pub change_none : (cuid : List ℕ) (c : Change) (list : List Holding) → position (has_cuid cuid) list ≡ None → map (changed cuid c) list ≡ list
 change_none cuid c list is = unchanged cuid c list (none_there (has_cuid cuid) list is)

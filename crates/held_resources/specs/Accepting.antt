@@ -8,14 +8,14 @@ use Rattle.dots_history.specs.Histories.{tally, held}
 use Rattle.dots_laws.specs.Capacities.{is_registration, is_alias, is_list}
 use Rattle.dots_laws.specs.Fits.{registers_rightly}
 use Rattle.held_resources.specs.declared.rooms.Rooms.{Rooms}
-use Rattle.held_resources.specs.Tables.{Sizes, Tables, Clients, Holding, KeepsRoom, StandsFor, is_known, client_at, has_cuid, list_with, aliases_with, acls_with}
+use Rattle.held_resources.specs.Tables.{Sizes, Tables, Clients, Holding, KeepsRoom, Represents, is_known, client_at, has_cuid, list_with, aliases_with, acls_with}
 
 -- in what is held the entry's domain and client keep the capacities
 abbrev pub keeps_rooms : Rooms → Entry → List Entry → Bool
-keeps_rooms rooms e standing =
-    nat_le (tally (λ x. is_registration x.change && (x.domain == e.domain)) standing) rooms.clients
-    && (nat_le (tally (λ x. is_alias x.change && same_client e x) standing) rooms.aliases
-    && nat_le (tally (λ x. is_list x.change && same_client e x) standing) rooms.acls)
+keeps_rooms rooms e held_now =
+    nat_le (tally (λ x. is_registration x.change && (x.domain == e.domain)) held_now) rooms.clients
+    && (nat_le (tally (λ x. is_alias x.change && same_client e x) held_now) rooms.aliases
+    && nat_le (tally (λ x. is_list x.change && same_client e x) held_now) rooms.acls)
 
 -- The entry is of a domain or a peer that there is; only a client that isn't registered registers, and only one that is
 -- writes aliases and access lists; and after it the capacities are kept.
@@ -23,9 +23,9 @@ abbrev pub accepts : Sizes → List Entry → Entry → Bool
 accepts sizes before e =
     is_known sizes e && (registers_rightly (held before) e && keeps_rooms sizes.rooms e (held (before ++ e ∷ [])))
 
--- it fits some history for which the tables stand
+-- it fits some history that the tables represent
 abbrev pub FitsIn : Tables → Entry → Type 0
-FitsIn tables e = (before : List Entry) × StandsFor tables before × (accepts tables.sizes before e ≡ true)
+FitsIn tables e = (before : List Entry) × Represents tables before × (accepts tables.sizes before e ≡ true)
 
 -- ---- by the tables alone
 

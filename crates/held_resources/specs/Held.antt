@@ -27,10 +27,10 @@ written pick client (e ∷ es) = option_to_list (if is_of client e then pick e.c
 
 -- the aliases of a client, and its access lists (RFC 8783, sections 6 and 7)
 abbrev pub aliases_of : Client → List Entry → List Alias
-aliases_of client standing = written alias_of client standing
+aliases_of client held_now = written alias_of client held_now
 
 abbrev pub acls_of : Client → List Entry → List Acl
-acls_of client standing = written acl_of client standing
+acls_of client held_now = written acl_of client held_now
 
 -- the one of this name
 abbrev pub alias_named : List ℕ → List Alias → Option Alias
@@ -45,15 +45,15 @@ registers client e = is_registration e.change && is_of client e
 
 -- the client is registered
 abbrev pub is_registered : Client → List Entry → Bool
-is_registered client standing = list_any (registers client) standing
+is_registered client held_now = list_any (registers client) held_now
 
 -- The peer that registered the client, where it is registered. Of a client one registration at most is held.
 abbrev pub registrant : Client → List Entry → Option ℕ
-registrant client standing = option_map (λ (e : Entry). e.peer) (find (registers client) standing)
+registrant client held_now = option_map (λ (e : Entry). e.peer) (find (registers client) held_now)
 
 -- the client is registered, by another peer than this one
 abbrev pub is_of_another : ℕ → Client → List Entry → Bool
-is_of_another peer client standing = option_any (λ other. not (other == peer)) (registrant client standing)
+is_of_another peer client held_now = option_any (λ other. not (other == peer)) (registrant client held_now)
 
 -- the session configuration that a change sets, with its sid
 abbrev pub config_set : Change → Option (ℕ × Config)
@@ -67,9 +67,9 @@ config_of peer (e ∷ es) = or_else (if e.peer == peer then config_set e.change 
 
 -- how many registered clients the client's domain has, and how many aliases and access lists the client
 abbrev pub number_of : RoomKind → Client → List Entry → ℕ
-number_of kind.Client client standing = tally (λ e. is_registration e.change && (e.domain == client.domain)) standing
-number_of kind.Alias client standing = tally (λ e. is_alias e.change && is_of client e) standing
-number_of kind.Acl client standing = tally (λ e. is_list e.change && is_of client e) standing
+number_of kind.Client client held_now = tally (λ e. is_registration e.change && (e.domain == client.domain)) held_now
+number_of kind.Alias client held_now = tally (λ e. is_alias e.change && is_of client e) held_now
+number_of kind.Acl client held_now = tally (λ e. is_list e.change && is_of client e) held_now
 
 -- the number that there may be of a kind, where it is reached
 abbrev pub reached : ℕ → ℕ → Option ℕ

@@ -3,7 +3,7 @@ use Rattle.std.specs.Prelude.{ℕ, Bool, false, not, ◌&&◌, ◌||◌, ◌==�
 use Rattle.dots_history.specs.declared.entry.Entry.{Entry}
 use Rattle.dots_history.specs.declared.change.Change.{Change}
 use Rattle.dots_history.specs.declared.change.Change.TheVariants as change
-use Rattle.dots_history.specs.Entries.{is_leave, is_configuration, undoes_alias, undoes_acl}
+use Rattle.dots_history.specs.Entries.{is_deregister, is_configuration, undoes_alias, undoes_acl}
 use Rattle.dots_history.specs.Histories.{sieve, stays}
 use Rattle.dots_laws.specs.Filed.{Filed, entry_of}
 use Rattle.dots_history.specs.Slots.{number_in}
@@ -37,7 +37,7 @@ rows_of filed = sieve (λ x later. if stays x.entry (map entry_of later) then ro
 
 -- of two changes of one client, the later undoes what the earlier wrote (RFC 8783, sections 5.2, 6 and 7)
 abbrev pub undone_of_client : HeldName → Change → Bool
-undone_of_client written.Registration later = is_leave later
+undone_of_client written.Registration later = is_deregister later
 undone_of_client (written.Alias name) later = undoes_alias name later
 undone_of_client (written.Acl name) later = undoes_acl name later
 undone_of_client written.Configuration later = false

@@ -1,4 +1,4 @@
--- What the tables hold, what one more entry makes of them, and when they stand for a history.
+-- What the tables hold, what one more entry makes of them, and when they represent a history.
 use Rattle.std.specs.Prelude.{◌≡◌, ℕ, zero, suc, ◌≤◌, Bool, true, false, not, ◌&&◌, ◌==◌, bytes_eq, nat_lt, if◌then◌else◌, List, [], ◌∷◌, ◌++◌, map, filter, length, Option, Some, None, option_to_list, slice_get}
 use Rattle.std.specs.Borrow.{Bor}
 use Rattle.std.specs.List.{list_any, list_all, find}
@@ -57,12 +57,12 @@ no_holding rooms peer cuid = record { rooms = rooms; peer = peer; cuid = cuid; a
 
 -- what a client holds that this peer registered
 abbrev pub holding_of : Rooms → List Entry → ℕ → Client → Holding
-holding_of rooms standing peer client = record {
+holding_of rooms held_now peer client = record {
   rooms = rooms;
   peer = peer;
   cuid = client.cuid;
-  aliases = aliases_of client standing;
-  acls = acls_of client standing;
+  aliases = aliases_of client held_now;
+  acls = acls_of client held_now;
 }
 
 -- What a change of the client makes of its aliases and of its access lists: what is written comes last, also where one of
@@ -99,15 +99,15 @@ no_clients rooms = record { rooms = rooms; list = [] }
 
 -- what each registration among these entries is of in the domain, by what is held
 abbrev pub holdings : Rooms → ℕ → List Entry → List Entry → List Holding
-holdings rooms domain standing [] = []
-holdings rooms domain standing (e ∷ es) =
+holdings rooms domain held_now [] = []
+holdings rooms domain held_now (e ∷ es) =
     if is_registration e.change && (e.domain == domain)
-    then holding_of rooms standing e.peer (client_of e) ∷ holdings rooms domain standing es
-    else holdings rooms domain standing es
+    then holding_of rooms held_now e.peer (client_of e) ∷ holdings rooms domain held_now es
+    else holdings rooms domain held_now es
 
 -- the clients of a domain
 abbrev pub clients_of : Rooms → ℕ → List Entry → Clients
-clients_of rooms domain standing = record { rooms = rooms; list = holdings rooms domain standing standing }
+clients_of rooms domain held_now = record { rooms = rooms; list = holdings rooms domain held_now held_now }
 
 abbrev pub has_cuid : List ℕ → Holding → Bool
 has_cuid cuid holding = bytes_eq cuid holding.cuid
@@ -160,7 +160,7 @@ abbrev pub peer_of : Session → ℕ
 peer_of session = session.peer
 
 abbrev pub session_of : List Entry → ℕ → Session
-session_of standing peer = record { peer = peer; config = config_of peer standing }
+session_of held_now peer = record { peer = peer; config = config_of peer held_now }
 
 pub record Tables : Type 0 where
   pub sizes : Sizes
@@ -206,16 +206,16 @@ is_known sizes e =
 
 -- The tables have what is held, sorted by domains, clients and peers. No alias and no access list is held of a client that
 -- isn't registered, and nothing of other domains and peers.
-pub record Have (tables : Tables) (standing : List Entry) : Type 0 where
+pub record Have (tables : Tables) (held_now : List Entry) : Type 0 where
   pub domains : length tables.clients ≡ tables.sizes.domains
-  pub clients : (domain : ℕ) (clients : Clients) → slice_get tables.clients domain ≡ Some clients → clients ≡ clients_of tables.sizes.rooms domain standing
-  pub sessions : tables.sessions ≡ map (session_of standing) tables.sizes.peers
-  pub owned : list_all (has_client standing) standing ≡ true
-  pub known : list_all (is_known tables.sizes) standing ≡ true
+  pub clients : (domain : ℕ) (clients : Clients) → slice_get tables.clients domain ≡ Some clients → clients ≡ clients_of tables.sizes.rooms domain held_now
+  pub sessions : tables.sessions ≡ map (session_of held_now) tables.sizes.peers
+  pub owned : list_all (has_client held_now) held_now ≡ true
+  pub known : list_all (is_known tables.sizes) held_now ≡ true
 
--- They stand for a history where they have what it leaves held.
-abbrev pub StandsFor : Tables → List Entry → Type 0
-StandsFor tables entries = Have tables (held entries)
+-- They represent a history where they have what it leaves held.
+abbrev pub Represents : Tables → List Entry → Type 0
+Represents tables entries = Have tables (held entries)
 
 -- ---- what the tables answer
 
@@ -249,8 +249,8 @@ most_of rooms kind.Alias = rooms.aliases
 most_of rooms kind.Acl = rooms.acls
 
 -- a configuration as a reader gets it
-abbrev pub told : ℕ × Bor Config → ℕ × Config
-told (sid, config) = (sid, config.now)
+abbrev pub config_now : ℕ × Bor Config → ℕ × Config
+config_now (sid, config) = (sid, config.now)
 
 abbrev pub config_in : Option Session → Option (ℕ × Config)
 config_in None = None

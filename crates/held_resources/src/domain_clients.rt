@@ -94,7 +94,7 @@ impl DomainClients {
     {
         match change {
             Change::Register => self.register(peer, cuid),
-            Change::Deregister => self.leave(cuid.bytes()),
+            Change::Deregister => self.deregister(cuid.bytes()),
             change => self.change(cuid.bytes(), change),
         }
     }
@@ -109,7 +109,7 @@ impl DomainClients {
         self.list.push_reserved(client);
     }
 
-    fn leave(&mut self, cuid: &[u8])
+    fn deregister(&mut self, cuid: &[u8])
         ensures { self.new ≡ record { rooms = self.old.rooms; list = filter (λ holding. not (has_cuid cuid.now holding)) self.old.list } }
     {
         if let Some(place) = place_of(self.list.as_slice(), cuid) {

@@ -10,7 +10,7 @@ ghost use Rattle.dots_laws.specs.KeptPlaces.{at_places, held_places};
 ghost use Rattle.dots_laws.specs.Fits.{fits, registers_rightly, is_of_mitigations};
 ghost use Rattle.dots_laws.specs.Tables.{Client, is_of};
 ghost use Rattle.held_resources.specs.Held.{aliases_of, acls_of, is_registered, of_client};
-ghost use Rattle.held_resources.specs.Tables.{Tables, StandsFor, SameButSlots, sizes_of};
+ghost use Rattle.held_resources.specs.Tables.{Tables, Represents, SameButSlots, sizes_of};
 ghost use Rattle.held_resources.specs.Rows.{rows_of, rows_with, slots_in, renumbered};
 ghost use Rattle.held_resources.specs.Accepting.{accepts, accepts_by, keeps_rooms};
 
@@ -28,26 +28,26 @@ pub fn clients_are_apart()
         → acls_of client (held (entries ++ e ∷ [])) ≡ acls_of client (held entries) }
 {}
 
-/// A mitigation that is put or withdrawn changes nothing of what is held, so tables that stand for a history stand for it with
+/// A mitigation that is put or withdrawn changes nothing of what is held, so tables that represent a history represent it with
 /// such an entry as they are.
 pub fn mitigations_hold_nothing()
-    ensures { (tables : Tables) (e : Entry) (entries : List Entry) → is_of_mitigations e.change ≡ true → StandsFor tables entries
-        → StandsFor tables (entries ++ e ∷ []) }
+    ensures { (tables : Tables) (e : Entry) (entries : List Entry) → is_of_mitigations e.change ≡ true → Represents tables entries
+        → Represents tables (entries ++ e ∷ []) }
 {}
 
 /// What fits a history by the settings is accepted; of an entry of the settings' own the condition is what is asked of what is
-/// held; and it is the same for all histories for which the tables stand.
+/// held; and it is the same for all histories that the tables represent.
 pub fn what_fits_is_accepted()
     ensures fits { (settings : SettingsValue) (before : List Entry) (e : Entry) → fits settings before e ≡ true → accepts (sizes_of settings) before e ≡ true }
     ensures own { (settings : SettingsValue) (before : List Entry) (e : Entry) → is_of_settings settings e ≡ true
         → accepts (sizes_of settings) before e ≡ (registers_rightly (held before) e && keeps_rooms (sizes_of settings).rooms e (held (before ++ e ∷ []))) }
-    ensures same { (tables : Tables) (xs ys : List Entry) (e : Entry) → StandsFor tables xs → StandsFor tables ys
+    ensures same { (tables : Tables) (xs ys : List Entry) (e : Entry) → Represents tables xs → Represents tables ys
         → accepts tables.sizes xs e ≡ accepts tables.sizes ys e }
 {}
 
-/// Tables of one size that stand for one history are the same but for the slots: nothing of them is left open.
+/// Tables of one size that represent one history are the same but for the slots: nothing of them is left open.
 pub fn tables_are_one()
-    ensures { (a b : Tables) (entries : List Entry) → a.sizes ≡ b.sizes → StandsFor a entries → StandsFor b entries → SameButSlots a b }
+    ensures { (a b : Tables) (entries : List Entry) → a.sizes ≡ b.sizes → Represents a entries → Represents b entries → SameButSlots a b }
 {}
 
 /// The rows of a history whose entries stand in slots go on with each entry in a slot, and with new numbers of the slots; and there are

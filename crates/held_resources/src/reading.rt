@@ -2,7 +2,7 @@
 
 ghost use Rattle.std.specs.Prelude.{◌≡◌, option_copied, option_map, is_some};
 ghost use Rattle.held_resources.specs.Held.{alias_named, acl_named};
-ghost use Rattle.held_resources.specs.Tables.{registrant_in, aliases_in, acls_in, config_in, told};
+ghost use Rattle.held_resources.specs.Tables.{registrant_in, aliases_in, acls_in, config_in, config_now};
 
 use crate::registered_client::RegisteredClient;
 use crate::sessions::Session;
@@ -68,7 +68,7 @@ pub(crate) fn acl_named<'a>(acls: &'a [Acl], name: &Name) -> Option<&'a Acl>
 
 /// What a session has.
 pub(crate) fn config_in(session: Option<&Session>) -> Option<(u32, &Config)>
-    ensures { option_map told result ≡ config_in (option_copied session.entry) }
+    ensures { option_map config_now result ≡ config_in (option_copied session.entry) }
 {
     match &session?.config {
         Some((sid, config)) => Some((*sid, config)),

@@ -112,20 +112,20 @@ impl RegisteredClient {
         requires { KeepsRoom change self.old }
         ensures { self.new ≡ holding_with change self.old }
     {
-        leave_aliases(&mut self.aliases, &change);
-        leave_acls(&mut self.acls, &change);
+        retain_aliases(&mut self.aliases, &change);
+        retain_acls(&mut self.acls, &change);
         push_written(&mut self.aliases, &mut self.acls, change);
     }
 }
 
-fn leave_aliases(aliases: &mut Vec<Alias>, change: &Change)
+fn retain_aliases(aliases: &mut Vec<Alias>, change: &Change)
     ensures items { aliases.new.items ≡ filter (λ alias. not (undoes_alias alias.name change.now)) aliases.old.items }
     ensures capacity { vec_capacity aliases.new ≡ vec_capacity aliases.old }
 {
     aliases.retain(|alias| !undoes_alias(&alias.name, change));
 }
 
-fn leave_acls(acls: &mut Vec<Acl>, change: &Change)
+fn retain_acls(acls: &mut Vec<Acl>, change: &Change)
     ensures items { acls.new.items ≡ filter (λ acl. not (undoes_acl acl.name change.now)) acls.old.items }
     ensures capacity { vec_capacity acls.new ≡ vec_capacity acls.old }
 {

@@ -1,11 +1,11 @@
 //! A row of what is held, and what undoes it.
 
 ghost use Rattle.std.specs.Prelude.{◌≡◌, ◌≤◌, length, option_map};
-ghost use Rattle.dots_history.specs.Entries.{is_leave, is_configuration, undoes_alias, undoes_acl};
+ghost use Rattle.dots_history.specs.Entries.{is_deregister, is_configuration, undoes_alias, undoes_acl};
 ghost use Rattle.held_resources.specs.Rows.{written_of, row_of, undone_of_client, undone_of_peer, is_undone};
 
 use crate::name::ShortName;
-use dots_history::{Change, Entry, is_configuration, is_leave};
+use dots_history::{Change, Entry, is_configuration, is_deregister};
 
 /// What an entry wrote that is held until a later one undoes it.
 #[derive(Drop)]
@@ -79,7 +79,7 @@ fn undone_of_client(written: &HeldName, change: &Change) -> bool
     ensures { result ≡ undone_of_client written.now change.now }
 {
     match written {
-        HeldName::Registration => is_leave(change),
+        HeldName::Registration => is_deregister(change),
         HeldName::Alias { name } => undoes_alias(name, change),
         HeldName::Acl { name } => undoes_acl(name, change),
         HeldName::Configuration => false,

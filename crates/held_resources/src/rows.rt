@@ -49,7 +49,7 @@ impl HeldSlots {
         requires room { length (rows_with (record { entry = entry.now; slot = slot }) self.old.rows) ≤ self.old.room }
         ensures { self.new ≡ record { room = self.old.room; rows = rows_with (record { entry = entry.now; slot = slot }) self.old.rows } }
     {
-        leave_undone(&mut self.rows, entry);
+        remove_undone(&mut self.rows, entry);
         push_written(&mut self.rows, entry, slot);
     }
 
@@ -71,18 +71,18 @@ impl HeldSlots {
 }
 
 /// Takes out what the entry undoes.
-fn leave_undone(rows: &mut Vec<HeldSlot>, entry: &Entry)
+fn remove_undone(rows: &mut Vec<HeldSlot>, entry: &Entry)
     ensures items { rows.new.items ≡ filter (λ row. not (is_undone row entry.now)) rows.old.items }
     ensures capacity { vec_capacity rows.new ≡ vec_capacity rows.old }
 {
     if is_of_mitigations(&entry.change) {
         return;
     }
-    leave_each(rows, entry);
+    remove_each(rows, entry);
 }
 
 /// The same, looking at each row.
-fn leave_each(rows: &mut Vec<HeldSlot>, entry: &Entry)
+fn remove_each(rows: &mut Vec<HeldSlot>, entry: &Entry)
     ensures items { rows.new.items ≡ filter (λ row. not (is_undone row entry.now)) rows.old.items }
     ensures capacity { vec_capacity rows.new ≡ vec_capacity rows.old }
 {

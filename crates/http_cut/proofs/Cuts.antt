@@ -7,7 +7,7 @@ use Rattle.httparse.specs.Grammar.{HasNoRequest, MayBecomeRequest}
 use Rattle.httparse.specs.Spans.{IsRequestOf, RequestOverflows}
 use Rattle.http_cut.specs.declared.fault.HttpFault.TheVariants.{BadHead}
 use Rattle.http_cut.specs.Requests.{Head, Outcome, waits, refuses, IsCut, outcome_behind}
-use Rattle.http_cut.specs.Views.{head_at}
+use Rattle.http_cut.specs.SpanValues.{head_at}
 use Rattle.http_cut.proofs.Ends.{no_empty_line}
 use Rattle.http_cut.proofs.Windows.{begins, head_is, no_head, never, never_now}
 

@@ -12,7 +12,7 @@ use Rattle.http_cut.specs.declared.place.Place.{Place}
 use Rattle.http_cut.specs.declared.place.Place.TheVariants.{Blank}
 use Rattle.http_cut.specs.Fields.{framing}
 use Rattle.http_cut.specs.Requests.{Head, request_of, takes, waits, IsCut, by_framing, outcome_behind, head_of}
-use Rattle.http_cut.specs.Views.{fields_at}
+use Rattle.http_cut.specs.SpanValues.{fields_at}
 use Rattle.http_cut.specs.Places.{place_from, WaitsBelow, IsKnown}
 use Rattle.http_cut.proofs.Places.{from_append}
 use Rattle.http_cut.proofs.Streams.{begins_append}

@@ -12,7 +12,7 @@ use Rattle.http_cut.specs.declared.request.Cut as code
 use Rattle.http_cut.specs.declared.request.Cut.TheVariants as cuts
 use Rattle.http_cut.specs.Fields.{values_of, is_length, announced, body_length, framed, framing}
 use Rattle.http_cut.specs.declared.fault.HttpFault.TheVariants.{BadHead, BodyTooLong}
-use Rattle.http_cut.specs.Requests.{BeginsWith, HasNoHead, NeverHasHead, HasEmptyLine, IsOver, IsHeadless, Head, Request, request_of, Outcome, takes, waits, refuses, IsCut, by_framing, outcome_behind, head_of, outcome_of, request_view}
+use Rattle.http_cut.specs.Requests.{BeginsWith, HasNoHead, NeverHasHead, HasEmptyLine, IsOver, IsHeadless, Head, Request, request_of, Outcome, takes, waits, refuses, IsCut, by_framing, outcome_behind, head_of, outcome_of, request_value}
 use Rattle.http_cut.specs.declared.stream_end.StreamEnd.{StreamEnd}
 use Rattle.http_cut.specs.declared.stream_end.StreamEnd.TheVariants.{Waits, Closes, Refused}
 use Rattle.http_cut.specs.Streams.{IfRequest, IsFirst, ClosesLast, AreRequests, any_closes, HasEnd, IsStream, IsOpen}
@@ -262,7 +262,7 @@ one_stream bytes rs ss e f a b x y =
 
 -- a request that is cut isn't longer than what is held
 pub cut_size : (held : List ℕ) (cut : code.Cut) → IsCut held (outcome_of cut) → IfRequest cut (λ request. (0 < request.length) × (request.length ≤ length held))
-cut_size held (cuts.Request request) (inl x) = first_size held (request_view request) x
+cut_size held (cuts.Request request) (inl x) = first_size held (request_value request) x
 cut_size held (cuts.Request request) (inr x) = absurd x.1
 cut_size held cuts.More x = tt
 cut_size held (cuts.Refused fault) x = tt

@@ -11,7 +11,7 @@ use Rattle.http_cut.specs.declared.stream_end.StreamEnd.{StreamEnd}
 use Rattle.http_cut.specs.declared.stream_end.StreamEnd.TheVariants.{Waits, Closes, Refused}
 use Rattle.http_cut.specs.Requests.{Request, takes, waits, IsCut}
 use Rattle.http_cut.specs.Streams.{IsFirst, ClosesLast, AreRequests, any_closes, HasEnd, IsStream, IsOpen, Holds, IsHeld, AreTaken, Ends, AreTakenTo, is_waiting, IsAll, AreTakenOf}
-use Rattle.http_cut.specs.Owned.{owned_view, owned_views}
+use Rattle.http_cut.specs.Owned.{owned_value, owned_values}
 use Rattle.http_cut.proofs.Streams.{requests_append, requests_join, refused_still, one_stream}
 
 pub taken_none : (bytes : List ℕ) (before : List Request) → AreTaken bytes before before bytes
@@ -78,9 +78,9 @@ lacking_by a held x y request r Q failed taken cut =
     subst (λ (z : Result StreamEnd NoMemory). AreTakenTo a x y held z) (sym p.1) (lacking a held x y request p.0 taken cut)
 
 -- a copy that was pushed
-views_more : (items pushed : List OwnedRequest) (copy : OwnedRequest) (request : Request) → pushed ≡ items ++ copy ∷ [] → owned_view copy ≡ request → owned_views pushed ≡ owned_views items ++ request ∷ []
+views_more : (items pushed : List OwnedRequest) (copy : OwnedRequest) (request : Request) → pushed ≡ items ++ copy ∷ [] → owned_value copy ≡ request → owned_values pushed ≡ owned_values items ++ request ∷ []
 views_more items pushed copy request is same =
-    ap (λ (y : List OwnedRequest). owned_views y) is ∙ map-append owned_view items (copy ∷ []) ∙ ap (λ (r : Request). owned_views items ++ r ∷ []) same
+    ap (λ (y : List OwnedRequest). owned_values y) is ∙ map-append owned_value items (copy ∷ []) ∙ ap (λ (r : Request). owned_values items ++ r ∷ []) same
 
 or_false : (b : Bool) → (b || false) ≡ b
 or_false true = refl
@@ -93,12 +93,12 @@ record OneMore (start : List ℕ) (before after : List Request) (left : List ℕ
   whole : AreRequests start requests left
   closing : any_closes requests ≡ close
 
-one_more : (start held left : List ℕ) (before : List Request) (items pushed : List OwnedRequest) (copy : OwnedRequest) (request : Request) → AreTaken start before (owned_views items) held → IsCut held (takes request)
-    → pushed ≡ items ++ copy ∷ [] → owned_view copy ≡ request → left ≡ drop request.size held → OneMore start before (owned_views pushed) left request.close
+one_more : (start held left : List ℕ) (before : List Request) (items pushed : List OwnedRequest) (copy : OwnedRequest) (request : Request) → AreTaken start before (owned_values items) held → IsCut held (takes request)
+    → pushed ≡ items ++ copy ∷ [] → owned_value copy ≡ request → left ≡ drop request.size held → OneMore start before (owned_values pushed) left request.close
 one_more start held left before items pushed copy request taken cut is same left_is =
     let last = request ∷ [] in record {
       requests = taken.requests ++ last;
-      added = added_then before (owned_views items) (owned_views pushed) taken.requests last taken.added (views_more items pushed copy request is same);
+      added = added_then before (owned_values items) (owned_values pushed) taken.requests last taken.added (views_more items pushed copy request is same);
       whole = requests_join start held left taken.requests last taken.open_yet taken.whole (cut_first held request cut, last_one request.close, sym left_is);
       closing = any_behind taken.requests last taken.open_yet ∙ or_false request.close;
     }
@@ -107,14 +107,14 @@ one_more start held left before items pushed copy request taken cut is same left
     last_one true = refl
     last_one false = tt
 
-pub one_open : (start held left : List ℕ) (before : List Request) (items pushed : List OwnedRequest) (copy : OwnedRequest) (request : Request) → AreTaken start before (owned_views items) held → IsCut held (takes request)
-    → pushed ≡ items ++ copy ∷ [] → owned_view copy ≡ request → left ≡ drop request.size held → request.close ≡ false → AreTaken start before (owned_views pushed) left
+pub one_open : (start held left : List ℕ) (before : List Request) (items pushed : List OwnedRequest) (copy : OwnedRequest) (request : Request) → AreTaken start before (owned_values items) held → IsCut held (takes request)
+    → pushed ≡ items ++ copy ∷ [] → owned_value copy ≡ request → left ≡ drop request.size held → request.close ≡ false → AreTaken start before (owned_values pushed) left
 one_open start held left before items pushed copy request taken cut is same left_is stays =
     let more = one_more start held left before items pushed copy request taken cut is same left_is in
     record { requests = more.requests; added = more.added; whole = more.whole; open_yet = more.closing ∙ stays }
 
-pub one_closed : (start held left : List ℕ) (before : List Request) (items pushed : List OwnedRequest) (copy : OwnedRequest) (request : Request) → AreTaken start before (owned_views items) held → IsCut held (takes request)
-    → pushed ≡ items ++ copy ∷ [] → owned_view copy ≡ request → left ≡ drop request.size held → request.close ≡ true → AreTakenTo start before (owned_views pushed) left (Ok Closes)
+pub one_closed : (start held left : List ℕ) (before : List Request) (items pushed : List OwnedRequest) (copy : OwnedRequest) (request : Request) → AreTaken start before (owned_values items) held → IsCut held (takes request)
+    → pushed ≡ items ++ copy ∷ [] → owned_value copy ≡ request → left ≡ drop request.size held → request.close ≡ true → AreTakenTo start before (owned_values pushed) left (Ok Closes)
 one_closed start held left before items pushed copy request taken cut is same left_is closes =
     let more = one_more start held left before items pushed copy request taken cut is same left_is in
     record { requests = more.requests; added = more.added; whole = more.whole; ends = more.closing ∙ closes }

@@ -13,7 +13,7 @@ use Rattle.httparse.proofs.TrimLemmas.{skip_ows_no}
 use Rattle.http_cut.specs.declared.fault.HttpFault.{HttpFault}
 use Rattle.http_cut.specs.declared.fault.HttpFault.TheVariants.{BadHead, BodyTooLong}
 use Rattle.http_cut.specs.Fields.{is_same_word, values_of, skip_back, has_close, is_length, announced}
-use Rattle.http_cut.specs.Views.{fields_at}
+use Rattle.http_cut.specs.SpanValues.{fields_at}
 
 -- ---- fields of a name
 

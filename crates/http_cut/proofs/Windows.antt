@@ -11,7 +11,7 @@ use Rattle.httparse.specs.Grammar.{LineEnd, crlf, lf, print_end, print_blank, pr
 use Rattle.httparse.specs.Spans.{IsRequestAt, RequestOverflows}
 use Rattle.httparse.proofs.GrammarLemmas.{ReadsRequest-append}
 use Rattle.http_cut.specs.Requests.{BeginsWith, HasNoHead, NeverHasHead, head_of}
-use Rattle.http_cut.specs.Views.{head_at}
+use Rattle.http_cut.specs.SpanValues.{head_at}
 
 pub into_window : (held : List ℕ) (h : RequestHead) (rest : List ℕ) → BeginsWith held h rest
     → ReadsRequest (take 8192 held) h (take (8192 - length (print_request h)) rest)

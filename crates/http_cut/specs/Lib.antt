@@ -2,7 +2,7 @@ pub mod Fields
 pub mod FaultText
 pub mod Requests
 pub mod Places
-pub mod Views
+pub mod SpanValues
 pub mod Streams
 pub mod Owned
 pub mod Reply

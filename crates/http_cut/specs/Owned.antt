@@ -3,8 +3,8 @@ use Rattle.std.specs.Prelude.{List, map}
 use Rattle.http_cut.specs.declared.owned.OwnedRequest.{OwnedRequest}
 use Rattle.http_cut.specs.Requests.{Request}
 
-abbrev pub owned_view : OwnedRequest → Request
-owned_view request = record {
+abbrev pub owned_value : OwnedRequest → Request
+owned_value request = record {
   method = request.method;
   target = request.target;
   media = request.media;
@@ -13,5 +13,5 @@ owned_view request = record {
   size = request.length;
 }
 
-abbrev pub owned_views : List OwnedRequest → List Request
-owned_views requests = map owned_view requests
+abbrev pub owned_values : List OwnedRequest → List Request
+owned_values requests = map owned_value requests

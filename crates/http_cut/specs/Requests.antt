@@ -109,8 +109,8 @@ IsCut bytes outcome =
     ⊎ (HasNoHead bytes × IsHeadless bytes outcome)
 
 -- what the code's answers stand for
-abbrev pub request_view : HttpRequest → Request
-request_view request = record {
+abbrev pub request_value : HttpRequest → Request
+request_value request = record {
   method = request.method.now;
   target = request.target.now;
   media = option_map (λ media. media.now) request.media;
@@ -120,6 +120,6 @@ request_view request = record {
 }
 
 abbrev pub outcome_of : code.Cut → Outcome
-outcome_of (cuts.Request request) = takes (request_view request)
+outcome_of (cuts.Request request) = takes (request_value request)
 outcome_of cuts.More = waits
 outcome_of (cuts.Refused fault) = refuses fault

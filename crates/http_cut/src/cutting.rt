@@ -1,7 +1,7 @@
 ghost use Rattle.std.specs.Prelude.{◌≡◌, ◌+◌, ◌^◌, ◌<◌, ◌≤◌, false, length, take, All};
 ghost use Rattle.httparse.specs.Spans.{IsHeaderWithin, IsWithin};
 ghost use Rattle.http_cut.specs.Requests.{IsCut, outcome_of, outcome_behind, with_body, closes};
-ghost use Rattle.http_cut.specs.Views.{head_at};
+ghost use Rattle.http_cut.specs.SpanValues.{head_at};
 ghost use Rattle.http_cut.specs.declared.place.Place.TheVariants.{Blank};
 ghost use Rattle.http_cut.specs.Places.{place_from, is_end, WaitsBelow, IsKnown};
 

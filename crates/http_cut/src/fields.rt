@@ -2,7 +2,7 @@ ghost use Rattle.std.specs.Prelude.{◌≡◌, ◌<◌, ◌≤◌, [], ◌∷◌
 ghost use Rattle.std.specs.List.{list_any};
 ghost use Rattle.httparse.specs.Spans.{IsHeaderWithin};
 ghost use Rattle.http_cut.specs.Fields.{values_of, first_media, has_close, announced, body_length, framing};
-ghost use Rattle.http_cut.specs.Views.{fields_at};
+ghost use Rattle.http_cut.specs.SpanValues.{fields_at};
 
 use crate::fault::HttpFault;
 use crate::text::{has_close, is_same_word, media_type};

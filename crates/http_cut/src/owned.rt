@@ -1,6 +1,6 @@
 ghost use Rattle.std.specs.Prelude.{◌≡◌, IfOk, option_map};
-ghost use Rattle.http_cut.specs.Requests.{request_view};
-ghost use Rattle.http_cut.specs.Owned.{owned_view};
+ghost use Rattle.http_cut.specs.Requests.{request_value};
+ghost use Rattle.http_cut.specs.Owned.{owned_value};
 
 use crate::request::HttpRequest;
 use dots_lists::{Bytes, List, NoMemory};
@@ -34,7 +34,7 @@ fn copy_of_media(alloc: Global, media: Option<&[u8]>) -> Result<Option<Bytes>, N
 
 /// A copy of the request.
 pub(crate) fn copy_of(alloc: Global, request: &HttpRequest) -> Result<OwnedRequest, NoMemory>
-    ensures { IfOk result (λ copy. owned_view copy ≡ request_view request.now) }
+    ensures { IfOk result (λ copy. owned_value copy ≡ request_value request.now) }
 {
     let method = Bytes::from_slice(alloc, request.method)?;
     let target = Bytes::from_slice(alloc, request.target)?;

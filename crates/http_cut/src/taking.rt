@@ -3,7 +3,7 @@ ghost use Rattle.std.specs.Prelude.{◌≡◌, ◌⊎◌, ◌++◌, ℕ, List, f
 ghost use Rattle.http_cut.specs.declared.stream_end.StreamEnd.{StreamEnd};
 ghost use Rattle.http_cut.specs.Requests.{Request};
 ghost use Rattle.http_cut.specs.Streams.{AreTakenTo, AreTakenOf, IsStream, IsFirst, IsOpen, IsHeld, Holds, any_closes, is_waiting};
-ghost use Rattle.http_cut.specs.Owned.{owned_views};
+ghost use Rattle.http_cut.specs.Owned.{owned_values};
 
 use crate::owned::{RequestList, copy_of};
 use crate::request::Cut;
@@ -34,7 +34,7 @@ fn take_out(
     room: &mut HeadRoom,
     out: &mut RequestList,
 ) -> Result<StreamEnd, NoMemory>
-    ensures { AreTakenTo stream.old (owned_views out.old) (owned_views out.new) stream.new result }
+    ensures { AreTakenTo stream.old (owned_values out.old) (owned_values out.new) stream.new result }
 {
     'requests: loop {
         match stream.cut(room) {
@@ -63,7 +63,7 @@ fn take_piece(
     out: &mut RequestList,
     piece: &[u8],
 ) -> Result<StreamEnd, NoMemory>
-    ensures { AreTakenOf stream.old piece.now (owned_views out.old) (owned_views out.new) stream.new result }
+    ensures { AreTakenOf stream.old piece.now (owned_values out.old) (owned_values out.new) stream.new result }
 {
     let mut rest = piece;
     'bytes: loop {
@@ -88,7 +88,7 @@ fn take_pieces(
     out: &mut RequestList,
     pieces: &[&[u8]],
 ) -> Result<StreamEnd, NoMemory>
-    ensures { AreTakenOf stream.old (flat_map (λ piece. piece.now) pieces.now) (owned_views out.old) (owned_views out.new) stream.new result }
+    ensures { AreTakenOf stream.old (flat_map (λ piece. piece.now) pieces.now) (owned_values out.old) (owned_values out.new) stream.new result }
 {
     let held = take_out(alloc, stream, room, out);
     if !is_waiting(&held) {
@@ -117,16 +117,16 @@ pub fn take_requests(
     pieces: &[&[u8]],
 ) -> Taken
     // What is held is the rest of all that came, in each case.
-    ensures held { IsHeld stream.old (flat_map (λ piece. piece.now) pieces.now) (owned_views result.requests) stream.new }
+    ensures held { IsHeld stream.old (flat_map (λ piece. piece.now) pieces.now) (owned_values result.requests) stream.new }
     ensures stream { IfOk result.end (λ end. (rest : List ℕ)
-        × IsStream (stream.old ++ flat_map (λ piece. piece.now) pieces.now) (owned_views result.requests) end rest
+        × IsStream (stream.old ++ flat_map (λ piece. piece.now) pieces.now) (owned_values result.requests) end rest
         × Holds end stream.new rest) }
     // The bytes have no other requests, and no other end but where no head can come.
     ensures only { IfOk result.end (λ end. (requests : List Request) (other : StreamEnd) (rest : List ℕ)
         → IsStream (stream.old ++ flat_map (λ piece. piece.now) pieces.now) requests other rest
-        → (owned_views result.requests ≡ requests) × ((end ≡ other) ⊎ IsOpen rest)) }
+        → (owned_values result.requests ≡ requests) × ((end ≡ other) ⊎ IsOpen rest)) }
     // For this request memory wasn't found, and it is the next.
-    ensures lacked { OnErr result.end ((any_closes (owned_views result.requests) ≡ false)
+    ensures lacked { OnErr result.end ((any_closes (owned_values result.requests) ≡ false)
         × ((request : Request) × IsFirst stream.new request)) }
 {
     let mut requests = RequestList::new(alloc);

@@ -7,7 +7,7 @@ use Rattle.std.proofs.lemmas.List.{map-append}
 use Rattle.std.proofs.lemmas.List.Elements.{filter-append}
 use Rattle.ip_scope.specs.Prefix.{PrefixValue}
 use Rattle.filter_rows.specs.declared.rows.ScrubRow.{ScrubRow}
-use Rattle.filter_table.specs.Held.{row_is_of}
+use Rattle.filter_table.specs.TableRows.{row_is_of}
 use Rattle.dots_history.specs.declared.entry.Entry.{Entry}
 use Rattle.dots_history.specs.declared.put.Put.{Put}
 use Rattle.dots_history.specs.declared.put.Target.{Target}
@@ -23,7 +23,7 @@ use Rattle.dots_laws.proofs.Keyed.{fewer_left}
 use Rattle.dots_laws.proofs.Members.{In}
 use Rattle.dots_laws.proofs.Single.{one_mid, client_is_of}
 use Rattle.dots_laws.proofs.Touching.{never_live}
-use Rattle.live_mitigations.specs.Standing.{puts}
+use Rattle.live_mitigations.specs.LiveValues.{puts}
 use Rattle.held_resources.proofs.Holdings.{turned_eq, turned_bytes}
 use Rattle.installed_filters.specs.Filters.{rows_put, is_row_of, scrubs_without}
 use Rattle.installed_filters.proofs.Sieving.{filter_by, any_by, any_filter, only_one, left_of_each, all_filter, all_in}

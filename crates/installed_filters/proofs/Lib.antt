@@ -4,7 +4,7 @@ pub mod Steps
 pub mod Keys
 pub mod Waking
 pub mod Writing
-pub mod Standing
+pub mod HistoryRows
 pub mod Room
 pub mod Limits
 pub mod Copies

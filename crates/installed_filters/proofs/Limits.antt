@@ -24,7 +24,7 @@ use Rattle.dots_laws.proofs.Ageing.{mitigations_age}
 use Rattle.dots_laws.proofs.GoingOn.{held_push}
 use Rattle.dots_laws.proofs.Joining.{FitsSo, fits_so, tally_with, tally_held, tally_same, same_by}
 use Rattle.dots_laws.proofs.Keyed.{fewer_left}
-use Rattle.installed_filters.specs.Standing.{KeepsLimits, has_few_prefixes}
+use Rattle.installed_filters.specs.HistoryRows.{KeepsLimits, has_few_prefixes}
 use Rattle.installed_filters.proofs.Sieving.{all_filter}
 
 pub limits_first : (limits : Limits) (t : ℕ) → KeepsLimits limits t []

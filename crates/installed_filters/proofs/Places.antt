@@ -8,12 +8,12 @@ use Rattle.std.proofs.lemmas.List.Edits.{insert_end}
 use Rattle.filter_rows.specs.declared.rows.ScrubRow.{ScrubRow}
 use Rattle.filter_rows.specs.declared.rows.AclRow.{AclRow}
 use Rattle.filter_table.specs.declared.held.HeldAcl.{HeldAcl}
-use Rattle.filter_table.specs.Held.{HeldScrub, with_scrub, without_mitigation, with_acl, without_acl, activated, renumbered, renumbered_from, number_after, place_of_scrub, scrub_at_place, place_of_acl, acl_at_place, is_of, is_named, is_of_client, waits, acl_set, scrub_in, row_is_of}
+use Rattle.filter_table.specs.TableRows.{HeldScrub, with_scrub, without_mitigation, with_acl, without_acl, activated, renumbered, renumbered_from, number_after, place_of_scrub, scrub_at_place, place_of_acl, acl_at_place, is_of, is_named, is_of_client, waits, acl_set, scrub_in, row_is_of}
 use Rattle.filter_table.specs.Table.{TableValue}
 use Rattle.filter_table.proofs.Places.{length-renumbered}
 use Rattle.filter_table.proofs.Orders.{activated_place}
 use Rattle.dots_settings.specs.declared.limits.Limits.{Limits}
-use Rattle.installed_filters.specs.Standing.{StandsFor, HasRoom, scrub_room_of, acl_room_of}
+use Rattle.installed_filters.specs.HistoryRows.{Represents, HasRoom, scrub_room_of, acl_room_of}
 use Rattle.installed_filters.specs.Filters.{FiltersValue, IsPlaced, filters_of, scrubs_in, acls_in, with_rows, scrubs_without_one, is_named_row, acls_without, activated_row, acl_switched}
 
 -- ---- numbered anew
@@ -178,11 +178,11 @@ installed_placed place row table new placed is less =
       few_acls = placed.few_acls;
     })
 
-pub room_left : (table mid : TableValue) (old : FiltersValue) → filters_of table ≡ old → filters_of mid ≡ filters_of table
-    → length old.scrubs < old.scrub_room → length mid.scrubs < mid.scrub_room
-room_left table mid old same kept less =
-    let here : length (scrubs_in mid) < mid.scrub_room = subst (λ (f : FiltersValue). length f.scrubs < f.scrub_room) (sym (kept ∙ same)) less in
-    let long = length-map mid.scrubs (λ (s : HeldScrub). s.row) in
+pub room_left : (table between : TableValue) (old : FiltersValue) → filters_of table ≡ old → filters_of between ≡ filters_of table
+    → length old.scrubs < old.scrub_room → length between.scrubs < between.scrub_room
+room_left table between old same kept less =
+    let here : length (scrubs_in between) < between.scrub_room = subst (λ (f : FiltersValue). length f.scrubs < f.scrub_room) (sym (kept ∙ same)) less in
+    let long = length-map between.scrubs (λ (s : HeldScrub). s.row) in
     omega (arith, here, long)
 
 pub removed_rows : (domain : ℕ) (cuid : List ℕ) (mid : ℕ) (table new : TableValue) (old : FiltersValue)
@@ -268,14 +268,14 @@ set_placed place row table new placed is less =
       few_acls = let long = length-append (without_acl row.domain row.cuid row.acl.name table.acls) (list_of place row ∷ []) in omega (arith, long, less);
     })
 
-pub list_room : (row : AclRow) (table mid : TableValue) (old : FiltersValue) → filters_of table ≡ old → filters_of mid ≡ filters_of table
+pub list_room : (row : AclRow) (table between : TableValue) (old : FiltersValue) → filters_of table ≡ old → filters_of between ≡ filters_of table
     → length (acls_without row.domain row.cuid row.acl.name old.acls) < old.acl_room
-    → length (without_acl row.domain row.cuid row.acl.name mid.acls) < mid.acl_room
-list_room row table mid old same kept less =
-    let here : length (acls_without row.domain row.cuid row.acl.name (acls_in mid)) < mid.acl_room =
+    → length (without_acl row.domain row.cuid row.acl.name between.acls) < between.acl_room
+list_room row table between old same kept less =
+    let here : length (acls_without row.domain row.cuid row.acl.name (acls_in between)) < between.acl_room =
     subst (λ (f : FiltersValue). length (acls_without row.domain row.cuid row.acl.name f.acls) < f.acl_room) (sym (kept ∙ same)) less in
-    let rows = ap length (others_rows row.domain row.cuid row.acl.name mid.acls) in
-    let long = length-map (without_acl row.domain row.cuid row.acl.name mid.acls) (λ (l : HeldAcl). l.row) in
+    let rows = ap length (others_rows row.domain row.cuid row.acl.name between.acls) in
+    let long = length-map (without_acl row.domain row.cuid row.acl.name between.acls) (λ (l : HeldAcl). l.row) in
     omega (arith, here, rows, long)
 
 pub dropped_rows : (domain : ℕ) (cuid name : List ℕ) (table new : TableValue) (old : FiltersValue)
@@ -363,8 +363,8 @@ first_placed scrubs acls table is few_scrubs few_acls =
       few_acls = omega arith;
     })
 
-pub first_stands : (scrubs acls : ℕ) (table : TableValue) → table ≡ empty_table scrubs acls → (t : ℕ) → StandsFor (filters_of table) t []
-first_stands scrubs acls table is t = subst (λ (x : TableValue). StandsFor (filters_of x) t []) (sym is) (record { scrubs = refl; acls = refl })
+pub first_represents : (scrubs acls : ℕ) (table : TableValue) → table ≡ empty_table scrubs acls → (t : ℕ) → Represents (filters_of table) t []
+first_represents scrubs acls table is t = subst (λ (x : TableValue). Represents (filters_of x) t []) (sym is) (record { scrubs = refl; acls = refl })
 
 pub first_room : (domains : ℕ) (limits : Limits) (scrubs acls : ℕ) (table : TableValue) → table ≡ empty_table scrubs acls → scrubs ≡ scrub_room_of domains limits
     → acls ≡ acl_room_of domains limits → HasRoom domains limits (filters_of table)

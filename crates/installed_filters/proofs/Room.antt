@@ -21,7 +21,7 @@ use Rattle.dots_laws.specs.Capacities.{is_registration, is_alias, is_list, has_c
 use Rattle.dots_laws.proofs.Keyed.{by_keys, tally_filter, length_filter}
 use Rattle.held_resources.specs.Tables.{Sizes, is_known}
 use Rattle.installed_filters.specs.Filters.{rows_put, acl_row_by}
-use Rattle.installed_filters.specs.Standing.{KeepsLimits, has_few_prefixes, scrub_room_of, acl_room_of}
+use Rattle.installed_filters.specs.HistoryRows.{KeepsLimits, has_few_prefixes, scrub_room_of, acl_room_of}
 use Rattle.installed_filters.proofs.Keys.{scrubs_of, rows_are}
 use Rattle.installed_filters.proofs.Waking.{acls_by_client, lists_are, mitigates}
 

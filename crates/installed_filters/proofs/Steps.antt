@@ -8,7 +8,7 @@ use Rattle.std.proofs.lemmas.Slice.Eq.{bytes_eq-Decides}
 use Rattle.acl_lists.specs.declared.acl.Acl.{Acl}
 use Rattle.filter_rows.specs.declared.rows.ScrubRow.{ScrubRow}
 use Rattle.filter_rows.specs.declared.rows.AclRow.{AclRow}
-use Rattle.filter_table.specs.Held.{is_of_client, row_is_of, waits}
+use Rattle.filter_table.specs.TableRows.{is_of_client, row_is_of, waits}
 use Rattle.dots_history.specs.Histories.{Mitigation}
 use Rattle.dots_history.specs.Rows.{mid_of}
 use Rattle.held_resources.proofs.Holdings.{turned_bytes}

@@ -10,7 +10,7 @@ use Rattle.acl_lists.specs.declared.acl.Acl.{Acl}
 use Rattle.acl_lists.specs.declared.acl.Activation.{Activation}
 use Rattle.acl_lists.specs.declared.acl.Activation.TheVariants.{WhenMitigating, Immediate, Deactivate}
 use Rattle.filter_rows.specs.declared.rows.AclRow.{AclRow}
-use Rattle.filter_table.specs.Held.{is_of_client, waits}
+use Rattle.filter_table.specs.TableRows.{is_of_client, waits}
 use Rattle.dots_history.specs.declared.entry.Entry.{Entry}
 use Rattle.dots_history.specs.Entries.{same_client, ends, option_any}
 use Rattle.dots_history.specs.Histories.{Mitigation, mitigations, held}

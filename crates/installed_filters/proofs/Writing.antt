@@ -8,7 +8,7 @@ use Rattle.std.proofs.lemmas.Option.{none-some, same_Some}
 use Rattle.std.proofs.lemmas.Slice.Eq.{bytes_eq-Decides}
 use Rattle.acl_lists.specs.declared.acl.Acl.{Acl}
 use Rattle.filter_rows.specs.declared.rows.AclRow.{AclRow}
-use Rattle.filter_table.specs.Held.{is_of_client}
+use Rattle.filter_table.specs.TableRows.{is_of_client}
 use Rattle.dots_history.specs.declared.entry.Entry.{Entry}
 use Rattle.dots_history.specs.declared.change.Change.{Change}
 use Rattle.dots_history.specs.declared.change.Change.TheVariants as change

@@ -7,7 +7,7 @@ use Rattle.acl_lists.specs.declared.acl.Activation.TheVariants.{WhenMitigating, 
 use Rattle.filter_rows.specs.declared.rows.ScrubRow.{ScrubRow}
 use Rattle.filter_rows.specs.declared.rows.AclRow.{AclRow}
 use Rattle.filter_table.specs.declared.held.HeldAcl.{HeldAcl}
-use Rattle.filter_table.specs.Held.{HeldScrub, is_of_client, row_is_of, waits}
+use Rattle.filter_table.specs.TableRows.{HeldScrub, is_of_client, row_is_of, waits}
 use Rattle.filter_table.specs.Table.{TableValue}
 use Rattle.dots_history.specs.declared.entry.Entry.{Entry}
 use Rattle.ip_scope.specs.Prefix.{PrefixValue}

@@ -1,2 +1,2 @@
 pub mod Filters
-pub mod Standing
+pub mod HistoryRows

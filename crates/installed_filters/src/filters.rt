@@ -3,7 +3,7 @@
 ghost use Rattle.std.specs.Prelude.{◌≡◌, ◌*◌, ◌≤◌, ◌<◌, ◌^◌, ◌++◌, ◌∷◌, ℕ, [], map, length, IfOk};
 ghost use Rattle.dots_settings.specs.Settings.{SettingsValue};
 ghost use Rattle.installed_filters.specs.Filters.{FiltersValue, with_rows, scrubs_without_one, acls_without, activated_row, filters_of};
-ghost use Rattle.installed_filters.specs.Standing.{StandsFor, HasRoom};
+ghost use Rattle.installed_filters.specs.HistoryRows.{Represents, HasRoom};
 
 use crate::placing::fresh_place;
 use dots_lists::{Name, NoMemory};
@@ -35,9 +35,9 @@ impl Model for InstalledFilters {
 
 impl InstalledFilters {
     /// No rows, and room for as many as the settings allow. This is the only call that takes memory.
-    #[tactic(auto, using(crate::proofs::Places::first_placed, crate::proofs::Places::first_stands, crate::proofs::Places::first_room))]
+    #[tactic(auto, using(crate::proofs::Places::first_placed, crate::proofs::Places::first_represents, crate::proofs::Places::first_room))]
     pub fn new(alloc: Global, settings: &Settings) -> Result<Self, NoMemory>
-        ensures stands { IfOk result (λ filters. (t : ℕ) → StandsFor filters t []) }
+        ensures represents { IfOk result (λ filters. (t : ℕ) → Represents filters t []) }
         ensures room { IfOk result (λ filters. HasRoom (length settings.now.domains) settings.now.limits filters) }
     {
         let limits = settings.limits();

@@ -2,8 +2,8 @@
 //!
 //! An [`InstalledFilters`] keeps a filter table and gives each row a place behind all others, so that the rows stand in order of
 //! the entries that they come from. Contracts see two lists of rows (`specs/Filters`), and each call says what it makes of them.
-//! `specs/Standing` says when they are the rows that a history comes to at a time: [`InstalledFilters::put`] and
-//! [`InstalledFilters::write`] keep them so with one more entry. When time moves, [`InstalledFilters::leave_live`] takes those of one
+//! `specs/HistoryRows` says when they are the rows that a history comes to at a time: [`InstalledFilters::put`] and
+//! [`InstalledFilters::write`] keep them so with one more entry. When time moves, [`InstalledFilters::retain_live`] takes those of one
 //! domain out whose mitigations are over.
 //!
 //! The copies that the rows of an entry need are made before, by [`Staged::of`]; after [`InstalledFilters::new`] no call takes

@@ -12,7 +12,7 @@ use live_mitigations::Row;
 impl InstalledFilters {
     /// Of the mitigations of a domain, which are given, the rows of those go that are over by this time. The lists of a client
     /// that are active while it mitigates are so while one of its mitigations is live at this time.
-    pub fn leave_live(&mut self, domain: u16, rows: &[Row], now: u64)
+    pub fn retain_live(&mut self, domain: u16, rows: &[Row], now: u64)
         ensures { self.new ≡ filters_at domain now rows.now self.old }
     {
         self.remove_over(domain, rows, now);

@@ -18,11 +18,11 @@ Puts-put_mid old at k part text within same long = record {
 drop_more : (n m : ℕ) (xs ys : List ℕ) → drop n xs ≡ drop n ys → drop (n + m) xs ≡ drop (n + m) ys
 drop_more n m xs ys same = sym (drop-drop m n xs) ∙ ap (drop m) same ∙ drop-drop m n ys
 
-pub Puts-then : (old mid new : List ℕ) (from at to : ℕ) (s t : List ℕ) → Puts old mid from at s → Puts mid new at to t → Puts old new from to (s ++ t)
-Puts-then old mid new from at to s t first second = record {
+pub Puts-then : (old between new : List ℕ) (from at to : ℕ) (s t : List ℕ) → Puts old between from at s → Puts between new at to t → Puts old new from to (s ++ t)
+Puts-then old between new from at to s t first second = record {
   end = omega (arith, first.end, second.end, length-append s t);
   front = second.front ∙ ap (λ x. x ++ t) first.front ∙ append_assoc (take from old) s t;
-  rest = second.rest ∙ (rw second.end (drop_more at (length t) mid old first.rest));
+  rest = second.rest ∙ (rw second.end (drop_more at (length t) between old first.rest));
 }
 
 pub Puts-as : (old new : List ℕ) (from to : ℕ) (s t : List ℕ) → s ≡ t → Puts old new from to s → Puts old new from to t

@@ -528,11 +528,11 @@ after_push behind before rings room slot last place ring values new_behind new_b
     (subst (λ l. AreRingsOf new_behind l (with_ring place counted rings) room (with_ring place (one_more slot) (map (ring_of behind) rings))) before_is
     (subst (λ l. AreRingsOf l (set (set before slot last) start slot) (with_ring place counted rings) room (with_ring place (one_more slot) (map (ring_of behind) rings))) behind_is done)))
 
-pub after_leave : (behind before : List ℕ) (rings : List Ring) (room slot p q place : ℕ) (values : List RingValue) (new_behind new_before : List ℕ) (new_rings : List Ring)
+pub after_depart : (behind before : List ℕ) (rings : List Ring) (room slot p q place : ℕ) (values : List RingValue) (new_behind new_before : List ℕ) (new_rings : List Ring)
     → AreRings behind before rings room → map (ring_of behind) rings ≡ values → place < length values → has_slot slot (ring_at place values).slots ≡ true
     → p ≡ link before slot → q ≡ link behind slot → new_behind ≡ set behind p q → new_before ≡ set before q p → new_rings ≡ with_ring place discounted rings
     → AreLeftOf new_behind new_before new_rings room slot (with_ring place (one_less slot) values)
-after_leave behind before rings room slot p q place values new_behind new_before new_rings all are less there is_p is_q is_behind is_before is_rings =
+after_depart behind before rings room slot p q place values new_behind new_before new_rings all are less there is_p is_q is_behind is_before is_rings =
     let at = held behind before rings room place slot values all are less there in
     let done = rings_less behind before rings room slot p q place (record { start = 0; count = 0 }) all at.within at.there is_p is_q in
     subst (λ vs. AreLeftOf new_behind new_before new_rings room slot (with_ring place (one_less slot) vs)) are

@@ -106,11 +106,11 @@ impl Order {
     }
 
     /// This slot goes.
-    pub fn leave(&mut self, slot: usize)
+    pub fn depart(&mut self, slot: usize)
         requires { has_slot slot self.old.slots ≡ true }
         ensures { self.new ≡ record { room = self.old.room; slots = without slot self.old.slots } }
     {
-        self.places.leave(slot);
+        self.places.depart(slot);
         let before = self.before[slot];
         let behind = self.behind[slot];
         link(&mut self.behind, &mut self.before, before, behind);

@@ -75,7 +75,7 @@ impl Places {
     }
 
     /// This slot goes. Its position isn't given again.
-    pub fn leave(&mut self, slot: usize)
+    pub fn depart(&mut self, slot: usize)
         requires { has_slot slot self.old.slots ≡ true }
         ensures { self.new ≡ record self.old { slots = without slot self.old.slots } }
     {

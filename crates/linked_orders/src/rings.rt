@@ -101,7 +101,7 @@ impl Rings {
     }
 
     /// This slot of the order goes.
-    pub fn leave(&mut self, at: usize, slot: usize)
+    pub fn depart(&mut self, at: usize, slot: usize)
         requires at { at < length self.old.rings }
         requires there { has_slot slot (ring_at at self.old.rings).slots ≡ true }
         ensures others { self.new ≡ record { room = self.old.room; rings = with_ring at (one_less slot) self.old.rings } }

@@ -12,7 +12,7 @@ use Rattle.live_mitigations.specs.Rows.{LiveTable, is_left}
 use Rattle.live_mitigations.specs.declared.slots.MitigationSlots.{MitigationSlots}
 use Rattle.dots_laws.specs.Filed.{Filed, entry_of}
 use Rattle.live_mitigations.specs.Slots.{withdrawal_in, slots_by, live_slots, slots_moved, if_left, slots_left, slots_first}
-use Rattle.live_mitigations.specs.Standing.{filed_alone, SlotsAre}
+use Rattle.live_mitigations.specs.LiveValues.{filed_alone, SlotsAre}
 
 abbrev pub bared : Filed → Filed
 bared x = record { entry = bare x.entry; slot = x.slot }

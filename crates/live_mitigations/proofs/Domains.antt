@@ -14,7 +14,7 @@ use Rattle.dots_history.specs.Slots.{Rises}
 use Rattle.dots_laws.specs.KeptPlaces.{at_places, union, live_places, withdrawal_places}
 use Rattle.dots_laws.proofs.Apart.{other_domain}
 use Rattle.dots_laws.proofs.Touching.{never_live, untouched}
-use Rattle.live_mitigations.specs.Standing.{is_inside, filed_alone, SlotsAre}
+use Rattle.live_mitigations.specs.LiveValues.{is_inside, filed_alone, SlotsAre}
 use Rattle.live_mitigations.specs.declared.slots.MitigationSlots.{MitigationSlots}
 use Rattle.dots_laws.specs.Filed.{Filed, entry_of, slot_of}
 use Rattle.live_mitigations.specs.Slots.{withdrawal_in, slots_by, live_slots}

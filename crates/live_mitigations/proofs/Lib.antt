@@ -1,12 +1,12 @@
 pub mod Ends
 pub mod Rows
 pub mod Updates
-pub mod Standing
+pub mod LiveValues
 pub mod Room
 pub mod Peers
 pub mod Going
 pub mod Bared
-pub mod SlotsStanding
+pub mod SlotsOfRows
 pub mod Members
 pub mod Kept
 pub mod Domains

@@ -14,7 +14,7 @@ use Rattle.dots_laws.specs.Views.{mitigations_of}
 use Rattle.dots_laws.proofs.Touching.{never_live}
 use Rattle.dots_laws.proofs.Bare.{bare_mitigations}
 use Rattle.live_mitigations.specs.Rows.{LiveTable, rows_or_none, any_row}
-use Rattle.live_mitigations.specs.Standing.{LiveValue, kept_of, puts, is_inside, StandsFor}
+use Rattle.live_mitigations.specs.LiveValues.{LiveValue, rows_for, puts, is_inside, Represents}
 use Rattle.live_mitigations.proofs.Updates.{there_within}
 use Rattle.live_mitigations.proofs.Room.{kept_is, of_domain_bare}
 
@@ -114,7 +114,7 @@ abbrev tests : (Entry → Bool) → Mitigation → Bool
 tests test m = test m.put
 
 -- one that is kept passes exactly where a live one of the history does
-pub any_kept : (test : Entry → Bool) (live : LiveValue) (entries : List Entry) → ((e : Entry) → test (bare e) ≡ test e) → StandsFor live entries
+pub any_kept : (test : Entry → Bool) (live : LiveValue) (entries : List Entry) → ((e : Entry) → test (bare e) ≡ test e) → Represents live entries
     → any_row (tests test) live.tables ≡ list_any (tests test) (mitigations live.time entries)
 any_kept test live entries same stands =
     same_truth (any_row (tests test) live.tables) (list_any (tests test) (mitigations live.time entries))

@@ -15,11 +15,11 @@ use Rattle.dots_laws.specs.Views.{mitigations_at, mitigations_with, mitigations_
 use Rattle.dots_laws.proofs.Apart.{apart}
 use Rattle.dots_laws.proofs.Bare.{bare_mitigations}
 use Rattle.live_mitigations.specs.Rows.{LiveTable, rows_or_none, of_entry, is_left, lives_at_first}
-use Rattle.live_mitigations.specs.Standing.{LiveValue, AreTables, kept_of, StandsFor, keeps_limits, has_live_room}
+use Rattle.live_mitigations.specs.LiveValues.{LiveValue, AreTables, rows_for, Represents, keeps_limits, has_live_room}
 use Rattle.live_mitigations.specs.Judging.{live_of, lives_of}
-use Rattle.live_mitigations.specs.Reading.{shown, of_cuid, shown_of, shown_in}
+use Rattle.live_mitigations.specs.LiveViews.{live_view, of_cuid, live_views_of, live_views_in}
 use Rattle.live_mitigations.proofs.Rows.{grown_rows}
-use Rattle.live_mitigations.proofs.Standing.{own_with}
+use Rattle.live_mitigations.proofs.LiveValues.{own_with}
 
 tally_append : {A : Type 0} → (test : A → Bool) (xs ys : List A) → tally test (xs ++ ys) ≡ tally test xs + tally test ys
 tally_append test [] ys = omega arith
@@ -103,8 +103,8 @@ tally_in test domain (m ∷ ms) =
     (λ out. go)
 
 -- what is kept of the entry's domain after it, by the history
-pub after_is : (live : LiveValue) (entries : List Entry) (e : Entry) → live.time ≤ e.time → e.domain < live.domains → StandsFor live entries
-    → mitigations_with (bare e) (kept_of live e.domain) ≡ mitigations_of e.domain (map bare_mitigation (mitigations e.time (entries ++ e ∷ [])))
+pub after_is : (live : LiveValue) (entries : List Entry) (e : Entry) → live.time ≤ e.time → e.domain < live.domains → Represents live entries
+    → mitigations_with (bare e) (rows_for live e.domain) ≡ mitigations_of e.domain (map bare_mitigation (mitigations e.time (entries ++ e ∷ [])))
 after_is live entries e later within stands =
     ap (mitigations_with (bare e)) (stands.rows e.domain within)
     ∙ sym (own_with live.time entries e later)
@@ -115,18 +115,18 @@ first_bare : (e : Entry) → live e.time (bare e) Open ≡ live e.time e Open
 unfolding runs
 first_bare e = refl
 
-counted : (test : Entry → Bool) (live : LiveValue) (entries : List Entry) (e : Entry) → live.time ≤ e.time → e.domain < live.domains → StandsFor live entries
+counted : (test : Entry → Bool) (live : LiveValue) (entries : List Entry) (e : Entry) → live.time ≤ e.time → e.domain < live.domains → Represents live entries
     → ((p : Entry) → test (bare p) ≡ test p) → ((p : Entry) → test p ≡ true → (p.domain == e.domain) ≡ true) → test (bare e) ≡ true
     → tally (λ (m : Mitigation). test m.put) (mitigations e.time (entries ++ e ∷ []))
-    ≡ tally (λ (m : Mitigation). is_left e m && test m.put) (kept_of live e.domain) + cond (lives_at_first e) 1 0
+    ≡ tally (λ (m : Mitigation). is_left e m && test m.put) (rows_for live e.domain) + cond (lives_at_first e) 1 0
 counted test live entries e later within stands same own is =
     sym (tally_of test e.domain (mitigations e.time (entries ++ e ∷ [])) same own)
     ∙ ap (tally (λ (m : Mitigation). test m.put)) (sym (after_is live entries e later within stands))
-    ∙ tally_grown test e (kept_of live e.domain) is
-    ∙ ap (λ b. tally (λ (m : Mitigation). is_left e m && test m.put) (kept_of live e.domain) + cond b 1 0) (first_bare e)
+    ∙ tally_grown test e (rows_for live e.domain) is
+    ∙ ap (λ b. tally (λ (m : Mitigation). is_left e m && test m.put) (rows_for live e.domain) + cond b 1 0) (first_bare e)
 
-pub kept_is : (live : LiveValue) (entries : List Entry) (domain : ℕ) → domain < live.domains → StandsFor live entries
-    → kept_of live domain ≡ mitigations_of domain (mitigations live.time (map bare entries))
+pub kept_is : (live : LiveValue) (entries : List Entry) (domain : ℕ) → domain < live.domains → Represents live entries
+    → rows_for live domain ≡ mitigations_of domain (mitigations live.time (map bare entries))
 kept_is live entries domain within stands = stands.rows domain within ∙ apart domain live.time (map bare entries)
 
 same_domain : (e p : Entry) → same_client e p ≡ true → (p.domain == e.domain) ≡ true
@@ -143,9 +143,9 @@ bare_client : (e p : Entry) → same_client e (bare p) ≡ same_client e p
 unfolding same_client
 bare_client e p = refl
 
-domain_count : (live : LiveValue) (entries : List Entry) (e : Entry) → live.time ≤ e.time → e.domain < live.domains → StandsFor live entries
+domain_count : (live : LiveValue) (entries : List Entry) (e : Entry) → live.time ≤ e.time → e.domain < live.domains → Represents live entries
     → tally (λ (m : Mitigation). m.put.domain == e.domain) (mitigations e.time (entries ++ e ∷ []))
-    ≡ tally (is_left e) (kept_of live e.domain) + cond (lives_at_first e) 1 0
+    ≡ tally (is_left e) (rows_for live e.domain) + cond (lives_at_first e) 1 0
 domain_count live entries e later within stands =
     let is = kept_is live entries e.domain within stands in
     counted (λ (p : Entry). p.domain == e.domain) live entries e later within stands (λ p. refl) (λ p own. own) (eq-eqb e.domain e.domain refl)
@@ -155,23 +155,23 @@ domain_count live entries e later within stands =
     ∙ tally_in (is_left e) e.domain (mitigations live.time (map bare entries))
     ∙ ap (tally (is_left e)) (sym is))
 
-client_count : (live : LiveValue) (entries : List Entry) (e : Entry) → live.time ≤ e.time → e.domain < live.domains → StandsFor live entries
+client_count : (live : LiveValue) (entries : List Entry) (e : Entry) → live.time ≤ e.time → e.domain < live.domains → Represents live entries
     → tally (λ (m : Mitigation). same_client e m.put) (mitigations e.time (entries ++ e ∷ []))
-    ≡ tally (λ (m : Mitigation). is_left e m && same_client e m.put) (kept_of live e.domain) + cond (lives_at_first e) 1 0
+    ≡ tally (λ (m : Mitigation). is_left e m && same_client e m.put) (rows_for live e.domain) + cond (lives_at_first e) 1 0
 client_count live entries e later within stands =
     counted (same_client e) live entries e later within stands (bare_client e) (same_domain e) (own_client e)
 
 -- whether there is room, by what is kept of the entry's domain
-pub has_room_is : (live : LiveValue) (entries : List Entry) (e : Entry) → live.time ≤ e.time → e.domain < live.domains → StandsFor live entries
+pub has_room_is : (live : LiveValue) (entries : List Entry) (e : Entry) → live.time ≤ e.time → e.domain < live.domains → Represents live entries
     → has_live_room live.limits entries e
-    ≡ (nat_le (tally (is_left e) (kept_of live e.domain) + cond (lives_at_first e) 1 0) live.limits.domain_mitigations
-    && nat_le (tally (λ (m : Mitigation). is_left e m && same_client e m.put) (kept_of live e.domain) + cond (lives_at_first e) 1 0) live.limits.client_mitigations)
+    ≡ (nat_le (tally (is_left e) (rows_for live e.domain) + cond (lives_at_first e) 1 0) live.limits.domain_mitigations
+    && nat_le (tally (λ (m : Mitigation). is_left e m && same_client e m.put) (rows_for live e.domain) + cond (lives_at_first e) 1 0) live.limits.client_mitigations)
 has_room_is live entries e later within stands =
     ap
     (λ n. nat_le n live.limits.domain_mitigations && nat_le (tally (λ (m : Mitigation). same_client e m.put) (mitigations e.time (entries ++ e ∷ []))) live.limits.client_mitigations)
     (domain_count live entries e later within stands)
     ∙ ap
-    (λ n. nat_le (tally (is_left e) (kept_of live e.domain) + cond (lives_at_first e) 1 0) live.limits.domain_mitigations && nat_le n live.limits.client_mitigations)
+    (λ n. nat_le (tally (is_left e) (rows_for live e.domain) + cond (lives_at_first e) 1 0) live.limits.domain_mitigations && nat_le n live.limits.client_mitigations)
     (client_count live entries e later within stands)
 
 tally_all : (ms : List Mitigation) → tally (λ (m : Mitigation). true) ms ≡ length ms
@@ -192,17 +192,17 @@ length_grown e ms =
     ∙ ap (λ b. tally (is_left e) ms + cond b 1 0) (first_bare e)
 
 -- where the limits are kept, the table of the domain has room for them
-pub fits_kept : (inside live : LiveValue) (e : Entry) → inside ≡ live → AreTables inside → keeps_limits live.limits e (kept_of live e.domain) ≡ true
+pub fits_kept : (inside live : LiveValue) (e : Entry) → inside ≡ live → AreTables inside → keeps_limits live.limits e (rows_for live e.domain) ≡ true
     → (table : LiveTable) → slice_get inside.tables e.domain ≡ Some table → length (mitigations_with (bare e) table.rows) ≤ table.room
 fits_kept inside live e is are keeps table there =
-    let here : keeps_limits inside.limits e (kept_of inside e.domain) ≡ true = ap (λ (v : LiveValue). keeps_limits v.limits e (kept_of v e.domain)) is ∙ keeps in
-    let rows : kept_of inside e.domain ≡ table.rows = ap rows_or_none there in
-    let few : tally (is_left e) (kept_of inside e.domain) + cond (lives_at_first e) 1 0 ≤ inside.limits.domain_mitigations =
+    let here : keeps_limits inside.limits e (rows_for inside e.domain) ≡ true = ap (λ (v : LiveValue). keeps_limits v.limits e (rows_for v e.domain)) is ∙ keeps in
+    let rows : rows_for inside e.domain ≡ table.rows = ap rows_or_none there in
+    let few : tally (is_left e) (rows_for inside e.domain) + cond (lives_at_first e) 1 0 ≤ inside.limits.domain_mitigations =
     leb-true _ _ (and_parts
-    (nat_le (tally (is_left e) (kept_of inside e.domain) + cond (lives_at_first e) 1 0) inside.limits.domain_mitigations)
-    (nat_le (tally (λ (m : Mitigation). is_left e m && same_client e m.put) (kept_of inside e.domain) + cond (lives_at_first e) 1 0) inside.limits.client_mitigations)
+    (nat_le (tally (is_left e) (rows_for inside e.domain) + cond (lives_at_first e) 1 0) inside.limits.domain_mitigations)
+    (nat_le (tally (λ (m : Mitigation). is_left e m && same_client e m.put) (rows_for inside e.domain) + cond (lives_at_first e) 1 0) inside.limits.client_mitigations)
     here).0 in
-    let long : length (mitigations_with (bare e) table.rows) ≡ tally (is_left e) (kept_of inside e.domain) + cond (lives_at_first e) 1 0 =
+    let long : length (mitigations_with (bare e) table.rows) ≡ tally (is_left e) (rows_for inside e.domain) + cond (lives_at_first e) 1 0 =
     length_grown e table.rows ∙ ap (λ ms. tally (is_left e) ms + cond (lives_at_first e) 1 0) (sym rows) in
     let room : table.room ≡ inside.limits.domain_mitigations = are.rooms e.domain table there in
     omega (arith, long, few, room)
@@ -223,15 +223,15 @@ read_bare f domain (m ∷ ms) same =
     ∙ ap (λ ys. f m ∷ ys) go)
     (λ out. ap (λ b. map f (cond b (bare_mitigation m ∷ mitigations_of domain (map bare_mitigation ms)) (mitigations_of domain (map bare_mitigation ms)))) out ∙ go)
 
-shown_bare : (t : ℕ) (m : Mitigation) → shown t (bare_mitigation m) ≡ shown t m
+shown_bare : (t : ℕ) (m : Mitigation) → live_view t (bare_mitigation m) ≡ live_view t m
 shown_bare t m = by_status m.put m.status
   where
-    by_status : (e : Entry) (s : Status) → shown t (record { put = bare e; status = s }) ≡ shown t (record { put = e; status = s })
+    by_status : (e : Entry) (s : Status) → live_view t (record { put = bare e; status = s }) ≡ live_view t (record { put = e; status = s })
     by_status e Ended = refl
     by_status e Open = refl
     by_status e (Withdrawn at) = refl
 
-of_cuid_bare : (cuid : List ℕ) (t : ℕ) (ms : List Mitigation) → shown_of t cuid (map bare_mitigation ms) ≡ shown_of t cuid ms
+of_cuid_bare : (cuid : List ℕ) (t : ℕ) (ms : List Mitigation) → live_views_of t cuid (map bare_mitigation ms) ≡ live_views_of t cuid ms
 of_cuid_bare cuid t [] = refl
 of_cuid_bare cuid t (m ∷ ms) =
     let go = of_cuid_bare cuid t ms in
@@ -239,11 +239,11 @@ of_cuid_bare cuid t (m ∷ ms) =
     (bytes_eq m.put.cuid cuid)
     (m ∷ of_cuid cuid ms)
     (of_cuid cuid ms)
-    (λ xs. map (shown t) (cond (bytes_eq m.put.cuid cuid) (bare_mitigation m ∷ of_cuid cuid (map bare_mitigation ms)) (of_cuid cuid (map bare_mitigation ms))) ≡ map (shown t) xs)
-    (λ is. ap (λ b. map (shown t) (cond b (bare_mitigation m ∷ of_cuid cuid (map bare_mitigation ms)) (of_cuid cuid (map bare_mitigation ms)))) is
-    ∙ ap (λ y. y ∷ map (shown t) (of_cuid cuid (map bare_mitigation ms))) (shown_bare t m)
-    ∙ ap (λ ys. shown t m ∷ ys) go)
-    (λ out. ap (λ b. map (shown t) (cond b (bare_mitigation m ∷ of_cuid cuid (map bare_mitigation ms)) (of_cuid cuid (map bare_mitigation ms)))) out ∙ go)
+    (λ xs. map (live_view t) (cond (bytes_eq m.put.cuid cuid) (bare_mitigation m ∷ of_cuid cuid (map bare_mitigation ms)) (of_cuid cuid (map bare_mitigation ms))) ≡ map (live_view t) xs)
+    (λ is. ap (λ b. map (live_view t) (cond b (bare_mitigation m ∷ of_cuid cuid (map bare_mitigation ms)) (of_cuid cuid (map bare_mitigation ms)))) is
+    ∙ ap (λ y. y ∷ map (live_view t) (of_cuid cuid (map bare_mitigation ms))) (shown_bare t m)
+    ∙ ap (λ ys. live_view t m ∷ ys) go)
+    (λ out. ap (λ b. map (live_view t) (cond b (bare_mitigation m ∷ of_cuid cuid (map bare_mitigation ms)) (of_cuid cuid (map bare_mitigation ms)))) out ∙ go)
 
 pub of_domain_bare : (domain : ℕ) (ms : List Mitigation) → mitigations_of domain (map bare_mitigation ms) ≡ map bare_mitigation (mitigations_of domain ms)
 of_domain_bare domain [] = refl
@@ -258,8 +258,8 @@ pub lives_are : (t domain : ℕ) (entries : List Entry) → map live_of (mitigat
 lives_are t domain entries =
     ap (λ ms. map live_of (mitigations_of domain ms)) (bare_mitigations t entries) ∙ read_bare live_of domain (mitigations t entries) (λ m. refl)
 
-pub shown_are : (t domain : ℕ) (cuid : List ℕ) (entries : List Entry) → shown_of t cuid (mitigations_of domain (mitigations t (map bare entries))) ≡ shown_in domain cuid t entries
+pub shown_are : (t domain : ℕ) (cuid : List ℕ) (entries : List Entry) → live_views_of t cuid (mitigations_of domain (mitigations t (map bare entries))) ≡ live_views_in domain cuid t entries
 shown_are t domain cuid entries =
-    ap (λ ms. shown_of t cuid (mitigations_of domain ms)) (bare_mitigations t entries)
-    ∙ ap (shown_of t cuid) (of_domain_bare domain (mitigations t entries))
+    ap (λ ms. live_views_of t cuid (mitigations_of domain ms)) (bare_mitigations t entries)
+    ∙ ap (live_views_of t cuid) (of_domain_bare domain (mitigations t entries))
     ∙ of_cuid_bare cuid t (mitigations_of domain (mitigations t entries))

@@ -14,7 +14,7 @@ use Rattle.dots_laws.specs.Tables.{bare}
 use Rattle.dots_laws.specs.Views.{mitigations_at, mitigations_with}
 use Rattle.dots_laws.proofs.Touching.{never_live}
 use Rattle.live_mitigations.specs.Rows.{of_entry, moved_all}
-use Rattle.live_mitigations.specs.Standing.{puts}
+use Rattle.live_mitigations.specs.LiveValues.{puts}
 
 -- an entry does the same without its message and reply
 step_bare : (put : Entry) (s : Status) (e : Entry) → step put s (bare e) ≡ step put s e

@@ -1,7 +1,7 @@
 pub mod Ends
 pub mod Slots
 pub mod Rows
-pub mod Standing
+pub mod LiveValues
 pub mod Judging
-pub mod Reading
+pub mod LiveViews
 pub mod Numbers

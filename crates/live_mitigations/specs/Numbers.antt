@@ -4,7 +4,7 @@ use Rattle.std.specs.List.{flat_map}
 use Rattle.dots_history.specs.Slots.{number_in}
 use Rattle.live_mitigations.specs.declared.slots.MitigationSlots.{MitigationSlots}
 use Rattle.live_mitigations.specs.Rows.{LiveTable}
-use Rattle.live_mitigations.specs.Standing.{LiveValue}
+use Rattle.live_mitigations.specs.LiveValues.{LiveValue}
 
 abbrev pub numbers_of : MitigationSlots → List ℕ
 numbers_of slots = slots.put ∷ option_to_list slots.withdrawal

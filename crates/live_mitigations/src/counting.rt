@@ -4,7 +4,7 @@ ghost use Rattle.std.specs.Prelude.{◌≡◌, ◌+◌, ◌≤◌, ◌&&◌, if�
 ghost use Rattle.dots_history.specs.Entries.{same_client};
 ghost use Rattle.dots_history.specs.Histories.{tally};
 ghost use Rattle.live_mitigations.specs.Rows.{is_left};
-ghost use Rattle.live_mitigations.specs.Standing.{keeps_limits};
+ghost use Rattle.live_mitigations.specs.LiveValues.{keeps_limits};
 
 use crate::row::Row;
 use dots_history::{Entry, Status, is_live};

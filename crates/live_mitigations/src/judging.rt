@@ -5,9 +5,9 @@ ghost use Rattle.std.specs.List.{list_any};
 ghost use Rattle.dots_history.specs.declared.entry.Entry.{Entry};
 ghost use Rattle.dots_history.specs.Histories.{mitigations};
 ghost use Rattle.conflict_rules.specs.ByMid.{collides};
-ghost use Rattle.live_mitigations.specs.Standing.{StandsFor};
+ghost use Rattle.live_mitigations.specs.LiveValues.{Represents};
 ghost use Rattle.live_mitigations.specs.Judging.{lives_of};
-ghost use Rattle.live_mitigations.specs.Reading.{shown_in};
+ghost use Rattle.live_mitigations.specs.LiveViews.{live_views_in};
 
 use crate::live::LiveMitigations;
 use crate::reading::Mitigations;
@@ -17,7 +17,7 @@ impl LiveMitigations {
     /// The live mitigations of a client, in order of their entries (RFC 9132, section 4.4.2).
     pub fn mitigations<'a>(&'a self, domain: u16, cuid: &'a [u8]) -> Mitigations<'a>
         requires { domain < self.now.domains }
-        ensures { (entries : List Entry) → StandsFor self.now entries → result ≡ shown_in domain cuid.now self.now.time entries }
+        ensures { (entries : List Entry) → Represents self.now entries → result ≡ live_views_in domain cuid.now self.now.time entries }
     {
         Mitigations::of(self.rows(domain), cuid, self.time())
     }
@@ -26,7 +26,7 @@ impl LiveMitigations {
     /// another one (RFC 9132, section 4.4.1.3).
     pub fn collides(&self, domain: u16, cuid: &[u8], peer: u32) -> bool
         requires { domain < self.now.domains }
-        ensures { (entries : List Entry) → StandsFor self.now entries → result ≡ collides (lives_of domain self.now.time entries) peer cuid.now }
+        ensures { (entries : List Entry) → Represents self.now entries → result ≡ collides (lives_of domain self.now.time entries) peer cuid.now }
     {
         collides(self.rows(domain), peer, cuid)
     }

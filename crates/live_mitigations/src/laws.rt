@@ -14,7 +14,7 @@ ghost use Rattle.dots_laws.specs.Filed.{Filed, entry_of, slot_of};
 ghost use Rattle.dots_laws.specs.KeptPlaces.{at_places, union, live_places, withdrawal_places};
 ghost use Rattle.live_mitigations.specs.Rows.{LiveTable};
 ghost use Rattle.live_mitigations.specs.Numbers.{all_numbers};
-ghost use Rattle.live_mitigations.specs.Standing.{LiveValue, StandsFor, ComesTo, SlotsAre, kept_of, is_inside};
+ghost use Rattle.live_mitigations.specs.LiveValues.{LiveValue, Represents, ComesTo, SlotsAre, rows_for, is_inside};
 
 /// A mitigation is live exactly before the first second at which it is over; and one of several is over exactly from the
 /// first of these seconds on.
@@ -23,16 +23,16 @@ pub fn mitigations_end_at_a_second()
     ensures first { (t : ℕ) (ms : List Mitigation) → t < never → list_any (is_due t) ms ≡ nat_le (first_end ms) t }
 {}
 
-/// What stands for a history comes to it at each later time.
+/// What represents a history comes to it at each later time.
 pub fn what_stands_comes_later()
-    ensures { (now : ℕ) (live : LiveValue) (entries : List Entry) → live.time ≤ now → StandsFor live entries → ComesTo now live entries }
+    ensures { (now : ℕ) (live : LiveValue) (entries : List Entry) → live.time ≤ now → Represents live entries → ComesTo now live entries }
 {}
 
 /// Of what is kept of a domain no two mitigations of a client have one mid, and no two overlap.
 pub fn what_is_kept_is_apart()
-    ensures mid { (client : Client) (mid domain : ℕ) (live : LiveValue) (entries : List Entry) → domain < live.domains → StandsFor live entries
-        → tally (λ m. is_of client m.put && has_mid mid m.put) (kept_of live domain) ≤ 1 }
-    ensures apart { (domain : ℕ) (live : LiveValue) (entries : List Entry) → domain < live.domains → StandsFor live entries → AreApart (kept_of live domain) }
+    ensures mid { (client : Client) (mid domain : ℕ) (live : LiveValue) (entries : List Entry) → domain < live.domains → Represents live entries
+        → tally (λ m. is_of client m.put && has_mid mid m.put) (rows_for live domain) ≤ 1 }
+    ensures apart { (domain : ℕ) (live : LiveValue) (entries : List Entry) → domain < live.domains → Represents live entries → AreApart (rows_for live domain) }
 {}
 
 /// The slots that are kept at a time are those of the entries that a compaction keeps for the live mitigations: of each that is live,

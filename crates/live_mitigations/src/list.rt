@@ -15,7 +15,7 @@ ghost use Rattle.live_mitigations.specs.Numbers.{numbers_in, table_renumbered};
 
 use crate::row::Row;
 use crate::slots::MitigationSlots;
-use crate::slotting::{leave_slots, move_slots, push_first, put_slots, renumber};
+use crate::slotting::{move_slots, push_first, put_slots, renumber, retain_slots};
 use dots_history::{Entry, SlotList};
 use dots_lists::NoMemory;
 use std::alloc::Global;
@@ -74,8 +74,8 @@ impl LiveList {
     pub fn expire(&mut self, now: u64)
         ensures { self.new ≡ aged now self.old }
     {
-        leave_slots(&mut self.slots, self.rows.as_slice(), now);
-        leave_live(&mut self.rows, now);
+        retain_slots(&mut self.slots, self.rows.as_slice(), now);
+        retain_live(&mut self.rows, now);
     }
 
     /// Does to each what the entry in this slot does, and takes those out that are then over.
@@ -84,7 +84,7 @@ impl LiveList {
     {
         move_slots(&mut self.slots, self.rows.as_slice(), entry, slot);
         move_rows(&mut self.rows, entry);
-        leave_live(&mut self.rows, entry.time);
+        retain_live(&mut self.rows, entry.time);
     }
 
     /// Does the same, and puts the mitigation of the entry behind them, where it is live.
@@ -96,7 +96,7 @@ impl LiveList {
         move_slots(&mut self.slots, self.rows.as_slice(), &entry, slot);
         push_first(&mut self.slots, &entry, slot);
         move_rows(&mut self.rows, &entry);
-        leave_live(&mut self.rows, entry.time);
+        retain_live(&mut self.rows, entry.time);
         push_put(&mut self.rows, entry);
     }
 
@@ -126,7 +126,7 @@ impl LiveList {
 }
 
 /// Takes those out that are over at the time t.
-fn leave_live(rows: &mut Vec<Row>, t: u64)
+fn retain_live(rows: &mut Vec<Row>, t: u64)
     ensures items { rows.new.items ≡ mitigations_at t rows.old.items }
     ensures capacity { vec_capacity rows.new ≡ vec_capacity rows.old }
 {

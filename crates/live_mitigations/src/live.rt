@@ -10,7 +10,7 @@ ghost use Rattle.dots_laws.specs.KeptPlaces.{union};
 ghost use Rattle.dots_laws.specs.Tables.{bare};
 ghost use Rattle.dots_laws.specs.Views.{mitigations_at, mitigations_with, mitigations_of};
 ghost use Rattle.live_mitigations.specs.Ends.{never};
-ghost use Rattle.live_mitigations.specs.Standing.{kept_of, count_kept, has_due, puts, StandsFor, ComesTo, SameButRows, SlotsAre, SlotsCome, keeps_limits, has_live_room};
+ghost use Rattle.live_mitigations.specs.LiveValues.{rows_for, count_live, has_due, puts, Represents, ComesTo, SameButRows, SlotsAre, SlotsCome, keeps_limits, has_live_room};
 ghost use Rattle.live_mitigations.specs.Numbers.{all_numbers, live_renumbered};
 
 use crate::counting::keep_limits;
@@ -32,7 +32,7 @@ pub struct LiveMitigations {
 }
 
 impl Model for LiveMitigations {
-    ghost use Rattle.live_mitigations.specs.Standing.{LiveValue, AreTables};
+    ghost use Rattle.live_mitigations.specs.LiveValues.{LiveValue, AreTables};
 
     ghost Value = { LiveValue };
 
@@ -53,9 +53,9 @@ impl Model for LiveMitigations {
 
 impl LiveMitigations {
     /// Those of no entries, at time 0. This is the only call that takes memory.
-    #[tactic(auto, using(crate::proofs::Standing::stands_empty, crate::proofs::Standing::are_empty_tables))]
+    #[tactic(auto, using(crate::proofs::LiveValues::represents_empty, crate::proofs::LiveValues::are_empty_tables))]
     pub fn new(alloc: Global, settings: &Settings) -> Result<Self, NoMemory>
-        ensures stands { IfOk result (λ live. StandsFor live []) }
+        ensures represents { IfOk result (λ live. Represents live []) }
         ensures slots { IfOk result (λ live. SlotsAre 0 live.tables []) }
         ensures domains { IfOk result (λ live. live.domains ≡ length settings.now.domains) }
         ensures limits { IfOk result (λ live. live.limits ≡ settings.now.limits) }
@@ -96,15 +96,15 @@ impl LiveMitigations {
     /// The live mitigations of a domain, in order of their entries.
     pub fn rows(&self, domain: u16) -> &[Row]
         requires { domain < self.now.domains }
-        ensures kept { result.now ≡ kept_of self.now domain }
-        ensures live { (entries : List Entry) → StandsFor self.now entries → result.now ≡ mitigations_of domain (mitigations self.now.time (map bare entries)) }
+        ensures kept { result.now ≡ rows_for self.now domain }
+        ensures live { (entries : List Entry) → Represents self.now entries → result.now ≡ mitigations_of domain (mitigations self.now.time (map bare entries)) }
     {
         self.tables.rows(domain)
     }
 
     /// Whether a live mitigation has this peer.
     pub fn mitigating(&self, peer: u32) -> bool
-        ensures { (entries : List Entry) → StandsFor self.now entries → result ≡ list_any (λ m. m.put.peer == peer) (mitigations self.now.time entries) }
+        ensures { (entries : List Entry) → Represents self.now entries → result ≡ list_any (λ m. m.put.peer == peer) (mitigations self.now.time entries) }
     {
         self.tables.has_peer(peer)
     }
@@ -122,11 +122,11 @@ impl LiveMitigations {
     /// Takes the mitigations of a domain out that are over by this time.
     pub fn expire(&mut self, domain: u16, now: u64)
         requires { domain < self.old.domains }
-        ensures own { kept_of self.new domain ≡ mitigations_at now (kept_of self.old domain) }
-        ensures others { (other : ℕ) → other ≢ domain → kept_of self.new other ≡ kept_of self.old other }
+        ensures own { rows_for self.new domain ≡ mitigations_at now (rows_for self.old domain) }
+        ensures others { (other : ℕ) → other ≢ domain → rows_for self.new other ≡ rows_for self.old other }
         ensures comes { (entries : List Entry) → ComesTo now self.old entries → ComesTo now self.new entries }
         ensures slots { (filed : List Filed) → SlotsCome now self.old.tables filed → SlotsCome now self.new.tables filed }
-        ensures fewer { has_due now self.old domain ≡ true → count_kept self.new < count_kept self.old }
+        ensures fewer { has_due now self.old domain ≡ true → count_live self.new < count_live self.old }
         ensures same { SameButRows self.old self.new }
     {
         self.tables.expire(domain, now);
@@ -136,7 +136,7 @@ impl LiveMitigations {
     pub fn tick(&mut self, now: u64)
         requires later { self.old.time ≤ now }
         requires bounded { now < never }
-        ensures stands { (entries : List Entry) → ComesTo now self.old entries → StandsFor self.new entries }
+        ensures represents { (entries : List Entry) → ComesTo now self.old entries → Represents self.new entries }
         ensures slots { (filed : List Filed) → SlotsCome now self.old.tables filed → SlotsAre now self.new.tables filed }
         ensures time { self.new.time ≡ now }
         ensures domains { self.new.domains ≡ self.old.domains }
@@ -164,8 +164,8 @@ impl LiveMitigations {
     pub fn has_room(&self, entry: &Entry) -> bool
         requires later { self.now.time ≤ entry.now.time }
         requires inside { entry.now.domain < self.now.domains }
-        ensures kept { result ≡ keeps_limits self.now.limits entry.now (kept_of self.now entry.now.domain) }
-        ensures room { (entries : List Entry) → StandsFor self.now entries → result ≡ has_live_room self.now.limits entries entry.now }
+        ensures kept { result ≡ keeps_limits self.now.limits entry.now (rows_for self.now entry.now.domain) }
+        ensures room { (entries : List Entry) → Represents self.now entries → result ≡ has_live_room self.now.limits entries entry.now }
     {
         keep_limits(self.tables.rows(entry.domain), entry, &self.limits)
     }
@@ -175,11 +175,11 @@ impl LiveMitigations {
     pub fn note(&mut self, entry: &Entry, slot: u32)
         requires at { entry.now.time ≡ self.old.time }
         requires quiet { puts entry.now ≡ false }
-        ensures stands { (entries : List Entry) → StandsFor self.old entries → StandsFor self.new (entries ++ entry.now ∷ []) }
-        ensures slots { (filed : List Filed) → StandsFor self.old (map entry_of filed) → SlotsAre self.old.time self.old.tables filed
+        ensures represents { (entries : List Entry) → Represents self.old entries → Represents self.new (entries ++ entry.now ∷ []) }
+        ensures slots { (filed : List Filed) → Represents self.old (map entry_of filed) → SlotsAre self.old.time self.old.tables filed
             → SlotsAre self.old.time self.new.tables (filed ++ record { entry = entry.now; slot = slot } ∷ []) }
-        ensures own { entry.now.domain < self.old.domains → kept_of self.new entry.now.domain ≡ mitigations_with (bare entry.now) (kept_of self.old entry.now.domain) }
-        ensures others { (other : ℕ) → other ≢ entry.now.domain → kept_of self.new other ≡ kept_of self.old other }
+        ensures own { entry.now.domain < self.old.domains → rows_for self.new entry.now.domain ≡ mitigations_with (bare entry.now) (rows_for self.old entry.now.domain) }
+        ensures others { (other : ℕ) → other ≢ entry.now.domain → rows_for self.new other ≡ rows_for self.old other }
         ensures same { SameButRows self.old self.new }
     {
         if entry.domain < self.domains {
@@ -192,12 +192,12 @@ impl LiveMitigations {
     pub fn put(&mut self, entry: Entry, slot: u32)
         requires at { entry.time ≡ self.old.time }
         requires inside { entry.domain < self.old.domains }
-        requires room { keeps_limits self.old.limits entry (kept_of self.old entry.domain) ≡ true }
-        ensures stands { (entries : List Entry) (e : Entry) → bare e ≡ bare entry → StandsFor self.old entries → StandsFor self.new (entries ++ e ∷ []) }
-        ensures slots { (filed : List Filed) (e : Entry) → bare e ≡ bare entry → StandsFor self.old (map entry_of filed) → SlotsAre self.old.time self.old.tables filed
+        requires room { keeps_limits self.old.limits entry (rows_for self.old entry.domain) ≡ true }
+        ensures represents { (entries : List Entry) (e : Entry) → bare e ≡ bare entry → Represents self.old entries → Represents self.new (entries ++ e ∷ []) }
+        ensures slots { (filed : List Filed) (e : Entry) → bare e ≡ bare entry → Represents self.old (map entry_of filed) → SlotsAre self.old.time self.old.tables filed
             → SlotsAre self.old.time self.new.tables (filed ++ record { entry = e; slot = slot } ∷ []) }
-        ensures own { kept_of self.new entry.domain ≡ mitigations_with (bare entry) (kept_of self.old entry.domain) }
-        ensures others { (other : ℕ) → other ≢ entry.domain → kept_of self.new other ≡ kept_of self.old other }
+        ensures own { rows_for self.new entry.domain ≡ mitigations_with (bare entry) (rows_for self.old entry.domain) }
+        ensures others { (other : ℕ) → other ≢ entry.domain → rows_for self.new other ≡ rows_for self.old other }
         ensures same { SameButRows self.old self.new }
     {
         self.tables.put(entry, slot);

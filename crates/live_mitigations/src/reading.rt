@@ -1,7 +1,7 @@
 //! The live mitigations of a client, one after the other.
 
 ghost use Rattle.std.specs.Prelude.{◌≡◌, ◌∷◌, [], IfSome, IfNone};
-ghost use Rattle.live_mitigations.specs.Reading.{of_cuid, shown_of};
+ghost use Rattle.live_mitigations.specs.LiveViews.{of_cuid, live_views_of};
 
 use crate::row::Row;
 use dots_history::Put;
@@ -29,17 +29,17 @@ pub struct Mitigations<'a> {
 
 impl<'a> Model for Mitigations<'a> {
     ghost use Rattle.std.specs.Prelude.{List};
-    ghost use Rattle.live_mitigations.specs.Reading.{Shown, shown_of};
+    ghost use Rattle.live_mitigations.specs.LiveViews.{LiveView, live_views_of};
 
-    ghost Value = { List Shown };
+    ghost Value = { List LiveView };
 
-    ghost view = { λ rows. shown_of rows.now rows.cuid.now rows.left.now };
+    ghost view = { λ rows. live_views_of rows.now rows.cuid.now rows.left.now };
 }
 
 impl<'a> Mitigations<'a> {
     /// Those of the client among these, at this time.
     pub(crate) fn of(left: &'a [Row], cuid: &'a [u8], now: u64) -> Mitigations<'a>
-        ensures { result ≡ shown_of now cuid.now left.now }
+        ensures { result ≡ live_views_of now cuid.now left.now }
     {
         Mitigations { left, cuid, now }
     }
@@ -49,7 +49,7 @@ impl<'a> Iterator for Mitigations<'a> {
     type Item = MitigationRow<'a>;
 
     ghost use Rattle.std.specs.Iterator.{YieldsFirstBy, item_count};
-    ghost use Rattle.live_mitigations.specs.Reading.{row_view};
+    ghost use Rattle.live_mitigations.specs.LiveViews.{row_view};
 
     ghost next_gives = { YieldsFirstBy row_view (λ rows. rows) };
 

@@ -1,7 +1,7 @@
 //! A live mitigation.
 
 ghost use Rattle.std.specs.Prelude.{◌≡◌, ◌≤◌, ◌+◌, IfSome, IfNone, None, Some, nat_lt};
-ghost use Rattle.dots_history.specs.Entries.{ends, withdraws, runs, same_client, replaces, takes_back, lasts, put_of};
+ghost use Rattle.dots_history.specs.Entries.{ends, withdraws, runs, same_client, replaces, takes_back, is_unexpired, put_of};
 ghost use Rattle.dots_history.specs.Histories.{step, live, seconds_left, seconds_of};
 ghost use Rattle.dots_history.specs.Keeping.{moved};
 ghost use Rattle.dots_history.specs.declared.status.Status.TheVariants.{Open};
@@ -10,7 +10,7 @@ ghost use Rattle.dots_laws.specs.Tables.{bare, end_of_grant};
 ghost use Rattle.live_mitigations.specs.Ends.{never, second_of, end_second};
 ghost use Rattle.live_mitigations.specs.Rows.{is_left};
 ghost use Rattle.live_mitigations.specs.Judging.{put_or_nothing};
-ghost use Rattle.live_mitigations.specs.Reading.{fitted, status_number};
+ghost use Rattle.live_mitigations.specs.LiveViews.{fitted, status_number};
 
 use conflict_rules::Mitigates;
 use dots_history::{Change, Entry, Put, Status, is_granted_at, overlaps, put_of, withdrawn_mid};
@@ -252,7 +252,7 @@ impl Row {
         self.status = self.step(entry);
     }
 
-    #[tactic(auto, unfolding(dots_history::specs::Entries::runs, dots_history::specs::Entries::lasts))]
+    #[tactic(auto, unfolding(dots_history::specs::Entries::runs, dots_history::specs::Entries::is_unexpired))]
     fn runs(&self, t: u64) -> bool
         ensures { result ≡ runs t self.now.put }
     {

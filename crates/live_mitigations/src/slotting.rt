@@ -12,7 +12,7 @@ use crate::slots::MitigationSlots;
 use dots_history::{Entry, SlotList, Status, is_live, number_in};
 
 /// Takes those out whose mitigations are over at this time.
-pub(crate) fn leave_slots(slots: &mut Vec<MitigationSlots>, rows: &[Row], now: u64)
+pub(crate) fn retain_slots(slots: &mut Vec<MitigationSlots>, rows: &[Row], now: u64)
     requires { length rows.now ≡ length slots.old.items }
     ensures items { slots.new.items ≡ slots_at now rows.now slots.old.items }
     ensures capacity { vec_capacity slots.new ≡ vec_capacity slots.old }
@@ -20,12 +20,12 @@ pub(crate) fn leave_slots(slots: &mut Vec<MitigationSlots>, rows: &[Row], now: u
     let mut at = rows.len();
     while at > 0 {
         at -= 1;
-        leave_one(slots, at, &rows[at], now);
+        retain_one(slots, at, &rows[at], now);
     }
 }
 
 /// Takes the one at this place out if its mitigation is over at this time.
-fn leave_one(slots: &mut Vec<MitigationSlots>, at: usize, row: &Row, now: u64)
+fn retain_one(slots: &mut Vec<MitigationSlots>, at: usize, row: &Row, now: u64)
     requires { at < length slots.old.items }
     ensures items { slots.new.items ≡ replaced at (if_live_at now row.now) slots.old.items }
     ensures capacity { vec_capacity slots.new ≡ vec_capacity slots.old }

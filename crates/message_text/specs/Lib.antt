@@ -1,2 +1,2 @@
 pub mod MessageText
-pub mod Showing
+pub mod Printing

@@ -1,12 +1,12 @@
 //! The text of a CoAP message: what a command prints of bytes, for people who look at a capture.
 //!
-//! [`show`] takes the bytes in hexadecimal and answers the lines that say the message that they spell, or the one
-//! that names their first fault. The definitions are in `specs/`: `MessageText` (the lines) and `Showing`. The words are
+//! [`lines_of`] takes the bytes in hexadecimal and answers the lines that say the message that they spell, or the one
+//! that names their first fault. The definitions are in `specs/`: `MessageText` (the lines) and `Printing`. The words are
 //! those of RFC 7252.
 #![tactic(auto)]
 
 mod message_lines;
 mod pieces;
-mod showing;
+mod printing;
 
-pub use showing::{Shown, show};
+pub use printing::{Printed, lines_of};

@@ -5,4 +5,4 @@ pub mod Searching
 pub mod Counting
 pub mod Runs
 pub mod Covered
-pub mod Kept
+pub mod BesideRanks

@@ -3,7 +3,7 @@
 ghost use Rattle.std.specs.Prelude.{◌≡◌, ◌++◌, ◌<◌, ◌^◌, length, IfOk, IfSome, OnOk, IsUtf8, FitsSigned};
 ghost use Rattle.std.specs.Int.{w32};
 ghost use Rattle.cbor_profile.specs.Tree.{unsigned, text, array};
-ghost use Rattle.cbor_profile.specs.View.{tree_of, trees, tree_pairs, items_of};
+ghost use Rattle.cbor_profile.specs.ItemTrees.{tree_of, trees, tree_pairs, items_of};
 ghost use Rattle.cbor_profile.specs.Within.{IsWithin};
 ghost use Rattle.reply_bodies.specs.Maps.{field, listed, numbered, sole, integer};
 

@@ -3,7 +3,7 @@
 ghost use Rattle.std.specs.Prelude.{◌≡◌, IfOk, OnOk};
 ghost use Rattle.cbor_profile.specs.Canon.{canon};
 ghost use Rattle.cbor_profile.specs.Valid.{IsValid};
-ghost use Rattle.cbor_profile.specs.View.{tree_of};
+ghost use Rattle.cbor_profile.specs.ItemTrees.{tree_of};
 ghost use Rattle.cbor_profile.specs.Within.{IsWithin};
 ghost use Rattle.reply_bodies.specs.Requests.{request_scope, request_tree};
 

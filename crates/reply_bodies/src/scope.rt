@@ -2,7 +2,7 @@
 
 ghost use Rattle.std.specs.Prelude.{◌≡◌, ◌++◌, map, IfOk, OnOk};
 ghost use Rattle.cbor_profile.specs.Valid.{IsValid};
-ghost use Rattle.cbor_profile.specs.View.{tree_of, trees, tree_pairs};
+ghost use Rattle.cbor_profile.specs.ItemTrees.{tree_of, trees, tree_pairs};
 ghost use Rattle.cbor_profile.specs.Within.{IsWithin};
 ghost use Rattle.reply_bodies.specs.Mitigations.{granted_scope, granted_tree, config_fields, config_part, state_fields, state_part, scope_of, views_tree, mitigations_with};
 ghost use Rattle.reply_bodies.specs.Within.{AreFieldsWithin, AllWithin};

@@ -2,7 +2,7 @@
 
 ghost use Rattle.std.specs.Prelude.{◌≡◌, ◌++◌, ◌<◌, ◌^◌, IfOk, OnOk};
 ghost use Rattle.cbor_profile.specs.Valid.{IsValid};
-ghost use Rattle.cbor_profile.specs.View.{tree_of, tree_pairs};
+ghost use Rattle.cbor_profile.specs.ItemTrees.{tree_of, tree_pairs};
 ghost use Rattle.cbor_profile.specs.Within.{IsWithin};
 ghost use Rattle.reply_bodies.specs.Sessions.{decimal, number_field, decimal_field, values, configuration, session_tree, beat_tree};
 

@@ -2,7 +2,7 @@
 
 ghost use Rattle.std.specs.Prelude.{◌≡◌, ◌++◌, map, IfOk, OnOk};
 ghost use Rattle.cbor_profile.specs.Tree.{text, unsigned};
-ghost use Rattle.cbor_profile.specs.View.{tree_of, trees, tree_pairs};
+ghost use Rattle.cbor_profile.specs.ItemTrees.{tree_of, trees, tree_pairs};
 ghost use Rattle.cbor_profile.specs.Within.{IsWithin};
 ghost use Rattle.reply_bodies.specs.Mitigations.{prefix_tree, range_tree, asked_fields};
 ghost use Rattle.reply_bodies.specs.Within.{AreFieldsWithin, AllWithin};

@@ -11,7 +11,7 @@ use Rattle.session_core.specs.declared.contact.Beat.{Beat}
 use Rattle.session_core.specs.Contacts.{is_of, unheard, row_heard, row_begun, row_numbered, with_row}
 use Rattle.session_core.specs.Firsts.{IsFirst}
 use Rattle.session_core.specs.Beating.{Beating, has_lost, row_forgotten, has_due, row_sent, IsNextBeat}
-use Rattle.session_core.specs.Spacing.{Call, Hears, Begins, Numbers, Loses, Beats, Leaves, Run, IsSince, AreSince}
+use Rattle.session_core.specs.Spacing.{Call, Hears, Begins, Numbers, Loses, Beats, Makes, Run, IsSince, AreSince}
 use Rattle.session_core.proofs.Turns.{due, NotBefore, hearing_keeps, beginning_keeps, numbering_keeps, forgetting_keeps, sending_keeps, begun_peer}
 
 -- each row of the peer
@@ -60,7 +60,7 @@ change_one peer time other becomes (row ∷ rows) names keeps all =
 
 -- ---- calls
 
-call_keeps : (peer time : ℕ) (call : Call) (old new : List PeerContact) → IsSince time call → Since peer time old → Leaves old call new → Since peer time new
+call_keeps : (peer time : ℕ) (call : Call) (old new : List PeerContact) → IsSince time call → Since peer time old → Makes old call new → Since peer time new
 call_keeps peer time (Hears other now) old new since all is =
     let P : List PeerContact → Type 0 = Since peer time in
     subst P (sym is) (change_one peer time other (row_heard now) old (λ row. refl) (λ row before. hearing_keeps time now row since before) all)
@@ -115,7 +115,7 @@ counted_with peer other becomes (row ∷ rows) names =
           ∙ ap (λ n. (if is_of peer row then 1 else 0) + n) (counted_with peer other becomes rows names)
     ]
 
-counted_call : (peer : ℕ) (call : Call) (old new : List PeerContact) → Leaves old call new → tally (is_of peer) new ≡ tally (is_of peer) old
+counted_call : (peer : ℕ) (call : Call) (old new : List PeerContact) → Makes old call new → tally (is_of peer) new ≡ tally (is_of peer) old
 counted_call peer (Hears other now) old new is = ap (tally (is_of peer)) is ∙ counted_with peer other (row_heard now) old (λ row. refl)
 counted_call peer (Begins other now) old new is = ap (tally (is_of peer)) is ∙ counted_with peer other (row_begun now) old (begun_peer now)
 counted_call peer (Numbers other) old new is = ap (tally (is_of peer)) is ∙ counted_with peer other row_numbered old (λ row. refl)

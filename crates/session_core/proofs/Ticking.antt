@@ -26,7 +26,7 @@ turn test becomes row = if test row then becomes row else row
 
 Chain : (PeerContact → Bool) → (PeerContact → PeerContact) → List PeerContact → List PeerContact → List PeerContact → Type 0
 Chain test becomes old [] new = IsNowhere test old new
-Chain test becomes old (row ∷ rows) new = (mid : List PeerContact) × IsFirst test becomes old mid row × Chain test becomes mid rows new
+Chain test becomes old (row ∷ rows) new = (between : List PeerContact) × IsFirst test becomes old between row × Chain test becomes between rows new
 
 none_filtered : (test : PeerContact → Bool) (xs : List PeerContact) → list_any test xs ≡ false → filter test xs ≡ []
 none_filtered test [] none = refl

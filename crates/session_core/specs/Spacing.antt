@@ -15,17 +15,17 @@ pub data Call : Type 0 where
   Beats : Beating → ℕ → Option Beat → Call
 
 -- what is kept after a call
-abbrev pub Leaves : List PeerContact → Call → List PeerContact → Type 0
-Leaves old (Hears peer now) new = new ≡ heard_from peer now old
-Leaves old (Begins peer now) new = new ≡ begun_with peer now old
-Leaves old (Numbers peer) new = new ≡ numbered peer old
-Leaves old (Loses beats now lost) new = MatchOption lost (NoneLost beats now old new) (λ peer. IsNextLost beats now old new peer)
-Leaves old (Beats beats now given) new = MatchOption given (NoneBeats beats now old new) (λ beat. IsNextBeat beats now old new beat)
+abbrev pub Makes : List PeerContact → Call → List PeerContact → Type 0
+Makes old (Hears peer now) new = new ≡ heard_from peer now old
+Makes old (Begins peer now) new = new ≡ begun_with peer now old
+Makes old (Numbers peer) new = new ≡ numbered peer old
+Makes old (Loses beats now lost) new = MatchOption lost (NoneLost beats now old new) (λ peer. IsNextLost beats now old new peer)
+Makes old (Beats beats now given) new = MatchOption given (NoneBeats beats now old new) (λ beat. IsNextBeat beats now old new beat)
 
 -- one call after the other
 abbrev pub Run : List PeerContact → List Call → List PeerContact → Type 0
 Run old [] new = new ≡ old
-Run old (call ∷ calls) new = (mid : List PeerContact) × Leaves old call mid × Run mid calls new
+Run old (call ∷ calls) new = (between : List PeerContact) × Makes old call between × Run between calls new
 
 -- no call is of an earlier time
 abbrev pub IsSince : ℕ → Call → Type 0
@@ -44,15 +44,15 @@ AreSince time (call ∷ calls) = IsSince time call × AreSince time calls
 -- these are the peers whose sessions are lost
 abbrev pub LosesAll : Beating → ℕ → List PeerContact → List ℕ → List PeerContact → Type 0
 LosesAll beats now old [] new = NoneLost beats now old new
-LosesAll beats now old (peer ∷ lost) new = (mid : List PeerContact) × IsNextLost beats now old mid peer × LosesAll beats now mid lost new
+LosesAll beats now old (peer ∷ lost) new = (between : List PeerContact) × IsNextLost beats now old between peer × LosesAll beats now between lost new
 
 -- these are the heartbeats
 abbrev pub BeatsAll : Beating → ℕ → List PeerContact → List Beat → List PeerContact → Type 0
 BeatsAll beats now old [] new = NoneBeats beats now old new
-BeatsAll beats now old (beat ∷ given) new = (mid : List PeerContact) × IsNextBeat beats now old mid beat × BeatsAll beats now mid given new
+BeatsAll beats now old (beat ∷ given) new = (between : List PeerContact) × IsNextBeat beats now old between beat × BeatsAll beats now between given new
 
 abbrev pub Tick : Beating → ℕ → List PeerContact → List ℕ → List Beat → List PeerContact → Type 0
-Tick beats now old lost given new = (mid : List PeerContact) × LosesAll beats now old lost mid × BeatsAll beats now mid given new
+Tick beats now old lost given new = (between : List PeerContact) × LosesAll beats now old lost between × BeatsAll beats now between given new
 
 -- a session that is lost is forgotten
 abbrev pub without_lost : Beating → ℕ → PeerContact → PeerContact

@@ -14,14 +14,14 @@ use Rattle.entry_records.specs.Records.{IsRecord}
 use Rattle.entry_records.proofs.Places.{one_entry}
 use Rattle.slot_store.specs.declared.fault.OpenFault.TheVariants as opening
 use Rattle.slot_store.specs.Layout.{place_of, IsHeader, IsSlot, IsHalf, IsBlank, IsJournal, HoldsRecords, header_of}
-use Rattle.slot_store.specs.Standing.{JournalValue}
+use Rattle.slot_store.specs.StoreValues.{JournalValue}
 use Rattle.slot_store.specs.Refusing.{RefusesDisk, IsOtherHeader, IsStrayGate, IsOfOthers, FirstWrong, front, rest, size}
 use Rattle.slot_store.proofs.Steps.{Images, image_at_rest, rests_as}
-use Rattle.slot_store.proofs.Keeping.{gate_of_header, one_list}
+use Rattle.slot_store.proofs.SameRecords.{gate_of_header, one_list}
 use Rattle.slot_journal.specs.declared.fault.JournalFault.{JournalFault}
 use Rattle.slot_journal.specs.declared.fault.JournalFault.TheVariants as fault
 use Rattle.slot_journal.specs.Sizes.{slots_of}
-use Rattle.slot_journal.specs.Held.{HasRecord, Holds, HoldsEither, StandsFor, records_of}
+use Rattle.slot_journal.specs.DiskEntries.{HasRecord, Holds, HoldsEither, Represents, records_of}
 use Rattle.slot_journal.specs.Left.{IsLeftOf, IsLeft}
 use Rattle.slot_journal.proofs.Writing.{holds}
 use Rattle.slot_journal.specs.Refused.{Refuses, IsRefusal, IsBadSlot, IsGap, HoldsFirst, IsStray}
@@ -137,12 +137,12 @@ held_not_refused settings extent image entries fault.NoMemory holds refuses refu
 
 -- ---- what is recovered after a crash
 
-stands_holds : (journal : JournalValue) (settings : SettingsValue) (entries : List Entry) (image : ℕ → ℕ) → StandsFor journal settings entries image → Holds settings image entries
-stands_holds journal settings entries image is = holds settings journal.slots image (records_of entries) entries is.slots (record { same = refl; each = is.each }) (inr is.stands.journal)
+stands_holds : (journal : JournalValue) (settings : SettingsValue) (entries : List Entry) (image : ℕ → ℕ) → Represents journal settings entries image → Holds settings image entries
+stands_holds journal settings entries image is = holds settings journal.slots image (records_of entries) entries is.slots (record { same = refl; each = is.each }) (inr is.represents.journal)
 
-pub left_holds : (old new : Option Media) (journal : JournalValue) (settings : SettingsValue) (before after : List Entry) (image : ℕ → ℕ) → RestsWith old (StandsFor journal settings before) → Leaves old new (HoldsEither settings before after) → IsLeft old new image → HoldsEither settings before after image
+pub left_holds : (old new : Option Media) (journal : JournalValue) (settings : SettingsValue) (before after : List Entry) (image : ℕ → ℕ) → RestsWith old (Represents journal settings before) → Leaves old new (HoldsEither settings before after) → IsLeft old new image → HoldsEither settings before after image
 left_holds old new journal settings before after image rests leaves left =
-    left_has old new (HoldsEither settings before after) image (rests_as old (StandsFor journal settings before) (HoldsEither settings before after) (λ image is. inl (stands_holds journal settings before image is)) rests) leaves left
+    left_has old new (HoldsEither settings before after) image (rests_as old (Represents journal settings before) (HoldsEither settings before after) (λ image is. inl (stands_holds journal settings before image is)) rests) leaves left
 
 pub one_history : (settings : SettingsValue) (image : ℕ → ℕ) (first second : List Entry) → Holds settings image first → Holds settings image second → first ≡ second
 one_history settings image first second one other = same_entries first second one.each other.each (one_list (slots_of settings) settings.digest image (records_of first) (records_of second) one.records other.records) one_entry

@@ -13,10 +13,10 @@ use Rattle.slot_store.specs.Layout.{place_of, needed_of, IsSlot, IsHalf}
 use Rattle.slot_store.specs.Gates.{is_wanted}
 use Rattle.slot_store.specs.Gates.{NoneIs, IsFirst}
 use Rattle.slot_store.specs.Refusing.{IsCount}
-use Rattle.slot_store.specs.Standing.{IsFound}
+use Rattle.slot_store.specs.StoreValues.{IsFound}
 use Rattle.slot_journal.specs.declared.fault.JournalFault.{JournalFault}
 use Rattle.slot_journal.specs.declared.fault.JournalFault.TheVariants as fault
-use Rattle.slot_journal.specs.Held.{HasRecord, records_of}
+use Rattle.slot_journal.specs.DiskEntries.{HasRecord, records_of}
 use Rattle.slot_journal.specs.Refused.{IsNoRecord, RefusesSlot, RefusesRest, RefusesHalf, HoldsFirst, IsStray, AreClosed, IsBadSlot, IsGap}
 use Rattle.slot_journal.proofs.Listed.{records_push}
 

@@ -6,7 +6,7 @@ use Rattle.std.proofs.lemmas.List.{map-append}
 use Rattle.dots_history.specs.declared.entry.Entry.{Entry}
 use Rattle.entry_records.specs.Layout.{record_bytes}
 use Rattle.slot_store.specs.Copying.{AreSlots, kept_of}
-use Rattle.slot_journal.specs.Held.{HasRecord, records_of, entries_at}
+use Rattle.slot_journal.specs.DiskEntries.{HasRecord, records_of, entries_at}
 
 pub all_push : {A : Type 0} (P : A → Type 0) (xs : List A) (x : A) → AllByRecursion P xs → P x → AllByRecursion P (xs ++ x ∷ [])
 all_push P [] x all here = (here, tt)

@@ -14,36 +14,36 @@ use Rattle.slot_store.specs.Layout.{place_of, IsHeader, IsHalf, IsBlank, IsJourn
 use Rattle.slot_store.specs.Opening.{Is}
 use Rattle.slot_store.specs.Gates.{Sees}
 use Rattle.slot_store.specs.Refusing.{Refuses as RefusesStore, IsOpen, IsCount, Caused as CausedOpening}
-use Rattle.slot_store.specs.Standing.{JournalValue, Stands, IsKnown}
+use Rattle.slot_store.specs.StoreValues.{JournalValue, RepresentsRecords, IsKnown}
 use Rattle.slot_store.proofs.Steps.{leaves_as, leaves_then, seen_at_rest, rests_as}
-use Rattle.slot_store.proofs.Reading.{sees_at_rest, rests_kept, leaves_kept}
+use Rattle.slot_store.proofs.DiskReading.{sees_at_rest, rests_kept, leaves_kept}
 use Rattle.slot_store.proofs.Counting.{opened_journal}
-use Rattle.slot_store.proofs.Keeping.{one_list}
+use Rattle.slot_store.proofs.SameRecords.{one_list}
 use Rattle.slot_journal.specs.declared.fault.JournalFault.{JournalFault}
 use Rattle.slot_journal.specs.declared.fault.JournalFault.TheVariants as fault
 use Rattle.slot_journal.specs.Sizes.{slots_of}
-use Rattle.slot_journal.specs.Held.{HasRecord, Holds, StandsFor, records_of}
-use Rattle.slot_journal.specs.Refused.{Refuses, RefusesHalf, IsBadSlot, IsGap, IsToldAs, Caused}
+use Rattle.slot_journal.specs.DiskEntries.{HasRecord, Holds, Represents, records_of}
+use Rattle.slot_journal.specs.Refused.{Refuses, RefusesHalf, IsBadSlot, IsGap, IsFaultFor, Caused}
 use Rattle.slot_journal.proofs.Writing.{AreOf, holds}
 
 -- ---- the faults of the slots
 
-pub told_refuses : (settings : SettingsValue) (extent : ℕ) (seen : ℕ → ℕ) (why : OpenFault) (told : JournalFault) → IsToldAs why settings.digest told → RefusesStore (slots_of settings) settings.digest extent seen why → Refuses settings extent seen told
-told_refuses settings extent seen (opening.TooSmall needed found) told is refuses = subst (Refuses settings extent seen) (sym is) refuses
-told_refuses settings extent seen (opening.NotOurs at) told is refuses = subst (Refuses settings extent seen) (sym is) (inl refuses)
-told_refuses settings extent seen (opening.SettingsChanged stored) told is refuses = subst (Refuses settings extent seen) (sym is) (refuses, refl)
-told_refuses settings extent seen opening.DiskFault told is refuses = subst (Refuses settings extent seen) (sym is) tt
-told_refuses settings extent seen opening.NoMemory told is refuses = subst (Refuses settings extent seen) (sym is) tt
+pub fault_refuses : (settings : SettingsValue) (extent : ℕ) (seen : ℕ → ℕ) (why : OpenFault) (answer : JournalFault) → IsFaultFor why settings.digest answer → RefusesStore (slots_of settings) settings.digest extent seen why → Refuses settings extent seen answer
+fault_refuses settings extent seen (opening.TooSmall needed found) answer is refuses = subst (Refuses settings extent seen) (sym is) refuses
+fault_refuses settings extent seen (opening.NotOurs at) answer is refuses = subst (Refuses settings extent seen) (sym is) (inl refuses)
+fault_refuses settings extent seen (opening.SettingsChanged stored) answer is refuses = subst (Refuses settings extent seen) (sym is) (refuses, refl)
+fault_refuses settings extent seen opening.DiskFault answer is refuses = subst (Refuses settings extent seen) (sym is) tt
+fault_refuses settings extent seen opening.NoMemory answer is refuses = subst (Refuses settings extent seen) (sym is) tt
 
-pub told_other : (why : OpenFault) (given : List ℕ) (told : JournalFault) → IsToldAs why given told → told ≢ fault.DiskFault → why ≢ opening.DiskFault
-told_other why given told is other same = other (subst (λ why. IsToldAs why given told) same is)
+pub fault_other : (why : OpenFault) (given : List ℕ) (answer : JournalFault) → IsFaultFor why given answer → answer ≢ fault.DiskFault → why ≢ opening.DiskFault
+fault_other why given answer is other same = other (subst (λ why. IsFaultFor why given answer) same is)
 
-pub told_caused : (why : OpenFault) (given : List ℕ) (told : JournalFault) (before now : ℕ) → IsToldAs why given told → CausedOpening {A = ⊤} before now (Err why) → Caused {A = ⊤} before now (Err told)
-told_caused (opening.TooSmall needed found) given told before now is cause = subst (λ told. Caused {A = ⊤} before now (Err told)) (sym is) cause
-told_caused (opening.NotOurs at) given told before now is cause = subst (λ told. Caused {A = ⊤} before now (Err told)) (sym is) cause
-told_caused (opening.SettingsChanged stored) given told before now is cause = subst (λ told. Caused {A = ⊤} before now (Err told)) (sym is) cause
-told_caused opening.DiskFault given told before now is cause = subst (λ told. Caused {A = ⊤} before now (Err told)) (sym is) cause
-told_caused opening.NoMemory given told before now is cause = subst (λ told. Caused {A = ⊤} before now (Err told)) (sym is) cause
+pub fault_caused : (why : OpenFault) (given : List ℕ) (answer : JournalFault) (before now : ℕ) → IsFaultFor why given answer → CausedOpening {A = ⊤} before now (Err why) → Caused {A = ⊤} before now (Err answer)
+fault_caused (opening.TooSmall needed found) given answer before now is cause = subst (λ answer. Caused {A = ⊤} before now (Err answer)) (sym is) cause
+fault_caused (opening.NotOurs at) given answer before now is cause = subst (λ answer. Caused {A = ⊤} before now (Err answer)) (sym is) cause
+fault_caused (opening.SettingsChanged stored) given answer before now is cause = subst (λ answer. Caused {A = ⊤} before now (Err answer)) (sym is) cause
+fault_caused opening.DiskFault given answer before now is cause = subst (λ answer. Caused {A = ⊤} before now (Err answer)) (sym is) cause
+fault_caused opening.NoMemory given answer before now is cause = subst (λ answer. Caused {A = ⊤} before now (Err answer)) (sym is) cause
 
 -- ---- a half that was read of a disk that was opened
 
@@ -70,40 +70,40 @@ is_read settings store entries seen image known half = by_cases known.opened.cas
 
 pub record IsRecovered (settings : SettingsValue) (store : JournalValue) (entries : List Entry) (seen : ℕ → ℕ) (new : Option Media) : Type 0 where
   pub held : Holds settings seen entries
-  pub rests : RestsWith new (StandsFor store settings entries)
+  pub rests : RestsWith new (Represents store settings entries)
 
-pub recovered : (mid new : Option Media) (settings : SettingsValue) (store : JournalValue) (entries : List Entry) (seen : ℕ → ℕ) → store.slots ≡ slots_of settings → RestsWith mid (IsKnown store settings.digest seen) → KeepsMedia mid new
+pub recovered : (between new : Option Media) (settings : SettingsValue) (store : JournalValue) (entries : List Entry) (seen : ℕ → ℕ) → store.slots ≡ slots_of settings → RestsWith between (IsKnown store settings.digest seen) → KeepsMedia between new
     → length entries ≡ store.used → AllByRecursion HasRecord entries
-    → ((image : ℕ → ℕ) → Sees mid image → IsCount store.slots (store.selector % 2) image store.used → IsHalf store.slots (store.selector % 2) image (records_of entries))
+    → ((image : ℕ → ℕ) → Sees between image → IsCount store.slots (store.selector % 2) image store.used → IsHalf store.slots (store.selector % 2) image (records_of entries))
     → IsRecovered settings store entries seen new
-recovered mid new settings store entries seen size known keeps count each half =
-    let found = seen_at_rest mid (IsKnown store settings.digest seen) known in
-    let read = is_read settings store entries seen found.0 found.2 (half found.0 (sees_at_rest mid found.0 found.1) found.2.count) in
+recovered between new settings store entries seen size known keeps count each half =
+    let found = seen_at_rest between (IsKnown store settings.digest seen) known in
+    let read = is_read settings store entries seen found.0 found.2 (half found.0 (sees_at_rest between found.0 found.1) found.2.count) in
     let used : store.used ≡ length (records_of entries) = sym count ∙ sym (length-map entries record_bytes) in
-    let stands : StandsFor store settings entries found.0 = record {
+    let represents : Represents store settings entries found.0 = record {
       slots = size;
-      stands = record { journal = read.journal; used = used; selector = found.2.opened.selector_there };
+      represents = record { journal = read.journal; used = used; selector = found.2.opened.selector_there };
       each = each;
     } in
     record {
       held = holds settings store.slots seen (records_of entries) entries size (record { same = refl; each = each }) read.held;
-      rests = rests_kept mid new (StandsFor store settings entries) keeps (rests_as mid (Is found.0) (StandsFor store settings entries) (λ image same. subst (StandsFor store settings entries) (sym same) stands) found.1);
+      rests = rests_kept between new (Represents store settings entries) keeps (rests_as between (Is found.0) (Represents store settings entries) (λ image same. subst (Represents store settings entries) (sym same) represents) found.1);
     }
 
 -- ---- what is held stays held
 
-pub holds_opening : (start mid : Option Media) (settings : SettingsValue) (entries : List Entry) → AllByRecursion HasRecord entries → Leaves start mid (λ image. HoldsRecords (slots_of settings) settings.digest image (records_of entries)) → Leaves start mid (λ image. Holds settings image entries)
-holds_opening start mid settings entries each leaves =
-    leaves_as start mid (λ image. HoldsRecords (slots_of settings) settings.digest image (records_of entries)) (λ image. Holds settings image entries) (λ image is. record { records = is; each = each }) leaves
+pub holds_opening : (start between : Option Media) (settings : SettingsValue) (entries : List Entry) → AllByRecursion HasRecord entries → Leaves start between (λ image. HoldsRecords (slots_of settings) settings.digest image (records_of entries)) → Leaves start between (λ image. Holds settings image entries)
+holds_opening start between settings entries each leaves =
+    leaves_as start between (λ image. HoldsRecords (slots_of settings) settings.digest image (records_of entries)) (λ image. Holds settings image entries) (λ image is. record { records = is; each = each }) leaves
 
-pub holds_reading : (start mid new : Option Media) (settings : SettingsValue) (store : JournalValue) (entries : List Entry) (seen : ℕ → ℕ) → store.slots ≡ slots_of settings → Holds settings seen entries → RestsWith mid (IsKnown store settings.digest seen) → KeepsMedia mid new
-    → Leaves start mid (λ image. HoldsRecords (slots_of settings) settings.digest image (records_of entries)) → Leaves start new (λ image. Holds settings image entries)
-holds_reading start mid new settings store entries seen size is known keeps leaves =
-    let found = seen_at_rest mid (IsKnown store settings.digest seen) known in
+pub holds_reading : (start between new : Option Media) (settings : SettingsValue) (store : JournalValue) (entries : List Entry) (seen : ℕ → ℕ) → store.slots ≡ slots_of settings → Holds settings seen entries → RestsWith between (IsKnown store settings.digest seen) → KeepsMedia between new
+    → Leaves start between (λ image. HoldsRecords (slots_of settings) settings.digest image (records_of entries)) → Leaves start new (λ image. Holds settings image entries)
+holds_reading start between new settings store entries seen size is known keeps leaves =
+    let found = seen_at_rest between (IsKnown store settings.digest seen) known in
     let opened : IsOpen (slots_of settings) settings.digest seen store.selector found.0 = subst (λ slots. IsOpen slots settings.digest seen store.selector found.0) size found.2.opened in
     let journal = opened_journal (slots_of settings) settings.digest seen found.0 store.selector (records_of entries) opened is.records in
-    leaves_then start mid new (λ image. Holds settings image entries) (holds_opening start mid settings entries is.each leaves)
-    (leaves_kept mid new found.0 (λ image. Holds settings image entries) keeps found.1 (record { records = inr journal; each = is.each }))
+    leaves_then start between new (λ image. Holds settings image entries) (holds_opening start between settings entries is.each leaves)
+    (leaves_kept between new found.0 (λ image. Holds settings image entries) keeps found.1 (record { records = inr journal; each = is.each }))
 
 -- ---- why a half is refused
 
@@ -128,11 +128,11 @@ open_of : (slots half : ℕ) (seen : ℕ → ℕ) (at : ℕ) → Bad slots half 
 open_of slots half seen at (inl bad) = (length bad.before, bad.within, ap seen (sym bad.there) ∙ bad.gate)
 open_of slots half seen at (inr gap) = (gap.slot, gap.within, ap seen (sym gap.there) ∙ gap.gate)
 
-pub half_refuses : (mid : Option Media) (settings : SettingsValue) (store : JournalValue) (extent : ℕ) (seen : ℕ → ℕ) (why : JournalFault) → store.slots ≡ slots_of settings → RestsWith mid (IsKnown store settings.digest seen)
-    → ((image : ℕ → ℕ) → Sees mid image → IsCount store.slots (store.selector % 2) image store.used → RefusesHalf store.slots (store.selector % 2) image why) → Refuses settings extent seen why
-half_refuses mid settings store extent seen why size known refuses =
-    let found = seen_at_rest mid (IsKnown store settings.digest seen) known in
-    by_fault why found.0 found.2 (refuses found.0 (sees_at_rest mid found.0 found.1) found.2.count)
+pub half_refuses : (between : Option Media) (settings : SettingsValue) (store : JournalValue) (extent : ℕ) (seen : ℕ → ℕ) (why : JournalFault) → store.slots ≡ slots_of settings → RestsWith between (IsKnown store settings.digest seen)
+    → ((image : ℕ → ℕ) → Sees between image → IsCount store.slots (store.selector % 2) image store.used → RefusesHalf store.slots (store.selector % 2) image why) → Refuses settings extent seen why
+half_refuses between settings store extent seen why size known refuses =
+    let found = seen_at_rest between (IsKnown store settings.digest seen) known in
+    by_fault why found.0 found.2 (refuses found.0 (sees_at_rest between found.0 found.1) found.2.count)
   where
     by_fault : (why : JournalFault) (image : ℕ → ℕ) → IsKnown store settings.digest seen image → RefusesHalf store.slots (store.selector % 2) image why → Refuses settings extent seen why
     by_fault (fault.NotOurs at) image is bad =
@@ -149,13 +149,13 @@ half_refuses mid settings store extent seen why size known refuses =
     by_fault (fault.SettingsChanged stored given) image is bad = absurd bad
 
 -- a disk of which a half was refused was not written
-pub not_written : (mid new : Option Media) (digest : List ℕ) (store : JournalValue) (seen : ℕ → ℕ) (why : JournalFault) → why ≢ fault.DiskFault → RestsWith mid (IsKnown store digest seen) → KeepsMedia mid new → (why ≡ fault.NoMemory → 0 < store.used)
-    → ((image : ℕ → ℕ) → Sees mid image → IsCount store.slots (store.selector % 2) image store.used → RefusesHalf store.slots (store.selector % 2) image why) → RestsWith new (Is seen)
-not_written mid new digest store seen why other known keeps some refuses =
-    let found = seen_at_rest mid (IsKnown store digest seen) known in
-    let opened = by_fault why found.0 found.2 other some (refuses found.0 (sees_at_rest mid found.0 found.1) found.2.count) in
+pub not_written : (between new : Option Media) (digest : List ℕ) (store : JournalValue) (seen : ℕ → ℕ) (why : JournalFault) → why ≢ fault.DiskFault → RestsWith between (IsKnown store digest seen) → KeepsMedia between new → (why ≡ fault.NoMemory → 0 < store.used)
+    → ((image : ℕ → ℕ) → Sees between image → IsCount store.slots (store.selector % 2) image store.used → RefusesHalf store.slots (store.selector % 2) image why) → RestsWith new (Is seen)
+not_written between new digest store seen why other known keeps some refuses =
+    let found = seen_at_rest between (IsKnown store digest seen) known in
+    let opened = by_fault why found.0 found.2 other some (refuses found.0 (sees_at_rest between found.0 found.1) found.2.count) in
     let was = as_it_was store digest seen found.0 opened.0 found.2 opened.1 opened.2 in
-    rests_kept mid new (Is seen) keeps (rests_as mid (Is found.0) (Is seen) (λ image same. same ∙ was.1) found.1)
+    rests_kept between new (Is seen) keeps (rests_as between (Is found.0) (Is seen) (λ image same. same ∙ was.1) found.1)
   where
     by_fault : (why : JournalFault) (image : ℕ → ℕ) → IsKnown store digest seen image → why ≢ fault.DiskFault → (why ≡ fault.NoMemory → 0 < store.used) → RefusesHalf store.slots (store.selector % 2) image why
         → (slot : ℕ) × (slot < store.slots) × (image (place_of store.slots (store.selector % 2) slot) ≡ 165)

@@ -1,5 +1,5 @@
 pub mod Sizes
-pub mod Held
+pub mod DiskEntries
 pub mod Refused
 pub mod Left
 pub mod FaultText

@@ -12,7 +12,7 @@ use Rattle.slot_store.specs.Refusing.{RefusesDisk}
 use Rattle.slot_journal.specs.declared.fault.JournalFault.{JournalFault}
 use Rattle.slot_journal.specs.declared.fault.JournalFault.TheVariants as fault
 use Rattle.slot_journal.specs.Sizes.{slots_of}
-use Rattle.slot_journal.specs.Held.{HasRecord, records_of}
+use Rattle.slot_journal.specs.DiskEntries.{HasRecord, records_of}
 
 -- what stands in the slot is the record of no entry
 abbrev pub IsStray : (ℕ → ℕ) → ℕ → Type 0
@@ -95,12 +95,12 @@ Caused before now (Err fault.DiskFault) = Rose before now
 Caused before now _ = now ≡ before
 
 -- what is told where the slots aren't opened under settings with this digest
-abbrev pub IsToldAs : OpenFault → List ℕ → JournalFault → Type 0
-IsToldAs (opening.TooSmall needed found) given told = told ≡ fault.TooSmall needed found
-IsToldAs (opening.NotOurs at) given told = told ≡ fault.NotOurs at
-IsToldAs (opening.SettingsChanged stored) given told = told ≡ fault.SettingsChanged stored given
-IsToldAs opening.DiskFault given told = told ≡ fault.DiskFault
-IsToldAs opening.NoMemory given told = told ≡ fault.NoMemory
+abbrev pub IsFaultFor : OpenFault → List ℕ → JournalFault → Type 0
+IsFaultFor (opening.TooSmall needed found) given answer = answer ≡ fault.TooSmall needed found
+IsFaultFor (opening.NotOurs at) given answer = answer ≡ fault.NotOurs at
+IsFaultFor (opening.SettingsChanged stored) given answer = answer ≡ fault.SettingsChanged stored given
+IsFaultFor opening.DiskFault given answer = answer ≡ fault.DiskFault
+IsFaultFor opening.NoMemory given answer = answer ≡ fault.NoMemory
 
 -- a disk is refused for what it holds
 abbrev pub IsRefusal : JournalFault → Type 0

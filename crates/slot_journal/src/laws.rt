@@ -9,7 +9,7 @@ ghost use Rattle.dots_history.specs.declared.entry.Entry.{Entry};
 ghost use Rattle.dots_history.specs.Bounds.{within_bounds};
 ghost use Rattle.slot_store.specs.Layout.{needed_of};
 ghost use Rattle.slot_store.specs.Gates.{Sees};
-ghost use Rattle.slot_journal.specs.Held.{Holds, StandsFor};
+ghost use Rattle.slot_journal.specs.DiskEntries.{Holds, Represents};
 ghost use Rattle.slot_journal.specs.Left.{IsLeft};
 ghost use Rattle.slot_journal.specs.Refused.{Refuses, IsRefusal, Caused};
 
@@ -56,8 +56,8 @@ pub fn survives_crash<D: Disk, C: Disk>(
 
     // Where the entry was appended, the journal rests with it behind those from before.
     ensures appended { IfOk result (λ answer. OnOk answer.0 ((before : List Entry) →
-        RestsWith (D.media disk.old) (StandsFor journal.old settings.now before) →
-        RestsWith (D.media disk.new) (StandsFor journal.new settings.now (before ++ entry.now ∷ [])))) }
+        RestsWith (D.media disk.old) (Represents journal.old settings.now before) →
+        RestsWith (D.media disk.new) (Represents journal.new settings.now (before ++ entry.now ∷ [])))) }
 
     // Whatever the other disk held, it held the entries that are recovered.
     ensures recovered { IfOk result (λ answer. (seen : ℕ → ℕ) → Sees (C.media left.old) seen →
@@ -65,13 +65,13 @@ pub fn survives_crash<D: Disk, C: Disk>(
 
     // They are those from before, or these and the new one, at whichever moment the crash comes, and whatever it leaves.
     ensures survived { IfOk result (λ answer. (before : List Entry) (image : ℕ → ℕ) →
-        RestsWith (D.media disk.old) (StandsFor journal.old settings.now before) →
+        RestsWith (D.media disk.old) (Represents journal.old settings.now before) →
         IsLeft (D.media disk.old) (D.media disk.new) image → Sees (C.media left.old) image →
         (answer.1 ≡ before) ⊎ (answer.1 ≡ before ++ entry.now ∷ [])) }
 
     // The disk that was left is never refused for what it holds, and another only for what it holds.
     ensures spared { IfErr result (λ fault. (before : List Entry) (image : ℕ → ℕ) →
-        RestsWith (D.media disk.old) (StandsFor journal.old settings.now before) →
+        RestsWith (D.media disk.old) (Represents journal.old settings.now before) →
         IsLeft (D.media disk.old) (D.media disk.new) image → Sees (C.media left.old) image →
         IsRefusal fault → ⊥) }
     ensures refused { IfErr result (λ fault. (seen : ℕ → ℕ) → Sees (C.media left.old) seen →

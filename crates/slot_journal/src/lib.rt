@@ -1,7 +1,7 @@
 //! The journal of a server: its accepted entries on a disk that may stop at any moment.
 //!
 //! A [`Journal`] keeps one record of each entry in a slot of the disk. Whenever a crash comes, what is left on the disk
-//! holds the entries from before the call, or those after it, and [`Journal::recover`] answers them. Read `specs/Held.antt`
+//! holds the entries from before the call, or those after it, and [`Journal::recover`] answers them. Read `specs/DiskEntries.antt`
 //! first, then [`Journal`]; `specs/Refused.antt` says why a disk isn't recovered.
 #![tactic(auto)]
 

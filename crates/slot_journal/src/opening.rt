@@ -5,9 +5,9 @@ ghost use Rattle.dots_disk.specs.Becoming.{Leaves, RestsWith};
 ghost use Rattle.slot_store.specs.Layout.{needed_of, HoldsRecords};
 ghost use Rattle.slot_store.specs.Opening.{Is};
 ghost use Rattle.slot_store.specs.Gates.{Sees};
-ghost use Rattle.slot_store.specs.Standing.{IsKnown};
+ghost use Rattle.slot_store.specs.StoreValues.{IsKnown};
 ghost use Rattle.slot_journal.specs.Sizes.{slots_of};
-ghost use Rattle.slot_journal.specs.Refused.{Refuses, Caused, IsToldAs};
+ghost use Rattle.slot_journal.specs.Refused.{Refuses, Caused, IsFaultFor};
 
 use crate::fault::JournalFault;
 use crate::size::slots;
@@ -17,8 +17,8 @@ use slot_store::{OpenFault, SlotStore};
 use std::alloc::Global;
 
 /// What is told where the slots aren't opened under settings with this digest.
-fn told_as(fault: OpenFault, given: [u8; 32]) -> JournalFault
-    ensures { IsToldAs fault given result }
+fn fault_for(fault: OpenFault, given: [u8; 32]) -> JournalFault
+    ensures { IsFaultFor fault given result }
 {
     match fault {
         OpenFault::TooSmall { needed, found } => return JournalFault::TooSmall { needed, found },
@@ -55,6 +55,6 @@ pub fn open_store<D: Disk>(
     let digest = settings.digest();
     match SlotStore::open(alloc, disk, slots(settings), &digest) {
         Ok(store) => return Ok(store),
-        Err(fault) => return Err(told_as(fault, digest)),
+        Err(fault) => return Err(fault_for(fault, digest)),
     }
 }

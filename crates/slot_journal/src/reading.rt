@@ -7,7 +7,7 @@ ghost use Rattle.entry_records.specs.Layout.{record_bytes};
 ghost use Rattle.slot_store.specs.Layout.{needed_of, IsSlot, IsHalf};
 ghost use Rattle.slot_store.specs.Gates.{Sees};
 ghost use Rattle.slot_store.specs.Refusing.{IsCount};
-ghost use Rattle.slot_journal.specs.Held.{HasRecord, records_of};
+ghost use Rattle.slot_journal.specs.DiskEntries.{HasRecord, records_of};
 ghost use Rattle.slot_journal.specs.Refused.{IsNoRecord, IsNoWant, RefusesSlot, RefusesRest, RefusesHalf, HoldsFirst, AreClosed, Caused};
 
 use crate::entries::EntryList;

@@ -3,10 +3,10 @@ use Rattle.std.proofs.Common.{◌≡◌, ◌≢◌, ℕ, ◌+◌, ◌*◌, ◌/�
 use Rattle.std.proofs.lemmas.Bool.{cases_eq}
 use Rattle.dots_disk.specs.Media.{bytes_at}
 use Rattle.slot_store.specs.Layout.{place_of, IsSlot, IsHalf, IsJournal}
-use Rattle.slot_store.specs.Standing.{HoldsEither, sized}
+use Rattle.slot_store.specs.StoreValues.{HoldsEither, sized}
 use Rattle.slot_store.specs.Opening.{IsOpening, IsOpened}
 use Rattle.slot_store.proofs.Places.{Agree, same_header, same_slot}
-use Rattle.slot_store.proofs.Keeping.{journal_kept, half_more}
+use Rattle.slot_store.proofs.SameRecords.{journal_kept, half_more}
 
 -- slots of a half lie behind the header and behind each other
 pub behind_header : (slots half slot place : ℕ) → place < 64 → place < place_of slots half slot

@@ -3,13 +3,13 @@ use Rattle.std.proofs.Common.{◌≡◌, ◌≢◌, ◌⊎◌, inl, inr, ℕ, �
 use Rattle.std.proofs.lemmas.Bool.{cases_eq, cond_both, eqb-true, eqb-false}
 use Rattle.std.proofs.lemmas.List.{get_or-map, length-map}
 use Rattle.slot_store.specs.Layout.{place_of, IsHeader, IsSlot, IsHalf, IsJournal}
-use Rattle.slot_store.specs.Standing.{JournalValue, Stands, HoldsEither}
+use Rattle.slot_store.specs.StoreValues.{JournalValue, RepresentsRecords, HoldsEither}
 use Rattle.slot_store.specs.Copying.{Elsewhere, IsCopy, AreSlots, HalfIsCopied, IsMoving, IsMoved, kept_of, other_selector}
 use Rattle.slot_store.specs.Opening.{Is}
 use Rattle.slot_store.proofs.Steps.{leaves_as, seen_at_rest, rests_as}
 use Rattle.dots_disk.specs.Media.{Media}
 use Rattle.dots_disk.specs.Becoming.{Leaves, RestsWith}
-use Rattle.slot_store.proofs.Keeping.{same_half}
+use Rattle.slot_store.proofs.SameRecords.{same_half}
 use Rattle.slot_store.proofs.Places.{moved_slot}
 use Rattle.slot_store.proofs.CopyStages.{halves_apart}
 
@@ -149,19 +149,19 @@ two_halves : (selector : ℕ) → selector % 2 < 2
 two_halves selector = omega arith
 
 pub compact_leaves : (start new : Option Media) (store : JournalValue) (digest : List ℕ) (records : List (List ℕ)) (keep : List ℕ) → length keep ≤ store.slots → AreSlots store.used keep
-    → ((seen : ℕ → ℕ) → RestsWith start (Is seen) → Leaves start new (IsMoving store.slots (store.selector % 2) keep seen)) → RestsWith start (Stands store digest records) → Leaves start new (HoldsEither store.slots digest records (kept_of records keep))
+    → ((seen : ℕ → ℕ) → RestsWith start (Is seen) → Leaves start new (IsMoving store.slots (store.selector % 2) keep seen)) → RestsWith start (RepresentsRecords store digest records) → Leaves start new (HoldsEither store.slots digest records (kept_of records keep))
 compact_leaves start new store digest records keep few are moments rests =
-    let found = seen_at_rest start (Stands store digest records) rests in
+    let found = seen_at_rest start (RepresentsRecords store digest records) rests in
     leaves_as start new (IsMoving store.slots (store.selector % 2) keep found.0) (HoldsEither store.slots digest records (kept_of records keep)) (λ image moving.
     moving_either store.slots digest (store.selector % 2) keep found.0 image records (two_halves store.selector) (ap (λ n. n % 2) (sym found.2.selector)) few (subst (λ used. AreSlots used keep) found.2.used are) found.2.journal moving)
     (moments found.0 found.1)
 
 pub compact_rests : (start new : Option Media) (store : JournalValue) (digest : List ℕ) (records : List (List ℕ)) (keep : List ℕ) → length keep ≤ store.slots → AreSlots store.used keep
-    → ((seen : ℕ → ℕ) → RestsWith start (Is seen) → RestsWith new (IsMoved store.slots (store.selector % 2) keep seen (other_selector store.selector))) → RestsWith start (Stands store digest records)
-    → RestsWith new (Stands (record store { selector = other_selector store.selector; used = length keep }) digest (kept_of records keep))
+    → ((seen : ℕ → ℕ) → RestsWith start (Is seen) → RestsWith new (IsMoved store.slots (store.selector % 2) keep seen (other_selector store.selector))) → RestsWith start (RepresentsRecords store digest records)
+    → RestsWith new (RepresentsRecords (record store { selector = other_selector store.selector; used = length keep }) digest (kept_of records keep))
 compact_rests start new store digest records keep few are moved rests =
-    let found = seen_at_rest start (Stands store digest records) rests in
-    rests_as new (IsMoved store.slots (store.selector % 2) keep found.0 (other_selector store.selector)) (Stands (record store { selector = other_selector store.selector; used = length keep }) digest (kept_of records keep)) (λ image is. record {
+    let found = seen_at_rest start (RepresentsRecords store digest records) rests in
+    rests_as new (IsMoved store.slots (store.selector % 2) keep found.0 (other_selector store.selector)) (RepresentsRecords (record store { selector = other_selector store.selector; used = length keep }) digest (kept_of records keep)) (λ image is. record {
       journal = moved_journal store.slots digest (store.selector % 2) keep found.0 image (other_selector store.selector) records (two_halves store.selector) (ap (λ n. n % 2) (sym found.2.selector)) few (subst (λ used. AreSlots used keep) found.2.used are)
           found.2.journal (other_half_of store.selector) is;
       used = sym (length-map keep (λ slot. get_or records slot []));

@@ -21,26 +21,26 @@ each_like [] now P holds are = tt
 each_like (medium ∷ media) now P holds are = (subst P (sym are.0) holds, each_like media now P holds are.1)
 
 -- reads came
-pub stage_read : (start mid new : Option Media) (P : (ℕ → ℕ) → Type 0) (Q : Medium → Type 0) → Stage start mid P Q → KeepsMedia mid new → ((medium : Medium) → Q medium → Images P medium) → Stage start new P Q
+pub stage_read : (start between new : Option Media) (P : (ℕ → ℕ) → Type 0) (Q : Medium → Type 0) → Stage start between P Q → KeepsMedia between new → ((medium : Medium) → Q medium → Images P medium) → Stage start new P Q
 stage_read None None None P Q stage keeps images = stage
 stage_read None None (Some new) P Q stage keeps images = absurd keeps
-stage_read None (Some mid) new P Q stage keeps images = absurd stage.leaves
+stage_read None (Some between) new P Q stage keeps images = absurd stage.leaves
 stage_read (Some start) None new P Q stage keeps images = absurd stage.leaves
-stage_read (Some start) (Some mid) None P Q stage keeps images = absurd keeps
-stage_read (Some start) (Some mid) (Some new) P Q stage keeps images = record {
+stage_read (Some start) (Some between) None P Q stage keeps images = absurd keeps
+stage_read (Some start) (Some between) (Some new) P Q stage keeps images = record {
   leaves = (
     stage.leaves.0 ++ keeps.0,
     keeps.1 ∙ ap (λ media. media ++ keeps.0) stage.leaves.1 ∙ append_assoc (all_media start) stage.leaves.0 keeps.0,
-    each_then stage.leaves.0 keeps.0 (Images P) stage.leaves.2 (each_like keeps.0 mid.now (Images P) (images mid.now stage.now) keeps.2),
+    each_then stage.leaves.0 keeps.0 (Images P) stage.leaves.2 (each_like keeps.0 between.now (Images P) (images between.now stage.now) keeps.2),
   );
   now = subst Q (sym keeps.3) stage.now;
 }
 
 -- the disk now, which is told
-pub current : (start mid : Option Media) (P Any : (ℕ → ℕ) → Type 0) (Q : Medium → Type 0) → RestsWith start Any → Stage start mid P Q → (medium : Medium) × Sees mid medium.seen × Q medium
-current None mid P Any Q rests stage = absurd rests
+pub current : (start between : Option Media) (P Any : (ℕ → ℕ) → Type 0) (Q : Medium → Type 0) → RestsWith start Any → Stage start between P Q → (medium : Medium) × Sees between medium.seen × Q medium
+current None between P Any Q rests stage = absurd rests
 current (Some start) None P Any Q rests stage = absurd stage.leaves
-current (Some start) (Some mid) P Any Q rests stage = (mid.now, refl, stage.now)
+current (Some start) (Some between) P Any Q rests stage = (between.now, refl, stage.now)
 
 -- the one half lies elsewhere than the other
 pub halves_apart : (slots half slot offset : ℕ) → half < 2 → slot < slots → offset < 8192 → (place_of slots half slot + offset < place_of slots (1 - half) 0 ⊎ place_of slots (1 - half) 0 + 8192 * slots ≤ place_of slots half slot + offset)
@@ -70,24 +70,24 @@ copy_begins start slots half keep seen rests =
     as_now None now = tt
     as_now (Some start) now = copying_begins slots half keep seen start.now now
 
-pub copy_reads : (start mid new : Option Media) (slots half : ℕ) (keep : List ℕ) (seen : ℕ → ℕ) (first : ℕ) → Stage start mid (Elsewhere seen (place_of slots (1 - half) 0) (8192 * slots)) (Copying slots half keep seen first) → KeepsMedia mid new
+pub copy_reads : (start between new : Option Media) (slots half : ℕ) (keep : List ℕ) (seen : ℕ → ℕ) (first : ℕ) → Stage start between (Elsewhere seen (place_of slots (1 - half) 0) (8192 * slots)) (Copying slots half keep seen first) → KeepsMedia between new
     → Stage start new (Elsewhere seen (place_of slots (1 - half) 0) (8192 * slots)) (Copying slots half keep seen first)
-copy_reads start mid new slots half keep seen first stage keeps = stage_read start mid new (Elsewhere seen (place_of slots (1 - half) 0) (8192 * slots)) (Copying slots half keep seen first) stage keeps (copying_images slots half keep seen first)
+copy_reads start between new slots half keep seen first stage keeps = stage_read start between new (Elsewhere seen (place_of slots (1 - half) 0) (8192 * slots)) (Copying slots half keep seen first) stage keeps (copying_images slots half keep seen first)
 
-pub copy_torn : (start mid new : Option Media) (slots half : ℕ) (keep : List ℕ) (seen : ℕ → ℕ) (first at size : ℕ) → first < slots → size ≤ 8192 → at ≡ place_of slots (1 - half) first
-    → Stage start mid (Elsewhere seen (place_of slots (1 - half) 0) (8192 * slots)) (Copying slots half keep seen first) → MayBecome mid new (IsTorn at size) → Leaves start new (Elsewhere seen (place_of slots (1 - half) 0) (8192 * slots))
-copy_torn start mid new slots half keep seen first at size within fits place stage becomes = leaves_lost start mid new (Elsewhere seen (place_of slots (1 - half) 0) (8192 * slots)) (Copying slots half keep seen first)
-    (IsTorn (place_of slots (1 - half) first) size) stage.leaves stage.now (subst (λ at. MayBecome mid new (IsTorn at size)) place becomes) (λ old now is torn. copying_torn slots half keep seen first size old now within fits is torn)
+pub copy_torn : (start between new : Option Media) (slots half : ℕ) (keep : List ℕ) (seen : ℕ → ℕ) (first at size : ℕ) → first < slots → size ≤ 8192 → at ≡ place_of slots (1 - half) first
+    → Stage start between (Elsewhere seen (place_of slots (1 - half) 0) (8192 * slots)) (Copying slots half keep seen first) → MayBecome between new (IsTorn at size) → Leaves start new (Elsewhere seen (place_of slots (1 - half) 0) (8192 * slots))
+copy_torn start between new slots half keep seen first at size within fits place stage becomes = leaves_lost start between new (Elsewhere seen (place_of slots (1 - half) 0) (8192 * slots)) (Copying slots half keep seen first)
+    (IsTorn (place_of slots (1 - half) first) size) stage.leaves stage.now (subst (λ at. MayBecome between new (IsTorn at size)) place becomes) (λ old now is torn. copying_torn slots half keep seen first size old now within fits is torn)
 
-pub copy_more : (start mid fill new : Option Media) (slots half : ℕ) (keep : List ℕ) (seen : ℕ → ℕ) (first at size : ℕ) (room : List ℕ) → half < 2 → AreSlots slots keep → first < slots → at ≡ place_of slots (1 - half) first
+pub copy_more : (start between fill new : Option Media) (slots half : ℕ) (keep : List ℕ) (seen : ℕ → ℕ) (first at size : ℕ) (room : List ℕ) → half < 2 → AreSlots slots keep → first < slots → at ≡ place_of slots (1 - half) first
     → IsEnough keep first (byte_of room) size → size ≤ length room → RestsWith start (Is seen)
-    → Stage start mid (Elsewhere seen (place_of slots (1 - half) 0) (8192 * slots)) (Copying slots half keep seen first) → KeepsMedia mid fill
-    → ((later : ℕ → ℕ) → Sees mid later → IsCopy slots half keep later first (byte_of room) 0)
+    → Stage start between (Elsewhere seen (place_of slots (1 - half) 0) (8192 * slots)) (Copying slots half keep seen first) → KeepsMedia between fill
+    → ((later : ℕ → ℕ) → Sees between later → IsCopy slots half keep later first (byte_of room) 0)
     → Becomes fill new (λ old now. now ≡ written old at (take size room)) → Stage start new (Elsewhere seen (place_of slots (1 - half) 0) (8192 * slots)) (Copying slots half keep seen (first + 1))
-copy_more start mid fill new slots half keep seen first at size room two are within place enough fits rests stage keeps copy becomes =
+copy_more start between fill new slots half keep seen first at size room two are within place enough fits rests stage keeps copy becomes =
     let P = Elsewhere seen (place_of slots (1 - half) 0) (8192 * slots) in
-    let read = copy_reads start mid fill slots half keep seen first stage keeps in
-    let now = current start mid P (Is seen) (Copying slots half keep seen first) rests stage in
+    let read = copy_reads start between fill slots half keep seen first stage keeps in
+    let now = current start between P (Is seen) (Copying slots half keep seen first) rests stage in
     let here = copy_seen slots half keep seen now.0.seen first (byte_of room) 0 two are now.2.elsewhere (copy now.0.seen now.1) in
     more start fill new P (Copying slots half keep seen first) (Copying slots half keep seen (first + 1)) (λ old now. now ≡ written old (place_of slots (1 - half) first) (take size room)) read
     (subst (λ at. Becomes fill new (λ old now. now ≡ written old at (take size room))) place becomes)
@@ -98,34 +98,34 @@ copy_more start mid fill new slots half keep seen first at size room two are wit
     short : length (take size room) ≤ 8192
     short = let taken = length-take size room in let low = enough.fits in omega arith
 
-pub copy_unsynced : (start mid new : Option Media) (slots half : ℕ) (keep : List ℕ) (seen : ℕ → ℕ) (first : ℕ) → Stage start mid (Elsewhere seen (place_of slots (1 - half) 0) (8192 * slots)) (Copying slots half keep seen first) → MayBecome mid new Stays
+pub copy_unsynced : (start between new : Option Media) (slots half : ℕ) (keep : List ℕ) (seen : ℕ → ℕ) (first : ℕ) → Stage start between (Elsewhere seen (place_of slots (1 - half) 0) (8192 * slots)) (Copying slots half keep seen first) → MayBecome between new Stays
     → Leaves start new (Elsewhere seen (place_of slots (1 - half) 0) (8192 * slots))
-copy_unsynced start mid new slots half keep seen first stage becomes = unsynced start mid new (Elsewhere seen (place_of slots (1 - half) 0) (8192 * slots)) (Copying slots half keep seen first) stage becomes (copying_images slots half keep seen first)
+copy_unsynced start between new slots half keep seen first stage becomes = unsynced start between new (Elsewhere seen (place_of slots (1 - half) 0) (8192 * slots)) (Copying slots half keep seen first) stage becomes (copying_images slots half keep seen first)
 
 settled_images : (slots half : ℕ) (keep : List ℕ) (seen : ℕ → ℕ) (old now : Medium) → Copying slots half keep seen slots old → now ≡ settled old → Images (Elsewhere seen (place_of slots (1 - half) 0) (8192 * slots)) now
 settled_images slots half keep seen old now is same =
     let done = copying_settled slots half keep seen old now is same in
     images_at_rest now.seen now (Elsewhere seen (place_of slots (1 - half) 0) (8192 * slots)) (record { none = done.0; same = refl }) (λ image agree place outside. agree place ∙ done.1.elsewhere place outside)
 
-pub copy_left : (start mid new : Option Media) (slots half : ℕ) (keep : List ℕ) (seen : ℕ → ℕ) → Stage start mid (Elsewhere seen (place_of slots (1 - half) 0) (8192 * slots)) (Copying slots half keep seen slots) → Becomes mid new (λ old now. now ≡ settled old)
+pub copy_left : (start between new : Option Media) (slots half : ℕ) (keep : List ℕ) (seen : ℕ → ℕ) → Stage start between (Elsewhere seen (place_of slots (1 - half) 0) (8192 * slots)) (Copying slots half keep seen slots) → Becomes between new (λ old now. now ≡ settled old)
     → Leaves start new (Elsewhere seen (place_of slots (1 - half) 0) (8192 * slots))
-copy_left start mid new slots half keep seen stage becomes = leaves_more start mid new (Elsewhere seen (place_of slots (1 - half) 0) (8192 * slots)) (Copying slots half keep seen slots) (λ old now. now ≡ settled old) stage.leaves stage.now becomes
+copy_left start between new slots half keep seen stage becomes = leaves_more start between new (Elsewhere seen (place_of slots (1 - half) 0) (8192 * slots)) (Copying slots half keep seen slots) (λ old now. now ≡ settled old) stage.leaves stage.now becomes
     (settled_images slots half keep seen)
 
-pub copy_done : (start mid new : Option Media) (slots half : ℕ) (keep : List ℕ) (seen : ℕ → ℕ) → RestsWith start (Is seen) → Stage start mid (Elsewhere seen (place_of slots (1 - half) 0) (8192 * slots)) (Copying slots half keep seen slots)
-    → Becomes mid new (λ old now. now ≡ settled old) → RestsWith new (HalfIsCopied slots half keep seen)
-copy_done start mid new slots half keep seen rests stage becomes = rests_with start new (Elsewhere seen (place_of slots (1 - half) 0) (8192 * slots)) (HalfIsCopied slots half keep seen) (Is seen) (λ now. (now.pending ≡ []) × HalfIsCopied slots half keep seen now.seen)
-    rests (copy_left start mid new slots half keep seen stage becomes)
-    (now_then mid new (Copying slots half keep seen slots) (λ now. (now.pending ≡ []) × HalfIsCopied slots half keep seen now.seen) (λ old now. now ≡ settled old) stage.now becomes (copying_settled slots half keep seen)) (λ now is. is)
+pub copy_done : (start between new : Option Media) (slots half : ℕ) (keep : List ℕ) (seen : ℕ → ℕ) → RestsWith start (Is seen) → Stage start between (Elsewhere seen (place_of slots (1 - half) 0) (8192 * slots)) (Copying slots half keep seen slots)
+    → Becomes between new (λ old now. now ≡ settled old) → RestsWith new (HalfIsCopied slots half keep seen)
+copy_done start between new slots half keep seen rests stage becomes = rests_with start new (Elsewhere seen (place_of slots (1 - half) 0) (8192 * slots)) (HalfIsCopied slots half keep seen) (Is seen) (λ now. (now.pending ≡ []) × HalfIsCopied slots half keep seen now.seen)
+    rests (copy_left start between new slots half keep seen stage becomes)
+    (now_then between new (Copying slots half keep seen slots) (λ now. (now.pending ≡ []) × HalfIsCopied slots half keep seen now.seen) (λ old now. now ≡ settled old) stage.now becomes (copying_settled slots half keep seen)) (λ now is. is)
 
 -- ---- the same by other names
 
-pub half_left : (start mid new : Option Media) (slots half : ℕ) (keep : List ℕ) (seen : ℕ → ℕ) (first : ℕ) → first ≡ slots → Stage start mid (Elsewhere seen (place_of slots (1 - half) 0) (8192 * slots)) (Copying slots half keep seen first)
-    → Becomes mid new (λ old now. now ≡ settled old) → Leaves start new (Elsewhere seen (place_of slots (1 - half) 0) (8192 * slots))
-half_left start mid new slots half keep seen first all stage becomes =
-    copy_left start mid new slots half keep seen (subst (λ first. Stage start mid (Elsewhere seen (place_of slots (1 - half) 0) (8192 * slots)) (Copying slots half keep seen first)) all stage) becomes
+pub half_left : (start between new : Option Media) (slots half : ℕ) (keep : List ℕ) (seen : ℕ → ℕ) (first : ℕ) → first ≡ slots → Stage start between (Elsewhere seen (place_of slots (1 - half) 0) (8192 * slots)) (Copying slots half keep seen first)
+    → Becomes between new (λ old now. now ≡ settled old) → Leaves start new (Elsewhere seen (place_of slots (1 - half) 0) (8192 * slots))
+half_left start between new slots half keep seen first all stage becomes =
+    copy_left start between new slots half keep seen (subst (λ first. Stage start between (Elsewhere seen (place_of slots (1 - half) 0) (8192 * slots)) (Copying slots half keep seen first)) all stage) becomes
 
-pub half_done : (start mid new : Option Media) (slots half : ℕ) (keep : List ℕ) (seen : ℕ → ℕ) (first : ℕ) → first ≡ slots → RestsWith start (Is seen) → Stage start mid (Elsewhere seen (place_of slots (1 - half) 0) (8192 * slots)) (Copying slots half keep seen first)
-    → Becomes mid new (λ old now. now ≡ settled old) → RestsWith new (HalfIsCopied slots half keep seen)
-half_done start mid new slots half keep seen first all rests stage becomes =
-    copy_done start mid new slots half keep seen rests (subst (λ first. Stage start mid (Elsewhere seen (place_of slots (1 - half) 0) (8192 * slots)) (Copying slots half keep seen first)) all stage) becomes
+pub half_done : (start between new : Option Media) (slots half : ℕ) (keep : List ℕ) (seen : ℕ → ℕ) (first : ℕ) → first ≡ slots → RestsWith start (Is seen) → Stage start between (Elsewhere seen (place_of slots (1 - half) 0) (8192 * slots)) (Copying slots half keep seen first)
+    → Becomes between new (λ old now. now ≡ settled old) → RestsWith new (HalfIsCopied slots half keep seen)
+half_done start between new slots half keep seen first all rests stage becomes =
+    copy_done start between new slots half keep seen rests (subst (λ first. Stage start between (Elsewhere seen (place_of slots (1 - half) 0) (8192 * slots)) (Copying slots half keep seen first)) all stage) becomes

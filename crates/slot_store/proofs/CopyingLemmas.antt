@@ -9,7 +9,7 @@ use Rattle.slot_store.specs.Gates.{Sees}
 use Rattle.slot_store.specs.Copying.{Elsewhere, len_of, IsCopy, IsEnough, HalfIsCopied}
 use Rattle.slot_store.proofs.Steps.{Images, Rests}
 use Rattle.std.specs.Prelude.{IfSome}
-use Rattle.slot_store.proofs.Reading.{bytes_seen}
+use Rattle.slot_store.proofs.DiskReading.{bytes_seen}
 
 -- the same bytes at another place are a copy too
 pub copy_moved : (slots half : ℕ) (keep : List ℕ) (seen old new : ℕ → ℕ) (slot at to : ℕ) → ((offset : ℕ) → offset < 8192 → new (to + offset) ≡ old (at + offset)) → IsCopy slots half keep seen slot old at → IsCopy slots half keep seen slot new to

@@ -8,12 +8,12 @@ use Rattle.slot_store.specs.declared.wanted.Wanted.TheVariants as wanted
 use Rattle.slot_store.specs.Layout.{place_of, IsHeader, IsHalf, IsBlank, IsJournal, HoldsRecords}
 use Rattle.slot_store.specs.Gates.{is_wanted}
 use Rattle.slot_store.specs.Gates.{NoneIs, IsFirst, Sees}
-use Rattle.slot_store.specs.Standing.{Stands, IsKnown}
+use Rattle.slot_store.specs.StoreValues.{RepresentsRecords, IsKnown}
 use Rattle.slot_store.specs.Refusing.{IsOpen, IsCount}
 use Rattle.slot_store.specs.Opening.{Is}
 use Rattle.slot_store.proofs.Steps.{seen_at_rest, rests_as, leaves_then}
-use Rattle.slot_store.proofs.Reading.{sees_at_rest, leaves_kept}
-use Rattle.slot_store.proofs.Keeping.{gate_of_header, one_list}
+use Rattle.slot_store.proofs.DiskReading.{sees_at_rest, leaves_kept}
+use Rattle.slot_store.proofs.SameRecords.{gate_of_header, one_list}
 
 gate_at : (slots half slot : ℕ) → place_of slots half 0 + 8192 * slot ≡ place_of slots half slot
 gate_at slots half slot = omega arith
@@ -65,13 +65,13 @@ opened_journal slots digest seen image selector records opened holds = by_cases 
     by_cases (inr formatted) holds = subst (IsJournal slots digest image) (one_list slots digest seen [] records (inl formatted.0) holds) formatted.1
 
 pub opened_stands : (new : Option Media) (slots : ℕ) (digest : List ℕ) (seen : ℕ → ℕ) (selector used : ℕ) (records : List (List ℕ)) → RestsWith new (IsOpen slots digest seen selector) → HoldsRecords slots digest seen records
-    → ((image : ℕ → ℕ) → Sees new image → IsCount slots (selector % 2) image used) → RestsWith new (Stands (record { slots = slots; selector = selector; used = used }) digest records)
+    → ((image : ℕ → ℕ) → Sees new image → IsCount slots (selector % 2) image used) → RestsWith new (RepresentsRecords (record { slots = slots; selector = selector; used = used }) digest records)
 opened_stands new slots digest seen selector used records rests holds count =
     let found = seen_at_rest new (IsOpen slots digest seen selector) rests in
     let counted = count found.0 (sees_at_rest new found.0 found.1) in
-    rests_as new (Is found.0) (Stands (record { slots = slots; selector = selector; used = used }) digest records) (λ image same. stands image (subst (IsOpen slots digest seen selector) (sym same) found.2) (subst (λ image. IsCount slots (selector % 2) image used) (sym same) counted)) found.1
+    rests_as new (Is found.0) (RepresentsRecords (record { slots = slots; selector = selector; used = used }) digest records) (λ image same. stands image (subst (IsOpen slots digest seen selector) (sym same) found.2) (subst (λ image. IsCount slots (selector % 2) image used) (sym same) counted)) found.1
   where
-    stands : (image : ℕ → ℕ) → IsOpen slots digest seen selector image → IsCount slots (selector % 2) image used → Stands (record { slots = slots; selector = selector; used = used }) digest records image
+    stands : (image : ℕ → ℕ) → IsOpen slots digest seen selector image → IsCount slots (selector % 2) image used → RepresentsRecords (record { slots = slots; selector = selector; used = used }) digest records image
     stands image opened counted =
         let journal = opened_journal slots digest seen image selector records opened holds in
         let half : IsHalf slots (selector % 2) image records = subst (λ n. IsHalf slots (n % 2) image records) opened.selector_there journal.half in
@@ -86,9 +86,9 @@ opened_known new slots digest seen selector used rests count =
     (λ image same. record { opened = subst (IsOpen slots digest seen selector) (sym same) found.2; count = subst (λ image. IsCount slots (selector % 2) image used) (sym same) counted }) found.1
 
 -- while the gates are read, the disk holds what it held
-pub opened_reads : (start mid new : Option Media) (slots : ℕ) (digest : List ℕ) (seen : ℕ → ℕ) (selector : ℕ) (records : List (List ℕ)) → Leaves start mid (λ image. HoldsRecords slots digest image records) → RestsWith mid (IsOpen slots digest seen selector)
-    → HoldsRecords slots digest seen records → KeepsMedia mid new → Leaves start new (λ image. HoldsRecords slots digest image records)
-opened_reads start mid new slots digest seen selector records leaves rests holds keeps =
-    let found = seen_at_rest mid (IsOpen slots digest seen selector) rests in
-    leaves_then start mid new (λ image. HoldsRecords slots digest image records) leaves
-    (leaves_kept mid new found.0 (λ image. HoldsRecords slots digest image records) keeps found.1 (inr (opened_journal slots digest seen found.0 selector records found.2 holds)))
+pub opened_reads : (start between new : Option Media) (slots : ℕ) (digest : List ℕ) (seen : ℕ → ℕ) (selector : ℕ) (records : List (List ℕ)) → Leaves start between (λ image. HoldsRecords slots digest image records) → RestsWith between (IsOpen slots digest seen selector)
+    → HoldsRecords slots digest seen records → KeepsMedia between new → Leaves start new (λ image. HoldsRecords slots digest image records)
+opened_reads start between new slots digest seen selector records leaves rests holds keeps =
+    let found = seen_at_rest between (IsOpen slots digest seen selector) rests in
+    leaves_then start between new (λ image. HoldsRecords slots digest image records) leaves
+    (leaves_kept between new found.0 (λ image. HoldsRecords slots digest image records) keeps found.1 (inr (opened_journal slots digest seen found.0 selector records found.2 holds)))

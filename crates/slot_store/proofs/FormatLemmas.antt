@@ -12,7 +12,7 @@ use Rattle.slot_store.specs.Gates.{is_wanted}
 use Rattle.slot_store.specs.Gates.{NoneIs, IsFirst}
 use Rattle.slot_store.specs.Refusing.{IsStrayGate}
 use Rattle.slot_store.proofs.Steps.{leaves_as, leaves_then, rests_as}
-use Rattle.slot_store.proofs.Reading.{leaves_kept, rests_kept}
+use Rattle.slot_store.proofs.DiskReading.{leaves_kept, rests_kept}
 
 -- ---- gates of both halves
 
@@ -117,14 +117,14 @@ format_image slots digest bytes seen image rest blank opening = elim (cases_eq (
 pub format_reads : (start new : Option Media) (slots : ℕ) (digest : List ℕ) (seen : ℕ → ℕ) → KeepsMedia start new → RestsWith start (Is seen) → IsBlank slots seen [] → Leaves start new (λ image. HoldsRecords slots digest image [])
 format_reads start new slots digest seen keeps rests blank = leaves_kept start new seen (λ image. HoldsRecords slots digest image []) keeps rests (inl blank)
 
-pub format_leaves : (start mid new : Option Media) (slots : ℕ) (digest : List ℕ) (bytes : List ℕ) (seen : ℕ → ℕ) → IsRest slots digest bytes → KeepsMedia start mid → ((seen : ℕ → ℕ) → RestsWith mid (Is seen) → Leaves mid new (IsOpening seen 0 bytes))
+pub format_leaves : (start between new : Option Media) (slots : ℕ) (digest : List ℕ) (bytes : List ℕ) (seen : ℕ → ℕ) → IsRest slots digest bytes → KeepsMedia start between → ((seen : ℕ → ℕ) → RestsWith between (Is seen) → Leaves between new (IsOpening seen 0 bytes))
     → RestsWith start (Is seen) → IsBlank slots seen [] → Leaves start new (λ image. HoldsRecords slots digest image [])
-format_leaves start mid new slots digest bytes seen rest keeps moments rests blank =
-    leaves_then start mid new (λ image. HoldsRecords slots digest image []) (format_reads start mid slots digest seen keeps rests blank)
-    (leaves_as mid new (IsOpening seen 0 bytes) (λ image. HoldsRecords slots digest image []) (λ image opening. format_image slots digest bytes seen image rest blank opening) (moments seen (rests_kept start mid (Is seen) keeps rests)))
+format_leaves start between new slots digest bytes seen rest keeps moments rests blank =
+    leaves_then start between new (λ image. HoldsRecords slots digest image []) (format_reads start between slots digest seen keeps rests blank)
+    (leaves_as between new (IsOpening seen 0 bytes) (λ image. HoldsRecords slots digest image []) (λ image opening. format_image slots digest bytes seen image rest blank opening) (moments seen (rests_kept start between (Is seen) keeps rests)))
 
-pub format_rests : (start mid new : Option Media) (slots : ℕ) (digest : List ℕ) (bytes : List ℕ) (seen : ℕ → ℕ) → IsRest slots digest bytes → KeepsMedia start mid → ((seen : ℕ → ℕ) → RestsWith mid (Is seen) → RestsWith new (IsOpened seen 0 bytes))
+pub format_rests : (start between new : Option Media) (slots : ℕ) (digest : List ℕ) (bytes : List ℕ) (seen : ℕ → ℕ) → IsRest slots digest bytes → KeepsMedia start between → ((seen : ℕ → ℕ) → RestsWith between (Is seen) → RestsWith new (IsOpened seen 0 bytes))
     → RestsWith start (Is seen) → IsBlank slots seen [] → RestsWith new (λ image. IsJournal slots digest image [] × (image 48 ≡ 0))
-format_rests start mid new slots digest bytes seen rest keeps opened rests blank =
+format_rests start between new slots digest bytes seen rest keeps opened rests blank =
     rests_as new (IsOpened seen 0 bytes) (λ image. IsJournal slots digest image [] × (image 48 ≡ 0))
-    (λ image is. formatted slots digest bytes seen image rest blank (λ place high. is.kept place (inr (let size = rest.size in omega arith))) is.gate is.bytes) (opened seen (rests_kept start mid (Is seen) keeps rests))
+    (λ image is. formatted slots digest bytes seen image rest blank (λ place high. is.kept place (inr (let size = rest.size in omega arith))) is.gate is.bytes) (opened seen (rests_kept start between (Is seen) keeps rests))

@@ -1,11 +1,11 @@
 pub mod Places
-pub mod Keeping
+pub mod SameRecords
 pub mod Steps
 pub mod OpeningLemmas
 pub mod Stages
 pub mod Appending
 pub mod Storing
-pub mod Reading
+pub mod DiskReading
 pub mod CopyingLemmas
 pub mod CopyStages
 pub mod Compacting

@@ -11,10 +11,10 @@ use Rattle.slot_store.specs.Layout.{IsHeader, IsBlank, IsJournal, HoldsRecords}
 use Rattle.slot_store.specs.Opening.{Is}
 use Rattle.slot_store.specs.Gates.{Sees}
 use Rattle.slot_store.specs.Refusing.{Fits, FirstWrong, IsForm, IsOtherHeader, RefusesHeader, RefusesGates, RefusesDisk, Refuses, IsOpen, front, rest, size}
-use Rattle.slot_store.proofs.Keeping.{gate_of_header}
+use Rattle.slot_store.proofs.SameRecords.{gate_of_header}
 use Rattle.slot_store.proofs.Steps.{Images, Rests, leaves_as, leaves_then, rests_as}
 use Rattle.slot_store.proofs.OpeningLemmas.{rests_settled, images_at_rest}
-use Rattle.slot_store.proofs.Reading.{leaves_kept}
+use Rattle.slot_store.proofs.DiskReading.{leaves_kept}
 use Rattle.slot_store.proofs.Stages.{more, unsynced, no_call}
 
 -- ---- the first sync
@@ -36,8 +36,8 @@ sync_rests (Some start) (Some new) seen sees becomes =
     let same = ap (λ media. media.now) becomes.1 ∙ becomes.2 in
     (ap (λ medium. medium.pending) same, ap (λ medium. medium.seen) same ∙ sees)
 
-pub sync_reads : (start mid new : Option Media) (seen : ℕ → ℕ) → Leaves start mid (Is seen) → KeepsMedia mid new → RestsWith mid (Is seen) → Leaves start new (Is seen)
-sync_reads start mid new seen leaves keeps rests = leaves_then start mid new (Is seen) leaves (leaves_kept mid new seen (Is seen) keeps rests refl)
+pub sync_reads : (start between new : Option Media) (seen : ℕ → ℕ) → Leaves start between (Is seen) → KeepsMedia between new → RestsWith between (Is seen) → Leaves start new (Is seen)
+sync_reads start between new seen leaves keeps rests = leaves_then start between new (Is seen) leaves (leaves_kept between new seen (Is seen) keeps rests refl)
 
 -- ---- the header that was read
 
@@ -120,12 +120,12 @@ pub holds_none : (slots : ℕ) (digest : List ℕ) (seen : ℕ → ℕ) (records
 holds_none slots digest seen records gate (inl blank) = (record { gate = blank.gate; gates = blank.gates; none = refl }, blank.none)
 holds_none slots digest seen records gate (inr journal) = absurd (gate (gate_of_header slots digest seen journal.header))
 
-pub holds_formatted : (start mid new : Option Media) (slots : ℕ) (digest : List ℕ) (seen : ℕ → ℕ) (records : List (List ℕ)) → Leaves start mid (Is seen) → seen 0 ≢ 165 → HoldsRecords slots digest seen records
-    → (IsBlank slots seen [] → Leaves mid new (λ image. HoldsRecords slots digest image [])) → Leaves start new (λ image. HoldsRecords slots digest image records)
-holds_formatted start mid new slots digest seen records leaves gate holds moments =
+pub holds_formatted : (start between new : Option Media) (slots : ℕ) (digest : List ℕ) (seen : ℕ → ℕ) (records : List (List ℕ)) → Leaves start between (Is seen) → seen 0 ≢ 165 → HoldsRecords slots digest seen records
+    → (IsBlank slots seen [] → Leaves between new (λ image. HoldsRecords slots digest image [])) → Leaves start new (λ image. HoldsRecords slots digest image records)
+holds_formatted start between new slots digest seen records leaves gate holds moments =
     let none = holds_none slots digest seen records gate holds in
-    leaves_then start mid new (λ image. HoldsRecords slots digest image records) (holds_still start mid slots digest seen records leaves holds)
-    (subst (λ records. Leaves mid new (λ image. HoldsRecords slots digest image records)) (sym none.1) (moments none.0))
+    leaves_then start between new (λ image. HoldsRecords slots digest image records) (holds_still start between slots digest seen records leaves holds)
+    (subst (λ records. Leaves between new (λ image. HoldsRecords slots digest image records)) (sym none.1) (moments none.0))
 
 pub open_formatted : (new : Option Media) (slots : ℕ) (digest : List ℕ) (seen : ℕ → ℕ) → IsBlank slots seen [] → RestsWith new (λ image. IsJournal slots digest image [] × (image 48 ≡ 0)) → RestsWith new (IsOpen slots digest seen 0)
 open_formatted new slots digest seen blank rests = rests_as new (λ image. IsJournal slots digest image [] × (image 48 ≡ 0)) (IsOpen slots digest seen 0) (λ image is. record { selector_there = is.1; cases = inr (blank, is.0) }) rests

@@ -51,15 +51,15 @@ pub select_written : (start new : Option Media) (seen : ℕ → ℕ) (selector :
 select_written start new seen selector rests becomes = more start start new (Elsewhere seen 48 1) (Rests seen) (Selected seen selector) (λ old now. now ≡ written old 48 (selector ∷ [])) (no_call start seen (Elsewhere seen 48 1) rests) becomes
     (selected_by seen selector) (λ now is. images_selecting seen now is.selects)
 
-pub select_unsynced : (start mid new : Option Media) (seen : ℕ → ℕ) (selector : ℕ) → Stage start mid (Elsewhere seen 48 1) (Selected seen selector) → MayBecome mid new Stays → Leaves start new (Elsewhere seen 48 1)
-select_unsynced start mid new seen selector stage becomes = unsynced start mid new (Elsewhere seen 48 1) (Selected seen selector) stage becomes (λ now is. images_selecting seen now is.selects)
+pub select_unsynced : (start between new : Option Media) (seen : ℕ → ℕ) (selector : ℕ) → Stage start between (Elsewhere seen 48 1) (Selected seen selector) → MayBecome between new Stays → Leaves start new (Elsewhere seen 48 1)
+select_unsynced start between new seen selector stage becomes = unsynced start between new (Elsewhere seen 48 1) (Selected seen selector) stage becomes (λ now is. images_selecting seen now is.selects)
 
-pub select_left : (start mid new : Option Media) (seen : ℕ → ℕ) (selector : ℕ) → Stage start mid (Elsewhere seen 48 1) (Selected seen selector) → Becomes mid new (λ old now. now ≡ settled old) → Leaves start new (Elsewhere seen 48 1)
-select_left start mid new seen selector stage becomes = leaves_more start mid new (Elsewhere seen 48 1) (Selected seen selector) (λ old now. now ≡ settled old) stage.leaves stage.now becomes (λ old now is same.
+pub select_left : (start between new : Option Media) (seen : ℕ → ℕ) (selector : ℕ) → Stage start between (Elsewhere seen 48 1) (Selected seen selector) → Becomes between new (λ old now. now ≡ settled old) → Leaves start new (Elsewhere seen 48 1)
+select_left start between new seen selector stage becomes = leaves_more start between new (Elsewhere seen 48 1) (Selected seen selector) (λ old now. now ≡ settled old) stage.leaves stage.now becomes (λ old now is same.
     let done = selected_settled seen selector old now is same in
     images_at_rest now.seen now (Elsewhere seen 48 1) (record { none = done.0; same = refl }) (λ image agree place outside. agree place ∙ done.1.elsewhere place outside))
 
-pub select_done : (start mid new : Option Media) (seen : ℕ → ℕ) (selector : ℕ) → RestsWith start (Is seen) → Stage start mid (Elsewhere seen 48 1) (Selected seen selector) → Becomes mid new (λ old now. now ≡ settled old) → RestsWith new (IsSelected seen selector)
-select_done start mid new seen selector rests stage becomes = rests_with start new (Elsewhere seen 48 1) (IsSelected seen selector) (Is seen) (λ now. (now.pending ≡ []) × IsSelected seen selector now.seen) rests
-    (select_left start mid new seen selector stage becomes)
-    (now_then mid new (Selected seen selector) (λ now. (now.pending ≡ []) × IsSelected seen selector now.seen) (λ old now. now ≡ settled old) stage.now becomes (selected_settled seen selector)) (λ now is. is)
+pub select_done : (start between new : Option Media) (seen : ℕ → ℕ) (selector : ℕ) → RestsWith start (Is seen) → Stage start between (Elsewhere seen 48 1) (Selected seen selector) → Becomes between new (λ old now. now ≡ settled old) → RestsWith new (IsSelected seen selector)
+select_done start between new seen selector rests stage becomes = rests_with start new (Elsewhere seen 48 1) (IsSelected seen selector) (Is seen) (λ now. (now.pending ≡ []) × IsSelected seen selector now.seen) rests
+    (select_left start between new seen selector stage becomes)
+    (now_then between new (Selected seen selector) (λ now. (now.pending ≡ []) × IsSelected seen selector now.seen) (λ old now. now ≡ settled old) stage.now becomes (selected_settled seen selector)) (λ now is. is)

@@ -12,20 +12,20 @@ pub record Stage (start new : Option Media) (P : (ℕ → ℕ) → Type 0) (Q : 
   pub leaves : Leaves start new P
   pub now : Now new Q
 
-pub more : (start mid new : Option Media) (P : (ℕ → ℕ) → Type 0) (Q R : Medium → Type 0) (Step : Medium → Medium → Type 0) → Stage start mid P Q → Becomes mid new Step
+pub more : (start between new : Option Media) (P : (ℕ → ℕ) → Type 0) (Q R : Medium → Type 0) (Step : Medium → Medium → Type 0) → Stage start between P Q → Becomes between new Step
     → ((old now : Medium) → Q old → Step old now → R now) → ((now : Medium) → R now → Images P now) → Stage start new P R
-more start mid new P Q R Step stage becomes goes images = record {
-  leaves = leaves_more start mid new P Q Step stage.leaves stage.now becomes (λ old now q step. images now (goes old now q step));
-  now = now_then mid new Q R Step stage.now becomes goes;
+more start between new P Q R Step stage becomes goes images = record {
+  leaves = leaves_more start between new P Q Step stage.leaves stage.now becomes (λ old now q step. images now (goes old now q step));
+  now = now_then between new Q R Step stage.now becomes goes;
 }
 
-pub lost : (start mid new : Option Media) (P : (ℕ → ℕ) → Type 0) (Q R : Medium → Type 0) (Step : Medium → Medium → Type 0) → Stage start mid P Q → MayBecome mid new Step
+pub lost : (start between new : Option Media) (P : (ℕ → ℕ) → Type 0) (Q R : Medium → Type 0) (Step : Medium → Medium → Type 0) → Stage start between P Q → MayBecome between new Step
     → ((old now : Medium) → Q old → Step old now → R now) → ((now : Medium) → R now → Images P now) → Leaves start new P
-lost start mid new P Q R Step stage becomes goes images = leaves_lost start mid new P Q Step stage.leaves stage.now becomes (λ old now q step. images now (goes old now q step))
+lost start between new P Q R Step stage becomes goes images = leaves_lost start between new P Q Step stage.leaves stage.now becomes (λ old now q step. images now (goes old now q step))
 
 -- a failed sync
-pub unsynced : (start mid new : Option Media) (P : (ℕ → ℕ) → Type 0) (Q : Medium → Type 0) → Stage start mid P Q → MayBecome mid new Stays → ((now : Medium) → Q now → Images P now) → Leaves start new P
-unsynced start mid new P Q stage becomes images = leaves_lost start mid new P Q Stays stage.leaves stage.now becomes (λ old now q step. images_stay old now P step (images old q))
+pub unsynced : (start between new : Option Media) (P : (ℕ → ℕ) → Type 0) (Q : Medium → Type 0) → Stage start between P Q → MayBecome between new Stays → ((now : Medium) → Q now → Images P now) → Leaves start new P
+unsynced start between new P Q stage becomes images = leaves_lost start between new P Q Stays stage.leaves stage.now becomes (λ old now q step. images_stay old now P step (images old q))
 
 -- a disk at rest whose bytes stand behind the gate
 images_written : (seen : ℕ → ℕ) (at : ℕ) (bytes : List ℕ) (now : Medium) → Rests (overwritten seen (at + 1) bytes) now → Images (IsOpening seen at bytes) now
@@ -46,25 +46,25 @@ pub write_done : (start new : Option Media) (seen : ℕ → ℕ) (at : ℕ) (byt
 write_done start new seen at bytes rests becomes = more start start new (IsOpening seen at bytes) (Rests seen) (Wrote seen at bytes) (λ old now. now ≡ written old (at + 1) bytes) (no_call start seen (IsOpening seen at bytes) rests) becomes
     (wrote_behind seen at bytes) (λ now wrote. images_behind seen at bytes now (behind seen at bytes now wrote))
 
-pub sync_lost : (start mid new : Option Media) (seen : ℕ → ℕ) (at : ℕ) (bytes : List ℕ) → Stage start mid (IsOpening seen at bytes) (Wrote seen at bytes) → MayBecome mid new Stays → Leaves start new (IsOpening seen at bytes)
-sync_lost start mid new seen at bytes stage becomes = unsynced start mid new (IsOpening seen at bytes) (Wrote seen at bytes) stage becomes (λ now wrote. images_behind seen at bytes now (behind seen at bytes now wrote))
+pub sync_lost : (start between new : Option Media) (seen : ℕ → ℕ) (at : ℕ) (bytes : List ℕ) → Stage start between (IsOpening seen at bytes) (Wrote seen at bytes) → MayBecome between new Stays → Leaves start new (IsOpening seen at bytes)
+sync_lost start between new seen at bytes stage becomes = unsynced start between new (IsOpening seen at bytes) (Wrote seen at bytes) stage becomes (λ now wrote. images_behind seen at bytes now (behind seen at bytes now wrote))
 
-pub sync_done : (start mid new : Option Media) (seen : ℕ → ℕ) (at : ℕ) (bytes : List ℕ) → Stage start mid (IsOpening seen at bytes) (Wrote seen at bytes) → Becomes mid new (λ old now. now ≡ settled old)
+pub sync_done : (start between new : Option Media) (seen : ℕ → ℕ) (at : ℕ) (bytes : List ℕ) → Stage start between (IsOpening seen at bytes) (Wrote seen at bytes) → Becomes between new (λ old now. now ≡ settled old)
     → Stage start new (IsOpening seen at bytes) (Rests (overwritten seen (at + 1) bytes))
-sync_done start mid new seen at bytes stage becomes = more start mid new (IsOpening seen at bytes) (Wrote seen at bytes) (Rests (overwritten seen (at + 1) bytes)) (λ old now. now ≡ settled old) stage becomes
+sync_done start between new seen at bytes stage becomes = more start between new (IsOpening seen at bytes) (Wrote seen at bytes) (Rests (overwritten seen (at + 1) bytes)) (λ old now. now ≡ settled old) stage becomes
     (λ old now wrote is. rests_settled (overwritten seen (at + 1) bytes) old now wrote.same is) (images_written seen at bytes)
 
-pub open_lost : (start mid new : Option Media) (seen : ℕ → ℕ) (at : ℕ) (bytes : List ℕ) → Stage start mid (IsOpening seen at bytes) (Rests (overwritten seen (at + 1) bytes)) → MayBecome mid new (IsTorn at 1)
+pub open_lost : (start between new : Option Media) (seen : ℕ → ℕ) (at : ℕ) (bytes : List ℕ) → Stage start between (IsOpening seen at bytes) (Rests (overwritten seen (at + 1) bytes)) → MayBecome between new (IsTorn at 1)
     → Leaves start new (IsOpening seen at bytes)
-open_lost start mid new seen at bytes stage becomes = lost start mid new (IsOpening seen at bytes) (Rests (overwritten seen (at + 1) bytes)) _ (IsTorn at 1) stage becomes (opens_torn seen at bytes) (images_opening seen at bytes)
+open_lost start between new seen at bytes stage becomes = lost start between new (IsOpening seen at bytes) (Rests (overwritten seen (at + 1) bytes)) _ (IsTorn at 1) stage becomes (opens_torn seen at bytes) (images_opening seen at bytes)
 
-pub open_done : (start mid new : Option Media) (seen : ℕ → ℕ) (at : ℕ) (bytes : List ℕ) → Stage start mid (IsOpening seen at bytes) (Rests (overwritten seen (at + 1) bytes)) → Becomes mid new (λ old now. now ≡ written old at (165 ∷ []))
+pub open_done : (start between new : Option Media) (seen : ℕ → ℕ) (at : ℕ) (bytes : List ℕ) → Stage start between (IsOpening seen at bytes) (Rests (overwritten seen (at + 1) bytes)) → Becomes between new (λ old now. now ≡ written old at (165 ∷ []))
     → Stage start new (IsOpening seen at bytes) (Opened seen at bytes)
-open_done start mid new seen at bytes stage becomes = more start mid new (IsOpening seen at bytes) (Rests (overwritten seen (at + 1) bytes)) (Opened seen at bytes) (λ old now. now ≡ written old at (165 ∷ [])) stage becomes
+open_done start between new seen at bytes stage becomes = more start between new (IsOpening seen at bytes) (Rests (overwritten seen (at + 1) bytes)) (Opened seen at bytes) (λ old now. now ≡ written old at (165 ∷ [])) stage becomes
     (opened seen at bytes) (λ now is. images_opening seen at bytes now is.opens)
 
-pub last_lost : (start mid new : Option Media) (seen : ℕ → ℕ) (at : ℕ) (bytes : List ℕ) → Stage start mid (IsOpening seen at bytes) (Opened seen at bytes) → MayBecome mid new Stays → Leaves start new (IsOpening seen at bytes)
-last_lost start mid new seen at bytes stage becomes = unsynced start mid new (IsOpening seen at bytes) (Opened seen at bytes) stage becomes (λ now is. images_opening seen at bytes now is.opens)
+pub last_lost : (start between new : Option Media) (seen : ℕ → ℕ) (at : ℕ) (bytes : List ℕ) → Stage start between (IsOpening seen at bytes) (Opened seen at bytes) → MayBecome between new Stays → Leaves start new (IsOpening seen at bytes)
+last_lost start between new seen at bytes stage becomes = unsynced start between new (IsOpening seen at bytes) (Opened seen at bytes) stage becomes (λ now is. images_opening seen at bytes now is.opens)
 
 images_opened : (seen : ℕ → ℕ) (at : ℕ) (bytes : List ℕ) (old now : Medium) → Opened seen at bytes old → now ≡ settled old → Images (IsOpening seen at bytes) now
 images_opened seen at bytes old now is same =
@@ -74,11 +74,11 @@ images_opened seen at bytes old now is same =
       gate = inr (same_bytes now.seen image (at + 1) (length bytes) (λ place low high. agree place) ∙ done.1.bytes);
     })
 
-pub last_left : (start mid new : Option Media) (seen : ℕ → ℕ) (at : ℕ) (bytes : List ℕ) → Stage start mid (IsOpening seen at bytes) (Opened seen at bytes) → Becomes mid new (λ old now. now ≡ settled old)
+pub last_left : (start between new : Option Media) (seen : ℕ → ℕ) (at : ℕ) (bytes : List ℕ) → Stage start between (IsOpening seen at bytes) (Opened seen at bytes) → Becomes between new (λ old now. now ≡ settled old)
     → Leaves start new (IsOpening seen at bytes)
-last_left start mid new seen at bytes stage becomes = leaves_more start mid new (IsOpening seen at bytes) (Opened seen at bytes) (λ old now. now ≡ settled old) stage.leaves stage.now becomes (images_opened seen at bytes)
+last_left start between new seen at bytes stage becomes = leaves_more start between new (IsOpening seen at bytes) (Opened seen at bytes) (λ old now. now ≡ settled old) stage.leaves stage.now becomes (images_opened seen at bytes)
 
-pub last_done : (start mid new : Option Media) (seen : ℕ → ℕ) (at : ℕ) (bytes : List ℕ) → RestsWith start (Is seen) → Stage start mid (IsOpening seen at bytes) (Opened seen at bytes) → Becomes mid new (λ old now. now ≡ settled old)
+pub last_done : (start between new : Option Media) (seen : ℕ → ℕ) (at : ℕ) (bytes : List ℕ) → RestsWith start (Is seen) → Stage start between (IsOpening seen at bytes) (Opened seen at bytes) → Becomes between new (λ old now. now ≡ settled old)
     → RestsWith new (IsOpened seen at bytes)
-last_done start mid new seen at bytes rests stage becomes = rests_with start new (IsOpening seen at bytes) (IsOpened seen at bytes) (Is seen) (λ now. (now.pending ≡ []) × IsOpened seen at bytes now.seen) rests
-    (last_left start mid new seen at bytes stage becomes) (now_then mid new (Opened seen at bytes) (λ now. (now.pending ≡ []) × IsOpened seen at bytes now.seen) (λ old now. now ≡ settled old) stage.now becomes (settled_opened seen at bytes)) (λ now is. is)
+last_done start between new seen at bytes rests stage becomes = rests_with start new (IsOpening seen at bytes) (IsOpened seen at bytes) (Is seen) (λ now. (now.pending ≡ []) × IsOpened seen at bytes now.seen) rests
+    (last_left start between new seen at bytes stage becomes) (now_then between new (Opened seen at bytes) (λ now. (now.pending ≡ []) × IsOpened seen at bytes now.seen) (λ old now. now ≡ settled old) stage.now becomes (settled_opened seen at bytes)) (λ now is. is)

@@ -30,34 +30,34 @@ each_push : (media : List Medium) (medium : Medium) (P : Medium → Type 0) → 
 each_push [] medium P each last = (last, tt)
 each_push (first ∷ media) medium P each last = (each.0, each_push media medium P each.1 last)
 
-pub leaves_more : (start mid new : Option Media) (P : (ℕ → ℕ) → Type 0) (Q : Medium → Type 0) (Step : Medium → Medium → Type 0)
-    → Leaves start mid P → Now mid Q → Becomes mid new Step → ((old now : Medium) → Q old → Step old now → Images P now) → Leaves start new P
+pub leaves_more : (start between new : Option Media) (P : (ℕ → ℕ) → Type 0) (Q : Medium → Type 0) (Step : Medium → Medium → Type 0)
+    → Leaves start between P → Now between Q → Becomes between new Step → ((old now : Medium) → Q old → Step old now → Images P now) → Leaves start new P
 leaves_more None None None P Q Step leaves now becomes images = tt
 leaves_more None None (Some new) P Q Step leaves now becomes images = absurd becomes
-leaves_more None (Some mid) new P Q Step leaves now becomes images = absurd leaves
+leaves_more None (Some between) new P Q Step leaves now becomes images = absurd leaves
 leaves_more (Some start) None new P Q Step leaves now becomes images = absurd leaves
-leaves_more (Some start) (Some mid) None P Q Step leaves now becomes images = absurd becomes
-leaves_more (Some start) (Some mid) (Some new) P Q Step leaves now becomes images = (
+leaves_more (Some start) (Some between) None P Q Step leaves now becomes images = absurd becomes
+leaves_more (Some start) (Some between) (Some new) P Q Step leaves now becomes images = (
   leaves.0 ++ becomes.0 ∷ [],
   ap all_media becomes.1 ∙ ap (λ media. media ++ becomes.0 ∷ []) leaves.1 ∙ append_assoc (all_media start) leaves.0 (becomes.0 ∷ []),
-  each_push leaves.0 becomes.0 (Images P) leaves.2 (images mid.now becomes.0 now becomes.2),
+  each_push leaves.0 becomes.0 (Images P) leaves.2 (images between.now becomes.0 now becomes.2),
 )
 
-pub leaves_lost : (start mid new : Option Media) (P : (ℕ → ℕ) → Type 0) (Q : Medium → Type 0) (Step : Medium → Medium → Type 0)
-    → Leaves start mid P → Now mid Q → MayBecome mid new Step → ((old now : Medium) → Q old → Step old now → Images P now) → Leaves start new P
+pub leaves_lost : (start between new : Option Media) (P : (ℕ → ℕ) → Type 0) (Q : Medium → Type 0) (Step : Medium → Medium → Type 0)
+    → Leaves start between P → Now between Q → MayBecome between new Step → ((old now : Medium) → Q old → Step old now → Images P now) → Leaves start new P
 leaves_lost None None None P Q Step leaves now becomes images = tt
 leaves_lost None None (Some new) P Q Step leaves now becomes images = absurd becomes
-leaves_lost None (Some mid) new P Q Step leaves now becomes images = absurd leaves
+leaves_lost None (Some between) new P Q Step leaves now becomes images = absurd leaves
 leaves_lost (Some start) None new P Q Step leaves now becomes images = absurd leaves
-leaves_lost (Some start) (Some mid) None P Q Step leaves now becomes images = absurd becomes
-leaves_lost (Some start) (Some mid) (Some new) P Q Step leaves now (inl same) images = subst (λ media. Leaves (Some start) (Some media) P) (sym same) leaves
-leaves_lost (Some start) (Some mid) (Some new) P Q Step leaves now (inr becomes) images = leaves_more (Some start) (Some mid) (Some new) P Q Step leaves now becomes images
+leaves_lost (Some start) (Some between) None P Q Step leaves now becomes images = absurd becomes
+leaves_lost (Some start) (Some between) (Some new) P Q Step leaves now (inl same) images = subst (λ media. Leaves (Some start) (Some media) P) (sym same) leaves
+leaves_lost (Some start) (Some between) (Some new) P Q Step leaves now (inr becomes) images = leaves_more (Some start) (Some between) (Some new) P Q Step leaves now becomes images
 
-pub now_then : (mid new : Option Media) (Q R : Medium → Type 0) (Step : Medium → Medium → Type 0) → Now mid Q → Becomes mid new Step → ((old now : Medium) → Q old → Step old now → R now) → Now new R
+pub now_then : (between new : Option Media) (Q R : Medium → Type 0) (Step : Medium → Medium → Type 0) → Now between Q → Becomes between new Step → ((old now : Medium) → Q old → Step old now → R now) → Now new R
 now_then None None Q R Step now becomes goes = tt
 now_then None (Some new) Q R Step now becomes goes = absurd becomes
-now_then (Some mid) None Q R Step now becomes goes = absurd becomes
-now_then (Some mid) (Some new) Q R Step now becomes goes = subst (λ media. R media.now) (sym becomes.1) (goes mid.now becomes.0 now becomes.2)
+now_then (Some between) None Q R Step now becomes goes = absurd becomes
+now_then (Some between) (Some new) Q R Step now becomes goes = subst (λ media. R media.now) (sym becomes.1) (goes between.now becomes.0 now becomes.2)
 
 -- the disk is told in the end where it was told at the start
 pub rests_with : (start new : Option Media) (P Rest Any : (ℕ → ℕ) → Type 0) (Q : Medium → Type 0) → RestsWith start Any → Leaves start new P → Now new Q
@@ -97,13 +97,13 @@ each_join [] back P a b = b
 each_join (medium ∷ front) back P a b = (a.0, each_join front back P a.1 b)
 
 -- one call after the other
-pub leaves_then : (start mid new : Option Media) (P : (ℕ → ℕ) → Type 0) → Leaves start mid P → Leaves mid new P → Leaves start new P
+pub leaves_then : (start between new : Option Media) (P : (ℕ → ℕ) → Type 0) → Leaves start between P → Leaves between new P → Leaves start new P
 leaves_then None None None P a b = tt
 leaves_then None None (Some new) P a b = absurd b
-leaves_then None (Some mid) new P a b = absurd a
+leaves_then None (Some between) new P a b = absurd a
 leaves_then (Some start) None new P a b = absurd a
-leaves_then (Some start) (Some mid) None P a b = absurd b
-leaves_then (Some start) (Some mid) (Some new) P a b = (
+leaves_then (Some start) (Some between) None P a b = absurd b
+leaves_then (Some start) (Some between) (Some new) P a b = (
   a.0 ++ b.0,
   b.1 ∙ ap (λ media. media ++ b.0) a.1 ∙ append_assoc (all_media start) a.0 b.0,
   each_join a.0 b.0 (Images P) a.2 b.2,

@@ -4,7 +4,7 @@ use Rattle.std.proofs.lemmas.List.{length_push}
 use Rattle.dots_disk.specs.Media.{Media}
 use Rattle.dots_disk.specs.Becoming.{Leaves, RestsWith}
 use Rattle.slot_store.specs.Layout.{place_of, needed_of}
-use Rattle.slot_store.specs.Standing.{JournalValue, Stands, HoldsEither, sized}
+use Rattle.slot_store.specs.StoreValues.{JournalValue, RepresentsRecords, HoldsEither, sized}
 use Rattle.slot_store.specs.Opening.{IsOpening, IsOpened, Is}
 use Rattle.slot_store.proofs.Steps.{leaves_as, seen_at_rest, rests_as}
 use Rattle.slot_store.proofs.Appending.{behind_header, either, one_more}
@@ -16,18 +16,18 @@ slot_fits slots (suc zero) slot half under = omega arith
 slot_fits slots (suc (suc n)) slot half under = absurd (omega arith)
 
 -- the slot behind the records, by what the store knows
-next_place : (store : JournalValue) (digest : List ℕ) (records : List (List ℕ)) (seen : ℕ → ℕ) (at : ℕ) → at ≡ place_of store.slots (store.selector % 2) store.used → Stands store digest records seen
+next_place : (store : JournalValue) (digest : List ℕ) (records : List (List ℕ)) (seen : ℕ → ℕ) (at : ℕ) → at ≡ place_of store.slots (store.selector % 2) store.used → RepresentsRecords store digest records seen
     → at ≡ place_of store.slots (seen 48 % 2) (length records)
 next_place store digest records seen at is stands = is ∙ ap (λ n. place_of store.slots (n % 2) store.used) (sym stands.selector) ∙ ap (place_of store.slots (seen 48 % 2)) stands.used
 
 pub append_leaves : (start new : Option Media) (store : JournalValue) (digest : List ℕ) (records : List (List ℕ)) (added : List ℕ) (at : ℕ) (piece : List ℕ) → store.used < store.slots → length added ≤ 8189
     → at ≡ place_of store.slots (store.selector % 2) store.used → piece ≡ sized added → ((seen : ℕ → ℕ) → RestsWith start (Is seen) → Leaves start new (IsOpening seen at piece))
-    → RestsWith start (Stands store digest records) → Leaves start new (HoldsEither store.slots digest records (records ++ added ∷ []))
+    → RestsWith start (RepresentsRecords store digest records) → Leaves start new (HoldsEither store.slots digest records (records ++ added ∷ []))
 append_leaves start new store digest records added at piece room fits place bytes moments rests =
-    let found = seen_at_rest start (Stands store digest records) rests in
+    let found = seen_at_rest start (RepresentsRecords store digest records) rests in
     leaves_as start new (IsOpening found.0 at piece) (HoldsEither store.slots digest records (records ++ added ∷ [])) (holds found.0 found.2) (moments found.0 found.1)
   where
-    holds : (seen : ℕ → ℕ) → Stands store digest records seen → (image : ℕ → ℕ) → IsOpening seen at piece image → HoldsEither store.slots digest records (records ++ added ∷ []) image
+    holds : (seen : ℕ → ℕ) → RepresentsRecords store digest records seen → (image : ℕ → ℕ) → IsOpening seen at piece image → HoldsEither store.slots digest records (records ++ added ∷ []) image
     holds seen stands image opening =
         let used = stands.used in
         let space : length records < store.slots = omega arith in
@@ -36,12 +36,12 @@ append_leaves start new store digest records added at piece room fits place byte
 
 pub append_rests : (start new : Option Media) (store : JournalValue) (digest : List ℕ) (records : List (List ℕ)) (added : List ℕ) (at : ℕ) (piece : List ℕ) → store.used < store.slots → length added ≤ 8189
     → at ≡ place_of store.slots (store.selector % 2) store.used → piece ≡ sized added → ((seen : ℕ → ℕ) → RestsWith start (Is seen) → RestsWith new (IsOpened seen at piece))
-    → RestsWith start (Stands store digest records) → RestsWith new (Stands (record store { used = store.used + 1 }) digest (records ++ added ∷ []))
+    → RestsWith start (RepresentsRecords store digest records) → RestsWith new (RepresentsRecords (record store { used = store.used + 1 }) digest (records ++ added ∷ []))
 append_rests start new store digest records added at piece room fits place bytes opened rests =
-    let found = seen_at_rest start (Stands store digest records) rests in
-    rests_as new (IsOpened found.0 at piece) (Stands (record store { used = store.used + 1 }) digest (records ++ added ∷ [])) (holds found.0 found.2) (opened found.0 found.1)
+    let found = seen_at_rest start (RepresentsRecords store digest records) rests in
+    rests_as new (IsOpened found.0 at piece) (RepresentsRecords (record store { used = store.used + 1 }) digest (records ++ added ∷ [])) (holds found.0 found.2) (opened found.0 found.1)
   where
-    holds : (seen : ℕ → ℕ) → Stands store digest records seen → (image : ℕ → ℕ) → IsOpened seen at piece image → Stands (record store { used = store.used + 1 }) digest (records ++ added ∷ []) image
+    holds : (seen : ℕ → ℕ) → RepresentsRecords store digest records seen → (image : ℕ → ℕ) → IsOpened seen at piece image → RepresentsRecords (record store { used = store.used + 1 }) digest (records ++ added ∷ []) image
     holds seen stands image is =
         let used = stands.used in
         let space : length records < store.slots = omega arith in

@@ -1,5 +1,5 @@
 pub mod Layout
-pub mod Standing
+pub mod StoreValues
 pub mod Opening
 pub mod Gates
 pub mod Refusing

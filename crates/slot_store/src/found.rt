@@ -4,7 +4,7 @@ ghost use Rattle.std.specs.Prelude.{◌≡◌, ℕ, ◌+◌, ◌≤◌, IfOk, Ma
 ghost use Rattle.dots_host.specs.Causes.{HasCause};
 ghost use Rattle.dots_disk.specs.Becoming.{KeepsMedia};
 ghost use Rattle.slot_store.specs.Gates.{Sees};
-ghost use Rattle.slot_store.specs.Standing.{IsFound};
+ghost use Rattle.slot_store.specs.StoreValues.{IsFound};
 
 use crate::layout::{MAX_RECORD, SLOT};
 use dots_disk::Disk;

@@ -1,7 +1,7 @@
 //! A record with its length before it.
 
 ghost use Rattle.std.specs.Prelude.{◌≡◌, ◌+◌, ◌≤◌, length, take};
-ghost use Rattle.slot_store.specs.Standing.{sized};
+ghost use Rattle.slot_store.specs.StoreValues.{sized};
 
 /// Puts the record to the front of the room behind two bytes for its length, and answers how many bytes that are.
 pub fn put_sized(room: &mut [u8], bytes: &[u8]) -> usize

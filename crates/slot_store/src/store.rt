@@ -5,7 +5,7 @@ ghost use Rattle.slot_store.specs.Layout.{place_of, needed_of, HoldsRecords};
 ghost use Rattle.slot_store.specs.Opening.{Is};
 ghost use Rattle.slot_store.specs.Gates.{Sees};
 ghost use Rattle.slot_store.specs.Refusing.{Refuses, Caused};
-ghost use Rattle.slot_store.specs.Standing.{Stands, IsKnown, HoldsEither};
+ghost use Rattle.slot_store.specs.StoreValues.{RepresentsRecords, IsKnown, HoldsEither};
 ghost use Rattle.slot_store.specs.Copying.{AreSlots, kept_of, other_selector};
 
 use crate::copying::move_half;
@@ -32,7 +32,7 @@ pub struct SlotStore {
 
 impl Model for SlotStore {
     ghost use Rattle.std.specs.Prelude.{◌≡◌, ◌≤◌, length};
-    ghost use Rattle.slot_store.specs.Standing.{JournalValue};
+    ghost use Rattle.slot_store.specs.StoreValues.{JournalValue};
 
     ghost Value = { JournalValue };
 
@@ -57,9 +57,9 @@ impl SlotStore {
             HoldsRecords slots digest.now seen records →
             Leaves (D.media disk.old) (D.media disk.new) (λ image. HoldsRecords slots digest.now image records) }
 
-        // In the end it stands for the list that the disk held.
+        // In the end it represents the list that the disk held.
         ensures opened { IfOk result (λ store. (seen : ℕ → ℕ) (records : List (List ℕ)) → Sees (D.media disk.old) seen →
-            HoldsRecords slots digest.now seen records → RestsWith (D.media disk.new) (Stands store digest.now records)) }
+            HoldsRecords slots digest.now seen records → RestsWith (D.media disk.new) (RepresentsRecords store digest.now records)) }
         ensures size { IfOk result (λ store. (store.slots ≡ slots) × (needed_of slots ≤ D.extent disk.new)) }
         ensures known { IfOk result (λ store. (seen : ℕ → ℕ) → Sees (D.media disk.old) seen →
             RestsWith (D.media disk.new) (IsKnown store digest.now seen)) }
@@ -128,12 +128,12 @@ impl SlotStore {
 
         // At each moment each image holds the records, or one more; in the end one more alone.
         ensures moments { (digest : List ℕ) (records : List (List ℕ)) →
-            RestsWith (D.media disk.old) (Stands self.old digest records) →
+            RestsWith (D.media disk.old) (RepresentsRecords self.old digest records) →
             Leaves (D.media disk.old) (D.media disk.new)
             (HoldsEither self.old.slots digest records (records ++ bytes.now ∷ [])) }
         ensures rests { OnOk result ((digest : List ℕ) (records : List (List ℕ)) →
-            RestsWith (D.media disk.old) (Stands self.old digest records) →
-            RestsWith (D.media disk.new) (Stands self.new digest (records ++ bytes.now ∷ []))) }
+            RestsWith (D.media disk.old) (RepresentsRecords self.old digest records) →
+            RestsWith (D.media disk.new) (RepresentsRecords self.new digest (records ++ bytes.now ∷ []))) }
 
         ensures extent { D.extent disk.new ≡ D.extent disk.old }
         ensures cause { HasCause (D.faults disk.old) (D.faults disk.new) result }
@@ -165,12 +165,12 @@ impl SlotStore {
 
         // At each moment each image holds the records, or the kept ones; in the end the kept ones alone.
         ensures moments { (digest : List ℕ) (records : List (List ℕ)) →
-            RestsWith (D.media disk.old) (Stands self.old digest records) →
+            RestsWith (D.media disk.old) (RepresentsRecords self.old digest records) →
             Leaves (D.media disk.old) (D.media disk.new)
             (HoldsEither self.old.slots digest records (kept_of records keep.now)) }
         ensures rests { OnOk result ((digest : List ℕ) (records : List (List ℕ)) →
-            RestsWith (D.media disk.old) (Stands self.old digest records) →
-            RestsWith (D.media disk.new) (Stands self.new digest (kept_of records keep.now))) }
+            RestsWith (D.media disk.old) (RepresentsRecords self.old digest records) →
+            RestsWith (D.media disk.new) (RepresentsRecords self.new digest (kept_of records keep.now))) }
 
         ensures extent { D.extent disk.new ≡ D.extent disk.old }
         ensures cause { HasCause (D.faults disk.old) (D.faults disk.new) result }

@@ -4,7 +4,7 @@
 //! time for a lifetime, what is due at a time, what is heard of a datagram at a time, and the ledger.
 
 use crate::row::Row;
-use crate::tables::{Rows, Told, all_hold, name};
+use crate::tables::{Rows, Worded, all_hold, name};
 use acl_lists::Asked;
 use dots_client::{Ask, AskFault, ClientCore, Heard, MAX_MID, cuid_of};
 use dots_lists::{Bytes, List, Name};
@@ -114,22 +114,22 @@ fn step(alloc: Global, client: &mut ClientCore, row: &mut Row<'_>) -> Option<Str
 
 /// What the steps of a row tell, one after the other.
 fn steps(alloc: Global, client: &mut ClientCore, row: &mut Row<'_>) -> Option<String> {
-    let mut told = String::new(alloc);
+    let mut worded = String::new(alloc);
     for _ in 0..8 {
         if row.rest().is_empty() {
-            return Some(told);
+            return Some(worded);
         }
-        if !told.is_empty() {
-            told.push_str(" ").ok()?;
+        if !worded.is_empty() {
+            worded.push_str(" ").ok()?;
         }
         let text = step(alloc, client, row)?;
-        told.push_str(text.as_str()).ok()?;
+        worded.push_str(text.as_str()).ok()?;
     }
     None
 }
 
 /// What the steps of a row tell.
-pub fn told(alloc: Global, row: &mut Row<'_>) -> Option<String> {
+pub fn worded(alloc: Global, row: &mut Row<'_>) -> Option<String> {
     let mid = row.number(" ");
     let mut client = client_of(alloc, mid)?;
     steps(alloc, &mut client, row)
@@ -138,5 +138,5 @@ pub fn told(alloc: Global, row: &mut Row<'_>) -> Option<String> {
 #[test]
 fn clients_ask_and_hear(rt: HostRuntime) {
     assert!(rt; cuid_of(b"abc").as_slice() == b"ungWv48Bz-pBQUDeXa4iIw".as_slice());
-    all_hold(&rt, rt.alloc(), Rows::Told(Told::Clients), CLIENTS);
+    all_hold(&rt, rt.alloc(), Rows::Worded(Worded::Clients), CLIENTS);
 }

@@ -1,13 +1,13 @@
 //! Bodies of clients and of aliases.
 
 use crate::data_asking::Form;
-use crate::tables::{Rows, Told, all_hold};
+use crate::tables::{Rows, Worded, all_hold};
 
 /// A PUT of the alias `x` with these members, and what is told of it.
 const ALIAS: Form<'static> = Form {
     head: "PUT /dots-client=a/aliases/alias=x",
     body: ("{\"ietf-dots-data-channel:alias\":[{\"name\":\"x\"", "}]}"),
-    told: (
+    worded: (
         "PutAlias /dots-client=a/aliases/alias=x|{\"name\":\"x\"",
         "}",
     ),
@@ -15,7 +15,7 @@ const ALIAS: Form<'static> = Form {
 
 /// The same where it is refused.
 const REFUSED: Form<'static> = Form {
-    told: ("Body(", ")"),
+    worded: ("Body(", ")"),
     ..ALIAS
 };
 
@@ -66,8 +66,8 @@ const BAD_MEMBERS: &str = r#" = Missing(TargetPrefix)
 
 #[test]
 fn clients_and_aliases(rt: HostRuntime) {
-    all_hold(&rt, rt.alloc(), Rows::Told(Told::Data), REQUESTS);
-    all_hold(&rt, rt.alloc(), Rows::Told(Told::Data), BODIES);
+    all_hold(&rt, rt.alloc(), Rows::Worded(Worded::Data), REQUESTS);
+    all_hold(&rt, rt.alloc(), Rows::Worded(Worded::Data), BODIES);
     all_hold(&rt, rt.alloc(), Rows::Members(ALIAS), MEMBERS);
     all_hold(&rt, rt.alloc(), Rows::Members(REFUSED), BAD_MEMBERS);
 }

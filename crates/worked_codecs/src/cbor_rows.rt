@@ -16,7 +16,7 @@ fn written_again(alloc: Global, bytes: &[u8]) -> Result<Bytes, CborFault> {
 }
 
 /// That in hexadecimal, or the words of the first fault.
-fn told(alloc: Global, bytes: &[u8]) -> Option<String> {
+fn worded(alloc: Global, bytes: &[u8]) -> Option<String> {
     match written_again(alloc, bytes) {
         Ok(encoding) => hex::encode(alloc, encoding.items()).ok(),
         Err(fault) => format!(in alloc; "{fault}").ok(),
@@ -28,8 +28,8 @@ pub fn are_answered(alloc: Global, row: &mut Row<'_>) -> Option<bool> {
     let mut right = true;
     for digits in row.rest().split(' ') {
         let bytes = row.bytes(alloc, digits);
-        let told = told(alloc, bytes.as_slice())?;
-        right &= told.as_str() == row.want_or(digits);
+        let worded = worded(alloc, bytes.as_slice())?;
+        right &= worded.as_str() == row.want_or(digits);
     }
     Some(right)
 }

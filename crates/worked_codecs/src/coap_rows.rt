@@ -4,7 +4,7 @@ ghost use Rattle.std.specs.Prelude.{◌≤◌};
 ghost use Rattle.coap_message.specs.Parts.{IsValid};
 
 use crate::row::Row;
-use crate::tables::{Rows, Told, all_hold};
+use crate::tables::{Rows, Worded, all_hold};
 use coap_message::{
     Kind, Message, OptionPart, Options, Parts, Token, decode, encode_into, encoded_len, salvage,
 };
@@ -254,6 +254,6 @@ fn are_written() -> bool {
 fn messages_are_read_and_written(rt: HostRuntime) {
     assert!(rt; is_read() && are_written());
     all_hold(&rt, rt.alloc(), Rows::Options, FORMS);
-    all_hold(&rt, rt.alloc(), Rows::Told(Told::Messages), FAULTS);
-    all_hold(&rt, rt.alloc(), Rows::Told(Told::Salvaged), SALVAGED);
+    all_hold(&rt, rt.alloc(), Rows::Worded(Worded::Messages), FAULTS);
+    all_hold(&rt, rt.alloc(), Rows::Worded(Worded::Salvaged), SALVAGED);
 }

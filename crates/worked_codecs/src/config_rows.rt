@@ -1,7 +1,7 @@
 //! Which configurations of sessions are taken (RFC 9132, section 4.5.2).
 
 use crate::row::Row;
-use crate::tables::{Rows, Told, all_hold};
+use crate::tables::{Rows, Worded, all_hold};
 use dots_history::{Config, Values};
 use dots_keys::{ConfigBody, Offer};
 use session_core::{ConfigFault, negotiate};
@@ -204,8 +204,8 @@ fn are_defaults() -> bool {
 #[test]
 fn configurations_are_judged(rt: HostRuntime) {
     assert!(rt; are_defaults());
-    all_hold(&rt, rt.alloc(), Rows::Told(Told::Configs), RANGES);
-    all_hold(&rt, rt.alloc(), Rows::Told(Told::Configs), ZERO);
-    all_hold(&rt, rt.alloc(), Rows::Told(Told::Configs), FIRST);
-    all_hold(&rt, rt.alloc(), Rows::Told(Told::Configs), LOWER);
+    all_hold(&rt, rt.alloc(), Rows::Worded(Worded::Configs), RANGES);
+    all_hold(&rt, rt.alloc(), Rows::Worded(Worded::Configs), ZERO);
+    all_hold(&rt, rt.alloc(), Rows::Worded(Worded::Configs), FIRST);
+    all_hold(&rt, rt.alloc(), Rows::Worded(Worded::Configs), LOWER);
 }

@@ -2,7 +2,7 @@
 
 use crate::connection::Connection;
 use crate::row::Row;
-use crate::tables::{Rows, Told, all_hold, unescaped};
+use crate::tables::{Rows, Worded, all_hold, unescaped};
 use http_cut::{Cut, HeadRoom, HttpRequest, Stream};
 use std::alloc::Global;
 
@@ -89,5 +89,5 @@ fn are_handed_out(alloc: Global) -> Option<bool> {
 #[test]
 fn requests_stand_in_front(rt: HostRuntime) {
     assert!(rt; matches!(are_handed_out(rt.alloc()), Some(true)));
-    all_hold(&rt, rt.alloc(), Rows::Told(Told::Fronts), FRONTS);
+    all_hold(&rt, rt.alloc(), Rows::Worded(Worded::Fronts), FRONTS);
 }

@@ -57,7 +57,7 @@ fn printed(alloc: Global, request: &RestRequest) -> Option<String> {
 }
 
 /// What a request asks, where below the root, and behind a bar with which alias or access list.
-fn told(alloc: Global, request: &RestRequest) -> Option<String> {
+fn worded(alloc: Global, request: &RestRequest) -> Option<String> {
     let path = location_of(alloc, request).ok()?;
     let body = printed(alloc, request)?;
     let place = str::from_utf8(path.items()).unwrap_or("");
@@ -82,9 +82,9 @@ pub fn answer(alloc: Global, request: &HttpRequest) -> Option<String> {
     let mut room = JsonRoom::new(alloc);
     match read_rest(alloc, &mut room, request) {
         Ok(asked) => {
-            let told = told(alloc, &asked);
+            let worded = worded(alloc, &asked);
             drop(asked);
-            told
+            worded
         }
         Err(reject) => refused(alloc, reject),
     }
@@ -123,7 +123,7 @@ pub fn asked_by(alloc: Global, row: &mut Row<'_>) -> Option<String> {
 pub struct Form<'a> {
     pub head: &'a str,
     pub body: (&'a str, &'a str),
-    pub told: (&'a str, &'a str),
+    pub worded: (&'a str, &'a str),
 }
 
 /// Whether the text is these three, one behind the other.
@@ -138,11 +138,11 @@ fn is_joined(text: &str, front: &str, want: &str, back: &str) -> bool {
 }
 
 /// Whether what is told of the members of a row is what is wanted, with what stands round both.
-pub fn is_told_in(alloc: Global, form: Form<'_>, row: &Row<'_>) -> Option<bool> {
+pub fn is_worded_in(alloc: Global, form: Form<'_>, row: &Row<'_>) -> Option<bool> {
     let (front, back) = form.body;
     let members = row.rest();
     let body = format!(in alloc; "{front}{members}{back}").ok()?;
-    let told = asked(alloc, form.head, &body)?;
-    let (front, back) = form.told;
-    Some(is_joined(&told, front, row.want(), back))
+    let worded = asked(alloc, form.head, &body)?;
+    let (front, back) = form.worded;
+    Some(is_joined(&worded, front, row.want(), back))
 }

@@ -3,7 +3,7 @@
 use crate::connection::Connection;
 use crate::data_asking::answer;
 use crate::row::Row;
-use crate::tables::{Rows, Told, all_hold};
+use crate::tables::{Rows, Worded, all_hold};
 use http_cut::Cut;
 use std::alloc::{AllocError, Global};
 use std::test::Fail;
@@ -57,7 +57,7 @@ fn longest(alloc: Global) -> Result<String, AllocError> {
 #[test]
 fn messages_are_read_from_connections(rt: HostRuntime) -> Result<(), Fail> {
     let longest = longest(rt.alloc())?;
-    all_hold(&rt, rt.alloc(), Rows::Told(Told::Exchanges), MESSAGES);
-    all_hold(&rt, rt.alloc(), Rows::Told(Told::Exchanges), &longest);
+    all_hold(&rt, rt.alloc(), Rows::Worded(Worded::Exchanges), MESSAGES);
+    all_hold(&rt, rt.alloc(), Rows::Worded(Worded::Exchanges), &longest);
     Ok(())
 }

@@ -1,7 +1,7 @@
 //! Bodies of access lists.
 
 use crate::data_asking::Form;
-use crate::tables::{Rows, Told, all_hold};
+use crate::tables::{Rows, Worded, all_hold};
 use std::alloc::{AllocError, Global};
 use std::test::Fail;
 
@@ -12,7 +12,7 @@ const ENTRIES: Form<'static> = Form {
         "{\"ietf-dots-data-channel:acl\":[{\"name\":\"x\",\"type\":\"ipv4-acl-type\",\"aces\":{\"ace\":[",
         "]}}]}",
     ),
-    told: (
+    worded: (
         "PutAcl /dots-client=a/acls/acl=x|{\"aces\":{\"ace\":[",
         "]},\"activation-type\":\"activate-when-mitigating\",\"name\":\"x\",\"type\":\"ipv4-acl-type\"}",
     ),
@@ -24,7 +24,7 @@ const MATCHES: Form<'static> = Form {
         "{\"ietf-dots-data-channel:acl\":[{\"name\":\"x\",\"type\":\"ipv4-acl-type\",\"aces\":{\"ace\":[{\"name\":\"e\",\"matches\":{",
         "},\"actions\":{\"forwarding\":\"drop\"}}]}}]}",
     ),
-    told: (
+    worded: (
         "PutAcl /dots-client=a/acls/acl=x|{\"aces\":{\"ace\":[{\"actions\":{\"forwarding\":\"drop\"},",
         "\"name\":\"e\"}]},\"activation-type\":\"activate-when-mitigating\",\"name\":\"x\",\"type\":\"ipv4-acl-type\"}",
     ),
@@ -37,7 +37,7 @@ const MATCHES_OF_IPV6: Form<'static> = Form {
         "{\"ietf-dots-data-channel:acl\":[{\"name\":\"x\",\"type\":\"ipv6-acl-type\",\"aces\":{\"ace\":[{\"name\":\"e\",\"matches\":{",
         "},\"actions\":{\"forwarding\":\"drop\"}}]}}]}",
     ),
-    told: (
+    worded: (
         "PutAcl /dots-client=a/acls/acl=x|{\"aces\":{\"ace\":[{\"actions\":{\"forwarding\":\"drop\"},",
         "\"name\":\"e\"}]},\"activation-type\":\"activate-when-mitigating\",\"name\":\"x\",\"type\":\"ipv6-acl-type\"}",
     ),
@@ -51,16 +51,16 @@ const REFUSED: (&str, &str) = ("Body(", ")");
 const BAD_LIST: Form<'static> = Form {
     head: "PUT /dots-client=a/acls/acl=x",
     body: ("{\"ietf-dots-data-channel:acl\":[{\"name\":\"x\"", "}]}"),
-    told: REFUSED,
+    worded: REFUSED,
 };
 
 const BAD_ENTRIES: Form<'static> = Form {
-    told: REFUSED,
+    worded: REFUSED,
     ..ENTRIES
 };
 
 const BAD_MATCHES: Form<'static> = Form {
-    told: REFUSED,
+    worded: REFUSED,
     ..MATCHES
 };
 
@@ -161,7 +161,7 @@ fn too_many(alloc: Global) -> Result<String, AllocError> {
 
 #[test]
 fn access_lists(rt: HostRuntime) {
-    all_hold(&rt, rt.alloc(), Rows::Told(Told::Data), REQUESTS);
+    all_hold(&rt, rt.alloc(), Rows::Worded(Worded::Data), REQUESTS);
     all_hold(&rt, rt.alloc(), Rows::Members(BAD_LIST), REFUSED_LISTS);
     all_hold(&rt, rt.alloc(), Rows::Members(BAD_ENTRIES), REFUSED_ENTRIES);
     all_hold(&rt, rt.alloc(), Rows::Members(MATCHES), OF_IPV4);

@@ -1,6 +1,6 @@
 //! Paths, methods and what is refused before the body.
 
-use crate::tables::{Rows, Told, all_hold};
+use crate::tables::{Rows, Worded, all_hold};
 
 /// Requests without a body by their paths, with names as RFC 3986, section 2.1 encodes them.
 const PATHS: &str = r#"GET /dots-client=a| = GetClient /dots-client=a|
@@ -52,7 +52,7 @@ POST  -|{ = NotJson"#;
 
 #[test]
 fn paths(rt: HostRuntime) {
-    all_hold(&rt, rt.alloc(), Rows::Told(Told::Data), PATHS);
-    all_hold(&rt, rt.alloc(), Rows::Told(Told::Data), EXAMPLES);
-    all_hold(&rt, rt.alloc(), Rows::Told(Told::Data), HEADS);
+    all_hold(&rt, rt.alloc(), Rows::Worded(Worded::Data), PATHS);
+    all_hold(&rt, rt.alloc(), Rows::Worded(Worded::Data), EXAMPLES);
+    all_hold(&rt, rt.alloc(), Rows::Worded(Worded::Data), HEADS);
 }

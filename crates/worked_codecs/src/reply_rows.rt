@@ -1,7 +1,7 @@
 //! Bodies of replies, in hexadecimal.
 
 use crate::row::Row;
-use crate::tables::{Rows, Told, all_hold, name};
+use crate::tables::{Rows, Worded, all_hold, name};
 use acl_lists::{Asked, PrefixList};
 use dots_lists::{Bytes, List};
 use ip_scope::{PortRange, Prefix, parse_prefix};
@@ -13,7 +13,7 @@ use std::alloc::Global;
 
 /// What is told, and its body (RFC 9132, sections 4.4.1.3, 4.4.2, 4.5.1 and 4.7).
 ///
-/// `told` has the content, the mids, the seconds left, the start, the status, and what was asked for: prefixes behind `p=`, ranges behind
+/// `worded` has the content, the mids, the seconds left, the start, the status, and what was asked for: prefixes behind `p=`, ranges behind
 /// `r=`, protocols behind `n=`, host names behind `f=` and aliases behind `g=`. A conflict has the mid that was asked for. A session has its
 /// sid, and the values while a mitigation is active and while none is. What isn't there is `-`.
 const BODIES: &str = "granted 123 3600 = a101a10281a205187b0e190e10
@@ -120,7 +120,7 @@ fn views_of<'a>(
 }
 
 /// What is told of mitigations for which nothing is asked yet.
-fn told_of(alloc: Global, asked: &mut Asked, row: &mut Row<'_>) -> Option<String> {
+fn worded_of(alloc: Global, asked: &mut Asked, row: &mut Row<'_>) -> Option<String> {
     let letter = row.text(" ");
     let mids = row.text(" ");
     let left = row.number::<i32>(" ");
@@ -141,7 +141,7 @@ fn told_of(alloc: Global, asked: &mut Asked, row: &mut Row<'_>) -> Option<String
 
 fn mitigations(alloc: Global, row: &mut Row<'_>) -> Option<String> {
     let mut asked = nothing_asked(alloc);
-    told_of(alloc, &mut asked, row)
+    worded_of(alloc, &mut asked, row)
 }
 
 fn cause_of(alloc: Global, row: &mut Row<'_>) -> Option<ConflictCause> {
@@ -203,5 +203,5 @@ pub fn spelled(alloc: Global, row: &mut Row<'_>) -> Option<String> {
 
 #[test]
 fn bodies_of_replies(rt: HostRuntime) {
-    all_hold(&rt, rt.alloc(), Rows::Told(Told::Replies), BODIES);
+    all_hold(&rt, rt.alloc(), Rows::Worded(Worded::Replies), BODIES);
 }

@@ -1,7 +1,7 @@
 //! Messages of the signal channel: what they ask, and what they are refused with (RFC 9132, sections 4.4 to 4.7 and 6).
 
 use crate::row::Row;
-use crate::tables::{Rows, Told, all_hold, unescaped};
+use crate::tables::{Rows, Worded, all_hold, unescaped};
 use coap_message::{Message, decode};
 use dots_keys::{Content, MAX_TEXT, Observe, Reject, Request, read_request};
 use std::alloc::Global;
@@ -202,9 +202,9 @@ pub fn answer(alloc: Global, row: &mut Row<'_>) -> Option<String> {
 
 #[test]
 fn requests_are_read_or_refused(rt: HostRuntime) {
-    all_hold(&rt, rt.alloc(), Rows::Told(Told::Requests), HEADS);
-    all_hold(&rt, rt.alloc(), Rows::Told(Told::Requests), PATHS);
-    all_hold(&rt, rt.alloc(), Rows::Told(Told::Requests), BODIES);
-    all_hold(&rt, rt.alloc(), Rows::Told(Told::Requests), SCOPES);
-    all_hold(&rt, rt.alloc(), Rows::Told(Told::Requests), CONFIGS);
+    all_hold(&rt, rt.alloc(), Rows::Worded(Worded::Requests), HEADS);
+    all_hold(&rt, rt.alloc(), Rows::Worded(Worded::Requests), PATHS);
+    all_hold(&rt, rt.alloc(), Rows::Worded(Worded::Requests), BODIES);
+    all_hold(&rt, rt.alloc(), Rows::Worded(Worded::Requests), SCOPES);
+    all_hold(&rt, rt.alloc(), Rows::Worded(Worded::Requests), CONFIGS);
 }

@@ -2,7 +2,7 @@
 
 use crate::connection::Connection;
 use crate::row::Row;
-use crate::tables::{Rows, Told, all_hold, unescaped};
+use crate::tables::{Rows, Worded, all_hold, unescaped};
 use http_cut::{HeadRoom, OwnedRequest, Stream, StreamEnd, Taken, take_requests};
 use std::alloc::Global;
 
@@ -92,7 +92,7 @@ fn piece(alloc: Global, text: &str) -> Option<Vec<u8>> {
 }
 
 /// How many requests were taken, and how the stream goes on.
-fn told_of(alloc: Global, taken: &Taken) -> Option<String> {
+fn worded_of(alloc: Global, taken: &Taken) -> Option<String> {
     let count = taken.requests.items().len();
     match &taken.end {
         Ok(StreamEnd::Waits) => format!(in alloc; "{count} waits").ok(),
@@ -102,21 +102,21 @@ fn told_of(alloc: Global, taken: &Taken) -> Option<String> {
     }
 }
 
-fn told_in(alloc: Global, pieces: &[&[u8]]) -> Option<String> {
+fn worded_in(alloc: Global, pieces: &[&[u8]]) -> Option<String> {
     let mut connection = Connection::new(alloc)?;
     let taken = take_requests(alloc, &mut connection.stream, &mut connection.room, pieces);
-    told_of(alloc, &taken)
+    worded_of(alloc, &taken)
 }
 
 /// How the stream of a row goes on.
-pub fn told(alloc: Global, row: &mut Row<'_>) -> Option<String> {
+pub fn worded(alloc: Global, row: &mut Row<'_>) -> Option<String> {
     let front = piece(alloc, row.text("|"))?;
     let back = piece(alloc, row.rest())?;
-    told_in(alloc, &[front.as_slice(), back.as_slice()])
+    worded_in(alloc, &[front.as_slice(), back.as_slice()])
 }
 
 #[test]
 fn streams_have_their_requests(rt: HostRuntime) {
     assert!(rt; matches!(are_puts_however_cut(rt.alloc()), Some(true)));
-    all_hold(&rt, rt.alloc(), Rows::Told(Told::Streams), STREAMS);
+    all_hold(&rt, rt.alloc(), Rows::Worded(Worded::Streams), STREAMS);
 }

@@ -15,7 +15,7 @@ use std::process::Abort;
 #[derive(Clone, Copy)]
 pub enum Rows<'a> {
     /// Rows of which a text is told.
-    Told(Told),
+    Worded(Worded),
     /// Items of CBOR, arrays of one item, and maps.
     Items,
     Arrays,
@@ -36,7 +36,7 @@ pub enum Rows<'a> {
 }
 
 #[derive(Clone, Copy)]
-pub enum Told {
+pub enum Worded {
     /// Messages of CoAP, and what is salvaged of bytes.
     Messages,
     Salvaged,
@@ -57,24 +57,24 @@ pub enum Told {
 }
 
 /// What is told of the front of a row; None where it isn't there, or memory runs out.
-fn text_of(alloc: Global, what: Told, row: &mut Row<'_>) -> Option<String> {
+fn text_of(alloc: Global, what: Worded, row: &mut Row<'_>) -> Option<String> {
     match what {
-        Told::Messages => coap_rows::fault_of(alloc, row),
-        Told::Salvaged => coap_rows::salvaged(alloc, row),
-        Told::Digits => text_rows::read(alloc, row),
-        Told::Requests => request_rows::answer(alloc, row),
-        Told::Replies => reply_rows::spelled(alloc, row),
-        Told::Configs => config_rows::outcome(alloc, row),
-        Told::Fronts => cut_rows::seen(alloc, row),
-        Told::Streams => stream_rows::told(alloc, row),
-        Told::Exchanges => exchange_rows::asked(alloc, row),
-        Told::Data => data_asking::asked_by(alloc, row),
-        Told::Clients => agents::told(alloc, row),
+        Worded::Messages => coap_rows::fault_of(alloc, row),
+        Worded::Salvaged => coap_rows::salvaged(alloc, row),
+        Worded::Digits => text_rows::read(alloc, row),
+        Worded::Requests => request_rows::answer(alloc, row),
+        Worded::Replies => reply_rows::spelled(alloc, row),
+        Worded::Configs => config_rows::outcome(alloc, row),
+        Worded::Fronts => cut_rows::seen(alloc, row),
+        Worded::Streams => stream_rows::worded(alloc, row),
+        Worded::Exchanges => exchange_rows::asked(alloc, row),
+        Worded::Data => data_asking::asked_by(alloc, row),
+        Worded::Clients => agents::worded(alloc, row),
     }
 }
 
 /// Whether what is told of the front of a row is what is wanted.
-fn is_told(alloc: Global, what: Told, row: &mut Row<'_>) -> bool {
+fn is_worded(alloc: Global, what: Worded, row: &mut Row<'_>) -> bool {
     match text_of(alloc, what, row) {
         Some(text) => text.as_str() == row.want(),
         None => false,
@@ -84,7 +84,7 @@ fn is_told(alloc: Global, what: Told, row: &mut Row<'_>) -> bool {
 /// Whether the row is right; None where memory runs out.
 fn is_right(alloc: Global, rows: Rows<'_>, row: &mut Row<'_>) -> Option<bool> {
     match rows {
-        Rows::Told(what) => Some(is_told(alloc, what, row)),
+        Rows::Worded(what) => Some(is_worded(alloc, what, row)),
         Rows::Items => cbor_rows::are_answered(alloc, row),
         Rows::Arrays => cbor_rows::is_judged(alloc, row),
         Rows::Maps => cbor_rows::is_map_judged(alloc, row),
@@ -95,7 +95,7 @@ fn is_right(alloc: Global, rows: Rows<'_>, row: &mut Row<'_>) -> Option<bool> {
         Rows::Many => clock_rows::keeps_many(alloc, row),
         Rows::Scans => clock_scans::are_same(alloc, row),
         Rows::Beats => beat_rows::are_shown(alloc, row),
-        Rows::Members(form) => data_asking::is_told_in(alloc, form, row),
+        Rows::Members(form) => data_asking::is_worded_in(alloc, form, row),
         Rows::Bodies => body_rows::is_shown(alloc, row),
     }
 }
@@ -108,7 +108,7 @@ fn holds(alloc: Global, rows: Rows<'_>, text: &str) -> bool {
 /// Each row holds: it stands in a line, or between lines of three equal signs. One that begins with `#` and a blank is a remark.
 pub fn all_hold(rt: &impl Abort, alloc: Global, rows: Rows<'_>, table: &str) {
     let between = match rows {
-        Rows::Told(Told::Exchanges) => "\n===\n",
+        Rows::Worded(Worded::Exchanges) => "\n===\n",
         _ => "\n",
     };
     for row in table.split(between) {

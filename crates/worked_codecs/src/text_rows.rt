@@ -1,10 +1,10 @@
 //! Hexadecimal text, and how faults are printed.
 
 use crate::row::Row;
-use crate::tables::{Rows, Told, all_hold};
+use crate::tables::{Rows, Worded, all_hold};
 use cbor_profile::CborFault;
 use coap_message::CoapFault;
-use message_text::{Shown, show};
+use message_text::{Printed, lines_of};
 use plain_text::{MAX_BYTES, read_hex};
 use std::alloc::Global;
 
@@ -36,8 +36,8 @@ fn are_printed(alloc: Global) -> bool {
 
 /// Whether an empty word is shown as one that isn't hexadecimal.
 fn is_nothing_shown(alloc: Global) -> bool {
-    match show(alloc, b"") {
-        Ok(Shown::Fault(lines)) => lines.items() == b"fault hex\n".as_slice(),
+    match lines_of(alloc, b"") {
+        Ok(Printed::Fault(lines)) => lines.items() == b"fault hex\n".as_slice(),
         _ => false,
     }
 }
@@ -45,5 +45,5 @@ fn is_nothing_shown(alloc: Global) -> bool {
 #[test]
 fn digits_are_read(rt: HostRuntime) {
     assert!(rt; are_printed(rt.alloc()) && is_nothing_shown(rt.alloc()));
-    all_hold(&rt, rt.alloc(), Rows::Told(Told::Digits), DIGITS);
+    all_hold(&rt, rt.alloc(), Rows::Worded(Worded::Digits), DIGITS);
 }

@@ -75,6 +75,6 @@ mod shown_rows;
 #[cfg(test)]
 mod tables;
 #[cfg(test)]
-mod telling_rows;
-#[cfg(test)]
 mod texts;
+#[cfg(test)]
+mod topic_rows;

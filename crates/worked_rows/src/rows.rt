@@ -18,7 +18,7 @@ use crate::script_rows::SCRIPTS;
 use crate::scripted::goes_over_script;
 use crate::shown_rows::SHOWN;
 use crate::tables::Row;
-use crate::telling_rows::{EVENTS, FAULTS, WORDS};
+use crate::topic_rows::{EVENTS, FAULTS, WORDS};
 use dots_host::MemorySink;
 use std::alloc::Global;
 use std::process::Abort;

@@ -68,7 +68,7 @@ const THE_LAST: Table = (
 );
 
 #[test]
-fn observers_are_told(rt: HostRuntime) -> Result<(), Fail> {
+fn observers_are_notified(rt: HostRuntime) -> Result<(), Fail> {
     let tables = [
         A_DAY,
         A_DAY_WITH_A_RESET,

@@ -2,7 +2,7 @@
 
 use crate::registry::entries::{push_entries, scope};
 use crate::registry::packets::v4;
-use crate::registry::told::Told;
+use crate::registry::spelled::Spelled;
 use crate::registry::words::{NONE, digit, flag, number};
 use acl_lists::{Acl, Alias, Packet, ace_matches};
 use dots_history::{
@@ -82,20 +82,20 @@ fn matches(acl: &Acl, domain: &str, packet: Packet) -> Result<bool, Fail> {
 
 /// Whether the one entry of the list matches the packet, whether it does where the domain ends before its destination, and whether it
 /// matches one without ports.
-fn tell_matches_of(told: &mut Told, acl: &Acl) -> Result<(), Fail> {
+fn spell_matches_of(spelled: &mut Spelled, acl: &Acl) -> Result<(), Fail> {
     for (domain, ports) in &[
         ("192.0.2.0/24", Some((123, 80))),
         ("192.0.2.0/26", Some((123, 80))),
         ("192.0.2.0/24", None),
     ] {
-        told.push(flag(matches(acl, domain, packet(*ports))?));
+        spelled.push(flag(matches(acl, domain, packet(*ports))?));
     }
     Ok(())
 }
 
-fn tell_matches(told: &mut Told, entries: &[Entry]) -> Result<(), Fail> {
+fn spell_matches(spelled: &mut Spelled, entries: &[Entry]) -> Result<(), Fail> {
     match only(entries)? {
-        Change::SetAcl(acl) => tell_matches_of(told, acl),
+        Change::SetAcl(acl) => spell_matches_of(spelled, acl),
         _ => Err(Fail::from("a list")),
     }
 }
@@ -110,36 +110,36 @@ fn count_of(alloc: Global, what: &str, entries: &[Entry]) -> Result<u64, Fail> {
 }
 
 /// Tells what is so whatever the time.
-fn tell_whole(
+fn spell_whole(
     alloc: Global,
-    told: &mut Told,
+    spelled: &mut Spelled,
     settings: &Settings,
     what: &str,
     entries: &[Entry],
 ) -> Result<(), Fail> {
     match what {
-        "ended" => told.push(flag(is_ended(entries))),
-        "bounded" => told.push(flag(is_bounded(entries))),
-        "calm" => told.push(flag(is_calm(settings, entries))),
-        "matches" => return tell_matches(told, entries),
-        _ => told.push(digit(count_of(alloc, what, entries)?)),
+        "ended" => spelled.push(flag(is_ended(entries))),
+        "bounded" => spelled.push(flag(is_bounded(entries))),
+        "calm" => spelled.push(flag(is_calm(settings, entries))),
+        "matches" => return spell_matches(spelled, entries),
+        _ => spelled.push(digit(count_of(alloc, what, entries)?)),
     }
     Ok(())
 }
 
 /// When the message of this number that peer 0 repeats for domain 0 came, where so many are remembered.
-fn tell_one(told: &mut Told, count: usize, t: u64, id: u16, entries: &[Entry]) {
+fn spell_one(spelled: &mut Spelled, count: usize, t: u64, id: u16, entries: &[Entry]) {
     match remembered(count, t, 0, 0, id, entries) {
-        Some(entry) => told.push_number(entry.time),
-        None => told.push(NONE),
+        Some(entry) => spelled.push_number(entry.time),
+        None => spelled.push(NONE),
     }
 }
 
 /// The same where one is remembered, and where two are.
-fn tell_came(told: &mut Told, t: u64, id: u16, entries: &[Entry]) {
-    tell_one(told, 1, t, id, entries);
-    told.push(b' ');
-    tell_one(told, 2, t, id, entries);
+fn spell_came(spelled: &mut Spelled, t: u64, id: u16, entries: &[Entry]) {
+    spell_one(spelled, 1, t, id, entries);
+    spelled.push(b' ');
+    spell_one(spelled, 2, t, id, entries);
 }
 
 /// How many mitigations are live at a time.
@@ -151,54 +151,54 @@ fn count_at(alloc: Global, what: &str, t: u64, entries: &[Entry]) -> Result<u64,
 }
 
 /// Tells what is so at a time.
-fn tell_at(
+fn spell_at(
     alloc: Global,
-    told: &mut Told,
+    spelled: &mut Spelled,
     what: &str,
     t: u64,
     entries: &[Entry],
 ) -> Result<(), Fail> {
     match what {
-        "live" => told.push(flag(is_live(t, entries))),
-        "330" => tell_came(told, t, 330, entries),
-        "331" => tell_came(told, t, 331, entries),
-        _ => told.push(digit(count_at(alloc, what, t, entries)?)),
+        "live" => spelled.push(flag(is_live(t, entries))),
+        "330" => spell_came(spelled, t, 330, entries),
+        "331" => spell_came(spelled, t, 331, entries),
+        _ => spelled.push(digit(count_at(alloc, what, t, entries)?)),
     }
     Ok(())
 }
 
-fn tell(
+fn spell(
     alloc: Global,
-    told: &mut Told,
+    spelled: &mut Spelled,
     settings: &Settings,
     question: &str,
     entries: &[Entry],
 ) -> Result<(), Fail> {
     match question.split_once(' ') {
-        Some((what, t)) => tell_at(alloc, told, what, number(t)?, entries),
-        None => tell_whole(alloc, told, settings, question, entries),
+        Some((what, t)) => spell_at(alloc, spelled, what, number(t)?, entries),
+        None => spell_whole(alloc, spelled, settings, question, entries),
     }
 }
 
-fn tell_after(
+fn spell_after(
     alloc: Global,
-    told: &mut Told,
+    spelled: &mut Spelled,
     settings: &Settings,
     entries: &mut List<Entry>,
     asked: &str,
 ) -> Result<(), Fail> {
     let (texts, question) = asked.split_once(" ? ").ok_or("a question")?;
     push_entries(alloc, entries, texts)?;
-    tell(alloc, told, settings, question, entries.items())
+    spell(alloc, spelled, settings, question, entries.items())
 }
 
 /// What is said of entries.
-pub fn tell_history(
+pub fn spell_history(
     alloc: Global,
-    told: &mut Told,
+    spelled: &mut Spelled,
     settings: &Settings,
     asked: &str,
 ) -> Result<(), Fail> {
     let mut entries = List::new(alloc);
-    tell_after(alloc, told, settings, &mut entries, asked)
+    spell_after(alloc, spelled, settings, &mut entries, asked)
 }

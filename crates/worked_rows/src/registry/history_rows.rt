@@ -106,8 +106,6 @@ const MATCHES: Table = (
 
 #[test]
 fn histories_come_to_this(rt: HostRuntime) -> Result<(), Fail> {
-    let tables = [
-        LIFETIMES, BOUNDS, REFRESHED, HELD, CALM, MATCHES,
-    ];
+    let tables = [LIFETIMES, BOUNDS, REFRESHED, HELD, CALM, MATCHES];
     all_hold(&rt, rt.alloc(), Part::History, &tables)
 }

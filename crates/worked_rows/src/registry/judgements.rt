@@ -3,7 +3,7 @@
 //! A live mitigation is read as the entry that put it; one of second 0 was withdrawn, and is terminating.
 
 use crate::registry::entries::{entry, prefixes};
-use crate::registry::told::Told;
+use crate::registry::spelled::Spelled;
 use crate::registry::words::{flag, number, two};
 use conflict_rules::{
     Judgement, Live, MidJudgement, Which, are_few, collides, judge_mid, judge_overlap,
@@ -90,13 +90,13 @@ fn judged(by: &str, request: &Live, live: &[Live]) -> Result<(&'static str, u64)
 }
 
 /// What is judged of the last of these by the others.
-fn tell_last(told: &mut Told, by: &str, list: &[Live]) -> Result<(), Fail> {
+fn spell_last(spelled: &mut Spelled, by: &str, list: &[Live]) -> Result<(), Fail> {
     let [live @ .., request] = list else {
         return Err(Fail::from("a request"));
     };
     let (word, number) = judged(by, request, live)?;
-    told.extend(word.as_bytes());
-    told.push_number(number);
+    spelled.extend(word.as_bytes());
+    spelled.push_number(number);
     Ok(())
 }
 
@@ -139,47 +139,52 @@ fn target(alloc: Global) -> Result<Target, Fail> {
     })
 }
 
-fn tell_few_of(
+fn spell_few_of(
     alloc: Global,
-    told: &mut Told,
+    spelled: &mut Spelled,
     targets: &mut TargetList,
     count: u64,
 ) -> Result<(), Fail> {
     for _ in 0..count {
         targets.push(target(alloc)?)?;
     }
-    told.push(flag(are_few(targets)));
+    spelled.push(flag(are_few(targets)));
     Ok(())
 }
 
 /// Whether so many targets of one prefix are few.
-fn tell_few(alloc: Global, told: &mut Told, count: u64) -> Result<(), Fail> {
+fn spell_few(alloc: Global, spelled: &mut Spelled, count: u64) -> Result<(), Fail> {
     let mut targets = List::new(alloc);
-    tell_few_of(alloc, told, &mut targets, count)
+    spell_few_of(alloc, spelled, &mut targets, count)
 }
 
 /// What is judged of the last of these mitigations, where the others are live.
-fn tell_request(
+fn spell_request(
     alloc: Global,
-    told: &mut Told,
+    spelled: &mut Spelled,
     by: &str,
     list: &mut List<Live>,
     texts: &str,
 ) -> Result<(), Fail> {
     push_mitigations(alloc, list, texts)?;
-    tell_last(told, by, list.items())
+    spell_last(spelled, by, list.items())
 }
 
-fn tell_requested(alloc: Global, told: &mut Told, by: &str, texts: &str) -> Result<(), Fail> {
+fn spell_requested(
+    alloc: Global,
+    spelled: &mut Spelled,
+    by: &str,
+    texts: &str,
+) -> Result<(), Fail> {
     let mut list = List::new(alloc);
-    tell_request(alloc, told, by, &mut list, texts)
+    spell_request(alloc, spelled, by, &mut list, texts)
 }
 
 /// What is judged of a request, or whether so many targets are few.
-pub fn tell_judged(alloc: Global, told: &mut Told, asked: &str) -> Result<(), Fail> {
+pub fn spell_judged(alloc: Global, spelled: &mut Spelled, asked: &str) -> Result<(), Fail> {
     match asked.split_once(" ? ") {
-        Some((count, "few")) => tell_few(alloc, told, number(count)?),
-        Some((texts, by)) => tell_requested(alloc, told, by, texts),
+        Some((count, "few")) => spell_few(alloc, spelled, number(count)?),
+        Some((texts, by)) => spell_requested(alloc, spelled, by, texts),
         None => Err(Fail::from("a question")),
     }
 }

@@ -5,7 +5,7 @@
 //! observer that is due is `notify`ed, with this Message ID, by which its token and the number are told, with 0 where it is gone, or two dashes where none is due.
 
 use crate::registry::plain_views::PlainViews;
-use crate::registry::told::Told;
+use crate::registry::spelled::Spelled;
 use crate::registry::words::{NONE, byte, digit, small, three, two};
 use coap_message::Token;
 use coap_observe::{Notice, Observer, Observers};
@@ -42,7 +42,7 @@ fn registered(observers: &mut Observers, views: &PlainViews<'_>, observer: Obser
 
 fn register(
     alloc: Global,
-    told: &mut Told,
+    spelled: &mut Spelled,
     observers: &mut Observers,
     views: &PlainViews<'_>,
     step: &str,
@@ -50,7 +50,7 @@ fn register(
     let (peer, domain, token) = three(step)?;
     let observer = observer(alloc, u32::from(peer), domain, byte(token)?)?;
     let number = registered(observers, views, observer);
-    told.extend(&[b'r', number]);
+    spelled.extend(&[b'r', number]);
     Ok(())
 }
 
@@ -97,58 +97,58 @@ fn notified(observers: &mut Observers, views: &PlainViews<'_>, id: u16) -> [u8; 
     };
     let place = notice.place;
     let shown = shown(&notice);
-    observers.told(views, place, id);
+    observers.notified(views, place, id);
     shown
 }
 
 fn notify(
-    told: &mut Told,
+    spelled: &mut Spelled,
     observers: &mut Observers,
     views: &PlainViews<'_>,
     step: &str,
 ) -> Result<(), Fail> {
     let id = small(step)?;
-    told.extend(&notified(observers, views, id));
+    spelled.extend(&notified(observers, views, id));
     Ok(())
 }
 
 fn take(
     alloc: Global,
-    told: &mut Told,
+    spelled: &mut Spelled,
     observers: &mut Observers,
     views: &mut PlainViews<'static>,
     step: &str,
 ) -> Result<(), Fail> {
     let (verb, step) = step.split_once(' ').ok_or("a step")?;
     match verb {
-        "register" => register(alloc, told, observers, views, step),
+        "register" => register(alloc, spelled, observers, views, step),
         "deregister" => deregister(observers, step),
         "reset" => reset(observers, step),
         "see" => see(views, step),
-        "notify" => notify(told, observers, views, step),
+        "notify" => notify(spelled, observers, views, step),
         _ => Err(Fail::from("a verb")),
     }
 }
 
 fn take_all(
     alloc: Global,
-    told: &mut Told,
+    spelled: &mut Spelled,
     observers: &mut Observers,
     steps: &str,
 ) -> Result<(), Fail> {
     let mut views = PlainViews { list: &[] };
     for step in steps.split("; ") {
-        take(alloc, told, observers, &mut views, step)?;
+        take(alloc, spelled, observers, &mut views, step)?;
     }
     Ok(())
 }
 
-pub fn tell_observers(
+pub fn spell_observers(
     alloc: Global,
-    told: &mut Told,
+    spelled: &mut Spelled,
     settings: &Settings,
     steps: &str,
 ) -> Result<(), Fail> {
     let mut observers = Observers::new(alloc, settings)?;
-    take_all(alloc, told, &mut observers, steps)
+    take_all(alloc, spelled, &mut observers, steps)
 }

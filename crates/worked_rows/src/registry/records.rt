@@ -1,7 +1,7 @@
 //! What the records of entries are read as.
 
 use crate::registry::entries::push_words;
-use crate::registry::told::Told;
+use crate::registry::spelled::Spelled;
 use crate::registry::words::flag;
 use dots_history::{Entry, is_within_bounds};
 use entry_records::{EntryFault, MAX_RECORD, entry_of, record_into, record_len};
@@ -31,27 +31,27 @@ fn is_written(alloc: Global, bytes: &[u8]) -> Result<bool, EntryFault> {
 }
 
 /// Whether the entry of these bytes is written as it was read, or the place of the first fault behind the head.
-fn tell_read(alloc: Global, told: &mut Told, bytes: &[u8]) -> Result<(), Fail> {
+fn spell_read(alloc: Global, spelled: &mut Spelled, bytes: &[u8]) -> Result<(), Fail> {
     match is_written(alloc, bytes) {
-        Ok(is_written) => told.push(flag(is_written)),
-        Err(EntryFault::NotEntry { at }) if HEAD <= at => told.push_number((at - HEAD) as u64),
+        Ok(is_written) => spelled.push(flag(is_written)),
+        Err(EntryFault::NotEntry { at }) if HEAD <= at => spelled.push_number((at - HEAD) as u64),
         Err(_) => return Err(Fail::from("a fault behind the head")),
     }
     Ok(())
 }
 
-fn tell_words(
+fn spell_words(
     alloc: Global,
-    told: &mut Told,
+    spelled: &mut Spelled,
     bytes: &mut Vec<u8>,
     words: &str,
 ) -> Result<(), Fail> {
     push_words(alloc, bytes, 0, words)?;
-    tell_read(alloc, told, bytes.as_slice())
+    spell_read(alloc, spelled, bytes.as_slice())
 }
 
 /// The same of the bytes of these words.
-pub fn tell_record(alloc: Global, told: &mut Told, words: &str) -> Result<(), Fail> {
+pub fn spell_record(alloc: Global, spelled: &mut Spelled, words: &str) -> Result<(), Fail> {
     let mut bytes = Vec::new(alloc);
-    tell_words(alloc, told, &mut bytes, words)
+    spell_words(alloc, spelled, &mut bytes, words)
 }

@@ -2,12 +2,12 @@
 
 ghost use Rattle.std.specs.Prelude.{◌≡◌, ◌<◌, List, true};
 ghost use Rattle.dots_history.specs.declared.entry.Entry.{Entry};
-ghost use Rattle.dots_registry.specs.Standing.{StandsFor, IsOf, domains_of};
+ghost use Rattle.dots_registry.specs.RegistryValues.{Represents, IsOf, domains_of};
 
 use crate::registry::entries::prefixes;
 use crate::registry::packets::{letter, letters, packets};
+use crate::registry::spelled::Spelled;
 use crate::registry::taking::take_all;
-use crate::registry::told::Told;
 use crate::registry::words::{NONE, digit, number, small};
 use acl_lists::{Acl, Alias, Asked};
 use conflict_rules::{Judged, PutFault};
@@ -36,18 +36,18 @@ fn client(word: &str) -> (u16, &'static [u8]) {
     }
 }
 
-fn tell_aliases(told: &mut Told, aliases: &[Alias]) {
+fn spell_aliases(spelled: &mut Spelled, aliases: &[Alias]) {
     for alias in aliases {
-        told.push(letter(&alias.name));
+        spelled.push(letter(&alias.name));
     }
-    told.push(b' ');
+    spelled.push(b' ');
 }
 
-fn tell_acls(told: &mut Told, acls: &[Acl]) {
+fn spell_acls(spelled: &mut Spelled, acls: &[Acl]) {
     for acl in acls {
-        told.push(letter(&acl.name));
+        spelled.push(letter(&acl.name));
     }
-    told.push(b' ');
+    spelled.push(b' ');
 }
 
 /// The number that is reached.
@@ -101,13 +101,18 @@ fn rooms(registry: &Registry, domain: u16, cuid: &[u8]) -> [u8; 4] {
 }
 
 /// Who registered a client, its aliases and its access lists, which numbers are reached, and its alias `web` and its list `ok`.
-fn tell_held(alloc: Global, told: &mut Told, registry: &Registry, word: &str) -> Result<(), Fail> {
+fn spell_held(
+    alloc: Global,
+    spelled: &mut Spelled,
+    registry: &Registry,
+    word: &str,
+) -> Result<(), Fail> {
     let (domain, cuid) = client(word);
-    told.extend(&[registrant(registry, domain, cuid), b' ']);
-    tell_aliases(told, registry.aliases(domain, cuid));
-    tell_acls(told, registry.acls(domain, cuid));
-    told.extend(&rooms(registry, domain, cuid));
-    told.extend(&named(alloc, registry, domain, cuid)?);
+    spelled.extend(&[registrant(registry, domain, cuid), b' ']);
+    spell_aliases(spelled, registry.aliases(domain, cuid));
+    spell_acls(spelled, registry.acls(domain, cuid));
+    spelled.extend(&rooms(registry, domain, cuid));
+    spelled.extend(&named(alloc, registry, domain, cuid)?);
     Ok(())
 }
 
@@ -119,15 +124,15 @@ fn sid(registry: &Registry, peer: u32) -> u8 {
     }
 }
 
-fn tell_sid(told: &mut Told, registry: &Registry, peer: &str) -> Result<(), Fail> {
+fn spell_sid(spelled: &mut Spelled, registry: &Registry, peer: &str) -> Result<(), Fail> {
     let peer = u32::from(small(peer)?);
-    told.push(sid(registry, peer));
+    spelled.push(sid(registry, peer));
     Ok(())
 }
 
 /// The fates of packets at a second.
-fn tell_fates(
-    told: &mut Told,
+fn spell_fates(
+    spelled: &mut Spelled,
     registry: &mut Registry,
     settings: &Settings,
     second: &str,
@@ -137,7 +142,7 @@ fn tell_fates(
         registry.tick(now);
     }
     for packet in &packets() {
-        told.extend(&letters(registry.filters().fate(packet, settings)));
+        spelled.extend(&letters(registry.filters().fate(packet, settings)));
     }
     Ok(())
 }
@@ -224,9 +229,9 @@ fn judge(alloc: Global, registry: &Registry, settings: &Settings, peer: u32) -> 
     judge_path(alloc, registry, settings, &path, peer)
 }
 
-fn tell_judged(
+fn spell_judged(
     alloc: Global,
-    told: &mut Told,
+    spelled: &mut Spelled,
     registry: &Registry,
     settings: &Settings,
     peer: &str,
@@ -234,14 +239,14 @@ fn tell_judged(
     requires { IsOf settings.now registry.now }
 {
     let peer = u32::from(small(peer)?);
-    told.push(judge(alloc, registry, settings, peer)?);
+    spelled.push(judge(alloc, registry, settings, peer)?);
     Ok(())
 }
 
 /// Tells what is asked: `held` of a client, `sid` of a peer, `judge` for a peer, or the fates at a second.
-fn tell(
+fn spell(
     alloc: Global,
-    told: &mut Told,
+    spelled: &mut Spelled,
     registry: &mut Registry,
     settings: &Settings,
     question: &str,
@@ -250,42 +255,42 @@ fn tell(
 {
     let (what, of) = question.split_once(' ').ok_or("a question")?;
     match what {
-        "held" => tell_held(alloc, told, registry, of),
-        "sid" => tell_sid(told, registry, of),
-        "judge" => tell_judged(alloc, told, registry, settings, of),
-        _ => tell_fates(told, registry, settings, of),
+        "held" => spell_held(alloc, spelled, registry, of),
+        "sid" => spell_sid(spelled, registry, of),
+        "judge" => spell_judged(alloc, spelled, registry, settings, of),
+        _ => spell_fates(spelled, registry, settings, of),
     }
 }
 
-fn tell_after(
+fn spell_after(
     alloc: Global,
-    told: &mut Told,
+    spelled: &mut Spelled,
     registry: &mut Registry,
     settings: &Settings,
     entries: &str,
     question: &str,
 ) -> Result<(), Fail>
     requires settings { IsOf settings.now registry.old }
-    requires stands { (entries : List Entry) × StandsFor registry.old entries }
+    requires represents { (entries : List Entry) × Represents registry.old entries }
 {
-    take_all(alloc, registry, settings, entries, told)?;
+    take_all(alloc, registry, settings, entries, spelled)?;
     if question == "fit" {
         return Ok(());
     }
-    told.clear();
-    tell(alloc, told, registry, settings, question)
+    spelled.clear();
+    spell(alloc, spelled, registry, settings, question)
 }
 
 /// What is told after these entries, or which of them fit.
-pub fn tell_registry(
+pub fn spell_registry(
     alloc: Global,
-    told: &mut Told,
+    spelled: &mut Spelled,
     settings: &Settings,
     asked: &str,
 ) -> Result<(), Fail> {
     let (entries, question) = asked.split_once(" ? ").ok_or("a question")?;
     let mut registry = Registry::new(alloc, settings)?;
-    let went = tell_after(alloc, told, &mut registry, settings, entries, question);
+    let went = spell_after(alloc, spelled, &mut registry, settings, entries, question);
     registry.let_go();
     went
 }

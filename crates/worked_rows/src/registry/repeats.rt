@@ -5,7 +5,7 @@
 //! first becomes 0 and the second 1; and a peer of a domain may `look` for the reply to a Message ID at a second, of which the byte is
 //! told.
 
-use crate::registry::told::Told;
+use crate::registry::spelled::Spelled;
 use crate::registry::words::{NONE, byte, digit, first, four, two};
 use coap_exchange::Remembered;
 use dots_history::MessageKey;
@@ -49,9 +49,9 @@ fn moved(remembered: &mut Remembered, step: &str) -> Result<(), Fail> {
     Ok(())
 }
 
-fn look(told: &mut Told, remembered: &Remembered, step: &str) -> Result<(), Fail> {
+fn look(spelled: &mut Spelled, remembered: &Remembered, step: &str) -> Result<(), Fail> {
     let (peer, domain, id, now) = four(step)?;
-    told.push(
+    spelled.push(
         match remembered.look(u32::from(peer), domain, id, u64::from(now)) {
             Some([byte]) => digit(u64::from(*byte)),
             Some(_) => b'?',
@@ -63,7 +63,7 @@ fn look(told: &mut Told, remembered: &Remembered, step: &str) -> Result<(), Fail
 
 fn take(
     alloc: Global,
-    told: &mut Told,
+    spelled: &mut Spelled,
     remembered: &mut Remembered,
     step: &str,
 ) -> Result<(), Fail> {
@@ -71,29 +71,29 @@ fn take(
     match verb {
         "non" | "con" | "http" => note(alloc, remembered, verb, step),
         "moved" => moved(remembered, step),
-        "look" => look(told, remembered, step),
+        "look" => look(spelled, remembered, step),
         _ => Err(Fail::from("a verb")),
     }
 }
 
 fn take_all(
     alloc: Global,
-    told: &mut Told,
+    spelled: &mut Spelled,
     remembered: &mut Remembered,
     steps: &str,
 ) -> Result<(), Fail> {
     for step in steps.split("; ") {
-        take(alloc, told, remembered, step)?;
+        take(alloc, spelled, remembered, step)?;
     }
     Ok(())
 }
 
-pub fn tell_repeats(
+pub fn spell_repeats(
     alloc: Global,
-    told: &mut Told,
+    spelled: &mut Spelled,
     settings: &Settings,
     steps: &str,
 ) -> Result<(), Fail> {
     let mut remembered = Remembered::new(alloc, settings)?;
-    take_all(alloc, told, &mut remembered, steps)
+    take_all(alloc, spelled, &mut remembered, steps)
 }

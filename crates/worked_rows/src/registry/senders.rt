@@ -4,24 +4,24 @@
 //! `acknowledged`; and it is asked what there is to do `at` a time. The first two tell whether that went, and the last the byte of a
 //! message that is sent again behind an `m`, the Message ID of one that is given up behind an `x`, or two dashes.
 
-use crate::registry::told::Told;
+use crate::registry::spelled::Spelled;
 use crate::registry::words::{NONE, byte, digit, flag, number, small, three};
 use coap_exchange::{Resend, Sender};
 use dots_lists::Bytes;
 use std::alloc::Global;
 use std::test::Fail;
 
-fn send(alloc: Global, told: &mut Told, sender: &mut Sender, step: &str) -> Result<(), Fail> {
+fn send(alloc: Global, spelled: &mut Spelled, sender: &mut Sender, step: &str) -> Result<(), Fail> {
     let (message, id, word) = three(step)?;
     let bytes = Bytes::from_slice(alloc, &[byte(message)?])?;
     let is_taken = sender.send(bytes, id, 10_000, u32::from(word)).is_ok();
-    told.push(flag(is_taken));
+    spelled.push(flag(is_taken));
     Ok(())
 }
 
-fn acknowledged(told: &mut Told, sender: &mut Sender, step: &str) -> Result<(), Fail> {
+fn acknowledged(spelled: &mut Spelled, sender: &mut Sender, step: &str) -> Result<(), Fail> {
     let id = small(step)?;
-    told.push(flag(sender.acknowledged(id)));
+    spelled.push(flag(sender.acknowledged(id)));
     Ok(())
 }
 
@@ -37,31 +37,36 @@ fn due(sender: &mut Sender, now: u64) -> [u8; 2] {
     }
 }
 
-fn at(told: &mut Told, sender: &mut Sender, step: &str) -> Result<(), Fail> {
+fn at(spelled: &mut Spelled, sender: &mut Sender, step: &str) -> Result<(), Fail> {
     let now = number(step)?;
-    told.extend(&due(sender, now));
+    spelled.extend(&due(sender, now));
     Ok(())
 }
 
-fn take(alloc: Global, told: &mut Told, sender: &mut Sender, step: &str) -> Result<(), Fail> {
+fn take(alloc: Global, spelled: &mut Spelled, sender: &mut Sender, step: &str) -> Result<(), Fail> {
     let (verb, step) = step.split_once(' ').ok_or("a step")?;
     match verb {
-        "send" => send(alloc, told, sender, step),
-        "acknowledged" => acknowledged(told, sender, step),
-        "at" => at(told, sender, step),
+        "send" => send(alloc, spelled, sender, step),
+        "acknowledged" => acknowledged(spelled, sender, step),
+        "at" => at(spelled, sender, step),
         _ => Err(Fail::from("a verb")),
     }
 }
 
-fn take_all(alloc: Global, told: &mut Told, sender: &mut Sender, steps: &str) -> Result<(), Fail> {
+fn take_all(
+    alloc: Global,
+    spelled: &mut Spelled,
+    sender: &mut Sender,
+    steps: &str,
+) -> Result<(), Fail> {
     for step in steps.split("; ") {
-        take(alloc, told, sender, step)?;
+        take(alloc, spelled, sender, step)?;
     }
     Ok(())
 }
 
 /// What the steps tell where two messages may wait.
-pub fn tell_sender(alloc: Global, told: &mut Told, steps: &str) -> Result<(), Fail> {
+pub fn spell_sender(alloc: Global, spelled: &mut Spelled, steps: &str) -> Result<(), Fail> {
     let mut sender = Sender::new(alloc, 2)?;
-    take_all(alloc, told, &mut sender, steps)
+    take_all(alloc, spelled, &mut sender, steps)
 }

@@ -4,7 +4,7 @@ ghost use Rattle.std.specs.Prelude.{◌≡◌, ◌≤◌, true};
 ghost use Rattle.slot_store.specs.Layout.{needed_of};
 
 use crate::registry::entries::entry;
-use crate::registry::told::Told;
+use crate::registry::spelled::Spelled;
 use crate::registry::words::digit;
 use dots_disk::{Disk, MemoryDisk};
 use dots_history::{Entry, is_within_bounds};
@@ -70,13 +70,13 @@ fn survivor_of(
 }
 
 /// The slot of the entry of these words, and how many entries are recovered where a crash lost it.
-pub fn tell_survivor(
+pub fn spell_survivor(
     alloc: Global,
-    told: &mut Told,
+    spelled: &mut Spelled,
     settings: &Settings,
     words: &str,
 ) -> Result<(), Fail> {
     let (slot, count) = survivor_of(alloc, settings, words)?.ok_or("a survivor")?;
-    told.extend(&[digit(u64::from(slot)), digit(count as u64)]);
+    spelled.extend(&[digit(u64::from(slot)), digit(count as u64)]);
     Ok(())
 }

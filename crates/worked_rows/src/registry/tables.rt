@@ -4,16 +4,16 @@
 //! or steps. Where a question is put, it stands behind a question mark.
 
 use crate::registry::entries::settings;
-use crate::registry::histories::tell_history;
-use crate::registry::judgements::tell_judged;
-use crate::registry::observers::tell_observers;
-use crate::registry::records::tell_record;
-use crate::registry::registries::tell_registry;
-use crate::registry::repeats::tell_repeats;
-use crate::registry::senders::tell_sender;
-use crate::registry::survivors::tell_survivor;
+use crate::registry::histories::spell_history;
+use crate::registry::judgements::spell_judged;
+use crate::registry::observers::spell_observers;
+use crate::registry::records::spell_record;
+use crate::registry::registries::spell_registry;
+use crate::registry::repeats::spell_repeats;
+use crate::registry::senders::spell_sender;
+use crate::registry::spelled::Spelled;
+use crate::registry::survivors::spell_survivor;
 use crate::registry::texts::{SETTINGS, TIGHT};
-use crate::registry::told::Told;
 use dots_settings::Settings;
 use std::alloc::Global;
 use std::process::Abort;
@@ -42,42 +42,42 @@ fn settings_of(part: Part) -> &'static str {
     }
 }
 
-fn tell(
+fn spell(
     alloc: Global,
-    told: &mut Told,
+    spelled: &mut Spelled,
     settings: &Settings,
     part: Part,
     asked: &str,
 ) -> Result<(), Fail> {
     match part {
-        Part::Registry => tell_registry(alloc, told, settings, asked),
-        Part::History => tell_history(alloc, told, settings, asked),
-        Part::Judgement => tell_judged(alloc, told, asked),
-        Part::Record => tell_record(alloc, told, asked),
-        Part::Survivor => tell_survivor(alloc, told, settings, asked),
-        Part::Observers => tell_observers(alloc, told, settings, asked),
-        Part::Sender => tell_sender(alloc, told, asked),
-        Part::Repeats => tell_repeats(alloc, told, settings, asked),
+        Part::Registry => spell_registry(alloc, spelled, settings, asked),
+        Part::History => spell_history(alloc, spelled, settings, asked),
+        Part::Judgement => spell_judged(alloc, spelled, asked),
+        Part::Record => spell_record(alloc, spelled, asked),
+        Part::Survivor => spell_survivor(alloc, spelled, settings, asked),
+        Part::Observers => spell_observers(alloc, spelled, settings, asked),
+        Part::Sender => spell_sender(alloc, spelled, asked),
+        Part::Repeats => spell_repeats(alloc, spelled, settings, asked),
     }
 }
 
 /// Whether this is what is told.
-fn is_told(
+fn is_spelled(
     alloc: Global,
     settings: &Settings,
     part: Part,
     asked: &str,
     want: &str,
 ) -> Result<bool, Fail> {
-    let mut told = Told::new();
-    tell(alloc, &mut told, settings, part, asked)?;
-    Ok(told.spells(want))
+    let mut spelled = Spelled::new();
+    spell(alloc, &mut spelled, settings, part, asked)?;
+    Ok(spelled.spells(want))
 }
 
 /// The same with the settings of the part.
 fn is_answer(alloc: Global, part: Part, asked: &str, want: &str) -> Result<bool, Fail> {
     let settings = settings(alloc, settings_of(part))?;
-    is_told(alloc, &settings, part, asked, want)
+    is_spelled(alloc, &settings, part, asked, want)
 }
 
 fn holds(alloc: Global, part: Part, head: &str, row: &str) -> Result<bool, Fail> {

@@ -2,10 +2,10 @@
 
 ghost use Rattle.std.specs.Prelude.{List};
 ghost use Rattle.dots_history.specs.declared.entry.Entry.{Entry};
-ghost use Rattle.dots_registry.specs.Standing.{StandsFor, IsOf};
+ghost use Rattle.dots_registry.specs.RegistryValues.{Represents, IsOf};
 
 use crate::registry::entries::entry;
-use crate::registry::told::Told;
+use crate::registry::spelled::Spelled;
 use crate::registry::words::flag;
 use dots_history::Entry;
 use dots_registry::Registry;
@@ -16,9 +16,9 @@ use std::test::Fail;
 /// Takes an entry, and says whether it fits; one that doesn't changes nothing.
 fn take(registry: &mut Registry, settings: &Settings, entry: Entry) -> Result<bool, Fail>
     requires settings { IsOf settings.now registry.old }
-    requires stands { (entries : List Entry) × StandsFor registry.old entries }
+    requires represents { (entries : List Entry) × Represents registry.old entries }
     ensures settings { IsOf settings.now registry.new }
-    ensures stands { (entries : List Entry) × StandsFor registry.new entries }
+    ensures represents { (entries : List Entry) × Represents registry.new entries }
 {
     if !registry.fits(settings, &entry) {
         drop(entry);
@@ -35,12 +35,12 @@ pub fn take_all(
     registry: &mut Registry,
     settings: &Settings,
     entries: &str,
-    fit: &mut Told,
+    fit: &mut Spelled,
 ) -> Result<(), Fail>
     requires settings { IsOf settings.now registry.old }
-    requires stands { (entries : List Entry) × StandsFor registry.old entries }
+    requires represents { (entries : List Entry) × Represents registry.old entries }
     ensures settings { IsOf settings.now registry.new }
-    ensures stands { (entries : List Entry) × StandsFor registry.new entries }
+    ensures represents { (entries : List Entry) × Represents registry.new entries }
 {
     for text in entries.split("; ") {
         let entry = entry(alloc, text)?;

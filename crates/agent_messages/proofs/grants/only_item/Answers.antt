@@ -3,7 +3,7 @@ use Rattle.std.specs.Borrow.{Bor}
 use Rattle.cbor_profile.specs.declared.item.Item.{Item}
 use Rattle.cbor_profile.specs.Tree.{Tree, item, no_items, items_of}
 use Rattle.cbor_profile.specs.Kind.{items_in}
-use Rattle.cbor_profile.specs.View.{tree_of}
+use Rattle.cbor_profile.specs.ItemTrees.{tree_of}
 use Rattle.agent_messages.specs.Grants.{only_of}
 use Rattle.agent_messages.proofs.Shapes.{is_array, items_many}
 use Rattle.agent_messages.proofs.grants.only_item.Goals as goal

@@ -1,5 +1,5 @@
 use Rattle.cbor_profile.specs.Tree.{unsigned, pair, no_pairs}
-use Rattle.cbor_profile.specs.View.{tree_of}
+use Rattle.cbor_profile.specs.ItemTrees.{tree_of}
 use Rattle.agent_messages.proofs.Shapes.{pairs_many}
 use Rattle.agent_messages.proofs.grants.value_under.Goals as goal
 

@@ -1,4 +1,4 @@
-use Rattle.cbor_profile.specs.View.{tree_pairs}
+use Rattle.cbor_profile.specs.ItemTrees.{tree_pairs}
 use Rattle.cbor_profile.specs.Gathering.{encoded_pairs}
 use Rattle.cbor_profile.proofs.AtEncodings.{taken_fresh, taken_whole}
 use Rattle.cbor_profile.proofs.gathering.by_encoding.Goals as goal

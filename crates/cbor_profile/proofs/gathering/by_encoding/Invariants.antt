@@ -1,5 +1,5 @@
 use Rattle.std.proofs.Common.{◌≡◌, ◌++◌, length, map}
-use Rattle.cbor_profile.specs.View.{pair_of, tree_pairs}
+use Rattle.cbor_profile.specs.ItemTrees.{pair_of, tree_pairs}
 use Rattle.cbor_profile.specs.Gathering.{encoded_pairs, AreEncoded}
 use Rattle.cbor_profile.proofs.gathering.by_encoding.Given as goal
 

@@ -1,5 +1,5 @@
 use Rattle.std.proofs.Common.{sym, ◌∙◌}
-use Rattle.cbor_profile.specs.View.{tree_of}
+use Rattle.cbor_profile.specs.ItemTrees.{tree_of}
 use Rattle.cbor_profile.proofs.Places.{last_sound, last_less, last_equal}
 use Rattle.cbor_profile.proofs.gathering.compare_to_last.Goals as goal
 

@@ -1,5 +1,5 @@
 use Rattle.std.proofs.Common.{sym, ◌∙◌}
-use Rattle.cbor_profile.specs.View.{tree_of}
+use Rattle.cbor_profile.specs.ItemTrees.{tree_of}
 use Rattle.cbor_profile.proofs.AtEncodings.{found_is}
 use Rattle.cbor_profile.proofs.gathering.place_among.Goals as goal
 

@@ -1,4 +1,4 @@
-use Rattle.cbor_profile.proofs.Readings.{canon_is}
+use Rattle.cbor_profile.proofs.WholeReading.{canon_is}
 use Rattle.cbor_profile.proofs.law.encoding_spells.Goals as goal
 
 pub returns : goal.returns

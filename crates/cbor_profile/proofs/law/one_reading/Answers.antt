@@ -1,5 +1,5 @@
 use Rattle.std.proofs.Common.{refl, arith}
-use Rattle.cbor_profile.proofs.Readings.{held, reading, one_fault, not_spelled, spelled_valid}
+use Rattle.cbor_profile.proofs.WholeReading.{held, reading, one_fault, not_spelled, spelled_valid}
 use Rattle.cbor_profile.proofs.law.one_reading.Goals as goal
 
 pub returns-clause-either : goal.returns-clause-either

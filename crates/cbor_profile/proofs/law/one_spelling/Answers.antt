@@ -1,4 +1,4 @@
-use Rattle.cbor_profile.proofs.Readings.{same_reading, same_front}
+use Rattle.cbor_profile.proofs.WholeReading.{same_reading, same_front}
 use Rattle.cbor_profile.proofs.law.one_spelling.Goals as goal
 
 pub returns : goal.returns

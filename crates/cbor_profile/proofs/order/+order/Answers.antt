@@ -1,9 +1,9 @@
 use Rattle.std.proofs.Common.{sym, ◌∙◌, arith, rules}
 use Rattle.cbor_profile.specs.declared.item.Item.{the_lemmas}
-use Rattle.cbor_profile.specs.View.{tree_of}
+use Rattle.cbor_profile.specs.ItemTrees.{tree_of}
 use Rattle.cbor_profile.specs.Canon.{canon_items, canon_pairs}
 use Rattle.cbor_profile.proofs.Compared.{order, NextItems, NextPairs, items_go_on, items_differ, sounds_at, pairs_go_on, pairs_differ, left_pair, right_pair, same_head, order_equal, order_unequal, pair_equal, pair_unequal}
-use Rattle.cbor_profile.proofs.Views.{items_view, pairs_view, array_is, map_is, items_are, pairs_are, array_sound, map_sound, array_length, map_length}
+use Rattle.cbor_profile.proofs.ItemTrees.{items_value, pairs_value, array_is, map_is, items_are, pairs_are, array_sound, map_sound, array_length, map_length}
 use Rattle.cbor_profile.proofs.order.+order.Goals as goal
 
 pub compare-compare_contents-requires : goal.compare-compare_contents-requires
@@ -67,14 +67,14 @@ pub compare_items-returns-in_default : goal.compare_items-returns-in_default
 compare_items-returns-in_default t c =
     let next : NextItems c.args.left.now c.args.right.now c.loop-i.i c.index-left-i.result c.index-right-i.result =
     record { left_sound = c.requires.left_sound; right_sound = c.requires.right_sound; left_in = c.loop-i-test.true; right_in = omega arith; left_is = c.index-left-i.is; right_is = c.index-right-i.is } in
-    items_differ (order (canon_items (items_view c.args.left.now)) (canon_items (items_view c.args.right.now))) c.compare.result c.args.left.now c.args.right.now c.loop-i.i c.index-left-i.result c.index-right-i.result next c.loop-i.invariant
+    items_differ (order (canon_items (items_value c.args.left.now)) (canon_items (items_value c.args.right.now))) c.compare.result c.args.left.now c.args.right.now c.loop-i.i c.index-left-i.result c.index-right-i.result next c.loop-i.invariant
     c.in_default.not-Equal c.compare.ensures
 
 pub compare_items-loop-i-preserved : goal.compare_items-loop-i-preserved
 compare_items-loop-i-preserved t c =
     let next : NextItems c.args.left.now c.args.right.now c.loop-i.i c.index-left-i.result c.index-right-i.result =
     record { left_sound = c.requires.left_sound; right_sound = c.requires.right_sound; left_in = c.loop-i-test.true; right_in = omega arith; left_is = c.index-left-i.is; right_is = c.index-right-i.is } in
-    items_go_on (order (canon_items (items_view c.args.left.now)) (canon_items (items_view c.args.right.now))) c.args.left.now c.args.right.now c.loop-i.i c.index-left-i.result c.index-right-i.result next c.loop-i.invariant
+    items_go_on (order (canon_items (items_value c.args.left.now)) (canon_items (items_value c.args.right.now))) c.args.left.now c.args.right.now c.loop-i.i c.index-left-i.result c.index-right-i.result next c.loop-i.invariant
     (sym c.compare.ensures ∙ c.in-Equal.is)
 
 pub compare_pairs-compare-requires : goal.compare_pairs-compare-requires
@@ -100,7 +100,7 @@ compare_pairs-returns-in_default t c =
     let left = left_pair c.args.left.now c.args.right.now c.loop-i.i c.index-left-i.result c.index-right-i.result next in
     let right = right_pair c.args.left.now c.args.right.now c.loop-i.i c.index-left-i.result c.index-right-i.result next in
     let pair = pair_unequal (tree_of c.index-left-i.result.0) (tree_of c.index-left-i.result.1) (tree_of c.index-right-i.result.0) (tree_of c.index-right-i.result.1) c.compare.result left.0 right.0 c.in_default.not-Equal c.compare.ensures in
-    pairs_differ (order (canon_pairs (pairs_view c.args.left.now)) (canon_pairs (pairs_view c.args.right.now))) c.compare.result c.args.left.now c.args.right.now c.loop-i.i c.index-left-i.result c.index-right-i.result next c.loop-i.invariant c.in_default.not-Equal pair
+    pairs_differ (order (canon_pairs (pairs_value c.args.left.now)) (canon_pairs (pairs_value c.args.right.now))) c.compare.result c.args.left.now c.args.right.now c.loop-i.i c.index-left-i.result c.index-right-i.result next c.loop-i.invariant c.in_default.not-Equal pair
 
 pub compare_pairs-returns-in_default-compare : goal.compare_pairs-returns-in_default-compare
 compare_pairs-returns-in_default-compare t c =
@@ -109,7 +109,7 @@ compare_pairs-returns-in_default-compare t c =
     let left = left_pair c.args.left.now c.args.right.now c.loop-i.i c.index-left-i.result c.index-right-i.result next in
     let right = right_pair c.args.left.now c.args.right.now c.loop-i.i c.index-left-i.result c.index-right-i.result next in
     let pair = pair_equal (tree_of c.index-left-i.result.0) (tree_of c.index-left-i.result.1) (tree_of c.index-right-i.result.0) (tree_of c.index-right-i.result.1) c.compare-in-loop-i.result left.0 right.0 (sym c.compare.ensures ∙ c.in-Equal.is) c.compare-in-loop-i.ensures in
-    pairs_differ (order (canon_pairs (pairs_view c.args.left.now)) (canon_pairs (pairs_view c.args.right.now))) c.compare-in-loop-i.result c.args.left.now c.args.right.now c.loop-i.i c.index-left-i.result c.index-right-i.result next c.loop-i.invariant c.in_default-compare.not-Equal pair
+    pairs_differ (order (canon_pairs (pairs_value c.args.left.now)) (canon_pairs (pairs_value c.args.right.now))) c.compare-in-loop-i.result c.args.left.now c.args.right.now c.loop-i.i c.index-left-i.result c.index-right-i.result next c.loop-i.invariant c.in_default-compare.not-Equal pair
 
 pub compare_pairs-loop-i-preserved : goal.compare_pairs-loop-i-preserved
 compare_pairs-loop-i-preserved t c =
@@ -118,4 +118,4 @@ compare_pairs-loop-i-preserved t c =
     let left = left_pair c.args.left.now c.args.right.now c.loop-i.i c.index-left-i.result c.index-right-i.result next in
     let right = right_pair c.args.left.now c.args.right.now c.loop-i.i c.index-left-i.result c.index-right-i.result next in
     let pair = pair_equal (tree_of c.index-left-i.result.0) (tree_of c.index-left-i.result.1) (tree_of c.index-right-i.result.0) (tree_of c.index-right-i.result.1) c.compare-in-loop-i.result left.0 right.0 (sym c.compare.ensures ∙ c.in-Equal.is) c.compare-in-loop-i.ensures in
-    pairs_go_on (order (canon_pairs (pairs_view c.args.left.now)) (canon_pairs (pairs_view c.args.right.now))) c.args.left.now c.args.right.now c.loop-i.i c.index-left-i.result c.index-right-i.result next c.loop-i.invariant (sym pair ∙ c.in-Equal-compare.is)
+    pairs_go_on (order (canon_pairs (pairs_value c.args.left.now)) (canon_pairs (pairs_value c.args.right.now))) c.args.left.now c.args.right.now c.loop-i.i c.index-left-i.result c.index-right-i.result next c.loop-i.invariant (sym pair ∙ c.in-Equal-compare.is)

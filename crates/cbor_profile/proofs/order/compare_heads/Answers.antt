@@ -4,7 +4,7 @@ use Rattle.std.specs.Cmp.Lexicographic.{slice_cmp}
 use Rattle.cbor_profile.specs.declared.major.Major.{Major}
 use Rattle.cbor_profile.specs.Head.{head}
 use Rattle.cbor_profile.specs.Parts.{number_of, major, argument}
-use Rattle.cbor_profile.specs.View.{tree_of}
+use Rattle.cbor_profile.specs.ItemTrees.{tree_of}
 use Rattle.cbor_profile.proofs.Heads.{head_none}
 use Rattle.cbor_profile.proofs.order.compare_heads.Goals as goal
 

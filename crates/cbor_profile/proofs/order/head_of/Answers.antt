@@ -1,5 +1,5 @@
-use Rattle.cbor_profile.specs.View.{tree_of}
-use Rattle.cbor_profile.proofs.Views.{array_is, map_is, array_argument, map_argument}
+use Rattle.cbor_profile.specs.ItemTrees.{tree_of}
+use Rattle.cbor_profile.proofs.ItemTrees.{array_is, map_is, array_argument, map_argument}
 use Rattle.cbor_profile.proofs.order.head_of.Goals as goal
 
 pub returns-in-Array-clause-number : goal.returns-in-Array-clause-number

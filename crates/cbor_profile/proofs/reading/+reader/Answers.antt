@@ -3,11 +3,11 @@ use Rattle.std.proofs.lemmas.Result.{err_from_is_err_and}
 use Rattle.cbor_profile.specs.declared.item.Item.{Unsigned}
 use Rattle.cbor_profile.specs.declared.gathering.Place.{Place}
 use Rattle.cbor_profile.specs.Tree.{Tree}
-use Rattle.cbor_profile.specs.Reading.{item_read, item_at, items_at, open_items_at, pairs_at, open_pairs_at, as_array, as_map}
-use Rattle.cbor_profile.specs.View.{tree_of, trees, tree_pairs}
+use Rattle.cbor_profile.specs.ItemReading.{item_read, item_at, items_at, open_items_at, pairs_at, open_pairs_at, as_array, as_map}
+use Rattle.cbor_profile.specs.ItemTrees.{tree_of, trees, tree_pairs}
 use Rattle.cbor_profile.specs.Gathering.{gathered, AllBefore}
 use Rattle.cbor_profile.specs.Keys.{has_key}
-use Rattle.cbor_profile.proofs.Readings.{held}
+use Rattle.cbor_profile.proofs.WholeReading.{held}
 use Rattle.cbor_profile.proofs.Inside.{small_read, item_short, value_begun, indefinite_begun, reserved_begun, unsupported_begun, gives_same}
 use Rattle.cbor_profile.proofs.Paired.{key_sound, item_sound, same_gathered, put_gathered}
 use Rattle.cbor_profile.proofs.Made.{array_made, array_fails, map_made, map_fails}

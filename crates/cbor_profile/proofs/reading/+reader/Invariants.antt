@@ -2,9 +2,9 @@ use Rattle.std.proofs.Common.{◌≡◌, ◌+◌, ◌-◌, ◌*◌, ◌≤◌, [
 use Rattle.std.specs.List.{AllByRecursion}
 use Rattle.cbor_profile.specs.Tree.{pairs_of}
 use Rattle.cbor_profile.specs.Valid.{IsSound, KeysRise}
-use Rattle.cbor_profile.specs.View.{trees, tree_pairs}
+use Rattle.cbor_profile.specs.ItemTrees.{trees, tree_pairs}
 use Rattle.cbor_profile.specs.Gathering.{gathered, IsGathered}
-use Rattle.cbor_profile.specs.Reading.{items_at, open_items_at, pairs_at, open_pairs_at, item_at}
+use Rattle.cbor_profile.specs.ItemReading.{items_at, open_items_at, pairs_at, open_pairs_at, item_at}
 use Rattle.cbor_profile.proofs.Loops.{with_front}
 use Rattle.cbor_profile.proofs.reading.+reader.Given as goal
 

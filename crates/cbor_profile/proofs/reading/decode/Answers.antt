@@ -1,6 +1,6 @@
 use Rattle.std.proofs.Common.{arith}
 use Rattle.cbor_profile.proofs.Decoded.{found_is, only_is, fault_is, first_is}
-use Rattle.cbor_profile.proofs.Readings.{held}
+use Rattle.cbor_profile.proofs.WholeReading.{held}
 use Rattle.cbor_profile.proofs.reading.decode.Goals as goal
 
 pub returns-clause-found : goal.returns-clause-found

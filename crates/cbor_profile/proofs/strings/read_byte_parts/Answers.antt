@@ -1,7 +1,7 @@
 use Rattle.std.proofs.Common.{◌-◌, ◌+◌, length, sym, ap, ◌∙◌, arith}
 use Rattle.std.proofs.lemmas.Result.{err_from_is_err_and}
 use Rattle.cbor_profile.specs.declared.major.Major.TheVariants as major_type
-use Rattle.cbor_profile.specs.Reading.{parts_at, as_bytes}
+use Rattle.cbor_profile.specs.ItemReading.{parts_at, as_bytes}
 use Rattle.cbor_profile.proofs.Made.{bytes_fails, bytes_made}
 use Rattle.cbor_profile.proofs.Loops.{parts_short, parts_spent, parts_end, parts_reserved, parts_fail, parts_go}
 use Rattle.cbor_profile.proofs.strings.read_byte_parts.Goals as goal

@@ -1,6 +1,6 @@
 use Rattle.std.proofs.Common.{◌≡◌, ◌-◌, ◌≤◌, length}
 use Rattle.cbor_profile.specs.declared.major.Major.TheVariants as major_type
-use Rattle.cbor_profile.specs.Reading.{parts_at}
+use Rattle.cbor_profile.specs.ItemReading.{parts_at}
 use Rattle.cbor_profile.proofs.Loops.{with_front}
 use Rattle.cbor_profile.proofs.strings.read_byte_parts.Given as goal
 

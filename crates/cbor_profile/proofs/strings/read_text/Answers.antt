@@ -1,6 +1,6 @@
 use Rattle.std.proofs.Common.{ap}
 use Rattle.cbor_profile.specs.declared.major.Major.TheVariants as major_type
-use Rattle.cbor_profile.specs.Reading.{string_at, as_text}
+use Rattle.cbor_profile.specs.ItemReading.{string_at, as_text}
 use Rattle.cbor_profile.proofs.Made.{text_made}
 use Rattle.cbor_profile.proofs.Texts.{text_read, text_refused, found_text, found_none}
 use Rattle.cbor_profile.proofs.strings.read_text.Goals as goal

@@ -1,7 +1,7 @@
 use Rattle.std.proofs.Common.{◌≡◌, ◌-◌, ◌≤◌, length}
 use Rattle.std.specs.Prelude.{string_bytes}
 use Rattle.cbor_profile.specs.declared.major.Major.TheVariants as major_type
-use Rattle.cbor_profile.specs.Reading.{parts_at}
+use Rattle.cbor_profile.specs.ItemReading.{parts_at}
 use Rattle.cbor_profile.proofs.Loops.{with_front}
 use Rattle.cbor_profile.proofs.strings.read_text_parts.Given as goal
 

@@ -1,8 +1,8 @@
 use Rattle.std.proofs.Common.{true≢false, refl, sym, arith}
 use Rattle.cbor_profile.specs.Within.{canon_of}
-use Rattle.cbor_profile.specs.View.{tree_of}
+use Rattle.cbor_profile.specs.ItemTrees.{tree_of}
 use Rattle.cbor_profile.proofs.Levels.{array_within, within_array, map_within, within_map, within_at, items_on, pairs_on, pairs_left}
-use Rattle.cbor_profile.proofs.Views.{array_is, map_is}
+use Rattle.cbor_profile.proofs.ItemTrees.{array_is, map_is}
 use Rattle.cbor_profile.proofs.validity.+validity.Goals as goal
 
 pub are_within-returns-then-not-is_within : goal.are_within-returns-then-not-is_within

@@ -1,5 +1,5 @@
 use Rattle.std.proofs.Common.{refl}
-use Rattle.cbor_profile.specs.View.{tree_of}
+use Rattle.cbor_profile.specs.ItemTrees.{tree_of}
 use Rattle.cbor_profile.proofs.KeyOrder.{after_nothing}
 use Rattle.cbor_profile.proofs.validity.rises.Goals as goal
 

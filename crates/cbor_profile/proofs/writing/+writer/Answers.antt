@@ -1,4 +1,4 @@
-use Rattle.cbor_profile.specs.View.{tree_of}
+use Rattle.cbor_profile.specs.ItemTrees.{tree_of}
 use Rattle.cbor_profile.proofs.Written.{on_ok_then, array_written, map_written, bytes_written, text_written, tag_written, items_on, pairs_on}
 use Rattle.cbor_profile.proofs.writing.+writer.Goals as goal
 

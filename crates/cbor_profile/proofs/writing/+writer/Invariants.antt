@@ -1,6 +1,6 @@
 use Rattle.std.proofs.Common.{◌≡◌, ◌++◌, map, drop}
 use Rattle.cbor_profile.specs.Canon.{canon_items, canon_pairs}
-use Rattle.cbor_profile.specs.View.{tree_of, items_of, pairs_of}
+use Rattle.cbor_profile.specs.ItemTrees.{tree_of, items_of, pairs_of}
 use Rattle.cbor_profile.proofs.writing.+writer.Given as goal
 
 -- what was written, and what is still to be written

@@ -1,4 +1,4 @@
-use Rattle.coap_exchange.proofs.Standing.{start_has, step_has, lasts_of_calls}
+use Rattle.coap_exchange.proofs.HistoryRings.{start_has, step_has, lasts_of_calls}
 use Rattle.coap_exchange.proofs.laws.rings_have_the_last.Goals as goal
 
 pub returns : goal.returns

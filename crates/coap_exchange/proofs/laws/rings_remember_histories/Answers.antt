@@ -1,4 +1,4 @@
-use Rattle.coap_exchange.proofs.Standing.{start_remembers, noted_remembers, other_remembers, moved_remembers, replies_remembered}
+use Rattle.coap_exchange.proofs.HistoryRings.{start_remembers, noted_remembers, other_remembers, moved_remembers, replies_remembered}
 use Rattle.coap_exchange.proofs.laws.rings_remember_histories.Goals as goal
 
 pub returns : goal.returns

@@ -1,4 +1,4 @@
-use Rattle.coap_exchange.proofs.Standing.{pairs_noted, pairs_moved}
+use Rattle.coap_exchange.proofs.HistoryRings.{pairs_noted, pairs_moved}
 use Rattle.coap_exchange.proofs.laws.rings_stay.Goals as goal
 
 pub returns : goal.returns

@@ -1,6 +1,6 @@
 use Rattle.std.proofs.Common.{◌≡◌, ◌∙◌, ℕ, List, ap, Ok}
 use Rattle.coap_message.specs.Message.{CoapOption}
-use Rattle.coap_message.specs.Reading.{Rest}
+use Rattle.coap_message.specs.MessageReading.{Rest}
 use Rattle.coap_message.proofs.Whole.{one_split}
 use Rattle.coap_message.proofs.Faults.{breaks_no_split}
 use Rattle.coap_message.proofs.decoding.decode_rest.Goals as goal

@@ -1,5 +1,5 @@
 use Rattle.std.proofs.Common.{◌∙◌, sym, ap}
-use Rattle.coap_message.specs.Reading.{option_at}
+use Rattle.coap_message.specs.MessageReading.{option_at}
 use Rattle.coap_message.proofs.Faults.{reserved_none}
 use Rattle.coap_message.proofs.option_reading.read_option.Goals as goal
 

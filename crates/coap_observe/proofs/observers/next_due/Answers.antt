@@ -6,7 +6,7 @@ use Rattle.coap_observe.specs.Seen.{list_for}
 use Rattle.coap_observe.specs.Rolls.{observed_of, keys_of, has_key, one_at}
 use Rattle.coap_observe.proofs.Keying.{one_placed, has_placed, length_observed}
 use Rattle.coap_observe.proofs.Seeing.{nil_none}
-use Rattle.coap_observe.proofs.Telling.{none_more}
+use Rattle.coap_observe.proofs.Notifying.{none_more}
 use Rattle.coap_observe.proofs.observers.next_due.Goals as goal
 
 pub behind-key-requires : goal.behind-key-requires

@@ -13,8 +13,8 @@ remove-requires c =
     let of = owner c.args.peer (one_at c.args.key rows) c.requires.own in
     has_one c.args.key of.one rows of.there
 
-pub leave-requires : goal.leave-requires
-leave-requires c =
+pub depart-requires : goal.depart-requires
+depart-requires c =
     let rows = c.args.roll.now.rows in
     let of = owner c.args.peer (one_at c.args.key rows) c.requires.own in
     ap (has_slot c.args.key) (c.requires.chained.own c.args.peer)
@@ -25,14 +25,14 @@ returns-clause-chained c =
     let rows = c.args.roll.now.rows in
     let chains = c.args.chains.now.chains in
     let of = owner c.args.peer (one_at c.args.key rows) c.requires.own in
-    let gone = subst (λ (v : ChainsValue). IsNowhere c.args.key v.chains) c.leave.ensures.others c.leave.ensures.gone in
-    subst (λ (v : ChainsValue). AreChained v.chains c.remove.new.self.rows) (sym c.leave.ensures.others)
+    let gone = subst (λ (v : ChainsValue). IsNowhere c.args.key v.chains) c.depart.ensures.others c.depart.ensures.gone in
+    subst (λ (v : ChainsValue). AreChained v.chains c.remove.new.self.rows) (sym c.depart.ensures.others)
     (subst (λ (r : RollValue). AreChained (one_left c.args.peer c.args.key chains) r.rows) (sym c.remove.ensures)
     (subst (λ p. AreChained (one_left p c.args.key chains) (without_key c.args.key rows)) of.peer_is
     (chained_less chains rows c.args.key of.one of.there c.requires.chained (subst (λ p. IsNowhere c.args.key (one_left p c.args.key chains)) (sym of.peer_is) gone))))
 
 pub returns-clause-room : goal.returns-clause-room
 returns-clause-room c = record {
-  limit = ap (λ (v : ChainsValue). v.limit) c.leave.ensures.others;
-  room = λ peer. ap (λ (v : ChainsValue). room_in peer v.chains) c.leave.ensures.others ∙ room_left c.args.peer c.args.key c.args.chains.now.chains peer;
+  limit = ap (λ (v : ChainsValue). v.limit) c.depart.ensures.others;
+  room = λ peer. ap (λ (v : ChainsValue). room_in peer v.chains) c.depart.ensures.others ∙ room_left c.args.peer c.args.key c.args.chains.now.chains peer;
 }

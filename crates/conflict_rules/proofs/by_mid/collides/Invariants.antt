@@ -3,6 +3,6 @@ use Rattle.std.proofs.Common.{◌≡◌, drop, map}
 use Rattle.conflict_rules.specs.ByMid.{collides}
 use Rattle.conflict_rules.proofs.by_mid.collides.Given as goal
 
-abbrev pub invariant-loop-held : goal.invariant-loop-held
-invariant-loop-held g l =
-    collides (map g.T.Mitigates.live (drop l.held-index l.live)) l.peer l.cuid ≡ collides (map g.T.Mitigates.live l.live) l.peer l.cuid
+abbrev pub invariant-loop-mitigation : goal.invariant-loop-mitigation
+invariant-loop-mitigation g l =
+    collides (map g.T.Mitigates.live (drop l.mitigation-index l.live)) l.peer l.cuid ≡ collides (map g.T.Mitigates.live l.live) l.peer l.cuid

@@ -4,6 +4,6 @@ use Rattle.filter_rows.proofs.Greatest.{greater_of}
 use Rattle.conflict_rules.specs.ByOverlap.{highest_mid}
 use Rattle.conflict_rules.proofs.by_overlap.highest_mid.Given as goal
 
-abbrev pub invariant-loop-held : goal.invariant-loop-held
-invariant-loop-held g l =
-    greater_of l.highest (highest_mid (map g.T.Mitigates.live (drop l.held-index l.live)) l.cuid l.request) ≡ highest_mid (map g.T.Mitigates.live l.live) l.cuid l.request
+abbrev pub invariant-loop-mitigation : goal.invariant-loop-mitigation
+invariant-loop-mitigation g l =
+    greater_of l.highest (highest_mid (map g.T.Mitigates.live (drop l.mitigation-index l.live)) l.cuid l.request) ≡ highest_mid (map g.T.Mitigates.live l.live) l.cuid l.request

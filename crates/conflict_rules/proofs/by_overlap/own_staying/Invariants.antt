@@ -3,8 +3,8 @@ use Rattle.std.proofs.Common.{◌≡◌, ◌+◌, ◌≤◌, drop, map}
 use Rattle.conflict_rules.specs.ByOverlap.{own_staying}
 use Rattle.conflict_rules.proofs.by_overlap.own_staying.Given as goal
 
-abbrev pub invariant-loop-held : goal.invariant-loop-held
-invariant-loop-held g l = record {
-  counted : l.number + own_staying (map g.T.Mitigates.live (drop l.held-index l.live)) l.cuid l.request ≡ own_staying (map g.T.Mitigates.live l.live) l.cuid l.request;
-  few : l.number ≤ l.held-index;
+abbrev pub invariant-loop-mitigation : goal.invariant-loop-mitigation
+invariant-loop-mitigation g l = record {
+  counted : l.number + own_staying (map g.T.Mitigates.live (drop l.mitigation-index l.live)) l.cuid l.request ≡ own_staying (map g.T.Mitigates.live l.live) l.cuid l.request;
+  few : l.number ≤ l.mitigation-index;
 }

@@ -1,6 +1,6 @@
 use Rattle.std.proofs.Common.{◌≡◌, ◌∙◌, length, sym, ap, subst}
-use Rattle.cbor_profile.specs.View.{tree_of, trees, tree_pairs}
-use Rattle.cbor_profile.proofs.Views.{tree_of-Array, tree_of-Map}
+use Rattle.cbor_profile.specs.ItemTrees.{tree_of, trees, tree_pairs}
+use Rattle.cbor_profile.proofs.ItemTrees.{tree_of-Array, tree_of-Map}
 use Rattle.dots_bench.specs.Parts.{parts_in}
 use Rattle.dots_bench.proofs.Counts.{items_counted, pairs_all_counted}
 use Rattle.dots_bench.proofs.codec.count_parts.Goals as goal

@@ -1,6 +1,6 @@
 use Rattle.std.proofs.Common.{◌≡◌, length}
 use Rattle.dots_keys.specs.Fields.{each_field}
-use Rattle.dots_keys.specs.FieldViews.{fields_left}
+use Rattle.dots_keys.specs.FieldValues.{fields_left}
 use Rattle.dots_keys.specs.Configurations.{config_field, no_config}
 use Rattle.dots_keys.proofs.configuration.each_field.Given as goal
 

@@ -1,6 +1,6 @@
 use Rattle.std.proofs.Common.{◌≡◌, length}
 use Rattle.dots_keys.specs.Fields.{all_unsigned}
-use Rattle.dots_keys.specs.FieldViews.{pairs_seen}
+use Rattle.dots_keys.specs.FieldValues.{pairs_seen}
 use Rattle.dots_keys.proofs.fields.are_unsigned.Given as goal
 
 abbrev pub invariant-loop-pair : goal.invariant-loop-pair

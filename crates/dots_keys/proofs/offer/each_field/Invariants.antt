@@ -1,6 +1,6 @@
 use Rattle.std.proofs.Common.{◌≡◌, length}
 use Rattle.dots_keys.specs.Fields.{each_field}
-use Rattle.dots_keys.specs.FieldViews.{fields_left}
+use Rattle.dots_keys.specs.FieldValues.{fields_left}
 use Rattle.dots_keys.specs.Configurations.{offer_field, no_offer}
 use Rattle.dots_keys.proofs.offer.each_field.Given as goal
 

@@ -1,6 +1,6 @@
 use Rattle.std.proofs.Common.{◌≡◌, length}
 use Rattle.dots_keys.specs.Fields.{each_field}
-use Rattle.dots_keys.specs.FieldViews.{fields_left}
+use Rattle.dots_keys.specs.FieldValues.{fields_left}
 use Rattle.dots_keys.specs.Mitigations.{range_field, no_ports}
 use Rattle.dots_keys.proofs.ports.each_field.Given as goal
 

@@ -1,6 +1,6 @@
 use Rattle.std.proofs.Common.{sym}
 use Rattle.std.proofs.lemmas.Result.{err_from_is_err_and}
-use Rattle.cbor_profile.specs.View.{tree_of}
+use Rattle.cbor_profile.specs.ItemTrees.{tree_of}
 use Rattle.dots_keys.specs.declared.request.ConfigBody.{ConfigBody}
 use Rattle.dots_keys.specs.declared.request.Request.TheVariants as request
 use Rattle.dots_keys.specs.Meaning.{put_config_with}

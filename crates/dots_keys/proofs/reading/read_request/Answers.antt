@@ -1,7 +1,7 @@
 use Rattle.std.proofs.lemmas.Result.{err_from_is_err_and, IfOk-weaker}
 use Rattle.dots_keys.specs.Askable.{IsAskable}
 use Rattle.dots_keys.specs.Lifetimes.{HasLifetime}
-use Rattle.dots_heads.specs.HeadViews.{head_view}
+use Rattle.dots_heads.specs.HeadValues.{head_value}
 use Rattle.dots_keys.proofs.Askable.{answered_askable, askable_lifetime}
 use Rattle.dots_heads.proofs.WithoutMemory.{no_refusal}
 use Rattle.dots_keys.proofs.reading.read_request.Goals as goal
@@ -13,9 +13,9 @@ returns-in_err-head-clause-memory c =
 
 pub returns-clause-askable : goal.returns-clause-askable
 returns-clause-askable c =
-    answered_askable c.args.message.now c.args.gateway (head_view c.in_ok-head.head) c.payload.result.now c.complete.result c.in_ok-head.ensures.value c.complete.ensures
+    answered_askable c.args.message.now c.args.gateway (head_value c.in_ok-head.head) c.payload.result.now c.complete.result c.in_ok-head.ensures.value c.complete.ensures
 
 pub returns-clause-lifetime : goal.returns-clause-lifetime
 returns-clause-lifetime c =
     IfOk-weaker c.complete.result IsAskable HasLifetime askable_lifetime
-    (answered_askable c.args.message.now c.args.gateway (head_view c.in_ok-head.head) c.payload.result.now c.complete.result c.in_ok-head.ensures.value c.complete.ensures)
+    (answered_askable c.args.message.now c.args.gateway (head_value c.in_ok-head.head) c.payload.result.now c.complete.result c.in_ok-head.ensures.value c.complete.ensures)

@@ -1,7 +1,7 @@
 use Rattle.std.proofs.Common.{sym, ap, ◌∙◌, arith, ◌<◌, ◌≤◌, nat_le, Option}
 use Rattle.std.proofs.lemmas.Bool.{cond-true, cond-false, le-leb, lt-leb}
 use Rattle.cbor_profile.specs.Tree.{Trees, count}
-use Rattle.dots_keys.specs.FieldViews.{items_seen}
+use Rattle.dots_keys.specs.FieldValues.{items_seen}
 use Rattle.dots_keys.specs.Mitigations.{at_most}
 use Rattle.dots_keys.proofs.Arrays.{count_seen}
 use Rattle.dots_keys.proofs.targets.at_most.Goals as goal

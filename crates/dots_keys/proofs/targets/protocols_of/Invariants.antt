@@ -1,5 +1,5 @@
 use Rattle.std.proofs.Common.{◌≡◌, drop}
-use Rattle.dots_keys.specs.FieldViews.{items_seen}
+use Rattle.dots_keys.specs.FieldValues.{items_seen}
 use Rattle.dots_keys.specs.Mitigations.{each_item, protocol_of}
 use Rattle.dots_keys.proofs.Arrays.{behind}
 use Rattle.dots_keys.proofs.targets.protocols_of.Given as goal

@@ -1,4 +1,4 @@
-use Rattle.dots_laws.proofs.Reading.{read_of_view}
+use Rattle.dots_laws.proofs.HistoryReading.{read_of_view}
 use Rattle.dots_laws.proofs.laws.views_are_read.Goals as goal
 
 pub returns : goal.returns

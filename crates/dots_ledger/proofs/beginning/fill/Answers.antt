@@ -1,8 +1,8 @@
 use Rattle.std.proofs.Common.{inl, inr, length, max, sym, ap, ◌∙◌, arith}
 use Rattle.std.proofs.Math.Nat.{le-max_right}
 use Rattle.std.proofs.lemmas.Result.{err_from_is_err_and}
-use Rattle.slot_store.proofs.Reading.{sees_at_rest}
-use Rattle.slot_store.specs.Standing.{JournalValue}
+use Rattle.slot_store.proofs.DiskReading.{sees_at_rest}
+use Rattle.slot_store.specs.StoreValues.{JournalValue}
 use Rattle.dots_ledger.proofs.Recovering.{stands_begun, time_begun, time_small, used_many, refuses_stray, refuses_more, fails_alone, caused_entries}
 use Rattle.dots_ledger.proofs.beginning.fill.Goals as goal
 
@@ -102,14 +102,14 @@ returns g c = record {
   recovered = record {
     entries = c.in_ok-journal.entries;
     each = c.in_ok-journal.ensures.each;
-    stands = stands_begun
+    represents = stands_begun
         c.args.settings.now
         c.in_ok-journal.entries
         c.take_all.new.registry
         (record { registry = c.tick.new.self; journal = c.in_ok-journal.journal })
         c.in_ok-take_all.ensures.taken
         (c.tick.ensures.settings c.args.settings.now)
-        c.tick.ensures.stands
+        c.tick.ensures.represents
         c.tick.ensures.filed
         (sym c.used-used.ensures.used ∙ sym c.if-many-used.false ∙ ap length c.items-many.ensures)
         c.in_ok-journal.ensures.size.0

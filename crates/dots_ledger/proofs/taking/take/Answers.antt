@@ -16,13 +16,13 @@ joins-requires c = c.tick.ensures.settings c.args.settings.now c.requires.taken.
 pub returns-then-not-joins-clause-no : goal.returns-then-not-joins-clause-no
 returns-then-not-joins-clause-no c = λ is before taken.
     sym (joined c.args.settings.now c.tick.new.self before c.args.entry c.tick.ensures.time c.requires.within)
-    ∙ sym (c.joins.ensures before (c.tick.ensures.stands before (taken_stand c.args.settings.now before c.args.registry.now taken)))
+    ∙ sym (c.joins.ensures before (c.tick.ensures.represents before (taken_stand c.args.settings.now before c.args.registry.now taken)))
     ∙ c.if-not-joins.true
 
 pub apply-requires : goal.apply-requires
 apply-requires c =
     let some = c.requires.taken in
-    let stands = c.tick.ensures.stands some.entries (taken_stand c.args.settings.now some.entries c.args.registry.now some.taken) in
+    let represents = c.tick.ensures.represents some.entries (taken_stand c.args.settings.now some.entries c.args.registry.now some.taken) in
     subst
     (FitsIn c.tick.new.self)
     (sym c.in_ok-staged.ensures.value)
@@ -32,12 +32,12 @@ apply-requires c =
     some.entries
     c.args.entry
     (c.tick.ensures.settings c.args.settings.now some.taken.is_of)
-    stands
-    (sym (c.joins.ensures some.entries stands) ∙ c.if-not-joins.false))
+    represents
+    (sym (c.joins.ensures some.entries represents) ∙ c.if-not-joins.false))
 
 pub returns-clause-yes : goal.returns-clause-yes
 returns-clause-yes c = λ is before place taken.
-    let stands = c.tick.ensures.stands before (taken_stand c.args.settings.now before c.args.registry.now taken) in
+    let represents = c.tick.ensures.represents before (taken_stand c.args.settings.now before c.args.registry.now taken) in
     taken_more
     c.args.settings.now
     before
@@ -48,10 +48,10 @@ returns-clause-yes c = λ is before place taken.
     c.apply.new.self
     c.in_ok-staged.ensures.value
     (λ is_of. c.apply.ensures.settings c.args.settings.now (c.tick.ensures.settings c.args.settings.now is_of))
-    (λ stands_in. c.apply.ensures.filed (filed before) (c.tick.ensures.filed (filed before) stands_in))
+    (λ represents_filed. c.apply.ensures.filed (filed before) (c.tick.ensures.filed (filed before) represents_filed))
     c.apply.ensures.time
     place
     (sym (joined c.args.settings.now c.tick.new.self before c.args.entry c.tick.ensures.time c.requires.within)
-    ∙ sym (c.joins.ensures before stands)
+    ∙ sym (c.joins.ensures before represents)
     ∙ c.if-not-joins.false)
     taken

@@ -1,5 +1,5 @@
-use Rattle.dots_machine.proofs.Kept.{accepted_is_repeated}
-use Rattle.dots_machine.proofs.Repeating.{request_repeated, step_repeated, run_repeats}
+use Rattle.dots_machine.proofs.RememberedMessages.{accepted_is_repeated}
+use Rattle.dots_machine.proofs.RepeatAnswers.{request_repeated, step_repeated, run_repeats}
 use Rattle.dots_machine.proofs.law.repeats_are_answered.Goals as goal
 
 pub returns : goal.returns

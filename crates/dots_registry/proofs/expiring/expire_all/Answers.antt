@@ -1,14 +1,14 @@
 use Rattle.std.proofs.Common.{◌≡◌, ◌<◌, refl, sym, ap, ◌∙◌, subst}
-use Rattle.live_mitigations.specs.Standing.{LiveValue, ComesTo, SlotsCome}
+use Rattle.live_mitigations.specs.LiveValues.{LiveValue, ComesTo, SlotsCome}
 use Rattle.installed_filters.specs.Filters.{FiltersValue, filters_at}
-use Rattle.installed_filters.proofs.Standing.{Between, between_first, between_next, between_last}
+use Rattle.installed_filters.proofs.HistoryRows.{Between, between_first, between_next, between_last}
 use Rattle.dots_registry.proofs.expiring.expire_all.Goals as goal
 
 pub loop-domain-init : goal.loop-domain-init
 loop-domain-init c = record {
   comes = λ entries comes. comes;
   same = record { domains = refl; limits = refl; time = refl };
-  between = λ entries less alive stands. between_first _ _ _ entries less alive stands;
+  between = λ entries less alive represents. between_first _ _ _ entries less alive represents;
   room = record { scrubs = refl; acls = refl };
   slots = λ filed come. come;
 }
@@ -24,28 +24,28 @@ loop-domain-preserved c =
         limits = c.expire.ensures.same.limits ∙ ap (λ (l : LiveValue). l.limits) same ∙ before.same.limits;
         time = c.expire.ensures.same.time ∙ ap (λ (l : LiveValue). l.time) same ∙ before.same.time;
       };
-      between = λ entries less alive stands.
+      between = λ entries less alive represents.
           between_next
           c.args.now
           c.in-Some.domain
           c.next_due.new.self
           c.expire.new.self
           c.loop-domain.filters
-          c.leave_live.new.self
+          c.retain_live.new.self
           entries
           (subst (λ (l : LiveValue). c.in-Some.domain < l.domains) (sym same) c.in-Some.ensures.some.0)
           c.expire.ensures.same
           c.expire.ensures.own
           c.expire.ensures.others
-          (c.leave_live.ensures ∙ ap (λ kept. filters_at c.in-Some.domain c.args.now kept c.loop-domain.filters) c.rows.ensures.kept)
-          (subst (λ (l : LiveValue). Between c.args.now l c.loop-domain.filters entries) (sym same) (before.between entries less alive stands));
+          (c.retain_live.ensures ∙ ap (λ kept. filters_at c.in-Some.domain c.args.now kept c.loop-domain.filters) c.rows.ensures.kept)
+          (subst (λ (l : LiveValue). Between c.args.now l c.loop-domain.filters entries) (sym same) (before.between entries less alive represents));
       room = record {
-        scrubs = ap (λ (f : FiltersValue). f.scrub_room) c.leave_live.ensures ∙ before.room.scrubs;
-        acls = ap (λ (f : FiltersValue). f.acl_room) c.leave_live.ensures ∙ before.room.acls;
+        scrubs = ap (λ (f : FiltersValue). f.scrub_room) c.retain_live.ensures ∙ before.room.scrubs;
+        acls = ap (λ (f : FiltersValue). f.acl_room) c.retain_live.ensures ∙ before.room.acls;
       };
       slots = λ filed come. c.expire.ensures.slots filed (subst (λ (l : LiveValue). SlotsCome c.args.now l.tables filed) (sym same) (before.slots filed come));
     }
 
-pub returns-clause-stands : goal.returns-clause-stands
-returns-clause-stands c = λ entries less alive stands.
-    between_last c.args.now _ c.loop-domain.filters entries c.in_default.ensures.none (c.loop-domain.invariant.between entries less alive stands)
+pub returns-clause-represents : goal.returns-clause-represents
+returns-clause-represents c = λ entries less alive represents.
+    between_last c.args.now _ c.loop-domain.filters entries c.in_default.ensures.none (c.loop-domain.invariant.between entries less alive represents)

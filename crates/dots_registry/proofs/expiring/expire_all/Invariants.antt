@@ -1,11 +1,11 @@
 -- what is left comes to the same histories, and the slots with it; there is less of it after each turn
 use Rattle.std.proofs.Common.{◌≤◌, List}
 use Rattle.dots_history.specs.declared.entry.Entry.{Entry}
-use Rattle.live_mitigations.specs.Standing.{ComesTo, SameButRows, count_kept, SlotsCome}
-use Rattle.live_mitigations.specs.Standing as lives
+use Rattle.live_mitigations.specs.LiveValues.{ComesTo, SameButRows, count_live, SlotsCome}
+use Rattle.live_mitigations.specs.LiveValues as lives
 use Rattle.installed_filters.specs.Filters.{SameRoom}
-use Rattle.installed_filters.specs.Standing.{StandsFor}
-use Rattle.installed_filters.proofs.Standing.{Between}
+use Rattle.installed_filters.specs.HistoryRows.{Represents}
+use Rattle.installed_filters.proofs.HistoryRows.{Between}
 use Rattle.dots_laws.specs.Filed.{Filed}
 use Rattle.dots_registry.proofs.expiring.expire_all.Given as goal
 
@@ -13,11 +13,11 @@ abbrev pub invariant-loop-domain : goal.invariant-loop-domain
 invariant-loop-domain l = record {
   comes : (entries : List Entry) → ComesTo l.now l.fn.live entries → ComesTo l.now l.live entries;
   same : SameButRows l.fn.live l.live;
-  between : (entries : List Entry) → l.fn.live.time ≤ l.now → lives.StandsFor l.fn.live entries → StandsFor l.fn.filters l.fn.live.time entries
+  between : (entries : List Entry) → l.fn.live.time ≤ l.now → lives.Represents l.fn.live entries → Represents l.fn.filters l.fn.live.time entries
       → Between l.now l.live l.filters entries;
   room : SameRoom l.fn.filters l.filters;
   slots : (filed : List Filed) → SlotsCome l.now l.fn.live.tables filed → SlotsCome l.now l.live.tables filed;
 }
 
 abbrev pub decreases-loop-domain : goal.decreases-loop-domain
-decreases-loop-domain l = count_kept l.live
+decreases-loop-domain l = count_live l.live

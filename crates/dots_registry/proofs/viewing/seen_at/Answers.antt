@@ -1,6 +1,6 @@
 use Rattle.std.proofs.Common.{◌<◌, Some, ap, sym, ◌∙◌, drop, arith}
 use Rattle.std.specs.Prelude.{slice_get}
-use Rattle.dots_registry.specs.Viewing.{seen_among}
+use Rattle.dots_registry.specs.ObserverViews.{seen_among}
 use Rattle.dots_registry.proofs.Seeing.{passed, found_here}
 use Rattle.dots_registry.proofs.viewing.seen_at.Goals as goal
 

@@ -1,6 +1,6 @@
 use Rattle.std.proofs.Common.{◌≡◌, ℕ, drop}
 use Rattle.std.specs.Prelude.{slice_get}
-use Rattle.dots_registry.specs.Viewing.{seen_among}
+use Rattle.dots_registry.specs.ObserverViews.{seen_among}
 use Rattle.dots_registry.proofs.viewing.seen_at.Given as goal
 
 abbrev pub invariant-loop-row : goal.invariant-loop-row

@@ -1,5 +1,5 @@
 use Rattle.std.proofs.Common.{◌<◌, ◌≤◌, sym, ◌∙◌, arith}
-use Rattle.dots_registry.specs.Viewing.{seen_among}
+use Rattle.dots_registry.specs.ObserverViews.{seen_among}
 use Rattle.dots_registry.proofs.Seeing.{get_taken, get_untaken}
 use Rattle.dots_registry.proofs.viewing.view_of.Goals as goal
 

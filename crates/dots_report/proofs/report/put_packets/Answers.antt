@@ -1,6 +1,6 @@
 use Rattle.std.proofs.Common.{◌+◌, map, ap, add-one, arith}
 use Rattle.filter_rows.specs.Fates.{fate_by_rows}
-use Rattle.filter_table.specs.Held.{row_of_scrub, row_of_acl}
+use Rattle.filter_table.specs.TableRows.{row_of_scrub, row_of_acl}
 use Rattle.dots_settings.specs.Lookups.{prefixes_of}
 use Rattle.dots_report.proofs.Reports.{puts_packet}
 use Rattle.dots_report.proofs.report.put_packets.Goals as goal

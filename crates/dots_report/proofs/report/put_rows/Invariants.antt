@@ -1,5 +1,5 @@
 use Rattle.std.proofs.Common.{◌≡◌, List, ℕ, ◌++◌, flat_map}
-use Rattle.filter_table.specs.Held.{active_rows}
+use Rattle.filter_table.specs.TableRows.{active_rows}
 use Rattle.dots_machine.specs.Report.{scrub_line}
 use Rattle.dots_report.specs.Gathering.{sunk, Puts}
 use Rattle.dots_report.proofs.report.put_rows.Given as goal

@@ -3,7 +3,7 @@ use Rattle.std.proofs.Common.{◌≡◌, true, refl, sym, subst}
 use Rattle.dots_machine.specs.Machine.{begun_from}
 use Rattle.dots_machine.specs.Outside.{Outside}
 use Rattle.dots_laws.specs.Calm.{is_own}
-use Rattle.dots_server.specs.Standing.{IsKept}
+use Rattle.dots_server.specs.ServerValues.{IsKept}
 use Rattle.dots_run.specs.Refusals.{Counts, Wrote}
 use Rattle.dots_run.proofs.Serving.{begun_zero, sees_of, serves_to}
 use Rattle.dots_run.proofs.outcome.host_events.Goals as goal

@@ -1,7 +1,7 @@
 use Rattle.std.proofs.Common.{[], refl, subst}
 use Rattle.dots_machine.specs.declared.ending.Stop.TheVariants as stop
 use Rattle.dots_machine.specs.Machine.{State}
-use Rattle.dots_server.specs.Standing.{StandsFor}
+use Rattle.dots_server.specs.ServerValues.{Represents}
 use Rattle.dots_run.proofs.Writing.{wrote_all, wrote_some, wrote_stop}
 use Rattle.dots_run.proofs.outcome.serve.Goals as goal
 
@@ -24,7 +24,7 @@ pub returns-in-Ok-write_report-clause-any : goal.returns-in-Ok-write_report-clau
 returns-in-Ok-write_report-clause-any g c =
     let settings = c.args.server.settings in
     let any = c.in-Ok-write_report.ensures.any in
-    let stands = subst (λ s. StandsFor c.in-Ok.server s any.0) c.in-Ok.ensures.settings any.1 in (
+    let stands = subst (λ s. Represents c.in-Ok.server s any.0) c.in-Ok.ensures.settings any.1 in (
       stop.Ended,
       any.0,
       stands.own,
@@ -47,7 +47,7 @@ pub returns-in-Err-write_report-clause-any : goal.returns-in-Err-write_report-cl
 returns-in-Err-write_report-clause-any g c =
     let settings = c.args.server.settings in
     let any = c.in-Err-write_report.ensures.any in
-    let stands = subst (λ s. StandsFor c.in-Ok.server s any.0) c.in-Ok.ensures.settings any.1 in (
+    let stands = subst (λ s. Represents c.in-Ok.server s any.0) c.in-Ok.ensures.settings any.1 in (
       stop.Ended,
       any.0,
       stands.own,

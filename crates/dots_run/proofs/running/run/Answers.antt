@@ -1,6 +1,6 @@
 use Rattle.std.proofs.Common.{◌∙◌, map, string_bytes, inl, sym, subst}
 use Rattle.dots_host.specs.Causes.{Rose}
-use Rattle.dots_run.specs.Telling.{Tells, IsSound, IsAtFault}
+use Rattle.dots_run.specs.Reporting.{ReportsTopic, IsSound, IsAtFault}
 use Rattle.dots_run.proofs.Asking.{never_served, no_show, no_source, one_topic, topic_is_known, known_without, no_topic, never_two, status_unread, status_unwritten, status_sound, status_at_fault, status_heard}
 use Rattle.dots_run.proofs.running.run.Goals as goal
 
@@ -12,27 +12,27 @@ returns-in-Some-clause-machine g c = λ none. no_topic (map string_bytes c.args.
 pub returns-in-Some-clause-told : goal.returns-in-Some-clause-told
 returns-in-Some-clause-told g c = λ topic is.
     let same = one_topic (map string_bytes c.args.words.now) c.in-Some.topic topic (sym c.in-Some.ensures) is in (
-      c.tell.result,
+      c.report_topic.result,
       c.status.ensures,
-      subst (λ topic. Tells topic c.tell.result (g.S.Source.left c.args.settings.now) (g.K.Sink.holds c.args.report.now) (g.K.Sink.holds c.tell.new.report)
-          (Rose (g.S.Source.faults c.args.settings.now) (g.S.Source.faults c.tell.new.source)) (Rose (g.K.Sink.faults c.args.report.now) (g.K.Sink.faults c.tell.new.report)))
-          same c.tell.ensures.tells,
+      subst (λ topic. ReportsTopic topic c.report_topic.result (g.S.Source.left c.args.settings.now) (g.K.Sink.holds c.args.report.now) (g.K.Sink.holds c.report_topic.new.report)
+          (Rose (g.S.Source.faults c.args.settings.now) (g.S.Source.faults c.report_topic.new.source)) (Rose (g.K.Sink.faults c.args.report.now) (g.K.Sink.faults c.report_topic.new.report)))
+          same c.report_topic.ensures.reported,
     )
 
 pub returns-in-Some-clause-words : goal.returns-in-Some-clause-words
-returns-in-Some-clause-words g c = (λ two. absurd (never_two c.tell.result (sym c.status.ensures ∙ two)), λ none. absurd (topic_is_known (map string_bytes c.args.words.now) c.in-Some.topic (sym c.in-Some.ensures) none))
+returns-in-Some-clause-words g c = (λ two. absurd (never_two c.report_topic.result (sym c.status.ensures ∙ two)), λ none. absurd (topic_is_known (map string_bytes c.args.words.now) c.in-Some.topic (sym c.in-Some.ensures) none))
 
 pub returns-in-Some-clause-read : goal.returns-in-Some-clause-read
-returns-in-Some-clause-read g c = λ five. inl (c.tell.ensures.read (status_unread c.tell.result (sym c.status.ensures ∙ five)))
+returns-in-Some-clause-read g c = λ five. inl (c.report_topic.ensures.read (status_unread c.report_topic.result (sym c.status.ensures ∙ five)))
 
 pub returns-in-Some-clause-heard : goal.returns-in-Some-clause-heard
-returns-in-Some-clause-heard g c = λ four five. status_heard c.tell.result _ c.tell.ensures.heard (λ is. four (c.status.ensures ∙ is)) (λ is. five (c.status.ensures ∙ is))
+returns-in-Some-clause-heard g c = λ four five. status_heard c.report_topic.result _ c.report_topic.ensures.heard (λ is. four (c.status.ensures ∙ is)) (λ is. five (c.status.ensures ∙ is))
 
 pub returns-in-Some-clause-written : goal.returns-in-Some-clause-written
-returns-in-Some-clause-written g c = λ nine. c.tell.ensures.written (status_unwritten c.tell.result (sym c.status.ensures ∙ nine))
+returns-in-Some-clause-written g c = λ nine. c.report_topic.ensures.written (status_unwritten c.report_topic.result (sym c.status.ensures ∙ nine))
 
 pub returns-in-Some-clause-unread : goal.returns-in-Some-clause-unread
-returns-in-Some-clause-unread g c = λ served check script. c.tell.ensures.unread (no_source (map string_bytes c.args.words.now) c.in-Some.topic (sym c.in-Some.ensures) check script)
+returns-in-Some-clause-unread g c = λ served check script. c.report_topic.ensures.unread (no_source (map string_bytes c.args.words.now) c.in-Some.topic (sym c.in-Some.ensures) check script)
 
 pub returns-in-Some-clause-refused : goal.returns-in-Some-clause-refused
 returns-in-Some-clause-refused g c = λ served. absurd (never_served (map string_bytes c.args.words.now) c.in-Some.topic (sym c.in-Some.ensures) served)
@@ -49,12 +49,12 @@ returns-in-Some-clause-unreadable g c = λ show. absurd (no_show (map string_byt
 pub returns-in-Some-clause-sound : goal.returns-in-Some-clause-sound
 returns-in-Some-clause-sound g c = λ topic is sound read written.
     let same = one_topic (map string_bytes c.args.words.now) topic c.in-Some.topic is (sym c.in-Some.ensures) in
-    rw c.status.ensures (status_sound c.tell.result (c.tell.ensures.sound (subst (λ topic. IsSound topic (g.S.Source.left c.args.settings.now)) same sound) read written))
+    rw c.status.ensures (status_sound c.report_topic.result (c.report_topic.ensures.sound (subst (λ topic. IsSound topic (g.S.Source.left c.args.settings.now)) same sound) read written))
 
 pub returns-in-Some-clause-at_fault : goal.returns-in-Some-clause-at_fault
 returns-in-Some-clause-at_fault g c = λ topic is fault read.
     let same = one_topic (map string_bytes c.args.words.now) topic c.in-Some.topic is (sym c.in-Some.ensures) in
-    rw c.status.ensures (status_at_fault c.tell.result (c.tell.ensures.at_fault (subst (λ topic. IsAtFault topic (g.S.Source.left c.args.settings.now)) same fault) read))
+    rw c.status.ensures (status_at_fault c.report_topic.result (c.report_topic.ensures.at_fault (subst (λ topic. IsAtFault topic (g.S.Source.left c.args.settings.now)) same fault) read))
 
 -- ---- the machine's commands
 

@@ -3,7 +3,7 @@ use Rattle.dots_host.specs.Acts.{wire_acts}
 use Rattle.dots_disk.specs.Logged.{acts_told}
 use Rattle.dots_machine.specs.Outside.{Outside}
 use Rattle.dots_machine.specs.Endings.{Behaves}
-use Rattle.dots_script.specs.Accounts.{Standing, standing}
+use Rattle.dots_script.specs.Accounts.{Outer, outer}
 use Rattle.dots_script.specs.Scripting.{Scripting}
 use Rattle.dots_run.specs.Outcomes.{Outcome}
 use Rattle.dots_run.specs.Scripted.{outside_first, outside_with}
@@ -20,7 +20,7 @@ returns-in-Ok-clause-runs g c =
     let words = map string_bytes c.args.words.now in
     let status = c.run-status.result in
     let host = c.run-status.new.host in
-    let start : Standing = standing_of (left c.args.script) (holds c.args.sends) (faults c.args.script) in
+    let start : Outer = standing_of (left c.args.script) (holds c.args.sends) (faults c.args.script) in
     let given = g.S.Source.left c.args.settings.now in
     let after : Outside =
     outside_with (g.S.Source.left c.run-status.new.settings) (g.S.Source.faults c.run-status.new.settings) host (g.R.Sink.holds c.run-status.new.report) (g.R.Sink.faults c.run-status.new.report) in
@@ -28,8 +28,8 @@ returns-in-Ok-clause-runs g c =
     λ h. outside_with given (g.S.Source.faults c.args.settings.now) h (g.R.Sink.holds c.args.report.now) (g.R.Sink.faults c.args.report.now) in
     let empty : Outside = outside_first given (g.S.Source.faults c.args.settings.now) (g.R.Sink.holds c.args.report.now) (g.R.Sink.faults c.args.report.now) in
     let first = c.in-Ok.ensures.host in
-    let stands : host ≡ c.in-Ok.host → standing left faults holds host ≡ start =
-    λ kept. ap (standing left faults holds) (kept ∙ first) ∙ stands_at_first (left c.args.script) (holds c.args.sends) (faults c.args.script) in
+    let stays : host ≡ c.in-Ok.host → outer left faults holds host ≡ start =
+    λ kept. ap (outer left faults holds) (kept ∙ first) ∙ stands_at_first (left c.args.script) (holds c.args.sends) (faults c.args.script) in
     let said = c.run-status.ensures in
     let outcome : Outcome words status (before c.in-Ok.host) after = record {
       commands = said.words;
@@ -52,17 +52,17 @@ returns-in-Ok-clause-runs g c =
             ending,
             status_is,
             did,
-            joins words empty after (wire_acts 0 host.disk.acts) refl refl refl start (standing left faults holds host) accounts ending did (λ idle. stands (uncalled idle)),
+            joins words empty after (wire_acts 0 host.disk.acts) refl refl refl start (outer left faults holds host) accounts ending did (λ idle. stays (uncalled idle)),
           );
       told = λ topic is.
-          let (how, status_is, tells) = said.told topic is in
+          let (how, status_is, reported) = said.told topic is in
           let kept = said.unserved (not_served words topic is) in
           record {
             how = how;
             status_is = status_is;
-            tells = tells;
+            reported = reported;
             no_acts = ap (λ (h : Scripting _ _). acts_told h.disk) (kept ∙ first);
-            stands = stands kept;
+            stays = stays kept;
           };
       outcome = subst (λ h. Outcome words status (before h) after) first outcome;
       ready = λ gives. ready_blank given gives;

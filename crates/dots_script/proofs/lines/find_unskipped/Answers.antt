@@ -1,7 +1,7 @@
 use Rattle.std.proofs.Common.{◌+◌, refl, arith, take, sym, subst, List, ℕ}
 use Rattle.dots_script.specs.Script.{IsSkipped}
 use Rattle.dots_script.specs.Lines.{Skips, to_come}
-use Rattle.dots_script.proofs.Reading.{skips_more}
+use Rattle.dots_script.proofs.LineReading.{skips_more}
 use Rattle.dots_script.proofs.lines.find_unskipped.Goals as goal
 
 pub skips-preserved : goal.skips-preserved

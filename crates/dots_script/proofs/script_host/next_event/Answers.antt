@@ -4,7 +4,7 @@ use Rattle.dots_host.specs.Acts.{event_of}
 use Rattle.dots_host.specs.Causes.{Rose}
 use Rattle.dots_script.specs.Script.{IsEventLine}
 use Rattle.dots_script.specs.Lines.{NextIs, to_come}
-use Rattle.dots_script.proofs.Reading.{answers_line, answers_other}
+use Rattle.dots_script.proofs.LineReading.{answers_line, answers_other}
 use Rattle.dots_script.proofs.script_host.next_event.Goals as goal
 
 pub returns-in_default-clause-answer : goal.returns-in_default-clause-answer

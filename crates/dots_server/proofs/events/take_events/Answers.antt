@@ -6,7 +6,7 @@ use Rattle.std.proofs.lemmas.Result.{err_from_is_err_and}
 use Rattle.dots_host.specs.Causes.{Rose}
 use Rattle.slot_store.proofs.Steps.{begins}
 use Rattle.dots_host.proofs.RunLemmas.{added_none}
-use Rattle.slot_journal.specs.Held as journal
+use Rattle.slot_journal.specs.DiskEntries as journal
 use Rattle.dots_machine.specs.declared.ending.Stop.TheVariants as stop
 use Rattle.dots_machine.proofs.Surviving.{told_by, rests_still, step_timely}
 use Rattle.dots_server.specs.Turning.{HoldsTurn}
@@ -25,7 +25,7 @@ loop-turn-init g c = record {
   size = c.requires.size;
   settings = refl;
   lives = λ settings start held kept rests.
-      (start, held, kept, rests, ([], sym (append-nil start.history)), [], added_none _ _ (lives_begin settings start (g.H.Disk.media c.args.host.now) (journal.StandsFor c.args.server.journal settings held) rests));
+      (start, held, kept, rests, ([], sym (append-nil start.history)), [], added_none _ _ (lives_begin settings start (g.H.Disk.media c.args.host.now) (journal.Represents c.args.server.journal settings held) rests));
 }
 
 -- ---- one more
@@ -44,7 +44,7 @@ loop-turn-preserved g c = record {
       let left = c.take_one.new.host in
       let now = c.in_ok-server-in_default.server in
       let keeps = (g.met.H.Host.wire_keeps host came c.next-got.ensures.beside).0 in
-      let rests_came = rests_still (g.H.Disk.media host) (g.H.Disk.media came) (journal.StandsFor c.loop-turn.server.journal settings few) rests keeps in
+      let rests_came = rests_still (g.H.Disk.media host) (g.H.Disk.media came) (journal.Represents c.loop-turn.server.journal settings few) rests keeps in
       let took = c.in_ok-server-in_default.ensures.done settings state few kept rests_came in
       let what = event_of c.next-got.result.what c.next-got.new.into in
       let at = c.next-got.result.at in
@@ -54,13 +54,13 @@ loop-turn-preserved g c = record {
         took.new,
         took.few,
         took.kept,
-        rests_still took.turn.mid (g.H.Disk.media left) (journal.StandsFor now.journal settings took.few) (took.turn.rests rests_came) took.turn.sends,
+        rests_still took.turn.between (g.H.Disk.media left) (journal.Represents now.journal settings took.few) (took.turn.rests rests_came) took.turn.sends,
         grows_on settings start state took.new c.loop-turn._turn (g.H.Wire.moment host) at what took.owed trace (g.H.Disk.media c.args.host.now) (g.H.Disk.media host) (g.H.Disk.media came) took.step here held_on keeps grown,
         trace ++ (took.new ∷ told_by took.owed),
         turned settings start state took.new c.loop-turn._turn (g.H.Wire.moment host) at what took.owed trace (g.H.Disk.media c.args.host.now) (g.H.Disk.media host) (g.H.Disk.media came) took.step here held_on keeps
-            (g.H.Disk.media left) (journal.StandsFor c.loop-turn.server.journal settings few) (journal.StandsFor now.journal settings took.few) _ _ _ _ _
+            (g.H.Disk.media left) (journal.Represents c.loop-turn.server.journal settings few) (journal.Represents now.journal settings took.few) _ _ _ _ _
             (no_end _ _ _ c.in_default.not-End c.in_default.not-Failed) lives c.next-got.ensures.acts took.turn rests_came
-            (rests_kept now settings took.new took.few took.new.time took.turn.mid took.kept (timely now settings took.new took.few took.kept)),
+            (rests_kept now settings took.new took.few took.new.time took.turn.between took.kept (timely now settings took.new took.few took.kept)),
       );
 }
 
@@ -83,10 +83,10 @@ returns-in-End g c = record {
               (g.met.H.Host.one_moment host) held_on keeps (g.H.Disk.media came) stop.Ended _ _ _ _ _ lives (λ front goes. (front, _, at, refl, refl, goes)) (rw c.in-End.is at c.next-got.ensures.acts)
               (keeps_same (g.H.Wire.acts came)) (begins (g.H.Disk.media came) (HoldsTurn settings state state));
           grows = grown;
-          own = kept.stands.stands.own;
+          own = kept.represents.represents.own;
           found = tt;
         },
-        kept.stands.stands,
+        kept.represents.represents,
       );
   settings = c.loop-turn.invariant.settings;
   stopped = tt;
@@ -111,7 +111,7 @@ returns-in-Failed g c = record {
               (g.met.H.Host.one_moment host) held_on keeps (g.H.Disk.media came) stop.NextFailed _ _ _ _ _ lives (λ front goes. (front, _, at, refl, refl, goes)) (rw c.in-Failed.is at c.next-got.ensures.acts)
               (keeps_same (g.H.Wire.acts came)) (begins (g.H.Disk.media came) (HoldsTurn settings state state));
           grows = grown;
-          own = kept.stands.stands.own;
+          own = kept.represents.represents.own;
           found = tt;
         },
         tt,
@@ -134,7 +134,7 @@ returns-in_err-server-in_default-clause-came g c =
     let what = event_of c.next-got.result.what c.next-got.new.into in
     let at = c.next-got.result.at in
     let keeps = (g.met.H.Host.wire_keeps host came c.next-got.ensures.beside).0 in
-    let rests_came = rests_still (g.H.Disk.media host) (g.H.Disk.media came) (journal.StandsFor c.loop-turn.server.journal settings few) rests keeps in
+    let rests_came = rests_still (g.H.Disk.media host) (g.H.Disk.media came) (journal.Represents c.loop-turn.server.journal settings few) rests keeps in
     let how = c.in_err-server-in_default.field-0.0 in
     let over = c.in_err-server-in_default.ensures.failed settings state few kept rests_came in
     let late = step_timely settings state what at over.owed over.new (timely c.loop-turn.server settings state few kept) over.step in
@@ -196,7 +196,7 @@ returns g c = record {
           trace = trace;
           told = ran_out settings start state c.loop-turn._turn trace (g.H.Disk.media c.args.host.now) (g.H.Disk.media c.loop-turn.host) _ _ (omega (arith, c.loop-turn-test.false, c.loop-turn.auto._turn-end)) lives;
           grows = grown;
-          own = kept.stands.stands.own;
+          own = kept.represents.represents.own;
           found = tt;
         },
         tt,

@@ -4,10 +4,10 @@ use Rattle.dots_host.specs.Runs.{Added}
 use Rattle.dots_settings.specs.Settings.{SettingsValue}
 use Rattle.dots_history.specs.declared.entry.Entry.{Entry}
 use Rattle.slot_store.specs.Layout.{needed_of}
-use Rattle.slot_journal.specs.Held as journal
+use Rattle.slot_journal.specs.DiskEntries as journal
 use Rattle.dots_machine.specs.Machine.{State}
-use Rattle.dots_server.specs.Standing.{IsKept}
-use Rattle.dots_server.specs.Living.{Lives}
+use Rattle.dots_server.specs.ServerValues.{IsKept}
+use Rattle.dots_server.specs.Running.{RunsTo}
 use Rattle.dots_server.proofs.events.take_events.Given as goal
 
 abbrev pub invariant-loop-turn : goal.invariant-loop-turn
@@ -18,8 +18,8 @@ invariant-loop-turn g l = record {
   size : needed_of l.server.journal.slots ≤ g.H.Disk.extent l.host;
   settings : l.server.settings ≡ l.fn.server.settings;
   lives : (settings : SettingsValue) (start : State) (held : List Entry) → IsKept l.fn.server settings start held
-      → RestsWith (g.H.Disk.media l.fn.host) (journal.StandsFor l.fn.server.journal settings held)
-      → (state : State) × (few : List Entry) × IsKept l.server settings state few × RestsWith (g.H.Disk.media l.host) (journal.StandsFor l.server.journal settings few)
+      → RestsWith (g.H.Disk.media l.fn.host) (journal.Represents l.fn.server.journal settings held)
+      → (state : State) × (few : List Entry) × IsKept l.server settings state few × RestsWith (g.H.Disk.media l.host) (journal.Represents l.server.journal settings few)
       × ((extra : List Entry) × (state.history ≡ start.history ++ extra))
-      × (trace : List State) × Added (g.H.Wire.acts l.fn.host) (g.H.Wire.acts l.host) (Lives settings start state l._turn (g.H.Disk.media l.fn.host) (g.H.Disk.media l.host) trace);
+      × (trace : List State) × Added (g.H.Wire.acts l.fn.host) (g.H.Wire.acts l.host) (RunsTo settings start state l._turn (g.H.Disk.media l.fn.host) (g.H.Disk.media l.host) trace);
 }

@@ -1,7 +1,7 @@
 use Rattle.std.proofs.Common.{◌≤◌, sym, subst}
 use Rattle.slot_store.specs.Layout.{needed_of}
 use Rattle.dots_host.specs.Causes.{Rose}
-use Rattle.dots_server.specs.Standing.{ServerValue}
+use Rattle.dots_server.specs.ServerValues.{ServerValue}
 use Rattle.dots_server.proofs.Taking.{restart_took, restart_stops, recover_stops}
 use Rattle.dots_server.proofs.events.take_one.Goals as goal
 
@@ -34,7 +34,7 @@ returns-in-Err g c =
     let keeps = g.met.H.Host.disk_keeps host left c.restart.ensures.beside in record {
       done = tt;
       failed = λ settings state entries kept rests.
-          let large = subst (λ slots. needed_of slots ≤ g.H.Disk.extent host) kept.stands.slots c.requires.size in
+          let large = subst (λ slots. needed_of slots ≤ g.H.Disk.extent host) kept.represents.slots c.requires.size in
           rw c.in-Restart.is (
           restart_stops settings state c.args.got.now.at c.args.server entries kept (g.H.Disk.media host) (g.H.Disk.media left) (g.H.Wire.acts host) (g.H.Wire.acts left)
           keeps.0 (c.restart.ensures.moments settings state entries kept) c.in-Err.fault (c.in-Err.ensures.found settings state entries kept rests large)

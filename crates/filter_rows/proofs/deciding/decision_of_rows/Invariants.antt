@@ -1,7 +1,7 @@
 -- what the lists of the rest say, those of all say
 use Rattle.std.proofs.Common.{◌≡◌, drop}
 use Rattle.filter_rows.specs.Fates.{decision_of_rows}
-use Rattle.filter_rows.specs.Told.{prefixes_in}
+use Rattle.filter_rows.specs.HandedOut.{prefixes_in}
 use Rattle.filter_rows.proofs.deciding.decision_of_rows.Given as goal
 
 abbrev pub invariant-loop-row : goal.invariant-loop-row

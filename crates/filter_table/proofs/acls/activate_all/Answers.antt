@@ -1,6 +1,6 @@
 use Rattle.std.proofs.Common.{set, ap, sym, ◌∙◌}
 use Rattle.std.proofs.lemmas.List.Edits.{map_over_more}
-use Rattle.filter_table.specs.Held.{activated}
+use Rattle.filter_table.specs.TableRows.{activated}
 use Rattle.filter_table.proofs.acls.activate_all.Goals as goal
 
 pub loop-list-preserved : goal.loop-list-preserved

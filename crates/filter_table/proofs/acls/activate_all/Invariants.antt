@@ -1,6 +1,6 @@
 -- the rows before the one at hand are changed
 use Rattle.std.proofs.Common.{◌≡◌, ◌++◌, map, take, drop}
-use Rattle.filter_table.specs.Held.{activated}
+use Rattle.filter_table.specs.TableRows.{activated}
 use Rattle.filter_table.proofs.acls.activate_all.Given as goal
 
 abbrev pub invariant-loop-list : goal.invariant-loop-list

@@ -1,5 +1,5 @@
 use Rattle.std.proofs.Common.{not, refl}
-use Rattle.filter_table.specs.Held.{is_named, activated, place_of_acl, acl_at_place}
+use Rattle.filter_table.specs.TableRows.{is_named, activated, place_of_acl, acl_at_place}
 use Rattle.filter_table.proofs.Orders.{order_insert, order_filter, order_map, order_renumbered, activated_place}
 use Rattle.filter_table.proofs.laws.acls_stay_in_order.Goals as goal
 

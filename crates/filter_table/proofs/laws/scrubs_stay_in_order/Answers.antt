@@ -1,5 +1,5 @@
 use Rattle.std.proofs.Common.{not, refl}
-use Rattle.filter_table.specs.Held.{is_of, woken, place_of_scrub, scrub_at_place}
+use Rattle.filter_table.specs.TableRows.{is_of, woken, place_of_scrub, scrub_at_place}
 use Rattle.filter_table.proofs.Orders.{order_insert, order_filter, order_map, order_renumbered, woken_place}
 use Rattle.filter_table.proofs.laws.scrubs_stay_in_order.Goals as goal
 

@@ -1,5 +1,5 @@
 use Rattle.std.proofs.Common.{not}
-use Rattle.filter_table.specs.Held.{is_of, woken}
+use Rattle.filter_table.specs.TableRows.{is_of, woken}
 use Rattle.filter_table.proofs.Orders.{apart_installed, apart_filter, apart_map, apart_renumbered, woken_slot}
 use Rattle.filter_table.proofs.laws.slots_stay_apart.Goals as goal
 

@@ -1,6 +1,6 @@
 -- the active ones of the rest are those of all
 use Rattle.std.proofs.Common.{◌≡◌, drop}
-use Rattle.filter_table.specs.Held.{active_rows}
+use Rattle.filter_table.specs.TableRows.{active_rows}
 use Rattle.filter_table.specs.Rows.{gathered}
 use Rattle.filter_table.proofs.rows.next_active.Given as goal
 

@@ -2,7 +2,7 @@ use Rattle.std.proofs.Common.{ℕ, ap, ◌∙◌}
 use Rattle.std.specs.Prelude.{Result}
 use Rattle.http_cut.specs.declared.fault.HttpFault.{HttpFault}
 use Rattle.http_cut.specs.Requests.{by_framing, outcome_behind}
-use Rattle.http_cut.specs.Views.{head_at}
+use Rattle.http_cut.specs.SpanValues.{head_at}
 use Rattle.http_cut.proofs.cutting.cut_behind.Goals as goal
 
 pub returns-in-Ok : goal.returns-in-Ok

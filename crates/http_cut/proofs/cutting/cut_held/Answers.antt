@@ -1,7 +1,7 @@
 use Rattle.std.proofs.Common.{ℕ, ◌≤◌, List, take, ap, subst, ◌∙◌, arith}
 use Rattle.httparse.specs.Spans.{RequestOverflows}
 use Rattle.http_cut.specs.Requests.{outcome_of, outcome_behind}
-use Rattle.http_cut.specs.Views.{head_at}
+use Rattle.http_cut.specs.SpanValues.{head_at}
 use Rattle.http_cut.proofs.Cuts.{window_fits, cut_whole, cut_waits, cut_full, cut_never}
 use Rattle.http_cut.proofs.cutting.cut_held.Goals as goal
 

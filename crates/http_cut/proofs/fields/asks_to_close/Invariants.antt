@@ -3,7 +3,7 @@ use Rattle.std.specs.Prelude.{All, codes}
 use Rattle.std.specs.List.{list_any}
 use Rattle.httparse.specs.Spans.{IsHeaderWithin}
 use Rattle.http_cut.specs.Fields.{values_of, has_close}
-use Rattle.http_cut.specs.Views.{fields_at}
+use Rattle.http_cut.specs.SpanValues.{fields_at}
 use Rattle.http_cut.proofs.fields.asks_to_close.Given as goal
 
 abbrev pub invariant-loop-value : goal.invariant-loop-value

@@ -6,7 +6,7 @@ use Rattle.std.proofs.lemmas.List.Elements.{All-tail}
 use Rattle.httparse.specs.declared.spans.HeaderSpan.{HeaderSpan}
 use Rattle.httparse.specs.Spans.{IsHeaderWithin}
 use Rattle.http_cut.specs.Fields.{values_of}
-use Rattle.http_cut.specs.Views.{fields_at}
+use Rattle.http_cut.specs.SpanValues.{fields_at}
 use Rattle.http_cut.proofs.Values.{values_here, values_later}
 use Rattle.http_cut.proofs.fields.find_field.Goals as goal
 

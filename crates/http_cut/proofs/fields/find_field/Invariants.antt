@@ -2,7 +2,7 @@ use Rattle.std.proofs.Common.{◌≡◌, ◌≤◌, length}
 use Rattle.std.specs.Prelude.{All}
 use Rattle.httparse.specs.Spans.{IsHeaderWithin}
 use Rattle.http_cut.specs.Fields.{values_of}
-use Rattle.http_cut.specs.Views.{fields_at}
+use Rattle.http_cut.specs.SpanValues.{fields_at}
 use Rattle.http_cut.proofs.fields.find_field.Given as goal
 
 abbrev pub invariant-loop-field : goal.invariant-loop-field

@@ -1,7 +1,7 @@
 use Rattle.std.proofs.Common.{ℕ, List, sym, ap, ◌∙◌}
 use Rattle.std.specs.Prelude.{codes}
 use Rattle.http_cut.specs.Fields.{framed, body_length, values_of}
-use Rattle.http_cut.specs.Views.{fields_at}
+use Rattle.http_cut.specs.SpanValues.{fields_at}
 use Rattle.http_cut.proofs.fields.framing.Goals as goal
 
 pub returns-in-None-clause-value : goal.returns-in-None-clause-value

@@ -1,4 +1,4 @@
-use Rattle.live_mitigations.proofs.Standing.{one_kept, kept_apart}
+use Rattle.live_mitigations.proofs.LiveValues.{one_kept, kept_apart}
 use Rattle.live_mitigations.proofs.laws.what_is_kept_is_apart.Goals as goal
 
 pub returns : goal.returns

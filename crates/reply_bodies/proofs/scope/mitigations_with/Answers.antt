@@ -1,4 +1,4 @@
-use Rattle.cbor_profile.specs.View.{trees}
+use Rattle.cbor_profile.specs.ItemTrees.{trees}
 use Rattle.reply_bodies.proofs.Parts.{always}
 use Rattle.reply_bodies.proofs.Shapes.{mitigations_valid}
 use Rattle.reply_bodies.proofs.scope.mitigations_with.Goals as goal

@@ -1,5 +1,5 @@
 use Rattle.std.proofs.Common.{◌≡◌, map, take}
-use Rattle.cbor_profile.specs.View.{trees}
+use Rattle.cbor_profile.specs.ItemTrees.{trees}
 use Rattle.reply_bodies.specs.Mitigations.{scope_of}
 use Rattle.reply_bodies.specs.Within.{AllWithin}
 use Rattle.reply_bodies.proofs.scope.scopes_of.Given as goal

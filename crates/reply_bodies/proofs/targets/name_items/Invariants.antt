@@ -1,5 +1,5 @@
 use Rattle.std.proofs.Common.{◌≡◌, map, take}
-use Rattle.cbor_profile.specs.View.{trees}
+use Rattle.cbor_profile.specs.ItemTrees.{trees}
 use Rattle.cbor_profile.specs.Tree.{text}
 use Rattle.reply_bodies.specs.Within.{AllWithin}
 use Rattle.reply_bodies.proofs.targets.name_items.Given as goal

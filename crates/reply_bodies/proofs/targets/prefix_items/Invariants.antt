@@ -1,5 +1,5 @@
 use Rattle.std.proofs.Common.{◌≡◌, map, take}
-use Rattle.cbor_profile.specs.View.{trees}
+use Rattle.cbor_profile.specs.ItemTrees.{trees}
 use Rattle.reply_bodies.specs.Mitigations.{prefix_tree}
 use Rattle.reply_bodies.specs.Within.{AllWithin}
 use Rattle.reply_bodies.proofs.targets.prefix_items.Given as goal

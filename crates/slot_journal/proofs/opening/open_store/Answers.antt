@@ -1,4 +1,4 @@
-use Rattle.slot_journal.proofs.Recovering.{told_refuses, told_other, told_caused}
+use Rattle.slot_journal.proofs.Recovering.{fault_refuses, fault_other, fault_caused}
 use Rattle.slot_journal.proofs.opening.open_store.Goals as goal
 
 pub returns-in-Ok-clause-moments : goal.returns-in-Ok-clause-moments
@@ -15,11 +15,11 @@ returns-in-Err-clause-moments g c = rw (c.slots.ensures.slots, c.digest-digest.e
 
 pub returns-in-Err-clause-refused : goal.returns-in-Err-clause-refused
 returns-in-Err-clause-refused g c = λ seen sees.
-    told_refuses c.args.settings.now (g.D.Disk.extent c.args.disk.now) seen c.in-Err.fault c.told_as.result (rw (c.digest-digest.ensures.value) at c.told_as.ensures)
+    fault_refuses c.args.settings.now (g.D.Disk.extent c.args.disk.now) seen c.in-Err.fault c.fault_for.result (rw (c.digest-digest.ensures.value) at c.fault_for.ensures)
     (rw (c.slots.ensures.slots, c.digest-digest.ensures.value) at (c.in-Err.ensures.refused seen sees))
 
 pub returns-in-Err-clause-unwritten : goal.returns-in-Err-clause-unwritten
-returns-in-Err-clause-unwritten g c = λ seen other rests. c.in-Err.ensures.unwritten seen (told_other c.in-Err.fault c.digest-digest.result c.told_as.result c.told_as.ensures other) rests
+returns-in-Err-clause-unwritten g c = λ seen other rests. c.in-Err.ensures.unwritten seen (fault_other c.in-Err.fault c.digest-digest.result c.fault_for.result c.fault_for.ensures other) rests
 
 pub returns-in-Err-clause-cause : goal.returns-in-Err-clause-cause
-returns-in-Err-clause-cause g c = told_caused c.in-Err.fault c.digest-digest.result c.told_as.result (g.D.Disk.faults c.args.disk.now) (g.D.Disk.faults c.open.new.disk) c.told_as.ensures c.in-Err.ensures.cause
+returns-in-Err-clause-cause g c = fault_caused c.in-Err.fault c.digest-digest.result c.fault_for.result (g.D.Disk.faults c.args.disk.now) (g.D.Disk.faults c.open.new.disk) c.fault_for.ensures c.in-Err.ensures.cause

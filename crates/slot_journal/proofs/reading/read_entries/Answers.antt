@@ -3,9 +3,9 @@ use Rattle.std.proofs.lemmas.List.{length_push}
 use Rattle.std.proofs.lemmas.Result.{err_from_is_err_and}
 use Rattle.std.specs.List.{AllByRecursion}
 use Rattle.slot_store.specs.Layout.{place_of, IsSlot}
-use Rattle.slot_store.proofs.Reading.{reads_none, reads_then, sees_kept}
+use Rattle.slot_store.proofs.DiskReading.{reads_none, reads_then, sees_kept}
 use Rattle.entry_records.specs.Layout.{record_bytes}
-use Rattle.slot_journal.specs.Held.{HasRecord}
+use Rattle.slot_journal.specs.DiskEntries.{HasRecord}
 use Rattle.slot_journal.specs.Refused.{HoldsFirst, Caused}
 use Rattle.slot_journal.proofs.Listed.{all_push}
 use Rattle.slot_journal.proofs.Halves.{none_held, one_more_held, bad_slot, slot_within}

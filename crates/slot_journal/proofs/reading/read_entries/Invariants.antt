@@ -3,7 +3,7 @@ use Rattle.std.specs.List.{AllByRecursion}
 use Rattle.dots_disk.specs.Becoming.{KeepsMedia}
 use Rattle.slot_store.specs.Gates.{Sees}
 use Rattle.slot_store.specs.Refusing.{IsCount}
-use Rattle.slot_journal.specs.Held.{HasRecord}
+use Rattle.slot_journal.specs.DiskEntries.{HasRecord}
 use Rattle.slot_journal.specs.Refused.{HoldsFirst}
 use Rattle.slot_journal.proofs.reading.read_entries.Given as goal
 

@@ -3,7 +3,7 @@ use Rattle.slot_store.specs.Gates.{Sees}
 use Rattle.slot_store.specs.Layout.{IsSlot}
 use Rattle.slot_store.proofs.OpenLemmas.{if_ok_as, if_err_as}
 use Rattle.entry_records.specs.Layout.{record_bytes}
-use Rattle.slot_journal.specs.Held.{HasRecord}
+use Rattle.slot_journal.specs.DiskEntries.{HasRecord}
 use Rattle.slot_journal.specs.Refused.{RefusesSlot, IsNoRecord}
 use Rattle.slot_journal.proofs.Halves.{entry_stands, read_refused, stray_long}
 use Rattle.slot_journal.proofs.reading.read_entry.Goals as goal

@@ -1,6 +1,6 @@
 use Rattle.std.proofs.Common.{refl, ◌∙◌, subst, ap, ℕ, ◌≡◌, ◌%◌}
 use Rattle.std.proofs.lemmas.Result.{err_from_is_err_and}
-use Rattle.slot_store.proofs.Reading.{reads_then, sees_kept}
+use Rattle.slot_store.proofs.DiskReading.{reads_then, sees_kept}
 use Rattle.slot_journal.specs.Refused.{IsNoWant}
 use Rattle.slot_journal.proofs.Halves.{whole_half, rest_refused}
 use Rattle.slot_journal.proofs.reading.read_half.Goals as goal

@@ -1,7 +1,7 @@
 use Rattle.std.proofs.Common.{refl, get_or, arith}
 use Rattle.std.proofs.lemmas.Result.{err_from_is_err_and}
 use Rattle.slot_store.proofs.Storing.{slot_fits}
-use Rattle.slot_store.proofs.Reading.{reads_none, reads_more, reads_lost}
+use Rattle.slot_store.proofs.DiskReading.{reads_none, reads_more, reads_lost}
 use Rattle.slot_store.proofs.CopyingLemmas.{read_copy}
 use Rattle.slot_store.proofs.copying.fill_slot.Goals as goal
 

@@ -1,7 +1,7 @@
 use Rattle.std.proofs.Common.{arith, refl, subst, ◌∙◌, ◌≡◌, ℕ, length}
 use Rattle.std.proofs.lemmas.Result.{err_from_is_err_and}
 use Rattle.dots_host.specs.Causes.{Rose}
-use Rattle.slot_store.proofs.Reading.{sees_at_rest}
+use Rattle.slot_store.proofs.DiskReading.{sees_at_rest}
 use Rattle.slot_store.proofs.HeaderLemmas.{is_rest}
 use Rattle.slot_store.proofs.FormatLemmas.{format_reads, format_leaves, format_rests}
 use Rattle.slot_store.proofs.formatting.format.Goals as goal

@@ -3,7 +3,7 @@ use Rattle.std.proofs.lemmas.Result.{err_from_is_err_and}
 use Rattle.slot_store.specs.Layout.{HoldsRecords}
 use Rattle.slot_store.specs.Opening.{Is}
 use Rattle.slot_store.proofs.Steps.{begins}
-use Rattle.slot_store.proofs.Reading.{reads_none}
+use Rattle.slot_store.proofs.DiskReading.{reads_none}
 use Rattle.slot_store.proofs.OpenLemmas.{found_byte, gate_closed, holds_formatted, header_seen, header_refuses, gates_refuse, open_formatted, open_as_it_was}
 use Rattle.slot_store.proofs.formatting.open_found.Goals as goal
 

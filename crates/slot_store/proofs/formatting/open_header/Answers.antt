@@ -6,7 +6,7 @@ use Rattle.slot_store.specs.Opening.{Is}
 use Rattle.slot_store.specs.Refusing.{RefusesDisk, IsOpen}
 use Rattle.slot_store.specs.Layout.{HoldsRecords}
 use Rattle.slot_store.specs.declared.fault.OpenFault.TheVariants as OpenFault
-use Rattle.slot_store.proofs.Reading.{sees_at_rest, rests_kept}
+use Rattle.slot_store.proofs.DiskReading.{sees_at_rest, rests_kept}
 use Rattle.slot_store.proofs.Steps.{leaves_then}
 use Rattle.slot_store.proofs.OpenLemmas.{holds_still, if_ok_as, if_err_as}
 use Rattle.slot_store.proofs.formatting.open_header.Goals as goal

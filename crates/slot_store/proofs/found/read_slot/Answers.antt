@@ -1,5 +1,5 @@
 use Rattle.std.proofs.Common.{arith, ◌≡◌, ◌≤◌, ◌<◌, ◌+◌, ◌*◌, ◌∙◌, length}
-use Rattle.slot_store.proofs.Reading.{reads_none, reads_more, reads_lost, bytes_seen}
+use Rattle.slot_store.proofs.DiskReading.{reads_none, reads_more, reads_lost, bytes_seen}
 use Rattle.slot_store.proofs.FoundLemmas.{room_byte, found_record}
 use Rattle.slot_store.proofs.found.read_slot.Goals as goal
 

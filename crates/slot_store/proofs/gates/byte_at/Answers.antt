@@ -1,4 +1,4 @@
-use Rattle.slot_store.proofs.Reading.{reads_none, reads_more, reads_lost}
+use Rattle.slot_store.proofs.DiskReading.{reads_none, reads_more, reads_lost}
 use Rattle.slot_store.proofs.gates.byte_at.Goals as goal
 
 pub returns-in_err-read-clause-keeps : goal.returns-in_err-read-clause-keeps

@@ -1,7 +1,7 @@
 use Rattle.std.proofs.Common.{refl, ◌∙◌, ap, sym, arith}
 use Rattle.std.proofs.lemmas.Result.{err_from_is_err_and}
 use Rattle.slot_store.specs.Gates.{is_wanted}
-use Rattle.slot_store.proofs.Reading.{reads_none, reads_then, sees_kept, none_more}
+use Rattle.slot_store.proofs.DiskReading.{reads_none, reads_then, sees_kept, none_more}
 use Rattle.slot_store.proofs.gates.find_gate.Goals as goal
 
 pub loop-index-init : goal.loop-index-init

@@ -1,5 +1,5 @@
 use Rattle.std.proofs.Common.{refl, subst}
-use Rattle.cbor_profile.specs.View.{tree_of}
+use Rattle.cbor_profile.specs.ItemTrees.{tree_of}
 use Rattle.cbor_profile.specs.Gathering.{AllBefore}
 use Rattle.cbor_profile.proofs.AtEncodings.{behind_new}
 use Rattle.cbor_profile.proofs.gathering.Gathered.find_place.Goals as goal

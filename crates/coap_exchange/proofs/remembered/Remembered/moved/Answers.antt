@@ -1,6 +1,6 @@
 use Rattle.std.proofs.Common.{◌≡◌, map, ap, ◌∙◌}
 use Rattle.coap_exchange.specs.Rings.{pair_of}
-use Rattle.coap_exchange.proofs.Standing.{pairs_moved}
+use Rattle.coap_exchange.proofs.HistoryRings.{pairs_moved}
 use Rattle.coap_exchange.proofs.remembered.Remembered.moved.Goals as goal
 
 pub invariant_of-self : goal.invariant_of-self

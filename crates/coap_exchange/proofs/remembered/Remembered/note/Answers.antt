@@ -2,7 +2,7 @@ use Rattle.std.proofs.Common.{◌≡◌, map, ap, sym, ◌∙◌}
 use Rattle.coap_exchange.specs.declared.message.Message.{Message}
 use Rattle.coap_exchange.specs.Rings.{pair_of, noted}
 use Rattle.coap_exchange.proofs.Finding.{ring_place, noted_at, noted_nowhere}
-use Rattle.coap_exchange.proofs.Standing.{pairs_noted}
+use Rattle.coap_exchange.proofs.HistoryRings.{pairs_noted}
 use Rattle.coap_exchange.proofs.remembered.Remembered.note.Goals as goal
 
 pub invariant_of-self : goal.invariant_of-self

@@ -12,8 +12,8 @@ remove-gone-requires c =
     let has = subst (λ (r : RollValue). has_key c.args.key r.rows ≡ true) (sym c.self.view_is) c.requires in
     is_there at c.args.key slots c.self.invariant.kept.there (sym (has_rows at c.args.key slots c.self.invariant.kept.there) ∙ has)
 
-pub leave-requires : goal.leave-requires
-leave-requires c =
+pub depart-requires : goal.depart-requires
+depart-requires c =
     let at = get c.self.inside.ones in
     let slots = c.self.inside.order.slots in
     let has = subst (λ (r : RollValue). has_key c.args.key r.rows ≡ true) (sym c.self.view_is) c.requires in
@@ -24,7 +24,7 @@ returns c =
     let at = get c.self.inside.ones in
     let new = get c.remove-gone.new.self in
     let slots = c.self.inside.order.slots in
-    ap (λ (o : OrderValue). record { room = o.room; rows = rows_of new o.slots }) c.leave.ensures
+    ap (λ (o : OrderValue). record { room = o.room; rows = rows_of new o.slots }) c.depart.ensures
     ∙ ap (λ rows. record { room = c.self.inside.order.room; rows = rows }) (rows_less at new c.args.key slots c.remove-gone.ensures.updates.others)
     ∙ ap (λ (r : RollValue). record { room = r.room; rows = without_key c.args.key r.rows }) c.self.view_is
 
@@ -36,11 +36,11 @@ invariant_of-self c =
     let has = subst (λ (r : RollValue). has_key c.args.key r.rows ≡ true) (sym c.self.view_is) c.requires in
     let there = sym (has_rows at c.args.key slots c.self.invariant.kept.there) ∙ has in
     let less = length_less c.args.key slots c.self.invariant.kept.distinct there in
-    let long = ap (λ (o : OrderValue). length o.slots) c.leave.ensures in
-    let wide = ap (λ (o : OrderValue). o.room) c.leave.ensures in
+    let long = ap (λ (o : OrderValue). length o.slots) c.depart.ensures in
+    let wide = ap (λ (o : OrderValue). o.room) c.depart.ensures in
     record {
       kept =
-          subst (λ (o : OrderValue). AreKept new o.slots) (sym c.leave.ensures)
+          subst (λ (o : OrderValue). AreKept new o.slots) (sym c.depart.ensures)
           (kept_less at new c.args.key slots c.self.invariant.kept c.remove-gone.ensures.updates.changed c.remove-gone.ensures.updates.others);
       count = omega (arith, less, long, c.self.invariant.count, c.remove-gone.ensures.len);
       room = wide ∙ c.self.invariant.room ∙ sym c.remove-gone.ensures.capacity;

@@ -1,5 +1,5 @@
 use Rattle.std.proofs.Common.{◌≡◌, length}
-use Rattle.dots_keys.specs.FieldViews.{fields_left}
+use Rattle.dots_keys.specs.FieldValues.{fields_left}
 use Rattle.dots_keys.proofs.fields.Fields.next.Given as goal
 
 abbrev pub invariant-loop-pair : goal.invariant-loop-pair

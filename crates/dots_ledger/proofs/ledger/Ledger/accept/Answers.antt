@@ -1,9 +1,9 @@
 use Rattle.std.proofs.Common.{◌≡◌, ◌∙◌, ℕ, ap, true, [], ◌∷◌, ◌++◌, sym, subst}
 use Rattle.dots_host.specs.Causes.{HasCause}
 use Rattle.dots_disk.specs.Becoming.{Leaves}
-use Rattle.dots_registry.specs.Standing.{time_of, number_remembered}
+use Rattle.dots_registry.specs.RegistryValues.{time_of, number_remembered}
 use Rattle.slot_store.proofs.Steps.{leaves_then}
-use Rattle.dots_ledger.specs.Standing.{LedgerValue, StandsFor, joins_at}
+use Rattle.dots_ledger.specs.LedgerValues.{LedgerValue, Represents, joins_at}
 use Rattle.dots_ledger.specs.Crashes.{HoldsEither}
 use Rattle.dots_ledger.proofs.Answering.{ok_as, err_as}
 use Rattle.dots_ledger.proofs.Images.{leaves_compacting, leaves_appending}
@@ -12,18 +12,18 @@ use Rattle.dots_ledger.proofs.ledger.Ledger.accept.Goals as goal
 pub append-requires-clause-can : goal.append-requires-clause-can
 append-requires-clause-can g c =
     let can = c.requires.can in
-    let made = c.in-Ok.ensures.compacted can.settings can.history can.entries can.stands in
+    let made = c.in-Ok.ensures.compacted can.settings can.history can.entries can.represents in
     record {
       settings = can.settings;
       history = can.history;
       entries = made.0;
-      stands = made.1;
+      represents = made.1;
       joins = subst (λ (t : ℕ). joins_at can.settings t can.history c.args.staged ≡ true) (sym c.make_room.ensures.time) can.joins;
     }
 
 pub returns-in-Err : goal.returns-in-Err
 returns-in-Err g c = record {
-  moments = λ settings history entries stands joins rests.
+  moments = λ settings history entries represents joins rests.
       leaves_compacting
       (g.D.Disk.media c.args.disk.now)
       (g.D.Disk.media c.make_room.new.disk)
@@ -32,10 +32,10 @@ returns-in-Err g c = record {
       history
       entries
       c.args.staged
-      stands
-      (c.make_room.ensures.moments settings history entries stands rests);
+      represents
+      (c.make_room.ensures.moments settings history entries represents rests);
   accepted = tt;
-  refused = λ settings history entries stands. (entries, subst (λ (l : LedgerValue). StandsFor l settings history entries) (sym c.in-Err.ensures.same) stands);
+  refused = λ settings history entries represents. (entries, subst (λ (l : LedgerValue). Represents l settings history entries) (sym c.in-Err.ensures.same) represents);
   time = tt;
   still = c.make_room.ensures.time;
   slots = c.make_room.ensures.slots;
@@ -46,28 +46,28 @@ returns-in-Err g c = record {
 
 pub returns-in-Ok : goal.returns-in-Ok
 returns-in-Ok g c = record {
-  moments = λ settings history entries stands joins rests.
+  moments = λ settings history entries represents joins rests.
       let start = g.D.Disk.media c.args.disk.now in
-      let mid = g.D.Disk.media c.make_room.new.disk in
+      let between = g.D.Disk.media c.make_room.new.disk in
       let end = g.D.Disk.media c.append.new.disk in
       let n = number_remembered c.args.self.now.registry in
       let t = time_of c.args.self.now.registry in
       let later = time_of c.make_room.new.self.registry in
-      let made = c.in-Ok.ensures.compacted settings history entries stands in
+      let made = c.in-Ok.ensures.compacted settings history entries represents in
       leaves_then
       start
-      mid
+      between
       end
       (HoldsEither settings n t history c.args.staged)
-      (leaves_compacting start mid c.args.self.now settings history entries c.args.staged stands (c.make_room.ensures.moments settings history entries stands rests))
+      (leaves_compacting start between c.args.self.now settings history entries c.args.staged represents (c.make_room.ensures.moments settings history entries represents rests))
       (subst
-      (λ (u : ℕ). Leaves mid end (HoldsEither settings n u history c.args.staged))
+      (λ (u : ℕ). Leaves between end (HoldsEither settings n u history c.args.staged))
       c.make_room.ensures.time
       (subst
-      (λ (k : ℕ). Leaves mid end (HoldsEither settings k later history c.args.staged))
+      (λ (k : ℕ). Leaves between end (HoldsEither settings k later history c.args.staged))
       c.make_room.ensures.number
       (leaves_appending
-      mid
+      between
       end
       c.make_room.new.self
       settings
@@ -82,8 +82,8 @@ returns-in-Ok g c = record {
       c.append.result
       _
       _
-      (λ goes settings history entries stands joins.
-      let made = c.in-Ok.ensures.compacted settings history entries stands in
+      (λ goes settings history entries represents joins.
+      let made = c.in-Ok.ensures.compacted settings history entries represents in
       let end = goes
       settings
       history
@@ -97,9 +97,9 @@ returns-in-Ok g c = record {
       c.append.result
       _
       _
-      (λ same settings history entries stands.
-      let made = c.in-Ok.ensures.compacted settings history entries stands in
-      (made.0, subst (λ (l : LedgerValue). StandsFor l settings history made.0) (sym same) made.1))
+      (λ same settings history entries represents.
+      let made = c.in-Ok.ensures.compacted settings history entries represents in
+      (made.0, subst (λ (l : LedgerValue). Represents l settings history made.0) (sym same) made.1))
       c.append.ensures.same;
   time = c.append.ensures.time;
   still = err_as c.append.result _ _ (λ same. ap (λ (l : LedgerValue). time_of l.registry) same ∙ c.make_room.ensures.time) c.append.ensures.same;

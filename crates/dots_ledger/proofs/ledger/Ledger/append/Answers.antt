@@ -3,29 +3,29 @@ use Rattle.std.specs.Prelude.{IsTrue}
 use Rattle.dots_disk.specs.Becoming.{Leaves, RestsWith}
 use Rattle.dots_history.specs.declared.entry.Entry.{Entry}
 use Rattle.dots_history.specs.Bounds.{within_bounds}
-use Rattle.dots_registry.specs.Standing.{RegistryValue, time_of}
-use Rattle.slot_store.specs.Standing.{JournalValue}
-use Rattle.slot_journal.specs.Held as journal
-use Rattle.dots_ledger.specs.Standing.{LedgerValue, StandsFor, IsStanding, CanAccept, joins_at}
+use Rattle.dots_registry.specs.RegistryValues.{RegistryValue, time_of}
+use Rattle.slot_store.specs.StoreValues.{JournalValue}
+use Rattle.slot_journal.specs.DiskEntries as journal
+use Rattle.dots_ledger.specs.LedgerValues.{LedgerValue, Represents, RepresentsSome, CanAccept, joins_at}
 use Rattle.dots_ledger.specs.Crashes.{HoldsOne}
-use Rattle.dots_ledger.proofs.Standing.{most_same, joins_parts, fits_in, stands_more}
+use Rattle.dots_ledger.proofs.LedgerValues.{most_same, joins_parts, fits_in, stands_more}
 use Rattle.dots_ledger.proofs.ledger.Ledger.append.Goals as goal
 
 pub apply-requires : goal.apply-requires
 apply-requires g c =
     let can = subst (λ (l : LedgerValue). CanAccept l c.args.staged) (sym c.self.view_is) c.requires.can in
-    fits_in (record { registry = c.self.inside.registry; journal = c.self.inside.journal }) can.settings can.history can.entries c.args.staged can.stands can.joins
+    fits_in (record { registry = c.self.inside.registry; journal = c.self.inside.journal }) can.settings can.history can.entries c.args.staged can.represents can.joins
 
 pub invariant_of-self : goal.invariant_of-self
 invariant_of-self g c =
     let can = subst (λ (l : LedgerValue). CanAccept l c.args.staged) (sym c.self.view_is) c.requires.can in
-    let most = most_same can.settings c.self.inside.registry c.apply.new.self can.stands.is_of (c.apply.ensures.settings can.settings can.stands.is_of) in
+    let most = most_same can.settings c.self.inside.registry c.apply.new.self can.represents.is_of (c.apply.ensures.settings can.settings can.represents.is_of) in
     let room = c.self.invariant.1 in (
       record {
         settings = can.settings;
         history = can.history ++ c.args.staged ∷ [];
         entries = can.entries ++ c.args.staged ∷ [];
-        stands = stands_more
+        represents = stands_more
             c.in-Ok.slot
             c.args.staged
             (record { registry = c.self.inside.registry; journal = c.self.inside.journal })
@@ -34,13 +34,13 @@ invariant_of-self g c =
             (ap (λ (j : JournalValue). j.slots) c.in-Ok.ensures.next)
             c.in-Ok.ensures.slot
             c.apply.ensures.time
-            c.apply.ensures.stands
+            c.apply.ensures.represents
             c.apply.ensures.filed
             c.apply.ensures.settings
             can.settings
             can.history
             can.entries
-            can.stands
+            can.represents
             can.joins;
       },
       omega (arith, most, room),
@@ -66,13 +66,13 @@ append-requires-clause-size g c =
 
 pub returns-in-Ok : goal.returns-in-Ok
 returns-in-Ok g c = record {
-  moments = λ settings history entries stands rests.
+  moments = λ settings history entries represents rests.
       subst
       (λ (e : Entry). Leaves (g.D.Disk.media c.args.disk.now) (g.D.Disk.media c.append.new.disk) (HoldsOne settings entries (entries ++ e ∷ [])))
       c.entry.ensures
       (c.append.ensures.moments settings entries
-      (subst (λ (l : LedgerValue). RestsWith (g.D.Disk.media c.args.disk.now) (journal.StandsFor l.journal settings entries)) (sym c.self.view_is) rests));
-  appended = λ settings history entries stands joins. (
+      (subst (λ (l : LedgerValue). RestsWith (g.D.Disk.media c.args.disk.now) (journal.Represents l.journal settings entries)) (sym c.self.view_is) rests));
+  appended = λ settings history entries represents joins. (
     stands_more
         c.in-Ok.slot
         c.args.staged
@@ -82,20 +82,20 @@ returns-in-Ok g c = record {
         (ap (λ (j : JournalValue). j.slots) c.in-Ok.ensures.next)
         c.in-Ok.ensures.slot
         c.apply.ensures.time
-        c.apply.ensures.stands
+        c.apply.ensures.represents
         c.apply.ensures.filed
         c.apply.ensures.settings
         settings
         history
         entries
-        (subst (λ (l : LedgerValue). StandsFor l settings history entries) (sym c.self.view_is) stands)
+        (subst (λ (l : LedgerValue). Represents l settings history entries) (sym c.self.view_is) represents)
         (subst (λ (l : LedgerValue). joins_at settings (time_of l.registry) history c.args.staged ≡ true) (sym c.self.view_is) joins),
     λ rests.
         subst
-        (λ (e : Entry). RestsWith (g.D.Disk.media c.append.new.disk) (journal.StandsFor c.append.new.self settings (entries ++ e ∷ [])))
+        (λ (e : Entry). RestsWith (g.D.Disk.media c.append.new.disk) (journal.Represents c.append.new.self settings (entries ++ e ∷ [])))
         c.entry.ensures
         (c.in-Ok.ensures.rests settings entries
-        (subst (λ (l : LedgerValue). RestsWith (g.D.Disk.media c.args.disk.now) (journal.StandsFor l.journal settings entries)) (sym c.self.view_is) rests)),
+        (subst (λ (l : LedgerValue). RestsWith (g.D.Disk.media c.args.disk.now) (journal.Represents l.journal settings entries)) (sym c.self.view_is) rests)),
   );
   same = tt;
   time = c.apply.ensures.time;
@@ -110,18 +110,18 @@ abbrev beside_tables : RegistryValue → JournalValue → LedgerValue
 beside_tables tables store = record { registry = tables; journal = store }
 
 pub invariant_of-self-in-Err : goal.invariant_of-self-in-Err
-invariant_of-self-in-Err g c = (subst IsStanding (sym (ap (beside_tables c.self.inside.registry) c.in-Err.ensures.same)) c.self.invariant.0, c.self.invariant.1)
+invariant_of-self-in-Err g c = (subst RepresentsSome (sym (ap (beside_tables c.self.inside.registry) c.in-Err.ensures.same)) c.self.invariant.0, c.self.invariant.1)
 
 pub returns-in-Err : goal.returns-in-Err
 returns-in-Err g c =
     let same = ap (beside_tables c.self.inside.registry) c.in-Err.ensures.same ∙ c.self.view_is in
     record {
-      moments = λ settings history entries stands rests.
+      moments = λ settings history entries represents rests.
           subst
           (λ (e : Entry). Leaves (g.D.Disk.media c.args.disk.now) (g.D.Disk.media c.append.new.disk) (HoldsOne settings entries (entries ++ e ∷ [])))
           c.entry.ensures
           (c.append.ensures.moments settings entries
-          (subst (λ (l : LedgerValue). RestsWith (g.D.Disk.media c.args.disk.now) (journal.StandsFor l.journal settings entries)) (sym c.self.view_is) rests));
+          (subst (λ (l : LedgerValue). RestsWith (g.D.Disk.media c.args.disk.now) (journal.Represents l.journal settings entries)) (sym c.self.view_is) rests));
       appended = tt;
       same = same;
       time = tt;

@@ -1,7 +1,7 @@
 use Rattle.std.proofs.Common.{inl, refl}
 use Rattle.std.proofs.lemmas.Result.{err_from_is_err_and}
 use Rattle.slot_store.proofs.Steps.{begins}
-use Rattle.slot_journal.specs.Held.{Holds}
+use Rattle.slot_journal.specs.DiskEntries.{Holds}
 use Rattle.dots_ledger.proofs.ledger.Ledger.begin.Goals as goal
 
 -- ---- before the disk is touched
@@ -43,7 +43,7 @@ fill-requires g c = record {
   early = c.requires.early;
   first = record {
     is_of = c.in_ok-registry.ensures.settings;
-    stands_in = c.in_ok-registry.ensures.filed;
+    represents_filed = c.in_ok-registry.ensures.filed;
     calm = refl;
     time = c.in_ok-registry.ensures.time;
   };
@@ -83,7 +83,7 @@ invariant_of-result g c =
         settings = c.args.settings.now;
         history = begun.entries;
         entries = begun.entries;
-        stands = begun.stands;
+        represents = begun.represents;
       },
-      c.in_ok-keep.ensures.room c.fill.new.registry begun.stands.is_of,
+      c.in_ok-keep.ensures.room c.fill.new.registry begun.represents.is_of,
     )

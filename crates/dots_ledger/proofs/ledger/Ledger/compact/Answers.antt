@@ -6,14 +6,14 @@ use Rattle.dots_history.specs.Keeping.{kept}
 use Rattle.dots_history.specs.Slots.{Slots, Rises}
 use Rattle.dots_registry.specs.Kept.{filed, named_slots}
 use Rattle.dots_registry.proofs.Numbering.{filed_rise, named_rise}
-use Rattle.dots_registry.specs.Standing.{RegistryValue, time_of, number_remembered}
+use Rattle.dots_registry.specs.RegistryValues.{RegistryValue, time_of, number_remembered}
 use Rattle.slot_store.specs.Copying.{AreSlots}
-use Rattle.slot_store.specs.Standing.{JournalValue}
-use Rattle.slot_journal.specs.Held as journal
-use Rattle.dots_ledger.specs.Standing.{LedgerValue, StandsFor, IsStanding}
+use Rattle.slot_store.specs.StoreValues.{JournalValue}
+use Rattle.slot_journal.specs.DiskEntries as journal
+use Rattle.dots_ledger.specs.LedgerValues.{LedgerValue, Represents, RepresentsSome}
 use Rattle.dots_ledger.specs.Crashes.{HoldsOne}
 use Rattle.dots_ledger.proofs.Slots.{named_below, named_many}
-use Rattle.dots_ledger.proofs.Standing.{most_same, number_same, stands_compacted}
+use Rattle.dots_ledger.proofs.LedgerValues.{most_same, number_same, stands_compacted}
 use Rattle.dots_ledger.proofs.Images.{entries_kept}
 use Rattle.dots_ledger.proofs.ledger.Ledger.compact.Goals as goal
 
@@ -24,15 +24,15 @@ compact-requires-clause-keep g c =
     let t = time_of c.self.inside.registry in
     subst
     (AreSlots c.self.inside.journal.used)
-    (sym (c.items.ensures ∙ c.kept.ensures.kept (filed inv.entries) inv.stands.stands_in (filed_rise inv.entries)))
-    (subst (λ (k : ℕ). AreSlots k (named_slots n t (filed inv.entries))) (sym inv.stands.used) (named_below n t inv.entries))
+    (sym (c.items.ensures ∙ c.kept.ensures.kept (filed inv.entries) inv.represents.represents_filed (filed_rise inv.entries)))
+    (subst (λ (k : ℕ). AreSlots k (named_slots n t (filed inv.entries))) (sym inv.represents.used) (named_below n t inv.entries))
 
 pub moved-requires : goal.moved-requires
 moved-requires g c =
     let inv = c.self.invariant.0 in
     subst
     Rises
-    (sym (c.items-2.ensures ∙ c.kept.ensures.kept (filed inv.entries) inv.stands.stands_in (filed_rise inv.entries)))
+    (sym (c.items-2.ensures ∙ c.kept.ensures.kept (filed inv.entries) inv.represents.represents_filed (filed_rise inv.entries)))
     (named_rise (number_remembered c.self.inside.registry) (time_of c.self.inside.registry) (filed inv.entries) (filed_rise inv.entries))
 
 pub invariant_of-self-2 : goal.invariant_of-self-2
@@ -40,7 +40,7 @@ invariant_of-self-2 g c =
     let inv = c.self.invariant.0 in
     let n = number_remembered c.self.inside.registry in
     let t = time_of c.self.inside.registry in
-    let most = most_same inv.settings c.self.inside.registry c.moved.new.self inv.stands.is_of (c.moved.ensures.settings inv.settings inv.stands.is_of) in
+    let most = most_same inv.settings c.self.inside.registry c.moved.new.self inv.represents.is_of (c.moved.ensures.settings inv.settings inv.represents.is_of) in
     let room = c.self.invariant.1 in
     let kept_room = c.kept.ensures.room in
     let cleared = ap (λ (s : Slots). s.room) c.clear.ensures in (
@@ -48,22 +48,22 @@ invariant_of-self-2 g c =
         settings = inv.settings;
         history = inv.history;
         entries = kept n t inv.entries;
-        stands = stands_compacted
+        represents = stands_compacted
             c.items.result.now
             (record { registry = c.self.inside.registry; journal = c.self.inside.journal })
             (record { registry = c.moved.new.self; journal = c.compact.new.self })
             (ap (λ (j : JournalValue). j.used) c.in_ok-compact.ensures.next)
             (ap (λ (j : JournalValue). j.slots) c.in_ok-compact.ensures.next)
             c.moved.ensures.time
-            c.moved.ensures.stands
-            (λ es stands_in calm.
-            c.moved.ensures.filed (filed es) stands_in (filed_rise es) calm (c.items-2.ensures ∙ c.kept.ensures.kept (filed es) stands_in (filed_rise es)))
+            c.moved.ensures.represents
+            (λ es represents_filed calm.
+            c.moved.ensures.filed (filed es) represents_filed (filed_rise es) calm (c.items-2.ensures ∙ c.kept.ensures.kept (filed es) represents_filed (filed_rise es)))
             c.moved.ensures.settings
             inv.settings
             inv.history
             inv.entries
-            (ap length (c.items.ensures ∙ c.kept.ensures.kept (filed inv.entries) inv.stands.stands_in (filed_rise inv.entries)) ∙ named_many n t inv.entries)
-            inv.stands;
+            (ap length (c.items.ensures ∙ c.kept.ensures.kept (filed inv.entries) inv.represents.represents_filed (filed_rise inv.entries)) ∙ named_many n t inv.entries)
+            inv.represents;
       },
       omega (arith, most, room, kept_room, cleared),
     )
@@ -77,7 +77,7 @@ kept-requires g c =
 pub compact-requires-clause-few : goal.compact-requires-clause-few
 compact-requires-clause-few g c =
     let few = c.kept.ensures.few in
-    let free = c.self.invariant.0.stands.free in
+    let free = c.self.invariant.0.represents.free in
     let items = ap length c.items.ensures in
     omega (arith, few, free, items)
 
@@ -97,23 +97,23 @@ invariant_of-self g c =
     let cleared = ap (λ (slots : Slots). slots.room) c.clear.ensures in
     let most = c.self.invariant.1 in
     let room = c.kept.ensures.room in
-    (subst IsStanding (sym still) c.self.invariant.0, omega (arith, cleared, most, room))
+    (subst RepresentsSome (sym still) c.self.invariant.0, omega (arith, cleared, most, room))
 
 pub returns-in_err-compact : goal.returns-in_err-compact
 returns-in_err-compact g c =
     let p = err_from_is_err_and c.from_residual.result c.from_residual.ensures.1 in
     let same = ap (beside_tables c.self.inside.registry) c.in_err-compact.ensures.same ∙ c.self.view_is in
     record {
-      moments = λ settings history entries stands rests.
+      moments = λ settings history entries represents rests.
           subst
           (λ (l : LedgerValue). Leaves (g.D.Disk.media c.args.disk.now) (g.D.Disk.media c.compact.new.disk) (HoldsOne settings entries (kept (number_remembered l.registry) (time_of l.registry) entries)))
           c.self.view_is
           (subst
           (λ (es : List Entry). Leaves (g.D.Disk.media c.args.disk.now) (g.D.Disk.media c.compact.new.disk) (HoldsOne settings entries es))
-          (entries_kept (record { registry = c.self.inside.registry; journal = c.self.inside.journal }) settings history entries c.items.result.now (subst (λ (l : LedgerValue). StandsFor l settings history entries) (sym c.self.view_is) stands)
-          (λ all stands_in rises. c.items.ensures ∙ c.kept.ensures.kept all stands_in rises))
+          (entries_kept (record { registry = c.self.inside.registry; journal = c.self.inside.journal }) settings history entries c.items.result.now (subst (λ (l : LedgerValue). Represents l settings history entries) (sym c.self.view_is) represents)
+          (λ all represents_filed rises. c.items.ensures ∙ c.kept.ensures.kept all represents_filed rises))
           (c.compact.ensures.moments settings entries
-          (subst (λ (l : LedgerValue). RestsWith (g.D.Disk.media c.args.disk.now) (journal.StandsFor l.journal settings entries)) (sym c.self.view_is) rests)));
+          (subst (λ (l : LedgerValue). RestsWith (g.D.Disk.media c.args.disk.now) (journal.Represents l.journal settings entries)) (sym c.self.view_is) rests)));
       compacted = rw p.1 tt;
       room = rw p.1 tt;
       same = rw p.1 same;
@@ -131,25 +131,25 @@ returns g c =
     let used = ap (λ (store : JournalValue). store.used) c.in_ok-compact.ensures.next in
     let slots = ap (λ (store : JournalValue). store.slots) c.in_ok-compact.ensures.next in
     let few = c.kept.ensures.few in
-    let free = inv.stands.free in
+    let free = inv.represents.free in
     let items = ap length c.items.ensures in
     record {
-      moments = λ settings history entries stands rests.
+      moments = λ settings history entries represents rests.
           subst
           (λ (l : LedgerValue). Leaves (g.D.Disk.media c.args.disk.now) (g.D.Disk.media c.compact.new.disk) (HoldsOne settings entries (kept (number_remembered l.registry) (time_of l.registry) entries)))
           c.self.view_is
           (subst
           (λ (es : List Entry). Leaves (g.D.Disk.media c.args.disk.now) (g.D.Disk.media c.compact.new.disk) (HoldsOne settings entries es))
-          (entries_kept (record { registry = c.self.inside.registry; journal = c.self.inside.journal }) settings history entries c.items.result.now (subst (λ (l : LedgerValue). StandsFor l settings history entries) (sym c.self.view_is) stands)
-          (λ all stands_in rises. c.items.ensures ∙ c.kept.ensures.kept all stands_in rises))
+          (entries_kept (record { registry = c.self.inside.registry; journal = c.self.inside.journal }) settings history entries c.items.result.now (subst (λ (l : LedgerValue). Represents l settings history entries) (sym c.self.view_is) represents)
+          (λ all represents_filed rises. c.items.ensures ∙ c.kept.ensures.kept all represents_filed rises))
           (c.compact.ensures.moments settings entries
-          (subst (λ (l : LedgerValue). RestsWith (g.D.Disk.media c.args.disk.now) (journal.StandsFor l.journal settings entries)) (sym c.self.view_is) rests)));
-      compacted = λ settings history entries stands.
+          (subst (λ (l : LedgerValue). RestsWith (g.D.Disk.media c.args.disk.now) (journal.Represents l.journal settings entries)) (sym c.self.view_is) rests)));
+      compacted = λ settings history entries represents.
           let n = number_remembered c.self.inside.registry in
           let t = time_of c.self.inside.registry in
-          let here = subst (λ (l : LedgerValue). StandsFor l settings history entries) (sym c.self.view_is) stands in (
+          let here = subst (λ (l : LedgerValue). Represents l settings history entries) (sym c.self.view_is) represents in (
             subst
-                (λ (l : LedgerValue). StandsFor (record { registry = c.moved.new.self; journal = c.compact.new.self }) settings history (kept (number_remembered l.registry) (time_of l.registry) entries))
+                (λ (l : LedgerValue). Represents (record { registry = c.moved.new.self; journal = c.compact.new.self }) settings history (kept (number_remembered l.registry) (time_of l.registry) entries))
                 c.self.view_is
                 (stands_compacted
                 c.items.result.now
@@ -158,29 +158,29 @@ returns g c =
                 (ap (λ (j : JournalValue). j.used) c.in_ok-compact.ensures.next)
                 (ap (λ (j : JournalValue). j.slots) c.in_ok-compact.ensures.next)
                 c.moved.ensures.time
-                c.moved.ensures.stands
-                (λ es stands_in calm.
-                c.moved.ensures.filed (filed es) stands_in (filed_rise es) calm (c.items-2.ensures ∙ c.kept.ensures.kept (filed es) stands_in (filed_rise es)))
+                c.moved.ensures.represents
+                (λ es represents_filed calm.
+                c.moved.ensures.filed (filed es) represents_filed (filed_rise es) calm (c.items-2.ensures ∙ c.kept.ensures.kept (filed es) represents_filed (filed_rise es)))
                 c.moved.ensures.settings
                 settings
                 history
                 entries
-                (ap length (c.items.ensures ∙ c.kept.ensures.kept (filed entries) here.stands_in (filed_rise entries)) ∙ named_many n t entries)
+                (ap length (c.items.ensures ∙ c.kept.ensures.kept (filed entries) here.represents_filed (filed_rise entries)) ∙ named_many n t entries)
                 here),
             λ rests.
                 subst
-                (λ (l : LedgerValue). RestsWith (g.D.Disk.media c.compact.new.disk) (journal.StandsFor c.compact.new.self settings (kept (number_remembered l.registry) (time_of l.registry) entries)))
+                (λ (l : LedgerValue). RestsWith (g.D.Disk.media c.compact.new.disk) (journal.Represents c.compact.new.self settings (kept (number_remembered l.registry) (time_of l.registry) entries)))
                 c.self.view_is
                 (subst
-                (λ (es : List Entry). RestsWith (g.D.Disk.media c.compact.new.disk) (journal.StandsFor c.compact.new.self settings es))
-                (entries_kept (record { registry = c.self.inside.registry; journal = c.self.inside.journal }) settings history entries c.items.result.now here (λ all stands_in rises. c.items.ensures ∙ c.kept.ensures.kept all stands_in rises))
+                (λ (es : List Entry). RestsWith (g.D.Disk.media c.compact.new.disk) (journal.Represents c.compact.new.self settings es))
+                (entries_kept (record { registry = c.self.inside.registry; journal = c.self.inside.journal }) settings history entries c.items.result.now here (λ all represents_filed rises. c.items.ensures ∙ c.kept.ensures.kept all represents_filed rises))
                 (c.in_ok-compact.ensures.rests settings entries
-                (subst (λ (l : LedgerValue). RestsWith (g.D.Disk.media c.args.disk.now) (journal.StandsFor l.journal settings entries)) (sym c.self.view_is) rests))),
+                (subst (λ (l : LedgerValue). RestsWith (g.D.Disk.media c.args.disk.now) (journal.Represents l.journal settings entries)) (sym c.self.view_is) rests))),
           );
       room = omega (arith, used, slots, few, free, items);
       same = tt;
       time = c.moved.ensures.time ∙ ap (λ (l : LedgerValue). time_of l.registry) c.self.view_is;
-      number = number_same inv.settings c.self.inside.registry c.moved.new.self inv.stands.is_of (c.moved.ensures.settings inv.settings inv.stands.is_of) ∙ ap (λ (l : LedgerValue). number_remembered l.registry) c.self.view_is;
+      number = number_same inv.settings c.self.inside.registry c.moved.new.self inv.represents.is_of (c.moved.ensures.settings inv.settings inv.represents.is_of) ∙ ap (λ (l : LedgerValue). number_remembered l.registry) c.self.view_is;
       slots = slots ∙ ap (λ (l : LedgerValue). l.journal.slots) c.self.view_is;
       extent = c.in_ok-compact.ensures.extent;
       cause = record { later = c.in_ok-compact.ensures.cause.later; same = c.in_ok-compact.ensures.cause.same; rose = tt };

@@ -1,8 +1,8 @@
 use Rattle.std.proofs.Common.{refl, ap, arith}
 use Rattle.dots_history.specs.Keeping.{kept}
-use Rattle.dots_registry.specs.Standing.{time_of, number_remembered}
+use Rattle.dots_registry.specs.RegistryValues.{time_of, number_remembered}
 use Rattle.slot_store.proofs.Steps.{begins}
-use Rattle.dots_ledger.specs.Standing.{LedgerValue}
+use Rattle.dots_ledger.specs.LedgerValues.{LedgerValue}
 use Rattle.dots_ledger.specs.Crashes.{HoldsOne}
 use Rattle.dots_ledger.proofs.Answering.{ok_as}
 use Rattle.dots_ledger.proofs.ledger.Ledger.make_room.Goals as goal
@@ -15,9 +15,9 @@ returns-then-used-slots g c =
     let most = c.slots.ensures in
     let under = c.if-used-slots.true in
     record {
-      moments = λ settings history entries stands rests.
+      moments = λ settings history entries represents rests.
           begins (g.D.Disk.media c.args.disk.now) (HoldsOne settings entries (kept (number_remembered c.args.self.now.registry) (time_of c.args.self.now.registry) entries));
-      compacted = λ settings history entries stands. (entries, stands, λ rests. rests);
+      compacted = λ settings history entries represents. (entries, represents, λ rests. rests);
       room = omega (arith, used, slots, many, most, under);
       same = tt;
       time = refl;
@@ -35,8 +35,8 @@ returns g c = record {
       c.compact.result
       _
       _
-      (λ goes settings history entries stands.
-      let both = goes settings history entries stands in
+      (λ goes settings history entries represents.
+      let both = goes settings history entries represents in
       (kept (number_remembered c.args.self.now.registry) (time_of c.args.self.now.registry) entries, both.0, both.1))
       c.compact.ensures.compacted;
   room = c.compact.ensures.room;

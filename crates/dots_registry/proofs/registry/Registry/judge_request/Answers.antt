@@ -5,15 +5,15 @@ use Rattle.live_mitigations.specs.Judging.{live_of, lives_of}
 use Rattle.live_mitigations.proofs.Room.{lives_are}
 use Rattle.held_resources.specs.Held.{aliases_of, registrant}
 use Rattle.conflict_rules.specs.Requests.{Request}
-use Rattle.dots_registry.specs.Standing.{RegistryValue, StandsFor, time_of}
-use Rattle.dots_registry.proofs.Standing.{joined}
+use Rattle.dots_registry.specs.RegistryValues.{RegistryValue, Represents, time_of}
+use Rattle.dots_registry.proofs.RegistryValues.{joined}
 use Rattle.dots_registry.proofs.Judged.{judged_is}
 use Rattle.dots_registry.proofs.registry.Registry.judge_request.Goals as goal
 
 pub returns : goal.returns
-returns c = λ entries stands.
-    let here : StandsFor (joined c.self.inside.live c.self.inside.held c.self.inside.remembered c.self.inside.filters c.self.inside.last) entries
-    = subst (λ (r : RegistryValue). StandsFor r entries) (sym c.self.view_is) stands in
+returns c = λ entries represents.
+    let here : Represents (joined c.self.inside.live c.self.inside.held c.self.inside.remembered c.self.inside.filters c.self.inside.last) entries
+    = subst (λ (r : RegistryValue). Represents r entries) (sym c.self.view_is) represents in
     judged_is
     c.args.settings.now
     (map live_of c.rows-live.result.now)

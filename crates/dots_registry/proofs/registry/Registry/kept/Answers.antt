@@ -2,9 +2,9 @@ use Rattle.std.proofs.Common.{◌≡◌, ℕ, ◌≤◌, List, length, sym, ap, 
 use Rattle.dots_history.specs.Slots.{Slots}
 use Rattle.dots_laws.specs.KeptPlaces.{union}
 use Rattle.dots_registry.specs.Kept.{all_kept, named_slots}
-use Rattle.dots_registry.specs.Standing.{RegistryValue, time_of, number_remembered}
-use Rattle.dots_registry.specs.Filed.{StandsIn, slots_kept, most_kept}
-use Rattle.dots_registry.proofs.Standing.{joined}
+use Rattle.dots_registry.specs.RegistryValues.{RegistryValue, time_of, number_remembered}
+use Rattle.dots_registry.specs.Filed.{RepresentsFiled, slots_kept, most_kept}
+use Rattle.dots_registry.proofs.RegistryValues.{joined}
 use Rattle.dots_registry.proofs.Shrinking.{few_slots, slots_are_named}
 use Rattle.dots_registry.proofs.registry.Registry.kept.Goals as goal
 
@@ -18,13 +18,13 @@ put_slots-requires c =
     (subst (λ (r : RegistryValue). most_kept r ≤ c.args.into.now.room) (sym c.self.view_is) c.requires.room)
 
 pub returns-clause-kept : goal.returns-clause-kept
-returns-clause-kept c = λ all stands rises.
+returns-clause-kept c = λ all represents rises.
     subst
     (λ (r : RegistryValue). c.put_slots.new.into.items ≡ named_slots (number_remembered r) (time_of r) all)
     c.self.view_is
     (ap (λ (l : Slots). l.items) c.put_slots.ensures
     ∙ ap (λ (items : List ℕ). union (all_kept (slots_kept (joined c.self.inside.live c.self.inside.held c.self.inside.remembered c.self.inside.filters c.self.inside.last)) c.self.inside.remembered) items) c.requires.empty
-    ∙ slots_are_named (joined c.self.inside.live c.self.inside.held c.self.inside.remembered c.self.inside.filters c.self.inside.last) all (subst (λ (r : RegistryValue). StandsIn r all) (sym c.self.view_is) stands) rises)
+    ∙ slots_are_named (joined c.self.inside.live c.self.inside.held c.self.inside.remembered c.self.inside.filters c.self.inside.last) all (subst (λ (r : RegistryValue). RepresentsFiled r all) (sym c.self.view_is) represents) rises)
 
 pub returns-clause-few : goal.returns-clause-few
 returns-clause-few c =

@@ -1,11 +1,11 @@
 use Rattle.std.proofs.Common.{[], None}
 use Rattle.held_resources.specs.Sizes.{most_held}
 use Rattle.dots_registry.proofs.Filed.{filed_first, slots_first_room}
-use Rattle.dots_registry.proofs.Standing.{stands_first, is_of_first}
+use Rattle.dots_registry.proofs.RegistryValues.{stands_first, is_of_first}
 use Rattle.dots_registry.proofs.registry.Registry.new.Goals as goal
 
-pub returns-clause-stands : goal.returns-clause-stands
-returns-clause-stands c =
+pub returns-clause-represents : goal.returns-clause-represents
+returns-clause-represents c =
     stands_first
     c.args.settings.now
     c.in_ok-live.live
@@ -13,11 +13,11 @@ returns-clause-stands c =
     c.in-Ok-new.remembered
     c.in-Ok-new-2.filters
     None
-    c.in_ok-live.ensures.stands
-    c.in-Ok.ensures.stands
+    c.in_ok-live.ensures.represents
+    c.in-Ok.ensures.represents
     c.in_ok-live.ensures.limits
     c.in-Ok-new.ensures
-    c.in-Ok-new-2.ensures.stands
+    c.in-Ok-new-2.ensures.represents
 
 pub returns-clause-settings : goal.returns-clause-settings
 returns-clause-settings c =
@@ -48,12 +48,12 @@ returns-clause-filed c =
     c.in-Ok-new.ensures
     c.in_ok-live.ensures.slots
     c.in-Ok.ensures.slots
-    (returns-clause-stands c)
+    (returns-clause-represents c)
 
 pub invariant_of-result : goal.invariant_of-result
 invariant_of-result c = record {
   filed = [];
-  stands = returns-clause-filed c;
+  represents = returns-clause-filed c;
   room = slots_first_room
       c.in_ok-live.live
       c.in-Ok.held

@@ -1,11 +1,11 @@
 use Rattle.std.proofs.Common.{[], ◌∷◌, ◌++◌, map, Some, refl, ap, sym, ◌∙◌, ◌≡◌, ◌≤◌, length, subst}
 use Rattle.dots_laws.specs.Filed.{entry_of}
-use Rattle.dots_registry.specs.Standing.{RegistryValue}
-use Rattle.dots_registry.specs.Filed.{StandsIn}
+use Rattle.dots_registry.specs.RegistryValues.{RegistryValue}
+use Rattle.dots_registry.specs.Filed.{RepresentsFiled}
 use Rattle.dots_laws.specs.Tables.{bare}
 use Rattle.dots_registry.proofs.Filed.{quiet_rows, filed_more, room_more}
 use Rattle.dots_registry.proofs.Rings.{made_pairs}
-use Rattle.dots_registry.proofs.Standing.{joined, still_of, fits_ring, put_inside, put_room, put_stands}
+use Rattle.dots_registry.proofs.RegistryValues.{joined, still_of, fits_ring, put_inside, put_room, put_stands}
 use Rattle.installed_filters.specs.Filters.{FiltersValue, filters_put}
 use Rattle.dots_registry.proofs.Filtering.{put_fits, put_filtered, put_within}
 use Rattle.dots_registry.proofs.registry.Registry.put.Goals as goal
@@ -37,8 +37,8 @@ put-requires-2-clause-room c =
     c.requires.fits
     c.requires.puts
 
-pub returns-clause-stands : goal.returns-clause-stands
-returns-clause-stands c = λ entries stands.
+pub returns-clause-represents : goal.returns-clause-represents
+returns-clause-represents c = λ entries represents.
     put_stands
     (joined c.self.inside.live c.self.inside.held c.self.inside.remembered c.self.inside.filters c.self.inside.last)
     c.args.self.now
@@ -56,10 +56,10 @@ returns-clause-stands c = λ entries stands.
     c.requires.puts
     c.put-2.ensures.same
     c.remember-entry.ensures.rings
-    (c.put-2.ensures.stands entries)
+    (c.put-2.ensures.represents entries)
     (put_filtered (joined c.self.inside.live c.self.inside.held c.self.inside.remembered c.self.inside.filters c.self.inside.last) c.args.self.now c.args.entry c.put.new.self entries c.self.view_is c.requires.fits c.requires.at c.requires.puts
     (c.put.ensures ∙ ap (λ kept. filters_put c.args.entry kept c.self.inside.filters) c.rows.ensures.kept))
-    stands
+    represents
 
 pub returns-clause-settings : goal.returns-clause-settings
 returns-clause-settings c = λ settings is_of.
@@ -91,7 +91,7 @@ put-requires-clause-room c =
     (put_fits (joined c.self.inside.live c.self.inside.held c.self.inside.remembered c.self.inside.filters c.self.inside.last) c.args.self.now c.args.entry c.self.view_is c.requires.fits c.requires.at c.requires.puts)
 
 pub returns-clause-filed : goal.returns-clause-filed
-returns-clause-filed c = λ filed stands.
+returns-clause-filed c = λ filed represents.
     filed_more
     (joined c.self.inside.live c.self.inside.held c.self.inside.remembered c.self.inside.filters c.self.inside.last)
     c.args.self.now
@@ -109,13 +109,13 @@ returns-clause-filed c = λ filed stands.
     c.remember-entry.ensures.rings
     (quiet_rows (record { entry = c.args.entry; slot = c.args.slot }) c.self.inside.held.slots.rows c.requires.puts)
     (c.put-2.ensures.slots filed c.args.entry (ap bare (sym c.remember-entry.ensures.entry)))
-    (returns-clause-stands c (map entry_of filed))
-    stands
+    (returns-clause-represents c (map entry_of filed))
+    represents
 
 pub invariant_of-self : goal.invariant_of-self
 invariant_of-self c = record {
   filed = c.self.invariant.filed ++ record { entry = c.args.entry; slot = c.args.slot } ∷ [];
-  stands = returns-clause-filed c c.self.invariant.filed (subst (λ (r : RegistryValue). StandsIn r c.self.invariant.filed) c.self.view_is c.self.invariant.stands);
+  represents = returns-clause-filed c c.self.invariant.filed (subst (λ (r : RegistryValue). RepresentsFiled r c.self.invariant.filed) c.self.view_is c.self.invariant.represents);
   room = room_more
       (joined c.self.inside.live c.self.inside.held c.self.inside.remembered c.self.inside.filters c.self.inside.last)
       c.put-2.new.self

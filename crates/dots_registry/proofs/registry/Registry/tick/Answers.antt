@@ -1,13 +1,13 @@
 use Rattle.std.proofs.Common.{map, subst, ◌∙◌, refl, ap, arith}
 use Rattle.dots_laws.specs.Filed.{entry_of}
-use Rattle.dots_registry.specs.Filed.{StandsIn}
+use Rattle.dots_registry.specs.Filed.{RepresentsFiled}
 use Rattle.dots_registry.proofs.Filed.{filed_later, slots_still}
-use Rattle.dots_registry.specs.Standing.{RegistryValue}
-use Rattle.dots_registry.proofs.Standing.{joined, still_of, stands_later}
+use Rattle.dots_registry.specs.RegistryValues.{RegistryValue}
+use Rattle.dots_registry.proofs.RegistryValues.{joined, still_of, stands_later}
 use Rattle.dots_registry.proofs.registry.Registry.tick.Goals as goal
 
-pub returns-clause-stands : goal.returns-clause-stands
-returns-clause-stands c = λ entries stands.
+pub returns-clause-represents : goal.returns-clause-represents
+returns-clause-represents c = λ entries represents.
     stands_later
     c.args.now
     (joined c.self.inside.live c.self.inside.held c.self.inside.remembered c.self.inside.filters c.self.inside.last)
@@ -20,9 +20,9 @@ returns-clause-stands c = λ entries stands.
     c.requires.later
     (c.tick.ensures.limits ∙ c.expire_all.ensures.same.limits)
     c.tick.ensures.time
-    (λ comes. c.tick.ensures.stands entries (c.expire_all.ensures.comes entries comes))
-    (c.expire_all.ensures.stands entries)
-    stands
+    (λ comes. c.tick.ensures.represents entries (c.expire_all.ensures.comes entries comes))
+    (c.expire_all.ensures.represents entries)
+    represents
 
 pub returns-clause-settings : goal.returns-clause-settings
 returns-clause-settings c = λ settings is_of.
@@ -47,7 +47,7 @@ pub tick-requires-clause-later : goal.tick-requires-clause-later
 tick-requires-clause-later c = omega (arith, c.requires.later, c.expire_all.ensures.same.time, ap (λ (r : RegistryValue). r.live.time) c.self.view_is)
 
 pub returns-clause-filed : goal.returns-clause-filed
-returns-clause-filed c = λ filed stands.
+returns-clause-filed c = λ filed represents.
     filed_later
     c.args.now
     (joined c.self.inside.live c.self.inside.held c.self.inside.remembered c.self.inside.filters c.self.inside.last)
@@ -60,13 +60,13 @@ returns-clause-filed c = λ filed stands.
     (c.tick.ensures.limits ∙ c.expire_all.ensures.same.limits)
     c.tick.ensures.time
     (λ all comes. c.tick.ensures.slots all (c.expire_all.ensures.slots all comes))
-    (returns-clause-stands c (map entry_of filed))
-    stands
+    (returns-clause-represents c (map entry_of filed))
+    represents
 
 pub invariant_of-self : goal.invariant_of-self
 invariant_of-self c = record {
   filed = c.self.invariant.filed;
-  stands = returns-clause-filed c c.self.invariant.filed (subst (λ (r : RegistryValue). StandsIn r c.self.invariant.filed) c.self.view_is c.self.invariant.stands);
+  represents = returns-clause-filed c c.self.invariant.filed (subst (λ (r : RegistryValue). RepresentsFiled r c.self.invariant.filed) c.self.view_is c.self.invariant.represents);
   room = slots_still
       (joined c.self.inside.live c.self.inside.held c.self.inside.remembered c.self.inside.filters c.self.inside.last)
       (joined c.tick.new.self c.self.inside.held c.self.inside.remembered c.expire_all.new.filters c.self.inside.last)

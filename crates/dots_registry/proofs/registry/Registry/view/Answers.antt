@@ -1,11 +1,11 @@
 use Rattle.std.proofs.Common.{◌≡◌, List, ap, ◌∙◌, sym, subst, arith}
 use Rattle.std.specs.Prelude.{slice_get}
 use Rattle.dots_history.specs.Histories.{Mitigation}
-use Rattle.live_mitigations.specs.Reading.{Shown, shown_of, shown_in}
+use Rattle.live_mitigations.specs.LiveViews.{LiveView, live_views_of, live_views_in}
 use Rattle.live_mitigations.proofs.Room.{shown_are}
-use Rattle.dots_registry.specs.Standing.{RegistryValue, StandsFor, time_of, domains_of}
-use Rattle.dots_registry.specs.Viewing.{seen_of}
-use Rattle.dots_registry.proofs.Standing.{joined}
+use Rattle.dots_registry.specs.RegistryValues.{RegistryValue, Represents, time_of, domains_of}
+use Rattle.dots_registry.specs.ObserverViews.{seen_of}
+use Rattle.dots_registry.proofs.RegistryValues.{joined}
 use Rattle.dots_registry.proofs.Seeing.{few_views}
 use Rattle.dots_registry.proofs.registry.Registry.view.Goals as goal
 
@@ -13,21 +13,21 @@ pub returns-then-domain-domains-clause-few : goal.returns-then-domain-domains-cl
 returns-then-domain-domains-clause-few c = few_views c.args.self.now c.args.domain c.args.cuid.now c.args.mid
 
 pub returns-then-domain-domains-clause-history : goal.returns-then-domain-domains-clause-history
-returns-then-domain-domains-clause-history c = λ entries stands inside.
-    let here : StandsFor (joined c.self.inside.live c.self.inside.held c.self.inside.remembered c.self.inside.filters c.self.inside.last) entries
-    = subst (λ (r : RegistryValue). StandsFor r entries) (sym c.self.view_is) stands in
+returns-then-domain-domains-clause-history c = λ entries represents inside.
+    let here : Represents (joined c.self.inside.live c.self.inside.held c.self.inside.remembered c.self.inside.filters c.self.inside.last) entries
+    = subst (λ (r : RegistryValue). Represents r entries) (sym c.self.view_is) represents in
     c.view_of.ensures c.self.inside.live.time
     ∙ ap
-    (λ (ms : List Mitigation). slice_get (seen_of c.args.mid (shown_of c.self.inside.live.time c.args.cuid.now ms)) c.args.place)
+    (λ (ms : List Mitigation). slice_get (seen_of c.args.mid (live_views_of c.self.inside.live.time c.args.cuid.now ms)) c.args.place)
     (c.rows.ensures.live entries here.live)
     ∙ ap
-    (λ (shown : List Shown). slice_get (seen_of c.args.mid shown) c.args.place)
+    (λ (shown : List LiveView). slice_get (seen_of c.args.mid shown) c.args.place)
     (shown_are c.self.inside.live.time c.args.domain c.args.cuid.now entries)
     ∙ ap
-    (λ (r : RegistryValue). slice_get (seen_of c.args.mid (shown_in c.args.domain c.args.cuid.now (time_of r) entries)) c.args.place)
+    (λ (r : RegistryValue). slice_get (seen_of c.args.mid (live_views_in c.args.domain c.args.cuid.now (time_of r) entries)) c.args.place)
     c.self.view_is
 
 pub returns-clause-history : goal.returns-clause-history
-returns-clause-history c = λ entries stands inside.
+returns-clause-history c = λ entries represents inside.
     let same : c.self.inside.live.domains ≡ domains_of c.args.self.now = ap domains_of c.self.view_is in
     absurd (omega (arith, inside, same, c.domains.ensures, c.if-domain-domains.false))

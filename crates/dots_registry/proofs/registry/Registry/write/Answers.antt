@@ -1,7 +1,7 @@
 use Rattle.std.proofs.Common.{[], ◌∷◌, ◌++◌, map, Some, subst, ap, ◌∙◌}
 use Rattle.dots_laws.specs.Filed.{entry_of}
-use Rattle.dots_registry.specs.Standing.{RegistryValue}
-use Rattle.dots_registry.specs.Filed.{StandsIn}
+use Rattle.dots_registry.specs.RegistryValues.{RegistryValue}
+use Rattle.dots_registry.specs.Filed.{RepresentsFiled}
 use Rattle.held_resources.specs.Rows.{HeldRows}
 use Rattle.dots_registry.proofs.Filed.{name_here, room_here, rows_here, filed_more, room_more}
 use Rattle.dots_history.specs.Histories.{held}
@@ -9,7 +9,7 @@ use Rattle.held_resources.specs.Held.{acls_of}
 use Rattle.installed_filters.specs.Filters.{FiltersValue}
 use Rattle.dots_registry.proofs.Filtering.{write_fits, write_filtered}
 use Rattle.dots_registry.proofs.Rings.{made_pairs}
-use Rattle.dots_registry.proofs.Standing.{joined, still_of, fits_ring, held_fits, write_stands}
+use Rattle.dots_registry.proofs.RegistryValues.{joined, still_of, fits_ring, held_fits, write_stands}
 use Rattle.dots_registry.proofs.registry.Registry.write.Goals as goal
 
 pub remember-entry-requires : goal.remember-entry-requires
@@ -26,8 +26,8 @@ apply-requires-clause-fits c =
     c.remember-entry.ensures.entry
     c.requires.fits
 
-pub returns-clause-stands : goal.returns-clause-stands
-returns-clause-stands c = λ entries stands.
+pub returns-clause-represents : goal.returns-clause-represents
+returns-clause-represents c = λ entries represents.
     write_stands
     (joined c.self.inside.live c.self.inside.held c.self.inside.remembered c.self.inside.filters c.self.inside.last)
     c.args.self.now
@@ -46,11 +46,11 @@ returns-clause-stands c = λ entries stands.
     c.note.ensures.same
     c.apply.ensures.sizes
     c.remember-entry.ensures.rings
-    (c.note.ensures.stands entries)
-    (c.apply.ensures.stands entries)
+    (c.note.ensures.represents entries)
+    (c.apply.ensures.represents entries)
     (write_filtered (joined c.self.inside.live c.self.inside.held c.self.inside.remembered c.self.inside.filters c.self.inside.last) c.args.self.now c.args.entry c.has_live-mitigating.result c.acls-acls.result.now c.write.new.self entries c.self.view_is
     c.requires.fits c.requires.at c.requires.puts c.write.ensures c.has_live-mitigating.ensures (λ held_so. c.acls-acls.ensures entries held_so ∙ ap (λ cuid. acls_of (record { domain = c.args.entry.domain; cuid = cuid }) (held entries)) c.bytes.ensures.value))
-    stands
+    represents
 
 pub returns-clause-settings : goal.returns-clause-settings
 returns-clause-settings c = λ settings is_of.
@@ -87,7 +87,7 @@ apply-requires-clause-room c =
     c.remember-entry.result c.self.view_is c.self.invariant c.requires.fits c.requires.at c.remember-entry.ensures.entry
 
 pub returns-clause-filed : goal.returns-clause-filed
-returns-clause-filed c = λ filed stands.
+returns-clause-filed c = λ filed represents.
     filed_more
     (joined c.self.inside.live c.self.inside.held c.self.inside.remembered c.self.inside.filters c.self.inside.last)
     c.args.self.now
@@ -106,13 +106,13 @@ returns-clause-filed c = λ filed stands.
     (ap (λ (r : HeldRows). r.rows)
     (rows_here c.self.inside.held.slots c.apply.new.self.slots c.args.slot c.args.entry c.remember-entry.result c.remember-entry.ensures.entry c.apply.ensures.slots))
     (c.note.ensures.slots filed)
-    (returns-clause-stands c (map entry_of filed))
-    stands
+    (returns-clause-represents c (map entry_of filed))
+    represents
 
 pub invariant_of-self : goal.invariant_of-self
 invariant_of-self c = record {
   filed = c.self.invariant.filed ++ record { entry = c.args.entry; slot = c.args.slot } ∷ [];
-  stands = returns-clause-filed c c.self.invariant.filed (subst (λ (r : RegistryValue). StandsIn r c.self.invariant.filed) c.self.view_is c.self.invariant.stands);
+  represents = returns-clause-filed c c.self.invariant.filed (subst (λ (r : RegistryValue). RepresentsFiled r c.self.invariant.filed) c.self.view_is c.self.invariant.represents);
   room = room_more
       (joined c.self.inside.live c.self.inside.held c.self.inside.remembered c.self.inside.filters c.self.inside.last)
       c.note.new.self

@@ -1,7 +1,7 @@
 use Rattle.std.proofs.Common.{refl, subst, length}
 use Rattle.dots_host.specs.Acts.{owned_of, wire_acts}
 use Rattle.dots_script.specs.Lines.{to_come}
-use Rattle.dots_script.specs.Accounts.{Standing, AccountsSince, Accounts}
+use Rattle.dots_script.specs.Accounts.{Outer, AccountsSince, Accounts}
 use Rattle.dots_script.proofs.Accounting.{Piece, piece_done, piece_lost, accounts_given}
 use Rattle.dots_script.proofs.script_host.ScriptHostWire.send.Goals as goal
 use Rattle.dots_script.proofs.script_host.ScriptHostWire.send.Goals.{in-Ok, in-Err}
@@ -12,8 +12,8 @@ returns-clause-leads g c = λ start.
     let faults = g.S.Source.faults in
     let holds = g.K.Sink.holds in
     let inside = c.self.inside in
-    let old : Standing = record { script = to_come inside.block (left inside.source); held = holds inside.sink; failures = faults inside.source } in
-    let new : Standing = record { script = to_come inside.block (left inside.source); held = holds c.write_line.new.sink; failures = faults inside.source } in
+    let old : Outer = record { script = to_come inside.block (left inside.source); held = holds inside.sink; failures = faults inside.source } in
+    let new : Outer = record { script = to_come inside.block (left inside.source); held = holds c.write_line.new.sink; failures = faults inside.source } in
     let disk = c.note_given.new.self in
     let out = owned_of c.args.out.now in
     let sent = c.match-write_line.sent in

@@ -4,13 +4,13 @@ use Rattle.dots_server.proofs.server.Server.begin.Goals as goal
 pub invariant_of-result : goal.invariant_of-result
 invariant_of-result g c =
     let begun = c.in_ok-ledger.ensures.recovered in
-    begun_lives c.args.settings c.args.at c.in_ok-ledger.ledger begun.entries c.requires.early begun.stands begun.time c.in_ok-ledger.ensures.size.0 begun.each
+    begun_lives c.args.settings c.args.at c.in_ok-ledger.ledger begun.entries c.requires.early begun.represents begun.time c.in_ok-ledger.ensures.size.0 begun.each
 
 pub returns-clause-begun : goal.returns-clause-begun
 returns-clause-begun g c =
     let begun = c.in_ok-ledger.ensures.recovered in (
       begun.entries,
-      begun_kept c.args.settings c.args.at c.in_ok-ledger.ledger begun.entries c.requires.early begun.stands begun.time c.in_ok-ledger.ensures.size.0 begun.each,
-      begun.stands.calm,
+      begun_kept c.args.settings c.args.at c.in_ok-ledger.ledger begun.entries c.requires.early begun.represents begun.time c.in_ok-ledger.ensures.size.0 begun.each,
+      begun.represents.calm,
       λ seen sees. (begun.held seen sees, begun.rests seen sees),
     )

@@ -3,13 +3,13 @@ use Rattle.dots_host.specs.declared.out.OwnedOut.TheVariants as owned
 use Rattle.dots_host.specs.Runs.{Added, Gives}
 use Rattle.dots_settings.specs.declared.limits.Limits.{Limits}
 use Rattle.dots_disk.specs.Becoming.{RestsWith, Leaves}
-use Rattle.slot_journal.specs.Held as journal
-use Rattle.dots_registry.specs.Standing.{time_of, number_remembered}
+use Rattle.slot_journal.specs.DiskEntries as journal
+use Rattle.dots_registry.specs.RegistryValues.{time_of, number_remembered}
 use Rattle.dots_ledger.proofs.Answering.{err_of}
 use Rattle.dots_machine.specs.Machine.{with_entry}
-use Rattle.dots_server.specs.Standing.{ServerValue, IsKept, IsAcceptable, CanCarryOut}
+use Rattle.dots_server.specs.ServerValues.{ServerValue, IsKept, IsAcceptable, CanCarryOut}
 use Rattle.dots_server.specs.Turning.{HoldsTurn, Turned}
-use Rattle.dots_server.proofs.Keeping.{can_accept, joins_there, own_with, kept_with, lives_with, lives_still}
+use Rattle.dots_server.proofs.ServerValues.{can_accept, joins_there, own_with, kept_with, lives_with, lives_still}
 use Rattle.dots_server.proofs.Turning.{silent, unwritten, added_behind, accepting}
 use Rattle.dots_server.proofs.server.Server.carry_out.Goals as goal
 
@@ -21,7 +21,7 @@ returns-in-Silent-clause-done g c = λ settings state entries kept.
     rw c.in-Silent.is (
       entries,
       kept,
-      silent settings state state (journal.StandsFor c.args.self.now.journal settings entries) (g.H.Disk.media host) (g.H.Wire.moment host) (g.H.Wire.acts host) (g.met.H.Host.one_moment host),
+      silent settings state state (journal.Represents c.args.self.now.journal settings entries) (g.H.Disk.media host) (g.H.Wire.moment host) (g.H.Wire.acts host) (g.met.H.Host.one_moment host),
     )
 
 pub returns-in-Reply-clause-done : goal.returns-in-Reply-clause-done
@@ -32,20 +32,20 @@ returns-in-Reply-clause-done g c = λ settings state entries kept.
     rw c.in-Reply.is (
       entries,
       kept,
-      unwritten settings state state (owned.To c.args.peer c.in-Reply.reply ∷ []) (journal.StandsFor c.args.self.now.journal settings entries) (g.H.Disk.media host) (g.H.Disk.media new) (g.H.Wire.moment host)
+      unwritten settings state state (owned.To c.args.peer c.in-Reply.reply ∷ []) (journal.Represents c.args.self.now.journal settings entries) (g.H.Disk.media host) (g.H.Disk.media new) (g.H.Wire.moment host)
           (g.H.Wire.acts host) (g.H.Wire.acts new) (g.met.H.Host.one_moment host) gives c.send_to.ensures.media,
     )
 
-pub returns-in-Told-clause-done : goal.returns-in-Told-clause-done
-returns-in-Told-clause-done g c = λ settings state entries kept.
+pub returns-in-LongReply-clause-done : goal.returns-in-LongReply-clause-done
+returns-in-LongReply-clause-done g c = λ settings state entries kept.
     let host = c.args.host.now in
-    let new = c.send_to-in-Told.new.host in
-    let gives = subst (λ reply. Added (g.H.Wire.acts host) (g.H.Wire.acts new) (Gives (g.H.Wire.moment host) (owned.To c.args.peer reply ∷ []))) c.items.ensures c.send_to-in-Told.ensures.acts in
-    rw c.in-Told.is (
+    let new = c.send_to-in-LongReply.new.host in
+    let gives = subst (λ reply. Added (g.H.Wire.acts host) (g.H.Wire.acts new) (Gives (g.H.Wire.moment host) (owned.To c.args.peer reply ∷ []))) c.items.ensures c.send_to-in-LongReply.ensures.acts in
+    rw c.in-LongReply.is (
       entries,
       kept,
-      unwritten settings state state (owned.To c.args.peer c.in-Told.reply ∷ []) (journal.StandsFor c.args.self.now.journal settings entries) (g.H.Disk.media host) (g.H.Disk.media new) (g.H.Wire.moment host)
-          (g.H.Wire.acts host) (g.H.Wire.acts new) (g.met.H.Host.one_moment host) gives c.send_to-in-Told.ensures.media,
+      unwritten settings state state (owned.To c.args.peer c.in-LongReply.reply ∷ []) (journal.Represents c.args.self.now.journal settings entries) (g.H.Disk.media host) (g.H.Disk.media new) (g.H.Wire.moment host)
+          (g.H.Wire.acts host) (g.H.Wire.acts new) (g.met.H.Host.one_moment host) gives c.send_to-in-LongReply.ensures.media,
     )
 
 pub returns-in-Silent-clause-cause : goal.returns-in-Silent-clause-cause
@@ -57,8 +57,8 @@ returns-in-Silent-clause-leads g c = g.met.H.Wire.leads_same c.args.host.now
 pub returns-in-Reply-clause-cause : goal.returns-in-Reply-clause-cause
 returns-in-Reply-clause-cause g c = record { later = omega (arith, c.send_to.ensures.disk); same = c.send_to.ensures.disk; rose = tt }
 
-pub returns-in-Told-clause-cause : goal.returns-in-Told-clause-cause
-returns-in-Told-clause-cause g c = record { later = omega (arith, c.send_to-in-Told.ensures.disk); same = c.send_to-in-Told.ensures.disk; rose = tt }
+pub returns-in-LongReply-clause-cause : goal.returns-in-LongReply-clause-cause
+returns-in-LongReply-clause-cause g c = record { later = omega (arith, c.send_to-in-LongReply.ensures.disk); same = c.send_to-in-LongReply.ensures.disk; rose = tt }
 
 -- ---- an entry is accepted
 
@@ -73,9 +73,9 @@ pub invariant_of-self : goal.invariant_of-self
 invariant_of-self g c =
     let old : ServerValue = record { settings = c.self.inside.settings; registry = c.self.inside.ledger.registry; journal = c.self.inside.ledger.journal } in
     let new : ServerValue = record { settings = c.self.inside.settings; registry = c.accept.new.self.registry; journal = c.accept.new.self.journal } in
-    let living = c.self.invariant in
-    let made = c.in_err-accept-in-Accept.ensures.refused c.self.inside.settings living.state.history living.entries living.stands.ledger in
-    lives_still old new made.0 living refl c.accept.ensures.slots c.in_err-accept-in-Accept.ensures.still made.1
+    let serving = c.self.invariant in
+    let made = c.in_err-accept-in-Accept.ensures.refused c.self.inside.settings serving.state.history serving.entries serving.represents.ledger in
+    lives_still old new made.0 serving refl c.accept.ensures.slots c.in_err-accept-in-Accept.ensures.still made.1
 
 pub returns-in_err-accept-in-Accept-clause-failed : goal.returns-in_err-accept-in-Accept-clause-failed
 returns-in_err-accept-in-Accept-clause-failed g c =
@@ -86,15 +86,15 @@ returns-in_err-accept-in-Accept-clause-failed g c =
     let left = c.accept.new.disk in
     let can = subst (λ server. IsAcceptable server entry) (sym c.self.view_is) (subst (λ v. CanCarryOut v c.args.self.now) c.in-Accept.is c.requires.ready) in
     let here = subst (λ server. IsKept server settings state entries) (sym c.self.view_is) kept in
-    let of = here.stands.stands in
+    let of = here.represents.represents in
     let joins = joins_there old settings state entry of can in
-    let writes : RestsWith (g.H.Disk.media host) (journal.StandsFor old.journal settings entries) → Leaves (g.H.Disk.media host) (g.H.Disk.media left) (HoldsTurn settings state (with_entry state entry)) = λ rests.
+    let writes : RestsWith (g.H.Disk.media host) (journal.Represents old.journal settings entries) → Leaves (g.H.Disk.media host) (g.H.Disk.media left) (HoldsTurn settings state (with_entry state entry)) = λ rests.
     accepting settings (number_remembered old.registry) (time_of old.registry) state entry (g.H.Disk.media host) (g.H.Disk.media left) (ap (λ (limits : Limits). limits.remembered) of.is_of.limits) of.time_is
-    (can.now ∙ of.time_is) (c.accept.ensures.moments settings state.history entries here.stands.ledger joins rests) in
+    (can.now ∙ of.time_is) (c.accept.ensures.moments settings state.history entries here.represents.ledger joins rests) in
     rw c.in-Accept.is (
     record {
       silent = (g.met.H.Host.disk_keeps host left c.accept.ensures.beside).0;
-      writes = subst (λ (server : ServerValue). RestsWith (g.H.Disk.media host) (journal.StandsFor server.journal settings entries) → Leaves (g.H.Disk.media host) (g.H.Disk.media left) (HoldsTurn settings state (with_entry state entry)))
+      writes = subst (λ (server : ServerValue). RestsWith (g.H.Disk.media host) (journal.Represents server.journal settings entries) → Leaves (g.H.Disk.media host) (g.H.Disk.media left) (HoldsTurn settings state (with_entry state entry)))
           c.self.view_is writes;
       own = own_with settings old state entry of can;
     }))
@@ -106,10 +106,10 @@ invariant_of-self-in-Accept g c =
     let new : ServerValue = record { settings = c.self.inside.settings; registry = c.accept.new.self.registry; journal = c.accept.new.self.journal } in
     let entry = c.in-Accept.entry in
     let can = subst (λ server. IsAcceptable server entry) (sym c.self.view_is) (subst (λ v. CanCarryOut v c.args.self.now) c.in-Accept.is c.requires.ready) in
-    let living = c.self.invariant in
-    let made = c.in_ok-accept-in-Accept.ensures.accepted c.self.inside.settings living.state.history living.entries living.stands.ledger
-    (joins_there old c.self.inside.settings living.state entry living.stands.stands can) in
-    lives_with entry old new can refl c.accept.ensures.slots c.in_ok-accept-in-Accept.ensures.time made.0 living made.1
+    let serving = c.self.invariant in
+    let made = c.in_ok-accept-in-Accept.ensures.accepted c.self.inside.settings serving.state.history serving.entries serving.represents.ledger
+    (joins_there old c.self.inside.settings serving.state entry serving.represents.represents can) in
+    lives_with entry old new can refl c.accept.ensures.slots c.in_ok-accept-in-Accept.ensures.time made.0 serving made.1
 
 pub returns-in-Accept-clause-done : goal.returns-in-Accept-clause-done
 returns-in-Accept-clause-done g c = λ settings state entries kept.
@@ -117,31 +117,31 @@ returns-in-Accept-clause-done g c = λ settings state entries kept.
     let new : ServerValue = record { settings = c.self.inside.settings; registry = c.accept.new.self.registry; journal = c.accept.new.self.journal } in
     let entry = c.in-Accept.entry in
     let host = c.args.host.now in
-    let mid = c.accept.new.disk in
+    let between = c.accept.new.disk in
     let left = c.send_to-in-Accept.new.host in
     let can = subst (λ server. IsAcceptable server entry) (sym c.self.view_is) (subst (λ v. CanCarryOut v c.args.self.now) c.in-Accept.is c.requires.ready) in
     let here = subst (λ server. IsKept server settings state entries) (sym c.self.view_is) kept in
-    let of = here.stands.stands in
+    let of = here.represents.represents in
     let joins = joins_there old settings state entry of can in
-    let made = c.in_ok-accept-in-Accept.ensures.accepted settings state.history entries here.stands.ledger joins in
-    let writes : RestsWith (g.H.Disk.media host) (journal.StandsFor old.journal settings entries) → Leaves (g.H.Disk.media host) (g.H.Disk.media mid) (HoldsTurn settings state (with_entry state entry)) = λ rests.
-    accepting settings (number_remembered old.registry) (time_of old.registry) state entry (g.H.Disk.media host) (g.H.Disk.media mid) (ap (λ (limits : Limits). limits.remembered) of.is_of.limits) of.time_is
-    (can.now ∙ of.time_is) (c.accept.ensures.moments settings state.history entries here.stands.ledger joins rests) in
+    let made = c.in_ok-accept-in-Accept.ensures.accepted settings state.history entries here.represents.ledger joins in
+    let writes : RestsWith (g.H.Disk.media host) (journal.Represents old.journal settings entries) → Leaves (g.H.Disk.media host) (g.H.Disk.media between) (HoldsTurn settings state (with_entry state entry)) = λ rests.
+    accepting settings (number_remembered old.registry) (time_of old.registry) state entry (g.H.Disk.media host) (g.H.Disk.media between) (ap (λ (limits : Limits). limits.remembered) of.is_of.limits) of.time_is
+    (can.now ∙ of.time_is) (c.accept.ensures.moments settings state.history entries here.represents.ledger joins rests) in
     let gives =
-    subst (λ reply. Added (g.H.Wire.acts mid) (g.H.Wire.acts left) (Gives (g.H.Wire.moment mid) (owned.To c.args.peer reply ∷ []))) c.bytes-in-Accept.ensures.value c.send_to-in-Accept.ensures.acts in
+    subst (λ reply. Added (g.H.Wire.acts between) (g.H.Wire.acts left) (Gives (g.H.Wire.moment between) (owned.To c.args.peer reply ∷ []))) c.bytes-in-Accept.ensures.value c.send_to-in-Accept.ensures.acts in
     rw c.in-Accept.is (
       made.0,
-      kept_with entry old new can refl c.accept.ensures.slots c.in_ok-accept-in-Accept.ensures.time settings state entries made.0 here.stands made.1,
+      kept_with entry old new can refl c.accept.ensures.slots c.in_ok-accept-in-Accept.ensures.time settings state entries made.0 here.represents made.1,
       subst
-          (λ (server : ServerValue). Turned settings state (with_entry state entry) (owned.To c.args.peer c.in-Accept.reply ∷ []) (journal.StandsFor server.journal settings entries)
-          (journal.StandsFor c.accept.new.self.journal settings made.0) (g.H.Disk.media host) (g.H.Disk.media left) (g.H.Wire.acts host) (g.H.Wire.acts left))
+          (λ (server : ServerValue). Turned settings state (with_entry state entry) (owned.To c.args.peer c.in-Accept.reply ∷ []) (journal.Represents server.journal settings entries)
+          (journal.Represents c.accept.new.self.journal settings made.0) (g.H.Disk.media host) (g.H.Disk.media left) (g.H.Wire.acts host) (g.H.Wire.acts left))
           c.self.view_is
           (record {
-            mid = g.H.Disk.media mid;
-            moment = g.H.Wire.moment mid;
-            is_moment = g.met.H.Host.one_moment mid;
-            gives = added_behind (g.H.Wire.acts host) (g.H.Wire.acts mid) (g.H.Wire.acts left) (Gives (g.H.Wire.moment mid) (owned.To c.args.peer c.in-Accept.reply ∷ []))
-                (g.met.H.Host.disk_keeps host mid c.accept.ensures.beside).0 gives;
+            between = g.H.Disk.media between;
+            moment = g.H.Wire.moment between;
+            is_moment = g.met.H.Host.one_moment between;
+            gives = added_behind (g.H.Wire.acts host) (g.H.Wire.acts between) (g.H.Wire.acts left) (Gives (g.H.Wire.moment between) (owned.To c.args.peer c.in-Accept.reply ∷ []))
+                (g.met.H.Host.disk_keeps host between c.accept.ensures.beside).0 gives;
             writes = writes;
             rests = made.2;
             sends = c.send_to-in-Accept.ensures.media;

@@ -6,14 +6,14 @@ use Rattle.dots_server.proofs.Verdicts.{config_repeats, config_new}
 use Rattle.dots_server.proofs.server.Server.decide_config.Goals as goal
 
 pub returns-in-Some-clause-decides : goal.returns-in-Some-clause-decides
-returns-in-Some-clause-decides c = λ settings state stands.
-    let own = subst (λ s. role_of s c.args.peer ≡ role_with c.args.own) stands.settings_are c.requires.own.role in
+returns-in-Some-clause-decides c = λ settings state represents.
+    let own = subst (λ s. role_of s c.args.peer ≡ role_with c.args.own) represents.settings_are c.requires.own.role in
     config_repeats settings state c.args.peer c.args.exchange.now c.args.own own c.session_domain.result c.session_domain.ensures c.in-Some.reply
-    (c.in-Some.ensures settings state stands)
+    (c.in-Some.ensures settings state represents)
 
 pub returns-in-None-clause-decides : goal.returns-in-None-clause-decides
-returns-in-None-clause-decides c = λ settings state stands.
-    let own = subst (λ s. role_of s c.args.peer ≡ role_with c.args.own) stands.settings_are c.requires.own.role in
+returns-in-None-clause-decides c = λ settings state represents.
+    let own = subst (λ s. role_of s c.args.peer ≡ role_with c.args.own) represents.settings_are c.requires.own.role in
     ap verdict.Reply c.not_implemented.ensures
     ∙ config_new settings state c.args.peer c.args.exchange.now c.args.own own c.session_domain.result c.session_domain.ensures
-    (c.in-None.ensures settings state stands)
+    (c.in-None.ensures settings state represents)

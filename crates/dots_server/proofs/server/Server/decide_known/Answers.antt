@@ -9,15 +9,15 @@ use Rattle.dots_server.proofs.Verdicts.{known_is, gateway_is}
 use Rattle.dots_server.proofs.server.Server.decide_known.Goals as goal
 
 pub returns-in-Ok-clause-decides : goal.returns-in-Ok-clause-decides
-returns-in-Ok-clause-decides c = λ settings state stands.
-    let own = subst (λ s. role_of s c.args.peer ≡ role_with c.args.own) stands.settings_are c.requires.own.role in
+returns-in-Ok-clause-decides c = λ settings state represents.
+    let own = subst (λ s. role_of s c.args.peer ≡ role_with c.args.own) represents.settings_are c.requires.own.role in
     let known : is_stranger (role_of settings c.args.peer) ≡ false = ap is_stranger own ∙ known_is c.args.own in
     let gateway = gateway_is c.args.own c.is_none.result c.is_none.ensures ∙ sym (ap is_gateway own) in
-    decided settings state c.args.peer c.args.datagram.now known c.in-Ok.received c.decide_on.result (rw gateway at c.in-Ok.ensures.received) (c.decide_on.ensures.decides settings state stands)
+    decided settings state c.args.peer c.args.datagram.now known c.in-Ok.received c.decide_on.result (rw gateway at c.in-Ok.ensures.received) (c.decide_on.ensures.decides settings state represents)
 
 pub returns-in-Err-clause-decides : goal.returns-in-Err-clause-decides
-returns-in-Err-clause-decides c = λ settings state stands.
-    let own = subst (λ s. role_of s c.args.peer ≡ role_with c.args.own) stands.settings_are c.requires.own.role in
+returns-in-Err-clause-decides c = λ settings state represents.
+    let own = subst (λ s. role_of s c.args.peer ≡ role_with c.args.own) represents.settings_are c.requires.own.role in
     let known : is_stranger (role_of settings c.args.peer) ≡ false = ap is_stranger own ∙ known_is c.args.own in
     let gateway = gateway_is c.args.own c.is_none.result c.is_none.ensures ∙ sym (ap is_gateway own) in
     lacking settings state c.args.peer c.args.datagram.now known c.in-Err.exchange _ (rw gateway at c.in-Err.ensures.lacks) (ap verdict.Reply c.unavailable.ensures)

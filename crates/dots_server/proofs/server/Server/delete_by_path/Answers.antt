@@ -7,17 +7,17 @@ use Rattle.dots_server.proofs.Verdicts.{if_ok}
 use Rattle.dots_server.proofs.server.Server.delete_by_path.Goals as goal
 
 pub returns-in-Some-clause-decides : goal.returns-in-Some-clause-decides
-returns-in-Some-clause-decides c = λ settings state stands.
+returns-in-Some-clause-decides c = λ settings state represents.
     if_ok c.delete_with_mid.result _ _
     (λ v is.
     is
     ∙ ap (λ (from : ClientRequest). with_mid from.exchange c.args.path.mid (delete_in settings state from)) c.in-Some.ensures.some.1
-    ∙ with_domain c.args.self.now.settings settings c.args.peer c.args.own c.args.path.cdid c.requires.own stands.settings_are c.args.exchange
+    ∙ with_domain c.args.self.now.settings settings c.args.peer c.args.own c.args.path.cdid c.requires.own represents.settings_are c.args.exchange
     (delete_for settings state c.args.peer c.args.exchange c.args.path) c.in-Some.from.domain c.in-Some.ensures.some.0)
-    (c.delete_with_mid.ensures.decides settings state stands)
+    (c.delete_with_mid.ensures.decides settings state represents)
 
 pub returns-in-None-clause-decides : goal.returns-in-None-clause-decides
-returns-in-None-clause-decides c = λ settings state stands.
+returns-in-None-clause-decides c = λ settings state represents.
     ap verdict.Reply c.bad_parameter.ensures
-    ∙ without_domain c.args.self.now.settings settings c.args.peer c.args.own c.args.path.cdid c.requires.own stands.settings_are c.args.exchange
+    ∙ without_domain c.args.self.now.settings settings c.args.peer c.args.own c.args.path.cdid c.requires.own represents.settings_are c.args.exchange
     (delete_for settings state c.args.peer c.args.exchange c.args.path) c.in-None.ensures.none

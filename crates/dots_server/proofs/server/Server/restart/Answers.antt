@@ -9,7 +9,7 @@ use Rattle.dots_server.proofs.server.Server.restart.Goals as goal
 pub returns-clause-restarted : goal.returns-clause-restarted
 returns-clause-restarted g c =
     if_ok_as c.begin.result _ _ (λ server begun settings state entries kept rests.
-    restart_found settings c.into_settings.result (c.into_settings.ensures ∙ kept.stands.stands.settings_are) c.args.self state entries kept (g.H.Disk.media c.args.host.now) (g.H.Disk.media c.begin.new.host) rests
+    restart_found settings c.into_settings.result (c.into_settings.ensures ∙ kept.represents.represents.settings_are) c.args.self state entries kept (g.H.Disk.media c.args.host.now) (g.H.Disk.media c.begin.new.host) rests
     c.args.at server begun.0 begun.1 begun.3)
     c.begin.ensures.begun
 
@@ -17,7 +17,7 @@ pub returns-clause-settings : goal.returns-clause-settings
 returns-clause-settings g c = if_ok_as c.begin.result _ _ (λ server is. is ∙ c.into_settings.ensures) c.begin.ensures.settings
 
 pub returns-clause-slots : goal.returns-clause-slots
-returns-clause-slots g c = if_ok_as c.begin.result _ _ (λ server begun. begun.1.stands.slots ∙ ap slots_of c.into_settings.ensures) c.begin.ensures.begun
+returns-clause-slots g c = if_ok_as c.begin.result _ _ (λ server begun. begun.1.represents.slots ∙ ap slots_of c.into_settings.ensures) c.begin.ensures.begun
 
 pub returns-clause-size : goal.returns-clause-size
 returns-clause-size g c =
@@ -25,12 +25,12 @@ returns-clause-size g c =
 
 pub returns-clause-moments : goal.returns-clause-moments
 returns-clause-moments g c = λ settings state entries kept rests.
-    restart_moments settings c.into_settings.result (c.into_settings.ensures ∙ kept.stands.stands.settings_are) c.args.self state entries kept (g.H.Disk.media c.args.host.now) (g.H.Disk.media c.begin.new.host) rests
+    restart_moments settings c.into_settings.result (c.into_settings.ensures ∙ kept.represents.represents.settings_are) c.args.self state entries kept (g.H.Disk.media c.args.host.now) (g.H.Disk.media c.begin.new.host) rests
     c.begin.ensures.moments
 
 pub returns-clause-found : goal.returns-clause-found
 returns-clause-found g c =
     if_err_as c.begin.result _ _ (λ fault refused settings state entries kept rests size.
-    restart_fails settings c.into_settings.result (c.into_settings.ensures ∙ kept.stands.stands.settings_are) c.args.self state entries kept (g.H.Disk.media c.args.host.now) (g.H.Disk.media c.begin.new.host) rests
+    restart_fails settings c.into_settings.result (c.into_settings.ensures ∙ kept.represents.represents.settings_are) c.args.self state entries kept (g.H.Disk.media c.args.host.now) (g.H.Disk.media c.begin.new.host) rests
     (g.H.Disk.extent c.args.host.now) fault size refused)
     c.begin.ensures.refused

@@ -4,10 +4,10 @@ use Rattle.dots_settings.specs.Settings.{SettingsValue}
 use Rattle.dots_machine.specs.Machine.{State}
 use Rattle.dots_machine.specs.Mitigations.{lives}
 use Rattle.dots_machine.specs.Verdicts.{stands_as}
-use Rattle.dots_server.specs.Standing.{StandsFor}
+use Rattle.dots_server.specs.ServerValues.{Represents}
 use Rattle.dots_server.proofs.server.Server.stands.Given as goal
 
 abbrev pub invariant-loop-row : goal.invariant-loop-row
 invariant-loop-row l =
-    (settings : SettingsValue) (state : State) → StandsFor l.fn.self settings state
+    (settings : SettingsValue) (state : State) → Represents l.fn.self settings state
     → list_any (stands_as l.fn.mid) (lives state.time state.history l.fn.from) ≡ list_any (stands_as l.fn.mid) l.row-iterator

@@ -1,5 +1,5 @@
 use Rattle.std.proofs.Common.{◌≡◌, ◌-◌}
-use Rattle.entry_records.specs.Reading.{items_at, ace_at}
+use Rattle.entry_records.specs.RecordReading.{items_at, ace_at}
 use Rattle.entry_records.proofs.Loops.{with_front}
 use Rattle.entry_records.proofs.reader.Reader.aces_of.Given as goal
 

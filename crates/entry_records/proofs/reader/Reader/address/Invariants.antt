@@ -1,5 +1,5 @@
 use Rattle.std.proofs.Common.{◌≡◌, ◌-◌, ◌*◌, ◌%◌, ◌^◌, ◌<◌}
-use Rattle.entry_records.specs.Reading.{address_at}
+use Rattle.entry_records.specs.RecordReading.{address_at}
 use Rattle.entry_records.proofs.Loops.{with_number}
 use Rattle.entry_records.proofs.reader.Reader.address.Given as goal
 

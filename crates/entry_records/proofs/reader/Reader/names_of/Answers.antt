@@ -1,6 +1,6 @@
 use Rattle.std.proofs.Common.{◌+◌, ◌-◌, ◌∙◌, arith}
 use Rattle.std.proofs.lemmas.Result.{err_from_is_err_and}
-use Rattle.entry_records.specs.Reading.{name_at}
+use Rattle.entry_records.specs.RecordReading.{name_at}
 use Rattle.entry_records.proofs.Loops.{items_stop, items_go, items_done}
 use Rattle.entry_records.proofs.reader.Reader.names_of.Goals as goal
 

@@ -1,7 +1,7 @@
 use Rattle.std.proofs.Common.{◌≡◌, ◌+◌, ◌-◌, ◌++◌, ◌∷◌, [], ℕ, take, add-one, length, Ok, sym, ap, ◌∙◌, arith}
 use Rattle.std.specs.Char.{is_ascii_graphic}
 use Rattle.std.proofs.lemmas.Result.{err_from_is_err_and}
-use Rattle.entry_records.specs.Reading.{byte_at}
+use Rattle.entry_records.specs.RecordReading.{byte_at}
 use Rattle.entry_records.proofs.Loops.{items_stop, items_go, items_done, next_front}
 use Rattle.entry_records.proofs.reader.Reader.pass_visible.Goals as goal
 

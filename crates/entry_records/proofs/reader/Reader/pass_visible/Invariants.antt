@@ -1,6 +1,6 @@
 use Rattle.std.proofs.Common.{◌≡◌, ◌+◌, ◌-◌, length, take, drop}
 use Rattle.std.specs.Char.{is_ascii_graphic}
-use Rattle.entry_records.specs.Reading.{byte_at, items_at}
+use Rattle.entry_records.specs.RecordReading.{byte_at, items_at}
 use Rattle.entry_records.proofs.Loops.{with_front}
 use Rattle.entry_records.proofs.reader.Reader.pass_visible.Given as goal
 

@@ -1,6 +1,6 @@
 use Rattle.std.proofs.Common.{◌+◌, ◌-◌, ◌∙◌, length-append, arith}
 use Rattle.std.proofs.lemmas.Result.{err_from_is_err_and}
-use Rattle.entry_records.specs.Reading.{prefix_at}
+use Rattle.entry_records.specs.RecordReading.{prefix_at}
 use Rattle.entry_records.proofs.Loops.{items_stop, items_go, items_done}
 use Rattle.entry_records.proofs.reader.Reader.prefixes_of.Goals as goal
 

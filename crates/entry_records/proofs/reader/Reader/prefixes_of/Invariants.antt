@@ -1,5 +1,5 @@
 use Rattle.std.proofs.Common.{◌≡◌, ◌-◌, length}
-use Rattle.entry_records.specs.Reading.{items_at, prefix_at}
+use Rattle.entry_records.specs.RecordReading.{items_at, prefix_at}
 use Rattle.entry_records.proofs.Loops.{with_front}
 use Rattle.entry_records.proofs.reader.Reader.prefixes_of.Given as goal
 

@@ -1,5 +1,5 @@
 use Rattle.std.proofs.Common.{◌≡◌, ◌-◌, ◌≤◌}
-use Rattle.entry_records.specs.Reading.{targets_at}
+use Rattle.entry_records.specs.RecordReading.{targets_at}
 use Rattle.entry_records.proofs.Loops.{with_front}
 use Rattle.entry_records.proofs.reader.Reader.targets_of.Given as goal
 

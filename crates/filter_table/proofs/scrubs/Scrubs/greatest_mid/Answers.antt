@@ -5,7 +5,7 @@ use Rattle.filter_rows.specs.Fates.{scrubbing_mid}
 use Rattle.prefix_ranks.specs.declared.rank.Rank.{Rank}
 use Rattle.prefix_ranks.specs.Ranks.{slot_of}
 use Rattle.prefix_ranks.specs.Covers.{covers, IsShort, CoveringValue}
-use Rattle.filter_table.specs.Held.{ScrubsValue, row_of_scrub}
+use Rattle.filter_table.specs.TableRows.{ScrubsValue, row_of_scrub}
 use Rattle.filter_table.specs.Rows.{gathered}
 use Rattle.filter_table.specs.Best.{best, mid_in}
 use Rattle.filter_table.proofs.Gathered.{are_stored}

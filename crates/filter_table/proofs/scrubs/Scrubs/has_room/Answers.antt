@@ -1,5 +1,5 @@
 use Rattle.std.proofs.Common.{arith, ◌≡◌, ℕ, nat_lt, length, ap, sym, ◌∙◌}
-use Rattle.filter_table.specs.Held.{ScrubsValue}
+use Rattle.filter_table.specs.TableRows.{ScrubsValue}
 use Rattle.filter_table.proofs.Gathered.{length-gathered}
 use Rattle.filter_table.proofs.scrubs.Scrubs.has_room.Goals as goal
 

@@ -3,11 +3,11 @@ use Rattle.std.specs.List.{insert, prefix_len}
 use Rattle.prefix_ranks.specs.declared.rank.Rank.{Rank}
 use Rattle.prefix_ranks.specs.Ranks.{with_rank}
 use Rattle.filter_table.specs.declared.turn.Turn.{Turn}
-use Rattle.filter_table.specs.Held.{ScrubsValue, scrub_in, with_scrub, rank_of}
+use Rattle.filter_table.specs.TableRows.{ScrubsValue, scrub_in, with_scrub, rank_of}
 use Rattle.filter_table.specs.Rows.{gathered, mark_of}
 use Rattle.filter_table.proofs.Gathered.{length-gathered}
 use Rattle.filter_table.proofs.Slots.{length-ranks, slot_within, scrubs_value}
-use Rattle.filter_table.proofs.Standing.{ranking_value, installs_row}
+use Rattle.filter_table.proofs.RowsInSlots.{ranking_value, installs_row}
 use Rattle.filter_table.proofs.scrubs.Scrubs.install.Goals as goal
 
 pub put-requires : goal.put-requires

@@ -4,7 +4,7 @@ use Rattle.std.specs.Option.{IfSome}
 use Rattle.filter_rows.specs.declared.rows.ScrubRow.{ScrubRow}
 use Rattle.prefix_ranks.specs.declared.rank.Rank.{Rank}
 use Rattle.prefix_ranks.specs.Ranks.{ranked}
-use Rattle.filter_table.specs.Held.{ScrubsValue, without_mitigation}
+use Rattle.filter_table.specs.TableRows.{ScrubsValue, without_mitigation}
 use Rattle.filter_table.specs.Laws.{AreInOrder}
 use Rattle.filter_table.specs.Rows.{gathered, place_of_turn, slot_is_of, mark_of, marks_of, is_turn}
 use Rattle.filter_table.proofs.Gathered.{are_stored}

@@ -1,6 +1,6 @@
 -- what is left once this mitigation's rows are out stays the same
 use Rattle.std.proofs.Common.{◌≡◌, length}
-use Rattle.filter_table.specs.Held.{without_mitigation}
+use Rattle.filter_table.specs.TableRows.{without_mitigation}
 use Rattle.filter_table.proofs.scrubs.Scrubs.remove.Given as goal
 
 abbrev pub invariant-loop : goal.invariant-loop

@@ -1,6 +1,6 @@
 use Rattle.std.proofs.Common.{arith, length, ap, ◌∙◌}
 use Rattle.std.proofs.lemmas.List.Edits.{length-remove}
-use Rattle.filter_table.specs.Held.{ScrubsValue, without_mitigation}
+use Rattle.filter_table.specs.TableRows.{ScrubsValue, without_mitigation}
 use Rattle.filter_table.proofs.scrubs.Scrubs.remove_one.Goals as goal
 
 pub take_out-requires : goal.take_out-requires

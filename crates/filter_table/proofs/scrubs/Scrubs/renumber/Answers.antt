@@ -2,12 +2,12 @@ use Rattle.std.proofs.Common.{arith, ◌≡◌, List, Option, length, map, ap, s
 use Rattle.filter_rows.specs.declared.rows.ScrubRow.{ScrubRow}
 use Rattle.prefix_ranks.specs.Ranks.{RankingValue, ranked}
 use Rattle.filter_table.specs.declared.turn.Turn.{Turn}
-use Rattle.filter_table.specs.Held.{ScrubsValue, rank_of, renumbered, place_of_scrub, scrub_at_place}
+use Rattle.filter_table.specs.TableRows.{ScrubsValue, rank_of, renumbered, place_of_scrub, scrub_at_place}
 use Rattle.filter_table.specs.Rows.{gathered, place_of_turn, turn_at_place, mark_of}
 use Rattle.filter_table.proofs.Gathered.{AreTied, length-gathered, tied-renumbered}
 use Rattle.filter_table.proofs.Places.{length-renumbered}
 use Rattle.filter_table.proofs.Slots.{scrubs_value}
-use Rattle.filter_table.proofs.Standing.{ranking_value, renumbers_rows}
+use Rattle.filter_table.proofs.RowsInSlots.{ranking_value, renumbers_rows}
 use Rattle.filter_table.proofs.scrubs.Scrubs.renumber.Goals as goal
 
 pub rank_all-requires-clause-tied : goal.rank_all-requires-clause-tied

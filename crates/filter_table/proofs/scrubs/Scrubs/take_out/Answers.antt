@@ -2,11 +2,11 @@ use Rattle.std.proofs.Common.{arith, ◌≡◌, ◌<◌, length, get_or, remove,
 use Rattle.prefix_ranks.specs.declared.rank.Rank.{Rank}
 use Rattle.prefix_ranks.specs.Ranks.{place_of}
 use Rattle.prefix_ranks.proofs.Each.{each_at}
-use Rattle.filter_table.specs.Held.{ScrubsValue, rank_of}
+use Rattle.filter_table.specs.TableRows.{ScrubsValue, rank_of}
 use Rattle.filter_table.specs.Rows.{gathered, mark_of, IsTied}
 use Rattle.filter_table.proofs.Gathered.{length-gathered, scrub_of, turn_read, slot_there}
 use Rattle.filter_table.proofs.Slots.{scrubs_value, rank_there}
-use Rattle.filter_table.proofs.Standing.{ranking_value, removes_row}
+use Rattle.filter_table.proofs.RowsInSlots.{ranking_value, removes_row}
 use Rattle.filter_table.proofs.scrubs.Scrubs.take_out.Goals as goal
 
 pub remove-turn-requires : goal.remove-turn-requires

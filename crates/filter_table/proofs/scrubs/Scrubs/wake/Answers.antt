@@ -1,7 +1,7 @@
 use Rattle.std.proofs.Common.{map, ap, ◌∙◌}
-use Rattle.filter_table.specs.Held.{ScrubsValue, woken}
+use Rattle.filter_table.specs.TableRows.{ScrubsValue, woken}
 use Rattle.filter_table.proofs.Slots.{scrubs_value}
-use Rattle.filter_table.proofs.Standing.{wakes_rows}
+use Rattle.filter_table.proofs.RowsInSlots.{wakes_rows}
 use Rattle.filter_table.proofs.scrubs.Scrubs.wake.Goals as goal
 
 pub invariant_of-self : goal.invariant_of-self

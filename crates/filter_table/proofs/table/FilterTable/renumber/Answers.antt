@@ -1,7 +1,7 @@
 use Rattle.std.proofs.Common.{arith, ◌≡◌, ◌<◌, List, length, ap, sym, subst, refl, ◌∙◌}
 use Rattle.std.specs.List.{AllByRecursion}
 use Rattle.filter_table.specs.declared.held.HeldAcl.{HeldAcl}
-use Rattle.filter_table.specs.Held.{HeldScrub, ScrubsValue, AclsValue, place_of_scrub, scrub_at_place, place_of_acl, acl_at_place}
+use Rattle.filter_table.specs.TableRows.{HeldScrub, ScrubsValue, AclsValue, place_of_scrub, scrub_at_place, place_of_acl, acl_at_place}
 use Rattle.filter_table.specs.Table.{TableValue}
 use Rattle.filter_table.proofs.Places.{places_below, length-renumbered}
 use Rattle.filter_table.proofs.table.FilterTable.renumber.Goals as goal

@@ -6,7 +6,7 @@ use Rattle.dots_laws.specs.Views.{mitigations_at, mitigations_with}
 use Rattle.live_mitigations.specs.Rows.{LiveTable, of_entry}
 use Rattle.live_mitigations.specs.Slots.{slots_left, slots_first}
 use Rattle.live_mitigations.proofs.Rows.{grown_rows}
-use Rattle.live_mitigations.proofs.SlotsStanding.{as_many_grown}
+use Rattle.live_mitigations.proofs.SlotsOfRows.{as_many_grown}
 use Rattle.live_mitigations.proofs.list.LiveList.put.Goals as goal
 
 pub push_first-requires : goal.push_first-requires
@@ -26,10 +26,10 @@ pub invariant_of-self : goal.invariant_of-self
 invariant_of-self c =
     let before = c.self.invariant in
     let x : Filed = record { entry = c.args.entry; slot = c.args.slot } in (
-      omega (arith, before.0, c.move_rows.ensures.capacity, c.leave_live.ensures.capacity, c.push_put.ensures.capacity),
+      omega (arith, before.0, c.move_rows.ensures.capacity, c.retain_live.ensures.capacity, c.push_put.ensures.capacity),
       omega (arith, before.1, c.move_slots.ensures.capacity, c.push_first.ensures.capacity),
       ap length c.push_put.ensures.items
-          ∙ ap (λ ms. length (ms ++ of_entry (bare c.args.entry))) (c.leave_live.ensures.items ∙ ap (mitigations_at c.args.entry.time) c.move_rows.ensures.items)
+          ∙ ap (λ ms. length (ms ++ of_entry (bare c.args.entry))) (c.retain_live.ensures.items ∙ ap (mitigations_at c.args.entry.time) c.move_rows.ensures.items)
           ∙ sym (ap length (grown_rows c.args.entry c.self.inside.rows.items))
           ∙ as_many_grown x c.self.inside.rows.items c.self.inside.slots.items before.2
           ∙ ap (λ ms. length (slots_left x ms c.self.inside.slots.items ++ slots_first x)) (sym c.as_slice.ensures.value)

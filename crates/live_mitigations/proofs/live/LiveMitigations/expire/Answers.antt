@@ -1,9 +1,9 @@
 use Rattle.std.proofs.Common.{refl, sym, subst}
 use Rattle.dots_laws.specs.Views.{mitigations_at}
 use Rattle.live_mitigations.specs.Rows.{aged}
-use Rattle.live_mitigations.proofs.Standing.{changed_to, changed_here, within_tables, changed_own, changed_other, changed_comes, changed_fewer}
-use Rattle.live_mitigations.specs.Standing.{SlotsCome}
-use Rattle.live_mitigations.proofs.SlotsStanding.{come_still}
+use Rattle.live_mitigations.proofs.LiveValues.{changed_to, changed_here, within_tables, changed_own, changed_other, changed_comes, changed_fewer}
+use Rattle.live_mitigations.specs.LiveValues.{SlotsCome}
+use Rattle.live_mitigations.proofs.SlotsOfRows.{come_still}
 use Rattle.live_mitigations.proofs.live.LiveMitigations.expire.Goals as goal
 
 pub invariant_of-self : goal.invariant_of-self

@@ -2,7 +2,7 @@
 use Rattle.std.proofs.Common.{◌≡◌, List}
 use Rattle.dots_history.specs.declared.entry.Entry.{Entry}
 use Rattle.dots_laws.specs.Filed.{Filed}
-use Rattle.live_mitigations.specs.Standing.{ComesTo, SameButRows, SlotsCome, count_kept}
+use Rattle.live_mitigations.specs.LiveValues.{ComesTo, SameButRows, SlotsCome, count_live}
 use Rattle.live_mitigations.proofs.live.LiveMitigations.expire_all.Given as goal
 
 abbrev pub invariant-loop-domain : goal.invariant-loop-domain
@@ -13,4 +13,4 @@ invariant-loop-domain l = record {
 }
 
 abbrev pub decreases-loop-domain : goal.decreases-loop-domain
-decreases-loop-domain l = count_kept l.self
+decreases-loop-domain l = count_live l.self

@@ -1,5 +1,5 @@
 use Rattle.std.proofs.Common.{ap, sym, ◌∙◌}
-use Rattle.live_mitigations.specs.Standing.{LiveValue, kept_of, keeps_limits}
+use Rattle.live_mitigations.specs.LiveValues.{LiveValue, rows_for, keeps_limits}
 use Rattle.live_mitigations.proofs.Room.{has_room_is}
 use Rattle.live_mitigations.proofs.live.LiveMitigations.has_room.Goals as goal
 
@@ -7,7 +7,7 @@ pub returns-clause-kept : goal.returns-clause-kept
 returns-clause-kept c =
     c.keep_limits.ensures
     ∙ ap (keeps_limits c.self.inside.limits c.args.entry.now) c.rows.ensures
-    ∙ ap (λ (v : LiveValue). keeps_limits v.limits c.args.entry.now (kept_of v c.args.entry.now.domain)) c.self.view_is
+    ∙ ap (λ (v : LiveValue). keeps_limits v.limits c.args.entry.now (rows_for v c.args.entry.now.domain)) c.self.view_is
 
 pub returns-clause-room : goal.returns-clause-room
 returns-clause-room c = λ entries stands.

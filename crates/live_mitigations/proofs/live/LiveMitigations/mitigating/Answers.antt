@@ -3,7 +3,7 @@ use Rattle.std.specs.Prelude.{◌==◌}
 use Rattle.dots_history.specs.declared.entry.Entry.{Entry}
 use Rattle.dots_history.specs.Histories.{Mitigation}
 use Rattle.live_mitigations.specs.Rows.{any_row}
-use Rattle.live_mitigations.specs.Standing.{LiveValue}
+use Rattle.live_mitigations.specs.LiveValues.{LiveValue}
 use Rattle.live_mitigations.proofs.Peers.{any_kept}
 use Rattle.live_mitigations.proofs.live.LiveMitigations.mitigating.Goals as goal
 

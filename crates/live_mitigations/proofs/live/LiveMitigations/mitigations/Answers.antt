@@ -1,12 +1,12 @@
 use Rattle.std.proofs.Common.{ap, ◌∙◌, ℕ, List}
 use Rattle.dots_history.specs.Histories.{Mitigation}
-use Rattle.live_mitigations.specs.Reading.{shown_of}
+use Rattle.live_mitigations.specs.LiveViews.{live_views_of}
 use Rattle.live_mitigations.proofs.Room.{shown_are}
 use Rattle.live_mitigations.proofs.live.LiveMitigations.mitigations.Goals as goal
 
 pub returns : goal.returns
 returns c = λ entries stands.
     c.of.ensures
-    ∙ ap (λ (t : ℕ). shown_of t c.args.cuid.now c.rows.result.now) c.time.ensures
-    ∙ ap (shown_of c.args.self.now.time c.args.cuid.now) (c.rows.ensures.live entries stands)
+    ∙ ap (λ (t : ℕ). live_views_of t c.args.cuid.now c.rows.result.now) c.time.ensures
+    ∙ ap (live_views_of c.args.self.now.time c.args.cuid.now) (c.rows.ensures.live entries stands)
     ∙ shown_are c.args.self.now.time c.args.domain c.args.cuid.now entries

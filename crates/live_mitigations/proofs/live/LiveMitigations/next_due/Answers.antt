@@ -1,4 +1,4 @@
-use Rattle.live_mitigations.proofs.Standing.{none_is_due, some_is_due}
+use Rattle.live_mitigations.proofs.LiveValues.{none_is_due, some_is_due}
 use Rattle.live_mitigations.proofs.live.LiveMitigations.next_due.Goals as goal
 
 pub returns-clause-none : goal.returns-clause-none

@@ -1,4 +1,4 @@
-use Rattle.live_mitigations.proofs.SlotsStanding.{are_moved}
+use Rattle.live_mitigations.proofs.SlotsOfRows.{are_moved}
 use Rattle.live_mitigations.proofs.live.LiveMitigations.renumber.Goals as goal
 
 pub invariant_of-self : goal.invariant_of-self

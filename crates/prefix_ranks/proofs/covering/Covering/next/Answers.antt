@@ -9,7 +9,7 @@ use Rattle.prefix_ranks.proofs.Each.{each_take, each_drop, none_there}
 use Rattle.prefix_ranks.proofs.Ranked.{ranked_front}
 use Rattle.prefix_ranks.proofs.Counting.{no_levels}
 use Rattle.prefix_ranks.proofs.Runs.{OfKind, FirstLevel, first_level}
-use Rattle.prefix_ranks.proofs.Kept.{kept_behind}
+use Rattle.prefix_ranks.proofs.BesideRanks.{kept_behind}
 use Rattle.prefix_ranks.proofs.covering.Covering.next.Goals as goal
 
 pub returns-in_err-level-clause-none : goal.returns-in_err-level-clause-none

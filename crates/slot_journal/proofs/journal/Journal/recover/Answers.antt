@@ -1,7 +1,7 @@
 use Rattle.std.proofs.Common.{refl}
 use Rattle.std.proofs.lemmas.Result.{err_from_is_err_and}
-use Rattle.slot_store.proofs.Reading.{sees_at_rest}
-use Rattle.slot_journal.specs.Held.{records_of}
+use Rattle.slot_store.proofs.DiskReading.{sees_at_rest}
+use Rattle.slot_journal.specs.DiskEntries.{records_of}
 use Rattle.slot_journal.proofs.Recovering.{recovered, holds_opening, holds_reading, half_refuses, not_written}
 use Rattle.slot_journal.proofs.journal.Journal.recover.Goals as goal
 

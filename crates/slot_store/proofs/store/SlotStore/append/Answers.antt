@@ -2,7 +2,7 @@ use Rattle.std.proofs.Common.{◌∙◌, ap, sym, subst, ◌+◌, ◌%◌, ◌++
 use Rattle.std.proofs.lemmas.Grind.{elements}
 use Rattle.dots_disk.specs.Becoming.{RestsWith}
 use Rattle.slot_store.specs.Layout.{place_of}
-use Rattle.slot_store.specs.Standing.{JournalValue, Stands}
+use Rattle.slot_store.specs.StoreValues.{JournalValue, RepresentsRecords}
 use Rattle.slot_store.proofs.Storing.{slot_fits, append_leaves, append_rests}
 use Rattle.slot_store.proofs.store.SlotStore.append.Goals as goal
 
@@ -63,7 +63,7 @@ returns-in-Ok g c =
       moments = λ digest records rests.
           append_leaves _ _ c.args.self.now digest records c.args.bytes.now c.place-at.result _ c.requires.room c.requires.fits at c.put_sized-size.ensures.bytes c.in-Ok.ensures.moments rests;
       rests = λ digest records rests.
-          subst (λ (store : JournalValue). RestsWith (g.D.Disk.media c.open_gate.new.disk) (Stands (record store { used = store.used + 1 }) digest (records ++ c.args.bytes.now ∷ []))) (sym c.self.view_is)
+          subst (λ (store : JournalValue). RestsWith (g.D.Disk.media c.open_gate.new.disk) (RepresentsRecords (record store { used = store.used + 1 }) digest (records ++ c.args.bytes.now ∷ []))) (sym c.self.view_is)
           (append_rests _ _ c.args.self.now digest records c.args.bytes.now c.place-at.result _ c.requires.room c.requires.fits at c.put_sized-size.ensures.bytes c.in-Ok.ensures.opened rests);
       extent = c.in-Ok.ensures.extent;
       cause = record { later = c.in-Ok.ensures.cause.later; same = same; rose = tt };

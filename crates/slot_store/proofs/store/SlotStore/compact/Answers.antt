@@ -2,7 +2,7 @@ use Rattle.std.proofs.Common.{◌∙◌, ap, sym, subst, ℕ, ◌%◌, length, a
 use Rattle.std.proofs.lemmas.Grind.{elements}
 use Rattle.dots_disk.specs.Becoming.{Leaves, RestsWith}
 use Rattle.slot_store.specs.Opening.{Is}
-use Rattle.slot_store.specs.Standing.{Stands, JournalValue}
+use Rattle.slot_store.specs.StoreValues.{RepresentsRecords, JournalValue}
 use Rattle.slot_store.specs.Copying.{IsMoving, IsMoved, kept_of, other_selector}
 use Rattle.slot_store.proofs.Compacting.{compact_leaves, compact_rests}
 use Rattle.slot_store.proofs.store.SlotStore.compact.Goals as goal
@@ -47,7 +47,7 @@ returns-in-Ok g c =
           (subst (λ (store : JournalValue). (seen : ℕ → ℕ) → RestsWith (g.D.Disk.media c.args.disk.now) (Is seen) → Leaves (g.D.Disk.media c.args.disk.now) (g.D.Disk.media c.move_half.new.disk) (IsMoving store.slots (store.selector % 2) c.args.keep.now seen))
           c.self.view_is c.in-Ok.ensures.moments) rests;
       rests = λ digest records rests.
-          subst (λ (store : JournalValue). RestsWith (g.D.Disk.media c.move_half.new.disk) (Stands store digest (kept_of records c.args.keep.now))) (sym (chosen ∙ next))
+          subst (λ (store : JournalValue). RestsWith (g.D.Disk.media c.move_half.new.disk) (RepresentsRecords store digest (kept_of records c.args.keep.now))) (sym (chosen ∙ next))
           (compact_rests _ _ c.args.self.now digest records c.args.keep.now c.requires.few c.requires.keep moved rests);
       extent = c.in-Ok.ensures.extent;
       cause = record { later = c.in-Ok.ensures.cause.later; same = c.in-Ok.ensures.cause.same; rose = tt };

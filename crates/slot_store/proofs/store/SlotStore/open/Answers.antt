@@ -2,7 +2,7 @@ use Rattle.std.proofs.Common.{refl, ◌∙◌, arith}
 use Rattle.std.proofs.lemmas.Result.{err_from_is_err_and}
 use Rattle.slot_store.specs.Layout.{HoldsRecords}
 use Rattle.slot_store.proofs.Steps.{begins}
-use Rattle.slot_store.proofs.Reading.{sees_at_rest, rests_kept}
+use Rattle.slot_store.proofs.DiskReading.{sees_at_rest, rests_kept}
 use Rattle.slot_store.proofs.OpenLemmas.{disk_refuses}
 use Rattle.slot_store.proofs.Counting.{opened_reads, opened_stands, opened_known}
 use Rattle.slot_store.proofs.store.SlotStore.open.Goals as goal

@@ -1,0 +1,44 @@
+-- An observer that is due, and one that is told.
+use Rattle.std.proofs.Common.{◌≡◌, ℕ, ◌+◌, zero, suc, true, false, List, [], ◌∷◌, ◌++◌, Some, refl, sym, ap, ◌∙◌, inl, inr, arith}
+use Rattle.std.specs.Prelude.{slice_get, nat_le, ◌&&◌}
+use Rattle.std.specs.List.{remove}
+use Rattle.std.proofs.lemmas.Bool.{cases_lt, and_cases, cond-true, cond-false, leb-false}
+use Rattle.dots_history.specs.Histories.{is_nil}
+use Rattle.coap_exchange.specs.Firsts.{replace_at}
+use Rattle.coap_observe.specs.Seen.{Lists, list_for}
+use Rattle.coap_observe.specs.Observed.{ObservedValue, is_due, notified}
+use Rattle.coap_observe.specs.Observing.{NoneIsDue, after_notice}
+use Rattle.coap_exchange.proofs.Firsts.{one_there, remove_at}
+
+pub gone_at : (lists : Lists) (id : ℕ) (xs : List ObservedValue) (i : ℕ) (x : ObservedValue) (seen : List (ℕ × ℕ)) → slice_get xs i ≡ Some x
+    → seen ≡ list_for lists x.observer → is_nil seen ≡ true → remove xs i ≡ replace_at i (after_notice lists id) xs
+gone_at lists id xs i x seen there is nil =
+    remove_at (after_notice lists id) xs i x there
+    (cond-true (is_nil (list_for lists x.observer)) [] (notified id (list_for lists x.observer) x ∷ []) (ap is_nil (sym is) ∙ nil))
+
+replace_same : (one other : ObservedValue → List ObservedValue) (xs : List ObservedValue) (i : ℕ) (x : ObservedValue) → slice_get xs i ≡ Some x → one x ≡ other x
+    → replace_at i one xs ≡ replace_at i other xs
+replace_same one other [] i x there same = refl
+replace_same one other (y ∷ xs) zero x there same = ap (λ z. one z ++ xs) (one_there y x there) ∙ ap (λ ys. ys ++ xs) same ∙ ap (λ z. other z ++ xs) (sym (one_there y x there))
+replace_same one other (y ∷ xs) (suc i) x there same = ap (λ ys. y ∷ ys) (replace_same one other xs i x there same)
+
+pub notified_at : (lists : Lists) (id : ℕ) (xs : List ObservedValue) (i : ℕ) (x : ObservedValue) (seen : List (ℕ × ℕ)) → slice_get xs i ≡ Some x
+    → seen ≡ list_for lists x.observer → is_nil seen ≡ false → replace_at i (λ o. notified id seen o ∷ []) xs ≡ replace_at i (after_notice lists id) xs
+notified_at lists id xs i x seen there is some =
+    replace_same (λ o. notified id seen o ∷ []) (after_notice lists id) xs i x there
+    (ap (λ s. notified id s x ∷ []) is
+    ∙ sym (cond-false (is_nil (list_for lists x.observer)) [] (notified id (list_for lists x.observer) x ∷ []) (ap is_nil (sym is) ∙ some)))
+
+pub none_more : (lists : Lists) (from i : ℕ) (xs : List ObservedValue) (x : ObservedValue) → slice_get xs i ≡ Some x → nat_le from i && is_due lists x ≡ false
+    → NoneIsDue lists from i xs → NoneIsDue lists from (i + 1) xs
+none_more lists from i xs x there out before place o later less at =
+    elim (cases_lt place i) [
+      | inl below ↦ before place o later below at
+      | inr over ↦
+          let same : place ≡ i = omega (arith, over, less) in
+          let own : x ≡ o = one_there x o (sym there ∙ ap (slice_get xs) (sym same) ∙ at) in
+          elim (and_cases (nat_le from i) (is_due lists x) out) [
+            | inl not_behind ↦ let low = leb-false from i not_behind in absurd (omega (arith, low, later, same))
+            | inr not_due ↦ ap (is_due lists) (sym own) ∙ not_due
+          ]
+    ]

@@ -1,0 +1,48 @@
+use Rattle.std.proofs.Common.{◌<◌, filter, length, Some, ap, sym, subst, ◌∙◌}
+use Rattle.std.specs.Prelude.{not, option_map, ◌==◌}
+use Rattle.std.proofs.lemmas.Bool.{and_parts, eqb-true}
+use Rattle.coap_observe.specs.Observed.{had_id, same_id}
+use Rattle.coap_observe.specs.Rolls.{observed_of, peer_of}
+use Rattle.coap_observe.proofs.Chaining.{same_room_then}
+use Rattle.coap_observe.proofs.Keying.{is_first, none_first, others_same, shorter}
+use Rattle.coap_observe.proofs.Departing.{all_stay}
+use Rattle.coap_observe.proofs.observers.retain_other_ids.Goals as goal
+
+pub id_key-requires : goal.id_key-requires
+id_key-requires c = c.loop-key.invariant.chained
+
+pub remove_key-requires : goal.remove_key-requires
+remove_key-requires c =
+    let first = is_first (had_id c.args.peer c.args.id) c.loop-key.roll.rows c.in-Some.key c.loop-key.invariant.chained.apart (sym c.in-Some.ensures) in
+    record {
+      own = ap (option_map peer_of) first.there ∙ ap Some (eqb-true first.one.observer.peer c.args.peer (and_parts (first.one.observer.peer == c.args.peer) (same_id c.args.id first.one.last) first.passes).0);
+      chained = c.loop-key.invariant.chained;
+    }
+
+pub loop-key-preserved : goal.loop-key-preserved
+loop-key-preserved c =
+    let test = had_id c.args.peer c.args.id in
+    let rows = c.loop-key.roll.rows in
+    let first = is_first test rows c.in-Some.key c.loop-key.invariant.chained.apart (sym c.in-Some.ensures) in
+    record {
+      stay =
+          ap (λ rs. filter (λ o. not (test o)) (observed_of rs)) c.remove_key.ensures.rows
+          ∙ others_same (λ o. not (test o)) rows c.in-Some.key first.one c.loop-key.invariant.chained.apart first.there (ap not first.passes)
+          ∙ c.loop-key.invariant.stay;
+      capacity = c.remove_key.ensures.capacity ∙ c.loop-key.invariant.capacity;
+      chained = c.remove_key.ensures.chained;
+      room = same_room_then c.remove_key.ensures.room c.loop-key.invariant.room;
+    }
+
+pub loop-key-smaller : goal.loop-key-smaller
+loop-key-smaller c =
+    let rows = c.loop-key.roll.rows in
+    let first = is_first (had_id c.args.peer c.args.id) rows c.in-Some.key c.loop-key.invariant.chained.apart (sym c.in-Some.ensures) in
+    subst (λ rs. length rs < length rows) (sym c.remove_key.ensures.rows) (shorter c.in-Some.key rows first.has)
+
+pub returns-clause-items : goal.returns-clause-items
+returns-clause-items c =
+    let test = had_id c.args.peer c.args.id in
+    let rows = c.loop-key.roll.rows in
+    let none = none_first test rows (sym c.id_key.ensures ∙ c.in_default.is) in
+    sym (all_stay test (observed_of rows) none) ∙ c.loop-key.invariant.stay

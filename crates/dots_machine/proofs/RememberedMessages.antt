@@ -1,0 +1,227 @@
+-- What is kept of an accepted message lets its repeats be known.
+use Rattle.std.proofs.Common.{◌≡◌, ℕ, zero, suc, ◌+◌, ◌<◌, ◌≤◌, Bool, true, false, ◌&&◌, ◌||◌, List, [], ◌∷◌, ◌++◌, length, drop, Option, Some, None, Result, Ok, Err, refl, sym, ap, ◌∙◌, subst, arith}
+use Rattle.std.specs.Prelude.{slice_get}
+use Rattle.std.specs.List.{list_any}
+use Rattle.std.proofs.lemmas.Bool.{and_from, eq-eqb, le-leb}
+use Rattle.std.proofs.lemmas.Option.{none-some, same_Some}
+use Rattle.coap_message.specs.declared.kind.Kind.{Kind}
+use Rattle.coap_message.specs.declared.kind.Kind.TheVariants.{Con, Non, Ack, Rst}
+use Rattle.dots_settings.specs.Settings.{SettingsValue}
+use Rattle.dots_settings.specs.Lookups.{role_of, prefixes_of}
+use Rattle.dots_history.specs.declared.entry.Entry.{Entry}
+use Rattle.dots_history.specs.declared.change.Change.{Change}
+use Rattle.dots_history.specs.declared.change.Change.TheVariants as change
+use Rattle.dots_history.specs.declared.put.Put.{Put}
+use Rattle.dots_history.specs.Entries.{is_signal, signals, may_repeat}
+use Rattle.dots_history.specs.Histories.{tally}
+use Rattle.dots_heads.specs.declared.request.Content.{Content}
+use Rattle.dots_heads.specs.declared.request.MitigationPath.{MitigationPath}
+use Rattle.dots_keys.specs.declared.request.Request.{Request}
+use Rattle.dots_keys.specs.declared.request.Request.TheVariants as request
+use Rattle.dots_keys.specs.declared.request.MitigationBody.{MitigationBody}
+use Rattle.live_mitigations.specs.LiveViews.{LiveView}
+use Rattle.conflict_rules.specs.declared.fault.PutFault.{PutFault}
+use Rattle.conflict_rules.specs.declared.fault.PutFault.TheVariants as faults
+use Rattle.conflict_rules.specs.declared.judging.Judged.{Judged}
+use Rattle.dots_registry.specs.Judging.{judge_request}
+use Rattle.dots_machine.specs.declared.target.TargetFault.{TargetFault}
+use Rattle.dots_machine.specs.declared.exchange.Exchange.{Exchange}
+use Rattle.dots_machine.specs.declared.client_request.ClientRequest.{ClientRequest}
+use Rattle.dots_machine.specs.declared.verdict.Verdict.{Verdict}
+use Rattle.dots_machine.specs.declared.verdict.Verdict.TheVariants as verdict
+use Rattle.dots_machine.specs.Domains.{domain_for, session_domain}
+use Rattle.dots_machine.specs.Targets.{scope_fault}
+use Rattle.dots_machine.specs.MessageRepeats.{sent_for, IsRepeatOf}
+use Rattle.dots_machine.specs.RepeatRule.{heard_for}
+use Rattle.dots_machine.specs.Mitigations.{key_of, entry_of, sent_by, request_of, refusal, judged, lives, get_reply}
+use Rattle.dots_machine.specs.Machine.{State, asks_for, DecidesRequest}
+use Rattle.dots_machine.specs.Apart.{domain_of}
+use Rattle.dots_machine.specs.Verdicts.{repeated, unless_repeated, unless_faulty, is_taken, stands_as, delete_by, get_by, in_domain, with_mid, put_in, put_for, delete_in, delete_for, get_for, config_for, asked_verdict}
+use Rattle.dots_machine.proofs.Verdicts.{request_valued}
+
+-- ---- an entry whose message may be repeated
+pub record Keeps (time peer : ℕ) (x : Exchange) (domain : ℕ) (reply : List ℕ) (entry : Entry) : Type 0 where
+  pub time_is : entry.time ≡ time
+  pub of_both : signals peer domain entry ≡ true
+  pub key_is : entry.key ≡ key_of x.kind x.id
+  pub reply_is : entry.reply ≡ reply
+
+signal_of : (peer domain : ℕ) (e : Entry) → is_signal e.change ≡ true → e.peer ≡ peer → e.domain ≡ domain → signals peer domain e ≡ true
+unfolding signals
+signal_of peer domain e is whose there = and_from _ _ is (and_from _ _ (eq-eqb e.peer peer whose) (eq-eqb e.domain domain there))
+
+put_is_signal : (put : Put) → is_signal (change.Put put) ≡ true
+unfolding is_signal
+put_is_signal put = refl
+
+withdrawal_is_signal : (mid : ℕ) → is_signal (change.Withdraw mid) ≡ true
+unfolding is_signal
+withdrawal_is_signal mid = refl
+
+-- it may be repeated for so long
+may_still : (t id at : ℕ) (kind : Kind) → t ≤ at + heard_for kind → may_repeat t id at (key_of kind id) ≡ true
+unfolding may_repeat
+may_still t id at Con early = and_from _ _ (eq-eqb id id refl) (le-leb t (at + 247) early)
+may_still t id at Non early = and_from _ _ (eq-eqb id id refl) (le-leb t (at + 145) early)
+may_still t id at Ack early = and_from _ _ (eq-eqb id id refl) (le-leb t (at + 145) early)
+may_still t id at Rst early = and_from _ _ (eq-eqb id id refl) (le-leb t (at + 145) early)
+
+neither : (a b : Bool) → (a || b) ≡ false → (a ≡ false) × (b ≡ false)
+neither true b is = absurd (cc is)
+neither false b is = (refl, is)
+
+not_both : (a b : Bool) → (a && b) ≡ false → a ≡ true → b ≡ false
+not_both true b out is = out
+not_both false b out is = absurd (cc is)
+
+get_there : (xs : List Entry) (e : Entry) (ys : List Entry) → slice_get (xs ++ e ∷ ys) (length xs) ≡ Some e
+get_there [] e ys = refl
+get_there (x ∷ xs) e ys = get_there xs e ys
+
+drop_there : (xs : List Entry) (e : Entry) (ys : List Entry) → drop (suc (length xs)) (xs ++ e ∷ ys) ≡ ys
+drop_there [] e ys = refl
+drop_there (x ∷ xs) e ys = drop_there xs e ys
+
+none_of : (test : Entry → Bool) (ys : List Entry) (j : ℕ) (y : Entry) → list_any test ys ≡ false → slice_get ys j ≡ Some y → test y ≡ false
+none_of test [] j y none found = absurd (none-some y found)
+none_of test (x ∷ ys) zero y none found = ap test (sym (same_Some x y found)) ∙ (neither (test x) (list_any test ys) none).0
+none_of test (x ∷ ys) (suc j) y none found = none_of test ys j y (neither (test x) (list_any test ys) none).1 found
+
+none_behind : (test : Entry → Bool) (xs : List Entry) (e : Entry) (ys : List Entry) (j : ℕ) (y : Entry) → list_any test ys ≡ false → length xs < j → slice_get (xs ++ e ∷ ys) j ≡ Some y
+    → test y ≡ false
+none_behind test [] e ys zero y none less found = absurd (omega (arith, less))
+none_behind test [] e ys (suc j) y none less found = none_of test ys j y none found
+none_behind test (x ∷ xs) e ys zero y none less found = absurd (omega (arith, less))
+none_behind test (x ∷ xs) e ys (suc j) y none less found = none_behind test xs e ys j y none (omega (arith, less)) found
+
+pub kept_is_repeated : (n t time peer : ℕ) (x : Exchange) (domain : ℕ) (reply : List ℕ) (before : List Entry) (entry : Entry) (later : List Entry)
+    → Keeps time peer x domain reply entry → t ≤ time + heard_for x.kind → tally (signals peer domain) later < n
+    → list_any (λ (e : Entry). signals peer domain e && may_repeat t x.id e.time e.key) later ≡ false
+    → IsRepeatOf n t (before ++ entry ∷ later) (sent_for peer x domain) entry
+kept_is_repeated n t time peer x domain reply before entry later keeps early few none = record {
+  place = length before;
+  there = get_there before entry later;
+  of_both = keeps.of_both;
+  recent = subst (λ es. tally (signals peer domain) es < n) (sym (drop_there before entry later)) few;
+  may = ap (λ at. may_repeat t x.id at entry.key) keeps.time_is ∙ ap (may_repeat t x.id time) keeps.key_is ∙ may_still t x.id time x.kind early;
+  last = λ j y less found own.
+      not_both (signals peer domain y) (may_repeat t x.id y.time y.key)
+      (none_behind (λ (e : Entry). signals peer domain e && may_repeat t x.id e.time e.key) before entry later j y none less found) own;
+}
+
+-- ---- what is accepted is kept so
+module _ (settings : SettingsValue) (state : State) (peer : ℕ) (x : Exchange) where
+  abbrev KeptFor : ℕ → Verdict → Type 0
+  KeptFor domain (verdict.Accept reply entry) = Keeps state.time peer x domain reply entry
+  KeptFor domain _ = Unit {0}
+
+  refusal_kept : (domain mid : ℕ) (fault : PutFault) → KeptFor domain (refusal x mid fault)
+  refusal_kept domain mid faults.Collision = tt
+  refusal_kept domain mid faults.Changed = tt
+  refusal_kept domain mid faults.UnknownAlias = tt
+  refusal_kept domain mid faults.TooMany = tt
+  refusal_kept domain mid (faults.Higher higher) = tt
+  refusal_kept domain mid (faults.Other prefixes) = tt
+  refusal_kept domain mid (faults.Capacity which number) = tt
+  refusal_kept domain mid faults.NoMemory = tt
+
+  repeat_kept : (domain : ℕ) (entry : Option Entry) (v : Verdict) → KeptFor domain v → KeptFor domain (unless_repeated entry v)
+  repeat_kept domain (Some entry) v kept = tt
+  repeat_kept domain None v kept = kept
+
+  unless_kept : (domain : ℕ) (fault : Option TargetFault) (v : Verdict) → KeptFor domain v → KeptFor domain (unless_faulty x fault v)
+  unless_kept domain (Some fault) v kept = tt
+  unless_kept domain None v kept = kept
+
+  with_mid_kept : (domain : ℕ) (mid : Option ℕ) (f : ℕ → Verdict) → ((m : ℕ) → KeptFor domain (f m)) → KeptFor domain (with_mid x mid f)
+  with_mid_kept domain None f each = tt
+  with_mid_kept domain (Some mid) f each = each mid
+
+  tell_kept : (domain : ℕ) (content : Content) (ms : List LiveView) → KeptFor domain (get_reply x content ms)
+  tell_kept domain content [] = tt
+  tell_kept domain content (m ∷ ms) = tt
+
+  module _ (path : MitigationPath) (domain : ℕ) where
+    abbrev from : ClientRequest
+    from = asks_for peer x path domain
+
+    entry_kept : (reply : List ℕ) (made : Change) → is_signal made ≡ true → Keeps state.time peer x domain reply (entry_of state.time from reply made)
+    entry_kept reply made is = record { time_is = refl; of_both = signal_of peer domain (entry_of state.time from reply made) is refl refl; key_is = refl; reply_is = refl }
+
+    judged_kept : (body : MitigationBody) (mid : ℕ) (r : Result Judged PutFault) → KeptFor domain (judged state.time (record { from = from; mid = mid; body = body }) r)
+    judged_kept body mid (Ok j) = entry_kept _ (change.Put j.put) (put_is_signal j.put)
+    judged_kept body mid (Err fault) = refusal_kept domain mid fault
+
+    put_kept : (body : MitigationBody) → KeptFor domain (put_for settings state peer x path body domain)
+    put_kept body =
+        with_mid_kept domain path.mid (put_in settings state from body)
+        (λ mid.
+        unless_kept domain (scope_fault settings (prefixes_of settings domain) body.asked) _
+        (repeat_kept domain (repeated settings state.time state.history (sent_by from)) _
+        (judged_kept body mid (judge_request settings state.time state.history domain (request_of (record { from = from; mid = mid; body = body }))))))
+
+    delete_kept : KeptFor domain (delete_for settings state peer x path domain)
+    delete_kept =
+        with_mid_kept domain path.mid (delete_in settings state from)
+        (λ mid.
+        repeat_kept domain (repeated settings state.time state.history (sent_by from)) _
+        (by_test mid (is_taken state.time state.history from) (list_any (stands_as mid) (lives state.time state.history from))))
+      where
+        by_test : (mid : ℕ) (taken stands : Bool) → KeptFor domain (delete_by state.time from mid taken stands)
+        by_test mid true stands = tt
+        by_test mid false true = entry_kept _ (change.Withdraw mid) (withdrawal_is_signal mid)
+        by_test mid false false = tt
+
+    get_kept : (content : Content) → KeptFor domain (get_for state peer x path content domain)
+    get_kept content = by_test (is_taken state.time state.history from)
+      where
+        by_test : (taken : Bool) → KeptFor domain (get_by x path.mid content taken (lives state.time state.history from))
+        by_test true = tt
+        by_test false = tell_kept domain content _
+
+  config_kept : (domain : ℕ) → KeptFor domain (config_for settings state peer x domain)
+  config_kept domain = repeat_kept domain (repeated settings state.time state.history (sent_for peer x domain)) _ tt
+
+  -- for the domain of the request
+  abbrev Kept : Option ℕ → Verdict → Type 0
+  Kept found (verdict.Accept reply entry) = (domain : ℕ) × (found ≡ Some domain) × Keeps state.time peer x domain reply entry
+  Kept found _ = Unit {0}
+
+  of_domain : (domain : ℕ) (v : Verdict) → KeptFor domain v → Kept (Some domain) v
+  of_domain domain verdict.Silent kept = tt
+  of_domain domain (verdict.Reply reply) kept = tt
+  of_domain domain (verdict.LongReply reply) kept = tt
+  of_domain domain (verdict.Accept reply entry) kept = (domain, refl, kept)
+
+  in_domain_kept : (found : Option ℕ) (f : ℕ → Verdict) → ((d : ℕ) → KeptFor d (f d)) → Kept found (in_domain x found f)
+  in_domain_kept None f each = tt
+  in_domain_kept (Some d) f each = of_domain d (f d) (each d)
+
+  asked_kept : (r : Request) → Kept (domain_of settings (role_of settings peer) r) (asked_verdict settings state peer x r)
+  asked_kept (request.PutMitigation path body) = in_domain_kept (domain_for settings (role_of settings peer) path.cdid) _ (λ d. put_kept path d body)
+  asked_kept (request.GetMitigation path content observe) = in_domain_kept (domain_for settings (role_of settings peer) path.cdid) _ (λ d. get_kept path d content)
+  asked_kept (request.DeleteMitigation path) = in_domain_kept (domain_for settings (role_of settings peer) path.cdid) _ (λ d. delete_kept path d)
+  asked_kept (request.PutConfig sid body) = in_domain_kept (session_domain (role_of settings peer)) _ config_kept
+  asked_kept (request.GetConfig sid) = tt
+  asked_kept (request.DeleteConfig sid) = in_domain_kept (session_domain (role_of settings peer)) _ config_kept
+  asked_kept (request.PutHeartbeat heard) = tt
+
+  pub accepted_kept : (r : Request) (reply : List ℕ) (entry : Entry) → DecidesRequest settings state peer x r (verdict.Accept reply entry)
+      → (domain : ℕ) × (domain_of settings (role_of settings peer) r ≡ Some domain) × Keeps state.time peer x domain reply entry
+  accepted_kept r reply entry decides =
+      subst (Kept (domain_of settings (role_of settings peer) r)) (sym (request_valued settings state peer x r (verdict.Accept reply entry) decides)) (asked_kept r)
+
+-- the entry of an accepted message is the one that its repeats are answered by
+pub accepted_is_repeated : (settings : SettingsValue) (state : State) (peer : ℕ) (x : Exchange) (r : Request) (reply : List ℕ) (entry : Entry)
+    → DecidesRequest settings state peer x r (verdict.Accept reply entry)
+    → (domain : ℕ) × (domain_of settings (role_of settings peer) r ≡ Some domain) × (entry.reply ≡ reply)
+    × ((t : ℕ) (later : List Entry) → t ≤ state.time + heard_for x.kind → tally (signals peer domain) later < settings.limits.remembered
+    → list_any (λ (e : Entry). signals peer domain e && may_repeat t x.id e.time e.key) later ≡ false
+    → IsRepeatOf settings.limits.remembered t (state.history ++ entry ∷ later) (sent_for peer x domain) entry)
+accepted_is_repeated settings state peer x r reply entry decides =
+    let kept = accepted_kept settings state peer x r reply entry decides in (
+      kept.0,
+      kept.1,
+      kept.2.reply_is,
+      λ t later early few none. kept_is_repeated settings.limits.remembered t state.time peer x kept.0 reply state.history entry later kept.2 early few none,
+    )

@@ -1,0 +1,29 @@
+-- What observers see of the live mitigations of a client.
+use Rattle.std.specs.Prelude.{ℕ, Bool, true, ◌==◌, nat_lt, if◌then◌else◌, List, [], map, filter, take, Option, Some, None}
+use Rattle.dots_history.specs.Histories.{Mitigation}
+use Rattle.live_mitigations.specs.LiveValues.{rows_for}
+use Rattle.live_mitigations.specs.LiveViews.{LiveView, live_views_of}
+use Rattle.dots_registry.specs.RegistryValues.{RegistryValue, time_of, domains_of}
+
+-- the mid and the status
+abbrev pub seen : LiveView → ℕ × ℕ
+seen view = (view.put.mid, view.status)
+
+-- any is wanted, or that of the one mid
+abbrev pub is_wanted : Option ℕ → LiveView → Bool
+is_wanted None view = true
+is_wanted (Some mid) view = view.put.mid == mid
+
+-- Of what is shown, all or that of the one mid, in order. There are at most 64, since no domain may have more live
+-- mitigations.
+abbrev pub seen_of : Option ℕ → List LiveView → List (ℕ × ℕ)
+seen_of mid views = take 64 (map seen (filter (is_wanted mid) views))
+
+-- what is seen of these mitigations of a domain
+abbrev pub seen_among : ℕ → List ℕ → Option ℕ → List Mitigation → List (ℕ × ℕ)
+seen_among t cuid mid ms = map seen (filter (is_wanted mid) (live_views_of t cuid ms))
+
+-- what a registry has to see, by domain, cuid and mid: of a domain that there isn't nothing
+abbrev pub views_of : RegistryValue → ℕ → List ℕ → Option ℕ → List (ℕ × ℕ)
+views_of registry domain cuid mid =
+    if nat_lt domain (domains_of registry) then seen_of mid (live_views_of (time_of registry) cuid (rows_for registry.live domain)) else []

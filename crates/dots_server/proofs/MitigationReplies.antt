@@ -1,0 +1,42 @@
+-- Mitigations that are told.
+use Rattle.std.proofs.Common.{◌≡◌, ◌≢◌, ℕ, Bool, true, false, List, [], ◌∷◌, ◌++◌, map, filter, cond, Option, refl, sym, ap, ◌∙◌, append_assoc}
+use Rattle.cbor_profile.specs.Canon.{canon}
+use Rattle.cbor_profile.specs.Tree.{Tree}
+use Rattle.coap_message.specs.declared.codes.TheConstants.{CONTENT}
+use Rattle.dots_heads.specs.declared.request.Content.{Content}
+use Rattle.live_mitigations.specs.LiveViews.{LiveView}
+use Rattle.reply_bodies.specs.declared.scope.MitigationView.{MitigationView}
+use Rattle.reply_bodies.specs.Mitigations.{scope_of, mitigations_with}
+use Rattle.dots_machine.specs.declared.exchange.Exchange.{Exchange}
+use Rattle.dots_machine.specs.declared.verdict.Verdict.TheVariants as verdict
+use Rattle.dots_machine.specs.Replies.{mitigation_fields, with_body, absent}
+use Rattle.dots_machine.specs.Mitigations.{is_wanted, get_reply}
+
+module _ (content : Content) (wanted : Option ℕ) where
+  abbrev told_of : List LiveView → List Tree
+  told_of ms = map (mitigation_fields content) (filter (is_wanted wanted) ms)
+
+  one_and_others : (row : LiveView) (rest : List LiveView) → told_of (row ∷ rest) ≡ told_of (row ∷ []) ++ told_of rest
+  one_and_others row rest = by_test (is_wanted wanted row)
+    where
+      by_test : (b : Bool) → map (mitigation_fields content) (cond b (row ∷ filter (is_wanted wanted) rest) (filter (is_wanted wanted) rest)) ≡ map (mitigation_fields content) (cond b (row ∷ []) []) ++ told_of rest
+      by_test true = refl
+      by_test false = refl
+
+  -- one more is told
+  pub told_more : (old new : List Tree) (row : LiveView) (left rest : List LiveView) → left ≡ row ∷ rest → new ≡ old ++ told_of (row ∷ []) → old ++ told_of left ≡ new ++ told_of rest
+  told_more old new row left rest is pushed =
+      ap (λ ms. old ++ told_of ms) is ∙ ap (λ ts. old ++ ts) (one_and_others row rest) ∙ sym (append_assoc old (told_of (row ∷ [])) (told_of rest)) ∙ ap (λ ts. ts ++ told_of rest) (sym pushed)
+
+-- what is told of those that there are, and where there is none
+pub tells_some : (x : Exchange) (content : Content) (ms : List LiveView) (views : List MitigationView) → map scope_of views ≡ map (mitigation_fields content) ms → views ≢ []
+    → verdict.LongReply (with_body CONTENT x (canon (mitigations_with (map scope_of views)))) ≡ get_reply x content ms
+tells_some x content [] [] are some = absurd (some refl)
+tells_some x content [] (v ∷ vs) are some = absurd (cc are)
+tells_some x content (m ∷ ms) views are some = ap (λ scopes. verdict.LongReply (with_body CONTENT x (canon (mitigations_with scopes)))) are
+
+pub tells_none : (x : Exchange) (content : Content) (ms : List LiveView) (views : List MitigationView) → map scope_of views ≡ map (mitigation_fields content) ms → views ≡ []
+    → verdict.Reply (absent x) ≡ get_reply x content ms
+tells_none x content [] views are none = refl
+tells_none x content (m ∷ ms) [] are none = absurd (cc are)
+tells_none x content (m ∷ ms) (v ∷ vs) are none = absurd (cc none)

@@ -1,0 +1,165 @@
+-- What a server represents, as it goes on.
+use Rattle.std.proofs.Common.{◌≡◌, ℕ, ◌<◌, ◌^◌, Bool, true, ◌&&◌, nat_le, List, [], ◌∷◌, ◌++◌, max, refl, sym, ap, ◌∙◌, subst, arith, ◌⊎◌, inl, inr}
+use Rattle.std.specs.List.{list_all}
+use Rattle.std.proofs.lemmas.Bool.{and_parts, and_from}
+use Rattle.std.proofs.lemmas.List.Folds.{list_all-append}
+use Rattle.dots_host.specs.declared.event.What.{What}
+use Rattle.dots_host.specs.declared.event.What.TheVariants as what_is
+use Rattle.dots_host.specs.Acts.{event_of}
+use Rattle.dots_settings.specs.declared.limits.Limits.{Limits}
+use Rattle.dots_settings.specs.Settings.{SettingsValue}
+use Rattle.dots_history.specs.declared.entry.Entry.{Entry}
+use Rattle.dots_history.specs.Bounds.{within_bounds}
+use Rattle.dots_history.specs.Histories.{Kept, mitigations}
+use Rattle.dots_laws.specs.Calm.{is_of_settings, came_rightly, is_own}
+use Rattle.dots_laws.specs.Fits.{last_time, has_one_peer, fits, joins}
+use Rattle.dots_laws.proofs.Joining.{last_of_push}
+use Rattle.dots_registry.specs.RegistryValues.{time_of, number_remembered}
+use Rattle.slot_store.specs.StoreValues.{JournalValue}
+use Rattle.dots_ledger.specs.LedgerValues.{CanAccept, joins_at}
+use Rattle.dots_ledger.specs.LedgerValues as ledger
+use Rattle.dots_registry.specs.Limits.{ClientsKeepLimits}
+use Rattle.dots_registry.proofs.Fitting.{limits_later, limits_fitting}
+use Rattle.dots_machine.specs.Machine.{State, later, with_entry, Step}
+use Rattle.dots_server.specs.ServerValues.{ServerValue, ledger_of, Represents, RepresentsWith, IsKept, IsServing, IsAcceptable}
+
+-- ---- the time of the tables was moved
+
+module _ (at : ℕ) (old new : ServerValue) (early : at < 2 ^ 48) (same : new.settings ≡ old.settings) (journal : new.journal ≡ old.journal) (time : time_of new.registry ≡ max at (time_of old.registry))
+    (goes : (settings : SettingsValue) (history entries : List Entry) → ledger.Represents (ledger_of old) settings history entries → ledger.Represents (ledger_of new) settings history entries) where
+  with_later : (settings : SettingsValue) (state : State) (entries : List Entry) → RepresentsWith old settings state entries → RepresentsWith new settings (later state at) entries
+  with_later settings state entries represents =
+      let tables = goes settings state.history entries represents.ledger in
+      let young = represents.represents.early in record {
+        represents = record {
+          settings_are = same ∙ represents.represents.settings_are;
+          is_of = tables.is_of;
+          registry = tables.registry;
+          time_is = time ∙ ap (max at) represents.represents.time_is;
+          early = omega (arith, early, young);
+          own = represents.represents.own;
+          bounded = represents.represents.bounded;
+          limits = limits_later settings.limits state.time (max at state.time) state.history (omega arith) represents.represents.limits;
+        };
+        ledger = tables;
+        slots = ap (λ (j : JournalValue). j.slots) journal ∙ represents.slots;
+      }
+
+  pub kept_later : (settings : SettingsValue) (state : State) (entries : List Entry) → IsKept old settings state entries → IsKept new settings (later state at) entries
+  kept_later settings state entries kept = record { represents = with_later settings state entries kept.represents; rests = kept.rests }
+
+  pub lives_later : IsServing old → IsServing new
+  lives_later serving = record {
+    state = later serving.state at;
+    entries = serving.entries;
+    represents = subst (λ s. RepresentsWith new s (later serving.state at) serving.entries) (sym same) (with_later old.settings serving.state serving.entries serving.represents);
+  }
+
+-- ---- an entry is taken
+
+list_with : {A : Type 0} (test : A → Bool) (xs : List A) (x : A) → list_all test xs ≡ true → test x ≡ true → list_all test (xs ++ x ∷ []) ≡ true
+list_with test xs x all one = list_all-append test xs (x ∷ []) ∙ ap (λ b. b && (test x && true)) all ∙ ap (λ b. b && true) one
+
+pub own_with : (settings : SettingsValue) (server : ServerValue) (state : State) (entry : Entry) → Represents server settings state → IsAcceptable server entry
+    → list_all (is_own settings) (with_entry state entry).history ≡ true
+own_with settings server state entry represents can = list_with (is_own settings) state.history entry represents.own (can.own settings state represents)
+
+-- an entry that can be taken joins each history that the server represents
+pub joins_there : (server : ServerValue) (settings : SettingsValue) (state : State) (entry : Entry) → Represents server settings state → IsAcceptable server entry
+    → joins_at settings (time_of server.registry) state.history entry ≡ true
+joins_there server settings state entry represents can =
+    let t = time_of server.registry in
+    let bounded = and_parts (within_bounds entry) (nat_le t entry.time && fits settings state.history entry) (can.fits settings state represents) in
+    let timed = and_parts (nat_le t entry.time) (fits settings state.history entry) bounded.1 in
+    let own = and_parts (is_of_settings settings entry) (came_rightly entry) (can.own settings state represents) in
+    and_from (within_bounds entry) (nat_le t entry.time && joins settings state.history entry) bounded.0
+    (and_from (nat_le t entry.time) (joins settings state.history entry) timed.0
+    (and_from (fits settings state.history entry) (came_rightly entry && has_one_peer entry (mitigations entry.time state.history)) timed.1
+    (and_from (came_rightly entry) (has_one_peer entry (mitigations entry.time state.history)) own.1 (can.one_peer settings state represents))))
+
+pub can_accept : (server : ServerValue) (entry : Entry) → IsServing server → IsAcceptable server entry → CanAccept (ledger_of server) entry
+can_accept server entry serving can = record {
+  settings = server.settings;
+  history = serving.state.history;
+  entries = serving.entries;
+  represents = serving.represents.ledger;
+  joins = joins_there server server.settings serving.state entry serving.represents.represents can;
+}
+
+module _ (entry : Entry) (old new : ServerValue) (can : IsAcceptable old entry) (same : new.settings ≡ old.settings) (slots : new.journal.slots ≡ old.journal.slots) (time : time_of new.registry ≡ entry.time) where
+  -- it is in the tables and on the disk
+  with_entry_kept : (settings : SettingsValue) (state : State) (entries few : List Entry) → RepresentsWith old settings state entries → ledger.Represents (ledger_of new) settings (state.history ++ entry ∷ []) few
+      → RepresentsWith new settings (with_entry state entry) few
+  with_entry_kept settings state entries few represents tables =
+      let fits = and_parts _ _ (can.fits settings state represents.represents) in
+      let at : entry.time ≡ state.time = can.now ∙ represents.represents.time_is in record {
+        represents = record {
+          settings_are = same ∙ represents.represents.settings_are;
+          is_of = tables.is_of;
+          registry = tables.registry;
+          time_is = time ∙ at;
+          early = represents.represents.early;
+          own = own_with settings old state entry represents.represents can;
+          bounded = list_with within_bounds state.history entry represents.represents.bounded fits.0;
+          limits = subst (λ t. ClientsKeepLimits settings.limits t (state.history ++ entry ∷ [])) at
+              (limits_fitting settings state.time state.history entry represents.represents.limits (omega (arith, at)) (and_parts _ _ fits.1).1);
+        };
+        ledger = tables;
+        slots = slots ∙ represents.slots;
+      }
+
+  -- the entries have the view of the history at the entry's time, which is that of the last entry
+  pub kept_with : (settings : SettingsValue) (state : State) (entries few : List Entry) → RepresentsWith old settings state entries → ledger.Represents (ledger_of new) settings (state.history ++ entry ∷ []) few
+      → IsKept new settings (with_entry state entry) few
+  kept_with settings state entries few represents tables = record {
+    represents = with_entry_kept settings state entries few represents tables;
+    rests = subst (λ n. Kept n (last_time (state.history ++ entry ∷ [])) few (state.history ++ entry ∷ [])) (ap (λ (limits : Limits). limits.remembered) tables.is_of.limits)
+        (subst (λ t. Kept (number_remembered new.registry) t few (state.history ++ entry ∷ [])) (time ∙ sym (last_of_push state.history entry)) tables.kept);
+  }
+
+  pub lives_with : (few : List Entry) → (serving : IsServing old) → ledger.Represents (ledger_of new) old.settings (serving.state.history ++ entry ∷ []) few → IsServing new
+  lives_with few serving tables = record {
+    state = with_entry serving.state entry;
+    entries = few;
+    represents = subst (λ s. RepresentsWith new s (with_entry serving.state entry) few) (sym same) (with_entry_kept old.settings serving.state serving.entries few serving.represents tables);
+  }
+
+-- the disk failed, and the tables are as they were
+pub lives_still : (old new : ServerValue) (few : List Entry) (serving : IsServing old) → new.settings ≡ old.settings → new.journal.slots ≡ old.journal.slots → time_of new.registry ≡ time_of old.registry
+    → ledger.Represents (ledger_of new) old.settings serving.state.history few → IsServing new
+lives_still old new few serving same slots time tables =
+    let represents = serving.represents in record {
+      state = serving.state;
+      entries = few;
+      represents = subst (λ s. RepresentsWith new s serving.state few) (sym same) (record {
+        represents = record {
+          settings_are = same;
+          is_of = tables.is_of;
+          registry = tables.registry;
+          time_is = time ∙ represents.represents.time_is;
+          early = represents.represents.early;
+          own = represents.represents.own;
+          bounded = represents.represents.bounded;
+          limits = represents.represents.limits;
+        };
+        ledger = tables;
+        slots = slots ∙ represents.slots;
+      });
+    }
+
+abbrev pub MovesAlone : What → Type 0
+MovesAlone what =
+    ((c : ℕ) × (p : ℕ) × (what ≡ what_is.Opened c p)) ⊎ ((c : ℕ) × (n : ℕ) × (what ≡ what_is.Piece c n)) ⊎ ((c : ℕ) × (what ≡ what_is.Closed c)) ⊎ (what ≡ what_is.Tick)
+
+-- an event that isn't served yet moves the time and no more
+pub moves_alone : (settings : SettingsValue) (what : What) (room : List ℕ) (at : ℕ) (state : State) → MovesAlone what → Step settings state (event_of what room) at [] (later state at)
+moves_alone settings what room at state is = by_case is
+  where
+    so : (w : What) → what ≡ w → Step settings state (event_of w room) at [] (later state at) → Step settings state (event_of what room) at [] (later state at)
+    so w e s = subst (λ w. Step settings state (event_of w room) at [] (later state at)) (sym e) s
+
+    by_case : MovesAlone what → Step settings state (event_of what room) at [] (later state at)
+    by_case (inl (c, p, e)) = so (what_is.Opened c p) e (refl, refl)
+    by_case (inr (inl (c, n, e))) = so (what_is.Piece c n) e (refl, refl)
+    by_case (inr (inr (inl (c, e)))) = so (what_is.Closed c) e (refl, refl)
+    by_case (inr (inr (inr e))) = so what_is.Tick e (refl, refl)

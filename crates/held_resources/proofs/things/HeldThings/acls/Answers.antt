@@ -1,8 +1,0 @@
-use Rattle.std.proofs.Common.{ap, ◌∙◌}
-use Rattle.held_resources.specs.Tables.{acls_in}
-use Rattle.held_resources.proofs.Standing.{acls_are}
-use Rattle.held_resources.proofs.things.HeldThings.acls.Goals as goal
-
-pub returns : goal.returns
-returns c =
-    λ entries stands. c.acls_of.ensures ∙ ap acls_in c.client.ensures ∙ acls_are _ _ stands (record { domain = c.args.domain; cuid = c.args.cuid.now })

@@ -1,8 +1,0 @@
-use Rattle.std.proofs.Common.{ap, ◌∙◌}
-use Rattle.held_resources.specs.Tables.{aliases_in}
-use Rattle.held_resources.proofs.Standing.{aliases_are}
-use Rattle.held_resources.proofs.things.HeldThings.aliases.Goals as goal
-
-pub returns : goal.returns
-returns c =
-    λ entries stands. c.aliases_of.ensures ∙ ap aliases_in c.client.ensures ∙ aliases_are _ _ stands (record { domain = c.args.domain; cuid = c.args.cuid.now })

@@ -1,9 +1,0 @@
-use Rattle.std.proofs.Common.{ap, ◌∙◌}
-use Rattle.held_resources.specs.Tables.{registrant_in}
-use Rattle.held_resources.proofs.Standing.{registrant_is}
-use Rattle.held_resources.proofs.things.HeldThings.registrant.Goals as goal
-
-pub returns : goal.returns
-returns c =
-    λ entries stands.
-    c.registrant_of.ensures ∙ ap registrant_in c.client.ensures ∙ registrant_is _ _ stands (record { domain = c.args.domain; cuid = c.args.cuid.now })

@@ -1,6 +1,0 @@
-use Rattle.std.proofs.Common.{◌≡◌, replicate}
-use Rattle.held_resources.specs.Tables.{no_clients}
-use Rattle.held_resources.proofs.things.no_clients.Given as goal
-
-abbrev pub invariant-loop : goal.invariant-loop
-invariant-loop l = l.domains.items ≡ replicate l.counter (no_clients l.rooms)
