@@ -14,7 +14,7 @@ use Rattle.coap_block.specs.Option.{block_size}
 use Rattle.coap_block.specs.Blocks.{Asked, Blocks, Sends, Answer, same, refused, first, later, IsAnswered, is_reply, cut_to, unavailable, part_of, follows, body_or, without_peer}
 use Rattle.coap_block.specs.Around.{IsSeen}
 use Rattle.coap_block.specs.Fetching.{Fetch, IsNoFirst, MakesNoFirst, IsBetween, IsFetched, FetchesRest, Fetches}
-use Rattle.coap_block.proofs.Kept.{kept_of, kept_new, kept_still, answer_cases}
+use Rattle.coap_block.proofs.BesideAround.{kept_of, kept_new, kept_still, answer_cases}
 
 abbrev pub Holds : Fetch → Blocks → KeptBody → Type 0
 Holds fetch blocks body = kept_of fetch.peer fetch.request blocks.kept ≡ Some body

@@ -5,5 +5,5 @@ pub mod Asking
 pub mod Sending
 pub mod Values
 pub mod AroundLemmas
-pub mod Kept
+pub mod BesideAround
 pub mod Joining
