@@ -26,7 +26,7 @@ use Rattle.conflict_rules.specs.declared.judging.Judged.{Judged}
 use Rattle.dots_registry.specs.Judging.{judge_request}
 use Rattle.dots_registry.specs.Judgements.{HasMid}
 use Rattle.dots_registry.proofs.Rules.{collides_taken, taken_collides, mid_stands, there_mid}
-use Rattle.dots_registry.proofs.Judging.{judged_by_places, places_judge}
+use Rattle.dots_registry.proofs.JudgedByPlaces.{judged_by_places, places_judge}
 use Rattle.dots_machine.specs.declared.target.TargetFault.{TargetFault}
 use Rattle.dots_machine.specs.declared.exchange.Exchange.{Exchange}
 use Rattle.dots_machine.specs.declared.received.Received.{Received}

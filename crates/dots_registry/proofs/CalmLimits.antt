@@ -13,7 +13,7 @@ use Rattle.dots_laws.specs.Capacities.{is_alias}
 use Rattle.dots_laws.specs.Fits.{last_or, last_time, is_calm}
 use Rattle.dots_laws.proofs.CalmCuts.{calm_at_end, calm_history}
 use Rattle.dots_registry.specs.Limits.{ClientsKeepLimits}
-use Rattle.dots_registry.proofs.Fitting as fitting
+use Rattle.dots_registry.proofs.FittingEntries as fitting
 
 -- ---- the clients' limits
 

@@ -3,12 +3,12 @@ pub mod Granted
 pub mod Inside
 pub mod Bounded
 pub mod Counted
-pub mod Fitting
+pub mod FittingEntries
 pub mod Alone
 pub mod Places
 pub mod HeldPlaces
 pub mod Rules
-pub mod Judging
+pub mod JudgedByPlaces
 pub mod OnePeer
 pub mod CalmLimits
 pub mod Rings

@@ -20,7 +20,7 @@ use Rattle.dots_registry.specs.Judging.{judge_request}
 use Rattle.dots_registry.specs.Limits.{ClientsKeepLimits}
 use Rattle.dots_registry.proofs.Inside.{own_granted, own_withdrawal}
 use Rattle.dots_registry.proofs.Bounded.{bounded_granted, bounded_withdrawal}
-use Rattle.dots_registry.proofs.Fitting.{fits_granted, fits_withdrawal}
+use Rattle.dots_registry.proofs.FittingEntries.{fits_granted, fits_withdrawal}
 use Rattle.dots_registry.proofs.OnePeer.{free_is_one_peer, granted_is_free}
 use Rattle.dots_machine.specs.declared.client_request.ClientRequest.{ClientRequest}
 use Rattle.dots_machine.specs.declared.mitigation_request.MitigationRequest.{MitigationRequest}

@@ -19,7 +19,7 @@ use Rattle.slot_store.specs.StoreValues.{JournalValue}
 use Rattle.dots_ledger.specs.LedgerValues.{CanAccept, joins_at}
 use Rattle.dots_ledger.specs.LedgerValues as ledger
 use Rattle.dots_registry.specs.Limits.{ClientsKeepLimits}
-use Rattle.dots_registry.proofs.Fitting.{limits_later, limits_fitting}
+use Rattle.dots_registry.proofs.FittingEntries.{limits_later, limits_fitting}
 use Rattle.dots_machine.specs.Machine.{State, later, with_entry, Step}
 use Rattle.dots_server.specs.ServerValues.{ServerValue, ledger_of, Represents, RepresentsWith, IsKept, IsServing, IsAcceptable}
 

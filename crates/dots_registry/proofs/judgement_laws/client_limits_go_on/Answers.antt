@@ -1,4 +1,4 @@
-use Rattle.dots_registry.proofs.Fitting.{limits_empty, limits_later, limits_fitting, limits_calm}
+use Rattle.dots_registry.proofs.FittingEntries.{limits_empty, limits_later, limits_fitting, limits_calm}
 use Rattle.dots_registry.proofs.judgement_laws.client_limits_go_on.Goals as goal
 
 pub returns : goal.returns
