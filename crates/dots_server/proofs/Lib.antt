@@ -1,3 +1,6 @@
+pub mod CommaTexts
+pub mod Puts
+pub mod ReportTexts
 mod Looping
 mod Turns
 mod Taking

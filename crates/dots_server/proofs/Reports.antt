@@ -9,7 +9,7 @@ use Rattle.dots_settings.specs.Lookups.{prefixes_of}
 use Rattle.dots_history.specs.Rows.{Row, plain_row, scrub_rows, plain_rows, acl_rows}
 use Rattle.dots_machine.specs.Machine.{State}
 use Rattle.dots_machine.specs.Report.{scrub_line, packet_lines, report_of}
-use Rattle.dots_report.specs.Gathering.{Sunk, HasWritten}
+use Rattle.dots_server.specs.Gathering.{Sunk, HasWritten}
 use Rattle.dots_server.specs.ServerValues.{ServerValue, Represents}
 
 -- each row of a live mitigation is active

@@ -1,3 +1,5 @@
+pub mod Gathering
+pub mod Lines
 pub mod Running
 pub mod Taking
 pub mod ServerValues

@@ -26,12 +26,13 @@ ghost use Rattle.dots_machine.specs.Report.{report_of};
 ghost use Rattle.dots_server.specs.ServerValues.{Represents, IsKept, CanCarryOut};
 ghost use Rattle.dots_server.specs.Turning.{IsServed, Turned, Broke};
 
+use crate::gathering::Gatherer;
+use crate::report::{put_packets, put_rows};
 use dots_disk::Host;
 use dots_host::{Got, Out, Sink, What};
 use dots_ledger::Ledger;
 use dots_machine::Verdict;
 use dots_registry::Registry;
-use dots_report::{Gatherer, put_packets, put_rows};
 use dots_settings::Settings;
 use slot_journal::{DiskFault, JournalFault};
 use std::alloc::Global;

@@ -4,9 +4,9 @@ use Rattle.dots_host.specs.Writing.{AppendsBeginning}
 use Rattle.dots_history.specs.Rows.{plain_rows, acl_rows}
 use Rattle.dots_machine.specs.Machine.{State}
 use Rattle.dots_registry.specs.RegistryValues as registry
-use Rattle.dots_report.specs.Gathering.{sunk}
+use Rattle.dots_server.specs.Gathering.{sunk}
 use Rattle.dots_server.specs.ServerValues.{ServerValue, Represents}
-use Rattle.dots_report.proofs.Puts.{puts_then}
+use Rattle.dots_server.proofs.Puts.{puts_then}
 use Rattle.dots_server.proofs.Reports.{report_is, nothing_written}
 use Rattle.dots_server.proofs.server.Server.write_report.Goals as goal
 

@@ -3,8 +3,8 @@ use Rattle.filter_rows.specs.Fates.{fate_by_rows}
 use Rattle.filter_table.specs.TableRows.{row_of_scrub, row_of_acl}
 use Rattle.dots_settings.specs.Lookups.{prefixes_of}
 use Rattle.dots_machine.specs.Report.{packet_lines}
-use Rattle.dots_report.specs.Gathering.{sunk, Puts}
-use Rattle.dots_report.proofs.report.put_packets.Given as goal
+use Rattle.dots_server.specs.Gathering.{sunk, Puts}
+use Rattle.dots_server.proofs.report.put_packets.Given as goal
 
 abbrev pub invariant-loop-packet : goal.invariant-loop-packet
 invariant-loop-packet g l = record {

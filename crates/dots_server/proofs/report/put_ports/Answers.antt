@@ -1,8 +1,8 @@
 use Rattle.std.proofs.Common.{[], ap, sym, add-one, take_all, append-nil}
 use Rattle.dots_machine.specs.Report.{ports_text}
-use Rattle.dots_report.proofs.CommaTexts.{behind_comma, first_and_others}
-use Rattle.dots_report.proofs.Puts.{puts_same, puts_more}
-use Rattle.dots_report.proofs.report.put_ports.Goals as goal
+use Rattle.dots_server.proofs.CommaTexts.{behind_comma, first_and_others}
+use Rattle.dots_server.proofs.Puts.{puts_same, puts_more}
+use Rattle.dots_server.proofs.report.put_ports.Goals as goal
 
 pub loop-range-init : goal.loop-range-init
 loop-range-init g c = record {

@@ -4,8 +4,8 @@ ghost use Rattle.std.specs.Prelude.{◌≡◌, ◌≤◌, ◌<◌, ◌+◌, ◌�
 ghost use Rattle.std.specs.Io.KnownBytes.{Appends};
 ghost use Rattle.dots_host.specs.Causes.{HasCause};
 ghost use Rattle.dots_host.specs.Writing.{AppendsBeginning};
-ghost use Rattle.dots_report.specs.Gathering.{Sunk, sunk, HasWritten, Puts};
-ghost use Rattle.dots_report.specs.declared.gathering.TheConstants.{BLOCK};
+ghost use Rattle.dots_server.specs.Gathering.{Sunk, sunk, HasWritten, Puts};
+ghost use Rattle.dots_server.specs.declared.gathering.TheConstants.{BLOCK};
 
 use dots_host::{Failed, Sink, write_all};
 use std::marker::Model;
@@ -23,7 +23,7 @@ pub struct Gatherer {
 
 impl Model for Gatherer {
     ghost use Rattle.std.specs.Prelude.{◌≤◌, take};
-    ghost use Rattle.dots_report.specs.Gathering.{Gathered};
+    ghost use Rattle.dots_server.specs.Gathering.{Gathered};
 
     ghost Value = { Gathered };
 

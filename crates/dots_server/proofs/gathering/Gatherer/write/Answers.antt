@@ -1,7 +1,7 @@
 use Rattle.std.proofs.Common.{◌≡◌, ◌∙◌, ap, sym, refl, false, true, [], inl, inr}
 use Rattle.std.proofs.lemmas.Bool.{false≢true}
-use Rattle.dots_report.proofs.Puts.{puts_written, puts_unwritten}
-use Rattle.dots_report.proofs.gathering.Gatherer.write.Goals as goal
+use Rattle.dots_server.proofs.Puts.{puts_written, puts_unwritten}
+use Rattle.dots_server.proofs.gathering.Gatherer.write.Goals as goal
 
 pub returns-in-Ok : goal.returns-in-Ok
 returns-in-Ok g c =

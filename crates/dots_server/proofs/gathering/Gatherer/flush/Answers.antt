@@ -1,6 +1,6 @@
 use Rattle.std.proofs.Common.{◌≡◌, ◌∙◌, ap, sym, refl, false, true, []}
-use Rattle.dots_report.proofs.Puts.{puts_flushed, puts_unflushed}
-use Rattle.dots_report.proofs.gathering.Gatherer.flush.Goals as goal
+use Rattle.dots_server.proofs.Puts.{puts_flushed, puts_unflushed}
+use Rattle.dots_server.proofs.gathering.Gatherer.flush.Goals as goal
 
 pub returns-in-Ok-clause-puts : goal.returns-in-Ok-clause-puts
 returns-in-Ok-clause-puts g c =

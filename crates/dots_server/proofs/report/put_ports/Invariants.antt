@@ -1,8 +1,8 @@
 use Rattle.std.proofs.Common.{◌≡◌, ℕ, List, ◌++◌, take, flat_map}
 use Rattle.dots_machine.specs.Report.{any_or, texts_of, ports_text}
-use Rattle.dots_report.specs.Gathering.{sunk, Puts}
-use Rattle.dots_report.proofs.CommaTexts.{behind_comma}
-use Rattle.dots_report.proofs.report.put_ports.Given as goal
+use Rattle.dots_server.specs.Gathering.{sunk, Puts}
+use Rattle.dots_server.proofs.CommaTexts.{behind_comma}
+use Rattle.dots_server.proofs.report.put_ports.Given as goal
 
 abbrev pub invariant-loop-range : goal.invariant-loop-range
 invariant-loop-range g l = record {

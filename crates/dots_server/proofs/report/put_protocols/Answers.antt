@@ -1,7 +1,7 @@
 use Rattle.std.proofs.Common.{[], sym, refl, get_or, decimal, add-one, take_all, append-nil}
-use Rattle.dots_report.proofs.CommaTexts.{behind_comma, first_and_others}
-use Rattle.dots_report.proofs.Puts.{puts_same, puts_more}
-use Rattle.dots_report.proofs.report.put_protocols.Goals as goal
+use Rattle.dots_server.proofs.CommaTexts.{behind_comma, first_and_others}
+use Rattle.dots_server.proofs.Puts.{puts_same, puts_more}
+use Rattle.dots_server.proofs.report.put_protocols.Goals as goal
 
 pub loop-protocol-init : goal.loop-protocol-init
 loop-protocol-init g c = record {

@@ -1,8 +1,8 @@
 use Rattle.std.proofs.Common.{ap, ◌∙◌}
 use Rattle.dots_machine.specs.Report.{packet_line}
-use Rattle.dots_report.proofs.Puts.{puts_then, puts_same}
-use Rattle.dots_report.proofs.Reports.{packet_in_parts}
-use Rattle.dots_report.proofs.report.put_packet.Goals as goal
+use Rattle.dots_server.proofs.Puts.{puts_then, puts_same}
+use Rattle.dots_server.proofs.ReportTexts.{packet_in_parts}
+use Rattle.dots_server.proofs.report.put_packet.Goals as goal
 
 pub returns : goal.returns
 returns g c =

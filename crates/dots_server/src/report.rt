@@ -6,8 +6,8 @@ ghost use Rattle.filter_rows.specs.HandedOut.{fate_of};
 ghost use Rattle.filter_table.specs.TableRows.{row_of_scrub, row_of_acl, active_rows};
 ghost use Rattle.dots_settings.specs.Lookups.{prefixes_of};
 ghost use Rattle.dots_machine.specs.Report.{any_or, texts_of, ports_text, scrub_line, fate_text, packet_line, packet_lines};
-ghost use Rattle.dots_report.specs.Gathering.{sunk, Puts};
-ghost use Rattle.dots_report.specs.Lines.{line_front, line_end};
+ghost use Rattle.dots_server.specs.Gathering.{sunk, Puts};
+ghost use Rattle.dots_server.specs.Lines.{line_front, line_end};
 
 use crate::gathering::Gatherer;
 use crate::naming::name_of;

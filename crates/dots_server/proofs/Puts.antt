@@ -4,7 +4,7 @@ use Rattle.std.specs.Io.KnownBytes.{Appends}
 use Rattle.dots_host.specs.Causes.{Rose}
 use Rattle.dots_host.specs.Writing.{Owes, AppendsBeginning}
 use Rattle.dots_host.proofs.WriteLemmas.{owes_less, owes_none, owes_lost, begun_longer}
-use Rattle.dots_report.specs.Gathering.{Gathered, Sunk, HasWritten, Puts}
+use Rattle.dots_server.specs.Gathering.{Gathered, Sunk, HasWritten, Puts}
 
 -- nothing is put
 pub puts_nothing : (now : Sunk) (g : Gathered) → Puts now g now g []

@@ -1,8 +1,8 @@
 use Rattle.std.proofs.Common.{◌≡◌, ℕ, List, ◌++◌, take, flat_map, decimal}
 use Rattle.dots_machine.specs.Report.{any_or, texts_of}
-use Rattle.dots_report.specs.Gathering.{sunk, Puts}
-use Rattle.dots_report.proofs.CommaTexts.{behind_comma}
-use Rattle.dots_report.proofs.report.put_protocols.Given as goal
+use Rattle.dots_server.specs.Gathering.{sunk, Puts}
+use Rattle.dots_server.proofs.CommaTexts.{behind_comma}
+use Rattle.dots_server.proofs.report.put_protocols.Given as goal
 
 abbrev pub invariant-loop-protocol : goal.invariant-loop-protocol
 invariant-loop-protocol g l = record {

@@ -2,8 +2,8 @@ use Rattle.std.proofs.Common.{◌+◌, map, ap, add-one, arith}
 use Rattle.filter_rows.specs.Fates.{fate_by_rows}
 use Rattle.filter_table.specs.TableRows.{row_of_scrub, row_of_acl}
 use Rattle.dots_settings.specs.Lookups.{prefixes_of}
-use Rattle.dots_report.proofs.Reports.{puts_packet}
-use Rattle.dots_report.proofs.report.put_packets.Goals as goal
+use Rattle.dots_server.proofs.ReportTexts.{puts_packet}
+use Rattle.dots_server.proofs.report.put_packets.Goals as goal
 
 pub loop-packet-preserved : goal.loop-packet-preserved
 loop-packet-preserved g c =

@@ -5,9 +5,9 @@ use Rattle.acl_lists.specs.declared.packet.Packet.{Packet}
 use Rattle.filter_rows.specs.Fates.{Fate}
 use Rattle.dots_settings.specs.Settings.{SettingsValue}
 use Rattle.dots_machine.specs.Report.{any_or, texts_of, ports_text, scrub_line, fate_text, packet_line, packet_lines}
-use Rattle.dots_report.specs.Gathering.{Gathered, Sunk, Puts}
-use Rattle.dots_report.specs.Lines.{line_front, line_end}
-use Rattle.dots_report.proofs.Puts.{puts_then, puts_same}
+use Rattle.dots_server.specs.Gathering.{Gathered, Sunk, Puts}
+use Rattle.dots_server.specs.Lines.{line_front, line_end}
+use Rattle.dots_server.proofs.Puts.{puts_then, puts_same}
 
 -- one row more
 pub row_more : (settings : SettingsValue) (written : List ℕ) (left rest : List ScrubRow) (row : ScrubRow) → left ≡ row ∷ rest

@@ -1,3 +1,0 @@
-pub mod CommaTexts
-pub mod Puts
-pub mod Reports
