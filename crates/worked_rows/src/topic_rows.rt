@@ -127,7 +127,7 @@ $ version
 
 $ --version
 = dots 0.1
-= rattle-kit-13f logic dac8208d650f15bf
+= logic dac8208d650f15bf
 
 # a message, and one that is none; where the first write fails the status of a fault stays
 $ show 40001234
