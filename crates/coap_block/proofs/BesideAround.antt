@@ -1,41 +1,41 @@
--- Whose body is kept.
+-- Whose body is stored.
 use Rattle.std.proofs.Common.{inl, inr, ◌≡◌, ℕ, Bool, true, false, List, [], ◌∷◌, ◌++◌, Option, Some, None, refl, sym, ap, ◌∙◌}
 use Rattle.std.specs.Prelude.{◌⊎◌, ◌==◌, ◌&&◌, find, bytes_eq, nat_lt}
 use Rattle.std.proofs.lemmas.Bool.{cases_Bool, eqb-true, eqb-false, ne_eqb}
 use Rattle.coap_message.specs.Message.{CoapMessage}
 use Rattle.coap_block.specs.declared.block.BlockOption.{BlockOption}
-use Rattle.coap_block.specs.declared.kept.KeptBody.{KeptBody}
-use Rattle.coap_block.specs.Blocks.{Asked, first, later, answer_of, wanted_answer, wanted_block, block_answer, begins_within, body_or, kept_for, without_peer, head_size}
+use Rattle.coap_block.specs.declared.stored.StoredBody.{StoredBody}
+use Rattle.coap_block.specs.Blocks.{Asked, first, later, answer_of, wanted_answer, wanted_block, block_answer, begins_within, body_or, stored_for, without_peer, head_size}
 use Rattle.coap_block.specs.Fetching.{IsCutFrom}
 
-abbrev pub is_for : ℕ → List ℕ → KeptBody → Bool
+abbrev pub is_for : ℕ → List ℕ → StoredBody → Bool
 is_for peer request body = body.peer == peer && bytes_eq body.request request
 
--- the body that is kept for the peer and the request
-abbrev pub kept_of : ℕ → List ℕ → List KeptBody → Option KeptBody
-kept_of peer request kept = find (is_for peer request) kept
+-- the body that is stored for the peer and the request
+abbrev pub stored_of : ℕ → List ℕ → List StoredBody → Option StoredBody
+stored_of peer request stored = find (is_for peer request) stored
 
 -- what was put behind the others is found
-pub kept_new : (peer : ℕ) (request : List ℕ) (kept : List KeptBody) (body : KeptBody) → is_for peer request body ≡ true → kept_of peer request (without_peer peer kept ++ body ∷ []) ≡ Some body
-kept_new peer request [] body is = rw is refl
-kept_new peer request (x ∷ kept) body is = elim (cases_Bool (x.peer == peer)) [
-  | inl e ↦ rw e (kept_new peer request kept body is)
-  | inr e ↦ rw (e, e) (kept_new peer request kept body is)
+pub stored_new : (peer : ℕ) (request : List ℕ) (stored : List StoredBody) (body : StoredBody) → is_for peer request body ≡ true → stored_of peer request (without_peer peer stored ++ body ∷ []) ≡ Some body
+stored_new peer request [] body is = rw is refl
+stored_new peer request (x ∷ stored) body is = elim (cases_Bool (x.peer == peer)) [
+  | inl e ↦ rw e (stored_new peer request stored body is)
+  | inr e ↦ rw (e, e) (stored_new peer request stored body is)
 ]
 
 other_peer : (peer other n : ℕ) → (other ≡ peer → ⊥) → (n == other) ≡ true → (n == peer) ≡ false
 other_peer peer other n differs e = ne_eqb n peer (λ is. differs (sym (eqb-true n other e) ∙ is))
 
--- what is kept for a peer stays, where that of another one is taken out
-pub kept_still : (peer other : ℕ) (request : List ℕ) (kept more : List KeptBody) (body : KeptBody) → (other ≡ peer → ⊥) → kept_of peer request kept ≡ Some body → kept_of peer request (without_peer other kept ++ more) ≡ Some body
-kept_still peer other request [] more body differs is = absurd cc
-kept_still peer other request (x ∷ kept) more body differs is = elim (cases_Bool (x.peer == other)) [
+-- what is stored for a peer stays, where that of another one is taken out
+pub stored_still : (peer other : ℕ) (request : List ℕ) (stored more : List StoredBody) (body : StoredBody) → (other ≡ peer → ⊥) → stored_of peer request stored ≡ Some body → stored_of peer request (without_peer other stored ++ more) ≡ Some body
+stored_still peer other request [] more body differs is = absurd cc
+stored_still peer other request (x ∷ stored) more body differs is = elim (cases_Bool (x.peer == other)) [
   | inl e ↦
       let f = other_peer peer other x.peer differs e in
-      rw e (kept_still peer other request kept more body differs (rw f at is))
+      rw e (stored_still peer other request stored more body differs (rw f at is))
   | inr e ↦ elim (cases_Bool (is_for peer request x)) [
     | inl f ↦ rw (e, f) (rw f at is)
-    | inr f ↦ rw (e, f) (kept_still peer other request kept more body differs (rw f at is))
+    | inr f ↦ rw (e, f) (stored_still peer other request stored more body differs (rw f at is))
   ]
 ]
 
@@ -65,10 +65,10 @@ wanted_cases : (wanted : Option BlockOption) (known : List ℕ) (m : CoapMessage
 wanted_cases None known m block body cut = absurd cut
 wanted_cases (Some b) known m block body cut = block_cases b known m block body cut
 
-pub answer_cases : (kept : List KeptBody) (asked : Asked) (m : CoapMessage) (block : BlockOption) (body : List ℕ) → IsCutFrom (answer_of kept asked m) m block body
-    → ((answer_of kept asked m ≡ first block) × (block.number ≡ 0) × (body ≡ m.payload))
-    ⊎ ((block.number ≡ 0 → ⊥) × (body ≡ body_or (kept_for kept asked) m.payload) × (answer_of kept asked m ≡ later block (body_or (kept_for kept asked) m.payload)))
-answer_cases kept asked m block body cut = elim (cases_Bool (nat_lt 1024 (head_size m))) [
+pub answer_cases : (stored : List StoredBody) (asked : Asked) (m : CoapMessage) (block : BlockOption) (body : List ℕ) → IsCutFrom (answer_of stored asked m) m block body
+    → ((answer_of stored asked m ≡ first block) × (block.number ≡ 0) × (body ≡ m.payload))
+    ⊎ ((block.number ≡ 0 → ⊥) × (body ≡ body_or (stored_for stored asked) m.payload) × (answer_of stored asked m ≡ later block (body_or (stored_for stored asked) m.payload)))
+answer_cases stored asked m block body cut = elim (cases_Bool (nat_lt 1024 (head_size m))) [
   | inl e ↦ absurd (rw e at cut)
-  | inr e ↦ rw e (wanted_cases (wanted_block asked.block m.payload) (body_or (kept_for kept asked) m.payload) m block body (rw e at cut))
+  | inr e ↦ rw e (wanted_cases (wanted_block asked.block m.payload) (body_or (stored_for stored asked) m.payload) m block body (rw e at cut))
 ]

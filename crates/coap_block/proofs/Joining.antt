@@ -9,36 +9,36 @@ use Rattle.dots_host.specs.declared.event.Event.TheVariants as event
 use Rattle.dots_host.specs.declared.out.OwnedOut.TheVariants as owned
 use Rattle.dots_host.specs.Acts.{Timed, WireAct, took, gave}
 use Rattle.coap_block.specs.declared.block.BlockOption.{BlockOption}
-use Rattle.coap_block.specs.declared.kept.KeptBody.{KeptBody}
+use Rattle.coap_block.specs.declared.stored.StoredBody.{StoredBody}
 use Rattle.coap_block.specs.Option.{block_size}
 use Rattle.coap_block.specs.Blocks.{Asked, Blocks, Sends, Answer, same, refused, first, later, IsAnswered, is_reply, cut_to, unavailable, part_of, follows, body_or, without_peer}
 use Rattle.coap_block.specs.Around.{IsSeen}
 use Rattle.coap_block.specs.Fetching.{Fetch, IsNoFirst, MakesNoFirst, IsBetween, IsFetched, FetchesRest, Fetches}
-use Rattle.coap_block.proofs.BesideAround.{kept_of, kept_new, kept_still, answer_cases}
+use Rattle.coap_block.proofs.BesideAround.{stored_of, stored_new, stored_still, answer_cases}
 
-abbrev pub Holds : Fetch → Blocks → KeptBody → Type 0
-Holds fetch blocks body = kept_of fetch.peer fetch.request blocks.kept ≡ Some body
+abbrev pub Holds : Fetch → Blocks → StoredBody → Type 0
+Holds fetch blocks body = stored_of fetch.peer fetch.request blocks.stored ≡ Some body
 
--- ---- what is kept stays
+-- ---- what is stored stays
 
-answered_still : (fetch : Fetch) (answer : Answer) (asked : Asked) (m : CoapMessage) (old new : List KeptBody) (out : List ℕ) (body : KeptBody) → IsAnswered answer asked m old out new → (asked.peer ≡ fetch.peer → IsNoFirst answer)
-    → kept_of fetch.peer fetch.request old ≡ Some body → kept_of fetch.peer fetch.request new ≡ Some body
-answered_still fetch same asked m old new out body answered none holds = ap (kept_of fetch.peer fetch.request) answered.1 ∙ holds
-answered_still fetch refused asked m old new out body answered none holds = ap (kept_of fetch.peer fetch.request) answered.1 ∙ holds
-answered_still fetch (later block text) asked m old new out body answered none holds = ap (kept_of fetch.peer fetch.request) answered.1 ∙ holds
-answered_still fetch (first block) asked m old new out body (inl made) none holds = ap (kept_of fetch.peer fetch.request) made.1 ∙ kept_still fetch.peer asked.peer fetch.request old _ body none holds
+answered_still : (fetch : Fetch) (answer : Answer) (asked : Asked) (m : CoapMessage) (old new : List StoredBody) (out : List ℕ) (body : StoredBody) → IsAnswered answer asked m old out new → (asked.peer ≡ fetch.peer → IsNoFirst answer)
+    → stored_of fetch.peer fetch.request old ≡ Some body → stored_of fetch.peer fetch.request new ≡ Some body
+answered_still fetch same asked m old new out body answered none holds = ap (stored_of fetch.peer fetch.request) answered.1 ∙ holds
+answered_still fetch refused asked m old new out body answered none holds = ap (stored_of fetch.peer fetch.request) answered.1 ∙ holds
+answered_still fetch (later block text) asked m old new out body answered none holds = ap (stored_of fetch.peer fetch.request) answered.1 ∙ holds
+answered_still fetch (first block) asked m old new out body (inl made) none holds = ap (stored_of fetch.peer fetch.request) made.1 ∙ stored_still fetch.peer asked.peer fetch.request old _ body none holds
 answered_still fetch (first block) asked m old new out body (inr made) none holds =
-    ap (kept_of fetch.peer fetch.request) (made.1 ∙ sym (append-nil (without_peer asked.peer old))) ∙ kept_still fetch.peer asked.peer fetch.request old [] body none holds
+    ap (stored_of fetch.peer fetch.request) (made.1 ∙ sym (append-nil (without_peer asked.peer old))) ∙ stored_still fetch.peer asked.peer fetch.request old [] body none holds
 
-sent_still : (fetch : Fetch) (old new : Blocks) (peer : ℕ) (bytes leaves : List ℕ) (body : KeptBody) → Sends old peer bytes leaves new → MakesNoFirst fetch old peer bytes leaves new → Holds fetch old body → Holds fetch new body
-sent_still fetch old new peer bytes leaves body (inl reply) none holds = answered_still fetch _ reply.asked reply.message old.kept new.kept leaves body reply.answered (none reply) holds
-sent_still fetch old new peer bytes leaves body (inr other) none holds = ap (λ blocks. kept_of fetch.peer fetch.request blocks.kept) other.2 ∙ holds
+sent_still : (fetch : Fetch) (old new : Blocks) (peer : ℕ) (bytes leaves : List ℕ) (body : StoredBody) → Sends old peer bytes leaves new → MakesNoFirst fetch old peer bytes leaves new → Holds fetch old body → Holds fetch new body
+sent_still fetch old new peer bytes leaves body (inl reply) none holds = answered_still fetch _ reply.asked reply.message old.stored new.stored leaves body reply.answered (none reply) holds
+sent_still fetch old new peer bytes leaves body (inr other) none holds = ap (λ blocks. stored_of fetch.peer fetch.request blocks.stored) other.2 ∙ holds
 
-same_kept : (fetch : Fetch) (old new : Blocks) (body : KeptBody) → new.kept ≡ old.kept → Holds fetch old body → Holds fetch new body
-same_kept fetch old new body is holds = ap (kept_of fetch.peer fetch.request) is ∙ holds
+same_stored : (fetch : Fetch) (old new : Blocks) (body : StoredBody) → new.stored ≡ old.stored → Holds fetch old body → Holds fetch new body
+same_stored fetch old new body is holds = ap (stored_of fetch.peer fetch.request) is ∙ holds
 
-act_still : (fetch : Fetch) (old new : Blocks) (inner outer : WireAct) (body : KeptBody) → IsSeen old inner outer new → IsBetween fetch old inner outer new → Holds fetch old body → Holds fetch new body
-act_still fetch old new (took (event.Datagram f b) at) (took (event.Datagram g s) t) body seen none holds = same_kept fetch old new body seen.0.2 holds
+act_still : (fetch : Fetch) (old new : Blocks) (inner outer : WireAct) (body : StoredBody) → IsSeen old inner outer new → IsBetween fetch old inner outer new → Holds fetch old body → Holds fetch new body
+act_still fetch old new (took (event.Datagram f b) at) (took (event.Datagram g s) t) body seen none holds = same_stored fetch old new body seen.0.2 holds
 act_still fetch old new (took (event.Datagram f b) at) (took (event.Opened c g) t) body seen none holds = absurd seen.0
 act_still fetch old new (took (event.Datagram f b) at) (took (event.Piece c s) t) body seen none holds = absurd seen.0
 act_still fetch old new (took (event.Datagram f b) at) (took (event.Closed c) t) body seen none holds = absurd seen.0
@@ -46,25 +46,25 @@ act_still fetch old new (took (event.Datagram f b) at) (took event.Tick t) body 
 act_still fetch old new (took (event.Datagram f b) at) (took event.Restart t) body seen none holds = absurd seen.0
 act_still fetch old new (took (event.Datagram f b) at) (took event.End t) body seen none holds = absurd seen.0
 act_still fetch old new (took (event.Datagram f b) at) (took event.Failed t) body seen none holds = absurd seen.0
-act_still fetch old new (took (event.Opened c g) at) (took e t) body seen none holds = same_kept fetch old new body (ap (λ blocks. blocks.kept) seen.0.1) holds
-act_still fetch old new (took (event.Piece c s) at) (took e t) body seen none holds = same_kept fetch old new body (ap (λ blocks. blocks.kept) seen.0.1) holds
-act_still fetch old new (took (event.Closed c) at) (took e t) body seen none holds = same_kept fetch old new body (ap (λ blocks. blocks.kept) seen.0.1) holds
-act_still fetch old new (took event.Tick at) (took e t) body seen none holds = same_kept fetch old new body (ap (λ blocks. blocks.kept) seen.0.1) holds
+act_still fetch old new (took (event.Opened c g) at) (took e t) body seen none holds = same_stored fetch old new body (ap (λ blocks. blocks.stored) seen.0.1) holds
+act_still fetch old new (took (event.Piece c s) at) (took e t) body seen none holds = same_stored fetch old new body (ap (λ blocks. blocks.stored) seen.0.1) holds
+act_still fetch old new (took (event.Closed c) at) (took e t) body seen none holds = same_stored fetch old new body (ap (λ blocks. blocks.stored) seen.0.1) holds
+act_still fetch old new (took event.Tick at) (took e t) body seen none holds = same_stored fetch old new body (ap (λ blocks. blocks.stored) seen.0.1) holds
 act_still fetch old new (took event.Restart at) (took e t) body seen none holds = absurd none
-act_still fetch old new (took event.End at) (took e t) body seen none holds = same_kept fetch old new body (ap (λ blocks. blocks.kept) seen.0.1) holds
-act_still fetch old new (took event.Failed at) (took e t) body seen none holds = same_kept fetch old new body (ap (λ blocks. blocks.kept) seen.0.1) holds
+act_still fetch old new (took event.End at) (took e t) body seen none holds = same_stored fetch old new body (ap (λ blocks. blocks.stored) seen.0.1) holds
+act_still fetch old new (took event.Failed at) (took e t) body seen none holds = same_stored fetch old new body (ap (λ blocks. blocks.stored) seen.0.1) holds
 act_still fetch old new (took e at) (gave given was) body seen none holds = absurd seen
 act_still fetch old new (gave leaves done) (took e t) body seen none holds = absurd seen
 act_still fetch old new (gave (owned.To to leaves) done) (gave (owned.To peer bytes) was) body seen none holds = sent_still fetch old new peer bytes leaves body seen.0.1 none holds
 act_still fetch old new (gave (owned.Conn c b) done) (gave (owned.To peer bytes) was) body seen none holds = absurd seen.0
 act_still fetch old new (gave (owned.Close c) done) (gave (owned.To peer bytes) was) body seen none holds = absurd seen.0
-act_still fetch old new (gave leaves done) (gave (owned.Conn c b) was) body seen none holds = same_kept fetch old new body (ap (λ blocks. blocks.kept) seen.0.1) holds
-act_still fetch old new (gave leaves done) (gave (owned.Close c) was) body seen none holds = same_kept fetch old new body (ap (λ blocks. blocks.kept) seen.0.1) holds
+act_still fetch old new (gave leaves done) (gave (owned.Conn c b) was) body seen none holds = same_stored fetch old new body (ap (λ blocks. blocks.stored) seen.0.1) holds
+act_still fetch old new (gave leaves done) (gave (owned.Close c) was) body seen none holds = same_stored fetch old new body (ap (λ blocks. blocks.stored) seen.0.1) holds
 
 -- ---- a block that is fetched
 
--- what a fetched block is cut from is kept then
-record Fetched (fetch : Fetch) (number : ℕ) (new : Blocks) (block : BlockOption) (text : List ℕ) (body : KeptBody) : Type 0 where
+-- what a fetched block is cut from is stored then
+record Fetched (fetch : Fetch) (number : ℕ) (new : Blocks) (block : BlockOption) (text : List ℕ) (body : StoredBody) : Type 0 where
   text_is : text ≡ body.body
   holds : Holds fetch new body
   number_is : block.number ≡ number
@@ -80,26 +80,26 @@ bytes_self : (xs : List ℕ) → bytes_eq xs xs ≡ true
 bytes_self [] = refl
 bytes_self (x ∷ xs) = and_from _ _ (eq-eqb x x refl) (bytes_self xs)
 
-first_made : (fetch : Fetch) (asked : Asked) (m : CoapMessage) (old new : List KeptBody) (leaves : List ℕ) (block : BlockOption) → IsAnswered (first block) asked m old leaves new → leaves ≡ spelling (cut_to m block m.payload) → m.code ≡ 69
-    → asked.peer ≡ fetch.peer → asked.request ≡ fetch.request → kept_of fetch.peer fetch.request new ≡ Some (record { peer = asked.peer; request = asked.request; body = m.payload })
+first_made : (fetch : Fetch) (asked : Asked) (m : CoapMessage) (old new : List StoredBody) (leaves : List ℕ) (block : BlockOption) → IsAnswered (first block) asked m old leaves new → leaves ≡ spelling (cut_to m block m.payload) → m.code ≡ 69
+    → asked.peer ≡ fetch.peer → asked.request ≡ fetch.request → stored_of fetch.peer fetch.request new ≡ Some (record { peer = asked.peer; request = asked.request; body = m.payload })
 first_made fetch asked m old new leaves block (inl made) content code peer request =
-    let mine : KeptBody = record { peer = asked.peer; request = asked.request; body = m.payload } in
-    subst (λ n. kept_of n fetch.request new ≡ Some mine) peer (subst (λ bytes. kept_of asked.peer bytes new ≡ Some mine) request
-    (ap (kept_of asked.peer asked.request) made.1 ∙ kept_new asked.peer asked.request old mine (and_from _ _ (eq-eqb asked.peer asked.peer refl) (bytes_self asked.request))))
+    let mine : StoredBody = record { peer = asked.peer; request = asked.request; body = m.payload } in
+    subst (λ n. stored_of n fetch.request new ≡ Some mine) peer (subst (λ bytes. stored_of asked.peer bytes new ≡ Some mine) request
+    (ap (stored_of asked.peer asked.request) made.1 ∙ stored_new asked.peer asked.request old mine (and_from _ _ (eq-eqb asked.peer asked.peer refl) (bytes_self asked.request))))
 first_made fetch asked m old new leaves block (inr made) content code peer request =
     let other : m.code ≡ 160 = second (cut_to m block m.payload) (unavailable m) (sym content ∙ made.0) in
     absurd (omega (arith, code, other))
 
-first_fetched : (fetch : Fetch) (old new : Blocks) (inner outer : WireAct) (block : BlockOption) (text : List ℕ) → IsFetched fetch 0 old inner outer new block text → (body : KeptBody) × Fetched fetch 0 new block text body
+first_fetched : (fetch : Fetch) (old new : Blocks) (inner outer : WireAct) (block : BlockOption) (text : List ℕ) → IsFetched fetch 0 old inner outer new block text → (body : StoredBody) × Fetched fetch 0 new block text body
 first_fetched fetch old new (gave (owned.To to leaves) done) (gave (owned.To peer bytes) was) block text fetched =
     let reply = fetched.reply in
-    elim (answer_cases old.kept reply.asked reply.message block text fetched.cut) [
+    elim (answer_cases old.stored reply.asked reply.message block text fetched.cut) [
       | inl made ↦
-          let answered = subst (λ answer. IsAnswered answer reply.asked reply.message old.kept leaves new.kept) made.0 reply.answered in
+          let answered = subst (λ answer. IsAnswered answer reply.asked reply.message old.stored leaves new.stored) made.0 reply.answered in
           let content = subst (λ whole. leaves ≡ spelling (cut_to reply.message block whole)) made.2 fetched.content in
           let code = content_code reply.asked peer reply.message reply.reply in (
             record { peer = reply.asked.peer; request = reply.asked.request; body = reply.message.payload },
-            record { text_is = made.2; holds = first_made fetch reply.asked reply.message old.kept new.kept leaves block answered content code fetched.of_peer fetched.of_request; number_is = fetched.numbered; size_is = fetched.sized },
+            record { text_is = made.2; holds = first_made fetch reply.asked reply.message old.stored new.stored leaves block answered content code fetched.of_peer fetched.of_request; number_is = fetched.numbered; size_is = fetched.sized },
           )
       | inr made ↦ absurd (made.0 fetched.numbered)
     ]
@@ -110,16 +110,16 @@ first_fetched fetch old new (gave (owned.Conn c b) done) outer block text fetche
 first_fetched fetch old new (gave (owned.Close c) done) outer block text fetched = absurd fetched
 first_fetched fetch old new (took e t) outer block text fetched = absurd fetched
 
-later_fetched : (fetch : Fetch) (number : ℕ) (old new : Blocks) (inner outer : WireAct) (block : BlockOption) (text : List ℕ) (body : KeptBody) → IsFetched fetch number old inner outer new block text → 0 < number → Holds fetch old body
+later_fetched : (fetch : Fetch) (number : ℕ) (old new : Blocks) (inner outer : WireAct) (block : BlockOption) (text : List ℕ) (body : StoredBody) → IsFetched fetch number old inner outer new block text → 0 < number → Holds fetch old body
     → Fetched fetch number new block text body
 later_fetched fetch number old new (gave (owned.To to leaves) done) (gave (owned.To peer bytes) was) block text body fetched above holds =
     let reply = fetched.reply in
-    elim (answer_cases old.kept reply.asked reply.message block text fetched.cut) [
+    elim (answer_cases old.stored reply.asked reply.message block text fetched.cut) [
       | inl made ↦ absurd (omega (arith, made.1, fetched.numbered, above))
       | inr made ↦
-          let known : kept_of reply.asked.peer reply.asked.request old.kept ≡ Some body = ap (λ n. kept_of n reply.asked.request old.kept) fetched.of_peer ∙ ap (λ bytes. kept_of fetch.peer bytes old.kept) fetched.of_request ∙ holds in
-          let answered = subst (λ answer. IsAnswered answer reply.asked reply.message old.kept leaves new.kept) made.2 reply.answered in
-          record { text_is = made.1 ∙ ap (λ kept. body_or kept reply.message.payload) known; holds = same_kept fetch old new body answered.1 holds; number_is = fetched.numbered; size_is = fetched.sized }
+          let known : stored_of reply.asked.peer reply.asked.request old.stored ≡ Some body = ap (λ n. stored_of n reply.asked.request old.stored) fetched.of_peer ∙ ap (λ bytes. stored_of fetch.peer bytes old.stored) fetched.of_request ∙ holds in
+          let answered = subst (λ answer. IsAnswered answer reply.asked reply.message old.stored leaves new.stored) made.2 reply.answered in
+          record { text_is = made.1 ∙ ap (λ stored. body_or stored reply.message.payload) known; holds = same_stored fetch old new body answered.1 holds; number_is = fetched.numbered; size_is = fetched.sized }
     ]
 later_fetched fetch number old new (gave (owned.To to leaves) done) (gave (owned.Conn c b) was) block text body fetched above holds = absurd fetched
 later_fetched fetch number old new (gave (owned.To to leaves) done) (gave (owned.Close c) was) block text body fetched above holds = absurd fetched
@@ -144,19 +144,19 @@ join_step n s body part rest part_is rest_is =
     ap (λ front. front ++ rest) part_is ∙ ap (λ back. take s (drop (n * s) body) ++ back) (rest_is ∙ ap (λ k. drop k body) (next_start n s) ∙ sym (drop-drop s (n * s) body))
     ∙ take-append-drop s (drop (n * s) body)
 
-part_step : (fetch : Fetch) (number : ℕ) (new : Blocks) (block : BlockOption) (text : List ℕ) (body : KeptBody) → Fetched fetch number new block text body
+part_step : (fetch : Fetch) (number : ℕ) (new : Blocks) (block : BlockOption) (text : List ℕ) (body : StoredBody) → Fetched fetch number new block text body
     → part_of text block ≡ take (block_size fetch.exponent) (drop (number * block_size fetch.exponent) body.body)
 part_step fetch number new block text body f =
     ap (λ whole. part_of whole block) f.text_is ∙ ap (λ n. take (block_size block.exponent) (drop (n * block_size block.exponent) body.body)) f.number_is
     ∙ ap (λ e. take (block_size e) (drop (number * block_size e) body.body)) f.size_is
 
-more_step : (fetch : Fetch) (number : ℕ) (new : Blocks) (block : BlockOption) (text : List ℕ) (body : KeptBody) → Fetched fetch number new block text body
+more_step : (fetch : Fetch) (number : ℕ) (new : Blocks) (block : BlockOption) (text : List ℕ) (body : StoredBody) → Fetched fetch number new block text body
     → follows text block ≡ nat_lt ((number + 1) * block_size fetch.exponent) (length body.body)
 more_step fetch number new block text body f =
     ap (λ whole. follows whole block) f.text_is ∙ ap (λ n. nat_lt (n * block_size block.exponent + block_size block.exponent) (length body.body)) f.number_is
     ∙ ap (λ e. nat_lt (number * block_size e + block_size e) (length body.body)) f.size_is ∙ ap (λ k. nat_lt k (length body.body)) (sym (next_start number (block_size fetch.exponent)))
 
-rest_joins : (fetch : Fetch) (number : ℕ) (more : Bool) (old : Blocks) (inners outers : List Timed) (parts : List (List ℕ)) (body : KeptBody) → FetchesRest fetch number more old inners outers parts → 0 < number → Holds fetch old body
+rest_joins : (fetch : Fetch) (number : ℕ) (more : Bool) (old : Blocks) (inners outers : List Timed) (parts : List (List ℕ)) (body : StoredBody) → FetchesRest fetch number more old inners outers parts → 0 < number → Holds fetch old body
     → more ≡ nat_lt (number * block_size fetch.exponent) (length body.body) → concat parts ≡ drop (number * block_size fetch.exponent) body.body
 rest_joins fetch number more old [] [] parts body rest above holds more_is =
     ap concat rest.1 ∙ sym (drop_past (number * block_size fetch.exponent) body.body (ltb-false _ _ (sym more_is ∙ rest.0)))

@@ -44,13 +44,13 @@ seen_above (Some inner) log = if_told (same_length inner log) (retimed inner log
 
 -- ---- the relation
 
--- nothing is awaited and nothing is kept
+-- nothing is awaited and nothing is stored
 abbrev pub no_blocks : Blocks
-no_blocks = record { awaited = None; kept = [] }
+no_blocks = record { awaited = None; stored = [] }
 
 -- An event came, and was seen so. Any event ends the waiting for a reply, and a restart forgets all bodies.
 abbrev pub SeesEvent : Event → Event → Blocks → Blocks → Type 0
-SeesEvent (event.Datagram from bytes) (event.Datagram by seen) old new = (by ≡ from) × Sees from bytes seen new.awaited × (new.kept ≡ old.kept)
+SeesEvent (event.Datagram from bytes) (event.Datagram by seen) old new = (by ≡ from) × Sees from bytes seen new.awaited × (new.stored ≡ old.stored)
 SeesEvent (event.Datagram from bytes) _ old new = ⊥
 SeesEvent event.Restart seen old new = (seen ≡ event.Restart) × (new ≡ no_blocks)
 SeesEvent came seen old new = (seen ≡ came) × (new ≡ record old { awaited = None })

@@ -9,11 +9,11 @@ use Rattle.coap_block.specs.Around.{seen_above, GoesOnSeen}
 pub same_then : {A : Type 0} (old between new : A) → between ≡ old → new ≡ between → new ≡ old
 same_then old between new a b = b ∙ a
 
--- where the acts inside are kept, and none came above, those above are kept
-pub kept_above : (old new : Option (List Timed)) (log log_now : List Act) → log_now ≡ log → KeepsActs old new → KeepsActs (seen_above old log) (seen_above new log_now)
-kept_above old None log log_now same keeps = tt
-kept_above None (Some new) log log_now same keeps = absurd keeps
-kept_above (Some old) (Some new) log log_now same keeps =
+-- where the acts inside are stored, and none came above, those above are stored
+pub stored_above : (old new : Option (List Timed)) (log log_now : List Act) → log_now ≡ log → KeepsActs old new → KeepsActs (seen_above old log) (seen_above new log_now)
+stored_above old None log log_now same keeps = tt
+stored_above None (Some new) log log_now same keeps = absurd keeps
+stored_above (Some old) (Some new) log log_now same keeps =
     subst (λ acts. KeepsActs (seen_above (Some old) log) (seen_above (Some acts) log_now)) (sym keeps)
     (subst (λ calls. KeepsActs (seen_above (Some old) log) (seen_above (Some old) calls)) (sym same) (itself (seen_above (Some old) log)))
   where

@@ -4,7 +4,7 @@ use Rattle.coap_message.specs.Message.{CoapOption, CoapMessage, IsMessage, optio
 use Rattle.coap_block.specs.declared.block.BlockOption.{BlockOption}
 use Rattle.coap_block.specs.declared.asks.Asks.{Asks}
 use Rattle.coap_block.specs.declared.asks.Asks.TheVariants as asks
-use Rattle.coap_block.specs.declared.kept.KeptBody.{KeptBody}
+use Rattle.coap_block.specs.declared.stored.StoredBody.{StoredBody}
 use Rattle.coap_block.specs.declared.spelling.Which.TheVariants as which
 use Rattle.coap_block.specs.Option.{block_of, block_number, shortest, block_size, IsBlock}
 use Rattle.coap_block.specs.Spelling.{block_option, among, head_of}
@@ -17,10 +17,10 @@ pub record Asked : Type 0 where
   pub block : Option BlockOption
   pub request : List ℕ
 
--- the GET whose reply is awaited, and the bodies that are kept
+-- the GET whose reply is awaited, and the bodies that are stored
 pub record Blocks : Type 0 where
   pub awaited : Option Asked
-  pub kept : List KeptBody
+  pub stored : List StoredBody
 
 -- ---- requests
 
@@ -121,20 +121,20 @@ refusal message = record message { code = 128; options = []; payload = codes "bl
 abbrev pub unavailable : CoapMessage → CoapMessage
 unavailable message = record message { code = 160; options = []; payload = [] }
 
--- the body that is kept for the peer and the request
-abbrev pub kept_for : List KeptBody → Asked → Option KeptBody
-kept_for kept asked = find (λ body. body.peer == asked.peer && bytes_eq body.request asked.request) kept
+-- the body that is stored for the peer and the request
+abbrev pub stored_for : List StoredBody → Asked → Option StoredBody
+stored_for stored asked = find (λ body. body.peer == asked.peer && bytes_eq body.request asked.request) stored
 
-abbrev pub body_or : Option KeptBody → List ℕ → List ℕ
-body_or (Some kept) body = kept.body
+abbrev pub body_or : Option StoredBody → List ℕ → List ℕ
+body_or (Some stored) body = stored.body
 body_or None body = body
 
-abbrev pub without_peer : ℕ → List KeptBody → List KeptBody
-without_peer peer kept = filter (λ body. not (body.peer == peer)) kept
+abbrev pub without_peer : ℕ → List StoredBody → List StoredBody
+without_peer peer stored = filter (λ body. not (body.peer == peer)) stored
 
 -- with the body as the one of its peer
-abbrev pub keeping : List KeptBody → Asked → List ℕ → List KeptBody
-keeping kept asked body = without_peer asked.peer kept ++ record { peer = asked.peer; request = asked.request; body = body } ∷ []
+abbrev pub keeping : List StoredBody → Asked → List ℕ → List StoredBody
+keeping stored asked body = without_peer asked.peer stored ++ record { peer = asked.peer; request = asked.request; body = body } ∷ []
 
 -- what becomes of a reply
 pub data Answer : Type 0 where
@@ -142,7 +142,7 @@ pub data Answer : Type 0 where
   same : Answer
   -- the block that was asked for isn't there
   refused : Answer
-  -- its payload is kept, and it is cut to this block
+  -- its payload is stored, and it is cut to this block
   first : BlockOption → Answer
   -- it is cut to this block of a body
   later : BlockOption → List ℕ → Answer
@@ -167,13 +167,13 @@ wanted_answer None body = same
 wanted_answer (Some block) body = block_answer block body
 
 -- A reply with more than 1,024 bytes before its payload stays.
-abbrev pub answer_of : List KeptBody → Asked → CoapMessage → Answer
-answer_of kept asked message =
+abbrev pub answer_of : List StoredBody → Asked → CoapMessage → Answer
+answer_of stored asked message =
     if nat_lt 1024 (head_size message) then same
-    else wanted_answer (wanted_block asked.block message.payload) (body_or (kept_for kept asked) message.payload)
+    else wanted_answer (wanted_block asked.block message.payload) (body_or (stored_for stored asked) message.payload)
 
--- The reply leaves so, and these bodies are kept then. Where there is no memory to keep one, the peer has none.
-abbrev pub IsAnswered : Answer → Asked → CoapMessage → List KeptBody → List ℕ → List KeptBody → Type 0
+-- The reply leaves so, and these bodies are stored then. Where there is no memory to keep one, the peer has none.
+abbrev pub IsAnswered : Answer → Asked → CoapMessage → List StoredBody → List ℕ → List StoredBody → Type 0
 IsAnswered same asked message old out new = (out ≡ spelling message) × (new ≡ old)
 IsAnswered refused asked message old out new = (out ≡ spelling (refusal message)) × (new ≡ old)
 IsAnswered (later block body) asked message old out new = (out ≡ spelling (cut_to message block body)) × (new ≡ old)
@@ -189,7 +189,7 @@ pub record Replies (old : Blocks) (peer : ℕ) (bytes out : List ℕ) (new : Blo
   pub spells : bytes ≡ spelling message
   pub awaited : old.awaited ≡ Some asked
   pub reply : is_reply asked peer message ≡ true
-  pub answered : IsAnswered (answer_of old.kept asked message) asked message old.kept out new.kept
+  pub answered : IsAnswered (answer_of old.stored asked message) asked message old.stored out new.stored
   pub over : new.awaited ≡ None
 
 -- no reply that is awaited

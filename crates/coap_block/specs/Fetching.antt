@@ -19,14 +19,14 @@ abbrev pub IsCutFrom : Answer → CoapMessage → BlockOption → List ℕ → T
 IsCutFrom same message block body = ⊥
 IsCutFrom refused message block body = ⊥
 IsCutFrom (first made) message block body = (made ≡ block) × (body ≡ message.payload)
-IsCutFrom (later made kept) message block body = (made ≡ block) × (body ≡ kept)
+IsCutFrom (later made stored) message block body = (made ≡ block) × (body ≡ stored)
 
 -- The reply to the request was awaited, and left with 2.05 as the block of this number of a body.
 pub record AnswersBlock (fetch : Fetch) (number : ℕ) (old : Blocks) (peer : ℕ) (bytes leaves : List ℕ) (new : Blocks) (block : BlockOption) (body : List ℕ) : Type 0 where
   pub reply : Replies old peer bytes leaves new
   pub of_peer : reply.asked.peer ≡ fetch.peer
   pub of_request : reply.asked.request ≡ fetch.request
-  pub cut : IsCutFrom (answer_of old.kept reply.asked reply.message) reply.message block body
+  pub cut : IsCutFrom (answer_of old.stored reply.asked reply.message) reply.message block body
   pub content : leaves ≡ spelling (cut_to reply.message block body)
   pub numbered : block.number ≡ number
   pub sized : block.exponent ≡ fetch.exponent
@@ -37,7 +37,7 @@ IsNoFirst _ = ⊤
 
 -- no block 0 was made for the peer
 abbrev pub MakesNoFirst : Fetch → Blocks → ℕ → List ℕ → List ℕ → Blocks → Type 0
-MakesNoFirst fetch old peer bytes leaves new = (reply : Replies old peer bytes leaves new) → reply.asked.peer ≡ fetch.peer → IsNoFirst (answer_of old.kept reply.asked reply.message)
+MakesNoFirst fetch old peer bytes leaves new = (reply : Replies old peer bytes leaves new) → reply.asked.peer ≡ fetch.peer → IsNoFirst (answer_of old.stored reply.asked reply.message)
 
 -- an act between two blocks: no restart, and no block 0 for the peer
 abbrev pub IsBetween : Fetch → Blocks → WireAct → WireAct → Blocks → Type 0

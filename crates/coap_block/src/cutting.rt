@@ -6,9 +6,9 @@ ghost use Rattle.coap_message.specs.Message.{payload_bytes};
 ghost use Rattle.coap_block.specs.Blocks.{Sees, Sends};
 
 use crate::awaiting::{Awaiting, see_message};
-use crate::kept::KeptBody;
-use crate::replying::{MAX_KEPT, answer_reply};
+use crate::replying::{MAX_STORED, answer_reply};
 use crate::room::Room;
+use crate::stored::StoredBody;
 use coap_message::decode;
 use dots_lists::NoMemory;
 use std::alloc::Global;
@@ -17,13 +17,13 @@ use std::marker::Model;
 /// The most bytes of a datagram that comes, and of one that is written here.
 pub const MOST: usize = 4096;
 
-/// The GET whose reply is awaited, and the bodies that are kept: at most one for each peer.
+/// The GET whose reply is awaited, and the bodies that are stored: at most one for each peer.
 #[derive(Drop)]
 pub struct Cutting {
     room: Room,
     request: Room,
     awaited: Option<Awaiting>,
-    kept: Vec<KeptBody>,
+    stored: Vec<StoredBody>,
 }
 
 impl Model for Cutting {
@@ -36,19 +36,19 @@ impl Model for Cutting {
     ghost view = { λ cutting. record {
       blocks = record {
         awaited = option_map (asked_with cutting.request.held) cutting.awaited;
-        kept = cutting.kept.items;
+        stored = cutting.stored.items;
       };
       written = cutting.room.held;
     } };
 
-    ghost invariant = { λ cutting. (cutting.room.most ≡ 4096) × (cutting.request.most ≡ 4096) × AsksBlock cutting.awaited × (length cutting.kept.items ≤ 64) };
+    ghost invariant = { λ cutting. (cutting.room.most ≡ 4096) × (cutting.request.most ≡ 4096) × AsksBlock cutting.awaited × (length cutting.stored.items ≤ 64) };
 }
 
 impl Cutting {
-    /// Nothing is awaited and nothing is kept. Takes the memory for what is written.
+    /// Nothing is awaited and nothing is stored. Takes the memory for what is written.
     pub fn new(alloc: Global) -> Result<Cutting, NoMemory>
         ensures { IfOk result (λ cutting.
-            cutting ≡ record { blocks = record { awaited = None; kept = [] }; written = [] }) }
+            cutting ≡ record { blocks = record { awaited = None; stored = [] }; written = [] }) }
     {
         let room = Room::new(alloc, MOST)?;
         let request = Room::new(alloc, MOST)?;
@@ -56,7 +56,7 @@ impl Cutting {
             room,
             request,
             awaited: None,
-            kept: Vec::new(alloc),
+            stored: Vec::new(alloc),
         })
     }
 
@@ -72,7 +72,7 @@ impl Cutting {
         requires { length datagram.now ≤ MOST }
         ensures sees { Sees peer datagram.now (if result then self.new.written else datagram.now) self.new.blocks.awaited }
         ensures shorter { OnTrue result (length self.new.written ≤ length datagram.now) }
-        ensures kept { self.new.blocks.kept ≡ self.old.blocks.kept }
+        ensures stored { self.new.blocks.stored ≡ self.old.blocks.stored }
     {
         self.awaited = None;
         let Ok(message) = decode(datagram) else {
@@ -90,19 +90,19 @@ impl Cutting {
         self.awaited = None;
     }
 
-    /// A restart: nothing is awaited, and nothing is kept.
+    /// A restart: nothing is awaited, and nothing is stored.
     pub fn forget(&mut self)
-        ensures { self.new ≡ record self.old { blocks = record { awaited = None; kept = [] } } }
+        ensures { self.new ≡ record self.old { blocks = record { awaited = None; stored = [] } } }
     {
         self.awaited = None;
-        self.kept.clear();
+        self.stored.clear();
     }
 
     /// A datagram is sent to the peer: whether what leaves was written, or it leaves as it is.
     pub fn reply(&mut self, peer: u32, bytes: &[u8]) -> bool
         ensures sends { Sends self.old.blocks peer bytes.now
             (if result then self.new.written else bytes.now) self.new.blocks }
-        ensures few { length self.new.blocks.kept ≤ MAX_KEPT }
+        ensures few { length self.new.blocks.stored ≤ MAX_STORED }
     {
         let Some(awaited) = self.awaited else {
             return false;
@@ -117,7 +117,7 @@ impl Cutting {
         let before = bytes.len() - payload_len(message.payload());
         answer_reply(
             &mut self.room,
-            &mut self.kept,
+            &mut self.stored,
             self.request.bytes(),
             &awaited,
             &message,

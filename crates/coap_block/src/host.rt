@@ -1,6 +1,6 @@
 ghost use Rattle.std.specs.Prelude.{◌≡◌, List, [], Some, None, IfOk, IfErr, refl};
 ghost use Rattle.coap_block.specs.Around.{seen_above, no_blocks, GoesOnSeen};
-ghost use Rattle.coap_block.specs.AroundLaws.{same_then, kept_above, seen_still};
+ghost use Rattle.coap_block.specs.AroundLaws.{same_then, stored_above, seen_still};
 
 use crate::cutting::Cutting;
 use crate::seeing::{reply, see, send_written};
@@ -28,7 +28,7 @@ impl<H> Model for BlockHost<H> {
 }
 
 impl<H: Host> BlockHost<H> {
-    /// A host around this one. Nothing is awaited and nothing is kept. Hands the host back where there is no memory.
+    /// A host around this one. Nothing is awaited and nothing is stored. Hands the host back where there is no memory.
     pub fn new(alloc: Global, inner: H) -> Result<BlockHost<H>, H>
         ensures ok { IfOk result (λ host. host ≡ record { inner = inner; log = []; blocks = no_blocks }) }
         ensures err { IfErr result (λ host. host ≡ inner) }
@@ -135,7 +135,7 @@ impl<H: Host> Host for BlockHost<H> {
     ghost one_moment = { λ host. H.one_moment host.inner };
 
     ghost disk_keeps = { λ old new keeps. (
-      kept_above (H.acts old.inner) (H.acts new.inner) old.log new.log keeps.1 (H.disk_keeps old.inner new.inner keeps.0).0,
+      stored_above (H.acts old.inner) (H.acts new.inner) old.log new.log keeps.1 (H.disk_keeps old.inner new.inner keeps.0).0,
       (H.disk_keeps old.inner new.inner keeps.0).1,
       (
         (H.disk_keeps old.inner new.inner keeps.0).2,

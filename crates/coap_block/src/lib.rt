@@ -1,8 +1,8 @@
 //! Long answers in blocks (RFC 7959, Block2), as values and for any server over a host.
 //!
 //! A [`BlockOption`] is the value of a Block2 option, and [`Cutting`] what is known between datagrams: the GET whose reply
-//! is awaited, and the bodies that are kept. [`Cutting::ask`] takes the option off a request and [`Cutting::answer`] cuts
-//! the reply. Memory is taken where a [`Cutting`] is made and where a body is kept.
+//! is awaited, and the bodies that are stored. [`Cutting::ask`] takes the option off a request and [`Cutting::answer`] cuts
+//! the reply. Memory is taken where a [`Cutting`] is made and where a body is stored.
 //!
 //! A [`BlockHost`] is a host around a host. Those above it are handed requests without Block2 and send whole replies; what
 //! leaves is cut. `specs/Around.antt` says how the acts of the two hosts stand to each other, and [`host_laws`] what follows.
@@ -17,18 +17,18 @@ mod cut;
 mod cutting;
 mod host;
 pub mod host_laws;
-mod kept;
 pub mod laws;
 mod replying;
 mod room;
 mod seeing;
 mod spelling;
+mod stored;
 
 pub use asks::Asks;
 pub use block::{BlockOption, Uint};
 pub use cutting::{Cutting, MOST};
 pub use host::BlockHost;
-pub use kept::KeptBody;
-pub use replying::MAX_KEPT;
+pub use replying::MAX_STORED;
 pub use room::Room;
 pub use spelling::Which;
+pub use stored::StoredBody;

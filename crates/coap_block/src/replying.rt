@@ -3,17 +3,17 @@
 ghost use Rattle.std.specs.Prelude.{◌≡◌, ◌≤◌, ◌<◌, ◌==◌, ◌&&◌, ◌++◌, [], ◌∷◌, bytes_eq, List, length, find, OnOk, OnErr, if◌then◌else◌};
 ghost use Rattle.std.specs.Option.{ForSome, option_copied};
 ghost use Rattle.coap_message.specs.Message.{spelling};
-ghost use Rattle.coap_block.specs.Blocks.{IsAnswered, Asked, answer_of, wanted_block, block_answer, later_of, head_size, kept_for, body_or, without_peer};
+ghost use Rattle.coap_block.specs.Blocks.{IsAnswered, Asked, answer_of, wanted_block, block_answer, later_of, head_size, stored_for, body_or, without_peer};
 ghost use Rattle.coap_block.specs.Blocks.{first};
-ghost use Rattle.coap_block.specs.declared.kept.KeptBody.{KeptBody};
+ghost use Rattle.coap_block.specs.declared.stored.StoredBody.{StoredBody};
 ghost use Rattle.coap_block.specs.Knowing.{asked_with};
 ghost use Rattle.coap_block.specs.Option.{IsBlock};
 
 use crate::awaiting::Awaiting;
 use crate::block::BlockOption;
 use crate::cut::{begins_within, write_cut, write_plain};
-use crate::kept::KeptBody;
 use crate::room::Room;
+use crate::stored::StoredBody;
 use coap_message::Message;
 use coap_message::codes::{BAD_REQUEST, INTERNAL_SERVER_ERROR};
 use dots_lists::{Bytes, NoMemory};
@@ -24,8 +24,8 @@ const LARGEST: u8 = 6;
 /// The most bytes of a payload that isn't cut unasked, and of what stands before a payload that is cut.
 const MOST_WHOLE: usize = 1024;
 
-/// The most peers of which a body is kept.
-pub const MAX_KEPT: usize = 64;
+/// The most peers of which a body is stored.
+pub const MAX_STORED: usize = 64;
 
 /// The block that a reply is cut to, or None where it stays whole.
 fn wanted_block(asked: Option<BlockOption>, payload: &[u8]) -> Option<BlockOption>
@@ -46,37 +46,42 @@ fn wanted_block(asked: Option<BlockOption>, payload: &[u8]) -> Option<BlockOptio
     })
 }
 
-/// The body that is kept for this peer and this request.
-fn kept_for<'a>(kept: &'a [KeptBody], peer: u32, request: &[u8]) -> Option<&'a KeptBody>
-    ensures { option_copied result ≡ find (λ body. body.peer == peer && bytes_eq body.request request.now) kept.now }
+/// The body that is stored for this peer and this request.
+fn stored_for<'a>(stored: &'a [StoredBody], peer: u32, request: &[u8]) -> Option<&'a StoredBody>
+    ensures { option_copied result ≡ find (λ body. body.peer == peer && bytes_eq body.request request.now) stored.now }
 {
-    kept.iter().find(|body| body.peer == peer && body.request.items() == request)
+    stored.iter().find(|body| body.peer == peer && body.request.items() == request)
 }
 
 /// Takes out the body of a peer.
-fn leave_others(kept: &mut Vec<KeptBody>, peer: u32)
-    ensures items { kept.new.items ≡ without_peer peer kept.old.items }
-    ensures fewer { length kept.new.items ≤ length kept.old.items }
+fn leave_others(stored: &mut Vec<StoredBody>, peer: u32)
+    ensures items { stored.new.items ≡ without_peer peer stored.old.items }
+    ensures fewer { length stored.new.items ≤ length stored.old.items }
 {
-    kept.retain(|body| body.peer != peer);
+    stored.retain(|body| body.peer != peer);
 }
 
 /// Keeps a body as the one of its peer. For want of memory the peer has none.
-fn keep(kept: &mut Vec<KeptBody>, peer: u32, request: &[u8], body: &[u8]) -> Result<(), NoMemory>
-    requires few { length kept.old.items ≤ MAX_KEPT }
-    ensures ok { OnOk result (kept.new.items
-        ≡ without_peer peer kept.old.items ++ record { peer = peer; request = request.now; body = body.now } ∷ []) }
-    ensures err { OnErr result (kept.new.items ≡ without_peer peer kept.old.items) }
-    ensures few { length kept.new.items ≤ MAX_KEPT }
+fn keep(
+    stored: &mut Vec<StoredBody>,
+    peer: u32,
+    request: &[u8],
+    body: &[u8],
+) -> Result<(), NoMemory>
+    requires few { length stored.old.items ≤ MAX_STORED }
+    ensures ok { OnOk result (stored.new.items
+        ≡ without_peer peer stored.old.items ++ record { peer = peer; request = request.now; body = body.now } ∷ []) }
+    ensures err { OnErr result (stored.new.items ≡ without_peer peer stored.old.items) }
+    ensures few { length stored.new.items ≤ MAX_STORED }
 {
-    leave_others(kept, peer);
-    if kept.len() >= MAX_KEPT {
+    leave_others(stored, peer);
+    if stored.len() >= MAX_STORED {
         return Err(NoMemory);
     }
-    let alloc = *kept.allocator();
+    let alloc = *stored.allocator();
     let request = Bytes::from_slice(alloc, request)?;
     let body = Bytes::from_slice(alloc, body)?;
-    kept.push(KeptBody {
+    stored.push(StoredBody {
         peer,
         request,
         body,
@@ -87,7 +92,7 @@ fn keep(kept: &mut Vec<KeptBody>, peer: u32, request: &[u8], body: &[u8]) -> Res
 /// Keeps the payload of a reply and cuts it to its first block, or writes that there is no memory.
 fn answer_first(
     room: &mut Room,
-    kept: &mut Vec<KeptBody>,
+    stored: &mut Vec<StoredBody>,
     request: &[u8],
     awaited: &Awaiting,
     message: &Message<'_>,
@@ -96,14 +101,14 @@ fn answer_first(
     requires is { IsBlock block.now }
     requires size { block.now.exponent < 7 }
     requires head { head_size message.now ≤ MOST_WHOLE }
-    requires few { length kept.old.items ≤ MAX_KEPT }
+    requires few { length stored.old.items ≤ MAX_STORED }
     requires room { room.old.most ≡ 4096 }
     ensures answered { IsAnswered (first block.now) (asked_with request.now awaited.now) message.now
-        kept.old.items room.new.held kept.new.items }
-    ensures few { length kept.new.items ≤ MAX_KEPT }
+        stored.old.items room.new.held stored.new.items }
+    ensures few { length stored.new.items ≤ MAX_STORED }
     ensures most { room.new.most ≡ room.old.most }
 {
-    match keep(kept, awaited.peer, request, message.payload()) {
+    match keep(stored, awaited.peer, request, message.payload()) {
         Ok(()) => write_cut(room, message, block, message.payload()),
         Err(NoMemory) => write_plain(room, message, INTERNAL_SERVER_ERROR, &[]),
     }
@@ -115,8 +120,8 @@ fn answer_later(room: &mut Room, message: &Message<'_>, block: &BlockOption, bod
     requires size { block.now.exponent < 7 }
     requires head { head_size message.now ≤ MOST_WHOLE }
     requires room { room.old.most ≡ 4096 }
-    ensures answered { (asked : Asked) (kept : List KeptBody)
-        → IsAnswered (later_of block.now body.now) asked message.now kept room.new.held kept }
+    ensures answered { (asked : Asked) (stored : List StoredBody)
+        → IsAnswered (later_of block.now body.now) asked message.now stored room.new.held stored }
     ensures most { room.new.most ≡ room.old.most }
 {
     if begins_within(body, block) {
@@ -129,7 +134,7 @@ fn answer_later(room: &mut Room, message: &Message<'_>, block: &BlockOption, bod
 /// Answers with a block.
 fn answer_block(
     room: &mut Room,
-    kept: &mut Vec<KeptBody>,
+    stored: &mut Vec<StoredBody>,
     request: &[u8],
     awaited: &Awaiting,
     message: &Message<'_>,
@@ -137,12 +142,12 @@ fn answer_block(
 )
     requires is { IsBlock block.now }
     requires head { head_size message.now ≤ MOST_WHOLE }
-    requires few { length kept.old.items ≤ MAX_KEPT }
+    requires few { length stored.old.items ≤ MAX_STORED }
     requires room { room.old.most ≡ 4096 }
     ensures answered { let asked = asked_with request.now awaited.now in
-        let body = body_or (kept_for kept.old.items asked) message.now.payload in
-        IsAnswered (block_answer block.now body) asked message.now kept.old.items room.new.held kept.new.items }
-    ensures few { length kept.new.items ≤ MAX_KEPT }
+        let body = body_or (stored_for stored.old.items asked) message.now.payload in
+        IsAnswered (block_answer block.now body) asked message.now stored.old.items room.new.held stored.new.items }
+    ensures few { length stored.new.items ≤ MAX_STORED }
     ensures most { room.new.most ≡ room.old.most }
 {
     if block.exponent > LARGEST {
@@ -150,11 +155,11 @@ fn answer_block(
         return;
     }
     if block.number == 0 {
-        answer_first(room, kept, request, awaited, message, block);
+        answer_first(room, stored, request, awaited, message, block);
         return;
     }
-    let body = match kept_for(kept.as_slice(), awaited.peer, request) {
-        Some(kept) => kept.body.items(),
+    let body = match stored_for(stored.as_slice(), awaited.peer, request) {
+        Some(stored) => stored.body.items(),
         None => message.payload(),
     };
     answer_later(room, message, block, body);
@@ -164,7 +169,7 @@ fn answer_block(
 /// before its payload.
 pub fn answer_reply(
     room: &mut Room,
-    kept: &mut Vec<KeptBody>,
+    stored: &mut Vec<StoredBody>,
     request: &[u8],
     awaited: &Awaiting,
     message: &Message<'_>,
@@ -172,12 +177,12 @@ pub fn answer_reply(
 ) -> bool
     requires block { ForSome awaited.now.block IsBlock }
     requires before { before ≡ head_size message.now }
-    requires few { length kept.old.items ≤ MAX_KEPT }
+    requires few { length stored.old.items ≤ MAX_STORED }
     requires room { room.old.most ≡ 4096 }
     ensures answered { let asked = asked_with request.now awaited.now in
-        IsAnswered (answer_of kept.old.items asked message.now) asked message.now kept.old.items
-        (if result then room.new.held else spelling message.now) kept.new.items }
-    ensures few { length kept.new.items ≤ MAX_KEPT }
+        IsAnswered (answer_of stored.old.items asked message.now) asked message.now stored.old.items
+        (if result then room.new.held else spelling message.now) stored.new.items }
+    ensures few { length stored.new.items ≤ MAX_STORED }
     ensures most { room.new.most ≡ room.old.most }
 {
     if before > MOST_WHOLE {
@@ -185,7 +190,7 @@ pub fn answer_reply(
     }
     match wanted_block(awaited.block, message.payload()) {
         Some(block) => {
-            answer_block(room, kept, request, awaited, message, &block);
+            answer_block(room, stored, request, awaited, message, &block);
             true
         }
         None => false,

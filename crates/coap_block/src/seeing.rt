@@ -15,7 +15,7 @@ fn see_datagram(cutting: &mut Cutting, from: u32, len: usize, room: &mut [u8]) -
     requires room { length room.old ≡ MAX_EVENT_BYTES }
     requires within { len ≤ MAX_EVENT_BYTES }
     ensures sees { Sees from (take len room.old) (take result room.new) cutting.new.blocks.awaited }
-    ensures kept { cutting.new.blocks.kept ≡ cutting.old.blocks.kept }
+    ensures stored { cutting.new.blocks.stored ≡ cutting.old.blocks.stored }
     ensures within { result ≤ len }
 {
     if !cutting.see(from, &room[..len]) {

@@ -18,22 +18,23 @@ pub struct Begun {
     /// The wall clock, since 1970.
     pub wall: Duration,
     /// The monotonic clock, which never falls and isn't set.
-    pub moment: Duration,
+    pub reading: Duration,
 }
 
 impl Begun {
-    /// The time at a moment of the monotonic clock: what the wall clock read first, and what has passed since.
-    fn time_at(self, moment: Duration) -> Duration
-        ensures { as_nanos result ≡ nanos_at self moment }
+    /// The time at a reading of the monotonic clock: what the wall clock read first, and what has passed since.
+    fn time_at(self, reading: Duration) -> Duration
+        ensures { as_nanos result ≡ nanos_at self reading }
     {
-        self.wall.saturating_add(moment.saturating_sub(self.moment))
+        self.wall
+            .saturating_add(reading.saturating_sub(self.reading))
     }
 
     /// Whether the wall clock differs from the time by more than 30 seconds.
-    fn strays(self, moment: Duration, wall: Duration) -> bool
-        ensures { result ≡ strays self moment wall }
+    fn strays(self, reading: Duration, wall: Duration) -> bool
+        ensures { result ≡ strays self reading wall }
     {
-        self.time_at(moment).abs_diff(wall).as_nanos() > MAX_STRAY
+        self.time_at(reading).abs_diff(wall).as_nanos() > MAX_STRAY
     }
 }
 
@@ -67,17 +68,17 @@ impl Seconds {
         ensures steady { IsSteady self.old.begun self.new.begun self.old.last result }
         ensures strayed { self.new.strayed ≡ self.old.strayed }
     {
-        let Ok(moment) = rt.monotonic() else {
+        let Ok(reading) = rt.monotonic() else {
             return self.last;
         };
         match self.begun {
-            Some(begun) => self.go_on(begun, moment),
-            None => self.begin(rt, moment),
+            Some(begun) => self.go_on(begun, reading),
+            None => self.begin(rt, reading),
         }
     }
 
     /// Reads the wall clock, once. The time goes on from there.
-    fn begin<R: Clock>(&mut self, rt: &R, moment: Duration) -> u64
+    fn begin<R: Clock>(&mut self, rt: &R, reading: Duration) -> u64
         ensures range { result < 2 ^ 48 }
         ensures told { result ≡ self.new.last }
         ensures later { self.old.last ≤ self.new.last }
@@ -86,19 +87,19 @@ impl Seconds {
         let Ok(wall) = rt.since_1970() else {
             return self.last;
         };
-        let begun = Begun { wall, moment };
+        let begun = Begun { wall, reading };
         self.begun = Some(begun);
-        self.go_on(begun, moment)
+        self.go_on(begun, reading)
     }
 
-    /// The time at this moment, which is never below the last one.
-    fn go_on(&mut self, begun: Begun, moment: Duration) -> u64
+    /// The time at this reading, which is never below the last one.
+    fn go_on(&mut self, begun: Begun, reading: Duration) -> u64
         ensures range { result < 2 ^ 48 }
         ensures told { result ≡ self.new.last }
-        ensures time { result ≡ max self.old.last (second_at begun moment) }
+        ensures time { result ≡ max self.old.last (second_at begun reading) }
         ensures kept { (self.new.begun ≡ self.old.begun) × (self.new.strayed ≡ self.old.strayed) }
     {
-        let second = begun.time_at(moment).as_secs().min(LAST_SECOND);
+        let second = begun.time_at(reading).as_secs().min(LAST_SECOND);
         self.last = self.last.max(second);
         self.last
     }
@@ -111,10 +112,10 @@ impl Seconds {
         let Some(begun) = self.begun else {
             return;
         };
-        let (Ok(moment), Ok(wall)) = (rt.monotonic(), rt.since_1970()) else {
+        let (Ok(reading), Ok(wall)) = (rt.monotonic(), rt.since_1970()) else {
             return;
         };
-        if begun.strays(moment, wall) {
+        if begun.strays(reading, wall) {
             self.strayed = self.strayed.saturating_add(1);
         }
     }

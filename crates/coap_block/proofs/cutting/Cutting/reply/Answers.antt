@@ -16,5 +16,5 @@ pub returns-clause-sends : goal.returns-clause-sends
 returns-clause-sends c =
     let request = c.bytes.result.now in
     let awaits = ap (λ known. known.blocks.awaited) (sym c.self.view_is) ∙ ap (option_map (asked_with c.self.inside.request.held)) c.in-Some.is ∙ ap (λ held. Some (asked_with held c.in-Some.awaited)) (sym c.bytes.ensures) in
-    reply_sends _ _ _ c.answer_reply.new.room.held c.answer_reply.result c.in-Ok.message (asked_with request c.in-Some.awaited) c.self.inside.kept.items _ c.in-Ok.ensures.found.0 c.in-Ok.ensures.found.1 awaits
-    (sym (c.is_reply.ensures request) ∙ c.if-not-is_reply.false) (ap (λ known. known.blocks.kept) (sym c.self.view_is)) c.answer_reply.ensures.answered
+    reply_sends _ _ _ c.answer_reply.new.room.held c.answer_reply.result c.in-Ok.message (asked_with request c.in-Some.awaited) c.self.inside.stored.items _ c.in-Ok.ensures.found.0 c.in-Ok.ensures.found.1 awaits
+    (sym (c.is_reply.ensures request) ∙ c.if-not-is_reply.false) (ap (λ known. known.blocks.stored) (sym c.self.view_is)) c.answer_reply.ensures.answered

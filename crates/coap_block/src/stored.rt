@@ -1,8 +1,8 @@
 use dots_lists::Bytes;
 
-/// A body that is kept for a peer.
+/// A body that is stored for a peer.
 #[derive(Drop)]
-pub struct KeptBody {
+pub struct StoredBody {
     pub peer: u32,
     /// The path and the query, spelled as options.
     pub request: Bytes,
