@@ -1,7 +1,7 @@
 //! Long answers in blocks (RFC 7959, Block2), as values and for any server over a host.
 //!
 //! A [`BlockOption`] is the value of a Block2 option, and [`Cutting`] what is known between datagrams: the GET whose reply
-//! is awaited, and the bodies that are stored. [`Cutting::ask`] takes the option off a request and [`Cutting::answer`] cuts
+//! is awaited, and the bodies that are stored. [`Cutting::see`] takes the option off a request and [`Cutting::reply`] cuts
 //! the reply. Memory is taken where a [`Cutting`] is made and where a body is stored.
 //!
 //! A [`BlockHost`] is a host around a host. Those above it are handed requests without Block2 and send whole replies; what
