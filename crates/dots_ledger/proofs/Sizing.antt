@@ -14,7 +14,8 @@ use Rattle.dots_laws.specs.Calm.{numbers_from}
 use Rattle.coap_exchange.specs.Pairs.{below, pairs_with_each, pair_with, pairs_of_role, pairs_of_row, pairs_of}
 use Rattle.dots_registry.specs.RegistryValues.{RegistryValue, IsOf}
 use Rattle.dots_registry.specs.Filed.{most_kept}
-use Rattle.slot_journal.specs.Sizes.{is_client_role, clients_of, gateways_of, kept_of_domain, actors_of, kept_at_most, slots_of}
+use Rattle.dots_settings.specs.Sizes.{most_of_domain}
+use Rattle.slot_journal.specs.Sizes.{is_client_role, clients_of, gateways_of, actors_of, kept_at_most, slots_of}
 use Rattle.dots_ledger.proofs.LedgerValues.{pair_actor, most_by, most_is}
 
 -- ---- lengths
@@ -100,7 +101,7 @@ most_at settings is =
     sums
     (length (numbers_from 0 (length settings.domains)))
     (length settings.domains)
-    (kept_of_domain settings.limits)
+    (most_of_domain settings.limits)
     (length (map pair_actor (pairs_of settings)))
     (actors_of (length settings.domains) settings.peers)
     settings.limits.remembered

@@ -8,7 +8,8 @@ use Rattle.dots_settings.specs.declared.peer.PeerRow.{PeerRow}
 use Rattle.dots_settings.specs.Settings.{SettingsValue, AreLimits, IsSettings}
 use Rattle.dots_settings.proofs.Sound.{given_settings}
 use Rattle.slot_store.specs.Layout.{needed_of}
-use Rattle.slot_journal.specs.Sizes.{is_client_role, kept_of_domain, actors_of, slots_of}
+use Rattle.dots_settings.specs.Sizes.{most_of_domain}
+use Rattle.slot_journal.specs.Sizes.{is_client_role, actors_of, slots_of}
 use Rattle.slot_journal.specs.DiskEntries.{Holds}
 use Rattle.dots_machine.specs.Endings.{GivesSettings, IsReady}
 
@@ -16,7 +17,7 @@ use Rattle.dots_machine.specs.Endings.{GivesSettings, IsReady}
 pub zeros_hold_nothing : (settings : SettingsValue) → Holds settings (byte_of []) []
 zeros_hold_nothing settings = record { records = inl (record { gate = λ is. cc is; gates = λ half slot low under. refl; none = refl }); each = tt }
 
-of_domain : (limits : Limits) → AreLimits limits → kept_of_domain limits ≤ 328
+of_domain : (limits : Limits) → AreLimits limits → most_of_domain limits ≤ 328
 of_domain limits are =
     let mitigations = are.domain_mitigations.1 in
     let clients = are.clients.1 in
@@ -29,7 +30,7 @@ of_domain limits are =
 pub needs_little : (settings : SettingsValue) → IsSettings settings → needed_of (slots_of settings) ≤ 2 ^ 30
 needs_little settings is =
     let domain = of_domain settings.limits is.limits in
-    let domains = mul-le-mul_right (kept_of_domain settings.limits) is.few in
+    let domains = mul-le-mul_right (most_of_domain settings.limits) is.few in
     let few = is.few in
     let gateways = is.few_gateways in
     let clients = count_by-le-length (λ (row : PeerRow). is_client_role row.role) settings.peers in

@@ -12,3 +12,4 @@ pub mod Files
 pub mod OneForm
 pub mod OneFile
 pub mod Lookups
+pub mod Sizing

@@ -5,6 +5,7 @@ pub mod Row
 pub mod Draft
 pub mod Faults
 pub mod Settings
+pub mod Sizes
 pub mod Lookups
 pub mod File
 pub mod Admitting

@@ -3,12 +3,13 @@ ghost use Rattle.std.specs.List.{AllByRecursion};
 ghost use Rattle.std.specs.Option.{option_map, option_copied};
 ghost use Rattle.dots_settings.specs.Draft.{same_name};
 ghost use Rattle.dots_settings.specs.Settings.{AreApart, AreLimits, IsKnown, IsSettings};
+ghost use Rattle.dots_settings.specs.Sizes.{most_of_domain};
 ghost use Rattle.dots_settings.specs.Lookups.{role_of, prefixes_of, addresses_of};
 ghost use Rattle.dots_settings.specs.declared.peer.Role.TheVariants as role;
 
 use crate::domains::DomainRow;
 use crate::judging::is_same_name;
-use crate::limits::Limits;
+use crate::limits::{Limits, of_clients};
 use crate::names::NameRow;
 use crate::peer::{PeerRow, Role};
 use acl_lists::Packet;
@@ -171,6 +172,18 @@ impl Settings {
         ensures valid { IsSettings self.now }
     {
         self.limits
+    }
+
+    /// How many entries are kept of one domain at most: the request and the withdrawal of each live mitigation, and of
+    /// each client its registration, its aliases and its access lists.
+    pub fn most_of_domain(&self) -> u32
+        ensures kept { result ≡ most_of_domain self.now.limits }
+        ensures most { result ≤ 328 }
+        ensures valid { IsSettings self.now }
+    {
+        let limits = self.limits();
+        let held = of_clients(limits.clients, limits.aliases + limits.acls);
+        2 * limits.domain_mitigations + limits.clients + held
     }
 
     /// The sample packets whose fates the server tells, in the file's order: at most 256.

@@ -2,12 +2,10 @@
 use Rattle.std.proofs.Common.{◌≡◌, ℕ, ◌+◌, ◌*◌, ◌≤◌, zero, suc, List, [], ◌∷◌, length, refl, sym, ap, ◌∙◌, arith}
 use Rattle.std.proofs.Math.Nat.{mul-le-mul_right}
 use Rattle.dots_settings.specs.Settings.{SettingsValue}
+use Rattle.dots_settings.specs.Sizes.{most_of_domain}
 use Rattle.dots_laws.specs.Capacities.{Capacities, most_named}
 use Rattle.dots_laws.specs.Calm.{numbers_from}
-use Rattle.held_resources.specs.Sizes.{most_of_domain, most_held}
-
-pub of_clients_most : (one other : ℕ) → one ≤ 8 → other ≤ 24 → one * other ≤ 192
-of_clients_most one other low less = omega (arith, mul-le-mul_right other low, less)
+use Rattle.held_resources.specs.Sizes.{most_held}
 
 pub of_domains_most : (one other : ℕ) → one ≤ 16 → other ≤ 400 → one * other ≤ 6400
 of_domains_most one other low less = omega (arith, mul-le-mul_right other low, less)

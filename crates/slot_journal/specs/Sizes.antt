@@ -1,10 +1,10 @@
 -- How large a journal is, by the settings: what a compaction keeps at most decides it.
 use Rattle.std.specs.Prelude.{ℕ, ◌+◌, ◌*◌, Bool, true, false, List, length, count_by}
-use Rattle.dots_settings.specs.declared.limits.Limits.{Limits}
 use Rattle.dots_settings.specs.declared.peer.PeerRow.{PeerRow}
 use Rattle.dots_settings.specs.declared.peer.Role.{Role}
 use Rattle.dots_settings.specs.declared.peer.Role.TheVariants as role
 use Rattle.dots_settings.specs.Settings.{SettingsValue, is_gateway_role}
+use Rattle.dots_settings.specs.Sizes.{most_of_domain}
 
 abbrev pub is_client_role : Role → Bool
 is_client_role (role.Client number) = true
@@ -16,10 +16,6 @@ gateways_of peers = count_by (λ row. is_gateway_role row.role) peers
 abbrev pub clients_of : List PeerRow → ℕ
 clients_of peers = count_by (λ row. is_client_role row.role) peers
 
--- Of one domain: the request and the withdrawal of each live mitigation, and of each client its registration, its aliases and its access lists.
-abbrev pub kept_of_domain : Limits → ℕ
-kept_of_domain limits = 2 * limits.domain_mitigations + limits.clients + limits.clients * (limits.aliases + limits.acls)
-
 -- How many pairs of a peer and a domain there are for which it may act: a client acts for its own domain, a gateway for each, and for itself.
 abbrev pub actors_of : ℕ → List PeerRow → ℕ
 actors_of domains peers = clients_of peers + gateways_of peers * (domains + 1)
@@ -27,7 +23,7 @@ actors_of domains peers = clients_of peers + gateways_of peers * (domains + 1)
 -- How many entries a compaction keeps at most: what is kept of each domain, the remembered messages, a session configuration of each peer, and the last entry.
 abbrev pub kept_at_most : SettingsValue → ℕ
 kept_at_most settings =
-    length settings.domains * kept_of_domain settings.limits
+    length settings.domains * most_of_domain settings.limits
     + settings.limits.remembered * actors_of (length settings.domains) settings.peers
     + clients_of settings.peers
     + gateways_of settings.peers

@@ -1,11 +1,11 @@
 //! How large a journal is.
 
 ghost use Rattle.std.specs.Prelude.{◌≡◌, ◌≤◌, ◌+◌, ◌*◌, length};
-ghost use Rattle.dots_settings.specs.Settings.{AreLimits, is_gateway_role};
+ghost use Rattle.dots_settings.specs.Settings.{is_gateway_role};
 ghost use Rattle.slot_store.specs.Layout.{needed_of};
-ghost use Rattle.slot_journal.specs.Sizes.{is_client_role, clients_of, gateways_of, kept_of_domain, actors_of, kept_at_most, slots_of};
+ghost use Rattle.slot_journal.specs.Sizes.{is_client_role, clients_of, gateways_of, actors_of, kept_at_most, slots_of};
 
-use dots_settings::{Limits, PeerRow, Role, Settings};
+use dots_settings::{PeerRow, Role, Settings};
 
 fn is_client(role: Role) -> bool
     ensures { result ≡ is_client_role role }
@@ -45,15 +45,15 @@ fn gateways(peers: &[PeerRow]) -> u32
     peers.iter().filter(|row| is_gateway(row.role)).count() as u32
 }
 
-/// How many things at most 8 clients have, of each at most 24.
-#[tactic(auto, using(crate::proofs::Sizing::of_clients_most))]
-fn of_clients(clients: u32, each: u32) -> u32
-    requires clients { clients ≤ 8 }
-    requires each { each ≤ 24 }
-    ensures product { result ≡ clients * each }
-    ensures most { result ≤ 192 }
+/// For how many domains at most 4 gateways act, each for at most 17.
+#[tactic(auto, using(crate::proofs::Sizing::of_gateways_most))]
+fn of_gateways(gateways: u32, each: u32) -> u32
+    requires gateways { gateways ≤ 4 }
+    requires each { each ≤ 17 }
+    ensures product { result ≡ gateways * each }
+    ensures most { result ≤ 68 }
 {
-    clients * each
+    gateways * each
 }
 
 /// The product of small numbers.
@@ -67,16 +67,6 @@ fn times(one: u32, other: u32) -> u32
     one * other
 }
 
-/// How many entries are kept of one domain at most.
-fn kept_of_domain(limits: Limits) -> u32
-    requires { AreLimits limits }
-    ensures kept { result ≡ kept_of_domain limits }
-    ensures most { result ≤ 328 }
-{
-    let held = of_clients(limits.clients, limits.aliases + limits.acls);
-    2 * limits.domain_mitigations + limits.clients + held
-}
-
 /// For how many pairs of a peer and a domain messages are remembered at most.
 fn actors(domains: u32, peers: &[PeerRow]) -> u32
     requires domains { domains ≤ 16 }
@@ -85,7 +75,7 @@ fn actors(domains: u32, peers: &[PeerRow]) -> u32
     ensures actors { result ≡ actors_of domains peers.now }
     ensures most { result ≤ 256 }
 {
-    clients(peers) + of_clients(gateways(peers), domains + 1)
+    clients(peers) + of_gateways(gateways(peers), domains + 1)
 }
 
 /// How many entries a compaction keeps at most under these settings.
@@ -96,7 +86,7 @@ fn kept_at_most(settings: &Settings) -> u32
     let domains = u32::from(settings.domains());
     let limits = settings.limits();
     let peers = settings.peers();
-    let of_domains = times(domains, kept_of_domain(limits));
+    let of_domains = times(domains, settings.most_of_domain());
     let remembered = times(limits.remembered, actors(domains, peers));
     of_domains + remembered + clients(peers) + gateways(peers) + 1
 }
