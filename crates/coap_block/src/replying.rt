@@ -54,7 +54,7 @@ fn stored_for<'a>(stored: &'a [StoredBody], peer: u32, request: &[u8]) -> Option
 }
 
 /// Takes out the body of a peer.
-fn leave_others(stored: &mut Vec<StoredBody>, peer: u32)
+fn retain_others(stored: &mut Vec<StoredBody>, peer: u32)
     ensures items { stored.new.items ≡ without_peer peer stored.old.items }
     ensures fewer { length stored.new.items ≤ length stored.old.items }
 {
@@ -74,7 +74,7 @@ fn keep(
     ensures err { OnErr result (stored.new.items ≡ without_peer peer stored.old.items) }
     ensures few { length stored.new.items ≤ MAX_STORED }
 {
-    leave_others(stored, peer);
+    retain_others(stored, peer);
     if stored.len() >= MAX_STORED {
         return Err(NoMemory);
     }

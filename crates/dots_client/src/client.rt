@@ -15,7 +15,7 @@ use crate::ask::{Ask, AskFault};
 use crate::beats::{beat_answer, is_beat};
 use crate::granted::Granted;
 use crate::heard::Heard;
-use crate::ledger::{drop_row, leave_over, row_of, set_row};
+use crate::ledger::{drop_row, retain_granted, row_of, set_row};
 use crate::request::Request;
 use crate::waiting::Waiting;
 use acl_lists::Asked;
@@ -155,7 +155,7 @@ impl ClientCore {
         ensures* after { sem 𝓛 (Rests the_row self.entry (λ core. core ≡ tick_after now self.old)) }
         ensures answer { option_map (λ bytes. bytes.now) result ≡ tick_answer now self.old }
     {
-        leave_over(&mut self.ledger, now);
+        retain_granted(&mut self.ledger, now);
         self.waiting.tick(now.saturating_mul(1000))
     }
 

@@ -65,7 +65,7 @@ fn place_of(ledger: &[Granted], mid: u32) -> Option<usize>
 }
 
 /// Removes the rows whose lifetime has passed at the time `now`, in seconds.
-pub fn leave_over(ledger: &mut Vec<Granted>, now: u64)
+pub fn retain_granted(ledger: &mut Vec<Granted>, now: u64)
     ensures { ledger.new.items ≡ left_at now ledger.old.items }
 {
     ledger.retain(|row| !row.is_over(now));

@@ -66,12 +66,12 @@ number_same settings old new is_of still = ap (λ (l : Limits). l.remembered) (s
 
 -- ---- time
 
-pub stands_later : (now : ℕ) (old new : LedgerValue) → new.journal ≡ old.journal → time_of old.registry ≤ now → time_of new.registry ≡ now
+pub represents_later : (now : ℕ) (old new : LedgerValue) → new.journal ≡ old.journal → time_of old.registry ≤ now → time_of new.registry ≡ now
     → ((entries : List Entry) → registry.Represents old.registry entries → registry.Represents new.registry entries)
     → ((all : List Filed) → RepresentsFiled old.registry all → RepresentsFiled new.registry all)
     → ((settings : SettingsValue) → IsOf settings old.registry → IsOf settings new.registry)
     → (settings : SettingsValue) (history entries : List Entry) → Represents old settings history entries → Represents new settings history entries
-stands_later now old new same less at stand file keep settings history entries represents =
+represents_later now old new same less at stand file keep settings history entries represents =
     let number = number_same settings old.registry new.registry represents.is_of (keep settings represents.is_of) in
     let most = most_same settings old.registry new.registry represents.is_of (keep settings represents.is_of) in
     let free = represents.free in
@@ -122,9 +122,9 @@ fits_in ledger settings history entries e represents joins = record {
 }
 
 -- the registry represents the entries
-stands_for_entries : (ledger : LedgerValue) (settings : SettingsValue) (history entries : List Entry) → Represents ledger settings history entries
+represents_entries : (ledger : LedgerValue) (settings : SettingsValue) (history entries : List Entry) → Represents ledger settings history entries
     → registry.Represents ledger.registry entries
-stands_for_entries ledger settings history entries represents = subst (registry.Represents ledger.registry) (filed_entries entries) represents.represents_filed.represents
+represents_entries ledger settings history entries represents = subst (registry.Represents ledger.registry) (filed_entries entries) represents.represents_filed.represents
 
 pub joins_entries : (ledger : LedgerValue) (settings : SettingsValue) (history entries : List Entry) (e : Entry) → Represents ledger settings history entries
     → joins_at settings (time_of ledger.registry) history e ≡ true → joins settings entries e ≡ true
@@ -132,7 +132,7 @@ joins_entries ledger settings history entries e represents joins_so =
     let r = ledger.registry in
     let parts = joins_parts settings (time_of r) history e joins_so in
     let now : fits_now settings r entries e ≡ true =
-    same_fits settings r entries history e represents.is_of (stands_for_entries ledger settings history entries represents) represents.registry
+    same_fits settings r entries history e represents.is_of (represents_entries ledger settings history entries represents) represents.registry
     ∙ fits_then_of settings r history e parts in
     let later = kept_later (number_remembered r) (time_of r) e.time entries history (leb-true (time_of r) e.time parts.1) represents.kept in
     let live : mitigations e.time entries ≡ mitigations e.time history = ap (λ (v : View). v.mitigations) later.same_view in
@@ -151,14 +151,14 @@ kept_with n t e few all less is = kept_more n t e.time few all (e ∷ []) is (le
 pub later_of : (settings : SettingsValue) (t : ℕ) (history : List Entry) (e : Entry) → joins_at settings t history e ≡ true → t ≤ e.time
 later_of settings t history e joins = leb-true t e.time (joins_parts settings t history e joins).1
 
-pub stands_more : (slot : ℕ) (e : Entry) (old new : LedgerValue) → new.journal.used ≡ old.journal.used + 1 → new.journal.slots ≡ old.journal.slots
+pub represents_more : (slot : ℕ) (e : Entry) (old new : LedgerValue) → new.journal.used ≡ old.journal.used + 1 → new.journal.slots ≡ old.journal.slots
     → slot ≡ old.journal.used → time_of new.registry ≡ e.time
     → ((entries : List Entry) → registry.Represents old.registry entries → registry.Represents new.registry (entries ++ e ∷ []))
     → ((all : List Filed) → RepresentsFiled old.registry all → RepresentsFiled new.registry (all ++ record { entry = e; slot = slot } ∷ []))
     → ((settings : SettingsValue) → IsOf settings old.registry → IsOf settings new.registry)
     → (settings : SettingsValue) (history entries : List Entry) → Represents old settings history entries → joins_at settings (time_of old.registry) history e ≡ true
     → Represents new settings (history ++ e ∷ []) (entries ++ e ∷ [])
-stands_more slot e old new used slots at time stand file keep settings history entries represents joins =
+represents_more slot e old new used slots at time stand file keep settings history entries represents joins =
     let number = number_same settings old.registry new.registry represents.is_of (keep settings represents.is_of) in
     let most = most_same settings old.registry new.registry represents.is_of (keep settings represents.is_of) in
     let free = represents.free in
@@ -204,10 +204,10 @@ kept_again ledger settings history entries represents =
     (kept n t entries)
     entries
     history
-    (dropping n t entries (stands_for_entries ledger settings history entries represents).live.in_order (calm_of settings entries represents.calm))
+    (dropping n t entries (represents_entries ledger settings history entries represents).live.in_order (calm_of settings entries represents.calm))
     represents.kept
 
-pub stands_compacted : (keep : List ℕ) (old new : LedgerValue) → new.journal.used ≡ length keep → new.journal.slots ≡ old.journal.slots
+pub represents_compacted : (keep : List ℕ) (old new : LedgerValue) → new.journal.used ≡ length keep → new.journal.slots ≡ old.journal.slots
     → time_of new.registry ≡ time_of old.registry
     → ((entries : List Entry) → registry.Represents old.registry entries → registry.Represents new.registry entries)
     → ((es : List Entry) → RepresentsFiled old.registry (filed es) → Calm (map entry_of (filed es))
@@ -216,7 +216,7 @@ pub stands_compacted : (keep : List ℕ) (old new : LedgerValue) → new.journal
     → (settings : SettingsValue) (history entries : List Entry) → length keep ≡ length (kept (number_remembered old.registry) (time_of old.registry) entries)
     → Represents old settings history entries
     → Represents new settings history (kept (number_remembered old.registry) (time_of old.registry) entries)
-stands_compacted keep old new used slots time stand file still settings history entries many represents =
+represents_compacted keep old new used slots time stand file still settings history entries many represents =
     let n = number_remembered old.registry in
     let t = time_of old.registry in
     let few = kept n t entries in

@@ -41,8 +41,8 @@ use Rattle.dots_ledger.specs.Beginning.{HasTaken, IsApart, joins_now, RefusesEnt
 -- ---- one entry
 
 -- the tables represent the entries that were taken
-pub taken_stand : (settings : SettingsValue) (entries : List Entry) (r : RegistryValue) → HasTaken settings entries r → registry.Represents r entries
-taken_stand settings entries r taken = subst (registry.Represents r) (filed_entries entries) taken.represents_filed.represents
+pub taken_represents : (settings : SettingsValue) (entries : List Entry) (r : RegistryValue) → HasTaken settings entries r → registry.Represents r entries
+taken_represents settings entries r taken = subst (registry.Represents r) (filed_entries entries) taken.represents_filed.represents
 
 last_more : (t : ℕ) (entries : List Entry) (e : Entry) → last_or t (entries ++ e ∷ []) ≡ e.time
 last_more t [] e = refl
@@ -146,17 +146,17 @@ time_small settings entries r at now taken each early is =
     let most = max-le {a = at} {b = time_of r} {k = 281474976710656} (omega (arith, early)) (omega (arith, last, same)) in
     omega (arith, is, most)
 
-pub stands_begun : (settings : SettingsValue) (entries : List Entry) (taken : RegistryValue) (ledger : LedgerValue) → HasTaken settings entries taken
+pub represents_begun : (settings : SettingsValue) (entries : List Entry) (taken : RegistryValue) (ledger : LedgerValue) → HasTaken settings entries taken
     → (IsOf settings taken → IsOf settings ledger.registry)
     → ((es : List Entry) → registry.Represents taken es → registry.Represents ledger.registry es)
     → ((all : List Filed) → RepresentsFiled taken all → RepresentsFiled ledger.registry all)
     → ledger.journal.used ≡ length entries → ledger.journal.slots ≡ slots_of settings
     → ((r : RegistryValue) → IsOf settings r → most_kept r < slots_of settings) → Represents ledger settings entries entries
-stands_begun settings entries taken ledger has keep stand file used slots few =
+represents_begun settings entries taken ledger has keep stand file used slots few =
     let less = few ledger.registry (keep has.is_of) in
     record {
       is_of = keep has.is_of;
-      registry = stand entries (taken_stand settings entries taken has);
+      registry = stand entries (taken_represents settings entries taken has);
       represents_filed = file (filed entries) has.represents_filed;
       calm = has.calm;
       kept = kept_refl (number_remembered ledger.registry) (time_of ledger.registry) entries;

@@ -32,9 +32,9 @@ below_all : (before : List Entry) (e : Entry) (later : List Entry) → length be
 below_all [] e later = omega arith
 below_all (x ∷ before) e later = let rest = below_all before e later in omega (arith, rest)
 
-filed_stand : (before later : List Entry) (at : ℕ) → at ≡ length before → Stand (before ++ later) (filed_from at later)
-filed_stand before [] at same = record {}
-filed_stand before (e ∷ later) at same =
+filed_there : (before later : List Entry) (at : ℕ) → at ≡ length before → Stand (before ++ later) (filed_from at later)
+filed_there before [] at same = record {}
+filed_there before (e ∷ later) at same =
     let long = length_more before e in
     let inside = below_all before e later in (
       at_middle before at e later same,
@@ -42,17 +42,17 @@ filed_stand before (e ∷ later) at same =
       subst
           (λ all. Stand all (filed_from (at + 1) later))
           (append_assoc before (e ∷ []) later)
-          (filed_stand (before ++ e ∷ []) later (at + 1) (omega (arith, same, long))),
+          (filed_there (before ++ e ∷ []) later (at + 1) (omega (arith, same, long))),
     )
 
-kept_stand : (keep : Keeper) (passed : List Mitigation) (entries : List Entry) (all : List Filed) → Stand entries all → Stand entries (filed_kept_by keep passed all)
-kept_stand keep passed entries [] stand = record {}
-kept_stand keep passed entries (x ∷ later) stand =
-    let go = kept_stand keep (pass passed x.entry) entries later stand.2 in
+kept_there_by : (keep : Keeper) (passed : List Mitigation) (entries : List Entry) (all : List Filed) → Stand entries all → Stand entries (filed_kept_by keep passed all)
+kept_there_by keep passed entries [] stand = record {}
+kept_there_by keep passed entries (x ∷ later) stand =
+    let go = kept_there_by keep (pass passed x.entry) entries later stand.2 in
     by_first keep passed x later (Stand entries) (λ is. (stand.0, stand.1, go)) (λ out. go)
 
-named_stand : (n t : ℕ) (entries : List Entry) → Stand entries (filed_kept n t (filed entries))
-named_stand n t entries = kept_stand (names n t) [] entries (filed entries) (filed_stand [] entries 0 (omega arith))
+named_are_there : (n t : ℕ) (entries : List Entry) → Stand entries (filed_kept n t (filed entries))
+named_are_there n t entries = kept_there_by (names n t) [] entries (filed entries) (filed_there [] entries 0 (omega arith))
 
 -- ---- the slots are places of the entries
 below_at : (entries : List Entry) (all : List Filed) (index : ℕ) → Stand entries all → index < length (map slot_of all) → get_or (map slot_of all) index 0 < length entries
@@ -65,7 +65,7 @@ named_below n t entries =
     subst
     (AreSlots (length entries))
     (sym (named_are n t (filed entries)))
-    (λ index less. below_at entries (filed_kept n t (filed entries)) index (named_stand n t entries) less)
+    (λ index less. below_at entries (filed_kept n t (filed entries)) index (named_are_there n t entries) less)
 
 -- ---- and what stands there is what is kept
 there : (entries : List Entry) (all : List Filed) → Stand entries all → entries_at entries (map slot_of all) ≡ map entry_of all
@@ -76,7 +76,7 @@ there entries (x ∷ later) stand =
 pub named_there : (n t : ℕ) (entries : List Entry) → entries_at entries (named_slots n t (filed entries)) ≡ kept n t entries
 named_there n t entries =
     ap (entries_at entries) (named_are n t (filed entries))
-    ∙ there entries (filed_kept n t (filed entries)) (named_stand n t entries)
+    ∙ there entries (filed_kept n t (filed entries)) (named_are_there n t entries)
     ∙ kept_entries (names n t) [] (filed entries)
     ∙ ap (kept n t) (filed_entries entries)
 

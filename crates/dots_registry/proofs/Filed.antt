@@ -41,7 +41,7 @@ use Rattle.held_resources.proofs.Going.{rows_more, none_undone}
 use Rattle.held_resources.proofs.Lawful.{known_of}
 use Rattle.held_resources.proofs.Names.{is_short}
 use Rattle.held_resources.proofs.Sizing.{most_of, most_is}
-use Rattle.held_resources.proofs.HistoryTables.{stands_with}
+use Rattle.held_resources.proofs.HistoryTables.{represents_with}
 use Rattle.coap_exchange.specs.Pairs.{pairs_of}
 use Rattle.coap_exchange.specs.Rings.{RingValue, empty_ring, is_ring_of, noted}
 use Rattle.coap_exchange.specs.Noting.{message_of}
@@ -411,7 +411,7 @@ held_room inside x filed fits room at represents =
     (fits_within inside e fits)
     (subst (λ (l : Limits). KeepsLimits l (time_of inside) es) fits.is_of.limits represents.represents.limits)) in
     let owned : list_all (has_client (held more)) (held more) ≡ true =
-    (stands_with inside.held es e x.slot represents.represents.held (accepted inside e fits)).owned in
+    (represents_with inside.held es e x.slot represents.represents.held (accepted inside e fits)).owned in
     let rings : list_all (has_ring inside.rings) more ≡ true =
     list_all-append (has_ring inside.rings) es (e ∷ [])
     ∙ and_from

@@ -25,13 +25,13 @@ use Rattle.held_resources.specs.Held.{acls_of}
 use Rattle.held_resources.specs.Tables.{Tables, is_known, sizes_of, tables_with}
 use Rattle.held_resources.specs.Tables as things
 use Rattle.held_resources.proofs.Lawful.{same_held, known_of}
-use Rattle.held_resources.proofs.HistoryTables.{stands_with}
+use Rattle.held_resources.proofs.HistoryTables.{represents_with}
 use Rattle.installed_filters.specs.Filters.{FiltersValue, filters_put, filters_written, some_of, everyone}
 use Rattle.installed_filters.specs.HistoryRows.{KeepsLimits, HasRoom, scrub_room_of, acl_room_of}
 use Rattle.installed_filters.specs.HistoryRows as rows
 use Rattle.installed_filters.proofs.Limits.{limits_with}
 use Rattle.installed_filters.proofs.Room.{scrubs_fit, lists_fit}
-use Rattle.installed_filters.proofs.HistoryRows.{put_stands, write_stands, client_mitigates, live_inside}
+use Rattle.installed_filters.proofs.HistoryRows.{put_represents, write_represents, client_mitigates, live_inside}
 use Rattle.installed_filters.proofs.Waking.{mitigates}
 use Rattle.dots_registry.specs.RegistryValues.{RegistryValue, IsOf, Represents, time_of}
 use Rattle.dots_registry.specs.Fitting.{FitsIn, fits_then, fits_now}
@@ -94,7 +94,7 @@ rows_after_put inside e new entries fits at put made represents =
     subst
     (λ t. rows.Represents new t (entries ++ e ∷ []))
     at
-    (put_stands
+    (put_represents
     inside.live
     inside.filters
     new
@@ -167,7 +167,7 @@ rows_after_write inside e mitigating acls new entries fits at quiet made by_kept
     subst
     (λ t. rows.Represents new t (entries ++ e ∷ []))
     at
-    (write_stands
+    (write_represents
     inside.live
     inside.filters
     new
@@ -218,7 +218,7 @@ write_fits inside old e mitigating acls same fits at quiet by_kept are =
     by_kept
     (are here.entries here.represents.held)
     here.represents in
-    let things_after = stands_with inside.held here.entries e 0 here.represents.held (accepted inside e here) in
+    let things_after = represents_with inside.held here.entries e 0 here.represents.held (accepted inside e here) in
     let most = lists_fit
     (tables_with (record { entry = e; slot = 0 }) inside.held).sizes
     inside.live.limits

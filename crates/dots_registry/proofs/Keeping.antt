@@ -74,9 +74,9 @@ remember_part n rings few all same remembers = λ peer domain r there.
     let is : Remembers n all peer domain r = remembers peer domain r there in
     record { room = is.room; messages = is.messages ∙ ap (map said_by_entry) (sym (ring_by_recent n peer domain few all same)) }
 
-pub part_stands : (registry : RegistryValue) (few all : List Entry) → Kept (number_remembered registry) (time_of registry) few all → Represents registry all
+pub part_represents : (registry : RegistryValue) (few all : List Entry) → Kept (number_remembered registry) (time_of registry) few all → Represents registry all
     → Represents registry few
-part_stands registry few all same represents = record {
+part_represents registry few all same represents = record {
   live = live_part registry.live few all same.is_part (ap (λ (v : View). v.mitigations) same.same_view) represents.live;
   held = subst (Have registry.held) (sym (ap (λ (v : View). v.held) same.same_view)) represents.held;
   remembered = remember_part (number_remembered registry) registry.rings few all (ap (λ (v : View). v.recent) same.same_view) represents.remembered;
@@ -99,10 +99,10 @@ part_stands registry few all same represents = record {
       represents.limits;
 }
 
-pub named_stands : (registry : RegistryValue) (entries : List Entry) → Calm entries → Represents registry entries
+pub named_represents : (registry : RegistryValue) (entries : List Entry) → Calm entries → Represents registry entries
     → Represents registry (kept (number_remembered registry) (time_of registry) entries)
-named_stands registry entries calm represents =
-    part_stands
+named_represents registry entries calm represents =
+    part_represents
     registry
     (kept (number_remembered registry) (time_of registry) entries)
     entries

@@ -28,8 +28,8 @@ use Rattle.held_resources.specs.Tables.{Tables, SameButSlots, sizes_of, is_known
 use Rattle.held_resources.specs.Tables as things
 use Rattle.held_resources.specs.Accepting.{accepts, accepts_by, keeps_rooms}
 use Rattle.held_resources.specs.Accepting as accepting
-use Rattle.held_resources.proofs.HistoryTables.{stands_with, accepted_by, one_value, same_stands}
-use Rattle.held_resources.proofs.Lawful.{still_stands, known_of, accepts_fitting}
+use Rattle.held_resources.proofs.HistoryTables.{represents_with, accepted_by, one_value, same_represents}
+use Rattle.held_resources.proofs.Lawful.{still_represents, known_of, accepts_fitting}
 use Rattle.coap_exchange.specs.declared.pair.Pair.{Pair}
 use Rattle.coap_exchange.specs.Pairs.{pairs_of}
 use Rattle.coap_exchange.specs.Rings.{RingValue, empty_ring}
@@ -52,10 +52,10 @@ pairs_empty : (n : ℕ) (pairs : List Pair) → map pair_of (map (empty_ring n) 
 pairs_empty n [] = refl
 pairs_empty n (pair ∷ pairs) = ap (λ ps. pair ∷ ps) (pairs_empty n pairs)
 
-pub stands_first : (settings : SettingsValue) (live : LiveValue) (held : Tables) (rings : List RingValue) (filters : FiltersValue) (last : Option ℕ) → lives.Represents live []
+pub represents_first : (settings : SettingsValue) (live : LiveValue) (held : Tables) (rings : List RingValue) (filters : FiltersValue) (last : Option ℕ) → lives.Represents live []
     → things.Represents held [] → live.limits ≡ settings.limits → rings ≡ map (empty_ring settings.limits.remembered) (pairs_of settings)
     → ((t : ℕ) → rows.Represents filters t []) → Represents (joined live held rings filters last) []
-stands_first settings live held rings filters last alive kept limits made none = record {
+represents_first settings live held rings filters last alive kept limits made none = record {
   live = alive;
   held = kept;
   remembered = subst
@@ -96,11 +96,11 @@ still_of settings inside old live held rings filters last same domains limits si
 
 -- ---- time
 
-pub stands_later : (now : ℕ) (inside old : RegistryValue) (live : LiveValue) (filters : FiltersValue) (last : Option ℕ) (entries : List Entry) → inside ≡ old → time_of old ≤ now
+pub represents_later : (now : ℕ) (inside old : RegistryValue) (live : LiveValue) (filters : FiltersValue) (last : Option ℕ) (entries : List Entry) → inside ≡ old → time_of old ≤ now
     → live.limits ≡ inside.live.limits → live.time ≡ now → (lives.ComesTo now inside.live entries → lives.Represents live entries)
     → (inside.live.time ≤ now → lives.Represents inside.live entries → rows.Represents inside.filters inside.live.time entries → rows.Represents filters now entries)
     → Represents old entries → Represents (joined live inside.held inside.rings filters last) entries
-stands_later now inside old live filters last entries same less limits at comes install represents =
+represents_later now inside old live filters last entries same less limits at comes install represents =
     let here : Represents inside entries = subst (λ r. Represents r entries) (sym same) represents in
     let later : time_of inside ≤ now = subst (λ r. time_of r ≤ now) (sym same) less in
     record {
@@ -280,11 +280,11 @@ pub record Filtered (inside : RegistryValue) (filters : FiltersValue) (entries :
   pub filters_are : rows.Represents filters inside.live.time entries
   pub limits_are : KeepsLimits inside.live.limits inside.live.time entries
 
-stands_more : (inside : RegistryValue) (live : LiveValue) (held : Tables) (rings : List RingValue) (filters : FiltersValue) (last : Option ℕ) (slot : ℕ) (e : Entry) (entries : List Entry)
+represents_more : (inside : RegistryValue) (live : LiveValue) (held : Tables) (rings : List RingValue) (filters : FiltersValue) (last : Option ℕ) (slot : ℕ) (e : Entry) (entries : List Entry)
     → Represents inside entries → has_ring inside.rings e ≡ true → SameButRows inside.live live → rings ≡ rings_with slot e inside.rings
     → lives.Represents live (entries ++ e ∷ []) → things.Represents held (entries ++ e ∷ []) → Filtered inside filters (entries ++ e ∷ [])
     → Represents (joined live held rings filters last) (entries ++ e ∷ [])
-stands_more inside live held rings filters last slot e entries represents has but made alive kept filtered =
+represents_more inside live held rings filters last slot e entries represents has but made alive kept filtered =
     let pairs : map pair_of rings ≡ map pair_of inside.rings = made_pairs slot e inside.rings rings made in
     record {
       live = alive;
@@ -314,14 +314,14 @@ stands_more inside live held rings filters last slot e entries represents has bu
           (subst (λ t. KeepsLimits inside.live.limits t (entries ++ e ∷ [])) (sym but.time) filtered.limits_are);
     }
 
-pub put_stands : (inside old : RegistryValue) (live : LiveValue) (rings : List RingValue) (filters : FiltersValue) (last : Option ℕ) (slot : ℕ) (e entry : Entry) (entries : List Entry)
+pub put_represents : (inside old : RegistryValue) (live : LiveValue) (rings : List RingValue) (filters : FiltersValue) (last : Option ℕ) (slot : ℕ) (e entry : Entry) (entries : List Entry)
     → inside ≡ old → entry ≡ silent e → FitsIn old e → puts e ≡ true → SameButRows inside.live live → rings ≡ rings_with slot e inside.rings
     → ((x : Entry) → bare x ≡ bare entry → lives.Represents inside.live entries → lives.Represents live (entries ++ x ∷ []))
     → (Represents inside entries → Filtered inside filters (entries ++ e ∷ []))
     → Represents old entries → Represents (joined live inside.held rings filters last) (entries ++ e ∷ [])
-put_stands inside old live rings filters last slot e entry entries same is fits put but made alive install represents =
+put_represents inside old live rings filters last slot e entry entries same is fits put but made alive install represents =
     let here : Represents inside entries = subst (λ r. Represents r entries) (sym same) represents in
-    stands_more
+    represents_more
     inside
     live
     inside.held
@@ -336,7 +336,7 @@ put_stands inside old live rings filters last slot e entry entries same is fits 
     but
     made
     (alive e (ap bare (sym is)) here.live)
-    (still_stands inside.held e entries (puts_kind e put).0 here.held)
+    (still_represents inside.held e entries (puts_kind e put).0 here.held)
     (install here)
 
 -- ---- what writes something else
@@ -355,14 +355,14 @@ held_fits inside old e entry same is fits =
     (sym is)
     (here.entries, here.represents.held, accepted_by inside.held here.entries (silent e) here.represents.held ∙ accepted inside e here)
 
-pub write_stands : (inside old : RegistryValue) (live : LiveValue) (held : Tables) (rings : List RingValue) (filters : FiltersValue) (last : Option ℕ) (slot : ℕ) (e entry : Entry)
+pub write_represents : (inside old : RegistryValue) (live : LiveValue) (held : Tables) (rings : List RingValue) (filters : FiltersValue) (last : Option ℕ) (slot : ℕ) (e entry : Entry)
     (entries : List Entry) → inside ≡ old
     → entry ≡ silent e → FitsIn old e → SameButRows inside.live live → held.sizes ≡ inside.held.sizes → rings ≡ rings_with slot e inside.rings
     → (lives.Represents inside.live entries → lives.Represents live (entries ++ e ∷ []))
     → (things.Represents inside.held entries → things.Represents held (entries ++ entry ∷ []))
     → (Represents inside entries → Filtered inside filters (entries ++ e ∷ []))
     → Represents old entries → Represents (joined live held rings filters last) (entries ++ e ∷ [])
-write_stands inside old live held rings filters last slot e entry entries same is fits but sizes made alive kept install represents =
+write_represents inside old live held rings filters last slot e entry entries same is fits but sizes made alive kept install represents =
     let here : Represents inside entries = subst (λ r. Represents r entries) (sym same) represents in
     let taken : accepts_by inside.held e ≡ true = accepted inside e (fits_inside inside old e same fits) in
     let more = tables_with (record { entry = silent e; slot = slot }) inside.held in
@@ -373,8 +373,8 @@ write_stands inside old live held rings filters last slot e entry entries same i
     (entries ++ silent e ∷ [])
     sizes
     (subst (λ (x : Entry). things.Represents held (entries ++ x ∷ [])) is (kept here.held))
-    (stands_with inside.held entries (silent e) slot here.held taken) in
-    stands_more
+    (represents_with inside.held entries (silent e) slot here.held taken) in
+    represents_more
     inside
     live
     held
@@ -389,5 +389,5 @@ write_stands inside old live held rings filters last slot e entry entries same i
     but
     made
     (alive here.live)
-    (same_stands held more (entries ++ e ∷ []) one (stands_with inside.held entries e slot here.held taken))
+    (same_represents held more (entries ++ e ∷ []) one (represents_with inside.held entries e slot here.held taken))
     (install here)

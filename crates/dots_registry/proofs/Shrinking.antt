@@ -16,12 +16,12 @@ use Rattle.dots_laws.specs.Filed.{Filed, entry_of, slot_of, refiled}
 use Rattle.dots_settings.specs.Settings.{SettingsValue}
 use Rattle.live_mitigations.specs.Numbers.{live_renumbered}
 use Rattle.live_mitigations.specs.LiveValues.{LiveValue, is_inside}
-use Rattle.live_mitigations.proofs.SlotsOfRows.{renumbered_stands}
+use Rattle.live_mitigations.proofs.SlotsOfRows.{renumbered_represents}
 use Rattle.held_resources.specs.declared.row.HeldSlot.{HeldSlot}
 use Rattle.held_resources.specs.Rows.{renumbered as held_renumbered}
 use Rattle.held_resources.specs.Tables.{Tables, is_known, tables_renumbered}
 use Rattle.held_resources.proofs.Going.{rows_moved}
-use Rattle.held_resources.proofs.HistoryTables.{same_stands}
+use Rattle.held_resources.proofs.HistoryTables.{same_represents}
 use Rattle.coap_exchange.specs.Rings.{RingValue, ring_renumbered}
 use Rattle.coap_exchange.proofs.HistoryRings.{moved_remembers, pairs_moved}
 use Rattle.dots_registry.specs.Kept.{all_kept, kept_slots, last_slot, filed_kept, named_slots, filed}
@@ -34,7 +34,7 @@ use Rattle.dots_registry.proofs.Staying.{kept_entries, kept_stay}
 use Rattle.dots_registry.proofs.Numbering.{named_are, named_rise, kept_are_first, union_nil}
 use Rattle.dots_registry.proofs.RegistryValues.{joined}
 use Rattle.dots_registry.proofs.Rings.{still_signalled}
-use Rattle.dots_registry.proofs.Keeping.{named_stands}
+use Rattle.dots_registry.proofs.Keeping.{named_represents}
 use Rattle.dots_registry.proofs.Filed.{few_kept, slots_still}
 
 -- ---- the slots that are kept
@@ -138,10 +138,10 @@ moved_of keep settings registry is_of = record {
   filters = is_of.filters;
 }
 
-pub moved_stands : (keep : List ℕ) (registry : RegistryValue) (entries : List Entry) → Represents registry entries → Represents (renumbered keep registry) entries
-moved_stands keep registry entries represents = record {
-  live = renumbered_stands keep registry.live entries represents.live;
-  held = same_stands (tables_renumbered keep registry.held) registry.held entries (record { sizes = refl; clients = refl; sessions = refl }) represents.held;
+pub moved_represents : (keep : List ℕ) (registry : RegistryValue) (entries : List Entry) → Represents registry entries → Represents (renumbered keep registry) entries
+moved_represents keep registry entries represents = record {
+  live = renumbered_represents keep registry.live entries represents.live;
+  held = same_represents (tables_renumbered keep registry.held) registry.held entries (record { sizes = refl; clients = refl; sessions = refl }) represents.held;
   remembered = moved_remembers (number_remembered registry) keep registry.rings entries represents.remembered;
   signalled = still_signalled registry.rings (map (ring_renumbered keep) registry.rings) entries (pairs_moved keep registry.rings) represents.signalled;
   filters = represents.filters;
@@ -153,7 +153,7 @@ pub moved_in : (keep : List ℕ) (registry : RegistryValue) (all : List Filed) �
 moved_in keep registry all represents =
     let same : map entry_of all ≡ map entry_of (map (refiled keep) all) = sym (same_entries keep all) in
     record {
-      represents = subst (Represents (renumbered keep registry)) same (moved_stands keep registry (map entry_of all) represents.represents);
+      represents = subst (Represents (renumbered keep registry)) same (moved_represents keep registry (map entry_of all) represents.represents);
       slots = record {
         live = slots_moved (time_of registry) keep registry.live.tables all represents.slots.live;
         messages = rings_moved (number_remembered registry) keep registry.rings all represents.slots.messages;
@@ -176,7 +176,7 @@ kept_in registry all represents calm =
     let es = map entry_of all in
     let same : kept n t es ≡ map entry_of (filed_kept n t all) = sym (kept_entries (names n t) [] all) in
     record {
-      represents = subst (Represents registry) same (named_stands registry es calm represents.represents);
+      represents = subst (Represents registry) same (named_represents registry es calm represents.represents);
       slots = kept_stay n t (slots_kept registry) registry.rings all represents.represents.live.in_order calm represents.slots;
       known = subst (λ xs. list_all (is_known registry.held.sizes) xs ≡ true) same (part_list_all (is_known registry.held.sizes) (kept n t es) es (kept_is_part (names n t) [] es) represents.known);
       aliased = λ client.

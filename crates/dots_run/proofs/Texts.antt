@@ -72,5 +72,5 @@ nothing_ahead None = refl
 nothing_ahead (Some text) = refl
 
 -- a host stands at first as its source and its sink do
-pub stands_at_first : (left held : Option (List ℕ)) (failures : ℕ) → standing_of (to_come [] left) held failures ≡ standing_of left held failures
-stands_at_first left held failures = ap (λ script. standing_of script held failures) (nothing_ahead left)
+pub is_at_first : (left held : Option (List ℕ)) (failures : ℕ) → standing_of (to_come [] left) held failures ≡ standing_of left held failures
+is_at_first left held failures = ap (λ script. standing_of script held failures) (nothing_ahead left)

@@ -122,9 +122,9 @@ fault_known before after (event.Closed conn) at other fault a = absurd (no_taken
 fault_known before after event.Tick at other fault a = absurd (no_taken before after _ at a fault)
 fault_known before after event.Restart at other fault a = absurd (no_taken before after _ at a fault)
 
-pub fault_stands : (before : List ℕ) (new : Option (List ℕ)) (got : Event) (at : ℕ) (other : Type 0) → IsFault before → NextIs (Some before) new got at other → (got ≡ event.Failed) × (new ≡ Some before)
-fault_stands before None got at other fault a = absurd (no_answer before got at other a)
-fault_stands before (Some after) got at other fault a = let same = fault_known before after got at other fault a in (same.0, ap Some same.1)
+pub same_fault_stays : (before : List ℕ) (new : Option (List ℕ)) (got : Event) (at : ℕ) (other : Type 0) → IsFault before → NextIs (Some before) new got at other → (got ≡ event.Failed) × (new ≡ Some before)
+same_fault_stays before None got at other fault a = absurd (no_answer before got at other a)
+same_fault_stays before (Some after) got at other fault a = let same = fault_known before after got at other fault a in (same.0, ap Some same.1)
 
 -- ---- one more event was read
 

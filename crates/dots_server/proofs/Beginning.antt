@@ -141,8 +141,8 @@ module _ (settings : SettingsValue) (at : ℕ) (old new : ServerValue) (state : 
 -- ---- the disk
 
 -- a journal that represents entries on an image: the image holds them
-pub stands_holds : (value : JournalValue) (settings : SettingsValue) (entries : List Entry) (image : ℕ → ℕ) → journal.Represents value settings entries image → Holds settings image entries
-stands_holds value settings entries image is = holds settings value.slots image (records_of entries) entries is.slots (record { same = refl; each = is.each }) (inr is.represents.journal)
+pub represents_holds : (value : JournalValue) (settings : SettingsValue) (entries : List Entry) (image : ℕ → ℕ) → journal.Represents value settings entries image → Holds settings image entries
+represents_holds value settings entries image is = holds settings value.slots image (records_of entries) entries is.slots (record { same = refl; each = is.each }) (inr is.represents.journal)
 
 -- where the disk rests with them, a read gives them, and what is recovered is the same
 pub seen_of : (media : Option Media) (P : (ℕ → ℕ) → Type 0) → RestsWith media P → (seen : ℕ → ℕ) × Sees media seen × RestsWith media (Is seen) × P seen
@@ -153,7 +153,7 @@ pub same_held : (settings : SettingsValue) (media : Option Media) (value : Journ
     → ((seen : ℕ → ℕ) → Sees media seen → Holds settings seen found) → found ≡ entries
 same_held settings media value entries found rests found_there =
     let (seen, sees, is, represents) = seen_of media (journal.Represents value settings entries) rests in
-    one_history settings seen found entries (found_there seen sees) (stands_holds value settings entries seen represents)
+    one_history settings seen found entries (found_there seen sees) (represents_holds value settings entries seen represents)
 
 -- ---- a restart finds what was left, under the settings that the server had
 
@@ -163,7 +163,7 @@ module _ (settings given : SettingsValue) (same : given ≡ settings) (old : Ser
       → Leaves media media_new (λ image. Holds settings image entries)
   restart_moments moments =
       let (seen, sees, is, represents) = seen_of media (journal.Represents old.journal settings entries) rests in
-      let holds = stands_holds old.journal settings entries seen represents in
+      let holds = represents_holds old.journal settings entries seen represents in
       subst (λ s. Leaves media media_new (λ image. Holds s image entries)) same (moments seen entries is (subst (λ s. Holds s seen entries) (sym same) holds))
 
   pub restart_fails : (extent : ℕ) (fault : JournalFault) → needed_of (slots_of settings) ≤ extent
@@ -171,7 +171,7 @@ module _ (settings given : SettingsValue) (same : given ≡ settings) (old : Ser
   restart_fails extent fault size refused =
       let (seen, sees, is, represents) = seen_of media (journal.Represents old.journal settings entries) rests in
       fails_alone settings extent seen media_new entries fault (subst (λ s. RefusesLedger s extent seen media_new fault) same (refused seen sees))
-      (stands_holds old.journal settings entries seen represents) kept.represents.ledger.calm size
+      (represents_holds old.journal settings entries seen represents) kept.represents.ledger.calm size
 
   module _ (at : ℕ) (new : ServerValue) where
     found_same : (held : List Entry) → IsKept new settings (restarted (begun_from held) at) held

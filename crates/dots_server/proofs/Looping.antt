@@ -13,7 +13,7 @@ use Rattle.dots_ledger.specs.Crashes.{HoldsKept}
 use Rattle.dots_machine.specs.Machine.{State}
 use Rattle.dots_machine.proofs.Surviving.{within_last}
 use Rattle.dots_server.specs.ServerValues.{ServerValue, IsKept}
-use Rattle.dots_server.proofs.Beginning.{stands_holds}
+use Rattle.dots_server.proofs.Beginning.{represents_holds}
 
 -- the time of a kept state isn't before that of its last entry
 pub timely : (server : ServerValue) (settings : SettingsValue) (state : State) (entries : List Entry) → IsKept server settings state entries → last_time state.history ≤ state.time
@@ -27,7 +27,7 @@ pub holds_kept : (server : ServerValue) (settings : SettingsValue) (state : Stat
     → journal.Represents server.journal settings entries image → HoldsKept settings settings.limits.remembered t state.history image
 holds_kept server settings state entries t image kept le represents = record {
   entries = entries;
-  holds = stands_holds server.journal settings entries image represents;
+  holds = represents_holds server.journal settings entries image represents;
   calm = kept.represents.ledger.calm;
   kept = kept_later settings.limits.remembered (last_time state.history) t entries state.history le kept.rests;
 }

@@ -500,9 +500,9 @@ takes_from tables e accepted clients some =
     ∙ not_yet e.change (is_some (client_at e.domain e.cuid tables.clients)) registers more.0)
 
 -- ---- as clauses say it
-pub stands_with : (tables : Tables) (before : List Entry) (e : Entry) (slot : ℕ) → Represents tables before → accepts_by tables e ≡ true
+pub represents_with : (tables : Tables) (before : List Entry) (e : Entry) (slot : ℕ) → Represents tables before → accepts_by tables e ≡ true
     → Represents (tables_with (record { entry = e; slot = slot }) tables) (before ++ e ∷ [])
-stands_with tables before e slot represents accepted =
+represents_with tables before e slot represents accepted =
     subst
     (Have (tables_with (record { entry = e; slot = slot }) tables))
     (sym (held_push e before))
@@ -566,9 +566,9 @@ at_first rooms count rows slots = record {
   known = refl;
 }
 
-pub stands_first : (rooms : Rooms) (count : ℕ) (rows : List PeerRow) (clients : List Clients) (sessions : List Session) (slots : HeldRows)
+pub represents_first : (rooms : Rooms) (count : ℕ) (rows : List PeerRow) (clients : List Clients) (sessions : List Session) (slots : HeldRows)
     → clients ≡ replicate count (no_clients rooms) → sessions ≡ map no_session rows → Represents (tables_of rooms clients sessions slots) []
-stands_first rooms count rows clients sessions slots empty none =
+represents_first rooms count rows clients sessions slots empty none =
     subst (λ cs. Have (tables_of rooms cs sessions slots) []) (sym empty)
     (subst (λ ss. Have (tables_of rooms (replicate count (no_clients rooms)) ss slots) []) (sym none) (at_first rooms count rows slots))
 
@@ -611,8 +611,8 @@ one_value a b entries sizes first second = record {
 }
 
 -- what is the same but for the slots represents the same
-pub same_stands : (a b : Tables) (entries : List Entry) → SameButSlots a b → Represents b entries → Represents a entries
-same_stands a b entries same have = record {
+pub same_represents : (a b : Tables) (entries : List Entry) → SameButSlots a b → Represents b entries → Represents a entries
+same_represents a b entries same have = record {
   domains = ap length same.clients ∙ have.domains ∙ sym (ap (λ (s : Sizes). s.domains) same.sizes);
   clients = λ domain clients some.
       have.clients domain clients (ap (λ cs. slice_get cs domain) (sym same.clients) ∙ some)

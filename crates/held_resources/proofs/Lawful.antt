@@ -128,9 +128,9 @@ same_held e entries is =
     ∙ append-nil (filter (λ x. not (undoes x e)) (held entries))
     ∙ all_stay e (held entries) is
 
-pub still_stands : (tables : Tables) (e : Entry) (entries : List Entry) → laws.is_of_mitigations e.change ≡ true → Represents tables entries
+pub still_represents : (tables : Tables) (e : Entry) (entries : List Entry) → laws.is_of_mitigations e.change ≡ true → Represents tables entries
     → Represents tables (entries ++ e ∷ [])
-still_stands tables e entries is represents = subst (Have tables) (sym (same_held e entries is)) represents
+still_represents tables e entries is represents = subst (Have tables) (sym (same_held e entries is)) represents
 
 -- ---- what fits
 acts_below : (settings : SettingsValue) (r : Role) (domain : ℕ) → may_act settings r domain ≡ true → nat_lt domain (length settings.domains) ≡ true

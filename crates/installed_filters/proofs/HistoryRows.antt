@@ -427,10 +427,10 @@ own_scrubs e = by_live (lives_at_once e)
     by_live true = append-nil (rows_put e)
     by_live false = refl
 
-pub put_stands : (lived : LiveValue) (filters new : FiltersValue) (e : Entry) (entries : List Entry) → e.time ≡ lived.time → e.domain < lived.domains → puts e ≡ true
+pub put_represents : (lived : LiveValue) (filters new : FiltersValue) (e : Entry) (entries : List Entry) → e.time ≡ lived.time → e.domain < lived.domains → puts e ≡ true
     → lives.Represents lived entries → Represents filters lived.time entries → new ≡ filters_put e (rows_for lived e.domain) filters
     → held (entries ++ e ∷ []) ≡ held entries → Represents new e.time (entries ++ e ∷ [])
-put_stands lived filters new e entries at within put alive stands is same =
+put_represents lived filters new e entries at within put alive stands is same =
     let ms = mitigations lived.time entries in
     let own : Mitigation = record { put = e; status = Open } in
     let left = filter (stays_beside e) ms ++ own_of e own in
@@ -491,11 +491,11 @@ client_mitigates lived e entries within alive =
     ∙ some_bare everyone (λ m. refl) e.cuid (mitigations_of e.domain (mitigations lived.time entries))
     ∙ some_of_domain e.domain e everyone (mitigations lived.time entries) refl
 
-pub write_stands : (lived : LiveValue) (filters new : FiltersValue) (mitigating : Bool) (acls : List Acl) (e : Entry) (entries : List Entry) → e.time ≡ lived.time
+pub write_represents : (lived : LiveValue) (filters new : FiltersValue) (mitigating : Bool) (acls : List Acl) (e : Entry) (entries : List Entry) → e.time ≡ lived.time
     → puts e ≡ false → lives.Represents lived entries → Represents filters lived.time entries → new ≡ filters_written mitigating acls e filters
     → ((acl : Acl) → acl_of e.change ≡ Some acl → mitigating ≡ mitigates (mitigations lived.time entries) e)
     → acls ≡ acls_of (client_of e) (held entries) → Represents new e.time (entries ++ e ∷ [])
-write_stands lived filters new mitigating acls e entries at out alive stands is same are =
+write_represents lived filters new mitigating acls e entries at out alive stands is same are =
     let ms = mitigations lived.time entries in
     let with_e : mitigations e.time (entries ++ e ∷ []) ≡ mitigations_with e ms = adding lived.time e entries (omega (arith, at)) in
     let puts_are : map (λ (m : Mitigation). m.put) (mitigations e.time (entries ++ e ∷ [])) ≡ map (λ (m : Mitigation). m.put) ms =

@@ -42,9 +42,9 @@ comes_later now live entries less stands = record {
 }
 
 -- where nothing is over any more, what comes to a history represents it
-pub stands_now : (now : ℕ) (inside old : LiveValue) (entries : List Entry) → inside ≡ old → ((domain : ℕ) → has_due now old domain ≡ false) → ComesTo now old entries
+pub represents_now : (now : ℕ) (inside old : LiveValue) (entries : List Entry) → inside ≡ old → ((domain : ℕ) → has_due now old domain ≡ false) → ComesTo now old entries
     → Represents (record { domains = inside.domains; limits = inside.limits; time = now; tables = inside.tables }) entries
-stands_now now inside old entries is none comes =
+represents_now now inside old entries is none comes =
     let here : ComesTo now inside entries = subst (λ (v : LiveValue). ComesTo now v entries) (sym is) comes in
     record {
       in_order = here.in_order;
@@ -101,12 +101,12 @@ inside_more domains entries e all is =
     ∙ and_from (list_all (is_inside domains) entries) (list_all (is_inside domains) (e ∷ [])) all (and_from (is_inside domains e) true is refl)
 
 -- one more entry, at the time
-pub stands_with : (old new : LiveValue) (entries : List Entry) (e : Entry) → e.time ≡ old.time → is_inside old.domains e ≡ true
+pub represents_with : (old new : LiveValue) (entries : List Entry) (e : Entry) → e.time ≡ old.time → is_inside old.domains e ≡ true
     → new.domains ≡ old.domains → new.time ≡ old.time → AreTables new
     → (e.domain < old.domains → rows_for new e.domain ≡ mitigations_with (bare e) (rows_for old e.domain))
     → ((other : ℕ) → other ≢ e.domain → rows_for new other ≡ rows_for old other)
     → Represents old entries → Represents new (entries ++ e ∷ [])
-stands_with old new entries e at is domains time are own others stands =
+represents_with old new entries e at is domains time are own others stands =
     let now : new.time ≡ e.time = time ∙ sym at in
     let later : old.time ≤ e.time = omega (arith, at) in
     record {
@@ -196,11 +196,11 @@ changed_comes f now domain old new entries changed within keeps is comes =
     comes_still now domain old new entries changed.domains (changed_are f domain old new changed keeps comes.are_tables)
     (changed_own f (mitigations_at now) domain old new changed within is) (changed_other f domain old new changed) comes
 
-pub changed_stands : (f : LiveTable → LiveTable) (old new : LiveValue) (entries : List Entry) (e : Entry) → Changed f e.domain old new
+pub changed_represents : (f : LiveTable → LiveTable) (old new : LiveValue) (entries : List Entry) (e : Entry) → Changed f e.domain old new
     → ((table : LiveTable) → (f table).room ≡ table.room) → ((table : LiveTable) → (f table).rows ≡ mitigations_with (bare e) table.rows)
     → e.time ≡ old.time → is_inside old.domains e ≡ true → Represents old entries → Represents new (entries ++ e ∷ [])
-changed_stands f old new entries e changed keeps is at inside stands =
-    stands_with old new entries e at inside changed.domains changed.time (changed_are f e.domain old new changed keeps stands.are_tables)
+changed_represents f old new entries e changed keeps is at inside stands =
+    represents_with old new entries e at inside changed.domains changed.time (changed_are f e.domain old new changed keeps stands.are_tables)
     (λ within. changed_own f (mitigations_with (bare e)) e.domain old new changed (subst (λ n. e.domain < n) (sym stands.are_tables.number) within) is)
     (changed_other f e.domain old new changed)
     stands
@@ -248,23 +248,23 @@ changed_here f domain inside tables made keeps are =
     changed_are f domain inside (with_tables inside tables) (record { domains = refl; limits = refl; time = refl; tables = made }) keeps are
 
 -- an entry that puts none, of no domain
-pub stands_outside : (live : LiveValue) (entries : List Entry) (e : Entry) → live.domains ≤ e.domain → puts e ≡ false → e.time ≡ live.time
+pub represents_outside : (live : LiveValue) (entries : List Entry) (e : Entry) → live.domains ≤ e.domain → puts e ≡ false → e.time ≡ live.time
     → Represents live entries → Represents live (entries ++ e ∷ [])
-stands_outside live entries e past none at stands =
-    stands_with live live entries e at (quiet_inside live.domains e none) refl refl stands.are_tables
+represents_outside live entries e past none at stands =
+    represents_with live live entries e at (quiet_inside live.domains e none) refl refl stands.are_tables
     (λ less. absurd (omega (arith, past, less)))
     (λ other apart. refl)
     stands
 
 -- a mitigation of an entry that may have lost its message and reply
-pub put_stands : (old new : LiveValue) (entries : List Entry) (slot : ℕ) (put e : Entry) → Changed (grown (record { entry = put; slot = slot })) put.domain old new
+pub put_represents : (old new : LiveValue) (entries : List Entry) (slot : ℕ) (put e : Entry) → Changed (grown (record { entry = put; slot = slot })) put.domain old new
     → bare e ≡ bare put → put.time ≡ old.time → put.domain < old.domains → Represents old entries → Represents new (entries ++ e ∷ [])
-put_stands old new entries slot put e changed same at within stands =
+put_represents old new entries slot put e changed same at within stands =
     let f = grown (record { entry = put; slot = slot }) in
     let domain : e.domain ≡ put.domain = ap (λ (x : Entry). x.domain) same in
     let time : e.time ≡ put.time = ap (λ (x : Entry). x.time) same in
     let here : Changed f e.domain old new = subst (λ d. Changed f d old new) (sym domain) changed in
-    changed_stands f old new entries e here
+    changed_represents f old new entries e here
     (λ table. refl)
     (λ table. ap (λ x. mitigations_with x table.rows) (sym same))
     (time ∙ at)

@@ -314,8 +314,8 @@ rows_moved : (keep : List ℕ) (o : Option LiveTable) → rows_or_none (option_m
 rows_moved keep None = refl
 rows_moved keep (Some table) = refl
 
-pub renumbered_stands : (keep : List ℕ) (live : LiveValue) (entries : List Entry) → Represents live entries → Represents (live_renumbered keep live) entries
-renumbered_stands keep live entries stands = record {
+pub renumbered_represents : (keep : List ℕ) (live : LiveValue) (entries : List Entry) → Represents live entries → Represents (live_renumbered keep live) entries
+renumbered_represents keep live entries stands = record {
   in_order = stands.in_order;
   inside = stands.inside;
   are_tables = are_moved keep live (map (table_renumbered keep) live.tables) refl stands.are_tables;

@@ -137,12 +137,12 @@ held_not_refused settings extent image entries fault.NoMemory holds refuses refu
 
 -- ---- what is recovered after a crash
 
-stands_holds : (journal : JournalValue) (settings : SettingsValue) (entries : List Entry) (image : ℕ → ℕ) → Represents journal settings entries image → Holds settings image entries
-stands_holds journal settings entries image is = holds settings journal.slots image (records_of entries) entries is.slots (record { same = refl; each = is.each }) (inr is.represents.journal)
+represents_holds : (journal : JournalValue) (settings : SettingsValue) (entries : List Entry) (image : ℕ → ℕ) → Represents journal settings entries image → Holds settings image entries
+represents_holds journal settings entries image is = holds settings journal.slots image (records_of entries) entries is.slots (record { same = refl; each = is.each }) (inr is.represents.journal)
 
 pub left_holds : (old new : Option Media) (journal : JournalValue) (settings : SettingsValue) (before after : List Entry) (image : ℕ → ℕ) → RestsWith old (Represents journal settings before) → Leaves old new (HoldsEither settings before after) → IsLeft old new image → HoldsEither settings before after image
 left_holds old new journal settings before after image rests leaves left =
-    left_has old new (HoldsEither settings before after) image (rests_as old (Represents journal settings before) (HoldsEither settings before after) (λ image is. inl (stands_holds journal settings before image is)) rests) leaves left
+    left_has old new (HoldsEither settings before after) image (rests_as old (Represents journal settings before) (HoldsEither settings before after) (λ image is. inl (represents_holds journal settings before image is)) rests) leaves left
 
 pub one_history : (settings : SettingsValue) (image : ℕ → ℕ) (first second : List Entry) → Holds settings image first → Holds settings image second → first ≡ second
 one_history settings image first second one other = same_entries first second one.each other.each (one_list (slots_of settings) settings.digest image (records_of first) (records_of second) one.records other.records) one_entry

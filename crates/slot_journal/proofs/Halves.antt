@@ -58,8 +58,8 @@ size_of : (room : List ℕ) (len : ℕ) → length room ≡ 8192 → len ≤ 818
 size_of room len whole fits = let taken = length-take len (drop 3 room) in let dropped = length-drop 3 room in omega (arith, whole, fits, taken, dropped)
 
 -- the entry that was read of the bytes stands in the slot
-pub entry_stands : (seen : ℕ → ℕ) (at : ℕ) (room : List ℕ) (len : ℕ) (bytes : List ℕ) (entry : Entry) → IsFound seen at room (Some len) → seen at ≡ 165 → length room ≡ 8192 → take len (drop 3 room) ≡ bytes → bytes ≡ record_bytes entry → IsSlot seen at (record_bytes entry)
-entry_stands seen at room len bytes entry found gate whole same is = subst (IsSlot seen at) (same ∙ is) (slot_found seen at room len found gate (size_of room len whole found.1))
+pub entry_found : (seen : ℕ → ℕ) (at : ℕ) (room : List ℕ) (len : ℕ) (bytes : List ℕ) (entry : Entry) → IsFound seen at room (Some len) → seen at ≡ 165 → length room ≡ 8192 → take len (drop 3 room) ≡ bytes → bytes ≡ record_bytes entry → IsSlot seen at (record_bytes entry)
+entry_found seen at room len bytes entry found gate whole same is = subst (IsSlot seen at) (same ∙ is) (slot_found seen at room len found gate (size_of room len whole found.1))
 
 pub read_refused : (seen : ℕ → ℕ) (at : ℕ) (room : List ℕ) (len : ℕ) (bytes : List ℕ) (why : JournalFault) → IsFound seen at room (Some len) → length room ≡ 8192 → take len (drop 3 room) ≡ bytes → IsNoRecord bytes at why → RefusesSlot seen at why
 read_refused seen at room len bytes why found whole same none = slot_refused seen at room len why found (size_of room len whole found.1) (subst (λ bytes. IsNoRecord bytes at why) (sym same) none)

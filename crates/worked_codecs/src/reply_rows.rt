@@ -99,7 +99,7 @@ fn content(word: &str) -> Content {
 }
 
 /// The body in hexadecimal.
-fn shown(alloc: Global, reply: &Reply<'_>) -> Option<String> {
+fn written_reply(alloc: Global, reply: &Reply<'_>) -> Option<String> {
     let body = body_of(alloc, reply).ok()?;
     hex::encode(alloc, body.items()).ok()
 }
@@ -136,7 +136,7 @@ fn worded_of(alloc: Global, asked: &mut Asked, row: &mut Row<'_>) -> Option<Stri
         content: content(letter),
     };
     let views = views_of(alloc, row, mids, view)?;
-    shown(alloc, &Reply::Mitigations(views))
+    written_reply(alloc, &Reply::Mitigations(views))
 }
 
 fn mitigations(alloc: Global, row: &mut Row<'_>) -> Option<String> {
@@ -155,7 +155,7 @@ fn cause_of(alloc: Global, row: &mut Row<'_>) -> Option<ConflictCause> {
 fn conflict(alloc: Global, row: &mut Row<'_>) -> Option<String> {
     let mid = row.number_or_none();
     let cause = cause_of(alloc, row)?;
-    shown(alloc, &Reply::Conflict(Conflict { mid, cause }))
+    written_reply(alloc, &Reply::Conflict(Conflict { mid, cause }))
 }
 
 fn current(row: &mut Row<'_>) -> Current {
@@ -175,18 +175,18 @@ fn session(alloc: Global, row: &mut Row<'_>) -> Option<String> {
         mitigating: current(row),
         idle: current(row),
     };
-    shown(alloc, &Reply::Session(view))
+    written_reply(alloc, &Reply::Session(view))
 }
 
 fn beat(alloc: Global, row: &mut Row<'_>) -> Option<String> {
     let heard = row.rest() == "true";
-    shown(alloc, &Reply::Beat { heard })
+    written_reply(alloc, &Reply::Beat { heard })
 }
 
 fn granted(alloc: Global, row: &mut Row<'_>) -> Option<String> {
     let mid = row.number::<u32>(" ");
     let lifetime = row.number::<i32>(" ");
-    shown(alloc, &Reply::Granted { mid, lifetime })
+    written_reply(alloc, &Reply::Granted { mid, lifetime })
 }
 
 /// The body that the words in front of a row have.

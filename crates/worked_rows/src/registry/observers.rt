@@ -81,7 +81,7 @@ fn see(views: &mut PlainViews<'static>, step: &str) -> Result<(), Fail> {
 }
 
 /// The token and the number of a notification.
-fn shown(notice: &Notice<'_>) -> [u8; 2] {
+fn bytes_of_notice(notice: &Notice<'_>) -> [u8; 2] {
     let number = if notice.gone { 0 } else { notice.number };
     let token = match notice.observer.token.bytes() {
         [byte] => *byte,
@@ -96,9 +96,9 @@ fn notified(observers: &mut Observers, views: &PlainViews<'_>, id: u16) -> [u8; 
         return [NONE, NONE];
     };
     let place = notice.place;
-    let shown = shown(&notice);
+    let bytes = bytes_of_notice(&notice);
     observers.notified(views, place, id);
-    shown
+    bytes
 }
 
 fn notify(

@@ -3,7 +3,7 @@ use Rattle.std.proofs.Math.Nat.{le-max_right}
 use Rattle.std.proofs.lemmas.Result.{err_from_is_err_and}
 use Rattle.slot_store.proofs.DiskReading.{sees_at_rest}
 use Rattle.slot_store.specs.StoreValues.{JournalValue}
-use Rattle.dots_ledger.proofs.Recovering.{stands_begun, time_begun, time_small, used_many, refuses_stray, refuses_more, fails_alone, caused_entries}
+use Rattle.dots_ledger.proofs.Recovering.{represents_begun, time_begun, time_small, used_many, refuses_stray, refuses_more, fails_alone, caused_entries}
 use Rattle.dots_ledger.proofs.beginning.fill.Goals as goal
 
 -- ---- where the journal isn't recovered
@@ -102,7 +102,7 @@ returns g c = record {
   recovered = record {
     entries = c.in_ok-journal.entries;
     each = c.in_ok-journal.ensures.each;
-    represents = stands_begun
+    represents = represents_begun
         c.args.settings.now
         c.in_ok-journal.entries
         c.take_all.new.registry

@@ -1,7 +1,7 @@
 use Rattle.std.proofs.Common.{sym, subst, ◌∙◌, arith}
 use Rattle.dots_registry.specs.Kept.{filed}
 use Rattle.dots_registry.specs.Fitting.{FitsIn}
-use Rattle.dots_ledger.proofs.Recovering.{taken_stand, time_within, joined, early_apart, fits_taken, taken_more}
+use Rattle.dots_ledger.proofs.Recovering.{taken_represents, time_within, joined, early_apart, fits_taken, taken_more}
 use Rattle.dots_ledger.proofs.taking.take.Goals as goal
 
 pub returns-then-entry-time-clause-no : goal.returns-then-entry-time-clause-no
@@ -16,13 +16,13 @@ joins-requires c = c.tick.ensures.settings c.args.settings.now c.requires.taken.
 pub returns-then-not-joins-clause-no : goal.returns-then-not-joins-clause-no
 returns-then-not-joins-clause-no c = λ is before taken.
     sym (joined c.args.settings.now c.tick.new.self before c.args.entry c.tick.ensures.time c.requires.within)
-    ∙ sym (c.joins.ensures before (c.tick.ensures.represents before (taken_stand c.args.settings.now before c.args.registry.now taken)))
+    ∙ sym (c.joins.ensures before (c.tick.ensures.represents before (taken_represents c.args.settings.now before c.args.registry.now taken)))
     ∙ c.if-not-joins.true
 
 pub apply-requires : goal.apply-requires
 apply-requires c =
     let some = c.requires.taken in
-    let represents = c.tick.ensures.represents some.entries (taken_stand c.args.settings.now some.entries c.args.registry.now some.taken) in
+    let represents = c.tick.ensures.represents some.entries (taken_represents c.args.settings.now some.entries c.args.registry.now some.taken) in
     subst
     (FitsIn c.tick.new.self)
     (sym c.in_ok-staged.ensures.value)
@@ -37,7 +37,7 @@ apply-requires c =
 
 pub returns-clause-yes : goal.returns-clause-yes
 returns-clause-yes c = λ is before place taken.
-    let represents = c.tick.ensures.represents before (taken_stand c.args.settings.now before c.args.registry.now taken) in
+    let represents = c.tick.ensures.represents before (taken_represents c.args.settings.now before c.args.registry.now taken) in
     taken_more
     c.args.settings.now
     before

@@ -8,7 +8,7 @@ use Rattle.dots_script.specs.Scripting.{Scripting}
 use Rattle.dots_run.specs.Outcomes.{Outcome}
 use Rattle.dots_run.specs.Scripted.{outside_first, outside_with}
 use Rattle.dots_run.proofs.Blank.{ready_blank}
-use Rattle.dots_run.proofs.Texts.{standing_of, joins, stands_at_first}
+use Rattle.dots_run.proofs.Texts.{standing_of, joins, is_at_first}
 use Rattle.dots_run.proofs.Asking.{not_served}
 use Rattle.dots_run.proofs.scripted.run_script.Goals as goal
 
@@ -29,7 +29,7 @@ returns-in-Ok-clause-runs g c =
     let empty : Outside = outside_first given (g.S.Source.faults c.args.settings.now) (g.R.Sink.holds c.args.report.now) (g.R.Sink.faults c.args.report.now) in
     let first = c.in-Ok.ensures.host in
     let stays : host ≡ c.in-Ok.host → outer left faults holds host ≡ start =
-    λ kept. ap (outer left faults holds) (kept ∙ first) ∙ stands_at_first (left c.args.script) (holds c.args.sends) (faults c.args.script) in
+    λ kept. ap (outer left faults holds) (kept ∙ first) ∙ is_at_first (left c.args.script) (holds c.args.sends) (faults c.args.script) in
     let said = c.run-status.ensures in
     let outcome : Outcome words status (before c.in-Ok.host) after = record {
       commands = said.words;

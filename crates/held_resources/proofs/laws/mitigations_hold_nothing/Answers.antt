@@ -1,5 +1,5 @@
-use Rattle.held_resources.proofs.Lawful.{still_stands}
+use Rattle.held_resources.proofs.Lawful.{still_represents}
 use Rattle.held_resources.proofs.laws.mitigations_hold_nothing.Goals as goal
 
 pub returns : goal.returns
-returns c = still_stands
+returns c = still_represents

@@ -8,7 +8,7 @@ use Rattle.slot_store.specs.StoreValues.{JournalValue}
 use Rattle.slot_journal.specs.DiskEntries as journal
 use Rattle.dots_ledger.specs.LedgerValues.{LedgerValue, Represents, RepresentsSome, CanAccept, joins_at}
 use Rattle.dots_ledger.specs.Crashes.{HoldsOne}
-use Rattle.dots_ledger.proofs.LedgerValues.{most_same, joins_parts, fits_in, stands_more}
+use Rattle.dots_ledger.proofs.LedgerValues.{most_same, joins_parts, fits_in, represents_more}
 use Rattle.dots_ledger.proofs.ledger.Ledger.append.Goals as goal
 
 pub apply-requires : goal.apply-requires
@@ -25,7 +25,7 @@ invariant_of-self g c =
         settings = can.settings;
         history = can.history ++ c.args.staged ∷ [];
         entries = can.entries ++ c.args.staged ∷ [];
-        represents = stands_more
+        represents = represents_more
             c.in-Ok.slot
             c.args.staged
             (record { registry = c.self.inside.registry; journal = c.self.inside.journal })
@@ -73,7 +73,7 @@ returns-in-Ok g c = record {
       (c.append.ensures.moments settings entries
       (subst (λ (l : LedgerValue). RestsWith (g.D.Disk.media c.args.disk.now) (journal.Represents l.journal settings entries)) (sym c.self.view_is) rests));
   appended = λ settings history entries represents joins. (
-    stands_more
+    represents_more
         c.in-Ok.slot
         c.args.staged
         (record { registry = c.self.inside.registry; journal = c.self.inside.journal })

@@ -13,7 +13,7 @@ use Rattle.slot_journal.specs.DiskEntries as journal
 use Rattle.dots_ledger.specs.LedgerValues.{LedgerValue, Represents, RepresentsSome}
 use Rattle.dots_ledger.specs.Crashes.{HoldsOne}
 use Rattle.dots_ledger.proofs.Slots.{named_below, named_many}
-use Rattle.dots_ledger.proofs.LedgerValues.{most_same, number_same, stands_compacted}
+use Rattle.dots_ledger.proofs.LedgerValues.{most_same, number_same, represents_compacted}
 use Rattle.dots_ledger.proofs.Images.{entries_kept}
 use Rattle.dots_ledger.proofs.ledger.Ledger.compact.Goals as goal
 
@@ -48,7 +48,7 @@ invariant_of-self-2 g c =
         settings = inv.settings;
         history = inv.history;
         entries = kept n t inv.entries;
-        represents = stands_compacted
+        represents = represents_compacted
             c.items.result.now
             (record { registry = c.self.inside.registry; journal = c.self.inside.journal })
             (record { registry = c.moved.new.self; journal = c.compact.new.self })
@@ -151,7 +151,7 @@ returns g c =
             subst
                 (λ (l : LedgerValue). Represents (record { registry = c.moved.new.self; journal = c.compact.new.self }) settings history (kept (number_remembered l.registry) (time_of l.registry) entries))
                 c.self.view_is
-                (stands_compacted
+                (represents_compacted
                 c.items.result.now
                 (record { registry = c.self.inside.registry; journal = c.self.inside.journal })
                 (record { registry = c.moved.new.self; journal = c.compact.new.self })

@@ -1,12 +1,12 @@
 use Rattle.std.proofs.Common.{◌≤◌, refl, sym, subst, arith}
 use Rattle.dots_registry.specs.RegistryValues.{time_of}
 use Rattle.dots_ledger.specs.LedgerValues.{LedgerValue, Represents}
-use Rattle.dots_ledger.proofs.LedgerValues.{stands_later, most_same}
+use Rattle.dots_ledger.proofs.LedgerValues.{represents_later, most_same}
 use Rattle.dots_ledger.proofs.ledger.Ledger.tick.Goals as goal
 
 pub returns-clause-represents : goal.returns-clause-represents
 returns-clause-represents c = λ settings history entries represents.
-    stands_later
+    represents_later
     c.args.now
     (record { registry = c.self.inside.registry; journal = c.self.inside.journal })
     (record { registry = c.tick.new.self; journal = c.self.inside.journal })
@@ -30,7 +30,7 @@ invariant_of-self c =
         settings = inv.settings;
         history = inv.history;
         entries = inv.entries;
-        represents = stands_later
+        represents = represents_later
             c.args.now
             (record { registry = c.self.inside.registry; journal = c.self.inside.journal })
             (record { registry = c.tick.new.self; journal = c.self.inside.journal })

@@ -6,7 +6,7 @@ use Rattle.dots_history.specs.Keeping.{kept}
 use Rattle.dots_registry.specs.RegistryValues.{RegistryValue, Represents, IsOf, time_of, number_remembered}
 use Rattle.dots_registry.specs.Filed.{RepresentsFiled, HasSlots}
 use Rattle.dots_registry.proofs.RegistryValues.{joined}
-use Rattle.dots_registry.proofs.Shrinking.{renumbered, renumbered_to, moved_stands, moved_of, moved_in, moved_room, compacted_in}
+use Rattle.dots_registry.proofs.Shrinking.{renumbered, renumbered_to, moved_represents, moved_of, moved_in, moved_room, compacted_in}
 use Rattle.dots_registry.proofs.registry.Registry.moved.Goals as goal
 
 pub invariant_of-self : goal.invariant_of-self
@@ -26,7 +26,7 @@ returns-clause-represents c = λ entries represents.
     subst
     (λ (r : RegistryValue). Represents r entries)
     (renumbered_to c.args.keep.now (joined c.self.inside.live c.self.inside.held c.self.inside.remembered c.self.inside.filters c.self.inside.last) c.args.self.now c.renumber.new.self c.renumber-2.new.self c.moved.new.self c.number_of-self-inside.result c.self.view_is c.renumber.ensures c.renumber-2.ensures c.moved.ensures c.number_of-self-inside.ensures)
-    (moved_stands c.args.keep.now c.args.self.now entries represents)
+    (moved_represents c.args.keep.now c.args.self.now entries represents)
 
 pub returns-clause-filed : goal.returns-clause-filed
 returns-clause-filed c = λ all represents rises calm is.

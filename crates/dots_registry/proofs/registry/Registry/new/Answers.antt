@@ -1,12 +1,12 @@
 use Rattle.std.proofs.Common.{[], None}
 use Rattle.held_resources.specs.Sizes.{most_held}
 use Rattle.dots_registry.proofs.Filed.{filed_first, slots_first_room}
-use Rattle.dots_registry.proofs.RegistryValues.{stands_first, is_of_first}
+use Rattle.dots_registry.proofs.RegistryValues.{represents_first, is_of_first}
 use Rattle.dots_registry.proofs.registry.Registry.new.Goals as goal
 
 pub returns-clause-represents : goal.returns-clause-represents
 returns-clause-represents c =
-    stands_first
+    represents_first
     c.args.settings.now
     c.in_ok-live.live
     c.in-Ok.held

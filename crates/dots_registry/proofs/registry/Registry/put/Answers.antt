@@ -5,7 +5,7 @@ use Rattle.dots_registry.specs.Filed.{RepresentsFiled}
 use Rattle.dots_laws.specs.Tables.{bare}
 use Rattle.dots_registry.proofs.Filed.{quiet_rows, filed_more, room_more}
 use Rattle.dots_registry.proofs.Rings.{made_pairs}
-use Rattle.dots_registry.proofs.RegistryValues.{joined, still_of, fits_ring, put_inside, put_room, put_stands}
+use Rattle.dots_registry.proofs.RegistryValues.{joined, still_of, fits_ring, put_inside, put_room, put_represents}
 use Rattle.installed_filters.specs.Filters.{FiltersValue, filters_put}
 use Rattle.dots_registry.proofs.Filtering.{put_fits, put_filtered, put_within}
 use Rattle.dots_registry.proofs.registry.Registry.put.Goals as goal
@@ -39,7 +39,7 @@ put-requires-2-clause-room c =
 
 pub returns-clause-represents : goal.returns-clause-represents
 returns-clause-represents c = λ entries represents.
-    put_stands
+    put_represents
     (joined c.self.inside.live c.self.inside.held c.self.inside.remembered c.self.inside.filters c.self.inside.last)
     c.args.self.now
     c.put-2.new.self

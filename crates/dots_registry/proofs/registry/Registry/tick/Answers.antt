@@ -3,12 +3,12 @@ use Rattle.dots_laws.specs.Filed.{entry_of}
 use Rattle.dots_registry.specs.Filed.{RepresentsFiled}
 use Rattle.dots_registry.proofs.Filed.{filed_later, slots_still}
 use Rattle.dots_registry.specs.RegistryValues.{RegistryValue}
-use Rattle.dots_registry.proofs.RegistryValues.{joined, still_of, stands_later}
+use Rattle.dots_registry.proofs.RegistryValues.{joined, still_of, represents_later}
 use Rattle.dots_registry.proofs.registry.Registry.tick.Goals as goal
 
 pub returns-clause-represents : goal.returns-clause-represents
 returns-clause-represents c = λ entries represents.
-    stands_later
+    represents_later
     c.args.now
     (joined c.self.inside.live c.self.inside.held c.self.inside.remembered c.self.inside.filters c.self.inside.last)
     c.args.self.now

@@ -9,7 +9,7 @@ use Rattle.held_resources.specs.Held.{acls_of}
 use Rattle.installed_filters.specs.Filters.{FiltersValue}
 use Rattle.dots_registry.proofs.Filtering.{write_fits, write_filtered}
 use Rattle.dots_registry.proofs.Rings.{made_pairs}
-use Rattle.dots_registry.proofs.RegistryValues.{joined, still_of, fits_ring, held_fits, write_stands}
+use Rattle.dots_registry.proofs.RegistryValues.{joined, still_of, fits_ring, held_fits, write_represents}
 use Rattle.dots_registry.proofs.registry.Registry.write.Goals as goal
 
 pub remember-entry-requires : goal.remember-entry-requires
@@ -28,7 +28,7 @@ apply-requires-clause-fits c =
 
 pub returns-clause-represents : goal.returns-clause-represents
 returns-clause-represents c = λ entries represents.
-    write_stands
+    write_represents
     (joined c.self.inside.live c.self.inside.held c.self.inside.remembered c.self.inside.filters c.self.inside.last)
     c.args.self.now
     c.note.new.self

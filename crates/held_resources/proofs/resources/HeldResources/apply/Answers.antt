@@ -1,6 +1,6 @@
 use Rattle.std.proofs.Common.{sym, ◌∙◌, ◌++◌, ◌∷◌, [], subst}
 use Rattle.held_resources.specs.Tables.{Tables, Represents}
-use Rattle.held_resources.proofs.HistoryTables.{accepted_by, takes_from, stands_with}
+use Rattle.held_resources.proofs.HistoryTables.{accepted_by, takes_from, represents_with}
 use Rattle.held_resources.proofs.resources.HeldResources.apply.Goals as goal
 
 pub put-requires-clause-takes : goal.put-requires-clause-takes
@@ -13,7 +13,7 @@ returns-clause-represents c =
     subst
     (λ (tables : Tables). Represents tables (entries ++ c.args.entry ∷ []))
     (sym c.put.ensures)
-    (stands_with
+    (represents_with
     c.args.self.now
     entries
     c.args.entry

@@ -4,7 +4,7 @@ use Rattle.dots_laws.specs.Tables.{bare}
 use Rattle.dots_laws.specs.Views.{mitigations_with}
 use Rattle.live_mitigations.specs.Rows.{noted}
 use Rattle.live_mitigations.specs.LiveValues.{LiveValue}
-use Rattle.live_mitigations.proofs.LiveValues.{changed_to, changed_here, within_tables, changed_own, changed_other, changed_stands, noted_rows, quiet_inside, stands_outside}
+use Rattle.live_mitigations.proofs.LiveValues.{changed_to, changed_here, within_tables, changed_own, changed_other, changed_represents, noted_rows, quiet_inside, represents_outside}
 use Rattle.live_mitigations.proofs.SlotsOfRows.{slots_with, noted_slots, are_outside}
 use Rattle.live_mitigations.proofs.live.LiveMitigations.note.Goals as goal
 
@@ -13,7 +13,7 @@ invariant_of-self c = changed_here (noted (record { entry = c.args.entry.now; sl
 
 pub returns-then-entry-self-clause-represents : goal.returns-then-entry-self-clause-represents
 returns-then-entry-self-clause-represents c = λ entries stands.
-    changed_stands (noted (record { entry = c.args.entry.now; slot = c.args.slot })) c.args.self.now _ entries c.args.entry.now
+    changed_represents (noted (record { entry = c.args.entry.now; slot = c.args.slot })) c.args.self.now _ entries c.args.entry.now
     (changed_to (noted (record { entry = c.args.entry.now; slot = c.args.slot })) c.args.entry.now.domain _ c.args.self.now c.note.new.self c.self.view_is c.note.ensures)
     (λ table. refl)
     (λ table. noted_rows (record { entry = c.args.entry.now; slot = c.args.slot }) table c.requires.quiet)
@@ -51,4 +51,4 @@ returns-then-entry-self-clause-others c =
 pub returns-else-entry-self-clause-represents : goal.returns-else-entry-self-clause-represents
 returns-else-entry-self-clause-represents c = λ entries stands.
     let same = ap (λ (v : LiveValue). v.domains) c.self.view_is in
-    stands_outside c.args.self.now entries c.args.entry.now (omega (arith, same, c.if-entry-self.false)) c.requires.quiet c.requires.at stands
+    represents_outside c.args.self.now entries c.args.entry.now (omega (arith, same, c.if-entry-self.false)) c.requires.quiet c.requires.at stands

@@ -3,7 +3,7 @@ use Rattle.dots_laws.specs.Tables.{bare}
 use Rattle.dots_laws.specs.Views.{mitigations_with}
 use Rattle.live_mitigations.specs.Rows.{grown}
 use Rattle.live_mitigations.specs.LiveValues.{LiveValue}
-use Rattle.live_mitigations.proofs.LiveValues.{changed_to, changed_here, within_tables, changed_own, changed_other, put_stands}
+use Rattle.live_mitigations.proofs.LiveValues.{changed_to, changed_here, within_tables, changed_own, changed_other, put_represents}
 use Rattle.live_mitigations.proofs.SlotsOfRows.{slots_with}
 use Rattle.live_mitigations.proofs.Room.{fits_kept}
 use Rattle.live_mitigations.proofs.live.LiveMitigations.put.Goals as goal
@@ -21,7 +21,7 @@ invariant_of-self c = changed_here (grown (record { entry = c.args.entry; slot =
 
 pub returns-clause-represents : goal.returns-clause-represents
 returns-clause-represents c = λ entries e same stands.
-    put_stands c.args.self.now _ entries c.args.slot c.args.entry e
+    put_represents c.args.self.now _ entries c.args.slot c.args.entry e
     (changed_to (grown (record { entry = c.args.entry; slot = c.args.slot })) c.args.entry.domain _ c.args.self.now c.put.new.self c.self.view_is c.put.ensures)
     same c.requires.at c.requires.inside stands
 

@@ -1,4 +1,4 @@
-use Rattle.live_mitigations.proofs.LiveValues.{stands_now}
+use Rattle.live_mitigations.proofs.LiveValues.{represents_now}
 use Rattle.std.proofs.Common.{sym, subst}
 use Rattle.live_mitigations.specs.LiveValues.{LiveValue, SlotsAre}
 use Rattle.live_mitigations.proofs.SlotsOfRows.{are_now}
@@ -6,7 +6,7 @@ use Rattle.live_mitigations.proofs.live.LiveMitigations.tick.Goals as goal
 
 pub returns-clause-represents : goal.returns-clause-represents
 returns-clause-represents c = λ entries comes.
-    stands_now c.args.now _ c.expire_all.new.self entries c.self.view_is c.expire_all.ensures.none (c.expire_all.ensures.comes entries comes)
+    represents_now c.args.now _ c.expire_all.new.self entries c.self.view_is c.expire_all.ensures.none (c.expire_all.ensures.comes entries comes)
 
 pub returns-clause-slots : goal.returns-clause-slots
 returns-clause-slots c = λ filed comes.

@@ -1,6 +1,6 @@
 use Rattle.std.proofs.Common.{rules}
 use Rattle.std.proofs.lemmas.Fn.{filter_same}
-use Rattle.dots_client.proofs.ledger.leave_over.Goals as goal
+use Rattle.dots_client.proofs.ledger.retain_granted.Goals as goal
 
 pub returns : goal.returns
 returns c = filter_same _ _ _ (λ x b f' k. search rules) _ _ c.retain.ensures.filtered
