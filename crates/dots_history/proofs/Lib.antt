@@ -2,6 +2,7 @@ pub mod Fates
 pub mod PlaceLaws
 pub mod Remembering
 pub mod HeldPlaces
+pub mod LostPlaces
 pub mod Cuts
 pub mod Placing
 pub mod CalmPlaces

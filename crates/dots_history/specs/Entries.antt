@@ -1,5 +1,5 @@
 -- What two entries are to each other.
-use Rattle.std.specs.Prelude.{ℕ, ◌+◌, ℤ, pos, negsuc, ◌+ℤ◌, int_lt, Bool, true, false, ◌&&◌, ◌||◌, ◌==◌, bytes_eq, nat_le, zero, List, Option, Some, None}
+use Rattle.std.specs.Prelude.{ℕ, ◌+◌, ℤ, pos, negsuc, ◌+ℤ◌, int_lt, Bool, true, false, not, ◌&&◌, ◌||◌, ◌==◌, bytes_eq, nat_le, zero, List, Option, Some, None}
 use Rattle.std.specs.List.{list_any}
 use Rattle.ip_scope.specs.Prefix.{PrefixValue, meets}
 use Rattle.dots_history.specs.declared.entry.Entry.{Entry}
@@ -48,10 +48,15 @@ holds_of_both test None other = false
 holds_of_both test (Some a) None = false
 holds_of_both test (Some a) (Some b) = test a b
 
+-- both are true, or both are false
+abbrev pub same_flag : Bool → Bool → Bool
+same_flag true b = b
+same_flag false b = not b
+
 -- of two changes of one client, the later takes the place of the earlier
 unfoldable pub replaces : Change → Change → Bool
 replaces earlier later =
-    holds_of_both (λ a b. (a.mid == b.mid) || overlaps true a b) (put_of earlier) (put_of later)
+    holds_of_both (λ a b. (a.mid == b.mid) || (same_flag a.trigger b.trigger && overlaps true a b)) (put_of earlier) (put_of later)
 
 -- A later mitigation of its client that has its mid or overlaps with it ends a mitigation (RFC 9132, section 4.4.1:
 -- a refresh, or the higher mid of two that overlap; the lower one is then deactivated).
@@ -112,6 +117,7 @@ is_held change.Register = true
 is_held (change.SetAlias alias) = true
 is_held (change.SetAcl acl) = true
 is_held (change.SetConfig sid config) = true
+is_held change.Lost = true
 is_held _ = false
 
 -- the later change takes the alias of this name away: it writes it anew or deletes it, or its client leaves (RFC 8783,
@@ -157,7 +163,24 @@ undoes_of_peer _ later = false
 unfoldable pub reconfigures : Entry → Entry → Bool
 reconfigures earlier later = (earlier.peer == later.peer) && undoes_of_peer earlier.change later.change
 
+-- the signal of a client peer is lost, and lost or back
+unfoldable pub is_lost : Change → Bool
+is_lost change.Lost = true
+is_lost _ = false
+
+unfoldable pub is_loss : Change → Bool
+is_loss change.Lost = true
+is_loss change.Back = true
+is_loss _ = false
+
+-- of two changes of one peer in its domain, the later says anew whether the signal is lost
+unfoldable pub undoes_loss : Change → Change → Bool
+undoes_loss earlier later = is_lost earlier && is_loss later
+
+unfoldable pub resumes : Entry → Entry → Bool
+resumes earlier later = (earlier.peer == later.peer) && ((earlier.domain == later.domain) && undoes_loss earlier.change later.change)
+
 -- what the earlier entry wrote is no longer held after the later one
 unfoldable pub undoes : Entry → Entry → Bool
 undoes earlier later =
-    (same_client earlier later && undoes_of_client earlier.change later.change) || reconfigures earlier later
+    (same_client earlier later && undoes_of_client earlier.change later.change) || (reconfigures earlier later || resumes earlier later)

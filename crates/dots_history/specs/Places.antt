@@ -1,7 +1,7 @@
 -- What a history means, by places in the list of its entries, which are numbered from 0.
 use Rattle.std.specs.Prelude.{◌≡◌, ℕ, suc, ◌+◌, ◌-◌, ◌<◌, ◌⊎◌, true, false, List, [], ◌∷◌, length, take, drop, filter, ◌||◌, Option, Some, None, slice_get}
 use Rattle.dots_history.specs.declared.entry.Entry.{Entry}
-use Rattle.dots_history.specs.Entries.{ends, withdraws, runs, is_signal, signals, may_repeat, is_held, undoes, reconfigures}
+use Rattle.dots_history.specs.Entries.{ends, withdraws, runs, is_signal, signals, may_repeat, is_held, undoes, reconfigures, is_lost, is_loss}
 use Rattle.dots_history.specs.Histories.{or_else, tally}
 
 -- no entry after place i ends this one
@@ -39,6 +39,17 @@ pub record IsHeld (entries : List Entry) (i : ℕ) (e : Entry) : Type 0 where
   pub there : slice_get entries i ≡ Some e
   pub written : is_held e.change ≡ true
   pub not_undone : (j : ℕ) (x : Entry) → i < j → slice_get entries j ≡ Some x → undoes e x ≡ false
+
+-- The signal of this peer is lost in its domain: at some place an entry says so, and no later one says that it is lost
+-- anew, or back.
+pub record IsLost (entries : List Entry) (peer domain : ℕ) : Type 0 where
+  pub place : ℕ
+  pub entry : Entry
+  pub there : slice_get entries place ≡ Some entry
+  pub lost : is_lost entry.change ≡ true
+  pub of_peer : (entry.peer ≡ peer) × (entry.domain ≡ domain)
+  pub not_since :
+      (j : ℕ) (x : Entry) → place < j → slice_get entries j ≡ Some x → is_loss x.change ≡ true → x.peer ≡ peer → x.domain ≡ domain → ⊥
 
 -- the last n
 abbrev pub lasts : {A : Type 0} → ℕ → List A → List A

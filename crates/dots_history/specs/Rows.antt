@@ -1,5 +1,5 @@
 -- The rows of the filter table that a history comes to at a time, and the fate of a packet by them.
-use Rattle.std.specs.Prelude.{ℕ, Bool, true, false, List, [], ◌∷◌, ◌++◌, map, filter, Option, Some, None, option_to_list}
+use Rattle.std.specs.Prelude.{ℕ, Bool, true, false, ◌&&◌, ◌||◌, ◌==◌, List, [], ◌∷◌, ◌++◌, not, map, filter, Option, Some, None, option_to_list}
 use Rattle.std.specs.List.{list_any, flat_map}
 use Rattle.ip_scope.specs.Prefix.{PrefixValue}
 use Rattle.acl_lists.specs.declared.acl.Acl.{Acl}
@@ -13,7 +13,7 @@ use Rattle.dots_history.specs.declared.entry.Entry.{Entry}
 use Rattle.dots_history.specs.declared.put.Target.{Target}
 use Rattle.dots_history.specs.declared.change.Change.{Change}
 use Rattle.dots_history.specs.declared.change.Change.TheVariants as change
-use Rattle.dots_history.specs.Entries.{same_client, option_any}
+use Rattle.dots_history.specs.Entries.{same_client, option_any, is_lost}
 use Rattle.dots_history.specs.Histories.{Mitigation, mitigations, held}
 
 -- A scrub row: the mitigation that it is of, whose domain, cuid and mid are the row's, one of its targets, whose ports
@@ -46,9 +46,34 @@ acl_of _ = None
 abbrev pub list_rows : List Entry → List Entry
 list_rows entries = filter (λ e. option_any (λ acl. true) (acl_of e.change)) (held entries)
 
--- a mitigation of the entry's client is live
+-- the mitigation filters at once, and not only while the signal of its client is lost
+abbrev pub triggers : Change → Bool
+triggers (change.Put put) = put.trigger
+triggers _ = false
+
+-- it filters only while the signal of its client is lost
+abbrev pub waits : Change → Bool
+waits (change.Put put) = not put.trigger
+waits _ = false
+
+-- the entry says that the signal of this peer is lost
+abbrev pub loses : ℕ → ℕ → Entry → Bool
+loses peer domain e = is_lost e.change && ((e.peer == peer) && (e.domain == domain))
+
+-- it is lost, by what is held
+abbrev pub is_lost_in : List Entry → ℕ → ℕ → Bool
+is_lost_in standing peer domain = list_any (loses peer domain) standing
+
+-- a live mitigation is active
+abbrev pub works : List Entry → Entry → Bool
+works standing put = triggers put.change || is_lost_in standing put.peer put.domain
+
+abbrev pub mitigates_by : List Entry → ℕ → List Entry → Entry → Bool
+mitigates_by standing t entries e = list_any (λ m. same_client e m.put && works standing m.put) (mitigations t entries)
+
+-- an active mitigation of the entry's client is live
 abbrev pub is_mitigating : ℕ → List Entry → Entry → Bool
-is_mitigating t entries e = list_any (λ m. same_client e m.put) (mitigations t entries)
+is_mitigating t entries e = mitigates_by (held entries) t entries e
 
 -- a list that was written by this entry is active (RFC 8783, section 7.2: `activation-type`)
 abbrev pub is_active : ℕ → List Entry → Entry → Activation → Bool
@@ -61,20 +86,20 @@ mid_of (change.Put put) = put.mid
 mid_of _ = 0
 
 -- the row as a filter table holds it
-abbrev pub plain_row : Row → ScrubRow
-plain_row row = record {
+abbrev pub plain_row : List Entry → Row → ScrubRow
+plain_row standing row = record {
   domain = row.put.domain;
   cuid = row.put.cuid;
   mid = mid_of row.put.change;
   prefix = row.prefix;
   ports = row.target.ports;
   protocols = row.target.protocols;
-  active = true;
+  active = works standing row.put;
 }
 
--- the scrub rows of a history; each filters, since its mitigation is live
+-- the scrub rows of a history; each filters where its mitigation is active
 abbrev pub plain_rows : ℕ → List Entry → List ScrubRow
-plain_rows t entries = map plain_row (scrub_rows t entries)
+plain_rows t entries = map (plain_row (held entries)) (scrub_rows t entries)
 
 -- the row of the list that an entry wrote, where it wrote one
 abbrev pub acl_row : ℕ → List Entry → Entry → Option Acl → Option AclRow

@@ -41,6 +41,8 @@ fn is_change_within(change: &Change) -> bool
         Change::Register => true,
         Change::Deregister => true,
         Change::ClearConfig => true,
+        Change::Lost => true,
+        Change::Back => true,
     }
 }
 

@@ -26,4 +26,8 @@ pub enum Change {
     SetConfig { sid: u32, config: Config },
     /// The session configuration that is held is deleted (RFC 9132, section 4.5.4).
     ClearConfig,
+    /// The signal of a client peer is lost.
+    Lost,
+    /// It is back.
+    Back,
 }

@@ -2,7 +2,7 @@
 
 ghost use Rattle.std.specs.Prelude.{◌≡◌};
 ghost use Rattle.std.specs.List.{list_any};
-ghost use Rattle.dots_history.specs.Entries.{is_held, undoes, undoes_of_client, undoes_alias, undoes_acl, is_deregister, is_configuration, undoes_of_peer, reconfigures};
+ghost use Rattle.dots_history.specs.Entries.{is_held, undoes, undoes_of_client, undoes_alias, undoes_acl, is_deregister, is_configuration, undoes_of_peer, reconfigures, resumes, undoes_loss, is_lost, is_loss};
 ghost use Rattle.dots_history.specs.Histories.{stays};
 
 use crate::change::Change;
@@ -31,6 +31,39 @@ fn undoes(earlier: &Entry, later: &Entry) -> bool
 {
     (is_same_client(earlier, later) && undoes_of_client(&earlier.change, &later.change))
         || reconfigures(earlier, later)
+        || resumes(earlier, later)
+}
+
+#[tactic(auto, unfolding(crate::specs::Entries::resumes))]
+fn resumes(earlier: &Entry, later: &Entry) -> bool
+    ensures { result ≡ resumes earlier.now later.now }
+{
+    earlier.peer == later.peer
+        && earlier.domain == later.domain
+        && undoes_loss(&earlier.change, &later.change)
+}
+
+#[tactic(auto, unfolding(crate::specs::Entries::undoes_loss))]
+fn undoes_loss(earlier: &Change, later: &Change) -> bool
+    ensures { result ≡ undoes_loss earlier.now later.now }
+{
+    is_lost(earlier) && is_loss(later)
+}
+
+/// Whether the change says that a signal is lost.
+#[tactic(auto, unfolding(crate::specs::Entries::is_lost))]
+pub fn is_lost(change: &Change) -> bool
+    ensures { result ≡ is_lost change.now }
+{
+    matches!(change, Change::Lost)
+}
+
+/// Whether the change says that a signal is lost, or back.
+#[tactic(auto, unfolding(crate::specs::Entries::is_loss))]
+pub fn is_loss(change: &Change) -> bool
+    ensures { result ≡ is_loss change.now }
+{
+    matches!(change, Change::Lost | Change::Back)
 }
 
 #[tactic(auto, unfolding(crate::specs::Entries::reconfigures))]
@@ -47,7 +80,11 @@ fn is_held(change: &Change) -> bool
 {
     matches!(
         change,
-        Change::Register | Change::SetAlias(_) | Change::SetAcl(_) | Change::SetConfig { .. }
+        Change::Register
+            | Change::SetAlias(_)
+            | Change::SetAcl(_)
+            | Change::SetConfig { .. }
+            | Change::Lost
     )
 }
 

@@ -3,8 +3,9 @@
 ghost use Rattle.std.specs.Prelude.{◌≡◌, ℕ, suc, true, List, ◌∷◌, ◌++◌, length, drop, Some, slice_get};
 ghost use Rattle.dots_history.specs.declared.entry.Entry.{Entry};
 ghost use Rattle.dots_history.specs.declared.status.Status.TheVariants.{Open};
-ghost use Rattle.dots_history.specs.Histories.{status, live, stays, remembered, Calm};
-ghost use Rattle.dots_history.specs.Places.{Live, IsHeld, IsCalm, NamedAt, last_repeated};
+ghost use Rattle.dots_history.specs.Histories.{status, live, stays, held, remembered, Calm};
+ghost use Rattle.dots_history.specs.Rows.{is_lost_in};
+ghost use Rattle.dots_history.specs.Places.{Live, IsHeld, IsLost, IsCalm, NamedAt, last_repeated};
 ghost use Rattle.dots_history.specs.Keeping.{names, tracks};
 
 /// By the status that the later entries leave a mitigation it is live exactly where it stands or is terminating by the
@@ -20,6 +21,13 @@ pub fn live_by_places()
 pub fn held_by_places()
     ensures there { (entries : List Entry) (i : ℕ) (e : Entry) → slice_get entries i ≡ Some e → stays e (drop (suc i) entries) ≡ true → IsHeld entries i e }
     ensures back { (entries : List Entry) (i : ℕ) (e : Entry) → IsHeld entries i e → stays e (drop (suc i) entries) ≡ true }
+{}
+
+/// The signal of a peer is lost by what is held exactly where it is by the places of the entries: an entry says so, and
+/// no later one of that peer and domain that it is lost or back.
+pub fn lost_by_places()
+    ensures there { (entries : List Entry) (peer domain : ℕ) → is_lost_in (held entries) peer domain ≡ true → IsLost entries peer domain }
+    ensures back { (entries : List Entry) (peer domain : ℕ) → IsLost entries peer domain → is_lost_in (held entries) peer domain ≡ true }
 {}
 
 /// The remembered reply is that of the last entry which the message may be that of, among the last n signal entries of

@@ -30,11 +30,13 @@ pub use bounds::{are_few, is_within_bounds};
 pub use change::Change;
 pub use config::{Config, Values};
 pub use entry::{Entry, MessageKey};
-pub use holding::{is_configuration, is_deregister, is_still_held, undoes_acl, undoes_alias};
+pub use holding::{
+    is_configuration, is_deregister, is_loss, is_lost, is_still_held, undoes_acl, undoes_alias,
+};
 pub use lives::{is_granted_at, is_live, is_live_after};
 pub use overlap::{meets_some, overlaps, share_name, some_target_meets};
 pub use put::{Put, Target, TargetList};
-pub use relations::{ends, is_same_client, is_signal, put_of, withdrawn_mid};
+pub use relations::{ends, is_same_client, is_signal, put_of, waits, withdrawn_mid};
 pub use reply::{is_remembered, remembered};
 pub use slots::{SlotList, number_in};
 pub use status::Status;

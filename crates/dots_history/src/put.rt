@@ -14,6 +14,8 @@ pub struct Put {
     pub granted: i32,
     /// When the mitigation was first accepted, in seconds.
     pub start: u64,
+    /// Whether it filters at once, and not only while the signal of its client is lost (RFC 9132, section 4.4.1).
+    pub trigger: bool,
 }
 
 /// The targets of a mitigation, in order.

@@ -1,7 +1,8 @@
 //! What a later entry does to an earlier mitigation.
 
 ghost use Rattle.std.specs.Prelude.{◌≡◌, option_copied};
-ghost use Rattle.dots_history.specs.Entries.{same_client, put_of, withdrawn_mid, replaces, ends, takes_back, withdraws, signals, is_signal};
+ghost use Rattle.dots_history.specs.Entries.{same_client, put_of, withdrawn_mid, replaces, ends, takes_back, withdraws, signals, is_signal, same_flag};
+ghost use Rattle.dots_history.specs.Rows.{waits};
 
 use crate::change::Change;
 use crate::entry::Entry;
@@ -34,7 +35,13 @@ fn replaces(earlier: &Change, later: &Change) -> bool
     let Some(b) = put_of(later) else {
         return false;
     };
-    a.mid == b.mid || overlaps(true, a, b)
+    a.mid == b.mid || (is_same_flag(a.trigger, b.trigger) && overlaps(true, a, b))
+}
+
+fn is_same_flag(a: bool, b: bool) -> bool
+    ensures { result ≡ same_flag a b }
+{
+    if a { b } else { !b }
 }
 
 /// Whether the later entry withdraws the earlier, which is a mitigation of its client with the mid that it names.
@@ -63,6 +70,14 @@ pub fn put_of(change: &Change) -> Option<&Put>
         Change::Put(put) => Some(put),
         _ => None,
     }
+}
+
+/// Whether a mitigation filters only while the signal of its client is lost (RFC 9132, section 4.4.1:
+/// `trigger-mitigation` false).
+pub fn waits(change: &Change) -> bool
+    ensures { result ≡ waits change.now }
+{
+    put_of(change).is_some_and(|put| !put.trigger)
 }
 
 /// The mid that a change withdraws.

@@ -9,7 +9,7 @@ use Rattle.dots_history.specs.declared.entry.Entry.{Entry}
 use Rattle.dots_history.specs.declared.put.Target.{Target}
 use Rattle.dots_history.specs.declared.change.Change.{Change}
 use Rattle.dots_history.specs.declared.change.Change.TheVariants as change
-use Rattle.dots_history.specs.Entries.{same_client, is_signal, signals, may_repeat, is_held, undoes, undoes_of_client, undoes_of_peer, reconfigures, option_any}
+use Rattle.dots_history.specs.Entries.{same_client, is_signal, signals, may_repeat, is_held, undoes, undoes_of_client, undoes_of_peer, reconfigures, option_any, resumes, undoes_loss}
 use Rattle.dots_history.specs.Histories.{Mitigation, tally, is_recent, or_else, remembered, mitigations, stays, held, alone}
 use Rattle.dots_history.specs.Rows.{Row, rows_of, targets_of, acl_of, scrub_rows, list_rows}
 use Rattle.dots_history.proofs.Remembering.{or_none}
@@ -160,14 +160,20 @@ unfolding undoes_of_peer
 not_by_peer (change.SetAcl acl) later is = refl
 not_by_peer _ later is = absurd (false≢true is)
 
+pub far_resumes : (e x : Entry) → (e.domain == x.domain) ≡ false → resumes e x ≡ false
+unfolding resumes
+far_resumes e x other =
+    and_right (e.peer == x.peer) ((e.domain == x.domain) && undoes_loss e.change x.change) (and_left (e.domain == x.domain) (undoes_loss e.change x.change) other)
+
 list_undone : (e x : Entry) → writes_list e ≡ true → (e.domain == x.domain) ≡ false → undoes e x ≡ false
 unfolding undoes reconfigures same_client
 list_undone e x is other =
     or_from
     (((e.domain == x.domain) && bytes_eq e.cuid x.cuid) && undoes_of_client e.change x.change)
-    ((e.peer == x.peer) && undoes_of_peer e.change x.change)
+    (((e.peer == x.peer) && undoes_of_peer e.change x.change) || resumes e x)
     (and_left ((e.domain == x.domain) && bytes_eq e.cuid x.cuid) (undoes_of_client e.change x.change) (and_left (e.domain == x.domain) (bytes_eq e.cuid x.cuid) other))
-    (and_right (e.peer == x.peer) (undoes_of_peer e.change x.change) (not_by_peer e.change x.change is))
+    (or_from ((e.peer == x.peer) && undoes_of_peer e.change x.change) (resumes e x)
+    (and_right (e.peer == x.peer) (undoes_of_peer e.change x.change) (not_by_peer e.change x.change is)) (far_resumes e x other))
 
 same_undone : (domain : ℕ) (e : Entry) (later : List Entry) → writes_list e ≡ true → (e.domain == domain) ≡ true
     → list_any (undoes e) (alone domain later) ≡ list_any (undoes e) later

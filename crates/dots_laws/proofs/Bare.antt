@@ -13,9 +13,9 @@ use Rattle.dots_history.specs.declared.entry.Entry.{Entry}
 use Rattle.dots_history.specs.declared.put.Target.{Target}
 use Rattle.dots_history.specs.declared.status.Status.{Status}
 use Rattle.dots_history.specs.declared.status.Status.TheVariants.{Ended, Open, Withdrawn}
-use Rattle.dots_history.specs.Entries.{same_client, ends, withdraws, runs, is_held, undoes, reconfigures, option_any}
+use Rattle.dots_history.specs.Entries.{same_client, ends, withdraws, runs, is_held, undoes, reconfigures, option_any, resumes}
 use Rattle.dots_history.specs.Histories.{Mitigation, live, if_live, status, step, stays, mitigations, held}
-use Rattle.dots_history.specs.Rows.{Row, targets_of, rows_of, list_rows, plain_row, plain_rows, acl_of, acl_row, acl_rows_of, acl_rows, is_mitigating, is_active, fate}
+use Rattle.dots_history.specs.Rows.{Row, targets_of, rows_of, list_rows, plain_row, plain_rows, acl_of, acl_row, acl_rows_of, acl_rows, is_mitigating, is_active, fate, is_lost_in, loses, works, triggers, mitigates_by, mid_of}
 use Rattle.dots_laws.specs.Tables.{bare, bare_mitigation}
 
 bare_step : (put : Entry) (s : Status) (e : Entry) → step (bare put) s (bare e) ≡ step put s e
@@ -53,7 +53,7 @@ bare_mitigations t (e ∷ later) =
     ∙ one_or_none bare_mitigation (live t e (status e Open later)) (record { put = e; status = status e Open later }) (mitigations t later)
 
 bare_undoes : (e x : Entry) → undoes (bare e) (bare x) ≡ undoes e x
-unfolding undoes reconfigures same_client
+unfolding undoes reconfigures resumes same_client
 bare_undoes e x = refl
 
 bare_undone : (e : Entry) (later : List Entry) → list_any (undoes (bare e)) (map bare later) ≡ list_any (undoes e) later
@@ -69,50 +69,73 @@ bare_held (e ∷ later) =
     ∙ one_or_none bare (stays e later) e (held later)
 
 -- ---- rows
-bare_prefixes : (put : Entry) (target : Target) (prefixes : List PrefixValue)
-    → map plain_row (map (λ (p : PrefixValue). record { put = bare put; target = target; prefix = p }) prefixes)
-    ≡ map plain_row (map (λ (p : PrefixValue). record { put = put; target = target; prefix = p }) prefixes)
-bare_prefixes put target [] = refl
-bare_prefixes put target (p ∷ prefixes) =
-    ap (λ rows. plain_row (record { put = put; target = target; prefix = p }) ∷ rows) (bare_prefixes put target prefixes)
+bare_lost : (standing : List Entry) (peer domain : ℕ) → is_lost_in (map bare standing) peer domain ≡ is_lost_in standing peer domain
+bare_lost [] peer domain = refl
+bare_lost (e ∷ standing) peer domain = ap (λ b. loses peer domain e || b) (bare_lost standing peer domain)
+
+bare_works : (standing : List Entry) (put : Entry) → works (map bare standing) (bare put) ≡ works standing put
+bare_works standing put = ap (λ b. triggers put.change || b) (bare_lost standing put.peer put.domain)
+
+bare_row : (standing : List Entry) (put : Entry) (target : Target) (p : PrefixValue)
+    → plain_row (map bare standing) (record { put = bare put; target = target; prefix = p }) ≡ plain_row standing (record { put = put; target = target; prefix = p })
+bare_row standing put target p =
+    ap (λ b. record { domain = put.domain; cuid = put.cuid; mid = mid_of put.change; prefix = p; ports = target.ports; protocols = target.protocols; active = b })
+    (bare_works standing put)
+
+bare_prefixes : (standing : List Entry) (put : Entry) (target : Target) (prefixes : List PrefixValue)
+    → map (plain_row (map bare standing)) (map (λ (p : PrefixValue). record { put = bare put; target = target; prefix = p }) prefixes)
+    ≡ map (plain_row standing) (map (λ (p : PrefixValue). record { put = put; target = target; prefix = p }) prefixes)
+bare_prefixes standing put target [] = refl
+bare_prefixes standing put target (p ∷ prefixes) =
+    ap (λ row. row ∷ map (plain_row (map bare standing)) (map (λ (q : PrefixValue). record { put = bare put; target = target; prefix = q }) prefixes)) (bare_row standing put target p)
+    ∙ ap (λ rows. plain_row standing (record { put = put; target = target; prefix = p }) ∷ rows) (bare_prefixes standing put target prefixes)
 
 abbrev rows_with : Entry → List Target → List Row
 rows_with put targets = flat_map (λ (target : Target). map (λ (p : PrefixValue). record { put = put; target = target; prefix = p }) target.prefixes) targets
 
-bare_targets : (put : Entry) (targets : List Target) → map plain_row (rows_with (bare put) targets) ≡ map plain_row (rows_with put targets)
-bare_targets put [] = refl
-bare_targets put (target ∷ targets) =
-    map-append plain_row (map (λ (p : PrefixValue). record { put = bare put; target = target; prefix = p }) target.prefixes) (rows_with (bare put) targets)
-    ∙ ap (λ rows. rows ++ map plain_row (rows_with (bare put) targets)) (bare_prefixes put target target.prefixes)
+bare_targets : (standing : List Entry) (put : Entry) (targets : List Target)
+    → map (plain_row (map bare standing)) (rows_with (bare put) targets) ≡ map (plain_row standing) (rows_with put targets)
+bare_targets standing put [] = refl
+bare_targets standing put (target ∷ targets) =
+    map-append (plain_row (map bare standing)) (map (λ (p : PrefixValue). record { put = bare put; target = target; prefix = p }) target.prefixes) (rows_with (bare put) targets)
+    ∙ ap (λ rows. rows ++ map (plain_row (map bare standing)) (rows_with (bare put) targets)) (bare_prefixes standing put target target.prefixes)
     ∙ ap
-    (λ rows. map plain_row (map (λ (p : PrefixValue). record { put = put; target = target; prefix = p }) target.prefixes) ++ rows)
-    (bare_targets put targets)
-    ∙ sym (map-append plain_row (map (λ (p : PrefixValue). record { put = put; target = target; prefix = p }) target.prefixes) (rows_with put targets))
+    (λ rows. map (plain_row standing) (map (λ (p : PrefixValue). record { put = put; target = target; prefix = p }) target.prefixes) ++ rows)
+    (bare_targets standing put targets)
+    ∙ sym (map-append (plain_row standing) (map (λ (p : PrefixValue). record { put = put; target = target; prefix = p }) target.prefixes) (rows_with put targets))
 
 abbrev rows_in : List Mitigation → List Row
 rows_in ms = flat_map (λ (m : Mitigation). rows_of m.put) ms
 
-bare_rows_in : (ms : List Mitigation) → map plain_row (rows_in (map bare_mitigation ms)) ≡ map plain_row (rows_in ms)
-bare_rows_in [] = refl
-bare_rows_in (m ∷ ms) =
-    map-append plain_row (rows_of (bare m.put)) (rows_in (map bare_mitigation ms))
-    ∙ ap (λ rows. rows ++ map plain_row (rows_in (map bare_mitigation ms))) (bare_targets m.put (targets_of m.put.change))
-    ∙ ap (λ rows. map plain_row (rows_of m.put) ++ rows) (bare_rows_in ms)
-    ∙ sym (map-append plain_row (rows_of m.put) (rows_in ms))
+bare_rows_in : (standing : List Entry) (ms : List Mitigation) → map (plain_row (map bare standing)) (rows_in (map bare_mitigation ms)) ≡ map (plain_row standing) (rows_in ms)
+bare_rows_in standing [] = refl
+bare_rows_in standing (m ∷ ms) =
+    map-append (plain_row (map bare standing)) (rows_of (bare m.put)) (rows_in (map bare_mitigation ms))
+    ∙ ap (λ rows. rows ++ map (plain_row (map bare standing)) (rows_in (map bare_mitigation ms))) (bare_targets standing m.put (targets_of m.put.change))
+    ∙ ap (λ rows. map (plain_row standing) (rows_of m.put) ++ rows) (bare_rows_in standing ms)
+    ∙ sym (map-append (plain_row standing) (rows_of m.put) (rows_in ms))
 
 pub bare_rows : (t : ℕ) (entries : List Entry) → plain_rows t (map bare entries) ≡ plain_rows t entries
-bare_rows t entries = ap (λ ms. map plain_row (rows_in ms)) (bare_mitigations t entries) ∙ bare_rows_in (mitigations t entries)
+bare_rows t entries =
+    ap (λ standing. map (plain_row standing) (rows_in (mitigations t (map bare entries)))) (bare_held entries)
+    ∙ ap (λ ms. map (plain_row (map bare (held entries))) (rows_in ms)) (bare_mitigations t entries)
+    ∙ bare_rows_in (held entries) (mitigations t entries)
 
 -- ---- lists
-bare_clients : (e : Entry) (ms : List Mitigation)
-    → list_any (λ (m : Mitigation). same_client (bare e) m.put) (map bare_mitigation ms) ≡ list_any (λ (m : Mitigation). same_client e m.put) ms
+bare_clients : (standing : List Entry) (e : Entry) (ms : List Mitigation)
+    → list_any (λ (m : Mitigation). same_client (bare e) m.put && works (map bare standing) m.put) (map bare_mitigation ms)
+    ≡ list_any (λ (m : Mitigation). same_client e m.put && works standing m.put) ms
 unfolding same_client
-bare_clients e [] = refl
-bare_clients e (m ∷ ms) = ap (λ b. same_client e m.put || b) (bare_clients e ms)
+bare_clients standing e [] = refl
+bare_clients standing e (m ∷ ms) =
+    ap (λ b. (same_client e m.put && b) || list_any (λ (x : Mitigation). same_client (bare e) x.put && works (map bare standing) x.put) (map bare_mitigation ms)) (bare_works standing m.put)
+    ∙ ap (λ b. (same_client e m.put && works standing m.put) || b) (bare_clients standing e ms)
 
 pub bare_mitigating : (t : ℕ) (entries : List Entry) (e : Entry) → is_mitigating t (map bare entries) (bare e) ≡ is_mitigating t entries e
 bare_mitigating t entries e =
-    ap (λ ms. list_any (λ (m : Mitigation). same_client (bare e) m.put) ms) (bare_mitigations t entries) ∙ bare_clients e (mitigations t entries)
+    ap (λ standing. mitigates_by standing t (map bare entries) (bare e)) (bare_held entries)
+    ∙ ap (λ ms. list_any (λ (m : Mitigation). same_client (bare e) m.put && works (map bare (held entries)) m.put) ms) (bare_mitigations t entries)
+    ∙ bare_clients (held entries) e (mitigations t entries)
 
 bare_active : (t : ℕ) (entries : List Entry) (e : Entry) (a : Activation) → is_active t (map bare entries) (bare e) a ≡ is_active t entries e a
 bare_active t entries e Immediate = refl

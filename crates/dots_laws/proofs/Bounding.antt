@@ -10,12 +10,12 @@ use Rattle.dots_history.specs.declared.status.Status.{Status}
 use Rattle.dots_history.specs.declared.status.Status.TheVariants.{Open}
 use Rattle.dots_history.specs.declared.change.Change.{Change}
 use Rattle.dots_history.specs.declared.change.Change.TheVariants as change
-use Rattle.dots_history.specs.Entries.{put_of, same_client, is_signal, signals, is_held, is_configuration, undoes, undoes_of_client, undoes_of_peer, reconfigures}
+use Rattle.dots_history.specs.Entries.{put_of, same_client, is_signal, signals, is_held, is_configuration, undoes, undoes_of_client, undoes_of_peer, reconfigures, resumes, is_lost, is_loss, undoes_loss}
 use Rattle.dots_history.specs.Histories.{Mitigation, tally, live, status, is_recent, recent, stays, held, last, mitigations}
 use Rattle.dots_history.specs.Keeping.{kept}
 use Rattle.dots_history.specs.Places.{lasts}
 use Rattle.dots_history.proofs.Remembering.{recent_are_lasts}
-use Rattle.dots_laws.specs.Capacities.{Capacities, is_registration, is_alias, is_list, is_setting, belongs, has_client, KeepsCapacities, most_named}
+use Rattle.dots_laws.specs.Capacities.{Capacities, is_registration, is_alias, is_list, is_setting, belongs, has_client, KeepsCapacities, most_named, belongs_there, loses_as}
 use Rattle.dots_laws.proofs.Touching.{never_live}
 use Rattle.dots_laws.proofs.Keyed.{by_keys, tally_filter, length_filter}
 use Rattle.dots_laws.proofs.Counting.{few}
@@ -52,7 +52,7 @@ domain_of room e belong out =
     let parts = and_parts
     (not (is_signal e.change) || list_any (λ (actor : ℕ × ℕ). signals actor.0 actor.1 e) room.actors)
     (cond (is_configuration e.change) (list_any (λ peer. e.peer == peer) room.peers) (has_domain room e))
-    belong in
+    (and_parts (belongs_there room e) (not (is_lost e.change) || list_any (loses_as e) room.losers) belong).0 in
     sym (ap (λ b. cond b (list_any (λ peer. e.peer == peer) room.peers) (has_domain room e)) out) ∙ parts.1
 
 peer_of : (room : Capacities) (e : Entry) → belongs room e ≡ true → is_configuration e.change ≡ true → list_any (λ peer. e.peer == peer) room.peers ≡ true
@@ -60,7 +60,7 @@ peer_of room e belong is =
     let parts = and_parts
     (not (is_signal e.change) || list_any (λ (actor : ℕ × ℕ). signals actor.0 actor.1 e) room.actors)
     (cond (is_configuration e.change) (list_any (λ peer. e.peer == peer) room.peers) (has_domain room e))
-    belong in
+    (and_parts (belongs_there room e) (not (is_lost e.change) || list_any (loses_as e) room.losers) belong).0 in
     sym (ap (λ b. cond b (list_any (λ peer. e.peer == peer) room.peers) (has_domain room e)) is) ∙ parts.1
 
 actor_of : (room : Capacities) (e : Entry) → belongs room e ≡ true → is_signal e.change ≡ true → list_any (λ (actor : ℕ × ℕ). signals actor.0 actor.1 e) room.actors ≡ true
@@ -68,7 +68,7 @@ actor_of room e belong is =
     let parts = and_parts
     (not (is_signal e.change) || list_any (λ (actor : ℕ × ℕ). signals actor.0 actor.1 e) room.actors)
     (cond (is_configuration e.change) (list_any (λ peer. e.peer == peer) room.peers) (has_domain room e))
-    belong in
+    (and_parts (belongs_there room e) (not (is_lost e.change) || list_any (loses_as e) room.losers) belong).0 in
     elim (or_cases (not (is_signal e.change)) (list_any (λ (actor : ℕ × ℕ). signals actor.0 actor.1 e) room.actors) parts.0) [
       | inl out ↦ absurd (both_ways (not (is_signal e.change)) (not_from_true (is_signal e.change) is) out)
       | inr there ↦ there
@@ -134,14 +134,15 @@ few_recent room n entries all =
 
 -- ---- what is held: each is a registration, an alias, an access list or a session configuration
 kinds : Entry → ℕ
-kinds e = one (is_registration e.change) + one (is_alias e.change) + one (is_list e.change) + one (is_setting e.change)
+kinds e = one (is_registration e.change) + one (is_alias e.change) + one (is_list e.change) + one (is_setting e.change) + one (is_lost e.change)
 
-of_a_kind : (c : Change) → is_held c ≡ true → 1 ≤ one (is_registration c) + one (is_alias c) + one (is_list c) + one (is_setting c)
-unfolding is_held is_registration is_alias is_list is_setting
+of_a_kind : (c : Change) → is_held c ≡ true → 1 ≤ one (is_registration c) + one (is_alias c) + one (is_list c) + one (is_setting c) + one (is_lost c)
+unfolding is_held is_registration is_alias is_list is_setting is_lost
 of_a_kind change.Register is = omega arith
 of_a_kind (change.SetAlias alias) is = omega arith
 of_a_kind (change.SetAcl acl) is = omega arith
 of_a_kind (change.SetConfig sid config) is = omega arith
+of_a_kind change.Lost is = omega arith
 of_a_kind _ is = absurd (false≢true is)
 
 all_held : (entries : List Entry) → list_all (λ (e : Entry). is_held e.change) (held entries) ≡ true
@@ -158,7 +159,7 @@ all_held (e ∷ later) =
 by_kind : (xs : List Entry) → list_all (λ (e : Entry). is_held e.change) xs ≡ true
     → length xs
     ≤ tally (λ (e : Entry). is_registration e.change) xs + tally (λ (e : Entry). is_alias e.change) xs + tally (λ (e : Entry). is_list e.change) xs
-    + tally (λ (e : Entry). is_setting e.change) xs
+    + tally (λ (e : Entry). is_setting e.change) xs + tally (λ (e : Entry). is_lost e.change) xs
 by_kind [] all = omega arith
 by_kind (e ∷ xs) all =
     let parts = and_parts (is_held e.change) (list_all (λ (x : Entry). is_held x.change) xs) all in
@@ -275,12 +276,13 @@ undone_by_setting e x peer is own later =
     let same : e.peer ≡ x.peer = own ∙ sym (eqb-true x.peer peer parts.1) in
     or_right
     (same_client e x && undoes_of_client e.change x.change)
-    ((e.peer == x.peer) && undoes_of_peer e.change x.change)
+    (((e.peer == x.peer) && undoes_of_peer e.change x.change) || resumes e x)
+    (or_left ((e.peer == x.peer) && undoes_of_peer e.change x.change) (resumes e x)
     (and_from
     (e.peer == x.peer)
     (undoes_of_peer e.change x.change)
     (eq-eqb e.peer x.peer same)
-    (setting_undone e.change x.change is (setting_configures x.change parts.0)))
+    (setting_undone e.change x.change is (setting_configures x.change parts.0))))
 
 abbrev setting_of : ℕ → Entry → Bool
 setting_of peer e = is_setting e.change && (e.peer == peer)
@@ -357,6 +359,112 @@ few_settings room entries belong =
     (held_belong room entries belong))
     (λ peer. subst (λ k. k ≤ 1) (sym (tally_filter setting (λ (e : Entry). e.peer == peer) (held entries))) (one_setting peer entries))
 
+-- of a peer and domain one loss is held at most
+loss_of : ℕ × ℕ → Entry → Bool
+loss_of loser e = is_lost e.change && loses_as e loser
+
+lost_is_loss : (c : Change) → is_lost c ≡ true → is_loss c ≡ true
+unfolding is_lost is_loss
+lost_is_loss change.Lost is = refl
+lost_is_loss _ is = absurd (false≢true is)
+
+undone_by_loss : (e x : Entry) (loser : ℕ × ℕ) → is_lost e.change ≡ true → loses_as e loser ≡ true → is_lost x.change && loses_as x loser ≡ true → undoes e x ≡ true
+unfolding undoes resumes undoes_loss
+undone_by_loss e x loser is own later =
+    let parts = and_parts (is_lost x.change) (loses_as x loser) later in
+    let a = and_parts (e.peer == loser.0) (e.domain == loser.1) own in
+    let b = and_parts (x.peer == loser.0) (x.domain == loser.1) parts.1 in
+    or_right
+    (same_client e x && undoes_of_client e.change x.change)
+    (reconfigures e x || ((e.peer == x.peer) && ((e.domain == x.domain) && (is_lost e.change && is_loss x.change))))
+    (or_right
+    (reconfigures e x)
+    ((e.peer == x.peer) && ((e.domain == x.domain) && (is_lost e.change && is_loss x.change)))
+    (and_from (e.peer == x.peer) ((e.domain == x.domain) && (is_lost e.change && is_loss x.change))
+    (eq-eqb e.peer x.peer (eqb-true e.peer loser.0 a.0 ∙ sym (eqb-true x.peer loser.0 b.0)))
+    (and_from (e.domain == x.domain) (is_lost e.change && is_loss x.change)
+    (eq-eqb e.domain x.domain (eqb-true e.domain loser.1 a.1 ∙ sym (eqb-true x.domain loser.1 b.1)))
+    (and_from (is_lost e.change) (is_loss x.change) is (lost_is_loss x.change parts.0)))))
+
+no_more_losses : (e : Entry) (loser : ℕ × ℕ) (later : List Entry) → is_lost e.change ≡ true → loses_as e loser ≡ true → list_any (undoes e) later ≡ false
+    → tally (λ (x : Entry). is_lost x.change && loses_as x loser) (held later) ≤ 0
+no_more_losses e loser [] is own none = omega arith
+no_more_losses e loser (x ∷ later) is own none =
+    let parts = or_parts (undoes e x) (list_any (undoes e) later) none in
+    let go = no_more_losses e loser later is own parts.1 in
+    let out : one (is_lost x.change && loses_as x loser) ≤ 0 =
+    cond_both
+    (is_lost x.change && loses_as x loser)
+    1
+    0
+    (λ k. k ≤ 0)
+    (λ same. absurd (both_ways (undoes e x) parts.0 (undone_by_loss e x loser is own same)))
+    (λ other. omega arith) in
+    cond_both
+    (stays x later)
+    (Some x)
+    None
+    (λ o. tally (λ (x : Entry). is_lost x.change && loses_as x loser) (option_to_list o ++ held later) ≤ 0)
+    (λ stay. omega (arith, go, out))
+    (λ gone. go)
+
+one_loss : (loser : ℕ × ℕ) (entries : List Entry) → tally (λ (x : Entry). is_lost x.change && loses_as x loser) (held entries) ≤ 1
+one_loss loser [] = omega arith
+one_loss loser (e ∷ later) =
+    let go = one_loss loser later in
+    elim (cases_Bool (stays e later)) [
+      | inl stay ↦
+          let parts = and_parts (is_held e.change) (not (list_any (undoes e) later)) stay in
+          subst
+          (λ o. tally (λ (x : Entry). is_lost x.change && loses_as x loser) (option_to_list o ++ held later) ≤ 1)
+          (sym (ap (λ b. cond b (Some e) None) stay))
+          (cond_both
+          (is_lost e.change && loses_as e loser)
+          1
+          0
+          (λ k. k + tally (λ (x : Entry). is_lost x.change && loses_as x loser) (held later) ≤ 1)
+          (λ is.
+          let own = and_parts (is_lost e.change) (loses_as e loser) is in
+          let rest = no_more_losses e loser later own.0 own.1 (not_is (list_any (undoes e) later) parts.1) in
+          omega (arith, rest))
+          (λ out. omega (arith, go)))
+      | inr gone ↦
+          subst
+          (λ o. tally (λ (x : Entry). is_lost x.change && loses_as x loser) (option_to_list o ++ held later) ≤ 1)
+          (sym (ap (λ b. cond b (Some e) None) gone))
+          go
+    ]
+  where
+    not_is : (b : Bool) → not b ≡ true → b ≡ false
+    not_is true is = absurd (false≢true is)
+    not_is false is = refl
+
+abbrev loss : Entry → Bool
+loss e = is_lost e.change
+
+loser_of : (room : Capacities) (e : Entry) → belongs room e ≡ true → is_lost e.change ≡ true → list_any (loses_as e) room.losers ≡ true
+loser_of room e belong is =
+    elim (or_cases (not (is_lost e.change)) (list_any (loses_as e) room.losers) (and_parts (belongs_there room e) (not (is_lost e.change) || list_any (loses_as e) room.losers) belong).1) [
+      | inl out ↦ absurd (both_ways (not (is_lost e.change)) (not_from_true (is_lost e.change) is) out)
+      | inr there ↦ there
+    ]
+
+few_losses : (room : Capacities) (entries : List Entry) → list_all (belongs room) entries ≡ true → length (filter loss (held entries)) ≤ length room.losers * 1
+few_losses room entries belong =
+    by_keys
+    (λ loser (e : Entry). loses_as e loser)
+    1
+    room.losers
+    (filter loss (held entries))
+    (filter_all
+    loss
+    (belongs room)
+    (λ e. list_any (λ loser. loses_as e loser) room.losers)
+    (λ x is own. loser_of room x own is)
+    (held entries)
+    (held_belong room entries belong))
+    (λ loser. subst (λ k. k ≤ 1) (sym (tally_filter loss (λ (e : Entry). loses_as e loser) (held entries))) (one_loss loser entries))
+
 few_last : (entries : List Entry) → length (last entries) ≤ 1
 few_last [] = omega arith
 few_last (e ∷ []) = omega arith
@@ -386,12 +494,14 @@ named_few room n t entries belong keeps =
     let als = few_of_clients (λ (e : Entry). is_alias e.change) room.aliases standing (λ e is. or_left (is_alias e.change) (is_list e.change) is) keeps.owned keeps.aliased in
     let ls = few_of_clients (λ (e : Entry). is_list e.change) room.acls standing (λ e is. or_right (is_alias e.change) (is_list e.change) is) keeps.owned keeps.listed in
     let ss = few_settings room entries belong in
+    let lost = few_losses room entries belong in
     let end = few_last entries in
     let r = length_filter registration standing in
     let a = length_filter (λ (e : Entry). is_alias e.change) standing in
     let l = length_filter (λ (e : Entry). is_list e.change) standing in
     let s = length_filter setting standing in
+    let o = length_filter loss standing in
     let more_aliases = times_less (length (filter registration standing)) (d * room.clients) room.aliases regs in
     let more_lists = times_less (length (filter registration standing)) (d * room.clients) room.acls regs in
     let whole = times_all d room.mitigations room.clients room.aliases room.acls in
-    omega (arith, all, ms, rs, kinds, regs, als, ls, ss, end, r, a, l, s, more_aliases, more_lists, whole)
+    omega (arith, all, ms, rs, kinds, regs, als, ls, ss, lost, end, r, a, l, s, o, more_aliases, more_lists, whole)

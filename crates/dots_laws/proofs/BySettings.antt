@@ -3,19 +3,21 @@ use Rattle.std.proofs.Common.{◌≡◌, ℕ, ◌+◌, ◌<◌, ◌≤◌, zero,
 use Rattle.std.specs.Prelude.{◌==◌, nat_lt, unwrap_or}
 use Rattle.std.specs.List.{list_any, list_all, find, flat_map}
 use Rattle.std.specs.Option.{option_map}
-use Rattle.std.proofs.lemmas.Bool.{false≢true, both_ways, cases_Bool, and_parts, and_from, or_left, or_right, eqb-true, eq-eqb, ltb-true}
+use Rattle.std.proofs.lemmas.Bool.{false≢true, both_ways, cases_Bool, and_parts, and_from, or_left, or_right, eqb-true, eq-eqb, ltb-true, or_cases, not_from_true}
 use Rattle.std.proofs.lemmas.List.Folds.{list_any-append}
 use Rattle.dots_settings.specs.declared.peer.PeerRow.{PeerRow}
 use Rattle.dots_settings.specs.declared.peer.Role.{Role}
 use Rattle.dots_settings.specs.declared.peer.Role.TheVariants as role
 use Rattle.dots_settings.specs.Settings.{SettingsValue}
 use Rattle.dots_history.specs.declared.entry.Entry.{Entry}
-use Rattle.dots_history.specs.Entries.{same_client, is_signal, signals, is_configuration}
+use Rattle.dots_history.specs.declared.change.Change.{Change}
+use Rattle.dots_history.specs.declared.change.Change.TheVariants as change
+use Rattle.dots_history.specs.Entries.{same_client, is_signal, signals, is_configuration, is_lost, is_loss}
 use Rattle.dots_history.specs.Histories.{Mitigation, IsPart, tally, is_nil, mitigations, held}
 use Rattle.dots_history.specs.Keeping.{names, kept}
 use Rattle.dots_settings.specs.Lookups.{no_domain, role_of, prefixes_of}
-use Rattle.dots_laws.specs.Calm.{may_act, may_configure, is_http, change_inside, is_own, numbers_from, acts_by, acts_for, capacities_of, IsCalmBy}
-use Rattle.dots_laws.specs.Capacities.{Capacities, belongs, KeepsCapacities, has_client, is_registration, is_alias, is_list, most_named}
+use Rattle.dots_laws.specs.Calm.{may_act, may_configure, is_http, change_inside, is_own, numbers_from, acts_by, acts_for, capacities_of, IsCalmBy, acts_rightly, loses_rightly, waits_rightly, is_client_of, loser_by, loser_of}
+use Rattle.dots_laws.specs.Capacities.{Capacities, belongs, KeepsCapacities, has_client, is_registration, is_alias, is_list, most_named, belongs_there, loses_as}
 use Rattle.dots_laws.proofs.Touching.{as_signal}
 use Rattle.dots_laws.proofs.Keeping.{kept_is_part, kept_within}
 use Rattle.dots_laws.proofs.Views.{kept_mitigations, kept_held}
@@ -95,7 +97,7 @@ by_role settings e role.Gateway may signal = gateway (is_configuration e.change)
         refl
         (among_numbers 0 (length settings.domains) e.domain (omega arith) (omega (arith, below))))
 
-abbrev role_in : List PeerRow → ℕ → Role
+abbrev pub role_in : List PeerRow → ℕ → Role
 role_in rows peer = unwrap_or (option_map (λ (row : PeerRow). row.role) (find (λ (row : PeerRow). row.peer == peer) rows)) role.Stranger
 
 by_rows : (settings : SettingsValue) (e : Entry) (rows : List PeerRow) → Acts settings e (role_in rows e.peer) → is_signal e.change ≡ true
@@ -159,13 +161,11 @@ acts_own : (settings : SettingsValue) (e : Entry) → is_own settings e ≡ true
 acts_own settings e own =
     by_kind
     (is_configuration e.change)
+    (and_parts (acts_rightly settings e) (loses_rightly settings e && waits_rightly settings e)
     (and_parts
-    (cond
-    (is_configuration e.change)
-    (is_nil e.cuid && may_configure (role_of settings e.peer) e.domain)
-    (may_act settings (role_of settings e.peer) e.domain && change_inside settings (prefixes_of settings e.domain) e.change))
+    (acts_rightly settings e && (loses_rightly settings e && waits_rightly settings e))
     (is_signal e.change || is_http e.key)
-    own).0
+    own).0).0
   where
     by_kind : (b : Bool)
         → cond
@@ -178,18 +178,79 @@ acts_own settings e own =
     by_kind false is =
         (and_parts (may_act settings (role_of settings e.peer) e.domain) (change_inside settings (prefixes_of settings e.domain) e.change) is).0
 
+-- the three parts of what is of the settings
+rightly : (settings : SettingsValue) (e : Entry) → is_own settings e ≡ true
+    → (acts_rightly settings e ≡ true) × (loses_rightly settings e ≡ true) × (waits_rightly settings e ≡ true)
+rightly settings e own =
+    let of_settings = (and_parts (acts_rightly settings e && (loses_rightly settings e && waits_rightly settings e)) (is_signal e.change || is_http e.key) own).0 in
+    let parts = and_parts (acts_rightly settings e) (loses_rightly settings e && waits_rightly settings e) of_settings in
+    let rest = and_parts (loses_rightly settings e) (waits_rightly settings e) parts.1 in
+    (parts.0, rest.0, rest.1)
+
+lost_loss : (c : Change) → is_lost c ≡ true → is_loss c ≡ true
+unfolding is_lost is_loss
+lost_loss change.Lost is = refl
+lost_loss _ is = absurd (false≢true is)
+
+loser_here : (e : Entry) (r : Role) → is_client_of r e.domain ≡ true → list_any (loses_as e) (loser_by e.peer r) ≡ true
+loser_here e role.Stranger is = absurd (false≢true is)
+loser_here e role.Gateway is = absurd (false≢true is)
+loser_here e (role.Client own) is =
+    or_left (loses_as e (e.peer, own)) false
+    (and_from (e.peer == e.peer) (e.domain == own) (eq-eqb e.peer e.peer refl) (eq-eqb e.domain own (sym (eqb-true own e.domain is))))
+
+-- a client peer is among those whose signal may be lost
+pub loser_in : (e : Entry) (rows : List PeerRow) → is_client_of (role_in rows e.peer) e.domain ≡ true → list_any (loses_as e) (flat_map loser_of rows) ≡ true
+loser_in e [] is = absurd (false≢true is)
+loser_in e (row ∷ rows) is =
+    elim (cases_Bool (row.peer == e.peer)) [
+      | inl here ↦
+          let peer : row.peer ≡ e.peer = eqb-true row.peer e.peer here in
+          let told : role_in (row ∷ rows) e.peer ≡ row.role =
+          ap (λ b. unwrap_or (option_map (λ (r : PeerRow). r.role) (cond b (Some row) (find (λ (r : PeerRow). r.peer == e.peer) rows))) role.Stranger) here in
+          list_any-append (loses_as e) (loser_of row) (flat_map loser_of rows)
+          ∙ or_left
+          (list_any (loses_as e) (loser_of row))
+          (list_any (loses_as e) (flat_map loser_of rows))
+          (subst
+          (λ p. list_any (loses_as e) (loser_by p row.role) ≡ true)
+          (sym peer)
+          (loser_here e row.role (subst (λ r. is_client_of r e.domain ≡ true) told is)))
+      | inr other ↦
+          let told : role_in (row ∷ rows) e.peer ≡ role_in rows e.peer =
+          ap (λ b. unwrap_or (option_map (λ (r : PeerRow). r.role) (cond b (Some row) (find (λ (r : PeerRow). r.peer == e.peer) rows))) role.Stranger) other in
+          list_any-append (loses_as e) (loser_of row) (flat_map loser_of rows)
+          ∙ or_right
+          (list_any (loses_as e) (loser_of row))
+          (list_any (loses_as e) (flat_map loser_of rows))
+          (loser_in e rows (subst (λ r. is_client_of r e.domain ≡ true) told is))
+    ]
+
 own_belongs : (settings : SettingsValue) (e : Entry) → is_own settings e ≡ true → belongs (capacities_of settings) e ≡ true
 own_belongs settings e own =
     let may = acts_own settings e own in
+    let loses = (rightly settings e own).1 in
     and_from
+    (belongs_there (capacities_of settings) e)
+    (not (is_lost e.change) || list_any (loses_as e) (flat_map loser_of settings.peers))
+    (and_from
     (not (is_signal e.change) || list_any (acts e) (flat_map (acts_for settings) settings.peers))
     (cond
     (is_configuration e.change)
     (list_any (λ peer. e.peer == peer) (map (λ (row : PeerRow). row.peer) settings.peers))
     (list_any (λ domain. e.domain == domain) (numbers_from 0 (length settings.domains))))
     (signal_or_not (is_signal e.change) refl may)
-    (of_kind (is_configuration e.change) may (has_peer settings e settings.peers may))
+    (of_kind (is_configuration e.change) may (has_peer settings e settings.peers may)))
+    (lost_or_not (is_lost e.change) refl loses)
   where
+    lost_or_not : (b : Bool) → is_lost e.change ≡ b → loses_rightly settings e ≡ true → (not b || list_any (loses_as e) (flat_map loser_of settings.peers)) ≡ true
+    lost_or_not false is rightly = refl
+    lost_or_not true is rightly =
+        elim (or_cases (not (is_loss e.change)) (is_nil e.cuid && is_client_of (role_of settings e.peer) e.domain) rightly) [
+          | inl out ↦ absurd (both_ways (not (is_loss e.change)) (not_from_true (is_loss e.change) (lost_loss e.change is)) out)
+          | inr client ↦ loser_in e settings.peers (and_parts (is_nil e.cuid) (is_client_of (role_of settings e.peer) e.domain) client).1
+        ]
+
     signal_or_not : (b : Bool) → is_signal e.change ≡ b → Acts settings e (role_of settings e.peer)
         → (not b || list_any (acts e) (flat_map (acts_for settings) settings.peers)) ≡ true
     signal_or_not true is may = by_rows settings e settings.peers may is

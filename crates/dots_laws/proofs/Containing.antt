@@ -24,7 +24,7 @@ use Rattle.dots_history.specs.Entries.{is_configuration, option_any}
 use Rattle.dots_history.specs.Histories.{Mitigation, live, status, stays, is_nil, mitigations, held}
 use Rattle.dots_history.specs.Rows.{Row, targets_of, rows_of, plain_row, plain_rows, acl_of, acl_row, acl_rows_of, acl_rows, list_rows}
 use Rattle.dots_settings.specs.Lookups.{role_of, prefixes_of}
-use Rattle.dots_laws.specs.Calm.{may_act, may_configure, all_inside, destination_inside, change_inside, is_of_settings, came_rightly, is_own}
+use Rattle.dots_laws.specs.Calm.{may_act, may_configure, all_inside, destination_inside, change_inside, is_of_settings, came_rightly, is_own, acts_rightly, loses_rightly, waits_rightly}
 use Rattle.dots_laws.specs.Containing.{scrubs_inside, lists_inside}
 
 -- ---- what an entry of the settings' own names lies inside its domain
@@ -61,7 +61,7 @@ put_inside settings e own =
     (may_act settings (role_of settings e.peer) e.domain)
     (is_configuration e.change)
     refl
-    (and_parts (is_of_settings settings e) (came_rightly e) own).0
+    (and_parts (acts_rightly settings e) (loses_rightly settings e && waits_rightly settings e) (and_parts (is_of_settings settings e) (came_rightly e) own).0).0
 
 list_inside : (settings : SettingsValue) (e : Entry) → is_own settings e ≡ true → acl_inside settings e.domain (acl_of e.change) ≡ true
 list_inside settings e own =
@@ -73,7 +73,7 @@ list_inside settings e own =
     (may_act settings (role_of settings e.peer) e.domain)
     (is_configuration e.change)
     refl
-    (and_parts (is_of_settings settings e) (came_rightly e) own).0
+    (and_parts (acts_rightly settings e) (loses_rightly settings e && waits_rightly settings e) (and_parts (is_of_settings settings e) (came_rightly e) own).0).0
 
 some_or_none : {A : Type 0} → (b : Bool) (test : A → Bool) (x : A) (rest : List A) → test x ≡ true → list_all test rest ≡ true
     → list_all test (option_to_list (cond b (Some x) None) ++ rest) ≡ true
@@ -81,34 +81,34 @@ some_or_none true test x rest passes all = and_from (test x) (list_all test rest
 some_or_none false test x rest passes all = all
 
 -- ---- scrub rows
-prefixes_inside : (settings : SettingsValue) (put : Entry) (target : Target) (prefixes : List PrefixValue)
+prefixes_inside : (settings : SettingsValue) (standing : List Entry) (put : Entry) (target : Target) (prefixes : List PrefixValue)
     → all_inside (prefixes_of settings put.domain) prefixes ≡ true
-    → list_all (scrubs_inside settings) (map plain_row (map (λ (p : PrefixValue). record { put = put; target = target; prefix = p }) prefixes)) ≡ true
-prefixes_inside settings put target [] all = refl
-prefixes_inside settings put target (p ∷ prefixes) all =
+    → list_all (scrubs_inside settings) (map (plain_row standing) (map (λ (p : PrefixValue). record { put = put; target = target; prefix = p }) prefixes)) ≡ true
+prefixes_inside settings standing put target [] all = refl
+prefixes_inside settings standing put target (p ∷ prefixes) all =
     let parts = and_parts (list_any (inside p) (prefixes_of settings put.domain)) (all_inside (prefixes_of settings put.domain) prefixes) all in
     and_from
     (list_any (inside p) (prefixes_of settings put.domain))
-    (list_all (scrubs_inside settings) (map plain_row (map (λ (q : PrefixValue). record { put = put; target = target; prefix = q }) prefixes)))
+    (list_all (scrubs_inside settings) (map (plain_row standing) (map (λ (q : PrefixValue). record { put = put; target = target; prefix = q }) prefixes)))
     parts.0
-    (prefixes_inside settings put target prefixes parts.1)
+    (prefixes_inside settings standing put target prefixes parts.1)
 
 abbrev rows_with : Entry → List Target → List Row
 rows_with put targets = flat_map (λ (target : Target). map (λ (p : PrefixValue). record { put = put; target = target; prefix = p }) target.prefixes) targets
 
-targets_rows : (settings : SettingsValue) (put : Entry) (targets : List Target) → targets_inside settings put.domain targets ≡ true
-    → list_all (scrubs_inside settings) (map plain_row (rows_with put targets)) ≡ true
-targets_rows settings put [] all = refl
-targets_rows settings put (target ∷ targets) all =
+targets_rows : (settings : SettingsValue) (standing : List Entry) (put : Entry) (targets : List Target) → targets_inside settings put.domain targets ≡ true
+    → list_all (scrubs_inside settings) (map (plain_row standing) (rows_with put targets)) ≡ true
+targets_rows settings standing put [] all = refl
+targets_rows settings standing put (target ∷ targets) all =
     let front = map (λ (p : PrefixValue). record { put = put; target = target; prefix = p }) target.prefixes in
     let parts = and_parts (all_inside (prefixes_of settings put.domain) target.prefixes) (targets_inside settings put.domain targets) all in
-    ap (list_all (scrubs_inside settings)) (map-append plain_row front (rows_with put targets))
-    ∙ list_all-append (scrubs_inside settings) (map plain_row front) (map plain_row (rows_with put targets))
+    ap (list_all (scrubs_inside settings)) (map-append (plain_row standing) front (rows_with put targets))
+    ∙ list_all-append (scrubs_inside settings) (map (plain_row standing) front) (map (plain_row standing) (rows_with put targets))
     ∙ and_from
-    (list_all (scrubs_inside settings) (map plain_row front))
-    (list_all (scrubs_inside settings) (map plain_row (rows_with put targets)))
-    (prefixes_inside settings put target target.prefixes parts.0)
-    (targets_rows settings put targets parts.1)
+    (list_all (scrubs_inside settings) (map (plain_row standing) front))
+    (list_all (scrubs_inside settings) (map (plain_row standing) (rows_with put targets)))
+    (prefixes_inside settings standing put target target.prefixes parts.0)
+    (targets_rows settings standing put targets parts.1)
 
 abbrev put_is_inside : SettingsValue → Mitigation → Bool
 put_is_inside settings m = targets_inside settings m.put.domain (targets_of m.put.change)
@@ -126,23 +126,23 @@ live_inside settings t (e ∷ later) all =
     (put_inside settings e parts.0)
     (live_inside settings t later parts.1)
 
-rows_in_inside : (settings : SettingsValue) (ms : List Mitigation) → list_all (put_is_inside settings) ms ≡ true
-    → list_all (scrubs_inside settings) (map plain_row (flat_map (λ (m : Mitigation). rows_of m.put) ms)) ≡ true
-rows_in_inside settings [] all = refl
-rows_in_inside settings (m ∷ ms) all =
+rows_in_inside : (settings : SettingsValue) (standing : List Entry) (ms : List Mitigation) → list_all (put_is_inside settings) ms ≡ true
+    → list_all (scrubs_inside settings) (map (plain_row standing) (flat_map (λ (m : Mitigation). rows_of m.put) ms)) ≡ true
+rows_in_inside settings standing [] all = refl
+rows_in_inside settings standing (m ∷ ms) all =
     let rest = flat_map (λ (x : Mitigation). rows_of x.put) ms in
     let parts = and_parts (put_is_inside settings m) (list_all (put_is_inside settings) ms) all in
-    ap (list_all (scrubs_inside settings)) (map-append plain_row (rows_of m.put) rest)
-    ∙ list_all-append (scrubs_inside settings) (map plain_row (rows_of m.put)) (map plain_row rest)
+    ap (list_all (scrubs_inside settings)) (map-append (plain_row standing) (rows_of m.put) rest)
+    ∙ list_all-append (scrubs_inside settings) (map (plain_row standing) (rows_of m.put)) (map (plain_row standing) rest)
     ∙ and_from
-    (list_all (scrubs_inside settings) (map plain_row (rows_of m.put)))
-    (list_all (scrubs_inside settings) (map plain_row rest))
-    (targets_rows settings m.put (targets_of m.put.change) parts.0)
-    (rows_in_inside settings ms parts.1)
+    (list_all (scrubs_inside settings) (map (plain_row standing) (rows_of m.put)))
+    (list_all (scrubs_inside settings) (map (plain_row standing) rest))
+    (targets_rows settings standing m.put (targets_of m.put.change) parts.0)
+    (rows_in_inside settings standing ms parts.1)
 
 pub scrub_rows_inside : (settings : SettingsValue) (t : ℕ) (entries : List Entry) → list_all (is_own settings) entries ≡ true
     → list_all (scrubs_inside settings) (plain_rows t entries) ≡ true
-scrub_rows_inside settings t entries all = rows_in_inside settings (mitigations t entries) (live_inside settings t entries all)
+scrub_rows_inside settings t entries all = rows_in_inside settings (held entries) (mitigations t entries) (live_inside settings t entries all)
 
 -- ---- list rows
 held_own : (settings : SettingsValue) (entries : List Entry) → list_all (is_own settings) entries ≡ true → list_all (is_own settings) (held entries) ≡ true

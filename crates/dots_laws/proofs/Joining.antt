@@ -14,11 +14,11 @@ use Rattle.dots_history.specs.declared.put.Put.{Put}
 use Rattle.dots_history.specs.declared.status.Status.TheVariants.{Open}
 use Rattle.dots_history.specs.declared.change.Change.{Change}
 use Rattle.dots_history.specs.declared.change.Change.TheVariants as change
-use Rattle.dots_history.specs.Entries.{same_client, put_of, withdrawn_mid, holds_of_both, overlaps, ends, replaces, withdraws, takes_back, is_held, undoes, undoes_of_client, undoes_alias, undoes_acl, is_deregister, undoes_of_peer, is_configuration, reconfigures}
+use Rattle.dots_history.specs.Entries.{same_client, put_of, withdrawn_mid, holds_of_both, overlaps, ends, replaces, withdraws, takes_back, is_held, undoes, undoes_of_client, undoes_alias, undoes_acl, is_deregister, undoes_of_peer, is_configuration, reconfigures, same_flag, resumes, is_lost}
 use Rattle.dots_history.specs.Histories.{Mitigation, Within, tally, is_nil, live, step, mitigations, held}
 use Rattle.dots_history.specs.Keeping.{moved}
 use Rattle.dots_settings.specs.Lookups.{no_domain, role_of, prefixes_of}
-use Rattle.dots_laws.specs.Calm.{may_act, may_configure, change_inside, is_of_settings, came_rightly, is_own, capacities_of, IsCalmBy}
+use Rattle.dots_laws.specs.Calm.{may_act, may_configure, change_inside, is_of_settings, came_rightly, is_own, capacities_of, IsCalmBy, acts_rightly, loses_rightly, waits_rightly}
 use Rattle.dots_laws.specs.Capacities.{KeepsCapacities, is_registration, is_alias, is_list, has_client}
 use Rattle.dots_laws.specs.Fits.{last_or, last_time, is_registered, registers_rightly, keeps_room, fits, is_of_mitigations, has_one_peer, joins}
 use Rattle.dots_laws.specs.Tables.{client_of, is_of}
@@ -28,6 +28,7 @@ use Rattle.dots_laws.proofs.GoingOn.{held_push}
 use Rattle.dots_laws.proofs.Touching.{touches, touch_parts}
 use Rattle.dots_laws.proofs.Fitting.{push_calm}
 use Rattle.dots_laws.proofs.Single.{of_itself, is_of_client}
+use Rattle.dots_laws.proofs.Views.{resumes_parts}
 
 -- ---- how many pass a test, with one more entry that doesn't
 zero : (b : Bool) → b ≡ false → cond b 1 0 + 0 ≤ 0
@@ -181,12 +182,12 @@ touch_changes : (put e : Entry) → touches put e ≡ true → is_of_mitigations
 unfolding ends replaces withdraws takes_back
 touch_changes put e is =
     elim (or_cases
-    (same_client put e && holds_of_both (λ (a b : Put). (a.mid == b.mid) || overlaps true a b) (put_of put.change) (put_of e.change))
+    (same_client put e && holds_of_both (λ (a b : Put). (a.mid == b.mid) || (same_flag a.trigger b.trigger && overlaps true a b)) (put_of put.change) (put_of e.change))
     (same_client put e && holds_of_both (λ (p : Put) mid. p.mid == mid) (put_of put.change) (withdrawn_mid e.change))
     is) [
       | inl ended ↦
-          let both = and_parts (same_client put e) (holds_of_both (λ (a b : Put). (a.mid == b.mid) || overlaps true a b) (put_of put.change) (put_of e.change)) ended in
-          let there = second_there (λ (a b : Put). (a.mid == b.mid) || overlaps true a b) (put_of put.change) (put_of e.change) both.1 in
+          let both = and_parts (same_client put e) (holds_of_both (λ (a b : Put). (a.mid == b.mid) || (same_flag a.trigger b.trigger && overlaps true a b)) (put_of put.change) (put_of e.change)) ended in
+          let there = second_there (λ (a b : Put). (a.mid == b.mid) || (same_flag a.trigger b.trigger && overlaps true a b)) (put_of put.change) (put_of e.change) both.1 in
           put_changes e.change there.0 there.1
       | inr taken ↦
           let both = and_parts (same_client put e) (holds_of_both (λ (p : Put) mid. p.mid == mid) (put_of put.change) (withdrawn_mid e.change)) taken in
@@ -254,7 +255,7 @@ configures : (settings : SettingsValue) (e : Entry) → is_of_settings settings 
     → may_configure (role_of settings e.peer) e.domain ≡ true
 configures settings e own is =
     let acts = may_act settings (role_of settings e.peer) e.domain && change_inside settings (prefixes_of settings e.domain) e.change in
-    let told = sym (ap (λ b. cond b (is_nil e.cuid && may_configure (role_of settings e.peer) e.domain) acts) is) ∙ own in
+    let told = sym (ap (λ b. cond b (is_nil e.cuid && may_configure (role_of settings e.peer) e.domain) acts) is) ∙ (and_parts (acts_rightly settings e) (loses_rightly settings e && waits_rightly settings e) own).0 in
     (and_parts (is_nil e.cuid) (may_configure (role_of settings e.peer) e.domain) told).1
 
 one_domain_of : (r : Role) (a b : ℕ) → may_configure r a ≡ true → may_configure r b ≡ true → a ≡ b
@@ -306,17 +307,26 @@ owned_not_registered change.Register (change.SetAcl acl) is own = refl
 owned_not_registered change.Register _ is own = absurd (false≢true own)
 owned_not_registered _ later is own = absurd (false≢true is)
 
+registration_no_loss : (c : Change) → is_registration c ≡ true → is_lost c ≡ false
+unfolding is_registration is_lost
+registration_no_loss change.Register is = refl
+registration_no_loss _ is = absurd (false≢true is)
+
 -- what undoes the registration of a client undoes its aliases and access lists
 registration_undone : (r e : Entry) → is_registration r.change ≡ true → undoes r e ≡ true → (same_client r e ≡ true) × (undoes_of_client r.change e.change ≡ true)
 unfolding undoes reconfigures
 registration_undone r e is undone =
-    elim (or_cases (same_client r e && undoes_of_client r.change e.change) ((r.peer == e.peer) && undoes_of_peer r.change e.change) undone) [
+    elim (or_cases (same_client r e && undoes_of_client r.change e.change) (((r.peer == e.peer) && undoes_of_peer r.change e.change) || resumes r e) undone) [
       | inl of_client ↦ and_parts (same_client r e) (undoes_of_client r.change e.change) of_client
-      | inr of_peer ↦
-          absurd (both_ways
-          (undoes_of_peer r.change e.change)
-          (registration_of_client r.change e.change is)
-          (and_parts (r.peer == e.peer) (undoes_of_peer r.change e.change) of_peer).1)
+      | inr other ↦
+          elim (or_cases ((r.peer == e.peer) && undoes_of_peer r.change e.change) (resumes r e) other) [
+            | inl of_peer ↦
+                absurd (both_ways
+                (undoes_of_peer r.change e.change)
+                (registration_of_client r.change e.change is)
+                (and_parts (r.peer == e.peer) (undoes_of_peer r.change e.change) of_peer).1)
+            | inr of_loss ↦ absurd (both_ways (is_lost r.change) (registration_no_loss r.change is) (resumes_parts r e of_loss).2)
+          ]
     ]
 
 undone_of_client : (x e : Entry) → same_client x e ≡ true → undoes_of_client x.change e.change ≡ true → undoes x e ≡ true
@@ -324,7 +334,7 @@ unfolding undoes
 undone_of_client x e same undone =
     or_left
     (same_client x e && undoes_of_client x.change e.change)
-    (reconfigures x e)
+    (reconfigures x e || resumes x e)
     (and_from (same_client x e) (undoes_of_client x.change e.change) same undone)
 
 pub undone_with_client : (r x e : Entry) → is_registration r.change ≡ true → same_client r x ≡ true → is_alias x.change || is_list x.change ≡ true

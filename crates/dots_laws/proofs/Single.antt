@@ -11,11 +11,11 @@ use Rattle.dots_history.specs.declared.status.Status.{Status}
 use Rattle.dots_history.specs.declared.status.Status.TheVariants.{Ended, Open, Withdrawn}
 use Rattle.dots_history.specs.declared.change.Change.{Change}
 use Rattle.dots_history.specs.declared.change.Change.TheVariants as change
-use Rattle.dots_history.specs.Entries.{same_client, put_of, holds_of_both, option_any, overlaps, replaces, ends, withdraws, is_held, undoes, undoes_of_client, undoes_alias, undoes_acl, undoes_of_peer, is_configuration, reconfigures}
+use Rattle.dots_history.specs.Entries.{same_client, put_of, holds_of_both, option_any, overlaps, replaces, ends, withdraws, is_held, undoes, undoes_of_client, undoes_alias, undoes_acl, undoes_of_peer, is_configuration, reconfigures, same_flag, resumes}
 use Rattle.dots_history.specs.Histories.{Mitigation, tally, live, status, step, stays, mitigations, held}
 use Rattle.dots_history.proofs.Fates.{ended_stays}
 use Rattle.dots_laws.specs.Capacities.{is_setting}
-use Rattle.dots_laws.specs.Tables.{Client, client_of, is_of, has_mid, overlap_of_client, AreApart, writes_alias, writes_acl}
+use Rattle.dots_laws.specs.Tables.{Client, client_of, is_of, has_mid, overlap_of_client, AreApart, writes_alias, writes_acl, same_overlap}
 
 -- ---- clients
 pub of_itself : (a b : Entry) → same_client a b ≡ is_of (client_of a) b
@@ -104,16 +104,16 @@ ends_of client mid e x first second =
     let b = and_parts (is_of client x) (has_mid mid x) second in
     and_from
     (same_client e x)
-    (holds_of_both (λ (p q : Put). (p.mid == q.mid) || overlaps true p q) (put_of e.change) (put_of x.change))
+    (holds_of_both (λ (p q : Put). (p.mid == q.mid) || (same_flag p.trigger q.trigger && overlaps true p q)) (put_of e.change) (put_of x.change))
     (same_of client e x a.0 b.0)
     (by_puts (put_of e.change) (put_of x.change) a.1 b.1)
   where
     by_puts : (p q : Option Put) → option_any (λ (put : Put). put.mid == mid) p ≡ true → option_any (λ (put : Put). put.mid == mid) q ≡ true
-        → holds_of_both (λ (p q : Put). (p.mid == q.mid) || overlaps true p q) p q ≡ true
+        → holds_of_both (λ (p q : Put). (p.mid == q.mid) || (same_flag p.trigger q.trigger && overlaps true p q)) p q ≡ true
     by_puts None q is is_too = absurd (false≢true is)
     by_puts (Some p) None is is_too = absurd (false≢true is_too)
     by_puts (Some p) (Some q) is is_too =
-        or_left (p.mid == q.mid) (overlaps true p q) (eq-eqb p.mid q.mid (eqb-true p.mid mid is ∙ sym (eqb-true q.mid mid is_too)))
+        or_left (p.mid == q.mid) (same_flag p.trigger q.trigger && overlaps true p q) (eq-eqb p.mid q.mid (eqb-true p.mid mid is ∙ sym (eqb-true q.mid mid is_too)))
 
 pub one_mid : (client : Client) (mid t : ℕ) (entries : List Entry)
     → tally (λ (m : Mitigation). is_of client m.put && has_mid mid m.put) (mitigations t entries) ≤ 1
@@ -123,18 +123,18 @@ one_mid client mid t entries = one_live (λ e. is_of client e && has_mid mid e) 
 overlap_ends : (a b : Entry) → overlap_of_client a b ≡ true → ends a b ≡ true
 unfolding overlap_of_client ends replaces
 overlap_ends a b is =
-    let parts = and_parts (same_client a b) (holds_of_both (overlaps true) (put_of a.change) (put_of b.change)) is in
+    let parts = and_parts (same_client a b) (holds_of_both same_overlap (put_of a.change) (put_of b.change)) is in
     and_from
     (same_client a b)
-    (holds_of_both (λ (p q : Put). (p.mid == q.mid) || overlaps true p q) (put_of a.change) (put_of b.change))
+    (holds_of_both (λ (p q : Put). (p.mid == q.mid) || (same_flag p.trigger q.trigger && overlaps true p q)) (put_of a.change) (put_of b.change))
     parts.0
     (by_puts (put_of a.change) (put_of b.change) parts.1)
   where
-    by_puts : (p q : Option Put) → holds_of_both (overlaps true) p q ≡ true
-        → holds_of_both (λ (p q : Put). (p.mid == q.mid) || overlaps true p q) p q ≡ true
+    by_puts : (p q : Option Put) → holds_of_both same_overlap p q ≡ true
+        → holds_of_both (λ (p q : Put). (p.mid == q.mid) || (same_flag p.trigger q.trigger && overlaps true p q)) p q ≡ true
     by_puts None q both = absurd (false≢true both)
     by_puts (Some p) None both = absurd (false≢true both)
-    by_puts (Some p) (Some q) both = or_right (p.mid == q.mid) (overlaps true p q) both
+    by_puts (Some p) (Some q) both = or_right (p.mid == q.mid) (same_flag p.trigger q.trigger && overlaps true p q) both
 
 none_overlaps : (t : ℕ) (put : Entry) (later : List Entry) → list_any (ends put) later ≡ false
     → list_any (λ (m : Mitigation). overlap_of_client put m.put) (mitigations t later) ≡ false
@@ -239,7 +239,7 @@ unfolding undoes
 by_client e x same undone =
     or_left
     (same_client e x && undoes_of_client e.change x.change)
-    (reconfigures e x)
+    (reconfigures e x || resumes e x)
     (and_from (same_client e x) (undoes_of_client e.change x.change) same undone)
 
 by_peer : (e x : Entry) → e.peer ≡ x.peer → undoes_of_peer e.change x.change ≡ true → undoes e x ≡ true
@@ -247,8 +247,9 @@ unfolding undoes reconfigures
 by_peer e x same undone =
     or_right
     (same_client e x && undoes_of_client e.change x.change)
-    ((e.peer == x.peer) && undoes_of_peer e.change x.change)
-    (and_from (e.peer == x.peer) (undoes_of_peer e.change x.change) (eq-eqb e.peer x.peer same) undone)
+    (((e.peer == x.peer) && undoes_of_peer e.change x.change) || resumes e x)
+    (or_left ((e.peer == x.peer) && undoes_of_peer e.change x.change) (resumes e x)
+    (and_from (e.peer == x.peer) (undoes_of_peer e.change x.change) (eq-eqb e.peer x.peer same) undone))
 
 pub one_alias : (client : Client) (name : List ℕ) (entries : List Entry) → tally (λ (e : Entry). is_of client e && writes_alias name e.change) (held entries) ≤ 1
 one_alias client name entries =

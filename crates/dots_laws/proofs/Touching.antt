@@ -9,7 +9,7 @@ use Rattle.dots_history.specs.declared.status.Status.{Status}
 use Rattle.dots_history.specs.declared.status.Status.TheVariants.{Ended, Open, Withdrawn}
 use Rattle.dots_history.specs.declared.change.Change.{Change}
 use Rattle.dots_history.specs.declared.change.Change.TheVariants as change
-use Rattle.dots_history.specs.Entries.{same_client, put_of, withdrawn_mid, holds_of_both, overlaps, replaces, ends, takes_back, withdraws, granted_at, option_any, is_unexpired, runs, is_signal, signals, is_held}
+use Rattle.dots_history.specs.Entries.{same_client, put_of, withdrawn_mid, holds_of_both, overlaps, replaces, ends, takes_back, withdraws, granted_at, option_any, is_unexpired, runs, is_signal, signals, is_held, same_flag}
 use Rattle.dots_history.specs.Histories.{step, live}
 
 -- the second of two that are there
@@ -57,7 +57,7 @@ pub ends_parts : (put e : Entry) → ends put e ≡ true → (same_client put e 
 unfolding ends replaces
 ends_parts put e is =
     let parts = and_parts (same_client put e) (replaces put.change e.change) is in
-    let there = second_there (λ (a b : Put). (a.mid == b.mid) || overlaps true a b) (put_of put.change) (put_of e.change) parts.1 in
+    let there = second_there (λ (a b : Put). (a.mid == b.mid) || (same_flag a.trigger b.trigger && overlaps true a b)) (put_of put.change) (put_of e.change) parts.1 in
     (parts.0, put_signals e.change there.0 there.1)
 
 pub withdraws_parts : (put e : Entry) → withdraws put e ≡ true

@@ -1,6 +1,6 @@
 -- The view of the entries that the view names.
 use Rattle.std.proofs.Common.{◌≡◌, ℕ, Bool, true, false, cond, ◌&&◌, not, List, [], ◌∷◌, ◌++◌, map, Some, None, inl, inr, refl, sym, ap, ◌∙◌, subst}
-use Rattle.std.specs.Prelude.{option_to_list, nat_lt, ◌==◌}
+use Rattle.std.specs.Prelude.{◌||◌, option_to_list, nat_lt, ◌==◌}
 use Rattle.std.specs.List.{list_any}
 use Rattle.std.proofs.lemmas.Bool.{false≢true, true≢false, both_ways, cases_Bool, and_parts, and_left, or_parts, or_from, or_cases, or_left, or_right, not_from_true, eqb-true}
 use Rattle.dots_history.specs.declared.entry.Entry.{Entry}
@@ -8,7 +8,7 @@ use Rattle.dots_history.specs.declared.change.Change.{Change}
 use Rattle.dots_history.specs.declared.change.Change.TheVariants as change
 use Rattle.dots_history.specs.declared.status.Status.{Status}
 use Rattle.dots_history.specs.declared.status.Status.TheVariants.{Open}
-use Rattle.dots_history.specs.Entries.{put_of, withdraws, is_signal, signals, is_held, undoes, same_client, undoes_of_client, reconfigures, undoes_of_peer, is_configuration}
+use Rattle.dots_history.specs.Entries.{put_of, withdraws, is_signal, signals, is_held, undoes, same_client, undoes_of_client, reconfigures, undoes_of_peer, is_configuration, resumes, is_lost, is_loss, undoes_loss}
 use Rattle.dots_history.specs.Histories.{Mitigation, view, Kept, Within, IsPart, OnePeer, OneDomain, Calm, live, if_live, status, step, tally, is_recent, recent, is_nil, stays, held, last, mitigations}
 use Rattle.dots_history.specs.Keeping.{is_open, is_first, names, moved, pass, kept_by, kept}
 use Rattle.dots_laws.proofs.Recents.{same_recent}
@@ -79,16 +79,34 @@ signal_undoes (change.SetAlias alias) later is = absurd (false≢true is)
 signal_undoes (change.SetAcl acl) later is = absurd (false≢true is)
 signal_undoes _ later is = refl
 
+lost_no_signal : (c : Change) → is_lost c ≡ true → is_signal c ≡ false
+unfolding is_lost is_signal
+lost_no_signal change.Lost is = refl
+lost_no_signal _ is = absurd (false≢true is)
+
+-- what says anew whether a signal is lost is of its peer and domain
+pub resumes_parts : (e x : Entry) → resumes e x ≡ true → (e.peer ≡ x.peer) × (e.domain ≡ x.domain) × (is_lost e.change ≡ true) × (is_loss x.change ≡ true)
+unfolding resumes undoes_loss
+resumes_parts e x is =
+    let all = and_parts (e.peer == x.peer) ((e.domain == x.domain) && (is_lost e.change && is_loss x.change)) is in
+    let rest = and_parts (e.domain == x.domain) (is_lost e.change && is_loss x.change) all.1 in
+    let both = and_parts (is_lost e.change) (is_loss x.change) rest.1 in
+    (eqb-true e.peer x.peer all.0, eqb-true e.domain x.domain rest.0, both.0, both.1)
+
 pub signal_reconfigures : (e x : Entry) → is_signal e.change ≡ true → undoes e x ≡ true → reconfigures e x ≡ true
 unfolding undoes
 signal_reconfigures e x is undone =
-    elim (or_cases (same_client e x && undoes_of_client e.change x.change) (reconfigures e x) undone) [
+    elim (or_cases (same_client e x && undoes_of_client e.change x.change) (reconfigures e x || resumes e x) undone) [
       | inl of_client ↦
           absurd (both_ways
           (undoes_of_client e.change x.change)
           (signal_undoes e.change x.change is)
           (and_parts (same_client e x) (undoes_of_client e.change x.change) of_client).1)
-      | inr of_peer ↦ of_peer
+      | inr other ↦
+          elim (or_cases (reconfigures e x) (resumes e x) other) [
+            | inl of_peer ↦ of_peer
+            | inr of_loss ↦ absurd (both_ways (is_signal e.change) (lost_no_signal e.change (resumes_parts e x of_loss).2) is)
+          ]
     ]
 
 configuration_signals : (c : Change) → is_configuration c ≡ true → is_signal c ≡ true

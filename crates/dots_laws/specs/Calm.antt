@@ -1,13 +1,11 @@
 -- When a history is calm, by the settings of a server.
-use Rattle.std.specs.Prelude.{◌≡◌, ℕ, ◌≤◌, zero, suc, Bool, true, false, not, ◌&&◌, ◌||◌, ◌==◌, nat_lt, if◌then◌else◌, List, [], ◌∷◌, length, map, Option, Some, None, slice_get}
-use Rattle.std.specs.List.{list_any, list_all, find, flat_map}
-use Rattle.std.specs.Option.{option_map_or}
+use Rattle.std.specs.Prelude.{◌≡◌, ℕ, ◌≤◌, zero, suc, Bool, true, false, not, ◌&&◌, ◌||◌, ◌==◌, nat_lt, if◌then◌else◌, List, [], ◌∷◌, length, map, Option, Some, None}
+use Rattle.std.specs.List.{list_any, list_all, flat_map}
 use Rattle.ip_scope.specs.Prefix.{PrefixValue, inside}
 use Rattle.acl_lists.specs.declared.ace.Ace.{Ace}
 use Rattle.dots_settings.specs.declared.peer.PeerRow.{PeerRow}
 use Rattle.dots_settings.specs.declared.peer.Role.{Role}
 use Rattle.dots_settings.specs.declared.peer.Role.TheVariants as role
-use Rattle.dots_settings.specs.Draft.{same_name}
 use Rattle.dots_settings.specs.Settings.{SettingsValue}
 use Rattle.dots_settings.specs.Lookups.{no_domain, role_of, prefixes_of, addresses_of}
 use Rattle.dots_history.specs.declared.entry.Entry.{Entry}
@@ -16,8 +14,9 @@ use Rattle.dots_history.specs.declared.entry.MessageKey.TheVariants as key
 use Rattle.dots_history.specs.declared.put.Target.{Target}
 use Rattle.dots_history.specs.declared.change.Change.{Change}
 use Rattle.dots_history.specs.declared.change.Change.TheVariants as change
-use Rattle.dots_history.specs.Entries.{same_client, is_signal, is_configuration}
+use Rattle.dots_history.specs.Entries.{same_client, is_signal, is_configuration, is_loss}
 use Rattle.dots_history.specs.Histories.{Mitigation, Within, Calm, tally, is_nil, mitigations}
+use Rattle.dots_history.specs.Rows.{waits}
 use Rattle.dots_laws.specs.Capacities.{Capacities, KeepsCapacities}
 
 -- a peer of this role may act for the domain, which is one of the settings: a client for its own, a gateway for each
@@ -55,13 +54,29 @@ change_inside settings domain (change.SetAlias alias) = all_inside domain alias.
 change_inside settings domain (change.SetAcl acl) = list_all (λ (ace : Ace). destination_inside domain ace.destination) acl.aces
 change_inside settings domain _ = true
 
+abbrev pub is_client_of : Role → ℕ → Bool
+is_client_of (role.Client own) domain = own == domain
+is_client_of _ domain = false
+
+-- a loss, and that it is over, is of a client peer, and names no client
+abbrev pub loses_rightly : SettingsValue → Entry → Bool
+loses_rightly settings e = not (is_loss e.change) || (is_nil e.cuid && is_client_of (role_of settings e.peer) e.domain)
+
 -- the peer may act for the domain, inside which lies what the entry names, or it configures its session and names no
 -- client
-abbrev pub is_of_settings : SettingsValue → Entry → Bool
-is_of_settings settings e =
+abbrev pub acts_rightly : SettingsValue → Entry → Bool
+acts_rightly settings e =
     if is_configuration e.change
     then is_nil e.cuid && may_configure (role_of settings e.peer) e.domain
     else may_act settings (role_of settings e.peer) e.domain && change_inside settings (prefixes_of settings e.domain) e.change
+
+-- A mitigation that waits for a lost signal is of a client peer: a gateway's signal says nothing of the clients behind
+-- it.
+abbrev pub waits_rightly : SettingsValue → Entry → Bool
+waits_rightly settings e = not (waits e.change) || is_client_of (role_of settings e.peer) e.domain
+
+abbrev pub is_of_settings : SettingsValue → Entry → Bool
+is_of_settings settings e = acts_rightly settings e && (loses_rightly settings e && waits_rightly settings e)
 
 -- what isn't a signal entry came by HTTP
 abbrev pub came_rightly : Entry → Bool
@@ -84,11 +99,19 @@ acts_by domains peer role.Gateway = (peer, no_domain) ∷ map (λ domain. (peer,
 abbrev pub acts_for : SettingsValue → PeerRow → List (ℕ × ℕ)
 acts_for settings row = acts_by (length settings.domains) row.peer row.role
 
+abbrev pub loser_by : ℕ → Role → List (ℕ × ℕ)
+loser_by peer (role.Client domain) = (peer, domain) ∷ []
+loser_by peer _ = []
+
+abbrev pub loser_of : PeerRow → List (ℕ × ℕ)
+loser_of row = loser_by row.peer row.role
+
 abbrev pub capacities_of : SettingsValue → Capacities
 capacities_of settings = record {
   actors = flat_map (acts_for settings) settings.peers;
   peers = map (λ (row : PeerRow). row.peer) settings.peers;
   domains = numbers_from 0 (length settings.domains);
+  losers = flat_map loser_of settings.peers;
   mitigations = settings.limits.domain_mitigations;
   clients = settings.limits.clients;
   aliases = settings.limits.aliases;

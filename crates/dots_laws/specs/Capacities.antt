@@ -5,7 +5,7 @@ use Rattle.std.specs.List.{list_any, list_all}
 use Rattle.dots_history.specs.declared.entry.Entry.{Entry}
 use Rattle.dots_history.specs.declared.change.Change.{Change}
 use Rattle.dots_history.specs.declared.change.Change.TheVariants as change
-use Rattle.dots_history.specs.Entries.{same_client, is_signal, signals, is_configuration}
+use Rattle.dots_history.specs.Entries.{same_client, is_signal, signals, is_configuration, is_lost}
 use Rattle.dots_history.specs.Histories.{Mitigation, tally, mitigations, held}
 
 pub record Capacities : Type 0 where
@@ -14,6 +14,8 @@ pub record Capacities : Type 0 where
   -- the peers that may configure their session
   pub peers : List ℕ
   pub domains : List ℕ
+  -- client peers, each with its domain: their signal may be lost
+  pub losers : List (ℕ × ℕ)
   -- live mitigations, and registered clients, of a domain
   pub mitigations : ℕ
   pub clients : ℕ
@@ -39,10 +41,18 @@ is_setting _ = false
 
 -- a signal entry is of an actor; a session configuration is of one of the peers, and any other entry of one of the
 -- domains
-abbrev pub belongs : Capacities → Entry → Bool
-belongs room e =
+abbrev pub belongs_there : Capacities → Entry → Bool
+belongs_there room e =
     (not (is_signal e.change) || list_any (λ actor. signals actor.0 actor.1 e) room.actors)
     && (if is_configuration e.change then list_any (λ peer. e.peer == peer) room.peers else list_any (λ domain. e.domain == domain) room.domains)
+
+-- the entry is of this peer and domain
+abbrev pub loses_as : Entry → ℕ × ℕ → Bool
+loses_as e loser = (e.peer == loser.0) && (e.domain == loser.1)
+
+-- and a loss is of a client peer and its domain
+abbrev pub belongs : Capacities → Entry → Bool
+belongs room e = belongs_there room e && (not (is_lost e.change) || list_any (loses_as e) room.losers)
 
 -- an alias or an access list is of a registered client
 abbrev pub has_client : List Entry → Entry → Bool
@@ -63,4 +73,5 @@ most_named room n =
     length room.domains * (2 * room.mitigations + room.clients + room.clients * (room.aliases + room.acls))
     + length room.actors * n
     + length room.peers
+    + length room.losers
     + 1

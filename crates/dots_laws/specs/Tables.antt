@@ -8,7 +8,7 @@ use Rattle.dots_history.specs.declared.status.Status.{Status}
 use Rattle.dots_history.specs.declared.status.Status.TheVariants.{Ended, Open, Withdrawn}
 use Rattle.dots_history.specs.declared.change.Change.{Change}
 use Rattle.dots_history.specs.declared.change.Change.TheVariants as change
-use Rattle.dots_history.specs.Entries.{same_client, put_of, holds_of_both, overlaps, option_any, runs, signals}
+use Rattle.dots_history.specs.Entries.{same_client, put_of, holds_of_both, overlaps, option_any, runs, signals, same_flag}
 use Rattle.dots_history.specs.Histories.{Mitigation}
 use Rattle.dots_history.specs.Places.{lasts}
 
@@ -43,9 +43,12 @@ bare_mitigation m = record { put = bare m.put; status = m.status }
 abbrev pub has_mid : ℕ → Entry → Bool
 has_mid mid e = option_any (λ (put : Put). put.mid == mid) (put_of e.change)
 
--- both are mitigations of one client, and overlap
+abbrev pub same_overlap : Put → Put → Bool
+same_overlap a b = same_flag a.trigger b.trigger && overlaps true a b
+
+-- both are mitigations of one client with one trigger value, and overlap
 unfoldable pub overlap_of_client : Entry → Entry → Bool
-overlap_of_client a b = same_client a b && holds_of_both (overlaps true) (put_of a.change) (put_of b.change)
+overlap_of_client a b = same_client a b && holds_of_both same_overlap (put_of a.change) (put_of b.change)
 
 -- no later one of these overlaps with an earlier one of its client
 abbrev pub AreApart : List Mitigation → Type 0

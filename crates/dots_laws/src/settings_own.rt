@@ -4,10 +4,12 @@ ghost use Rattle.std.specs.Prelude.{◌≡◌};
 ghost use Rattle.std.specs.List.{list_all};
 ghost use Rattle.dots_history.specs.declared.change.Change.TheVariants as change;
 ghost use Rattle.dots_settings.specs.Lookups.{role_of, prefixes_of, addresses_of};
-ghost use Rattle.dots_laws.specs.Calm.{may_act, may_configure, all_inside, name_inside, destination_inside, change_inside, is_of_settings, came_rightly, is_http};
+ghost use Rattle.dots_laws.specs.Calm.{may_act, may_configure, all_inside, name_inside, destination_inside, change_inside, acts_rightly, loses_rightly, waits_rightly, is_client_of, is_of_settings, came_rightly, is_http};
 
 use acl_lists::{Ace, Alias};
-use dots_history::{Change, Entry, MessageKey, Target, is_configuration, is_signal};
+use dots_history::{
+    Change, Entry, MessageKey, Target, is_configuration, is_loss, is_signal, waits,
+};
 use dots_lists::Name;
 use dots_settings::{NO_DOMAIN, Role, Settings};
 use ip_scope::{Prefix, inside_any};
@@ -17,12 +19,47 @@ use ip_scope::{Prefix, inside_any};
 pub fn is_of_settings(settings: &Settings, entry: &Entry) -> bool
     ensures { result ≡ is_of_settings settings.now entry.now }
 {
+    acts_rightly(settings, entry)
+        && loses_rightly(settings, entry)
+        && waits_rightly(settings, entry)
+}
+
+/// Whether the peer may act for the entry's domain, inside which lies what the entry names, or it configures its
+/// session and names no client.
+fn acts_rightly(settings: &Settings, entry: &Entry) -> bool
+    ensures { result ≡ acts_rightly settings.now entry.now }
+{
     let role = settings.domain_of(entry.peer);
     if is_configuration(&entry.change) {
         return entry.cuid.bytes().is_empty() && may_configure(role, entry.domain);
     }
     may_act(settings, role, entry.domain)
         && change_inside(settings, settings.prefixes_of(entry.domain), &entry.change)
+}
+
+/// Whether a loss is of a client peer, and names no client.
+fn loses_rightly(settings: &Settings, entry: &Entry) -> bool
+    ensures { result ≡ loses_rightly settings.now entry.now }
+{
+    !is_loss(&entry.change)
+        || (entry.cuid.bytes().is_empty()
+            && is_client_of(settings.domain_of(entry.peer), entry.domain))
+}
+
+/// Whether a mitigation that waits for a lost signal is of a client peer.
+fn waits_rightly(settings: &Settings, entry: &Entry) -> bool
+    ensures { result ≡ waits_rightly settings.now entry.now }
+{
+    !waits(&entry.change) || is_client_of(settings.domain_of(entry.peer), entry.domain)
+}
+
+fn is_client_of(role: Role, domain: u16) -> bool
+    ensures { result ≡ is_client_of role domain }
+{
+    match role {
+        Role::Client(own) => own == domain,
+        Role::Stranger | Role::Gateway => false,
+    }
 }
 
 /// Whether the entry is a signal entry or came by HTTP.

@@ -1,5 +1,5 @@
 -- Readers of aliases, access lists, mitigations, changes and whole entries.
-use Rattle.std.proofs.Common.{◌≡◌, ℕ, ℤ, zero, suc, ◌-◌, ◌/◌, ◌%◌, ◌^◌, ◌<◌, ◌≤◌, Bool, Option, List, [], ◌∷◌, ◌++◌, length, drop, refl, sym, ap, subst, ◌∙◌, arith}
+use Rattle.std.proofs.Common.{◌≡◌, ℕ, ℤ, zero, suc, ◌-◌, ◌/◌, ◌%◌, ◌^◌, ◌<◌, ◌≤◌, Bool, true, false, Option, List, [], ◌∷◌, ◌++◌, length, drop, refl, sym, ap, subst, ◌∙◌, arith}
 use Rattle.std.specs.Prelude.{◌==◌, if◌then◌else◌}
 use Rattle.std.specs.List.{flat_map}
 use Rattle.std.specs.Int.{w16, w32, w64, to_be_bytes, from_be_bytes, cast_signed, cast_unsigned}
@@ -26,8 +26,8 @@ use Rattle.dots_history.specs.declared.entry.MessageKey.TheVariants as key
 use Rattle.dots_history.specs.declared.put.Put.{Put}
 use Rattle.dots_history.specs.declared.put.Target.{Target}
 use Rattle.entry_records.specs.Values.{IsByte, IsName, IsRange, IfThere, IsTest, IsKey}
-use Rattle.entry_records.specs.Layout.{byte, counted, listed, optional, flag_number, prefix_bytes, ports_bytes, asked_bytes, alias_bytes, test_bytes, ace_bytes, family_number, activation_number, acl_bytes, target_bytes, put_bytes, values_bytes, config_bytes, change_number, change_fields, change_bytes, key_number, key_id, key_bytes, reply_bytes, record_bytes}
-use Rattle.entry_records.specs.RecordReading.{pair_at, both_at, second, prepended, number_at, within_at, bytes_at, time_of, time_at, visible_at, name_at, counted_at, list_at, optional_at, flag_at, prefix_at, ports_at, test_at, asked_from, asked_at, alias_from, alias_at, ace_from, ace_at, family_at, activation_of, activation_at, acl_from, acl_at, target_from, target_at, targets_at, all_targets_at, granted_at, put_from, put_at, values_from, values_at, config_from, config_at, fields_at, change_at, id_at, key_at, reply_at, entry_from, entry_at}
+use Rattle.entry_records.specs.Layout.{byte, counted, listed, optional, flag_number, prefix_bytes, ports_bytes, asked_bytes, alias_bytes, test_bytes, ace_bytes, family_number, activation_number, acl_bytes, target_bytes, put_bytes, values_bytes, config_bytes, put_number, change_number, change_fields, change_bytes, key_number, key_id, key_bytes, reply_bytes, record_bytes}
+use Rattle.entry_records.specs.RecordReading.{pair_at, both_at, second, made_at, prepended, number_at, within_at, bytes_at, time_of, time_at, visible_at, name_at, counted_at, list_at, optional_at, flag_at, prefix_at, ports_at, test_at, asked_from, asked_at, alias_from, alias_at, ace_from, ace_at, family_at, activation_of, activation_at, acl_from, acl_at, target_from, target_at, targets_at, all_targets_at, granted_at, put_from, put_at, values_from, values_at, config_from, config_at, fields_at, change_at, id_at, key_at, reply_at, entry_from, entry_at}
 use Rattle.entry_records.proofs.Readers.{AreBytes, IsReader, made_reader, pair_reader}
 use Rattle.entry_records.proofs.Fields.{IsWithin, within_reader, is_between, between_most, between_least, AtMost, AreSoMany, bytes_reader, byte_at_place, both_reader, two_reader, four_reader, eight_reader, bytes_of_8, list_reader, counted_reader}
 use Rattle.entry_records.proofs.Parts.{AreVisible, visible_reader, name_reader, optional_reader, flag_reader}
@@ -247,18 +247,26 @@ PutTuple = ℕ × (Asked × (List Target × (ℤ × ℕ)))
 abbrev put_tuple : Put → PutTuple
 put_tuple put = (put.mid, (put.asked, (put.targets, (put.granted, put.start))))
 
+abbrev put_with : Put → Bool → Put
+put_with put trigger = put_from trigger (put_tuple put)
+
+-- of the fields; the trigger isn't one
 abbrev pub MayPut : Put → Type 0
 MayPut put = (put.mid < 2 ^ 32) × (MayAsk 8 put.asked × (AreAimed put.targets × (IsSigned put.granted × (put.start < 2 ^ 64))))
 
-put_reader : IsReader MayPut put_bytes put_at
+-- and with this trigger
+abbrev MayPutWith : Bool → Put → Type 0
+MayPutWith trigger put = MayPut put × (put.trigger ≡ trigger)
+
+put_reader : (trigger : Bool) → IsReader (MayPutWith trigger) put_bytes (put_at trigger)
 unfolding put_at put_bytes
-put_reader =
+put_reader trigger =
     made_reader (λ (p : PutTuple). (p.0 < 2 ^ 32) × (MayAsk 8 p.1.0 × (AreAimed p.1.1.0 × (IsSigned p.1.1.1.0 × (p.1.1.1.1 < 2 ^ 64)))))
     (λ p. to_be_bytes w32 p.0 ++ (asked_bytes p.1.0 ++ (listed target_bytes p.1.1.0 ++ (to_be_bytes w32 (cast_unsigned w32 p.1.1.1.0) ++ to_be_bytes w64 p.1.1.1.1))))
     (both_at (number_at w32) (both_at (asked_at 8) (both_at all_targets_at (both_at granted_at (number_at w64)))))
-    MayPut put_bytes put_from
-    (λ p holds. (holds, refl))
-    (λ put holds. (put_tuple put, holds, refl))
+    (MayPutWith trigger) put_bytes (put_from trigger)
+    (λ p holds. ((holds, refl), refl))
+    (λ put holds. (put_tuple put, holds.0, ap (put_with put) (sym holds.1)))
     (both_reader _ _ _ _ _ _ four_reader
     (both_reader _ _ _ _ _ _ (asked_reader 8 (omega arith))
     (both_reader _ _ _ _ _ _ all_targets_reader
@@ -313,7 +321,7 @@ config_reader =
 
 abbrev ChangeOf : ℕ → Change → Type 0
 ChangeOf zero c = ⊥
-ChangeOf (suc zero) c = (put : Put) × (change.Put put ≡ c)
+ChangeOf (suc zero) c = (put : Put) × (put.trigger ≡ true) × (change.Put put ≡ c)
 ChangeOf (suc (suc zero)) c = (mid : ℕ) × (change.Withdraw mid ≡ c)
 ChangeOf (suc (suc (suc zero))) c = (alias : Alias) × (change.SetAlias alias ≡ c)
 ChangeOf (suc (suc (suc (suc zero)))) c = (name : List ℕ) × (change.DropAlias name ≡ c)
@@ -322,10 +330,17 @@ ChangeOf (suc (suc (suc (suc (suc (suc zero)))))) c = (name : List ℕ) × (chan
 ChangeOf (suc (suc (suc (suc (suc (suc (suc zero))))))) c = change.Register ≡ c
 ChangeOf (suc (suc (suc (suc (suc (suc (suc (suc zero)))))))) c = change.Deregister ≡ c
 ChangeOf (suc (suc (suc (suc (suc (suc (suc (suc (suc zero))))))))) c = (p : ℕ × Config) × (change.SetConfig p.0 p.1 ≡ c)
-ChangeOf (suc (suc (suc (suc (suc (suc (suc (suc (suc (suc n)))))))))) c = change.ClearConfig ≡ c
+ChangeOf (suc (suc (suc (suc (suc (suc (suc (suc (suc (suc zero)))))))))) c = change.ClearConfig ≡ c
+ChangeOf (suc (suc (suc (suc (suc (suc (suc (suc (suc (suc (suc zero))))))))))) c = change.Lost ≡ c
+ChangeOf (suc (suc (suc (suc (suc (suc (suc (suc (suc (suc (suc (suc zero)))))))))))) c = change.Back ≡ c
+ChangeOf (suc (suc (suc (suc (suc (suc (suc (suc (suc (suc (suc (suc (suc n))))))))))))) c = (put : Put) × (put.trigger ≡ false) × (change.Put put ≡ c)
+
+put_of_number : (put : Put) (trigger : Bool) → put.trigger ≡ trigger → ChangeOf (put_number trigger) (change.Put put)
+put_of_number put true is = (put, is, refl)
+put_of_number put false is = (put, is, refl)
 
 change_of : (c : Change) → ChangeOf (change_number c) c
-change_of (change.Put put) = (put, refl)
+change_of (change.Put put) = put_of_number put put.trigger refl
 change_of (change.Withdraw mid) = (mid, refl)
 change_of (change.SetAlias alias) = (alias, refl)
 change_of (change.DropAlias name) = (name, refl)
@@ -335,6 +350,8 @@ change_of change.Register = refl
 change_of change.Deregister = refl
 change_of (change.SetConfig sid config) = ((sid, config), refl)
 change_of change.ClearConfig = refl
+change_of change.Lost = refl
+change_of change.Back = refl
 
 change_is : (n : ℕ) (c : Change) → change_number c ≡ n → ChangeOf n c
 change_is n c is = subst (λ (k : ℕ). ChangeOf k c) is (change_of c)
@@ -350,6 +367,8 @@ MayChange change.Register = Unit {0}
 MayChange change.Deregister = Unit {0}
 MayChange (change.SetConfig sid config) = (sid < 2 ^ 32) × MaySet config
 MayChange change.ClearConfig = Unit {0}
+MayChange change.Lost = Unit {0}
+MayChange change.Back = Unit {0}
 
 abbrev IsChangeOf : ℕ → Change → Type 0
 IsChangeOf n c = MayChange c × (change_number c ≡ n)
@@ -357,10 +376,20 @@ IsChangeOf n c = MayChange c × (change_number c ≡ n)
 set_config_reader : IsReader (λ (p : ℕ × Config). (p.0 < 2 ^ 32) × MaySet p.1) (λ p. to_be_bytes w32 p.0 ++ config_bytes p.1) (both_at (number_at w32) config_at)
 set_config_reader = both_reader _ _ _ _ _ _ four_reader config_reader
 
-fields_reader : (n : ℕ) → IsWithin 1 10 n → IsReader (IsChangeOf n) change_fields (fields_at n)
+-- of the two numbers of a mitigation, that of this trigger
+put_fields_reader : (trigger : Bool) → ((c : Change) → change_number c ≡ put_number trigger → (put : Put) × (put.trigger ≡ trigger) × (change.Put put ≡ c))
+    → IsReader (IsChangeOf (put_number trigger)) change_fields (made_at change.Put (put_at trigger))
+unfolding change_fields
+put_fields_reader trigger back =
+    made_reader (MayPutWith trigger) put_bytes (put_at trigger) (IsChangeOf (put_number trigger)) change_fields change.Put
+    (λ put holds. ((holds.0, ap put_number holds.1), refl))
+    (λ c holds. let of = back c holds.1 in (of.0, (subst MayChange (sym of.2) holds.0, of.1), of.2))
+    (put_reader trigger)
+
+fields_reader : (n : ℕ) → IsWithin 1 13 n → IsReader (IsChangeOf n) change_fields (fields_at n)
 unfolding fields_at change_fields
-fields_reader zero some = absurd (omega (arith, between_least 1 10 0 some.0))
-fields_reader (suc zero) some = variant_reader MayPut put_bytes put_at MayChange change_number change_fields 1 change.Put (λ a holds. holds) (λ a holds. holds) (λ a. refl) (λ a. refl) (change_is 1) put_reader
+fields_reader zero some = absurd (omega (arith, between_least 1 13 0 some.0))
+fields_reader (suc zero) some = put_fields_reader true (change_is 1)
 fields_reader (suc (suc zero)) some = variant_reader (λ (mid : ℕ). mid < 2 ^ 32) (to_be_bytes w32) (number_at w32) MayChange change_number change_fields 2 change.Withdraw (λ a holds. holds) (λ a holds. holds) (λ a. refl) (λ a. refl) (change_is 2) four_reader
 fields_reader (suc (suc (suc zero))) some = variant_reader MayStand alias_bytes alias_at MayChange change_number change_fields 3 change.SetAlias (λ a holds. holds) (λ a holds. holds) (λ a. refl) (λ a. refl) (change_is 3) alias_reader
 fields_reader (suc (suc (suc (suc zero)))) some = variant_reader IsName counted name_at MayChange change_number change_fields 4 change.DropAlias (λ a holds. holds) (λ a holds. holds) (λ a. refl) (λ a. refl) (change_is 4) name_reader
@@ -372,10 +401,17 @@ fields_reader (suc (suc (suc (suc (suc (suc (suc (suc (suc zero))))))))) some =
     variant_reader (λ (p : ℕ × Config). (p.0 < 2 ^ 32) × MaySet p.1) (λ p. to_be_bytes w32 p.0 ++ config_bytes p.1) (both_at (number_at w32) config_at) MayChange change_number change_fields 9 (λ p. change.SetConfig p.0 p.1)
     (λ a holds. holds) (λ a holds. holds) (λ a. refl) (λ a. refl) (change_is 9) set_config_reader
 fields_reader (suc (suc (suc (suc (suc (suc (suc (suc (suc (suc zero)))))))))) some = constant_reader (IsChangeOf 10) change_fields change.ClearConfig (tt, refl) refl (λ c holds. change_is 10 c holds.1)
-fields_reader (suc (suc (suc (suc (suc (suc (suc (suc (suc (suc (suc n))))))))))) some = absurd (omega (arith, between_most 1 10 (suc (suc (suc (suc (suc (suc (suc (suc (suc (suc (suc n))))))))))) some.0))
+fields_reader (suc (suc (suc (suc (suc (suc (suc (suc (suc (suc (suc zero))))))))))) some = constant_reader (IsChangeOf 11) change_fields change.Lost (tt, refl) refl (λ c holds. change_is 11 c holds.1)
+fields_reader (suc (suc (suc (suc (suc (suc (suc (suc (suc (suc (suc (suc zero)))))))))))) some = constant_reader (IsChangeOf 12) change_fields change.Back (tt, refl) refl (λ c holds. change_is 12 c holds.1)
+fields_reader (suc (suc (suc (suc (suc (suc (suc (suc (suc (suc (suc (suc (suc zero))))))))))))) some = put_fields_reader false (change_is 13)
+fields_reader (suc (suc (suc (suc (suc (suc (suc (suc (suc (suc (suc (suc (suc (suc n)))))))))))))) some = absurd (omega (arith, between_most 1 13 (suc (suc (suc (suc (suc (suc (suc (suc (suc (suc (suc (suc (suc (suc n)))))))))))))) some.0))
 
-change_small : (c : Change) → (1 ≤ change_number c) × (change_number c ≤ 10)
-change_small (change.Put put) = (omega arith, omega arith)
+put_small : (trigger : Bool) → (1 ≤ put_number trigger) × (put_number trigger ≤ 13)
+put_small true = (omega arith, omega arith)
+put_small false = (omega arith, omega arith)
+
+change_small : (c : Change) → (1 ≤ change_number c) × (change_number c ≤ 13)
+change_small (change.Put put) = put_small put.trigger
 change_small (change.Withdraw mid) = (omega arith, omega arith)
 change_small (change.SetAlias alias) = (omega arith, omega arith)
 change_small (change.DropAlias name) = (omega arith, omega arith)
@@ -385,16 +421,18 @@ change_small change.Register = (omega arith, omega arith)
 change_small change.Deregister = (omega arith, omega arith)
 change_small (change.SetConfig sid config) = (omega arith, omega arith)
 change_small change.ClearConfig = (omega arith, omega arith)
+change_small change.Lost = (omega arith, omega arith)
+change_small change.Back = (omega arith, omega arith)
 
 change_reader : IsReader MayChange change_bytes change_at
 unfolding change_at
 change_reader =
-    made_reader (λ p. IsWithin 1 10 p.0 × IsChangeOf p.0 p.1) (λ p. byte p.0 ++ change_fields p.1) (pair_at (within_at 1 10) fields_at)
+    made_reader (λ p. IsWithin 1 13 p.0 × IsChangeOf p.0 p.1) (λ p. byte p.0 ++ change_fields p.1) (pair_at (within_at 1 13) fields_at)
     MayChange change_bytes second
     (λ p holds. (holds.1.0, ap (λ (n : ℕ). n ∷ change_fields p.1) holds.1.1))
-    (λ c is. ((change_number c, c), ((is_between 1 10 (change_number c) (change_small c).0 (change_small c).1, omega (arith, (change_small c).1)), (is, refl)), refl))
-    (pair_reader (IsWithin 1 10) byte (within_at 1 10) IsChangeOf (λ _. change_fields) fields_at
-    (within_reader 1 10 (omega arith) (omega arith)) fields_reader)
+    (λ c is. ((change_number c, c), ((is_between 1 13 (change_number c) (change_small c).0 (change_small c).1, omega (arith, (change_small c).1)), (is, refl)), refl))
+    (pair_reader (IsWithin 1 13) byte (within_at 1 13) IsChangeOf (λ _. change_fields) fields_at
+    (within_reader 1 13 (omega arith) (omega arith)) fields_reader)
 
 -- ---- keys, replies and times
 

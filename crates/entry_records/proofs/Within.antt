@@ -173,6 +173,8 @@ change_to change.Register may = (tt, refl)
 change_to change.Deregister may = (tt, refl)
 change_to (change.SetConfig sid config) may = (may.0, and_from _ _ (values_to config.mitigating may.1.0) (values_to config.idle may.1.1))
 change_to change.ClearConfig may = (tt, refl)
+change_to change.Lost may = (tt, refl)
+change_to change.Back may = (tt, refl)
 
 change_from : (c : Change) → IsChange c → change_within c ≡ true → MayChange c
 change_from (change.Put put) is within = put_from put is within
@@ -187,6 +189,8 @@ change_from (change.SetConfig sid config) is within =
     let parts = and_parts (values_within config.mitigating) (values_within config.idle) within in
     (is, (values_from config.mitigating parts.0, values_from config.idle parts.1))
 change_from change.ClearConfig is within = tt
+change_from change.Lost is within = tt
+change_from change.Back is within = tt
 
 some_left : (n : ℕ) (v : Bool) → ((suc n == 0) || v) ≡ v
 some_left n v = let no : (suc n == 0) ≡ false = grind (arith, nat_tests) in ap (λ (b : Bool). b || v) no

@@ -126,6 +126,7 @@ acl_bytes acl =
 unfoldable pub target_bytes : Target → List ℕ
 target_bytes target = listed prefix_bytes target.prefixes ++ (listed ports_bytes target.ports ++ counted target.protocols)
 
+-- without the trigger, which the number of the change has
 unfoldable pub put_bytes : Put → List ℕ
 put_bytes put =
     to_be_bytes w32 put.mid
@@ -148,8 +149,14 @@ config_bytes config = values_bytes config.mitigating ++ values_bytes config.idle
 
 -- ---- entries
 
+-- The trigger says whether a mitigation filters at once, or waits until the signal of its client is lost (RFC 9132,
+-- section 4.4.1).
+abbrev pub put_number : Bool → ℕ
+put_number true = 1
+put_number false = 13
+
 abbrev pub change_number : Change → ℕ
-change_number (change.Put put) = 1
+change_number (change.Put put) = put_number put.trigger
 change_number (change.Withdraw mid) = 2
 change_number (change.SetAlias alias) = 3
 change_number (change.DropAlias name) = 4
@@ -159,6 +166,8 @@ change_number change.Register = 7
 change_number change.Deregister = 8
 change_number (change.SetConfig sid config) = 9
 change_number change.ClearConfig = 10
+change_number change.Lost = 11
+change_number change.Back = 12
 
 unfoldable pub change_fields : Change → List ℕ
 change_fields (change.Put put) = put_bytes put
@@ -171,6 +180,8 @@ change_fields change.Register = []
 change_fields change.Deregister = []
 change_fields (change.SetConfig sid config) = to_be_bytes w32 sid ++ config_bytes config
 change_fields change.ClearConfig = []
+change_fields change.Lost = []
+change_fields change.Back = []
 
 abbrev pub change_bytes : Change → List ℕ
 change_bytes change = change_number change ∷ change_fields change

@@ -1,6 +1,6 @@
 -- Reading a record from left to right: the value in front of the bytes and the bytes behind it, or the place at which
 -- nothing can go on. The private functions answer so; that it is what the definitions say is proved of it.
-use Rattle.std.specs.Prelude.{◌≡◌, ℕ, zero, suc, ◌+◌, ◌-◌, ◌*◌, ◌/◌, ◌%◌, ◌^◌, min, Bool, ◌&&◌, ◌||◌, ◌==◌, nat_le, nat_lt, if◌then◌else◌, List, [], ◌∷◌, length, take, drop, Option, Some, None, Result, Ok, Err, ℤ}
+use Rattle.std.specs.Prelude.{◌≡◌, ℕ, zero, suc, ◌+◌, ◌-◌, ◌*◌, ◌/◌, ◌%◌, ◌^◌, min, Bool, true, false, ◌&&◌, ◌||◌, ◌==◌, nat_le, nat_lt, if◌then◌else◌, List, [], ◌∷◌, length, take, drop, Option, Some, None, Result, Ok, Err, ℤ}
 use Rattle.std.specs.Char.{is_ascii_graphic}
 use Rattle.std.specs.Int.{Width, w16, w32, w64, byte_len, from_be_bytes, cast_signed}
 use Rattle.ip_scope.specs.declared.family.Family.{Family}
@@ -257,11 +257,12 @@ all_targets_at = made_at second (pair_at (within_at 0 MAX_TARGETS) (λ n. target
 abbrev pub granted_at : ℕ → List ℕ → Read ℤ
 granted_at = made_at (cast_signed w32) (number_at w32)
 
-abbrev pub put_from : ℕ × (Asked × (List Target × (ℤ × ℕ))) → Put
-put_from p = record { mid = p.0; asked = p.1.0; targets = p.1.1.0; granted = p.1.1.1.0; start = p.1.1.1.1 }
+abbrev pub put_from : Bool → ℕ × (Asked × (List Target × (ℤ × ℕ))) → Put
+put_from trigger p = record { mid = p.0; asked = p.1.0; targets = p.1.1.0; granted = p.1.1.1.0; start = p.1.1.1.1; trigger = trigger }
 
-unfoldable pub put_at : ℕ → List ℕ → Read Put
-put_at = made_at put_from (both_at (number_at w32) (both_at (asked_at MAX_NAMES) (both_at all_targets_at (both_at granted_at (number_at w64)))))
+-- with this trigger
+unfoldable pub put_at : Bool → ℕ → List ℕ → Read Put
+put_at trigger = made_at (put_from trigger) (both_at (number_at w32) (both_at (asked_at MAX_NAMES) (both_at all_targets_at (both_at granted_at (number_at w64)))))
 
 abbrev pub values_from : ℕ × (ℕ × (ℕ × (ℕ × (ℕ × ℕ)))) → Values
 values_from p = record { interval = p.0; missing = p.1.0; retransmit = p.1.1.0; timeout = p.1.1.1.0; factor = p.1.1.1.1.0; rate = p.1.1.1.1.1 }
@@ -283,7 +284,7 @@ dropped_alias name = change.DropAlias name
 -- the fields of a change of this number
 unfoldable pub fields_at : ℕ → ℕ → List ℕ → Read Change
 fields_at zero = nothing_at change.Register
-fields_at (suc zero) = made_at change.Put put_at
+fields_at (suc zero) = made_at change.Put (put_at true)
 fields_at (suc (suc zero)) = made_at change.Withdraw (number_at w32)
 fields_at (suc (suc (suc zero))) = made_at change.SetAlias alias_at
 fields_at (suc (suc (suc (suc zero)))) = made_at change.DropAlias name_at
@@ -292,10 +293,13 @@ fields_at (suc (suc (suc (suc (suc (suc zero)))))) = made_at change.DropAcl name
 fields_at (suc (suc (suc (suc (suc (suc (suc zero))))))) = nothing_at change.Register
 fields_at (suc (suc (suc (suc (suc (suc (suc (suc zero)))))))) = nothing_at change.Deregister
 fields_at (suc (suc (suc (suc (suc (suc (suc (suc (suc zero))))))))) = made_at (λ p. change.SetConfig p.0 p.1) (both_at (number_at w32) config_at)
-fields_at (suc (suc (suc (suc (suc (suc (suc (suc (suc (suc n)))))))))) = nothing_at change.ClearConfig
+fields_at (suc (suc (suc (suc (suc (suc (suc (suc (suc (suc zero)))))))))) = nothing_at change.ClearConfig
+fields_at (suc (suc (suc (suc (suc (suc (suc (suc (suc (suc (suc zero))))))))))) = nothing_at change.Lost
+fields_at (suc (suc (suc (suc (suc (suc (suc (suc (suc (suc (suc (suc zero)))))))))))) = nothing_at change.Back
+fields_at (suc (suc (suc (suc (suc (suc (suc (suc (suc (suc (suc (suc (suc n))))))))))))) = made_at change.Put (put_at false)
 
 unfoldable pub change_at : ℕ → List ℕ → Read Change
-change_at = made_at second (pair_at (within_at 1 10) fields_at)
+change_at = made_at second (pair_at (within_at 1 13) fields_at)
 
 abbrev pub id_at : ℕ → ℕ → List ℕ → Read MessageKey
 id_at zero = made_at (λ _. key.Http) (both_at (within_at 0 0) (within_at 0 0))

@@ -90,6 +90,8 @@ IsChange change.Register = Unit {0}
 IsChange change.Deregister = Unit {0}
 IsChange (change.SetConfig sid config) = sid < 2 ^ 32
 IsChange change.ClearConfig = Unit {0}
+IsChange change.Lost = Unit {0}
+IsChange change.Back = Unit {0}
 
 abbrev pub IsKey : MessageKey → Type 0
 IsKey key.Http = Unit {0}

@@ -251,9 +251,10 @@ impl Reader<'_> {
         Ok(self.u32()?.cast_signed())
     }
 
+    /// A mitigation with this trigger, which the number of the change has.
     #[tactic(auto, unfolding(crate::specs::RecordReading::put_at))]
-    fn put(&mut self) -> Result<Put, EntryFault>
-        ensures value { Gives (λ x. (x, self.new.rest.now)) result (put_at self.old.end self.old.rest.now) }
+    fn put(&mut self, trigger: bool) -> Result<Put, EntryFault>
+        ensures value { Gives (λ x. (x, self.new.rest.now)) result (put_at trigger self.old.end self.old.rest.now) }
         ensures end { OnOk result (self.new.end ≡ self.old.end) }
     {
         Ok(Put {
@@ -262,6 +263,7 @@ impl Reader<'_> {
             targets: self.targets()?,
             granted: self.granted()?,
             start: self.u64()?,
+            trigger,
         })
     }
 
@@ -279,12 +281,12 @@ impl Reader<'_> {
     #[tactic(auto, unfolding(crate::specs::RecordReading::fields_at))]
     fn fields(&mut self, number: u8) -> Result<Change, EntryFault>
         requires least { 1 ≤ number }
-        requires most { number ≤ 10 }
+        requires most { number ≤ 13 }
         ensures value { Gives (λ x. (x, self.new.rest.now)) result (fields_at number self.old.end self.old.rest.now) }
         ensures end { OnOk result (self.new.end ≡ self.old.end) }
     {
         match number {
-            1 => Ok(Change::Put(self.put()?)),
+            1 => Ok(Change::Put(self.put(true)?)),
             2 => Ok(Change::Withdraw { mid: self.u32()? }),
             3 => Ok(Change::SetAlias(self.alias()?)),
             4 => Ok(Change::DropAlias { name: self.name()? }),
@@ -293,7 +295,10 @@ impl Reader<'_> {
             7 => Ok(Change::Register),
             8 => Ok(Change::Deregister),
             9 => self.set_config(),
-            _ => Ok(Change::ClearConfig),
+            10 => Ok(Change::ClearConfig),
+            11 => Ok(Change::Lost),
+            12 => Ok(Change::Back),
+            _ => Ok(Change::Put(self.put(false)?)),
         }
     }
 
@@ -302,7 +307,7 @@ impl Reader<'_> {
         ensures value { Gives (λ x. (x, self.new.rest.now)) result (change_at self.old.end self.old.rest.now) }
         ensures end { OnOk result (self.new.end ≡ self.old.end) }
     {
-        let number = self.within(1, 10)?;
+        let number = self.within(1, 13)?;
         self.fields(number)
     }
 

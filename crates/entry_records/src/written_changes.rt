@@ -4,7 +4,7 @@ ghost use Rattle.std.specs.Prelude.{◌≡◌, ◌+◌, ◌*◌, ◌^◌, ◌<�
 ghost use Rattle.std.specs.List.{AllByRecursion, list_all};
 ghost use Rattle.std.specs.Int.{w32, to_be_bytes};
 ghost use Rattle.dots_history.specs.Bounds.{change_within, prefix_count, put_within, target_within, values_within, within_bounds};
-ghost use Rattle.entry_records.specs.Layout.{ace_bytes, acl_bytes, activation_number, change_bytes, change_fields, change_number, config_bytes, family_number, flag_number, key_bytes, key_id, key_number, listed, put_bytes, record_bytes, reply_bytes, target_bytes, values_bytes};
+ghost use Rattle.entry_records.specs.Layout.{ace_bytes, acl_bytes, activation_number, change_bytes, change_fields, change_number, config_bytes, family_number, flag_number, key_bytes, key_id, key_number, listed, put_bytes, put_number, record_bytes, reply_bytes, target_bytes, values_bytes};
 ghost use Rattle.entry_records.specs.Values.{IsAce, IsAcl, IsByte, IsChange, IsEntry, IsKey, IsPut, IsTarget};
 ghost use Rattle.entry_records.specs.Writing.{Writes};
 
@@ -40,12 +40,19 @@ fn granted_of(put: &Put) -> i32
     put.granted
 }
 
+/// The number of a mitigation, by its trigger.
+fn put_byte(trigger: bool) -> u8
+    ensures { result ≡ put_number trigger }
+{
+    if trigger { 1 } else { 13 }
+}
+
 /// The number of a change.
 fn change_byte(change: &Change) -> u8
     ensures { result ≡ change_number change.now }
 {
     match change {
-        Change::Put(_) => 1,
+        Change::Put(put) => put_byte(put.trigger),
         Change::Withdraw { .. } => 2,
         Change::SetAlias(_) => 3,
         Change::DropAlias { .. } => 4,
@@ -55,6 +62,8 @@ fn change_byte(change: &Change) -> u8
         Change::Deregister => 8,
         Change::SetConfig { .. } => 9,
         Change::ClearConfig => 10,
+        Change::Lost => 11,
+        Change::Back => 12,
     }
 }
 
@@ -199,6 +208,8 @@ impl Writer {
             Change::Register => {}
             Change::Deregister => {}
             Change::ClearConfig => {}
+            Change::Lost => {}
+            Change::Back => {}
         }
     }
 

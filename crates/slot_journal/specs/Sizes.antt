@@ -20,7 +20,8 @@ clients_of peers = count_by (λ row. is_client_role row.role) peers
 abbrev pub actors_of : ℕ → List PeerRow → ℕ
 actors_of domains peers = clients_of peers + gateways_of peers * (domains + 1)
 
--- How many entries a compaction keeps at most: what is kept of each domain, the remembered messages, a session configuration of each peer, and the last entry.
+-- How many entries a compaction keeps at most, but for the lost signals: what is kept of each domain, the remembered messages, a session configuration of each peer,
+-- and the last entry. There is at most one lost signal of each client peer, which is fewer than these.
 abbrev pub kept_at_most : SettingsValue → ℕ
 kept_at_most settings =
     length settings.domains * most_of_domain settings.limits
@@ -29,6 +30,6 @@ kept_at_most settings =
     + gateways_of settings.peers
     + 1
 
--- the slots of a half: a compaction leaves half of them free, and eight more
+-- the slots of a half, of which a compaction leaves eight and more free
 abbrev pub slots_of : SettingsValue → ℕ
 slots_of settings = 2 * kept_at_most settings + 8

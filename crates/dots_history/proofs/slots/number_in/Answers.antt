@@ -1,4 +1,4 @@
-use Rattle.std.proofs.Common.{◌≡◌, ◌<◌, ◌≤◌, length, get_or, Ok, Err, MatchResult, arith, inl, inr}
+use Rattle.std.proofs.Common.{Ok, Err, arith, inl, inr}
 use Rattle.std.proofs.lemmas.Bool.{cases_lt}
 use Rattle.std.proofs.lemmas.List.Sorted.{searched}
 use Rattle.dots_history.proofs.Rising.{rises_not_down, place_below, number_there, number_absent}

@@ -43,6 +43,14 @@ pub returns-in-ClearConfig-clause-written : goal.returns-in-ClearConfig-clause-w
 unfolding change_fields
 returns-in-ClearConfig-clause-written c = looser (same nothing (rw (c.in-ClearConfig.is) refl)) (omega arith)
 
+pub returns-in-Lost-clause-written : goal.returns-in-Lost-clause-written
+unfolding change_fields
+returns-in-Lost-clause-written c = looser (same nothing (rw (c.in-Lost.is) refl)) (omega arith)
+
+pub returns-in-Back-clause-written : goal.returns-in-Back-clause-written
+unfolding change_fields
+returns-in-Back-clause-written c = looser (same nothing (rw (c.in-Back.is) refl)) (omega arith)
+
 pub returns-in-Put-clause-typed : goal.returns-in-Put-clause-typed
 returns-in-Put-clause-typed c = rw (c.in-Put.is) c.put.ensures.typed
 
