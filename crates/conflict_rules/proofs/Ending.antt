@@ -8,7 +8,7 @@ use Rattle.conflict_rules.specs.declared.live.Live.{Live}
 use Rattle.conflict_rules.specs.Live.{would_end}
 use Rattle.conflict_rules.specs.Wanted.{wanted}
 
-request_replaces : (a b : Put) → replaces (change.Put a) (change.Put b) ≡ replaces (change.Put a) (change.Put (wanted b.mid b.asked b.targets))
+request_replaces : (a b : Put) → replaces (change.Put a) (change.Put b) ≡ replaces (change.Put a) (change.Put (wanted b.mid b.asked b.targets b.trigger))
 unfolding replaces overlaps targets_meet share_alias
 request_replaces a b = refl
 
@@ -19,7 +19,7 @@ ends_replaced earlier later one_domain =
     ap (λ b. (b && bytes_eq earlier.cuid later.cuid) && replaces earlier.change later.change) same
 
 pub ended : (earlier later : Entry) (m : Live) (put : Put) → earlier.domain ≡ later.domain → earlier.cuid ≡ m.cuid → earlier.change ≡ change.Put m.put → later.change ≡ change.Put put
-    → ends earlier later ≡ would_end later.cuid (wanted put.mid put.asked put.targets) m
+    → ends earlier later ≡ would_end later.cuid (wanted put.mid put.asked put.targets put.trigger) m
 ended earlier later m put one_domain cuid its asks =
     ends_replaced earlier later one_domain
     ∙ ap (λ c. bytes_eq c later.cuid && replaces earlier.change later.change) cuid

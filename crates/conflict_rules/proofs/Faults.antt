@@ -1,9 +1,8 @@
 -- The faults of a new mitigation, by what the rules for the others say.
-use Rattle.std.proofs.Common.{◌≡◌, ℕ, Bool, true, false, cond, List, map, filter, Option, Some, None, Result, Err, refl, sym, ap, ◌∙◌}
+use Rattle.std.proofs.Common.{◌≡◌, ℕ, Bool, true, false, cond, List, filter, Option, Some, None, Err, sym, ap, ◌∙◌}
 use Rattle.std.specs.Prelude.{nat_le}
 use Rattle.std.specs.List.{list_any}
 use Rattle.std.proofs.lemmas.Bool.{cond-false}
-use Rattle.ip_scope.specs.Prefix.{PrefixValue}
 use Rattle.acl_lists.specs.declared.alias.Alias.{Alias}
 use Rattle.dots_settings.specs.Settings.{SettingsValue}
 use Rattle.dots_settings.specs.declared.limits.Limits.{Limits}
@@ -11,11 +10,10 @@ use Rattle.dots_history.specs.declared.put.Put.{Put}
 use Rattle.dots_history.specs.declared.put.Target.{Target}
 use Rattle.conflict_rules.specs.declared.live.Live.{Live}
 use Rattle.conflict_rules.specs.declared.by_overlap.Judgement.{Judgement}
-use Rattle.conflict_rules.specs.declared.by_overlap.Judgement.TheVariants.{Higher, Other, Full, Fresh}
+use Rattle.conflict_rules.specs.declared.by_overlap.Judgement.TheVariants.{Other, Full, Fresh}
 use Rattle.conflict_rules.specs.declared.by_overlap.Which.TheVariants as which
 use Rattle.conflict_rules.specs.Wanted.{wanted}
 use Rattle.conflict_rules.specs.ByOverlap.{highest_mid, is_contested, staying, own_staying, judge_room, judge_others, judge_by, judge_overlap, meeting, meets_another, resolved}
-use Rattle.conflict_rules.specs.declared.fault.PutFault.{PutFault}
 use Rattle.conflict_rules.specs.declared.fault.PutFault.TheVariants as faults
 use Rattle.conflict_rules.specs.Requests.{Request}
 use Rattle.conflict_rules.specs.Targets.{is_unknown, targets_of}
@@ -54,12 +52,12 @@ told live cuid request limits n is =
     ∙ marked_bits (meets_another live cuid) (resolved request.targets)
 
 pub fault_is : (settings : SettingsValue) (live : List Live) (targets : List Target) (inside request : Request) (limits : Limits) (j : Judgement) → inside ≡ request
-    → limits ≡ settings.limits → j ≡ judge_overlap live inside.cuid (wanted inside.mid inside.asked targets) limits
+    → limits ≡ settings.limits → j ≡ judge_overlap live inside.cuid (wanted inside.mid inside.asked targets inside.trigger) limits
     → fault_of live inside.cuid targets j ≡ overlap_fault settings live targets request
 fault_is settings live targets inside request limits j same same_limits is =
     ap
     (fault_of live inside.cuid targets)
-    (is ∙ ap (judge_overlap live inside.cuid (wanted inside.mid inside.asked targets)) same_limits)
+    (is ∙ ap (judge_overlap live inside.cuid (wanted inside.mid inside.asked targets inside.trigger)) same_limits)
     ∙ ap (overlap_fault settings live targets) same
 
 pub new_is : (settings : SettingsValue) (live : List Live) (aliases : List Alias) (time : ℕ) (inside request : Request) (targets : List Target) → inside ≡ request

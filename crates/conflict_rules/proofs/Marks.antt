@@ -1,7 +1,7 @@
 -- Prefixes that are marked by bits.
 use Rattle.std.proofs.Common.{◌≡◌, ℕ, suc, ◌+◌, ◌*◌, ◌/◌, ◌%◌, ◌<◌, Bool, true, false, cond, if◌then◌else◌, List, [], ◌∷◌, ◌++◌, map, filter, length, drop, get_or, refl, sym, ap, ◌∙◌, drop-cons, add-one, append_assoc, arith}
 use Rattle.std.specs.Prelude.{◌==◌}
-use Rattle.std.proofs.lemmas.Bool.{cond-true, cond-false, eq-eqb, ne_eqb}
+use Rattle.std.proofs.lemmas.Bool.{cond-true, cond-false, eq-eqb}
 use Rattle.ip_scope.specs.Prefix.{PrefixValue}
 use Rattle.conflict_rules.specs.ByOverlap.{bits}
 use Rattle.conflict_rules.specs.Marking.{marked}

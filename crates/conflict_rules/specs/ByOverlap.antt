@@ -7,25 +7,30 @@ use Rattle.filter_rows.specs.Fates.{greatest}
 use Rattle.dots_settings.specs.declared.limits.Limits.{Limits}
 use Rattle.dots_history.specs.declared.put.Put.{Put}
 use Rattle.dots_history.specs.declared.put.Target.{Target}
-use Rattle.dots_history.specs.Entries.{some_prefix, overlaps}
+use Rattle.dots_history.specs.Entries.{some_prefix, overlaps, same_flag}
 use Rattle.conflict_rules.specs.declared.live.Live.{Live}
 use Rattle.conflict_rules.specs.declared.by_overlap.Judgement.{Judgement}
 use Rattle.conflict_rules.specs.declared.by_overlap.Judgement.TheVariants.{Higher, Other, Full, Fresh}
 use Rattle.conflict_rules.specs.declared.by_overlap.Which.TheVariants as which
 use Rattle.conflict_rules.specs.Live.{is_of, stands_for, stands_against, would_end}
 
--- A standing mitigation of the client overlaps with the request and has a higher mid: of two that overlap the higher
--- mid is to stay, so the request is refused (RFC 9132, section 4.4.1).
+-- The request and a mitigation of its client have the same trigger value and overlap, so that they can't both stay. One
+-- that filters at once and one that waits for a lost signal can (RFC 9132, section 4.4.1).
+abbrev pub rivals : Put → Put → Bool
+rivals earlier request = same_flag earlier.trigger request.trigger && overlaps true earlier request
+
+-- A standing mitigation of the client is such a one and has a higher mid: of the two the higher mid is to stay, so the
+-- request is refused.
 abbrev pub is_higher : List ℕ → Put → Live → Bool
 is_higher cuid request m =
-    stands_for cuid m && (nat_lt request.mid m.put.mid && overlaps true m.put request)
+    stands_for cuid m && (nat_lt request.mid m.put.mid && rivals m.put request)
 
 -- the highest mid of these, where there is one
 abbrev pub highest_mid : List Live → List ℕ → Put → Option ℕ
 highest_mid live cuid request = greatest (map (λ (m : Live). m.put.mid) (filter (is_higher cuid request) live))
 
--- A standing mitigation of another client of the domain overlaps with the request (RFC 9132, section 4.4.1.3:
--- conflict-cause 1, overlapping targets).
+-- A standing mitigation of another client of the domain overlaps with the request, whatever the trigger values (RFC
+-- 9132, section 4.4.1.3: conflict-cause 1, overlapping targets).
 abbrev pub is_contested : List Live → List ℕ → Put → Bool
 is_contested live cuid request = list_any (λ m. stands_against cuid m && overlaps false m.put request) live
 

@@ -1,5 +1,5 @@
 -- The rules for a mitigation request, in their order (RFC 9132, section 4.4.1).
-use Rattle.std.specs.Prelude.{ℕ, pos, Bool, true, false, ◌||◌, if◌then◌else◌, nat_le, List, filter, Option, Some, None, Result, Ok, Err}
+use Rattle.std.specs.Prelude.{ℕ, pos, true, false, ◌||◌, if◌then◌else◌, nat_le, List, filter, Option, Some, None, Result, Ok, Err}
 use Rattle.std.specs.List.{list_any, find}
 use Rattle.acl_lists.specs.declared.limits.TheConstants.{MAX_RESOLVED}
 use Rattle.acl_lists.specs.declared.alias.Alias.{Alias}
@@ -11,7 +11,7 @@ use Rattle.lifetime_clock.specs.Lifetime.{granted}
 use Rattle.conflict_rules.specs.declared.live.Live.{Live}
 use Rattle.conflict_rules.specs.declared.by_overlap.Judgement.{Judgement}
 use Rattle.conflict_rules.specs.declared.by_overlap.Judgement.TheVariants as judgement
-use Rattle.conflict_rules.specs.Asking.{asks_the_same}
+use Rattle.conflict_rules.specs.Asking.{would_refresh}
 use Rattle.conflict_rules.specs.Wanted.{wanted}
 use Rattle.conflict_rules.specs.ByMid.{collides, has_mid}
 use Rattle.conflict_rules.specs.ByOverlap.{meets_another, resolved, judge_overlap}
@@ -29,9 +29,10 @@ granted_put settings request targets start = record {
   targets = targets;
   granted = granted request.lifetime (pos settings.ceiling) settings.indefinite;
   start = start;
+  trigger = request.trigger;
 }
 
--- What refreshes a mitigation: its targets and its start stay, and what is asked for and the lifetime are the request's.
+-- What refreshes a mitigation: its targets and its start stay, and the rest is the request's.
 abbrev pub refreshed : SettingsValue → Put → Request → Judged
 refreshed settings put request =
     record { put = granted_put settings request put.targets put.start; refreshed = true }
@@ -52,7 +53,7 @@ fault_of live cuid targets judgement.Fresh = None
 abbrev pub overlap_fault : SettingsValue → List Live → List Target → Request → Option PutFault
 overlap_fault settings live targets request =
     fault_of live request.cuid targets
-    (judge_overlap live request.cuid (wanted request.mid request.asked targets) settings.limits)
+    (judge_overlap live request.cuid (wanted request.mid request.asked targets request.trigger) settings.limits)
 
 abbrev pub unless : Option PutFault → Judged → Result Judged PutFault
 unless None judged = Ok judged
@@ -75,7 +76,7 @@ judge_new settings live aliases time request =
 -- where a mitigation of the client with this mid stands
 abbrev pub judge_standing : SettingsValue → Put → Request → Result Judged PutFault
 judge_standing settings put request =
-    if asks_the_same put.asked request.asked then Ok (refreshed settings put request) else Err faults.Changed
+    if would_refresh request.asked request.trigger put then Ok (refreshed settings put request) else Err faults.Changed
 
 abbrev pub judge_known : SettingsValue → List Live → List Alias → ℕ → Request → Option Live → Result Judged PutFault
 judge_known settings live aliases time request (Some m) = judge_standing settings m.put request

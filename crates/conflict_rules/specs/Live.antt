@@ -17,7 +17,7 @@ stands_for cuid m = m.standing && is_of cuid m
 abbrev pub stands_against : List ℕ → Live → Bool
 stands_against cuid m = m.standing && not (is_of cuid m)
 
--- The request would end it: it is of the client, and has the mid of the request or overlaps with it (RFC 9132, section
--- 4.4.1). This is what an accepted mitigation does in a history.
+-- The request would end it: it is of the client, and has the mid of the request, or has the same trigger value and
+-- overlaps with it (RFC 9132, section 4.4.1). This is what an accepted mitigation does in a history.
 abbrev pub would_end : List ℕ → Put → Live → Bool
 would_end cuid request m = is_of cuid m && replaces (change.Put m.put) (change.Put request)

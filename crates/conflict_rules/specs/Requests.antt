@@ -4,13 +4,15 @@ use Rattle.acl_lists.specs.declared.alias.Alias.{Alias}
 use Rattle.acl_lists.specs.declared.asked.Asked.{Asked}
 use Rattle.dots_history.specs.Entries.{option_any}
 
--- who asks for which client, and for what; the lifetime is in seconds, or -1 (RFC 9132, section 4.4.1)
+-- Who asks for which client, and for what; the lifetime is in seconds, or -1. The mitigation is to filter at once, or only
+-- while the signal of its client is lost (RFC 9132, section 4.4.1: `trigger-mitigation`).
 pub record Request : Type 0 where
   pub peer : ℕ
   pub cuid : List ℕ
   pub mid : ℕ
   pub asked : Asked
   pub lifetime : ℤ
+  pub trigger : Bool
 
 -- the peer that registered the client, where it is registered, and its aliases
 pub record ClientValue : Type 0 where

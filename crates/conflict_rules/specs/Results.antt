@@ -1,5 +1,5 @@
 -- What a call answers that may lack memory.
-use Rattle.std.specs.Prelude.{◌≡◌, Result, Ok, Err, Bool, true, false}
+use Rattle.std.specs.Prelude.{Result, Bool, true, false}
 use Rattle.dots_lists.specs.Steps as steps
 use Rattle.conflict_rules.specs.declared.fault.PutFault.{PutFault}
 use Rattle.conflict_rules.specs.declared.fault.PutFault.TheVariants as faults

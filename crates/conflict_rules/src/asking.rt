@@ -1,10 +1,11 @@
-//! When two requests ask for the same.
+//! When two requests ask for the same, and when one refreshes a mitigation.
 
 ghost use Rattle.std.specs.Prelude.{◌≡◌, Bool, nat_eq, bytes_eq};
 ghost use Rattle.std.specs.List.{list_any};
-ghost use Rattle.conflict_rules.specs.Asking.{same_prefix, same_ports, all_among, same_set, asks_the_same};
+ghost use Rattle.conflict_rules.specs.Asking.{same_prefix, same_ports, all_among, same_set, asks_the_same, would_refresh};
 
 use acl_lists::Asked;
+use dots_history::Put;
 use dots_lists::Name;
 use ip_scope::{PortRange, Prefix};
 
@@ -72,7 +73,7 @@ fn are_same_set<T: Listed>(items: &[T], others: &[T]) -> bool
 }
 
 /// Whether the two ask for the same prefixes, ports, protocols, names and aliases, whatever their order and repeats.
-pub(crate) fn asks_the_same(a: &Asked, b: &Asked) -> bool
+fn asks_the_same(a: &Asked, b: &Asked) -> bool
     ensures { result ≡ asks_the_same a.now b.now }
 {
     are_same_set(a.prefixes.items(), b.prefixes.items())
@@ -80,4 +81,11 @@ pub(crate) fn asks_the_same(a: &Asked, b: &Asked) -> bool
         && are_same_set(a.protocols.items(), b.protocols.items())
         && are_same_set(a.names.items(), b.names.items())
         && are_same_set(a.aliases.items(), b.aliases.items())
+}
+
+/// Whether such a request would refresh the mitigation: it asks for the same, with the same trigger value.
+pub(crate) fn would_refresh(asked: &Asked, trigger: bool, put: &Put) -> bool
+    ensures { result ≡ would_refresh asked.now trigger put.now }
+{
+    asks_the_same(&put.asked, asked) && put.trigger == trigger
 }

@@ -18,7 +18,8 @@ use filter_rows::greatest_from;
 /// What the live mitigations of its domain make of a new mitigation.
 #[derive(Clone, Copy)]
 pub enum Judgement {
-    /// A standing mitigation of the client overlaps and has a higher mid; this is the highest such mid.
+    /// A standing mitigation of the client with the same trigger value overlaps and has a higher mid; this is the highest
+    /// such mid.
     Higher { mid: u32 },
     /// A standing mitigation of another client overlaps. Bit i is set exactly where the resolved prefix i, of those of
     /// the targets in order, meets such a mitigation.
@@ -44,8 +45,9 @@ pub fn are_few(targets: &TargetList) -> bool
 }
 
 /// Judges a new mitigation, of which `targets` is what was asked for, by the live mitigations of its domain: whether it
-/// overlaps with a standing one of its client that has a higher mid, or with one of another client, and whether there
-/// is room, for the client and then for the domain, beside those that it wouldn't end (RFC 9132, section 4.4.1). The
+/// overlaps with a standing one of its client that has the same trigger value and a higher mid, or with one of another
+/// client, and whether there is room, for the client and then for the domain, beside those that it wouldn't end (RFC
+/// 9132, section 4.4.1). `trigger` says whether it filters at once, and not only while the client's signal is lost. The
 /// first of these that applies is answered. The targets have at most 64 prefixes together.
 pub fn judge_overlap<T: Mitigates>(
     live: &[T],
@@ -54,14 +56,16 @@ pub fn judge_overlap<T: Mitigates>(
     asked: &Asked,
     targets: &TargetList,
     limits: &Limits,
+    trigger: bool,
 ) -> Judgement
     requires { prefix_count targets.now ≤ MAX_RESOLVED }
-    ensures { result ≡ judge_overlap (map T.live live.now) cuid.now (wanted mid asked.now targets.now) limits.now }
+    ensures { result ≡ judge_overlap (map T.live live.now) cuid.now (wanted mid asked.now targets.now trigger) limits.now }
 {
     let request = Request {
         mid,
         asked,
         targets,
+        trigger,
     };
     match highest_mid(live, cuid, &request) {
         Some(mid) => Judgement::Higher { mid },
@@ -108,7 +112,7 @@ fn is_higher<T: Mitigates>(mitigation: &T, cuid: &[u8], request: &Request<'_>) -
 {
     stands_for(mitigation, cuid)
         && request.mid < mitigation.put().mid
-        && request.overlaps_own(mitigation.put())
+        && request.rivals(mitigation.put())
 }
 
 fn is_contested<T: Mitigates>(live: &[T], cuid: &[u8], request: &Request<'_>) -> bool

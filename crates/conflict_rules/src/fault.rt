@@ -7,13 +7,14 @@ use dots_lists::NoMemory;
 pub enum PutFault {
     /// The client's name is in use by another peer (RFC 9132, section 4.4.1.3: conflict-cause 3).
     Collision,
-    /// A mitigation of this mid stands that was asked for something else.
+    /// A mitigation of this mid stands that was asked for something else, or with another trigger value.
     Changed,
     /// The client holds no alias of an asked name.
     UnknownAlias,
     /// The targets have more than 64 prefixes together.
     TooMany,
-    /// A standing mitigation of the client overlaps and has a higher mid; this is the highest such mid.
+    /// A standing mitigation of the client with the same trigger value overlaps and has a higher mid; this is the highest
+    /// such mid.
     Higher { mid: u32 },
     /// Standing mitigations of other clients overlap; these are the resolved prefixes, in order, that meet one
     /// (conflict-cause 1).

@@ -46,7 +46,14 @@ pub fn judge_put<T: Mitigates>(
     if client.is_of_another(request.peer) {
         return Err(PutFault::Collision);
     }
-    match judge_mid(live, request.peer, request.cuid, request.mid, request.asked) {
+    match judge_mid(
+        live,
+        request.peer,
+        request.cuid,
+        request.mid,
+        request.asked,
+        request.trigger,
+    ) {
         MidJudgement::Collision => Err(PutFault::Collision),
         MidJudgement::Changed => Err(PutFault::Changed),
         MidJudgement::Refresh { at } => refreshed(alloc, settings, put_at(live, at), request),
@@ -141,6 +148,7 @@ fn overlap_fault<T: Mitigates>(
         request.asked,
         targets,
         &limits,
+        request.trigger,
     ) {
         Judgement::Higher { mid } => Ok(Some(PutFault::Higher { mid })),
         Judgement::Other { meeting } => {
@@ -169,5 +177,6 @@ fn granted_put(
         targets,
         granted: grant(request.lifetime, settings.ceiling(), settings.indefinite()),
         start,
+        trigger: request.trigger,
     })
 }

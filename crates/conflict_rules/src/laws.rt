@@ -27,8 +27,8 @@ pub fn contested_by_a_prefix()
 {}
 
 /// What a request would end is what its entry ends in a history, where it is accepted: of the domain's live mitigations
-/// those of its client that have its mid or overlap with it.
+/// those of its client that have its mid, or have its trigger value and overlap with it.
 pub fn request_ends()
     ensures { (earlier later : Entry) (m : Live) (put : Put) → earlier.domain ≡ later.domain → earlier.cuid ≡ m.cuid → earlier.change ≡ change.Put m.put → later.change ≡ change.Put put
-        → ends earlier later ≡ would_end later.cuid (wanted put.mid put.asked put.targets) m }
+        → ends earlier later ≡ would_end later.cuid (wanted put.mid put.asked put.targets put.trigger) m }
 {}

@@ -17,6 +17,9 @@ pub struct PutRequest<'a> {
     pub asked: &'a Asked,
     /// The lifetime in seconds, from 1 on, or -1 for an indefinite one.
     pub lifetime: i32,
+    /// Whether it is to filter at once, and not only while the signal of the client is lost (RFC 9132, section 4.4.1:
+    /// `trigger-mitigation`).
+    pub trigger: bool,
 }
 
 impl<'a> Model for PutRequest<'a> {
@@ -30,6 +33,7 @@ impl<'a> Model for PutRequest<'a> {
       mid = request.mid;
       asked = request.asked.now;
       lifetime = request.lifetime;
+      trigger = request.trigger;
     } };
 }
 

@@ -2,32 +2,37 @@
 use Rattle.std.proofs.Common.{◌≡◌, ℕ, Bool, true, false, cond, not, ◌&&◌, ◌||◌, List, [], ◌∷◌, ◌++◌, map, filter, Option, Some, None, inl, inr, refl, sym, ap, ◌∙◌}
 use Rattle.std.specs.Prelude.{◌==◌, nat_lt}
 use Rattle.std.specs.List.{list_any, list_all, find}
-use Rattle.std.proofs.lemmas.Bool.{false≢true, both_ways, cond_both, cond-true, cond-false, cases_Bool, and_parts, and_left, and_right, and_from, or_left, or_parts, eqb-true, eq-eqb, false_from_ne_true}
+use Rattle.std.proofs.lemmas.Bool.{false≢true, both_ways, cond_both, cond-true, cond-false, cases_Bool, and_parts, and_left, and_right, or_left, eqb-true}
 use Rattle.std.proofs.lemmas.Option.{none-some}
 use Rattle.dots_history.specs.declared.config.Config.{Config}
 use Rattle.dots_history.specs.declared.entry.Entry.{Entry}
 use Rattle.dots_history.specs.declared.change.Change.{Change}
 use Rattle.dots_history.specs.declared.change.Change.TheVariants as change
-use Rattle.dots_history.specs.Entries.{same_client, is_held, undoes, undoes_of_client, undoes_of_peer, is_configuration, reconfigures}
+use Rattle.dots_history.specs.Entries.{same_client, is_held, undoes, undoes_of_client, undoes_of_peer, is_configuration, reconfigures, resumes, is_lost, is_loss}
 use Rattle.dots_history.specs.Histories.{or_else}
 use Rattle.dots_history.proofs.Remembering.{or_none}
+use Rattle.dots_laws.specs.Capacities.{loses_as}
 use Rattle.dots_laws.specs.Views.{held_with}
 use Rattle.held_resources.specs.declared.sessions.Session.{Session}
 use Rattle.held_resources.specs.Held.{config_set, config_of}
-use Rattle.held_resources.specs.Tables.{Sizes, configured, session_with, session_of, peer_of, is_known, config_in}
-use Rattle.held_resources.proofs.Written.{some_of_both}
+use Rattle.held_resources.specs.Tables.{Sizes, configured, session_with, session_of, peer_of, is_placed, is_known, config_in}
+use Rattle.held_resources.proofs.Written.{some_of_both, or_no, not_resumed}
 use Rattle.held_resources.proofs.Holdings.{turned_eq}
 
-set_parts : (c later : Change) (s : ℕ × Config) → config_set c ≡ Some s → (undoes_of_client c later ≡ false) × (undoes_of_peer c later ≡ is_configuration later)
-unfolding undoes_of_client undoes_of_peer
-set_parts (change.SetConfig sid config) later s is = (refl, refl)
+set_parts : (c later : Change) (s : ℕ × Config) → config_set c ≡ Some s
+    → (undoes_of_client c later ≡ false) × (undoes_of_peer c later ≡ is_configuration later) × (is_lost c ≡ false)
+unfolding undoes_of_client undoes_of_peer is_lost
+set_parts (change.SetConfig sid config) later s is = (refl, refl, refl)
 set_parts _ later s is = absurd (none-some s is)
 
 set_undone : (x e : Entry) (s : ℕ × Config) → config_set x.change ≡ Some s → undoes x e ≡ ((x.peer == e.peer) && is_configuration e.change)
 unfolding undoes reconfigures
 set_undone x e s is =
     let parts = set_parts x.change e.change s is in
-    ap (λ b. b || ((x.peer == e.peer) && undoes_of_peer x.change e.change)) (and_right (same_client x e) (undoes_of_client x.change e.change) parts.0)
+    ap
+    (λ b. b || (((x.peer == e.peer) && undoes_of_peer x.change e.change) || resumes x e))
+    (and_right (same_client x e) (undoes_of_client x.change e.change) parts.0)
+    ∙ or_no ((x.peer == e.peer) && undoes_of_peer x.change e.change) (resumes x e) (not_resumed x e parts.2)
     ∙ ap (λ b. (x.peer == e.peer) && b) parts.1
 
 abbrev one : ℕ → Entry → Option (ℕ × Config)
@@ -198,7 +203,7 @@ no_config sizes peer (x ∷ xs) all out =
         (list_any (λ p. x.peer == p) sizes.peers)
         (nat_lt x.domain sizes.domains)
         (set_configures x.change s both.1))
-        ∙ known))
+        ∙ (and_parts (is_placed sizes x) (not (is_loss x.change) || list_any (loses_as x) sizes.own) known).0))
 
 pub find_session : (peer : ℕ) (es : List Entry) (peers : List ℕ)
     → config_in (find (λ (s : Session). peer == s.peer) (map (session_of es) peers)) ≡ cond (list_any (λ p. peer == p) peers) (config_of peer es) None

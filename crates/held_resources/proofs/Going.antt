@@ -2,20 +2,20 @@
 use Rattle.std.proofs.Common.{◌≡◌, ℕ, ◌+◌, Bool, true, false, cond, not, ◌&&◌, ◌||◌, List, [], ◌∷◌, ◌++◌, length, map, filter, Option, Some, None, refl, sym, ap, ◌∙◌, append_assoc}
 use Rattle.std.specs.Prelude.{◌==◌, bytes_eq, is_some, option_map, option_to_list}
 use Rattle.std.specs.List.{list_any}
-use Rattle.std.proofs.lemmas.Bool.{false≢true}
+use Rattle.std.proofs.lemmas.Bool.{false≢true, and_right, or_from}
 use Rattle.std.proofs.lemmas.List.{map-append, length-append}
 use Rattle.std.proofs.lemmas.List.Elements.{filter-append}
 use Rattle.dots_history.specs.declared.entry.Entry.{Entry}
 use Rattle.dots_history.specs.declared.change.Change.{Change}
 use Rattle.dots_history.specs.declared.change.Change.TheVariants as change
-use Rattle.dots_history.specs.Entries.{is_held, is_deregister, is_configuration, undoes, undoes_alias, undoes_acl, undoes_of_client, undoes_of_peer, reconfigures, same_client}
+use Rattle.dots_history.specs.Entries.{is_held, is_deregister, is_configuration, undoes, undoes_alias, undoes_acl, undoes_of_client, undoes_of_peer, undoes_loss, reconfigures, resumes, is_lost, is_loss, same_client}
 use Rattle.dots_history.specs.Histories.{stays, held}
 use Rattle.dots_laws.specs.Fits.{is_of_mitigations}
 use Rattle.dots_laws.specs.Filed.{Filed, entry_of, refiled}
 use Rattle.held_resources.specs.declared.row.HeldSlot.{HeldSlot}
 use Rattle.held_resources.specs.declared.row.HeldName.{HeldName}
 use Rattle.held_resources.specs.declared.row.HeldName.TheVariants as written
-use Rattle.held_resources.specs.Rows.{written_of, row_with, row_of, rows_of, rows_with, undone_of_client, undone_of_peer, is_undone, renumbered}
+use Rattle.held_resources.specs.Rows.{written_of, row_with, row_of, rows_of, rows_with, undone_of_client, undone_of_peer, undone_of_signal, is_undone, renumbered}
 
 some_is : {A : Type 0} → (x y : A) → Some x ≡ Some y → x ≡ y
 some_is x y is = cc
@@ -28,6 +28,7 @@ of_client change.Register w later is = sym (ap (λ v. undone_of_client v later) 
 of_client (change.SetAlias alias) w later is = sym (ap (λ v. undone_of_client v later) (some_is (written.Alias alias.name) w is))
 of_client (change.SetAcl acl) w later is = sym (ap (λ v. undone_of_client v later) (some_is (written.Acl acl.name) w is))
 of_client (change.SetConfig sid config) w later is = sym (ap (λ v. undone_of_client v later) (some_is written.Configuration w is))
+of_client change.Lost w later is = sym (ap (λ v. undone_of_client v later) (some_is written.Loss w is))
 of_client _ w later is = absurd (false≢true (ap is_some is))
 
 of_peer : (c : Change) (w : HeldName) (later : Change) → written_of c ≡ Some w → undone_of_peer w later ≡ undoes_of_peer c later
@@ -36,15 +37,31 @@ of_peer change.Register w later is = sym (ap (λ v. undone_of_peer v later) (som
 of_peer (change.SetAlias alias) w later is = sym (ap (λ v. undone_of_peer v later) (some_is (written.Alias alias.name) w is))
 of_peer (change.SetAcl acl) w later is = sym (ap (λ v. undone_of_peer v later) (some_is (written.Acl acl.name) w is))
 of_peer (change.SetConfig sid config) w later is = sym (ap (λ v. undone_of_peer v later) (some_is written.Configuration w is))
+of_peer change.Lost w later is = sym (ap (λ v. undone_of_peer v later) (some_is written.Loss w is))
 of_peer _ w later is = absurd (false≢true (ap is_some is))
 
+of_signal : (c : Change) (w : HeldName) (later : Change) → written_of c ≡ Some w → undone_of_signal w later ≡ undoes_loss c later
+unfolding undoes_loss is_lost
+of_signal change.Register w later is = sym (ap (λ v. undone_of_signal v later) (some_is written.Registration w is))
+of_signal (change.SetAlias alias) w later is = sym (ap (λ v. undone_of_signal v later) (some_is (written.Alias alias.name) w is))
+of_signal (change.SetAcl acl) w later is = sym (ap (λ v. undone_of_signal v later) (some_is (written.Acl acl.name) w is))
+of_signal (change.SetConfig sid config) w later is = sym (ap (λ v. undone_of_signal v later) (some_is written.Configuration w is))
+of_signal change.Lost w later is = sym (ap (λ v. undone_of_signal v later) (some_is written.Loss w is))
+of_signal _ w later is = absurd (false≢true (ap is_some is))
+
 with_undone : (x : Filed) (w : HeldName) (e : Entry) → written_of x.entry.change ≡ Some w → is_undone (row_with x w) e ≡ undoes x.entry e
-unfolding undoes same_client reconfigures
+unfolding undoes same_client reconfigures resumes
 with_undone x w e is =
-    ap (λ b. (((x.entry.domain == e.domain) && bytes_eq x.entry.cuid e.cuid) && b) || ((x.entry.peer == e.peer) && undone_of_peer w e.change))
-    (of_client x.entry.change w e.change is)
-    ∙ ap (λ b. (((x.entry.domain == e.domain) && bytes_eq x.entry.cuid e.cuid) && undoes_of_client x.entry.change e.change) || ((x.entry.peer == e.peer) && b))
+    let of = (x.entry.domain == e.domain) && bytes_eq x.entry.cuid e.cuid in
+    let peer = x.entry.peer == e.peer in
+    let domain = x.entry.domain == e.domain in
+    ap (λ b. (of && b) || ((peer && undone_of_peer w e.change) || (peer && (domain && undone_of_signal w e.change)))) (of_client x.entry.change w e.change is)
+    ∙ ap
+    (λ b. (of && undoes_of_client x.entry.change e.change) || ((peer && b) || (peer && (domain && undone_of_signal w e.change))))
     (of_peer x.entry.change w e.change is)
+    ∙ ap
+    (λ b. (of && undoes_of_client x.entry.change e.change) || ((peer && undoes_of_peer x.entry.change e.change) || (peer && (domain && b))))
+    (of_signal x.entry.change w e.change is)
 
 row_undone : (x : Filed) (e : Entry) (o : Option HeldName) (r : HeldSlot) → written_of x.entry.change ≡ o → option_map (row_with x) o ≡ Some r
     → is_undone r e ≡ undoes x.entry e
@@ -81,6 +98,7 @@ only_held change.Register x = refl
 only_held (change.SetAlias alias) x = refl
 only_held (change.SetAcl acl) x = refl
 only_held (change.SetConfig sid config) x = refl
+only_held change.Lost x = refl
 only_held _ x = refl
 
 one_left : (e : Entry) (s u : Bool) (o : Option HeldSlot) → ((r : HeldSlot) → o ≡ Some r → is_undone r e ≡ u)
@@ -120,6 +138,7 @@ as_many change.Register b x n = one_each b (row_with x written.Registration) x.e
 as_many (change.SetAlias alias) b x n = one_each b (row_with x (written.Alias alias.name)) x.entry n
 as_many (change.SetAcl acl) b x n = one_each b (row_with x (written.Acl acl.name)) x.entry n
 as_many (change.SetConfig sid config) b x n = one_each b (row_with x written.Configuration) x.entry n
+as_many change.Lost b x n = one_each b (row_with x written.Loss) x.entry n
 as_many _ b x n = refl
 
 pub rows_many : (filed : List Filed) → length (rows_of filed) ≡ length (held (map entry_of filed))
@@ -169,7 +188,7 @@ quiet_client (written.Alias name) _ is = absurd (false≢true is)
 quiet_client (written.Acl name) (change.Put put) is = refl
 quiet_client (written.Acl name) (change.Withdraw mid) is = refl
 quiet_client (written.Acl name) _ is = absurd (false≢true is)
-quiet_client written.Configuration c is = refl
+quiet_client _ c is = refl
 
 quiet_setting : (c : Change) → is_of_mitigations c ≡ true → is_configuration c ≡ false
 unfolding is_of_mitigations is_configuration
@@ -181,21 +200,37 @@ quiet_peer : (w : HeldName) (c : Change) → is_of_mitigations c ≡ true → un
 quiet_peer written.Configuration c is = quiet_setting c is
 quiet_peer _ c is = refl
 
-none_of : (a b c d : Bool) → c ≡ false → d ≡ false → ((a && c) || (b && d)) ≡ false
-none_of true true c d one other = ap (λ x. x || d) one ∙ other
-none_of true false c d one other = ap (λ x. x || false) one
-none_of false true c d one other = other
-none_of false false c d one other = refl
+quiet_loss : (c : Change) → is_of_mitigations c ≡ true → is_loss c ≡ false
+unfolding is_of_mitigations is_loss
+quiet_loss (change.Put put) is = refl
+quiet_loss (change.Withdraw mid) is = refl
+quiet_loss _ is = absurd (false≢true is)
+
+quiet_signal : (w : HeldName) (c : Change) → is_of_mitigations c ≡ true → undone_of_signal w c ≡ false
+quiet_signal written.Loss c is = quiet_loss c is
+quiet_signal _ c is = refl
+
+none_of : (client peer domain one other last : Bool) → one ≡ false → other ≡ false → last ≡ false
+    → ((client && one) || ((peer && other) || (peer && (domain && last)))) ≡ false
+none_of client peer domain one other last of_client of_peer of_loss =
+    or_from
+    (client && one)
+    ((peer && other) || (peer && (domain && last)))
+    (and_right client one of_client)
+    (or_from (peer && other) (peer && (domain && last)) (and_right peer other of_peer) (and_right peer (domain && last) (and_right domain last of_loss)))
 
 quiet_row : (row : HeldSlot) (e : Entry) → is_of_mitigations e.change ≡ true → is_undone row e ≡ false
 quiet_row row e is =
     none_of
     ((row.domain == e.domain) && bytes_eq row.cuid e.cuid)
     (row.peer == e.peer)
+    (row.domain == e.domain)
     (undone_of_client row.written e.change)
     (undone_of_peer row.written e.change)
+    (undone_of_signal row.written e.change)
     (quiet_client row.written e.change is)
     (quiet_peer row.written e.change is)
+    (quiet_signal row.written e.change is)
 
 pub none_undone : (rows : List HeldSlot) (e : Entry) → is_of_mitigations e.change ≡ true → rows ≡ filter (λ row. not (is_undone row e)) rows
 none_undone [] e is = refl

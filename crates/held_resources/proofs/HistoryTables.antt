@@ -1,19 +1,20 @@
 -- What the tables answer is of the history, and what one more entry makes of them represents the longer one.
 use Rattle.std.proofs.Common.{◌≡◌, ◌⊎◌, ℕ, suc, zero, ◌+◌, ◌<◌, ◌≤◌, Bool, true, false, cond, not, ◌&&◌, ◌||◌, List, [], ◌∷◌, ◌++◌, map, filter, length, set, get_or, replicate, Option, Some, None, inl, inr, refl, sym, ap, ◌∙◌, subst, arith}
-use Rattle.std.specs.Prelude.{option_to_list, bytes_eq, ◌==◌, nat_lt, nat_le, is_some, slice_get, option_map}
-use Rattle.std.specs.List.{list_any, list_all, find}
-use Rattle.std.proofs.lemmas.Bool.{false≢true, true≢false, both_ways, cond_both, cond-true, cond-false, cases_Bool, and_parts, and_left, and_right, and_from, or_left, or_right, or_parts, or_from, or_cases, not_from_true, not_from_false, not-true, eqb-true, eqb-false, eq-eqb, ne_eqb, leb-true, le-leb, lt-ltb, ltb-true, ltb-false, false_from_ne_true}
+use Rattle.std.specs.Prelude.{◌==◌, nat_lt, nat_le, is_some, slice_get, option_map}
+use Rattle.std.specs.List.{list_any, list_all, find, flat_map}
+use Rattle.std.proofs.lemmas.Bool.{false≢true, both_ways, cond_both, cond-false, cases_Bool, and_parts, and_from, or_parts, or_from, or_cases, not_from_true, not-true, eqb-true, eqb-false, eq-eqb, leb-true, le-leb, ltb-true, false_from_ne_true}
 use Rattle.std.proofs.lemmas.List.{length-replicate}
-use Rattle.std.proofs.lemmas.Option.{none-some, same_Some, slice_get_within}
+use Rattle.std.proofs.lemmas.Option.{none-some, same_Some}
 use Rattle.dots_settings.specs.declared.peer.PeerRow.{PeerRow}
 use Rattle.dots_settings.specs.Settings.{SettingsValue}
 use Rattle.dots_history.specs.declared.entry.Entry.{Entry}
 use Rattle.dots_history.specs.declared.change.Change.{Change}
 use Rattle.dots_history.specs.declared.change.Change.TheVariants as change
-use Rattle.dots_history.specs.Entries.{same_client, is_held, undoes, is_configuration}
+use Rattle.dots_history.specs.Entries.{same_client, is_held, undoes, is_configuration, is_loss}
 use Rattle.dots_history.specs.Histories.{tally, held}
-use Rattle.dots_history.specs.Rows.{acl_of}
-use Rattle.dots_laws.specs.Capacities.{is_registration, is_alias, is_list, has_client}
+use Rattle.dots_history.specs.Rows.{is_lost_in}
+use Rattle.dots_laws.specs.Calm.{loser_of}
+use Rattle.dots_laws.specs.Capacities.{is_registration, is_alias, is_list, has_client, loses_as}
 use Rattle.dots_laws.specs.Tables.{Client, client_of, is_of}
 use Rattle.dots_laws.specs.Views.{held_with}
 use Rattle.dots_laws.specs.Fits as laws
@@ -22,14 +23,16 @@ use Rattle.dots_laws.proofs.Joining.{owned_with}
 use Rattle.dots_laws.proofs.Single.{of_itself, is_of_client, client_is_of}
 use Rattle.held_resources.specs.declared.rooms.Rooms.{Rooms}
 use Rattle.held_resources.specs.declared.sessions.Session.{Session}
-use Rattle.held_resources.specs.Held.{alias_of, aliases_of, acls_of, registers, is_registered, registrant, config_of}
+use Rattle.held_resources.specs.declared.signals.Signal.{Signal}
+use Rattle.held_resources.specs.Held.{aliases_of, acls_of, registers, is_registered, registrant, config_of}
 use Rattle.dots_laws.specs.Filed.{Filed}
 use Rattle.held_resources.specs.Rows.{HeldRows, rows_more}
-use Rattle.held_resources.specs.Tables.{SameButSlots, Sizes, Tables, Clients, Holding, Have, Represents, KeepsRoom, is_known, holding_of, holdings, clients_of, clients_with, list_with, has_cuid, aliases_with, acls_with, update, tables_with, session_with, session_of, no_session, peer_of, no_clients, rooms_of, sizes_of, client_at, in_clients, registrant_in, aliases_in, acls_in, number_in, config_in}
+use Rattle.held_resources.specs.Tables.{SameButSlots, Sizes, Tables, Clients, Holding, Have, Represents, KeepsRoom, is_placed, is_known, holding_of, holdings, clients_of, clients_with, list_with, has_cuid, aliases_with, acls_with, update, tables_with, session_with, session_of, no_session, peer_of, no_clients, rooms_of, sizes_of, client_at, in_clients, registrant_in, aliases_in, acls_in, number_in, config_in, own_of, no_loss, signal_with, signal_of, lost_in}
 use Rattle.held_resources.specs.Accepting.{keeps_rooms, keeps_room, takes, Takes, rightly, takes_in, accepts_by, accepts}
 use Rattle.held_resources.proofs.Written.{other_way, own_aliases, own_acls, number_of_aliases, number_of_acls, no_aliases, no_acls}
 use Rattle.held_resources.proofs.Holdings.{IsFresh, length_holdings, own_holdings, others_holdings, any_is, still_some, find_client, any_client, if_registered, registered_cases, not_registered}
 use Rattle.held_resources.proofs.Configs.{sessions_with, no_config, find_session}
+use Rattle.held_resources.proofs.Losses.{signals_with, find_lost}
 
 -- ---- places
 pub none_past : {A : Type 0} (xs : List A) (i : ℕ) → slice_get xs i ≡ None → length xs ≤ i
@@ -75,7 +78,8 @@ known_below sizes x known other =
     ltb-true
     x.domain
     sizes.domains
-    (sym (cond-false (is_configuration x.change) (list_any (λ peer. x.peer == peer) sizes.peers) (nat_lt x.domain sizes.domains) other) ∙ known)
+    (sym (cond-false (is_configuration x.change) (list_any (λ peer. x.peer == peer) sizes.peers) (nat_lt x.domain sizes.domains) other)
+    ∙ (and_parts (is_placed sizes x) (not (is_loss x.change) || list_any (loses_as x) sizes.own) known).0)
 
 none_beyond : (sizes : Sizes) (domain : ℕ) (x : Entry) → is_known sizes x ≡ true → sizes.domains ≤ domain → is_registration x.change && (x.domain == domain) ≡ false
 none_beyond sizes domain x known past =
@@ -187,6 +191,11 @@ module _ (tables : Tables) (es : List Entry) (have : Have tables es) where
       (λ o. o ≡ config_of peer es)
       (λ is. refl)
       (λ out. sym (no_config tables.sizes peer es have.known out))
+
+  pub lost_is : (peer domain : ℕ) → lost_in tables peer domain ≡ is_lost_in es peer domain
+  lost_is peer domain =
+      ap (list_any (λ (s : Signal). s.lost && ((peer == s.peer) && (domain == s.domain)))) have.signals
+      ∙ find_lost tables.sizes peer domain es have.known
 
 -- ---- which entries fit
 -- by what is held before
@@ -420,6 +429,7 @@ module _ (tables : Tables) (es : List Entry) (have : Have tables es) (e : Entry)
         domains = length_updated (clients_with e.peer e.cuid e.change) e.domain tables.clients ∙ have.domains;
         clients = λ domain clients some. by_domain right domain clients some (cases_Bool (e.domain == domain));
         sessions = ap (map (session_with e)) have.sessions ∙ sessions_with e es tables.sizes.peers;
+        signals = ap (map (signal_with e)) have.signals ∙ signals_with e es tables.sizes.own;
         owned = owned_with
             e
             es
@@ -512,11 +522,12 @@ pub accepted_by : (tables : Tables) (before : List Entry) (e : Entry) → Repres
 accepted_by tables before e represents = accepts_held tables.sizes before e ∙ accepts_is tables (held before) represents e
 
 -- ---- as the fields have it
-abbrev pub tables_of : Rooms → List Clients → List Session → HeldRows → Tables
-tables_of rooms clients sessions slots = record {
-  sizes = record { domains = length clients; rooms = rooms; peers = map peer_of sessions };
+abbrev pub tables_of : Rooms → List Clients → List Session → List Signal → HeldRows → Tables
+tables_of rooms clients sessions signals slots = record {
+  sizes = record { domains = length clients; rooms = rooms; peers = map peer_of sessions; own = map own_of signals };
   clients = clients;
   sessions = sessions;
+  signals = signals;
   slots = slots;
 }
 
@@ -524,23 +535,37 @@ same_peers : (e : Entry) (sessions : List Session) → map peer_of (map (session
 same_peers e [] = refl
 same_peers e (s ∷ sessions) = ap (λ peers. s.peer ∷ peers) (same_peers e sessions)
 
-abbrev with_sizes : ℕ → Rooms → List ℕ → List Clients → List Session → HeldRows → Tables
-with_sizes domains rooms peers clients sessions slots =
-    record { sizes = record { domains = domains; rooms = rooms; peers = peers }; clients = clients; sessions = sessions; slots = slots }
+same_own : (e : Entry) (signals : List Signal) → map own_of (map (signal_with e) signals) ≡ map own_of signals
+same_own e [] = refl
+same_own e (s ∷ signals) = ap (λ own. own_of s ∷ own) (same_own e signals)
 
-pub fields_with : (rooms : Rooms) (clients after : List Clients) (sessions then : List Session) (slots now : HeldRows) (x : Filed)
+abbrev with_sizes : Sizes → List Clients → List Session → List Signal → HeldRows → Tables
+with_sizes sizes clients sessions signals slots =
+    record { sizes = sizes; clients = clients; sessions = sessions; signals = signals; slots = slots }
+
+abbrev sizes_by : ℕ → Rooms → List ℕ → List (ℕ × ℕ) → Sizes
+sizes_by domains rooms peers own = record { domains = domains; rooms = rooms; peers = peers; own = own }
+
+pub fields_with : (rooms : Rooms) (clients after : List Clients) (sessions then : List Session) (signals since : List Signal) (slots now : HeldRows) (x : Filed)
     → after ≡ update (clients_with x.entry.peer x.entry.cuid x.entry.change) x.entry.domain clients → then ≡ map (session_with x.entry) sessions
-    → now ≡ rows_more x slots
-    → tables_of rooms after then now ≡ tables_with x (tables_of rooms clients sessions slots)
-fields_with rooms clients after sessions then slots now x changed configured filed =
+    → since ≡ map (signal_with x.entry) signals → now ≡ rows_more x slots
+    → tables_of rooms after then since now ≡ tables_with x (tables_of rooms clients sessions signals slots)
+fields_with rooms clients after sessions then signals since slots now x changed configured told filed =
     let e = x.entry in
     let more = map (session_with e) sessions in
+    let later = map (signal_with e) signals in
     let others = update (clients_with e.peer e.cuid e.change) e.domain clients in
-    ap (λ cs. tables_of rooms cs then now) changed
-    ∙ ap (λ ss. tables_of rooms others ss now) configured
-    ∙ ap (tables_of rooms others more) filed
-    ∙ ap (λ n. with_sizes n rooms (map peer_of more) others more (rows_more x slots)) (length_updated (clients_with e.peer e.cuid e.change) e.domain clients)
-    ∙ ap (λ peers. with_sizes (length clients) rooms peers others more (rows_more x slots)) (same_peers e sessions)
+    ap (λ cs. tables_of rooms cs then since now) changed
+    ∙ ap (λ ss. tables_of rooms others ss since now) configured
+    ∙ ap (λ ls. tables_of rooms others more ls now) told
+    ∙ ap (tables_of rooms others more later) filed
+    ∙ ap
+    (λ n. with_sizes (sizes_by n rooms (map peer_of more) (map own_of later)) others more later (rows_more x slots))
+    (length_updated (clients_with e.peer e.cuid e.change) e.domain clients)
+    ∙ ap (λ peers. with_sizes (sizes_by (length clients) rooms peers (map own_of later)) others more later (rows_more x slots)) (same_peers e sessions)
+    ∙ ap
+    (λ own. with_sizes (sizes_by (length clients) rooms (map peer_of sessions) own) others more later (rows_more x slots))
+    (same_own e signals)
 
 -- ---- the empty history
 get_replicated : {A : Type 0} (n i : ℕ) (x y : A) → slice_get (replicate n x) i ≡ Some y → y ≡ x
@@ -556,35 +581,47 @@ sessions_at_first : (rows : List PeerRow) → map no_session rows ≡ map (sessi
 sessions_at_first [] = refl
 sessions_at_first (row ∷ rows) = ap (λ sessions. no_session row ∷ sessions) (sessions_at_first rows)
 
-pub at_first : (rooms : Rooms) (count : ℕ) (rows : List PeerRow) (slots : HeldRows)
-    → Have (tables_of rooms (replicate count (no_clients rooms)) (map no_session rows) slots) []
-at_first rooms count rows slots = record {
+no_own : (own : List (ℕ × ℕ)) → map own_of (map no_loss own) ≡ own
+no_own [] = refl
+no_own (o ∷ own) = ap (λ rest. o ∷ rest) (no_own own)
+
+signals_at_first : (own : List (ℕ × ℕ)) → map no_loss own ≡ map (signal_of []) (map own_of (map no_loss own))
+signals_at_first [] = refl
+signals_at_first (o ∷ own) = ap (λ signals. no_loss o ∷ signals) (signals_at_first own)
+
+pub at_first : (rooms : Rooms) (count : ℕ) (rows : List PeerRow) (own : List (ℕ × ℕ)) (slots : HeldRows)
+    → Have (tables_of rooms (replicate count (no_clients rooms)) (map no_session rows) (map no_loss own) slots) []
+at_first rooms count rows own slots = record {
   domains = refl;
   clients = λ domain clients some. get_replicated count domain (no_clients rooms) clients some;
   sessions = sessions_at_first rows;
+  signals = signals_at_first own;
   owned = refl;
   known = refl;
 }
 
-pub represents_first : (rooms : Rooms) (count : ℕ) (rows : List PeerRow) (clients : List Clients) (sessions : List Session) (slots : HeldRows)
-    → clients ≡ replicate count (no_clients rooms) → sessions ≡ map no_session rows → Represents (tables_of rooms clients sessions slots) []
-represents_first rooms count rows clients sessions slots empty none =
-    subst (λ cs. Have (tables_of rooms cs sessions slots) []) (sym empty)
-    (subst (λ ss. Have (tables_of rooms (replicate count (no_clients rooms)) ss slots) []) (sym none) (at_first rooms count rows slots))
+pub represents_first : (rooms : Rooms) (count : ℕ) (rows : List PeerRow) (own : List (ℕ × ℕ)) (clients : List Clients) (sessions : List Session) (signals : List Signal) (slots : HeldRows)
+    → clients ≡ replicate count (no_clients rooms) → sessions ≡ map no_session rows → signals ≡ map no_loss own
+    → Represents (tables_of rooms clients sessions signals slots) []
+represents_first rooms count rows own clients sessions signals slots empty none heard =
+    subst (λ cs. Have (tables_of rooms cs sessions signals slots) []) (sym empty)
+    (subst (λ ss. Have (tables_of rooms (replicate count (no_clients rooms)) ss signals slots) []) (sym none)
+    (subst (λ ls. Have (tables_of rooms (replicate count (no_clients rooms)) (map no_session rows) ls slots) []) (sym heard) (at_first rooms count rows own slots)))
 
-pub sizes_first : (settings : SettingsValue) (rooms : Rooms) (count : ℕ) (clients : List Clients) (sessions : List Session) (slots : HeldRows)
+pub sizes_first : (settings : SettingsValue) (rooms : Rooms) (count : ℕ) (clients : List Clients) (sessions : List Session) (signals : List Signal) (slots : HeldRows)
     → rooms ≡ rooms_of settings.limits → count ≡ length settings.domains
-    → clients ≡ replicate count (no_clients rooms) → sessions ≡ map no_session settings.peers
-    → (tables_of rooms clients sessions slots).sizes ≡ sizes_of settings
-sizes_first settings rooms count clients sessions slots limits number empty none =
-    ap (λ cs. sizes_by (length cs) rooms (map peer_of sessions)) empty
-    ∙ ap (λ n. sizes_by n rooms (map peer_of sessions)) (length-replicate count (no_clients rooms) ∙ number)
-    ∙ ap (λ ss. sizes_by (length settings.domains) rooms (map peer_of ss)) none
-    ∙ ap (λ peers. sizes_by (length settings.domains) rooms peers) (no_peers settings.peers)
-    ∙ ap (λ r. sizes_by (length settings.domains) r (map (λ (row : PeerRow). row.peer) settings.peers)) limits
-  where
-    sizes_by : ℕ → Rooms → List ℕ → Sizes
-    sizes_by domains rooms peers = record { domains = domains; rooms = rooms; peers = peers }
+    → clients ≡ replicate count (no_clients rooms) → sessions ≡ map no_session settings.peers → signals ≡ map no_loss (flat_map loser_of settings.peers)
+    → (tables_of rooms clients sessions signals slots).sizes ≡ sizes_of settings
+sizes_first settings rooms count clients sessions signals slots limits number empty none heard =
+    let n = length settings.domains in
+    let peers = map (λ (row : PeerRow). row.peer) settings.peers in
+    ap (λ cs. sizes_by (length cs) rooms (map peer_of sessions) (map own_of signals)) empty
+    ∙ ap (λ k. sizes_by k rooms (map peer_of sessions) (map own_of signals)) (length-replicate count (no_clients rooms) ∙ number)
+    ∙ ap (λ ss. sizes_by n rooms (map peer_of ss) (map own_of signals)) none
+    ∙ ap (λ ps. sizes_by n rooms ps (map own_of signals)) (no_peers settings.peers)
+    ∙ ap (λ ls. sizes_by n rooms peers (map own_of ls)) heard
+    ∙ ap (λ own. sizes_by n rooms peers own) (no_own (flat_map loser_of settings.peers))
+    ∙ ap (λ r. sizes_by n r peers (flat_map loser_of settings.peers)) limits
 
 -- ---- tables of one history
 all_same : {A : Type 0} (xs ys : List A) → length xs ≡ length ys
@@ -608,6 +645,7 @@ one_value a b entries sizes first second = record {
       ∙ ap (λ (s : Sizes). clients_of s.rooms i (held entries)) sizes
       ∙ sym (second.clients i y in_b));
   sessions = first.sessions ∙ ap (λ (s : Sizes). map (session_of (held entries)) s.peers) sizes ∙ sym second.sessions;
+  signals = first.signals ∙ ap (λ (s : Sizes). map (signal_of (held entries)) s.own) sizes ∙ sym second.signals;
 }
 
 -- what is the same but for the slots represents the same
@@ -618,6 +656,7 @@ same_represents a b entries same have = record {
       have.clients domain clients (ap (λ cs. slice_get cs domain) (sym same.clients) ∙ some)
       ∙ ap (λ (s : Sizes). clients_of s.rooms domain (held entries)) (sym same.sizes);
   sessions = same.sessions ∙ have.sessions ∙ ap (λ (s : Sizes). map (session_of (held entries)) s.peers) (sym same.sizes);
+  signals = same.signals ∙ have.signals ∙ ap (λ (s : Sizes). map (signal_of (held entries)) s.own) (sym same.sizes);
   owned = have.owned;
   known = subst (λ s. list_all (is_known s) (held entries) ≡ true) (sym same.sizes) have.known;
 }

@@ -1,9 +1,9 @@
 -- What the laws come to: clients and peers are apart, mitigations hold nothing, and what fits is accepted.
 use Rattle.std.proofs.Common.{◌≡◌, ℕ, Bool, true, false, cond, not, ◌&&◌, ◌||◌, List, [], ◌∷◌, ◌++◌, map, filter, length, Option, Some, None, inl, inr, refl, sym, ap, ◌∙◌, subst, append-nil}
 use Rattle.std.specs.Prelude.{option_to_list, ◌==◌, nat_lt, nat_le, unwrap_or}
-use Rattle.std.specs.List.{list_any, list_all, find}
+use Rattle.std.specs.List.{list_any, find, flat_map}
 use Rattle.std.specs.Option.{option_map}
-use Rattle.std.proofs.lemmas.Bool.{false≢true, both_ways, cond_both, cond-true, cond-false, cases_Bool, and_parts, and_left, and_right, and_from, or_from, or_left, or_right, not_from_true, false_from_ne_true}
+use Rattle.std.proofs.lemmas.Bool.{false≢true, cond_both, cond-true, cond-false, cases_Bool, and_parts, and_right, and_from, or_from, or_left, or_right, or_cases}
 use Rattle.std.proofs.lemmas.Option.{none-some}
 use Rattle.dots_settings.specs.declared.peer.PeerRow.{PeerRow}
 use Rattle.dots_settings.specs.declared.peer.Role.{Role}
@@ -13,16 +13,17 @@ use Rattle.dots_settings.specs.Lookups.{role_of, prefixes_of}
 use Rattle.dots_history.specs.declared.entry.Entry.{Entry}
 use Rattle.dots_history.specs.declared.change.Change.{Change}
 use Rattle.dots_history.specs.declared.change.Change.TheVariants as change
-use Rattle.dots_history.specs.Entries.{same_client, is_held, undoes, undoes_of_client, undoes_of_peer, undoes_alias, undoes_acl, reconfigures, is_deregister, is_configuration}
+use Rattle.dots_history.specs.Entries.{same_client, is_held, undoes, undoes_of_client, undoes_of_peer, undoes_alias, undoes_acl, undoes_loss, reconfigures, resumes, is_deregister, is_configuration, is_lost, is_loss}
 use Rattle.dots_history.specs.Histories.{Mitigation, is_nil, held, tally, mitigations}
-use Rattle.dots_laws.specs.Calm.{is_of_settings, may_act, may_configure, change_inside}
-use Rattle.dots_laws.specs.Capacities.{is_registration, is_alias, is_list}
+use Rattle.dots_laws.specs.Calm.{is_of_settings, acts_rightly, loses_rightly, waits_rightly, is_client_of, loser_of, may_act, may_configure, change_inside}
+use Rattle.dots_laws.specs.Capacities.{is_registration, loses_as}
 use Rattle.dots_laws.specs.Fits as laws
 use Rattle.dots_laws.specs.Tables.{Client, is_of}
 use Rattle.dots_laws.specs.Views.{held_with}
+use Rattle.dots_laws.proofs.BySettings.{loser_in}
 use Rattle.dots_laws.proofs.GoingOn.{held_push}
 use Rattle.held_resources.specs.Held.{aliases_of, acls_of, is_registered, of_client, written}
-use Rattle.held_resources.specs.Tables.{Have, Represents, Tables, sizes_of, is_known}
+use Rattle.held_resources.specs.Tables.{Have, Represents, Tables, sizes_of, is_placed, is_known}
 use Rattle.held_resources.specs.Accepting.{accepts, keeps_rooms}
 use Rattle.held_resources.proofs.Written.{written_alone, with_other, other_aliases, other_acls}
 use Rattle.held_resources.proofs.Holdings.{turned_eq}
@@ -35,9 +36,10 @@ registration_of _ = None
 deregisters : Change → Change → Bool
 deregisters registration later = is_deregister later
 
-registration_agrees : (c a later : Change) → registration_of c ≡ Some a → (undoes_of_client c later ≡ deregisters a later) × (undoes_of_peer c later ≡ false)
-unfolding registration_of deregisters undoes_of_client undoes_of_peer
-registration_agrees change.Register a later is = (refl, refl)
+registration_agrees : (c a later : Change) → registration_of c ≡ Some a
+    → (undoes_of_client c later ≡ deregisters a later) × (undoes_of_peer c later ≡ false) × (is_lost c ≡ false)
+unfolding registration_of deregisters undoes_of_client undoes_of_peer is_lost
+registration_agrees change.Register a later is = (refl, refl, refl)
 registration_agrees _ a later is = absurd (none-some a is)
 
 registration_held : (c a : Change) → registration_of c ≡ Some a → is_held c ≡ true
@@ -99,15 +101,28 @@ undoes_nothing (change.SetConfig sid config) (change.Withdraw mid) is = (refl, r
 undoes_nothing (change.SetConfig sid config) _ is = absurd (false≢true is)
 undoes_nothing _ later is = (refl, refl)
 
+no_loss : (c : Change) → laws.is_of_mitigations c ≡ true → is_loss c ≡ false
+unfolding laws.is_of_mitigations is_loss
+no_loss (change.Put put) is = refl
+no_loss (change.Withdraw mid) is = refl
+no_loss _ is = absurd (false≢true is)
+
 none_undone : (x e : Entry) → laws.is_of_mitigations e.change ≡ true → undoes x e ≡ false
-unfolding undoes reconfigures
+unfolding undoes reconfigures resumes undoes_loss
 none_undone x e is =
     let parts = undoes_nothing x.change e.change is in
     or_from
     (same_client x e && undoes_of_client x.change e.change)
-    ((x.peer == e.peer) && undoes_of_peer x.change e.change)
+    (((x.peer == e.peer) && undoes_of_peer x.change e.change) || ((x.peer == e.peer) && ((x.domain == e.domain) && (is_lost x.change && is_loss e.change))))
     (and_right (same_client x e) (undoes_of_client x.change e.change) parts.0)
+    (or_from
+    ((x.peer == e.peer) && undoes_of_peer x.change e.change)
+    ((x.peer == e.peer) && ((x.domain == e.domain) && (is_lost x.change && is_loss e.change)))
     (and_right (x.peer == e.peer) (undoes_of_peer x.change e.change) parts.1)
+    (and_right
+    (x.peer == e.peer)
+    ((x.domain == e.domain) && (is_lost x.change && is_loss e.change))
+    (and_right (x.domain == e.domain) (is_lost x.change && is_loss e.change) (and_right (is_lost x.change) (is_loss e.change) (no_loss e.change is)))))
 
 holds_nothing : (c : Change) → laws.is_of_mitigations c ≡ true → is_held c ≡ false
 unfolding laws.is_of_mitigations is_held
@@ -165,8 +180,8 @@ peer_there settings peer domain is = by_rows settings.peers is
               ∙ is))
         ]
 
-pub known_of : (settings : SettingsValue) (e : Entry) → is_of_settings settings e ≡ true → is_known (sizes_of settings) e ≡ true
-known_of settings e own =
+placed_of : (settings : SettingsValue) (e : Entry) → acts_rightly settings e ≡ true → is_placed (sizes_of settings) e ≡ true
+placed_of settings e own =
     let configures = is_nil e.cuid && may_configure (role_of settings e.peer) e.domain in
     let acts = may_act settings (role_of settings e.peer) e.domain && change_inside settings (prefixes_of settings e.domain) e.change in
     cond_both
@@ -189,6 +204,27 @@ known_of settings e own =
     (may_act settings (role_of settings e.peer) e.domain)
     (change_inside settings (prefixes_of settings e.domain) e.change)
     (sym (cond-false (is_configuration e.change) configures acts out) ∙ own)).0)
+
+loser_there : (settings : SettingsValue) (e : Entry) → loses_rightly settings e ≡ true → not (is_loss e.change) || list_any (loses_as e) (flat_map loser_of settings.peers) ≡ true
+loser_there settings e rightly =
+    elim (or_cases (not (is_loss e.change)) (is_nil e.cuid && is_client_of (role_of settings e.peer) e.domain) rightly) [
+      | inl none ↦ or_left (not (is_loss e.change)) (list_any (loses_as e) (flat_map loser_of settings.peers)) none
+      | inr client ↦
+          or_right
+          (not (is_loss e.change))
+          (list_any (loses_as e) (flat_map loser_of settings.peers))
+          (loser_in e settings.peers (and_parts (is_nil e.cuid) (is_client_of (role_of settings e.peer) e.domain) client).1)
+    ]
+
+pub known_of : (settings : SettingsValue) (e : Entry) → is_of_settings settings e ≡ true → is_known (sizes_of settings) e ≡ true
+known_of settings e own =
+    let parts = and_parts (acts_rightly settings e) (loses_rightly settings e && waits_rightly settings e) own in
+    let rest = and_parts (loses_rightly settings e) (waits_rightly settings e) parts.1 in
+    and_from
+    (is_placed (sizes_of settings) e)
+    (not (is_loss e.change) || list_any (loses_as e) (sizes_of settings).own)
+    (placed_of settings e parts.0)
+    (loser_there settings e rest.0)
 
 -- the settings' own entries: the condition is the one of the laws
 pub accepts_own : (settings : SettingsValue) (before : List Entry) (e : Entry) → is_of_settings settings e ≡ true

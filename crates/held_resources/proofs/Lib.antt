@@ -1,6 +1,8 @@
 pub mod Written
 pub mod Holdings
 pub mod Configs
+pub mod Losses
+mod LostPeers
 pub mod Places
 pub mod HistoryTables
 pub mod Lawful

@@ -66,6 +66,7 @@ own_slot change.Register b x rest = one_slot b (row_with x written.Registration)
 own_slot (change.SetAlias alias) b x rest = one_slot b (row_with x (written.Alias alias.name)) x.slot rest refl
 own_slot (change.SetAcl acl) b x rest = one_slot b (row_with x (written.Acl acl.name)) x.slot rest refl
 own_slot (change.SetConfig sid config) b x rest = one_slot b (row_with x written.Configuration) x.slot rest refl
+own_slot change.Lost b x rest = one_slot b (row_with x written.Loss) x.slot rest refl
 own_slot _ b x rest = refl
 
 slots_held : (passed : List Mitigation) (filed : List Filed) → slots_in (rows_of filed) ≡ slots_by (λ passed e later. stays e later) passed filed

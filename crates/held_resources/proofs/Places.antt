@@ -1,8 +1,8 @@
 -- One client of a list, found by its cuid.
-use Rattle.std.proofs.Common.{◌≡◌, ℕ, suc, zero, ◌+◌, ◌<◌, ◌≤◌, Bool, true, false, cond, not, ◌&&◌, ◌||◌, List, [], ◌∷◌, ◌++◌, map, filter, length, take, drop, set, get_or, Option, Some, None, inl, inr, refl, sym, ap, ◌∙◌, subst, append-nil, length-append, arith}
-use Rattle.std.specs.Prelude.{bytes_eq, position, slice_get, nat_lt, nat_le, is_some, option_to_list}
+use Rattle.std.proofs.Common.{◌≡◌, ℕ, suc, zero, ◌+◌, ◌<◌, ◌≤◌, Bool, true, false, cond, not, ◌||◌, List, [], ◌∷◌, ◌++◌, map, filter, length, set, get_or, Option, Some, None, inl, inr, refl, sym, ap, ◌∙◌, subst, append-nil, length-append, arith}
+use Rattle.std.specs.Prelude.{position, slice_get, nat_lt, nat_le, is_some, option_to_list}
 use Rattle.std.specs.List.{list_any, find, remove, position_or_len}
-use Rattle.std.proofs.lemmas.Bool.{false≢true, both_ways, cond_both, cond-true, cond-false, cases_Bool, or_parts, or_from, not_from_true, not_from_false, ltb-true, ltb-false, le-ltb, lt-ltb, le-leb, lt-leb, cases_lt, false_from_ne_true}
+use Rattle.std.proofs.lemmas.Bool.{false≢true, cond_both, cond-true, cond-false, or_parts, or_from, not_from_true, not_from_false, ltb-true, ltb-false, le-ltb, lt-ltb, le-leb, lt-leb, cases_lt}
 use Rattle.std.proofs.lemmas.Option.{none-some, cond_some, slice_get_read}
 use Rattle.std.proofs.lemmas.List.Folds.{find_at, list_any_none}
 use Rattle.std.proofs.lemmas.List.Sums.{fails_before_first}

@@ -1,17 +1,16 @@
 -- What one more entry makes of what a client wrote: it is the entries of the client alone that matter.
-use Rattle.std.proofs.Common.{◌≡◌, ℕ, ◌+◌, Bool, true, false, cond, not, ◌&&◌, ◌||◌, List, [], ◌∷◌, ◌++◌, filter, length, Option, Some, None, inl, inr, refl, sym, ap, ◌∙◌, append-nil, append_assoc, length-append, arith}
-use Rattle.std.specs.Prelude.{option_to_list, bytes_eq, ◌==◌}
+use Rattle.std.proofs.Common.{◌≡◌, Bool, true, false, cond, not, ◌&&◌, ◌||◌, List, [], ◌∷◌, ◌++◌, filter, length, Option, Some, None, inl, inr, refl, sym, ap, ◌∙◌, append-nil, append_assoc, length-append, arith}
+use Rattle.std.specs.Prelude.{option_to_list, ◌==◌}
 use Rattle.std.specs.List.{list_any, list_all}
-use Rattle.std.proofs.lemmas.Bool.{false≢true, both_ways, cond_both, cond-true, cond-false, cases_Bool, and_parts, and_left, and_right, and_from, or_left, or_parts, or_right, not_from_true, false_from_ne_true}
+use Rattle.std.proofs.lemmas.Bool.{false≢true, both_ways, cond_both, cond-true, cond-false, cases_Bool, and_parts, and_left, and_right, or_from, false_from_ne_true}
 use Rattle.std.proofs.lemmas.List.Elements.{filter_agree}
 use Rattle.std.proofs.lemmas.Option.{none-some, same_Some}
-use Rattle.std.proofs.lemmas.Slice.Eq.{bytes_eq-Decides}
 use Rattle.acl_lists.specs.declared.alias.Alias.{Alias}
 use Rattle.acl_lists.specs.declared.acl.Acl.{Acl}
 use Rattle.dots_history.specs.declared.entry.Entry.{Entry}
 use Rattle.dots_history.specs.declared.change.Change.{Change}
 use Rattle.dots_history.specs.declared.change.Change.TheVariants as change
-use Rattle.dots_history.specs.Entries.{same_client, is_held, undoes, undoes_of_client, undoes_of_peer, undoes_alias, undoes_acl, reconfigures}
+use Rattle.dots_history.specs.Entries.{same_client, is_held, undoes, undoes_of_client, undoes_of_peer, undoes_alias, undoes_acl, undoes_loss, reconfigures, resumes, is_lost, is_loss}
 use Rattle.dots_history.specs.Histories.{tally, stays, held}
 use Rattle.dots_history.specs.Rows.{acl_of}
 use Rattle.dots_laws.specs.Capacities.{is_registration, is_alias, is_list, has_client}
@@ -35,7 +34,7 @@ pub like_client : (client : Client) (x e : Entry) → is_of client x ≡ true �
 like_client client x e of = of_itself x e ∙ ap (λ c. is_of c e) (is_of_client client x of)
 
 -- ---- small steps
-or_no : (b c : Bool) → c ≡ false → (b || c) ≡ b
+pub or_no : (b c : Bool) → c ≡ false → (b || c) ≡ b
 or_no true c none = refl
 or_no false c none = none
 
@@ -47,8 +46,18 @@ pub all_pass : {A : Type 0} (xs : List A) → filter (λ x. true) xs ≡ xs
 all_pass [] = refl
 all_pass (x ∷ xs) = ap (λ ys. x ∷ ys) (all_pass xs)
 
+-- a loss undoes nothing but a loss
+pub not_resumed : (x e : Entry) → is_lost x.change ≡ false → resumes x e ≡ false
+unfolding resumes undoes_loss
+not_resumed x e out =
+    and_right
+    (x.peer == e.peer)
+    ((x.domain == e.domain) && (is_lost x.change && is_loss e.change))
+    (and_right (x.domain == e.domain) (is_lost x.change && is_loss e.change) (and_left (is_lost x.change) (is_loss e.change) out))
+
 module _ {A : Type 0} (pick : Change → Option A) (undone : A → Change → Bool)
-    (agrees : (c : Change) (a : A) (later : Change) → pick c ≡ Some a → (undoes_of_client c later ≡ undone a later) × (undoes_of_peer c later ≡ false))
+    (agrees : (c : Change) (a : A) (later : Change) → pick c ≡ Some a
+    → (undoes_of_client c later ≡ undone a later) × (undoes_of_peer c later ≡ false) × (is_lost c ≡ false))
     (holds : (c : Change) (a : A) → pick c ≡ Some a → is_held c ≡ true) where
   abbrev one : Client → Entry → Option A
   one client e = cond (is_of client e) (pick e.change) None
@@ -60,8 +69,12 @@ module _ {A : Type 0} (pick : Change → Option A) (undone : A → Change → Bo
       let parts = agrees x.change a e.change picked in
       or_no
       (same_client x e && undoes_of_client x.change e.change)
+      (((x.peer == e.peer) && undoes_of_peer x.change e.change) || resumes x e)
+      (or_from
       ((x.peer == e.peer) && undoes_of_peer x.change e.change)
+      (resumes x e)
       (and_right (x.peer == e.peer) (undoes_of_peer x.change e.change) parts.1)
+      (not_resumed x e parts.2))
       ∙ ap (λ b. b && undoes_of_client x.change e.change) (like_client client x e of)
       ∙ ap (λ b. is_of client e && b) parts.0
 
@@ -268,15 +281,15 @@ module _ {A : Type 0} (pick : Change → Option A) (undone : A → Change → Bo
 
 -- ---- aliases, access lists and registrations
 alias_agrees : (c : Change) (a : Alias) (later : Change) → alias_of c ≡ Some a
-    → (undoes_of_client c later ≡ undoes_alias a.name later) × (undoes_of_peer c later ≡ false)
-unfolding undoes_of_client undoes_of_peer
-alias_agrees (change.SetAlias alias) a later is = (ap (λ (x : Alias). undoes_alias x.name later) (same_Some alias a is), refl)
+    → (undoes_of_client c later ≡ undoes_alias a.name later) × (undoes_of_peer c later ≡ false) × (is_lost c ≡ false)
+unfolding undoes_of_client undoes_of_peer is_lost
+alias_agrees (change.SetAlias alias) a later is = (ap (λ (x : Alias). undoes_alias x.name later) (same_Some alias a is), refl, refl)
 alias_agrees _ a later is = absurd (none-some a is)
 
 acl_agrees : (c : Change) (a : Acl) (later : Change) → acl_of c ≡ Some a
-    → (undoes_of_client c later ≡ undoes_acl a.name later) × (undoes_of_peer c later ≡ false)
-unfolding undoes_of_client undoes_of_peer
-acl_agrees (change.SetAcl acl) a later is = (ap (λ (x : Acl). undoes_acl x.name later) (same_Some acl a is), refl)
+    → (undoes_of_client c later ≡ undoes_acl a.name later) × (undoes_of_peer c later ≡ false) × (is_lost c ≡ false)
+unfolding undoes_of_client undoes_of_peer is_lost
+acl_agrees (change.SetAcl acl) a later is = (ap (λ (x : Acl). undoes_acl x.name later) (same_Some acl a is), refl, refl)
 acl_agrees _ a later is = absurd (none-some a is)
 
 alias_held : (c : Change) (a : Alias) → alias_of c ≡ Some a → is_held c ≡ true

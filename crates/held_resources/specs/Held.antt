@@ -7,10 +7,10 @@ use Rattle.dots_history.specs.declared.config.Config.{Config}
 use Rattle.dots_history.specs.declared.entry.Entry.{Entry}
 use Rattle.dots_history.specs.declared.change.Change.{Change}
 use Rattle.dots_history.specs.declared.change.Change.TheVariants as change
-use Rattle.dots_history.specs.Entries.{option_any}
+use Rattle.dots_history.specs.Entries.{is_lost, option_any}
 use Rattle.dots_history.specs.Histories.{tally, or_else}
 use Rattle.dots_history.specs.Rows.{acl_of}
-use Rattle.dots_laws.specs.Capacities.{is_registration, is_alias, is_list}
+use Rattle.dots_laws.specs.Capacities.{is_registration, is_alias, is_list, loses_as}
 use Rattle.dots_laws.specs.Tables.{Client, is_of}
 use Rattle.held_resources.specs.declared.kind.RoomKind.{RoomKind}
 use Rattle.held_resources.specs.declared.kind.RoomKind.TheVariants as kind
@@ -65,6 +65,10 @@ abbrev pub config_of : ℕ → List Entry → Option (ℕ × Config)
 config_of peer [] = None
 config_of peer (e ∷ es) = or_else (if e.peer == peer then config_set e.change else None) (config_of peer es)
 
+-- the signal of the peer is lost, in whichever domain
+abbrev pub is_lost_of : List Entry → ℕ → Bool
+is_lost_of held_now peer = list_any (λ e. is_lost e.change && (e.peer == peer)) held_now
+
 -- how many registered clients the client's domain has, and how many aliases and access lists the client
 abbrev pub number_of : RoomKind → Client → List Entry → ℕ
 number_of kind.Client client held_now = tally (λ e. is_registration e.change && (e.domain == client.domain)) held_now
@@ -78,3 +82,7 @@ reached most number = if nat_lt number most then None else Some most
 -- the entries of a client alone
 abbrev pub of_client : Client → List Entry → List Entry
 of_client client entries = filter (is_of client) entries
+
+-- the entries of a peer in a domain alone
+abbrev pub of_peer : ℕ → ℕ → List Entry → List Entry
+of_peer peer domain entries = filter (λ e. loses_as e (peer, domain)) entries

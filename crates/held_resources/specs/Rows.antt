@@ -3,7 +3,7 @@ use Rattle.std.specs.Prelude.{ℕ, Bool, false, not, ◌&&◌, ◌||◌, ◌==�
 use Rattle.dots_history.specs.declared.entry.Entry.{Entry}
 use Rattle.dots_history.specs.declared.change.Change.{Change}
 use Rattle.dots_history.specs.declared.change.Change.TheVariants as change
-use Rattle.dots_history.specs.Entries.{is_deregister, is_configuration, undoes_alias, undoes_acl}
+use Rattle.dots_history.specs.Entries.{is_deregister, is_configuration, undoes_alias, undoes_acl, is_loss}
 use Rattle.dots_history.specs.Histories.{sieve, stays}
 use Rattle.dots_laws.specs.Filed.{Filed, entry_of}
 use Rattle.dots_history.specs.Slots.{number_in}
@@ -19,6 +19,7 @@ written_of change.Register = Some written.Registration
 written_of (change.SetAlias alias) = Some (written.Alias alias.name)
 written_of (change.SetAcl acl) = Some (written.Acl acl.name)
 written_of (change.SetConfig sid config) = Some written.Configuration
+written_of change.Lost = Some written.Loss
 written_of _ = None
 
 abbrev pub row_with : Filed → HeldName → HeldSlot
@@ -40,18 +41,27 @@ abbrev pub undone_of_client : HeldName → Change → Bool
 undone_of_client written.Registration later = is_deregister later
 undone_of_client (written.Alias name) later = undoes_alias name later
 undone_of_client (written.Acl name) later = undoes_acl name later
-undone_of_client written.Configuration later = false
+undone_of_client _ later = false
 
 -- of two changes of one peer (RFC 9132, sections 4.5.2 and 4.5.4)
 abbrev pub undone_of_peer : HeldName → Change → Bool
 undone_of_peer written.Configuration later = is_configuration later
 undone_of_peer _ later = false
 
+-- of two changes of one peer in its domain
+abbrev pub undone_of_signal : HeldName → Change → Bool
+undone_of_signal written.Loss later = is_loss later
+undone_of_signal _ later = false
+
+-- the row is of a lost signal, and the entry says anew whether that is lost
+abbrev pub is_resumed : HeldSlot → Entry → Bool
+is_resumed row e = (row.peer == e.peer) && ((row.domain == e.domain) && undone_of_signal row.written e.change)
+
 -- what the row is of is no longer held after this entry
 abbrev pub is_undone : HeldSlot → Entry → Bool
 is_undone row e =
     (((row.domain == e.domain) && bytes_eq row.cuid e.cuid) && undone_of_client row.written e.change)
-    || ((row.peer == e.peer) && undone_of_peer row.written e.change)
+    || (((row.peer == e.peer) && undone_of_peer row.written e.change) || is_resumed row e)
 
 -- Of those before it those stay that it doesn't undo, and its own comes last.
 abbrev pub rows_with : Filed → List HeldSlot → List HeldSlot

@@ -1,7 +1,7 @@
 -- What the tables hold, what one more entry makes of them, and when they represent a history.
-use Rattle.std.specs.Prelude.{◌≡◌, ℕ, zero, suc, ◌≤◌, Bool, true, false, not, ◌&&◌, ◌==◌, bytes_eq, nat_lt, if◌then◌else◌, List, [], ◌∷◌, ◌++◌, map, filter, length, Option, Some, None, option_to_list, slice_get}
+use Rattle.std.specs.Prelude.{◌≡◌, ℕ, zero, suc, ◌≤◌, Bool, true, false, not, ◌&&◌, ◌||◌, ◌==◌, bytes_eq, nat_lt, if◌then◌else◌, List, [], ◌∷◌, ◌++◌, map, filter, length, Option, Some, None, option_to_list, slice_get}
 use Rattle.std.specs.Borrow.{Bor}
-use Rattle.std.specs.List.{list_any, list_all, find}
+use Rattle.std.specs.List.{list_any, list_all, find, flat_map}
 use Rattle.acl_lists.specs.declared.alias.Alias.{Alias}
 use Rattle.acl_lists.specs.declared.acl.Acl.{Acl}
 use Rattle.dots_settings.specs.declared.peer.PeerRow.{PeerRow}
@@ -11,25 +11,28 @@ use Rattle.dots_history.specs.declared.config.Config.{Config}
 use Rattle.dots_history.specs.declared.entry.Entry.{Entry}
 use Rattle.dots_history.specs.declared.change.Change.{Change}
 use Rattle.dots_history.specs.declared.change.Change.TheVariants as change
-use Rattle.dots_history.specs.Entries.{undoes_alias, undoes_acl, is_configuration}
+use Rattle.dots_history.specs.Entries.{undoes_alias, undoes_acl, is_configuration, is_loss}
 use Rattle.dots_history.specs.Histories.{held}
-use Rattle.dots_history.specs.Rows.{acl_of}
-use Rattle.dots_laws.specs.Capacities.{is_registration, has_client}
+use Rattle.dots_history.specs.Rows.{acl_of, is_lost_in}
+use Rattle.dots_laws.specs.Calm.{loser_of}
+use Rattle.dots_laws.specs.Capacities.{is_registration, has_client, loses_as}
 use Rattle.dots_laws.specs.Filed.{Filed}
 use Rattle.dots_laws.specs.Tables.{Client, client_of}
 use Rattle.held_resources.specs.declared.kind.RoomKind.{RoomKind}
 use Rattle.held_resources.specs.declared.kind.RoomKind.TheVariants as kind
 use Rattle.held_resources.specs.declared.rooms.Rooms.{Rooms}
 use Rattle.held_resources.specs.declared.sessions.Session.{Session}
+use Rattle.held_resources.specs.declared.signals.Signal.{Signal}
 use Rattle.held_resources.specs.Rows.{HeldRows, rows_more, rows_moved}
 use Rattle.held_resources.specs.Held.{alias_of, aliases_of, acls_of, config_of}
 
--- How many domains there are, how much each of them and its clients may have, and which peers may have a session
--- configuration.
+-- How many domains there are, how much each of them and its clients may have, which peers may have a session
+-- configuration, and which of them are clients, each with its domain: their signal may be lost.
 pub record Sizes : Type 0 where
   pub domains : ℕ
   pub rooms : Rooms
   pub peers : List ℕ
+  pub own : List (ℕ × ℕ)
 
 abbrev pub rooms_of : Limits → Rooms
 rooms_of limits = record { clients = limits.clients; aliases = limits.aliases; acls = limits.acls }
@@ -39,6 +42,7 @@ sizes_of settings = record {
   domains = length settings.domains;
   rooms = rooms_of settings.limits;
   peers = map (λ (row : PeerRow). row.peer) settings.peers;
+  own = flat_map loser_of settings.peers;
 }
 
 -- ---- a client
@@ -141,7 +145,7 @@ abbrev pub HaveRooms : Rooms → List Holding → Type 0
 HaveRooms rooms [] = Unit {0}
 HaveRooms rooms (holding ∷ list) = (holding.rooms ≡ rooms) × HaveRooms rooms list
 
--- ---- all of them
+-- ---- a peer
 
 abbrev pub configured : Change → Option (ℕ × Config) → Option (ℕ × Config)
 configured (change.SetConfig sid config) before = Some (sid, config)
@@ -162,11 +166,38 @@ peer_of session = session.peer
 abbrev pub session_of : List Entry → ℕ → Session
 session_of held_now peer = record { peer = peer; config = config_of peer held_now }
 
+-- whether a signal is lost after a change of its peer
+abbrev pub lost_after : Change → Bool → Bool
+lost_after change.Lost before = true
+lost_after change.Back before = false
+lost_after _ before = before
+
+abbrev pub own_of : Signal → ℕ × ℕ
+own_of signal = (signal.peer, signal.domain)
+
+-- what an entry makes of the signal of a client peer
+abbrev pub signal_with : Entry → Signal → Signal
+signal_with e signal = record {
+  peer = signal.peer;
+  domain = signal.domain;
+  lost = if loses_as e (own_of signal) then lost_after e.change signal.lost else signal.lost;
+}
+
+-- that of a client peer and its domain, where it isn't lost, and by what is held
+abbrev pub no_loss : ℕ × ℕ → Signal
+no_loss own = record { peer = own.0; domain = own.1; lost = false }
+
+abbrev pub signal_of : List Entry → ℕ × ℕ → Signal
+signal_of held_now own = record { peer = own.0; domain = own.1; lost = is_lost_in held_now own.0 own.1 }
+
+-- ---- all of them
+
 pub record Tables : Type 0 where
   pub sizes : Sizes
   -- by the number of the domain
   pub clients : List Clients
   pub sessions : List Session
+  pub signals : List Signal
   -- of each thing that is held, the slot of a journal in which the entry stands that wrote it
   pub slots : HeldRows
 
@@ -181,6 +212,7 @@ tables_with x tables = record {
   sizes = tables.sizes;
   clients = update (clients_with x.entry.peer x.entry.cuid x.entry.change) x.entry.domain tables.clients;
   sessions = map (session_with x.entry) tables.sessions;
+  signals = map (signal_with x.entry) tables.signals;
   slots = rows_more x tables.slots;
 }
 
@@ -190,6 +222,7 @@ tables_renumbered keep tables = record {
   sizes = tables.sizes;
   clients = tables.clients;
   sessions = tables.sessions;
+  signals = tables.signals;
   slots = rows_moved keep tables.slots;
 }
 
@@ -198,11 +231,17 @@ pub record SameButSlots (a b : Tables) : Type 0 where
   pub sizes : a.sizes ≡ b.sizes
   pub clients : a.clients ≡ b.clients
   pub sessions : a.sessions ≡ b.sessions
+  pub signals : a.signals ≡ b.signals
 
 -- the entry is of one of the domains, or it configures the session of one of the peers
-abbrev pub is_known : Sizes → Entry → Bool
-is_known sizes e =
+abbrev pub is_placed : Sizes → Entry → Bool
+is_placed sizes e =
     if is_configuration e.change then list_any (λ peer. e.peer == peer) sizes.peers else nat_lt e.domain sizes.domains
+
+-- and a loss, and that it is over, is of one of the client peers and its domain (no signal of a gateway is lost: it says nothing of
+-- the clients behind it)
+abbrev pub is_known : Sizes → Entry → Bool
+is_known sizes e = is_placed sizes e && (not (is_loss e.change) || list_any (loses_as e) sizes.own)
 
 -- The tables have what is held, sorted by domains, clients and peers. No alias and no access list is held of a client that
 -- isn't registered, and nothing of other domains and peers.
@@ -210,6 +249,7 @@ pub record Have (tables : Tables) (held_now : List Entry) : Type 0 where
   pub domains : length tables.clients ≡ tables.sizes.domains
   pub clients : (domain : ℕ) (clients : Clients) → slice_get tables.clients domain ≡ Some clients → clients ≡ clients_of tables.sizes.rooms domain held_now
   pub sessions : tables.sessions ≡ map (session_of held_now) tables.sizes.peers
+  pub signals : tables.signals ≡ map (signal_of held_now) tables.sizes.own
   pub owned : list_all (has_client held_now) held_now ≡ true
   pub known : list_all (is_known tables.sizes) held_now ≡ true
 
@@ -255,3 +295,7 @@ config_now (sid, config) = (sid, config.now)
 abbrev pub config_in : Option Session → Option (ℕ × Config)
 config_in None = None
 config_in (Some session) = session.config
+
+-- the signal of this peer is lost in this domain
+abbrev pub lost_in : Tables → ℕ → ℕ → Bool
+lost_in tables peer domain = list_any (λ (signal : Signal). signal.lost && ((peer == signal.peer) && (domain == signal.domain))) tables.signals

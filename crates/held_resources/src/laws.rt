@@ -4,13 +4,16 @@ ghost use Rattle.std.specs.Prelude.{◌≡◌, ℕ, ◌&&◌, ◌++◌, ◌∷�
 ghost use Rattle.dots_settings.specs.Settings.{SettingsValue};
 ghost use Rattle.dots_history.specs.declared.entry.Entry.{Entry};
 ghost use Rattle.dots_history.specs.Histories.{held};
+ghost use Rattle.dots_history.specs.Rows.{is_lost_in};
+ghost use Rattle.dots_history.specs.Entries.{is_loss};
 ghost use Rattle.dots_laws.specs.Calm.{is_of_settings};
+ghost use Rattle.dots_laws.specs.Capacities.{loses_as};
 ghost use Rattle.dots_laws.specs.Filed.{Filed, entry_of, slot_of, refiled};
 ghost use Rattle.dots_laws.specs.KeptPlaces.{at_places, held_places};
 ghost use Rattle.dots_laws.specs.Fits.{fits, registers_rightly, is_of_mitigations};
 ghost use Rattle.dots_laws.specs.Tables.{Client, is_of};
-ghost use Rattle.held_resources.specs.Held.{aliases_of, acls_of, is_registered, of_client};
-ghost use Rattle.held_resources.specs.Tables.{Tables, Represents, SameButSlots, sizes_of};
+ghost use Rattle.held_resources.specs.Held.{aliases_of, acls_of, is_registered, of_client, of_peer};
+ghost use Rattle.held_resources.specs.Tables.{Tables, Represents, SameButSlots, sizes_of, lost_after, lost_in};
 ghost use Rattle.held_resources.specs.Rows.{rows_of, rows_with, slots_in, renumbered};
 ghost use Rattle.held_resources.specs.Accepting.{accepts, accepts_by, keeps_rooms};
 
@@ -26,6 +29,19 @@ pub fn clients_are_apart()
         → aliases_of client (held (entries ++ e ∷ [])) ≡ aliases_of client (held entries) }
     ensures same_acls { (client : Client) (e : Entry) (entries : List Entry) → is_of client e ≡ false
         → acls_of client (held (entries ++ e ∷ [])) ≡ acls_of client (held entries) }
+{}
+
+/// Signals are apart: whether the signal of a peer is lost in a domain is what the entries of the peer in this domain come to alone. One
+/// more of them says by its change whether it is lost. One that is of another peer or domain, or is no loss, leaves it as it was. By
+/// tables that represent the history it is the same.
+pub fn signals_are_apart()
+    ensures alone { (peer domain : ℕ) (entries : List Entry) → is_lost_in (held (of_peer peer domain entries)) peer domain ≡ is_lost_in (held entries) peer domain }
+    ensures told { (peer domain : ℕ) (e : Entry) (entries : List Entry) → loses_as e (peer, domain) ≡ true
+        → is_lost_in (held (entries ++ e ∷ [])) peer domain ≡ lost_after e.change (is_lost_in (held entries) peer domain) }
+    ensures still { (peer domain : ℕ) (e : Entry) (entries : List Entry) → is_loss e.change && loses_as e (peer, domain) ≡ false
+        → is_lost_in (held (entries ++ e ∷ [])) peer domain ≡ is_lost_in (held entries) peer domain }
+    ensures tables { (tables : Tables) (entries : List Entry) (peer domain : ℕ) → Represents tables entries
+        → lost_in tables peer domain ≡ is_lost_in (held entries) peer domain }
 {}
 
 /// A mitigation that is put or withdrawn changes nothing of what is held, so tables that represent a history represent it with

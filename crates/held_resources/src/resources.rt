@@ -4,10 +4,11 @@ ghost use Rattle.std.specs.Prelude.{◌≡◌, ◌==◌, ◌++◌, ◌∷◌, �
 ghost use Rattle.std.specs.List.{list_any, find};
 ghost use Rattle.dots_history.specs.declared.entry.Entry.{Entry};
 ghost use Rattle.dots_history.specs.Entries.{is_configuration};
+ghost use Rattle.dots_history.specs.Rows.{is_lost_in};
 ghost use Rattle.dots_history.specs.Histories.{held};
-ghost use Rattle.dots_laws.specs.Capacities.{is_registration, is_alias, is_list};
-ghost use Rattle.held_resources.specs.Held.{aliases_of, acls_of, alias_named, acl_named, is_registered, registrant, config_of, number_of, reached};
-ghost use Rattle.held_resources.specs.Tables.{Represents, Clients, sizes_of, rooms_of, no_clients, peer_of, update, clients_with, tables_with, tables_renumbered, is_known, client_at, registrant_in, aliases_in, acls_in, number_in, config_in, most_of, config_now};
+ghost use Rattle.dots_laws.specs.Capacities.{is_registration, is_alias, is_list, loses_as};
+ghost use Rattle.held_resources.specs.Held.{aliases_of, acls_of, alias_named, acl_named, is_registered, registrant, config_of, is_lost_of, number_of, reached};
+ghost use Rattle.held_resources.specs.Tables.{Represents, Clients, sizes_of, rooms_of, no_clients, peer_of, update, clients_with, tables_with, tables_renumbered, is_placed, is_known, client_at, registrant_in, aliases_in, acls_in, number_in, config_in, most_of, config_now, lost_in};
 ghost use Rattle.dots_history.specs.Slots.{Rises};
 ghost use Rattle.dots_laws.specs.KeptPlaces.{union};
 ghost use Rattle.held_resources.specs.Rows.{rows_with, rows_more, slots_in};
@@ -23,15 +24,17 @@ use crate::registered_client::RegisteredClient;
 use crate::rooms::Rooms;
 use crate::rows::HeldSlots;
 use crate::sessions::{Session, configure, no_sessions};
+use crate::signals::{Signal, has_lost, has_signal, is_lost, no_losses, note};
 use crate::size::most_held;
 use acl_lists::{Acl, Alias};
-use dots_history::{Change, Config, Entry, SlotList, is_configuration};
+use dots_history::{Change, Config, Entry, SlotList, is_configuration, is_loss};
 use dots_lists::{Name, NoMemory};
 use dots_settings::{Limits, Settings};
 use std::alloc::Global;
 use std::marker::Model;
 
-/// The registered clients of each domain with their aliases and access lists, and the session configuration of each peer.
+/// The registered clients of each domain with their aliases and access lists, the session configuration of each peer, and whether the
+/// signal of each client peer is lost.
 #[derive(Drop)]
 pub struct HeldResources {
     rooms: Rooms,
@@ -39,19 +42,27 @@ pub struct HeldResources {
     domains: Vec<DomainClients>,
     /// One for each peer of the settings.
     sessions: Vec<Session>,
+    /// One for each client peer.
+    signals: Vec<Signal>,
     slots: HeldSlots,
 }
 
 impl Model for HeldResources {
     ghost use Rattle.std.specs.Prelude.{length, map};
-    ghost use Rattle.held_resources.specs.Tables.{Tables, peer_of};
+    ghost use Rattle.held_resources.specs.Tables.{Tables, peer_of, own_of};
 
     ghost Value = { Tables };
 
     ghost view = { λ things. record {
-      sizes = record { domains = length things.domains.items; rooms = things.rooms; peers = map peer_of things.sessions.items };
+      sizes = record {
+        domains = length things.domains.items;
+        rooms = things.rooms;
+        peers = map peer_of things.sessions.items;
+        own = map own_of things.signals.items;
+      };
       clients = things.domains.items;
       sessions = things.sessions.items;
+      signals = things.signals.items;
       slots = things.slots;
     } };
 }
@@ -66,18 +77,21 @@ impl HeldResources {
         let rooms = rooms_of(settings.limits());
         let domains = no_clients(alloc, settings.domains(), rooms)?;
         let sessions = no_sessions(alloc, settings.peers())?;
+        let signals = no_losses(alloc, settings.peers())?;
         let slots = HeldSlots::new(alloc, most_held(settings) as usize)?;
         Ok(HeldResources {
             rooms,
             domains,
             sessions,
+            signals,
             slots,
         })
     }
 
     /// Whether an entry fits a history, as far as it concerns what is held: it is of a domain of the settings, or configures the
-    /// session of one of their peers; only a client that isn't registered registers, and only one that is writes aliases and access
-    /// lists (RFC 8783, sections 5.1, 6.1 and 7.2); and after it its domain and its client keep the capacities of the settings.
+    /// session of one of their peers; a loss, and that it is over, is of one of their client peers and its domain; only a client that
+    /// isn't registered registers, and only one that is writes aliases and access lists (RFC 8783, sections 5.1, 6.1 and 7.2); and after
+    /// it its domain and its client keep the capacities of the settings.
     pub fn fits(&self, entry: &Entry) -> bool
         ensures { (entries : List Entry) → Represents self.now entries → result ≡ accepts self.now.sizes entries entry.now }
     {
@@ -112,6 +126,7 @@ impl HeldResources {
     {
         self.slots.take(&entry, slot);
         configure(&mut self.sessions, &entry);
+        note(&mut self.signals, &entry);
         change_clients(&mut self.domains, entry);
     }
 
@@ -188,6 +203,21 @@ impl HeldResources {
         self.sessions.iter().find(|session| peer == session.peer)
     }
 
+    /// Whether the signal of this peer is lost, in whichever domain it is a client of.
+    pub fn has_lost(&self, peer: u32) -> bool
+        ensures { (entries : List Entry) → Represents self.now entries → result ≡ is_lost_of (held entries) peer }
+    {
+        has_lost(self.signals.as_slice(), peer)
+    }
+
+    /// Whether the signal of this peer is lost in this domain. It is so of no peer that isn't a client of the domain by the settings.
+    pub fn lost(&self, peer: u32, domain: u16) -> bool
+        ensures value { result ≡ lost_in self.now peer domain }
+        ensures history { (entries : List Entry) → Represents self.now entries → result ≡ is_lost_in (held entries) peer domain }
+    {
+        is_lost(self.signals.as_slice(), peer, domain)
+    }
+
     /// None where the client's domain has room for one more client, or the client for one more alias or access list; else the number
     /// that there may be, which is reached.
     pub fn room_for(&self, domain: u16, cuid: &[u8], kind: RoomKind) -> Option<u64>
@@ -236,9 +266,24 @@ impl HeldResources {
         }
     }
 
-    /// Whether the entry is of one of the domains, or configures the session of one of the peers.
+    /// Whether the entry is of one of the domains, or configures the session of one of the peers; and a loss, and that it is over, is of
+    /// one of the client peers and its domain.
     fn knows(&self, entry: &Entry) -> bool
         ensures { result ≡ is_known self.now.sizes entry.now }
+    {
+        self.places(entry) && (!is_loss(&entry.change) || self.is_of_client_peer(entry))
+    }
+
+    /// Whether the entry is of one of the client peers and its domain.
+    fn is_of_client_peer(&self, entry: &Entry) -> bool
+        ensures { result ≡ list_any (loses_as entry.now) self.now.sizes.own }
+    {
+        has_signal(self.signals.as_slice(), entry)
+    }
+
+    /// Whether the entry is of one of the domains, or configures the session of one of the peers.
+    fn places(&self, entry: &Entry) -> bool
+        ensures { result ≡ is_placed self.now.sizes entry.now }
     {
         if is_configuration(&entry.change) {
             return has_peer(self.sessions.as_slice(), entry.peer);

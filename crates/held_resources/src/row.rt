@@ -1,11 +1,11 @@
 //! A row of what is held, and what undoes it.
 
 ghost use Rattle.std.specs.Prelude.{◌≡◌, ◌≤◌, length, option_map};
-ghost use Rattle.dots_history.specs.Entries.{is_deregister, is_configuration, undoes_alias, undoes_acl};
-ghost use Rattle.held_resources.specs.Rows.{written_of, row_of, undone_of_client, undone_of_peer, is_undone};
+ghost use Rattle.dots_history.specs.Entries.{is_deregister, is_configuration, undoes_alias, undoes_acl, is_loss};
+ghost use Rattle.held_resources.specs.Rows.{written_of, row_of, undone_of_client, undone_of_peer, undone_of_signal, is_resumed, is_undone};
 
 use crate::name::ShortName;
-use dots_history::{Change, Entry, is_configuration, is_deregister};
+use dots_history::{Change, Entry, is_configuration, is_deregister, is_loss};
 
 /// What an entry wrote that is held until a later one undoes it.
 #[derive(Drop)]
@@ -18,6 +18,8 @@ pub enum HeldName {
     Acl { name: ShortName },
     /// The session configuration of the peer (RFC 9132, section 4.5.2).
     Configuration,
+    /// The signal of the peer is lost in its domain.
+    Loss,
 }
 
 /// Something that is held, and the slot of the entry that wrote it.
@@ -26,7 +28,7 @@ pub struct HeldSlot {
     /// Who wrote it.
     pub peer: u32,
     pub domain: u16,
-    /// The client; empty where a session is configured.
+    /// The client; empty where a session is configured or a signal is lost.
     pub cuid: ShortName,
     pub written: HeldName,
     pub slot: u32,
@@ -60,6 +62,7 @@ fn written_of(change: &Change) -> Option<HeldName>
             name: ShortName::of(&acl.name),
         }),
         Change::SetConfig { .. } => Some(HeldName::Configuration),
+        Change::Lost => Some(HeldName::Loss),
         _ => None,
     }
 }
@@ -72,6 +75,16 @@ pub(crate) fn is_undone(row: &HeldSlot, entry: &Entry) -> bool
         && row.cuid.bytes() == entry.cuid.bytes()
         && undone_of_client(&row.written, &entry.change))
         || (row.peer == entry.peer && undone_of_peer(&row.written, &entry.change))
+        || is_resumed(row, entry)
+}
+
+/// Whether the row is of a lost signal, and the entry says anew whether that is lost.
+fn is_resumed(row: &HeldSlot, entry: &Entry) -> bool
+    ensures { result ≡ is_resumed row.now entry.now }
+{
+    row.peer == entry.peer
+        && row.domain == entry.domain
+        && undone_of_signal(&row.written, &entry.change)
 }
 
 /// Whether a change of the client undoes it.
@@ -82,7 +95,7 @@ fn undone_of_client(written: &HeldName, change: &Change) -> bool
         HeldName::Registration => is_deregister(change),
         HeldName::Alias { name } => undoes_alias(name, change),
         HeldName::Acl { name } => undoes_acl(name, change),
-        HeldName::Configuration => false,
+        HeldName::Configuration | HeldName::Loss => false,
     }
 }
 
@@ -92,7 +105,17 @@ fn undone_of_peer(written: &HeldName, change: &Change) -> bool
 {
     match written {
         HeldName::Configuration => is_configuration(change),
-        HeldName::Registration | HeldName::Alias { .. } | HeldName::Acl { .. } => false,
+        _ => false,
+    }
+}
+
+/// Whether it is a lost signal, and a change of the peer in its domain undoes it.
+fn undone_of_signal(written: &HeldName, change: &Change) -> bool
+    ensures { result ≡ undone_of_signal written.now change.now }
+{
+    match written {
+        HeldName::Loss => is_loss(change),
+        _ => false,
     }
 }
 

@@ -1,7 +1,7 @@
 -- What the calls for a change of lists make of the rows.
-use Rattle.std.proofs.Common.{◌≡◌, ℕ, ◌+◌, ◌<◌, ◌≤◌, Bool, true, false, List, [], ◌∷◌, ◌++◌, length, Option, Some, None, refl, sym, ap, ◌∙◌, subst, arith}
+use Rattle.std.proofs.Common.{◌≡◌, ℕ, ◌<◌, ◌≤◌, Bool, true, false, List, [], ◌∷◌, ◌++◌, length, Option, Some, None, refl, sym, ap, ◌∙◌, arith}
 use Rattle.std.specs.Prelude.{option_map}
-use Rattle.std.proofs.lemmas.Bool.{false≢true, true≢false}
+use Rattle.std.proofs.lemmas.Bool.{false≢true}
 use Rattle.std.proofs.lemmas.List.{length-append}
 use Rattle.std.proofs.lemmas.Option.{none-some, same_Some}
 use Rattle.acl_lists.specs.declared.acl.Acl.{Acl}
@@ -20,13 +20,7 @@ by_list : (mitigating : Bool) (acls : List Acl) (e : Entry) (c : Change) (row : 
 by_list mitigating acls e (change.SetAcl acl) row rows is = ap (λ r. rows_set mitigating r rows) (same_Some (acl_row_with false e acl) row is)
 by_list mitigating acls e (change.DropAcl name) row rows is = absurd (none-some row is)
 by_list mitigating acls e change.Deregister row rows is = absurd (none-some row is)
-by_list mitigating acls e (change.Put put) row rows is = absurd (none-some row is)
-by_list mitigating acls e (change.Withdraw mid) row rows is = absurd (none-some row is)
-by_list mitigating acls e (change.SetAlias alias) row rows is = absurd (none-some row is)
-by_list mitigating acls e (change.DropAlias name) row rows is = absurd (none-some row is)
-by_list mitigating acls e change.Register row rows is = absurd (none-some row is)
-by_list mitigating acls e (change.SetConfig sid config) row rows is = absurd (none-some row is)
-by_list mitigating acls e change.ClearConfig row rows is = absurd (none-some row is)
+by_list mitigating acls e _ row rows is = absurd (none-some row is)
 
 pub written_list : (mitigating : Bool) (acls : List Acl) (e : Entry) (list : Option AclRow) (row : AclRow) (filters new : FiltersValue) → list ≡ list_put e → list ≡ Some row
     → new ≡ with_rows filters filters.scrubs (rows_set mitigating row filters.acls) → new ≡ filters_written mitigating acls e filters
@@ -72,13 +66,7 @@ left_lists : (mitigating : Bool) (acls : List Acl) (e : Entry) (c : Change) (row
 left_lists mitigating acls e (change.SetAcl acl) rows is = absurd (false≢true is)
 left_lists mitigating acls e (change.DropAcl name) rows is = absurd (false≢true is)
 left_lists mitigating acls e change.Deregister rows is = absurd (false≢true is)
-left_lists mitigating acls e (change.Put put) rows is = refl
-left_lists mitigating acls e (change.Withdraw mid) rows is = refl
-left_lists mitigating acls e (change.SetAlias alias) rows is = refl
-left_lists mitigating acls e (change.DropAlias name) rows is = refl
-left_lists mitigating acls e change.Register rows is = refl
-left_lists mitigating acls e (change.SetConfig sid config) rows is = refl
-left_lists mitigating acls e change.ClearConfig rows is = refl
+left_lists mitigating acls e _ rows is = refl
 
 pub lists_left : (acls : List Acl) (e : Entry) (c : Change) (filters : FiltersValue) → e.change ≡ c → leaves_lists c ≡ true → (mitigating : Bool)
     → filters ≡ filters_written mitigating acls e filters

@@ -1,5 +1,5 @@
 -- The copies that an entry needs.
-use Rattle.std.proofs.Common.{◌≡◌, ℕ, List, [], ◌∷◌, ◌++◌, map, Option, Some, None, refl, sym, ap, ◌∙◌, append-nil, append_assoc, length, drop, get_or, ◌+◌, ◌<◌, ◌≤◌}
+use Rattle.std.proofs.Common.{◌≡◌, ℕ, false, List, [], ◌∷◌, ◌++◌, map, refl, sym, ap, ◌∙◌, append-nil, append_assoc, length, drop, get_or, ◌+◌, ◌<◌, ◌≤◌}
 use Rattle.std.specs.List.{flat_map}
 use Rattle.std.proofs.lemmas.List.{map-append, drop_all, drop_more}
 use Rattle.ip_scope.specs.Prefix.{PrefixValue}
@@ -8,28 +8,28 @@ use Rattle.dots_history.specs.declared.entry.Entry.{Entry}
 use Rattle.dots_history.specs.declared.put.Put.{Put}
 use Rattle.dots_history.specs.declared.put.Target.{Target}
 use Rattle.dots_history.specs.declared.change.Change.TheVariants as change
-use Rattle.dots_history.specs.Rows.{Row, rows_of, targets_of, plain_row}
-use Rattle.installed_filters.specs.Filters.{rows_put, rows_of_target}
+use Rattle.dots_history.specs.Rows.{targets_of}
+use Rattle.installed_filters.specs.Filters.{scrub_row_with, rows_put, rows_of_target}
 
 -- the rows of these targets
 abbrev pub rows_in : Entry → List Target → List ScrubRow
 rows_in e targets = flat_map (rows_of_target e) targets
 
 prefixes_are : (e : Entry) (target : Target) (prefixes : List PrefixValue)
-    → map plain_row (map (λ (p : PrefixValue). record { put = e; target = target; prefix = p }) prefixes)
-    ≡ map (λ (p : PrefixValue). plain_row (record { put = e; target = target; prefix = p })) prefixes
+    → map (scrub_row_with false) (map (λ (p : PrefixValue). record { put = e; target = target; prefix = p }) prefixes)
+    ≡ map (λ (p : PrefixValue). scrub_row_with false (record { put = e; target = target; prefix = p })) prefixes
 prefixes_are e target [] = refl
-prefixes_are e target (p ∷ prefixes) = ap (λ rows. plain_row (record { put = e; target = target; prefix = p }) ∷ rows) (prefixes_are e target prefixes)
+prefixes_are e target (p ∷ prefixes) = ap (λ rows. scrub_row_with false (record { put = e; target = target; prefix = p }) ∷ rows) (prefixes_are e target prefixes)
 
 targets_are : (e : Entry) (targets : List Target)
-    → map plain_row (flat_map (λ (target : Target). map (λ (p : PrefixValue). record { put = e; target = target; prefix = p }) target.prefixes) targets)
+    → map (scrub_row_with false) (flat_map (λ (target : Target). map (λ (p : PrefixValue). record { put = e; target = target; prefix = p }) target.prefixes) targets)
     ≡ rows_in e targets
 targets_are e [] = refl
 targets_are e (target ∷ targets) =
     let here = map (λ (p : PrefixValue). record { put = e; target = target; prefix = p }) target.prefixes in
     let rest = flat_map (λ (t : Target). map (λ (p : PrefixValue). record { put = e; target = t; prefix = p }) t.prefixes) targets in
-    map-append plain_row here rest
-    ∙ ap (λ rows. rows ++ map plain_row rest) (prefixes_are e target target.prefixes)
+    map-append (scrub_row_with false) here rest
+    ∙ ap (λ rows. rows ++ map (scrub_row_with false) rest) (prefixes_are e target target.prefixes)
     ∙ ap (λ rows. rows_of_target e target ++ rows) (targets_are e targets)
 
 pub put_rows : (e : Entry) → rows_put e ≡ rows_in e (targets_of e.change)

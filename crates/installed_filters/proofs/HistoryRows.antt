@@ -1,31 +1,33 @@
 -- The rows go on to be those that a history comes to.
-use Rattle.std.proofs.Common.{◌≡◌, ◌≢◌, ℕ, ◌+◌, ◌<◌, ◌≤◌, Bool, true, false, cond, not, ◌&&◌, ◌||◌, List, [], ◌∷◌, ◌++◌, map, filter, length, Option, Some, None, inl, inr, refl, sym, ap, ◌∙◌, subst, le_refl, append-nil, arith}
+use Rattle.std.proofs.Common.{◌≡◌, ◌≢◌, ℕ, ◌+◌, ◌<◌, ◌≤◌, Bool, true, false, cond, not, ◌&&◌, ◌||◌, List, [], ◌∷◌, ◌++◌, map, filter, Option, Some, None, inl, inr, refl, sym, ap, ◌∙◌, subst, append-nil, arith}
 use Rattle.std.specs.Prelude.{bytes_eq, ◌==◌, nat_lt, option_to_list}
 use Rattle.std.specs.List.{list_any, list_all, flat_map}
-use Rattle.std.proofs.lemmas.Bool.{false≢true, true≢false, both_ways, cond_both, cond-true, cond-false, cases_Bool, cases_eq, and_parts, and_from, or_parts, or_from, not_from_false, eqb-true, eq-eqb, eqb-false, ne_eqb, ltb-true, lt-ltb, false_from_ne_true}
-use Rattle.std.proofs.lemmas.List.{map-append}
-use Rattle.std.proofs.lemmas.List.Elements.{filter-append}
+use Rattle.std.proofs.lemmas.Bool.{false≢true, true≢false, both_ways, cond_both, cond-true, cond-false, cases_Bool, cases_eq, and_parts, and_from, or_parts, not_from_false, eqb-true, eq-eqb, ne_eqb, ltb-true, lt-ltb}
+use Rattle.std.proofs.Math.Path.{fun_ext}
 use Rattle.std.proofs.lemmas.List.Folds.{flat_map-map}
 use Rattle.std.proofs.lemmas.Grind.{flat_map-append}
 use Rattle.std.proofs.lemmas.Option.{none-some}
 use Rattle.acl_lists.specs.declared.acl.Acl.{Acl}
 use Rattle.filter_rows.specs.declared.rows.ScrubRow.{ScrubRow}
 use Rattle.filter_rows.specs.declared.rows.AclRow.{AclRow}
-use Rattle.filter_table.specs.TableRows.{waits}
+use Rattle.filter_table.specs.TableRows.{row_set, waits}
 use Rattle.dots_history.specs.declared.entry.Entry.{Entry}
 use Rattle.dots_history.specs.declared.put.Put.{Put}
 use Rattle.dots_history.specs.declared.status.Status.{Status}
 use Rattle.dots_history.specs.declared.status.Status.TheVariants.{Ended, Open, Withdrawn}
-use Rattle.dots_history.specs.Entries.{same_client, put_of, option_any, holds_of_both, overlaps, ends, replaces, withdraws, runs}
+use Rattle.dots_history.specs.declared.change.Change.{Change}
+use Rattle.dots_history.specs.declared.change.Change.TheVariants as change
+use Rattle.dots_history.specs.Entries.{same_client, put_of, option_any, holds_of_both, overlaps, same_flag, ends, replaces, withdraws, runs, is_signal, is_loss}
 use Rattle.dots_history.specs.Histories.{Mitigation, live, status, step, mitigations, held}
-use Rattle.dots_history.specs.Keeping.{moved, pass}
-use Rattle.dots_history.specs.Rows.{plain_rows, acl_rows, acl_of}
+use Rattle.dots_history.specs.Keeping.{moved}
+use Rattle.dots_history.specs.Rows.{acl_of, is_lost_in, works}
 use Rattle.dots_laws.specs.Tables.{client_of, bare, bare_mitigation, is_due}
-use Rattle.dots_laws.specs.Views.{mitigations_at, mitigations_with, mitigations_of, held_with}
+use Rattle.dots_laws.specs.Views.{mitigations_at, mitigations_with, mitigations_of}
 use Rattle.dots_laws.proofs.Adding.{adding}
 use Rattle.dots_laws.proofs.Ageing.{mitigations_age}
 use Rattle.dots_laws.proofs.Bare.{bare_mitigations}
 use Rattle.dots_laws.proofs.GoingOn.{held_push}
+use Rattle.dots_laws.proofs.Local.{quiet_with}
 use Rattle.dots_laws.proofs.Touching.{never_live}
 use Rattle.dots_laws.proofs.Members.{In}
 use Rattle.dots_laws.proofs.Endings.{live_end}
@@ -34,12 +36,13 @@ use Rattle.live_mitigations.specs.LiveValues as lives
 use Rattle.live_mitigations.proofs.Room.{kept_is, of_domain_bare}
 use Rattle.live_mitigations.proofs.Rows.{puts_none}
 use Rattle.held_resources.specs.Held.{acls_of}
-use Rattle.installed_filters.specs.Filters.{FiltersValue, with_rows, rows_put, own_rows, is_row_of, scrubs_without, lives_at, lives_at_once, stays_beside, everyone, some_of, settled_row, acl_switched, activated_row, acls_by, filters_at, filters_put, filters_written}
+use Rattle.installed_filters.specs.Filters.{FiltersValue, with_rows, rows_with, own_rows, is_row_of, scrubs_without, woken_row, lives_at, is_over, lives_at_once, stays_beside, works_by, is_working, is_waiting_for, works_at, works_at_once, works_beside, some_of, settled_row, acl_switched, activated_row, acls_by, filters_at, filters_put, filters_lost, filters_written}
 use Rattle.installed_filters.specs.HistoryRows.{Represents}
-use Rattle.installed_filters.proofs.Sieving.{filter_by, filter_twice, filter_all, map_by, any_by, all_filter, all_in}
-use Rattle.installed_filters.proofs.Keys.{Keyed, keeps, scrubs_of, rows_are, live_keyed, left_keyed, scrubs_left}
-use Rattle.installed_filters.proofs.Waking.{mitigates, acls_by_client, own_of, lists_are, same_clients, some_of_domain, acls_settled, acls_put}
-use Rattle.installed_filters.proofs.Writing.{acls_written}
+use Rattle.installed_filters.proofs.Sieving.{filter_by, filter_twice, filter_all, map_by, all_filter, all_in}
+use Rattle.installed_filters.proofs.Keys.{Keyed, keeps, leaves, scrubs_by, rows_are, live_keyed, left_keyed, scrubs_left, scrubs_woken}
+use Rattle.installed_filters.proofs.Waking.{mitigates, acls_by_client, own_of, lists_are, same_clients, some_working, acls_settled, acls_put, acls_woken}
+use Rattle.installed_filters.proofs.Signals.{quiet_works, works_after}
+use Rattle.installed_filters.proofs.Writing.{acls_written, acls_lost}
 
 -- ---- what is kept has no messages
 
@@ -64,17 +67,28 @@ without_bare domain stays same ms rows =
     ap not (any_bare (λ m. not (stays m) && is_row_of domain m row) (λ m. ap (λ b. not b && is_row_of domain m row) (same m)) ms))
     rows
 
-settled_bare : (domain : ℕ) (stays : Mitigation → Bool) → ((m : Mitigation) → stays (bare_mitigation m) ≡ stays m) → (ms : List Mitigation) (rows : List AclRow)
-    → map (settled_row domain stays (map bare_mitigation ms) (map bare_mitigation ms)) rows ≡ map (settled_row domain stays ms ms) rows
-settled_bare domain stays same ms rows =
+settled_bare : (domain : ℕ) (goes passes : Mitigation → Bool) → ((m : Mitigation) → goes (bare_mitigation m) ≡ goes m)
+    → ((m : Mitigation) → passes (bare_mitigation m) ≡ passes m) → (ms : List Mitigation) (rows : List AclRow)
+    → map (settled_row domain goes passes (map bare_mitigation ms) (map bare_mitigation ms)) rows ≡ map (settled_row domain goes passes ms ms) rows
+settled_bare domain goes passes same_goes same_passes ms rows =
     map_by
-    (settled_row domain stays (map bare_mitigation ms) (map bare_mitigation ms))
-    (settled_row domain stays ms ms)
+    (settled_row domain goes passes (map bare_mitigation ms) (map bare_mitigation ms))
+    (settled_row domain goes passes ms ms)
+    (λ row.
+    ap (λ b. settled_with domain row b (some_of passes row.cuid (map bare_mitigation ms))) (some_bare goes same_goes row.cuid ms)
+    ∙ ap (λ b. settled_with domain row (some_of goes row.cuid ms) b) (some_bare passes same_passes row.cuid ms))
+    rows
+
+woken_bare : (domain : ℕ) (goes : Mitigation → Bool) (active : Bool) → ((m : Mitigation) → goes (bare_mitigation m) ≡ goes m) → (ms : List Mitigation) (rows : List ScrubRow)
+    → map (woken_row domain goes active (map bare_mitigation ms)) rows ≡ map (woken_row domain goes active ms) rows
+woken_bare domain goes active same ms rows =
+    map_by
+    (woken_row domain goes active (map bare_mitigation ms))
+    (woken_row domain goes active ms)
     (λ row.
     ap
-    (λ b. settled_with domain row b (some_of stays row.cuid (map bare_mitigation ms)))
-    (some_bare (λ m. not (stays m)) (λ m. ap not (same m)) row.cuid ms)
-    ∙ ap (λ b. settled_with domain row (some_of (λ m. not (stays m)) row.cuid ms) b) (some_bare stays same row.cuid ms))
+    (λ b. cond b (row_set active row) row)
+    (any_bare (λ m. goes m && is_row_of domain m row) (λ m. ap (λ b. b && is_row_of domain m row) (same m)) ms))
     rows
 
 bare_lives : (now : ℕ) (m : Mitigation) → lives_at now (bare_mitigation m) ≡ lives_at now m
@@ -90,31 +104,50 @@ bare_stays : (e : Entry) (m : Mitigation) → stays_beside e (bare_mitigation m)
 unfolding ends same_client
 bare_stays e m = refl
 
-at_bare : (domain now : ℕ) (ms : List Mitigation) (filters : FiltersValue) → filters_at domain now (map bare_mitigation ms) filters ≡ filters_at domain now ms filters
-at_bare domain now ms filters =
+at_bare : (lost : ℕ → ℕ → Bool) (domain now : ℕ) (ms : List Mitigation) (filters : FiltersValue)
+    → filters_at lost domain now (map bare_mitigation ms) filters ≡ filters_at lost domain now ms filters
+at_bare lost domain now ms filters =
     ap
-    (λ rows. with_rows filters rows (map (settled_row domain (lives_at now) (map bare_mitigation ms) (map bare_mitigation ms)) filters.acls))
+    (λ rows. with_rows filters rows (map (settled_row domain (is_over now) (works_at lost now) (map bare_mitigation ms) (map bare_mitigation ms)) filters.acls))
     (without_bare domain (lives_at now) (bare_lives now) ms filters.scrubs)
     ∙ ap
     (λ rows. with_rows filters (scrubs_without domain (lives_at now) ms filters.scrubs) rows)
-    (settled_bare domain (lives_at now) (bare_lives now) ms filters.acls)
+    (settled_bare
+    domain
+    (is_over now)
+    (works_at lost now)
+    (λ m. ap not (bare_lives now m))
+    (λ m. ap (λ b. b && is_working lost m) (bare_lives now m))
+    ms
+    filters.acls)
 
-put_bare : (e : Entry) (ms : List Mitigation) (filters : FiltersValue) → filters_put e (map bare_mitigation ms) filters ≡ filters_put e ms filters
-put_bare e ms filters =
+put_bare : (lost : ℕ → ℕ → Bool) (e : Entry) (ms : List Mitigation) (filters : FiltersValue)
+    → filters_put lost e (map bare_mitigation ms) filters ≡ filters_put lost e ms filters
+put_bare lost e ms filters =
     ap
     (λ rows.
     with_rows
     filters
-    (rows ++ own_rows e)
-    (map (activated_row e.domain e.cuid (lives_at_once e || some_of (stays_beside e) e.cuid (map bare_mitigation ms))) filters.acls))
+    (rows ++ own_rows lost e)
+    (map (activated_row e.domain e.cuid (works_at_once lost e || some_of (works_beside lost e) e.cuid (map bare_mitigation ms))) filters.acls))
     (without_bare e.domain (stays_beside e) (bare_stays e) ms filters.scrubs)
     ∙ ap
     (λ b.
     with_rows
     filters
-    (scrubs_without e.domain (stays_beside e) ms filters.scrubs ++ own_rows e)
-    (map (activated_row e.domain e.cuid (lives_at_once e || b)) filters.acls))
-    (some_bare (stays_beside e) (bare_stays e) e.cuid ms)
+    (scrubs_without e.domain (stays_beside e) ms filters.scrubs ++ own_rows lost e)
+    (map (activated_row e.domain e.cuid (works_at_once lost e || b)) filters.acls))
+    (some_bare (works_beside lost e) (λ m. ap (λ b. b && is_working lost m) (bare_stays e m)) e.cuid ms)
+
+lost_bare : (lost : ℕ → ℕ → Bool) (peer domain : ℕ) (ms : List Mitigation) (filters : FiltersValue)
+    → filters_lost lost peer domain (map bare_mitigation ms) filters ≡ filters_lost lost peer domain ms filters
+lost_bare lost peer domain ms filters =
+    ap
+    (λ rows. with_rows filters rows (map (settled_row domain (is_waiting_for peer) (is_working lost) (map bare_mitigation ms) (map bare_mitigation ms)) filters.acls))
+    (woken_bare domain (is_waiting_for peer) (lost peer domain) (λ m. refl) ms filters.scrubs)
+    ∙ ap
+    (λ rows. with_rows filters (map (woken_row domain (is_waiting_for peer) (lost peer domain) ms) filters.scrubs) rows)
+    (settled_bare domain (is_waiting_for peer) (is_working lost) (λ m. refl) (λ m. refl) ms filters.acls)
 
 at_of_bare : (now : ℕ) (ms : List Mitigation) → mitigations_at now (map bare_mitigation ms) ≡ map bare_mitigation (mitigations_at now ms)
 at_of_bare now [] = refl
@@ -133,6 +166,13 @@ kept_bare lived entries domain within stands =
     kept_is lived entries domain within stands
     ∙ ap (mitigations_of domain) (bare_mitigations lived.time entries)
     ∙ of_domain_bare domain (mitigations lived.time entries)
+
+-- ---- who is lost
+
+-- where a test says of each peer what the history does, the two are one
+tests_same : (lost : ℕ → ℕ → Bool) (standing : List Entry) → ((peer domain : ℕ) → lost peer domain ≡ is_lost_in standing peer domain)
+    → lost ≡ is_lost_in standing
+tests_same lost standing same = fun_ext (λ (peer : ℕ). fun_ext (λ (domain : ℕ). same peer domain))
 
 -- ---- all that are live
 
@@ -155,8 +195,8 @@ pub record Between (now : ℕ) (lived : LiveValue) (filters : FiltersValue) (ent
   pub keyed : Keyed ms
   pub own : (domain : ℕ) → domain < lived.domains → rows_for lived domain ≡ map bare_mitigation (mitigations_of domain ms)
   pub inside : list_all (λ (m : Mitigation). nat_lt m.put.domain lived.domains) ms ≡ true
-  pub scrubs : filters.scrubs ≡ scrubs_of ms
-  pub acls : filters.acls ≡ acls_by_client (mitigates ms) (held entries)
+  pub scrubs : filters.scrubs ≡ scrubs_by (works (held entries)) ms
+  pub acls : filters.acls ≡ acls_by_client (mitigates (works (held entries)) ms) (held entries)
   pub later : mitigations_at now ms ≡ mitigations now entries
 
 pub live_inside : (t domains : ℕ) (entries : List Entry) → list_all (lives.is_inside domains) entries ≡ true
@@ -241,15 +281,20 @@ later_same domain now ms =
     both true false = refl
     both false s = refl
 
-pub between_next : (now domain : ℕ) (lived after : LiveValue) (filters new : FiltersValue) (entries : List Entry) → domain < lived.domains
+pub between_next : (lost : ℕ → ℕ → Bool) (now domain : ℕ) (lived after : LiveValue) (filters new : FiltersValue) (entries : List Entry) → domain < lived.domains
     → SameButRows lived after → rows_for after domain ≡ mitigations_at now (rows_for lived domain)
     → ((other : ℕ) → other ≢ domain → rows_for after other ≡ rows_for lived other)
-    → new ≡ filters_at domain now (rows_for lived domain) filters → Between now lived filters entries → Between now after new entries
-between_next now domain lived after filters new entries within but own others is between =
+    → ((peer own : ℕ) → lost peer own ≡ is_lost_in (held entries) peer own)
+    → new ≡ filters_at lost domain now (rows_for lived domain) filters → Between now lived filters entries → Between now after new entries
+between_next lost now domain lived after filters new entries within but own others losses is between =
     let ms = between.ms in
     let left = filter (keeps domain (lives_at now)) ms in
-    let made : new ≡ filters_at domain now (mitigations_of domain ms) filters =
-    is ∙ ap (λ kept. filters_at domain now kept filters) (between.own domain within) ∙ at_bare domain now (mitigations_of domain ms) filters in
+    let lost_there = is_lost_in (held entries) in
+    let made : new ≡ filters_at lost_there domain now (mitigations_of domain ms) filters =
+    is
+    ∙ ap (λ test. filters_at test domain now (rows_for lived domain) filters) (tests_same lost (held entries) losses)
+    ∙ ap (λ kept. filters_at lost_there domain now kept filters) (between.own domain within)
+    ∙ at_bare lost_there domain now (mitigations_of domain ms) filters in
     record {
       ms = left;
       keyed = left_keyed (keeps domain (lives_at now)) ms between.keyed;
@@ -270,10 +315,10 @@ between_next now domain lived after filters new entries within but own others is
       inside = all_left (keeps domain (lives_at now)) ms between.inside;
       scrubs = ap (λ (f : FiltersValue). f.scrubs) made
           ∙ ap (scrubs_without domain (lives_at now) (mitigations_of domain ms)) between.scrubs
-          ∙ scrubs_left domain (lives_at now) ms between.keyed;
+          ∙ scrubs_left (works (held entries)) domain (lives_at now) ms between.keyed;
       acls = ap (λ (f : FiltersValue). f.acls) made
-          ∙ ap (map (settled_row domain (lives_at now) (mitigations_of domain ms) (mitigations_of domain ms))) between.acls
-          ∙ acls_settled domain (lives_at now) ms (held entries);
+          ∙ ap (map (settled_row domain (is_over now) (works_at lost_there now) (mitigations_of domain ms) (mitigations_of domain ms))) between.acls
+          ∙ acls_settled (works (held entries)) domain (lives_at now) ms (held entries);
       later = later_same domain now ms ∙ between.later;
     }
   where
@@ -336,8 +381,10 @@ between_last now lived filters entries none between =
     there)))
     ∙ between.later in
     record {
-      scrubs = between.scrubs ∙ ap scrubs_of all ∙ sym (rows_are now entries);
-      acls = between.acls ∙ ap (λ xs. acls_by_client (mitigates xs) (held entries)) all ∙ sym (lists_are now entries);
+      scrubs = between.scrubs ∙ ap (scrubs_by (works (held entries))) all ∙ sym (rows_are now entries);
+      acls = between.acls
+          ∙ ap (λ xs. acls_by_client (mitigates (works (held entries)) xs) (held entries)) all
+          ∙ sym (lists_are now entries);
     }
   where
     own_lives : (m : Mitigation) → (not (m.put.domain == m.put.domain) || lives_at now m) ≡ true → lives_at now m ≡ true
@@ -345,16 +392,23 @@ between_last now lived filters entries none between =
 
 -- ---- one more entry
 
-scrubs_of_puts : (ms ns : List Mitigation) → map (λ (m : Mitigation). m.put) ms ≡ map (λ (m : Mitigation). m.put) ns → scrubs_of ms ≡ scrubs_of ns
-scrubs_of_puts ms ns same =
-    sym (flat_map-map rows_put (λ (m : Mitigation). m.put) ms) ∙ ap (flat_map rows_put) same ∙ flat_map-map rows_put (λ (m : Mitigation). m.put) ns
+scrubs_of_puts : (working : Entry → Bool) (ms ns : List Mitigation) → map (λ (m : Mitigation). m.put) ms ≡ map (λ (m : Mitigation). m.put) ns
+    → scrubs_by working ms ≡ scrubs_by working ns
+scrubs_of_puts working ms ns same =
+    sym (flat_map-map (λ e. rows_with (working e) e) (λ (m : Mitigation). m.put) ms)
+    ∙ ap (flat_map (λ e. rows_with (working e) e)) same
+    ∙ flat_map-map (λ e. rows_with (working e) e) (λ (m : Mitigation). m.put) ns
 
 any_of_puts : (p : Entry → Bool) (ms : List Mitigation) → list_any (λ (m : Mitigation). p m.put) ms ≡ list_any p (map (λ (m : Mitigation). m.put) ms)
 any_of_puts p [] = refl
 any_of_puts p (m ∷ ms) = ap (λ b. p m.put || b) (any_of_puts p ms)
 
-mitigates_puts : (ms ns : List Mitigation) → map (λ (m : Mitigation). m.put) ms ≡ map (λ (m : Mitigation). m.put) ns → (e : Entry) → mitigates ms e ≡ mitigates ns e
-mitigates_puts ms ns same e = any_of_puts (same_client e) ms ∙ ap (list_any (same_client e)) same ∙ sym (any_of_puts (same_client e) ns)
+mitigates_puts : (working : Entry → Bool) (ms ns : List Mitigation) → map (λ (m : Mitigation). m.put) ms ≡ map (λ (m : Mitigation). m.put) ns → (e : Entry)
+    → mitigates working ms e ≡ mitigates working ns e
+mitigates_puts working ms ns same e =
+    any_of_puts (λ x. same_client e x && working x) ms
+    ∙ ap (list_any (λ x. same_client e x && working x)) same
+    ∙ sym (any_of_puts (λ x. same_client e x && working x) ns)
 
 -- a live one that the entry doesn't end stays live
 goes_on : (put : Entry) (s : Status) (e : Entry) → live e.time put s ≡ true → ends put e ≡ false → live e.time put (step put s e) ≡ true
@@ -381,7 +435,7 @@ ended_is put (Withdrawn at) e is = ap (λ b. cond b Ended (Withdrawn at)) is
 
 puts_with : (e : Entry) (ms : List Mitigation) → list_all (lives_at e.time) ms ≡ true
     → map (λ (m : Mitigation). m.put) (mitigations_with e ms)
-    ≡ map (λ (m : Mitigation). m.put) (filter (stays_beside e) ms ++ own_of e (record { put = e; status = Open }))
+    ≡ map (λ (m : Mitigation). m.put) (filter (stays_beside e) ms ++ own_of e)
 puts_with e [] all = refl
 puts_with e (m ∷ ms) all =
     let parts = and_parts (lives_at e.time m) (list_all (lives_at e.time) ms) all in
@@ -394,7 +448,7 @@ puts_with e (m ∷ ms) all =
           (λ b.
           map
           (λ (x : Mitigation). x.put)
-          (cond (not b) (m ∷ filter (stays_beside e) ms) (filter (stays_beside e) ms) ++ own_of e (record { put = e; status = Open })))
+          (cond (not b) (m ∷ filter (stays_beside e) ms) (filter (stays_beside e) ms) ++ own_of e))
           ended)
       | inr stays ↦
           ap
@@ -405,7 +459,7 @@ puts_with e (m ∷ ms) all =
           (λ b.
           map
           (λ (x : Mitigation). x.put)
-          (cond (not b) (m ∷ filter (stays_beside e) ms) (filter (stays_beside e) ms) ++ own_of e (record { put = e; status = Open })))
+          (cond (not b) (m ∷ filter (stays_beside e) ms) (filter (stays_beside e) ms) ++ own_of e))
           stays)
     ]
 
@@ -420,42 +474,49 @@ kept_beside e m = by_ends (m.put.domain == e.domain) (bytes_eq m.put.cuid e.cuid
     by_ends true false r = refl
     by_ends false c r = refl
 
-own_scrubs : (e : Entry) → scrubs_of (own_of e (record { put = e; status = Open })) ≡ own_rows e
-own_scrubs e = by_live (lives_at_once e)
+own_scrubs : (lost : ℕ → ℕ → Bool) (e : Entry) → scrubs_by (works_by lost) (own_of e) ≡ own_rows lost e
+own_scrubs lost e = by_live (lives_at_once e)
   where
-    by_live : (b : Bool) → scrubs_of (cond b (record { put = e; status = Open } ∷ []) []) ≡ cond b (rows_put e) []
-    by_live true = append-nil (rows_put e)
+    by_live : (b : Bool) → scrubs_by (works_by lost) (cond b (record { put = e; status = Open } ∷ []) []) ≡ cond b (rows_with (works_by lost e) e) []
+    by_live true = append-nil (rows_with (works_by lost e) e)
     by_live false = refl
 
-pub put_represents : (lived : LiveValue) (filters new : FiltersValue) (e : Entry) (entries : List Entry) → e.time ≡ lived.time → e.domain < lived.domains → puts e ≡ true
-    → lives.Represents lived entries → Represents filters lived.time entries → new ≡ filters_put e (rows_for lived e.domain) filters
+pub put_represents : (lost : ℕ → ℕ → Bool) (lived : LiveValue) (filters new : FiltersValue) (e : Entry) (entries : List Entry) → e.time ≡ lived.time
+    → e.domain < lived.domains → puts e ≡ true → lives.Represents lived entries → Represents filters lived.time entries
+    → ((peer domain : ℕ) → lost peer domain ≡ is_lost_in (held entries) peer domain) → new ≡ filters_put lost e (rows_for lived e.domain) filters
     → held (entries ++ e ∷ []) ≡ held entries → Represents new e.time (entries ++ e ∷ [])
-put_represents lived filters new e entries at within put alive stands is same =
+put_represents lost lived filters new e entries at within put alive stands losses is same =
     let ms = mitigations lived.time entries in
-    let own : Mitigation = record { put = e; status = Open } in
-    let left = filter (stays_beside e) ms ++ own_of e own in
-    let made : new ≡ filters_put e (mitigations_of e.domain ms) filters =
-    is ∙ ap (λ kept. filters_put e kept filters) (kept_bare lived entries e.domain within alive) ∙ put_bare e (mitigations_of e.domain ms) filters in
-    let with_e : mitigations e.time (entries ++ e ∷ []) ≡ mitigations_with e ms = adding lived.time e entries (omega (arith, at)) in
-    let puts_are : map (λ (m : Mitigation). m.put) (mitigations e.time (entries ++ e ∷ [])) ≡ map (λ (m : Mitigation). m.put) left =
+    let after = mitigations e.time (entries ++ e ∷ []) in
+    let left = filter (stays_beside e) ms ++ own_of e in
+    let lost_there = is_lost_in (held entries) in
+    let working = works (held entries) in
+    let made : new ≡ filters_put lost_there e (mitigations_of e.domain ms) filters =
+    is
+    ∙ ap (λ test. filters_put test e (rows_for lived e.domain) filters) (tests_same lost (held entries) losses)
+    ∙ ap (λ kept. filters_put lost_there e kept filters) (kept_bare lived entries e.domain within alive)
+    ∙ put_bare lost_there e (mitigations_of e.domain ms) filters in
+    let with_e : after ≡ mitigations_with e ms = adding lived.time e entries (omega (arith, at)) in
+    let puts_are : map (λ (m : Mitigation). m.put) after ≡ map (λ (m : Mitigation). m.put) left =
     ap (map (λ (m : Mitigation). m.put)) with_e ∙ puts_with e ms (ap (λ t. list_all (lives_at t) ms) at ∙ all_live lived.time entries) in
     record {
       scrubs = ap (λ (f : FiltersValue). f.scrubs) made
-          ∙ ap (λ rows. rows ++ own_rows e)
+          ∙ ap (λ rows. rows ++ own_rows lost_there e)
           (ap (scrubs_without e.domain (stays_beside e) (mitigations_of e.domain ms)) (stands.scrubs ∙ rows_are lived.time entries)
-          ∙ scrubs_left e.domain (stays_beside e) ms (live_keyed lived.time entries)
-          ∙ ap scrubs_of (filter_by (keeps e.domain (stays_beside e)) (stays_beside e) (kept_beside e) ms))
-          ∙ ap (λ rows. scrubs_of (filter (stays_beside e) ms) ++ rows) (sym (own_scrubs e))
-          ∙ sym (flat_map-append (λ (m : Mitigation). rows_put m.put) (filter (stays_beside e) ms) (own_of e own))
-          ∙ sym (scrubs_of_puts (mitigations e.time (entries ++ e ∷ [])) left puts_are)
+          ∙ scrubs_left working e.domain (stays_beside e) ms (live_keyed lived.time entries)
+          ∙ ap (scrubs_by working) (filter_by (keeps e.domain (stays_beside e)) (stays_beside e) (kept_beside e) ms))
+          ∙ ap (λ rows. scrubs_by working (filter (stays_beside e) ms) ++ rows) (sym (own_scrubs lost_there e))
+          ∙ sym (flat_map-append (λ (m : Mitigation). rows_with (working m.put) m.put) (filter (stays_beside e) ms) (own_of e))
+          ∙ sym (scrubs_of_puts working after left puts_are)
+          ∙ ap (λ standing. scrubs_by (works standing) after) (sym same)
           ∙ sym (rows_are e.time (entries ++ e ∷ []));
       acls = ap (λ (f : FiltersValue). f.acls) made
           ∙ ap
-          (map (activated_row e.domain e.cuid (lives_at_once e || some_of (stays_beside e) e.cuid (mitigations_of e.domain ms))))
+          (map (activated_row e.domain e.cuid (works_at_once lost_there e || some_of (works_beside lost_there e) e.cuid (mitigations_of e.domain ms))))
           (stands.acls ∙ lists_are lived.time entries)
-          ∙ acls_put e own ms (held entries) (λ x. refl)
-          ∙ sym (same_clients (mitigates (mitigations e.time (entries ++ e ∷ []))) (mitigates left) (mitigates_puts (mitigations e.time (entries ++ e ∷ [])) left puts_are) (held entries))
-          ∙ sym (ap (acls_by_client (mitigates (mitigations e.time (entries ++ e ∷ [])))) same)
+          ∙ acls_put working e ms (held entries)
+          ∙ sym (same_clients (mitigates working after) (mitigates working left) (mitigates_puts working after left puts_are) (held entries))
+          ∙ ap (λ standing. acls_by_client (mitigates (works standing) after) standing) (sym same)
           ∙ sym (lists_are e.time (entries ++ e ∷ []));
     }
 
@@ -469,7 +530,7 @@ ends_none m e out = not_from_false (ends m.put e) (ap (λ b. same_client m.put e
     none true = refl
     none false = refl
 
-    nothing : (a b : Option Put) → b ≡ None → holds_of_both (λ (p q : Put). (p.mid == q.mid) || overlaps true p q) a b ≡ false
+    nothing : (a b : Option Put) → b ≡ None → holds_of_both (λ (p q : Put). (p.mid == q.mid) || (same_flag p.trigger q.trigger && overlaps true p q)) a b ≡ false
     nothing None b is = refl
     nothing (Some p) None is = refl
     nothing (Some p) (Some q) is = absurd (none-some q (sym is))
@@ -484,45 +545,159 @@ quiet_puts e ms out all =
     ∙ ap (map (λ (m : Mitigation). m.put)) (append-nil (filter (stays_beside e) ms) ∙ filter_all (stays_beside e) (λ m. ends_none m e out) ms)
 
 -- the client of an entry mitigates, by the domain's
-pub client_mitigates : (lived : LiveValue) (e : Entry) (entries : List Entry) → e.domain < lived.domains → lives.Represents lived entries
-    → some_of everyone e.cuid (rows_for lived e.domain) ≡ mitigates (mitigations lived.time entries) e
-client_mitigates lived e entries within alive =
-    ap (some_of everyone e.cuid) (kept_bare lived entries e.domain within alive)
-    ∙ some_bare everyone (λ m. refl) e.cuid (mitigations_of e.domain (mitigations lived.time entries))
-    ∙ some_of_domain e.domain e everyone (mitigations lived.time entries) refl
+pub client_mitigates : (lost : ℕ → ℕ → Bool) (lived : LiveValue) (e : Entry) (entries : List Entry) → e.domain < lived.domains → lives.Represents lived entries
+    → ((peer domain : ℕ) → lost peer domain ≡ is_lost_in (held entries) peer domain)
+    → some_of (is_working lost) e.cuid (rows_for lived e.domain) ≡ mitigates (works (held entries)) (mitigations lived.time entries) e
+client_mitigates lost lived e entries within alive losses =
+    let ms = mitigations lived.time entries in
+    let lost_there = is_lost_in (held entries) in
+    ap (λ test. some_of (is_working test) e.cuid (rows_for lived e.domain)) (tests_same lost (held entries) losses)
+    ∙ ap (some_of (is_working lost_there) e.cuid) (kept_bare lived entries e.domain within alive)
+    ∙ some_bare (is_working lost_there) (λ m. refl) e.cuid (mitigations_of e.domain ms)
+    ∙ some_working e.domain e (works (held entries)) ms refl
 
 pub write_represents : (lived : LiveValue) (filters new : FiltersValue) (mitigating : Bool) (acls : List Acl) (e : Entry) (entries : List Entry) → e.time ≡ lived.time
-    → puts e ≡ false → lives.Represents lived entries → Represents filters lived.time entries → new ≡ filters_written mitigating acls e filters
-    → ((acl : Acl) → acl_of e.change ≡ Some acl → mitigating ≡ mitigates (mitigations lived.time entries) e)
+    → puts e ≡ false → is_loss e.change ≡ false → lives.Represents lived entries → Represents filters lived.time entries
+    → new ≡ filters_written mitigating acls e filters
+    → ((acl : Acl) → acl_of e.change ≡ Some acl → mitigating ≡ mitigates (works (held entries)) (mitigations lived.time entries) e)
     → acls ≡ acls_of (client_of e) (held entries) → Represents new e.time (entries ++ e ∷ [])
-write_represents lived filters new mitigating acls e entries at out alive stands is same are =
+write_represents lived filters new mitigating acls e entries at out quiet alive stands is same are =
     let ms = mitigations lived.time entries in
-    let with_e : mitigations e.time (entries ++ e ∷ []) ≡ mitigations_with e ms = adding lived.time e entries (omega (arith, at)) in
-    let puts_are : map (λ (m : Mitigation). m.put) (mitigations e.time (entries ++ e ∷ [])) ≡ map (λ (m : Mitigation). m.put) ms =
+    let after = mitigations e.time (entries ++ e ∷ []) in
+    let working = works (held entries) in
+    let still : works (held (entries ++ e ∷ [])) ≡ working = quiet_works e entries quiet in
+    let with_e : after ≡ mitigations_with e ms = adding lived.time e entries (omega (arith, at)) in
+    let puts_are : map (λ (m : Mitigation). m.put) after ≡ map (λ (m : Mitigation). m.put) ms =
     ap (map (λ (m : Mitigation). m.put)) with_e ∙ quiet_puts e ms out (ap (λ t. list_all (lives_at t) ms) at ∙ all_live lived.time entries) in
     record {
       scrubs = ap (λ (f : FiltersValue). f.scrubs) is
           ∙ stands.scrubs
           ∙ rows_are lived.time entries
-          ∙ sym (scrubs_of_puts (mitigations e.time (entries ++ e ∷ [])) ms puts_are)
+          ∙ sym (scrubs_of_puts working after ms puts_are)
+          ∙ ap (λ test. scrubs_by test after) (sym still)
           ∙ sym (rows_are e.time (entries ++ e ∷ []));
       acls = ap (λ (f : FiltersValue). f.acls) is
           ∙ ap (acls_by mitigating acls e e.change) (stands.acls ∙ lists_are lived.time entries)
-          ∙ acls_written (mitigates ms) mitigating acls e (held entries) same are
-          ∙ sym (ap (acls_by_client (mitigates ms)) (held_push e entries))
-          ∙ sym (same_clients (mitigates (mitigations e.time (entries ++ e ∷ []))) (mitigates ms) (mitigates_puts (mitigations e.time (entries ++ e ∷ [])) ms puts_are) (held (entries ++ e ∷ [])))
+          ∙ acls_written (mitigates working ms) mitigating acls e (held entries) same are
+          ∙ sym (ap (acls_by_client (mitigates working ms)) (held_push e entries))
+          ∙ sym (same_clients (mitigates working after) (mitigates working ms) (mitigates_puts working after ms puts_are) (held (entries ++ e ∷ [])))
+          ∙ ap (λ test. acls_by_client (mitigates test after) (held (entries ++ e ∷ []))) (sym still)
           ∙ sym (lists_are e.time (entries ++ e ∷ []));
     }
+
+-- ---- one that says that a signal is lost or back
+
+loss_signals : (c : Change) → is_loss c ≡ true → is_signal c ≡ false
+unfolding is_loss is_signal
+loss_signals change.Lost is = refl
+loss_signals change.Back is = refl
+loss_signals _ is = absurd (false≢true is)
+
+-- it changes no mitigation
+loss_mitigations : (t : ℕ) (e : Entry) (entries : List Entry) → e.time ≡ t → is_loss e.change ≡ true
+    → mitigations e.time (entries ++ e ∷ []) ≡ mitigations t entries
+loss_mitigations t e entries at loss =
+    let ms = mitigations t entries in
+    adding t e entries (omega (arith, at))
+    ∙ quiet_with e ms (loss_signals e.change loss)
+    ∙ ap (λ u. mitigations_at u ms) at
+    ∙ all_at t ms (λ m there. all_in (lives_at t) m ms (all_live t entries) there)
+
+-- The test is that of the history with the entry.
+module _ (lost : ℕ → ℕ → Bool) (filters new : FiltersValue) (t : ℕ) (e : Entry) (entries : List Entry) (at : e.time ≡ t) (loss : is_loss e.change ≡ true)
+    (stands : Represents filters t entries) (losses : (peer domain : ℕ) → lost peer domain ≡ is_lost_in (held (entries ++ e ∷ [])) peer domain) where
+  abbrev ms : List Mitigation
+  ms = mitigations t entries
+
+  abbrev standing : List Entry
+  standing = held (entries ++ e ∷ [])
+
+  changes : (m : Mitigation) → In m ms
+      → works standing m.put ≡ cond (leaves e.domain (is_waiting_for e.peer) m) (is_lost_in standing e.peer e.domain) (works (held entries) m.put)
+  changes m there = works_after e entries m (all_in (λ (x : Mitigation). puts x.put) m ms (live_keyed t entries).puts there)
+
+  rows_by_domain : new ≡ filters_lost (is_lost_in standing) e.peer e.domain (mitigations_of e.domain ms) filters → Represents new e.time (entries ++ e ∷ [])
+  rows_by_domain made =
+      let goes = is_waiting_for e.peer in
+      let active = is_lost_in standing e.peer e.domain in
+      let same = loss_mitigations t e entries at loss in
+      record {
+        scrubs = ap (λ (f : FiltersValue). f.scrubs) made
+            ∙ ap (map (woken_row e.domain goes active (mitigations_of e.domain ms))) (stands.scrubs ∙ rows_are t entries)
+            ∙ scrubs_woken e.domain goes active (works (held entries)) (works standing) ms (live_keyed t entries) changes
+            ∙ ap (scrubs_by (works standing)) (sym same)
+            ∙ sym (rows_are e.time (entries ++ e ∷ []));
+        acls = ap (λ (f : FiltersValue). f.acls) made
+            ∙ ap
+            (map (settled_row e.domain goes (is_working (is_lost_in standing)) (mitigations_of e.domain ms) (mitigations_of e.domain ms)))
+            (stands.acls ∙ lists_are t entries)
+            ∙ acls_woken
+            e.domain
+            goes
+            (works (held entries))
+            (works standing)
+            ms
+            (held entries)
+            (λ m there kept. changes m there ∙ cond-false (leaves e.domain goes m) active (works (held entries) m.put) kept)
+            ∙ sym (acls_lost (mitigates (works standing) ms) e (held entries) loss)
+            ∙ sym (ap (acls_by_client (mitigates (works standing) ms)) (held_push e entries))
+            ∙ ap (λ xs. acls_by_client (mitigates (works standing) xs) standing) (sym same)
+            ∙ sym (lists_are e.time (entries ++ e ∷ []));
+      }
+
+  rows_by_kept : (kept : List Mitigation) → kept ≡ map bare_mitigation (mitigations_of e.domain ms) → new ≡ filters_lost lost e.peer e.domain kept filters
+      → Represents new e.time (entries ++ e ∷ [])
+  rows_by_kept kept same is =
+      rows_by_domain
+      (is
+      ∙ ap (λ test. filters_lost test e.peer e.domain kept filters) (tests_same lost standing losses)
+      ∙ ap (λ given. filters_lost (is_lost_in standing) e.peer e.domain given filters) same
+      ∙ lost_bare (is_lost_in standing) e.peer e.domain (mitigations_of e.domain ms) filters)
+
+-- by the mitigations as they are kept before the entry
+pub lost_represents : (lost : ℕ → ℕ → Bool) (lived : LiveValue) (filters new : FiltersValue) (e : Entry) (entries : List Entry) → e.time ≡ lived.time
+    → e.domain < lived.domains → is_loss e.change ≡ true → lives.Represents lived entries → Represents filters lived.time entries
+    → ((peer domain : ℕ) → lost peer domain ≡ is_lost_in (held (entries ++ e ∷ [])) peer domain)
+    → new ≡ filters_lost lost e.peer e.domain (rows_for lived e.domain) filters → Represents new e.time (entries ++ e ∷ [])
+lost_represents lost lived filters new e entries at within loss alive stands losses is =
+    rows_by_kept lost filters new lived.time e entries at loss stands losses (rows_for lived e.domain) (kept_bare lived entries e.domain within alive) is
+
+-- and after it
+pub lost_represents_noted : (lost : ℕ → ℕ → Bool) (noted : LiveValue) (filters new : FiltersValue) (e : Entry) (entries : List Entry) → e.time ≡ noted.time
+    → e.domain < noted.domains → is_loss e.change ≡ true → lives.Represents noted (entries ++ e ∷ []) → Represents filters e.time entries
+    → ((peer domain : ℕ) → lost peer domain ≡ is_lost_in (held (entries ++ e ∷ [])) peer domain)
+    → new ≡ filters_lost lost e.peer e.domain (rows_for noted e.domain) filters → Represents new e.time (entries ++ e ∷ [])
+lost_represents_noted lost noted filters new e entries at within loss alive stands losses is =
+    rows_by_kept
+    lost
+    filters
+    new
+    e.time
+    e
+    entries
+    refl
+    loss
+    stands
+    losses
+    (rows_for noted e.domain)
+    (kept_bare noted (entries ++ e ∷ []) e.domain within alive
+    ∙ ap (λ t. map bare_mitigation (mitigations_of e.domain (mitigations t (entries ++ e ∷ [])))) (sym at)
+    ∙ ap (λ xs. map bare_mitigation (mitigations_of e.domain xs)) (loss_mitigations e.time e entries refl loss))
+    is
 
 -- ---- what histories of one view come to
 
 pub rows_same : (filters : FiltersValue) (t : ℕ) (xs ys : List Entry) → mitigations t xs ≡ mitigations t ys → held xs ≡ held ys → Represents filters t ys
     → Represents filters t xs
 rows_same filters t xs ys alive standing stands = record {
-  scrubs = stands.scrubs ∙ rows_are t ys ∙ ap scrubs_of (sym alive) ∙ sym (rows_are t xs);
+  scrubs = stands.scrubs
+      ∙ rows_are t ys
+      ∙ ap (scrubs_by (works (held ys))) (sym alive)
+      ∙ ap (λ es. scrubs_by (works es) (mitigations t xs)) (sym standing)
+      ∙ sym (rows_are t xs);
   acls = stands.acls
       ∙ lists_are t ys
-      ∙ ap (λ ms. acls_by_client (mitigates ms) (held ys)) (sym alive)
-      ∙ ap (acls_by_client (mitigates (mitigations t xs))) (sym standing)
+      ∙ ap (λ ms. acls_by_client (mitigates (works (held ys)) ms) (held ys)) (sym alive)
+      ∙ ap (λ es. acls_by_client (mitigates (works es) (mitigations t xs)) es) (sym standing)
       ∙ sym (lists_are t xs);
 }

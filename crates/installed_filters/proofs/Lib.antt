@@ -3,6 +3,7 @@ pub mod Sieving
 pub mod Steps
 pub mod Keys
 pub mod Waking
+pub mod Signals
 pub mod Writing
 pub mod HistoryRows
 pub mod Room

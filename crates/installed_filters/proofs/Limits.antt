@@ -1,8 +1,8 @@
 -- The limits are kept as time moves and entries come.
-use Rattle.std.proofs.Common.{◌≡◌, ℕ, ◌+◌, ◌≤◌, Bool, true, false, cond, not, ◌&&◌, ◌||◌, List, [], ◌∷◌, ◌++◌, map, filter, length, Option, Some, None, inl, inr, refl, sym, ap, ◌∙◌, subst, le_trans, arith}
+use Rattle.std.proofs.Common.{◌≡◌, ℕ, ◌≤◌, Bool, true, ◌&&◌, ◌||◌, List, [], ◌∷◌, ◌++◌, length, inl, inr, refl, sym, ap, ◌∙◌, subst, le_trans, arith}
 use Rattle.std.specs.Prelude.{◌==◌, nat_le, ◌^◌, nat_lt}
-use Rattle.std.specs.List.{list_any, list_all}
-use Rattle.std.proofs.lemmas.Bool.{false≢true, cond_both, cases_Bool, and_parts, and_from, eqb-true, le-leb}
+use Rattle.std.specs.List.{list_all}
+use Rattle.std.proofs.lemmas.Bool.{cond_both, cases_Bool, and_parts, and_from, eqb-true}
 use Rattle.dots_settings.specs.declared.limits.Limits.{Limits}
 use Rattle.dots_settings.specs.Settings.{SettingsValue}
 use Rattle.dots_history.specs.declared.entry.Entry.{Entry}
@@ -18,11 +18,11 @@ use Rattle.dots_history.specs.Keeping.{moved}
 use Rattle.dots_history.specs.Rows.{targets_of}
 use Rattle.dots_laws.specs.Capacities.{is_registration, is_list}
 use Rattle.dots_laws.specs.Fits.{fits}
-use Rattle.dots_laws.specs.Views.{mitigations_at, mitigations_with, held_with}
+use Rattle.dots_laws.specs.Views.{mitigations_with}
 use Rattle.dots_laws.proofs.Adding.{adding}
 use Rattle.dots_laws.proofs.Ageing.{mitigations_age}
 use Rattle.dots_laws.proofs.GoingOn.{held_push}
-use Rattle.dots_laws.proofs.Joining.{FitsSo, fits_so, tally_with, tally_held, tally_same, same_by}
+use Rattle.dots_laws.proofs.Joining.{fits_so, tally_with, tally_held, tally_same, same_by}
 use Rattle.dots_laws.proofs.Keyed.{fewer_left}
 use Rattle.installed_filters.specs.HistoryRows.{KeepsLimits, has_few_prefixes}
 use Rattle.installed_filters.proofs.Sieving.{all_filter}

@@ -1,6 +1,6 @@
 -- What the calls of a filter table make of the rows, where each new one has a place behind all others.
 use Rattle.std.proofs.Common.{◌≡◌, ℕ, ◌+◌, ◌<◌, ◌≤◌, Bool, true, false, cond, not, ◌&&◌, List, [], ◌∷◌, ◌++◌, map, length, filter, refl, sym, ap, ◌∙◌, subst, ◌*◌, le_trans, mul_comm, mul-le-mul_right, arith}
-use Rattle.std.specs.Prelude.{nat_le, bytes_eq, ◌==◌, None}
+use Rattle.std.specs.Prelude.{nat_le, None}
 use Rattle.std.specs.List.{insert, prefix_len, AllByRecursion}
 use Rattle.std.proofs.lemmas.Bool.{cond_both, le-leb}
 use Rattle.std.proofs.lemmas.List.{map-append, length-append, length-map}
@@ -8,7 +8,7 @@ use Rattle.std.proofs.lemmas.List.Edits.{insert_end}
 use Rattle.filter_rows.specs.declared.rows.ScrubRow.{ScrubRow}
 use Rattle.filter_rows.specs.declared.rows.AclRow.{AclRow}
 use Rattle.filter_table.specs.declared.held.HeldAcl.{HeldAcl}
-use Rattle.filter_table.specs.TableRows.{HeldScrub, with_scrub, without_mitigation, with_acl, without_acl, activated, renumbered, renumbered_from, number_after, place_of_scrub, scrub_at_place, place_of_acl, acl_at_place, is_of, is_named, is_of_client, waits, acl_set, scrub_in, row_is_of}
+use Rattle.filter_table.specs.TableRows.{HeldScrub, with_scrub, without_mitigation, woken, scrub_set, row_set, row_woken, with_acl, without_acl, activated, renumbered, renumbered_from, number_after, place_of_scrub, scrub_at_place, place_of_acl, acl_at_place, is_of, is_named, is_of_client, waits, acl_set, scrub_in, row_is_of}
 use Rattle.filter_table.specs.Table.{TableValue}
 use Rattle.filter_table.proofs.Places.{length-renumbered}
 use Rattle.filter_table.proofs.Orders.{activated_place}
@@ -210,6 +210,56 @@ removed_placed domain cuid mid next table new is placed =
       few_acls = placed.few_acls;
     })
 
+woken_one : (domain : ℕ) (cuid : List ℕ) (mid : ℕ) (active : Bool) (s : HeldScrub) → (woken domain cuid mid active s).row ≡ row_woken domain cuid mid active s.row
+woken_one domain cuid mid active s = by_test (row_is_of domain cuid mid s.row)
+  where
+    by_test : (b : Bool) → (cond b (scrub_set active s) s).row ≡ cond b (row_set active s.row) s.row
+    by_test true = refl
+    by_test false = refl
+
+woken_all : (domain : ℕ) (cuid : List ℕ) (mid : ℕ) (active : Bool) (held : List HeldScrub)
+    → map (λ (s : HeldScrub). s.row) (map (woken domain cuid mid active) held) ≡ map (row_woken domain cuid mid active) (map (λ (s : HeldScrub). s.row) held)
+woken_all domain cuid mid active [] = refl
+woken_all domain cuid mid active (s ∷ held) =
+    ap (λ r. r ∷ map (λ (x : HeldScrub). x.row) (map (woken domain cuid mid active) held)) (woken_one domain cuid mid active s)
+    ∙ ap (λ rows. row_woken domain cuid mid active s.row ∷ rows) (woken_all domain cuid mid active held)
+
+pub woken_rows : (domain : ℕ) (cuid : List ℕ) (mid : ℕ) (active : Bool) (table new : TableValue) (old : FiltersValue)
+    → new ≡ table_with table (map (woken domain cuid mid active) table.scrubs) table.acls → filters_of table ≡ old
+    → filters_of new ≡ with_rows old (map (row_woken domain cuid mid active) old.scrubs) old.acls
+woken_rows domain cuid mid active table new old is same =
+    ap filters_of is
+    ∙ ap (λ rows. with_rows (filters_of table) rows (acls_in table)) (woken_all domain cuid mid active table.scrubs)
+    ∙ ap (λ (f : FiltersValue). with_rows f (map (row_woken domain cuid mid active) f.scrubs) f.acls) same
+
+woken_at_place : (domain : ℕ) (cuid : List ℕ) (mid : ℕ) (active : Bool) (s : HeldScrub) → (woken domain cuid mid active s).place ≡ s.place
+woken_at_place domain cuid mid active s = by_test (row_is_of domain cuid mid s.row)
+  where
+    by_test : (b : Bool) → (cond b (scrub_set active s) s).place ≡ s.place
+    by_test true = refl
+    by_test false = refl
+
+woken_below : (domain : ℕ) (cuid : List ℕ) (mid : ℕ) (active : Bool) (next : ℕ) (held : List HeldScrub) → AllByRecursion (λ (s : HeldScrub). s.place < next) held
+    → AllByRecursion (λ (s : HeldScrub). s.place < next) (map (woken domain cuid mid active) held)
+woken_below domain cuid mid active next [] all = all
+woken_below domain cuid mid active next (s ∷ held) all =
+    (subst (λ n. n < next) (sym (woken_at_place domain cuid mid active s)) all.0, woken_below domain cuid mid active next held all.1)
+
+pub woken_placed : (domain : ℕ) (cuid : List ℕ) (mid : ℕ) (active : Bool) (next : ℕ) (table new : TableValue)
+    → new ≡ table_with table (map (woken domain cuid mid active) table.scrubs) table.acls → IsPlaced next table → IsPlaced next new
+woken_placed domain cuid mid active next table new is placed =
+    subst
+    (IsPlaced next)
+    (sym is)
+    (record {
+      scrubs = woken_below domain cuid mid active next table.scrubs placed.scrubs;
+      acls = placed.acls;
+      scrub_room = placed.scrub_room;
+      acl_room = placed.acl_room;
+      few_scrubs = let long = length-map table.scrubs (woken domain cuid mid active) in let most = placed.few_scrubs in omega (arith, long, most);
+      few_acls = placed.few_acls;
+    })
+
 abbrev list_of : ℕ → AclRow → HeldAcl
 list_of place row = record { place = place; row = row }
 
@@ -377,13 +427,15 @@ product_low a b most most_b first second =
     le_trans (mul-le-mul_right b first) (subst (λ n. n ≤ most * most_b) (mul_comm b most) (subst (λ n. b * most ≤ n) (mul_comm most_b most) (mul-le-mul_right most second)))
 
 -- room for one of those that are still to come, where there is room for all
-pub next_fits : (old first : FiltersValue) (row : ScrubRow) (own left more : List ScrubRow)
-    → with_rows old (old.scrubs ++ left) old.acls ≡ with_rows first (first.scrubs ++ own) first.acls → left ≡ row ∷ more
+pub next_fits : (active : Bool) (old first : FiltersValue) (row : ScrubRow) (own left more : List ScrubRow)
+    → with_rows old (old.scrubs ++ map (row_set active) left) old.acls ≡ with_rows first (first.scrubs ++ map (row_set active) own) first.acls → left ≡ row ∷ more
     → length first.scrubs + length own ≤ first.scrub_room → length old.scrubs < old.scrub_room
-next_fits old first row own left more same is room =
-    let all : length (old.scrubs ++ left) ≡ length (first.scrubs ++ own) = ap (λ (f : FiltersValue). length f.scrubs) same in
+next_fits active old first row own left more same is room =
+    let all : length (old.scrubs ++ map (row_set active) left) ≡ length (first.scrubs ++ map (row_set active) own) = ap (λ (f : FiltersValue). length f.scrubs) same in
     let place : old.scrub_room ≡ first.scrub_room = ap (λ (f : FiltersValue). f.scrub_room) same in
-    let here = length-append old.scrubs left in
-    let there = length-append first.scrubs own in
+    let here = length-append old.scrubs (map (row_set active) left) in
+    let there = length-append first.scrubs (map (row_set active) own) in
+    let left_number = length-map left (row_set active) in
+    let own_number = length-map own (row_set active) in
     let one : length left ≡ length (row ∷ more) = ap length is in
-    omega (arith, all, place, here, there, one, room)
+    omega (arith, all, place, here, there, left_number, own_number, one, room)

@@ -1,14 +1,12 @@
 -- How many rows there are at most, and that the limits are kept.
-use Rattle.std.proofs.Common.{◌≡◌, ℕ, zero, suc, ◌+◌, ◌*◌, ◌<◌, ◌≤◌, Bool, true, false, cond, not, ◌&&◌, ◌||◌, List, [], ◌∷◌, ◌++◌, map, filter, length, Option, Some, None, inl, inr, refl, sym, ap, ◌∙◌, subst, le_refl, le_trans, mul_comm, mul_assoc, mul-le-mul_right, arith}
-use Rattle.std.specs.Prelude.{◌==◌, nat_lt, nat_le, option_to_list, option_map}
+use Rattle.std.proofs.Common.{◌≡◌, ℕ, zero, suc, ◌+◌, ◌*◌, ◌<◌, ◌≤◌, Bool, true, false, cond, not, ◌&&◌, ◌||◌, List, [], ◌∷◌, ◌++◌, map, filter, length, Option, Some, None, inl, inr, refl, sym, ap, ◌∙◌, subst, mul-le-mul_right, arith}
+use Rattle.std.specs.Prelude.{◌==◌, nat_lt, option_to_list, option_map}
 use Rattle.std.specs.List.{list_any, list_all, flat_map}
-use Rattle.std.proofs.lemmas.Bool.{false≢true, true≢false, both_ways, cond_both, cond-true, cond-false, cases_Bool, cases_eq, and_parts, and_from, or_cases, or_left, or_right, not_from_true, eqb-true, eq-eqb, ltb-true, leb-true}
-use Rattle.std.proofs.lemmas.List.{map-append, length-append, length-map}
+use Rattle.std.proofs.lemmas.Bool.{false≢true, both_ways, cond_both, cond-false, cases_eq, and_parts, and_from, or_cases, or_left, or_right, not_from_true, eq-eqb, ltb-true, leb-true}
+use Rattle.std.proofs.lemmas.List.{map-append, length-append}
 use Rattle.ip_scope.specs.Prefix.{PrefixValue}
 use Rattle.acl_lists.specs.declared.acl.Acl.{Acl}
-use Rattle.filter_rows.specs.declared.rows.ScrubRow.{ScrubRow}
 use Rattle.dots_settings.specs.declared.limits.Limits.{Limits}
-use Rattle.dots_settings.specs.Settings.{SettingsValue}
 use Rattle.dots_history.specs.declared.entry.Entry.{Entry}
 use Rattle.dots_history.specs.declared.put.Target.{Target}
 use Rattle.dots_history.specs.declared.change.Change.{Change}
@@ -16,13 +14,13 @@ use Rattle.dots_history.specs.declared.change.Change.TheVariants as change
 use Rattle.dots_history.specs.Bounds.{prefix_count}
 use Rattle.dots_history.specs.Entries.{same_client, is_configuration}
 use Rattle.dots_history.specs.Histories.{Mitigation, tally, mitigations, held}
-use Rattle.dots_history.specs.Rows.{Row, rows_of, targets_of, plain_row, plain_rows, acl_rows, acl_of}
+use Rattle.dots_history.specs.Rows.{targets_of, works, plain_rows, acl_rows, acl_of}
 use Rattle.dots_laws.specs.Capacities.{is_registration, is_alias, is_list, has_client}
 use Rattle.dots_laws.proofs.Keyed.{by_keys, tally_filter, length_filter}
-use Rattle.held_resources.specs.Tables.{Sizes, is_known}
-use Rattle.installed_filters.specs.Filters.{rows_put, acl_row_by}
+use Rattle.held_resources.specs.Tables.{Sizes, is_placed, is_known}
+use Rattle.installed_filters.specs.Filters.{scrub_row_with, rows_with, acl_row_by}
 use Rattle.installed_filters.specs.HistoryRows.{KeepsLimits, has_few_prefixes, scrub_room_of, acl_room_of}
-use Rattle.installed_filters.proofs.Keys.{scrubs_of, rows_are}
+use Rattle.installed_filters.proofs.Keys.{scrubs_by, rows_are}
 use Rattle.installed_filters.proofs.Waking.{acls_by_client, lists_are, mitigates}
 
 -- ---- numbers below one
@@ -45,34 +43,34 @@ is_below (suc n) x less =
 
 -- ---- rows of mitigations
 
-prefixes_number : (e : Entry) (target : Target) (prefixes : List PrefixValue)
-    → length (map plain_row (map (λ (p : PrefixValue). record { put = e; target = target; prefix = p }) prefixes)) ≡ length prefixes
-prefixes_number e target [] = refl
-prefixes_number e target (p ∷ prefixes) = ap suc (prefixes_number e target prefixes)
+prefixes_number : (active : Bool) (e : Entry) (target : Target) (prefixes : List PrefixValue)
+    → length (map (scrub_row_with active) (map (λ (p : PrefixValue). record { put = e; target = target; prefix = p }) prefixes)) ≡ length prefixes
+prefixes_number active e target [] = refl
+prefixes_number active e target (p ∷ prefixes) = ap suc (prefixes_number active e target prefixes)
 
-targets_number : (e : Entry) (targets : List Target)
-    → length (map plain_row (flat_map (λ (target : Target). map (λ (p : PrefixValue). record { put = e; target = target; prefix = p }) target.prefixes) targets))
+targets_number : (active : Bool) (e : Entry) (targets : List Target)
+    → length (map (scrub_row_with active) (flat_map (λ (target : Target). map (λ (p : PrefixValue). record { put = e; target = target; prefix = p }) target.prefixes) targets))
     ≡ prefix_count targets
-targets_number e [] = refl
-targets_number e (target ∷ targets) =
+targets_number active e [] = refl
+targets_number active e (target ∷ targets) =
     let here = map (λ (p : PrefixValue). record { put = e; target = target; prefix = p }) target.prefixes in
     let rest = flat_map (λ (t : Target). map (λ (p : PrefixValue). record { put = e; target = t; prefix = p }) t.prefixes) targets in
-    ap length (map-append plain_row here rest)
-    ∙ length-append (map plain_row here) (map plain_row rest)
-    ∙ ap (λ n. n + length (map plain_row rest)) (prefixes_number e target target.prefixes)
-    ∙ ap (λ n. length target.prefixes + n) (targets_number e targets)
+    ap length (map-append (scrub_row_with active) here rest)
+    ∙ length-append (map (scrub_row_with active) here) (map (scrub_row_with active) rest)
+    ∙ ap (λ n. n + length (map (scrub_row_with active) rest)) (prefixes_number active e target target.prefixes)
+    ∙ ap (λ n. length target.prefixes + n) (targets_number active e targets)
 
-rows_number : (e : Entry) → length (rows_put e) ≡ prefix_count (targets_of e.change)
-rows_number e = targets_number e (targets_of e.change)
+rows_number : (active : Bool) (e : Entry) → length (rows_with active e) ≡ prefix_count (targets_of e.change)
+rows_number active e = targets_number active e (targets_of e.change)
 
-few_scrubs : (ms : List Mitigation) → list_all has_few_prefixes ms ≡ true → length (scrubs_of ms) ≤ length ms * 64
-few_scrubs [] all = omega arith
-few_scrubs (m ∷ ms) all =
+few_scrubs : (working : Entry → Bool) (ms : List Mitigation) → list_all has_few_prefixes ms ≡ true → length (scrubs_by working ms) ≤ length ms * 64
+few_scrubs working [] all = omega arith
+few_scrubs working (m ∷ ms) all =
     let parts = and_parts (has_few_prefixes m) (list_all has_few_prefixes ms) all in
     let few = leb-true (prefix_count (targets_of m.put.change)) 64 parts.0 in
-    let own = rows_number m.put in
-    let rest = few_scrubs ms parts.1 in
-    let all_rows = length-append (rows_put m.put) (scrubs_of ms) in
+    let own = rows_number (working m.put) m.put in
+    let rest = few_scrubs working ms parts.1 in
+    let all_rows = length-append (rows_with (working m.put) m.put) (scrubs_by working ms) in
     omega (arith, few, own, rest, all_rows)
 
 few_live : (domains : ℕ) (limits : Limits) (t : ℕ) (entries : List Entry)
@@ -105,7 +103,7 @@ pub scrubs_fit : (domains : ℕ) (limits : Limits) (t : ℕ) (entries : List Ent
     → list_all (λ (m : Mitigation). nat_lt m.put.domain domains) (mitigations t entries) ≡ true → KeepsLimits limits t entries
     → length (plain_rows t entries) ≤ scrub_room_of domains limits
 scrubs_fit domains limits t entries inside keeps =
-    let rows = few_scrubs (mitigations t entries) keeps.prefixes in
+    let rows = few_scrubs (works (held entries)) (mitigations t entries) keeps.prefixes in
     let live = mul-le-mul_right 64 (few_live domains limits t entries inside keeps) in
     let are = ap length (rows_are t entries) in
     omega (arith, rows, live, are)
@@ -191,7 +189,7 @@ registered_below sizes e is known =
     (list_any (λ peer. e.peer == peer) sizes.peers)
     (nat_lt e.domain sizes.domains)
     (registration_kind e.change is))
-    ∙ known))
+    ∙ (and_parts (is_placed sizes e) _ known).0))
 
 few_registered : (sizes : Sizes) (limits : Limits) (t : ℕ) (entries : List Entry) → list_all (is_known sizes) (held entries) ≡ true → KeepsLimits limits t entries
     → length (filter registration (held entries)) ≤ sizes.domains * limits.clients
@@ -225,5 +223,5 @@ lists_fit sizes limits t entries known owned keeps =
     let lists = few_lists limits t entries owned keeps in
     let more = mul-le-mul_right limits.acls registered in
     let number = length_filter list (held entries) in
-    let rows = ap length (lists_are t entries) ∙ lists_number (mitigates (mitigations t entries)) (held entries) in
+    let rows = ap length (lists_are t entries) ∙ lists_number (mitigates (works (held entries)) (mitigations t entries)) (held entries) in
     omega (arith, lists, more, number, rows)

@@ -1,7 +1,8 @@
 -- Lists of which some are left out, and lists that are changed one by one.
-use Rattle.std.proofs.Common.{◌≡◌, ℕ, ◌+◌, ◌≤◌, Bool, true, false, cond, not, ◌&&◌, ◌||◌, List, [], ◌∷◌, ◌++◌, map, filter, length, inl, inr, refl, sym, ap, ◌∙◌, arith}
+use Rattle.std.proofs.Common.{◌≡◌, ◌+◌, ◌≤◌, Bool, true, false, cond, not, ◌&&◌, ◌||◌, List, [], ◌∷◌, ◌++◌, map, filter, inl, inr, refl, sym, ap, ◌∙◌, arith}
 use Rattle.std.specs.List.{list_any, list_all, flat_map}
-use Rattle.std.proofs.lemmas.Bool.{false≢true, true≢false, both_ways, cond_both, cond-true, cond-false, cases_Bool, and_parts, and_from}
+use Rattle.std.proofs.lemmas.Bool.{false≢true, true≢false, cond_both, cond-true, and_parts, and_from}
+use Rattle.std.proofs.lemmas.List.{map-append}
 use Rattle.std.proofs.lemmas.List.Elements.{filter-append}
 use Rattle.dots_history.specs.Histories.{tally}
 use Rattle.dots_laws.proofs.Members.{In}
@@ -38,6 +39,29 @@ module _ {A : Type 0} where
   map_none f same (x ∷ xs) = ap (λ y. y ∷ map f xs) (same x) ∙ ap (λ ys. x ∷ ys) (map_none f same xs)
 
   -- ---- some of those that are left
+  -- what fails for all of them fails where it is asked for more
+  pub any_less : (p q : A → Bool) → ((x : A) → p x ≡ true → q x ≡ true) → (xs : List A) → list_any q xs ≡ false → list_any p xs ≡ false
+  any_less p q leads [] none = none
+  any_less p q leads (x ∷ xs) none = by_tests (p x) (q x) (leads x) none (any_less p q leads xs)
+    where
+      by_tests : (b c : Bool) → (b ≡ true → c ≡ true) → (c || list_any q xs) ≡ false → (list_any q xs ≡ false → list_any p xs ≡ false) → (b || list_any p xs) ≡ false
+      by_tests true true follows out rest = absurd (true≢false out)
+      by_tests true false follows out rest = absurd (false≢true (follows refl))
+      by_tests false true follows out rest = absurd (true≢false out)
+      by_tests false false follows out rest = rest out
+
+  -- two tests that differ only where a third one passes, and it passes for none
+  pub any_unless_in : (p q but : A → Bool) (xs : List A) → ((x : A) → In x xs → but x ≡ false → p x ≡ q x) → list_any but xs ≡ false
+      → list_any p xs ≡ list_any q xs
+  any_unless_in p q but [] same none = refl
+  any_unless_in p q but (x ∷ xs) same none =
+      by_test (but x) none (same x (inl refl)) (any_unless_in p q but xs (λ y there. same y (inr there)))
+    where
+      by_test : (b : Bool) → (b || list_any but xs) ≡ false → (b ≡ false → p x ≡ q x) → (list_any but xs ≡ false → list_any p xs ≡ list_any q xs)
+          → (p x || list_any p xs) ≡ (q x || list_any q xs)
+      by_test true out here rest = absurd (true≢false out)
+      by_test false out here rest = ap (λ b. b || list_any p xs) (here refl) ∙ ap (λ b. q x || b) (rest out)
+
   pub any_by : (p q : A → Bool) → ((x : A) → p x ≡ q x) → (xs : List A) → list_any p xs ≡ list_any q xs
   any_by p q same [] = refl
   any_by p q same (x ∷ xs) = ap (λ b. b || list_any p xs) (same x) ∙ ap (λ b. q x || b) (any_by p q same xs)
@@ -109,7 +133,15 @@ module _ {A : Type 0} where
       there false true less rest = rest (omega (arith, less))
       there false false less rest = rest (omega (arith, less))
 
-  -- ---- what is left of what each has
+  -- ---- what is left of what each has, and what becomes of it
+  pub changed_each : {B : Type 0} (has become : A → List B) (f : B → B) (xs : List A) → ((x : A) → In x xs → map f (has x) ≡ become x)
+      → map f (flat_map has xs) ≡ flat_map become xs
+  changed_each has become f [] each = refl
+  changed_each has become f (x ∷ xs) each =
+      map-append f (has x) (flat_map has xs)
+      ∙ ap (λ ys. ys ++ map f (flat_map has xs)) (each x (inl refl))
+      ∙ ap (λ ys. become x ++ ys) (changed_each has become f xs (λ y there. each y (inr there)))
+
   -- where a test is the same for all that one of them has
   pub left_of_each : {B : Type 0} (has : A → List B) (p : B → Bool) (stays : A → Bool) (xs : List A)
       → ((x : A) → In x xs → filter p (has x) ≡ cond (stays x) (has x) []) → filter p (flat_map has xs) ≡ flat_map has (filter stays xs)

@@ -1,18 +1,18 @@
 -- The steps of the loops over the mitigations of a domain and over lists.
-use Rattle.std.proofs.Common.{◌≡◌, ℕ, ◌+◌, ◌<◌, ◌≤◌, Bool, true, false, cond, not, ◌&&◌, ◌||◌, List, [], ◌∷◌, ◌++◌, map, filter, length, drop, get_or, inl, inr, refl, sym, ap, ◌∙◌, subst, arith}
+use Rattle.std.proofs.Common.{◌≡◌, ℕ, ◌+◌, ◌<◌, ◌≤◌, Bool, true, false, cond, not, ◌&&◌, ◌||◌, List, [], ◌∷◌, map, length, drop, get_or, inl, inr, refl, sym, ap, ◌∙◌}
 use Rattle.std.specs.Prelude.{bytes_eq, ◌==◌}
 use Rattle.std.specs.List.{list_any}
-use Rattle.std.proofs.lemmas.Bool.{false≢true, true≢false, cond_both, cond-true, cond-false, cases_Bool, and_parts, and_from}
+use Rattle.std.proofs.lemmas.Bool.{false≢true, true≢false, cond-true, cond-false, cases_Bool}
 use Rattle.std.proofs.lemmas.List.{drop_more, drop_all}
 use Rattle.std.proofs.lemmas.Slice.Eq.{bytes_eq-Decides}
 use Rattle.acl_lists.specs.declared.acl.Acl.{Acl}
 use Rattle.filter_rows.specs.declared.rows.ScrubRow.{ScrubRow}
 use Rattle.filter_rows.specs.declared.rows.AclRow.{AclRow}
-use Rattle.filter_table.specs.TableRows.{is_of_client, row_is_of, waits}
+use Rattle.filter_table.specs.TableRows.{row_set, row_woken, waits}
 use Rattle.dots_history.specs.Histories.{Mitigation}
 use Rattle.dots_history.specs.Rows.{mid_of}
 use Rattle.held_resources.proofs.Holdings.{turned_bytes}
-use Rattle.installed_filters.specs.Filters.{FiltersValue, with_rows, is_row_of, scrubs_without_one, scrubs_without, some_of, settled_row, acl_switched, activated_row, is_named_row, acls_without, acls_without_all}
+use Rattle.installed_filters.specs.Filters.{FiltersValue, with_rows, is_row_of, scrubs_without_one, scrubs_without, woken_row, some_of, settled_row, acl_switched, activated_row, is_named_row, acls_without, acls_without_all}
 use Rattle.installed_filters.proofs.Sieving.{filter_by, filter_twice, filter_all, map_by, map_twice, map_none}
 
 -- ---- rows of mitigations
@@ -86,15 +86,112 @@ sweep_kept domain stays m filters is =
     (λ row. ap (λ b. not ((not b && is_row_of domain m row) || false)) is)
     filters.scrubs))
 
+-- ---- rows of mitigations that become active or not
+
+woken_kept : (domain : ℕ) (goes : Mitigation → Bool) (active : Bool) (m : Mitigation) (ms : List Mitigation) (row : ScrubRow)
+    → list_any (λ x. goes x && is_row_of domain x row) (m ∷ []) ≡ false
+    → list_any (λ x. goes x && is_row_of domain x row) (m ∷ ms) ≡ list_any (λ x. goes x && is_row_of domain x row) ms
+woken_kept domain goes active m ms row none = by_test (goes m && is_row_of domain m row) none
+  where
+    by_test : (b : Bool) → (b || false) ≡ false → (b || list_any (λ x. goes x && is_row_of domain x row) ms) ≡ list_any (λ x. goes x && is_row_of domain x row) ms
+    by_test true out = absurd (true≢false out)
+    by_test false out = refl
+
+set_twice : (b active : Bool) (row : ScrubRow) → cond b (row_set active (row_set active row)) (row_set active row) ≡ row_set active row
+set_twice true active row = refl
+set_twice false active row = refl
+
+woken_more : (domain : ℕ) (goes : Mitigation → Bool) (active : Bool) (m : Mitigation) (ms : List Mitigation) (row : ScrubRow)
+    → woken_row domain goes active ms (woken_row domain goes active (m ∷ []) row) ≡ woken_row domain goes active (m ∷ ms) row
+woken_more domain goes active m ms row =
+    let first = list_any (λ x. goes x && is_row_of domain x row) (m ∷ []) in
+    let rest = list_any (λ x. goes x && is_row_of domain x row) ms in
+    elim (cases_Bool first) [
+      | inl is ↦
+          ap (woken_row domain goes active ms) (cond-true first (row_set active row) row is)
+          ∙ set_twice rest active row
+          ∙ sym (cond-true ((goes m && is_row_of domain m row) || rest) (row_set active row) row (or_more (goes m && is_row_of domain m row) rest is))
+      | inr out ↦
+          ap (woken_row domain goes active ms) (cond-false first (row_set active row) row out)
+          ∙ ap (λ b. cond b (row_set active row) row) (sym (woken_kept domain goes active m ms row out))
+    ]
+  where
+    or_more : (a b : Bool) → (a || false) ≡ true → (a || b) ≡ true
+    or_more true b is = refl
+    or_more false b is = absurd (false≢true is)
+
+abbrev pub waked : ℕ → (Mitigation → Bool) → Bool → List Mitigation → FiltersValue → FiltersValue
+waked domain goes active ms filters = with_rows filters (map (woken_row domain goes active ms) filters.scrubs) filters.acls
+
+pub wake_none : (domain : ℕ) (goes : Mitigation → Bool) (active : Bool) (filters : FiltersValue) → waked domain goes active [] filters ≡ filters
+wake_none domain goes active filters =
+    ap (λ rows. with_rows filters rows filters.acls) (map_none (woken_row domain goes active []) (λ row. refl) filters.scrubs)
+
+pub wake_more : (domain : ℕ) (goes : Mitigation → Bool) (active : Bool) (m : Mitigation) (ms : List Mitigation) (filters new : FiltersValue)
+    → new ≡ waked domain goes active (m ∷ []) filters → waked domain goes active ms new ≡ waked domain goes active (m ∷ ms) filters
+wake_more domain goes active m ms filters new is =
+    ap (waked domain goes active ms) is
+    ∙ ap
+    (λ rows. with_rows filters rows filters.acls)
+    (map_twice (woken_row domain goes active ms) (woken_row domain goes active (m ∷ [])) filters.scrubs
+    ∙ map_by
+    (λ row. woken_row domain goes active ms (woken_row domain goes active (m ∷ []) row))
+    (woken_row domain goes active (m ∷ ms))
+    (woken_more domain goes active m ms)
+    filters.scrubs)
+
+pub wake_step : (domain : ℕ) (goes : Mitigation → Bool) (active : Bool) (i : ℕ) (ms : List Mitigation) (m : Mitigation) (before new goal : FiltersValue) → i < length ms
+    → m ≡ get_or ms i m → new ≡ waked domain goes active (m ∷ []) before → waked domain goes active (drop i ms) before ≡ goal
+    → waked domain goes active (drop (i + 1) ms) new ≡ goal
+wake_step domain goes active i ms m before new goal less at is rest =
+    wake_more domain goes active m (drop (i + 1) ms) before new is
+    ∙ ap (λ x. waked domain goes active (x ∷ drop (i + 1) ms) before) at
+    ∙ ap (λ xs. waked domain goes active xs before) (sym (drop_more ms i m less))
+    ∙ rest
+
+pub wake_end : (domain : ℕ) (goes : Mitigation → Bool) (active : Bool) (i : ℕ) (ms : List Mitigation) (new goal : FiltersValue) → length ms ≤ i
+    → waked domain goes active (drop i ms) new ≡ goal → new ≡ goal
+wake_end domain goes active i ms new goal past is =
+    sym (wake_none domain goes active new) ∙ ap (λ xs. waked domain goes active xs new) (sym (drop_all i ms past)) ∙ is
+
+pub wake_one : (domain : ℕ) (goes : Mitigation → Bool) (active : Bool) (m : Mitigation) (cuid : List ℕ) (mid : ℕ) (filters new : FiltersValue) → goes m ≡ true
+    → cuid ≡ m.put.cuid → mid ≡ mid_of m.put.change → new ≡ with_rows filters (map (row_woken domain cuid mid active) filters.scrubs) filters.acls
+    → new ≡ waked domain goes active (m ∷ []) filters
+wake_one domain goes active m cuid mid filters new here cuid_is mid_is is =
+    is
+    ∙ ap (λ rows. with_rows filters rows filters.acls)
+    (ap (λ c. map (row_woken domain c mid active) filters.scrubs) cuid_is
+    ∙ ap (λ n. map (row_woken domain m.put.cuid n active) filters.scrubs) mid_is
+    ∙ map_by
+    (row_woken domain m.put.cuid (mid_of m.put.change) active)
+    (woken_row domain goes active (m ∷ []))
+    (λ row. ap (λ b. cond b (row_set active row) row) (by_goes (goes m) here (is_row_of domain m row)))
+    filters.scrubs)
+  where
+    by_goes : (g : Bool) → g ≡ true → (b : Bool) → b ≡ ((g && b) || false)
+    by_goes true is_here true = refl
+    by_goes true is_here false = refl
+    by_goes false is_here b = absurd (false≢true is_here)
+
+pub wake_kept : (domain : ℕ) (goes : Mitigation → Bool) (active : Bool) (m : Mitigation) (filters : FiltersValue) → goes m ≡ false
+    → filters ≡ waked domain goes active (m ∷ []) filters
+wake_kept domain goes active m filters out =
+    ap
+    (λ rows. with_rows filters rows filters.acls)
+    (sym (map_none
+    (woken_row domain goes active (m ∷ []))
+    (λ row. ap (λ b. cond ((b && is_row_of domain m row) || false) (row_set active row) row) out)
+    filters.scrubs))
+
 -- ---- rows of lists
 
-abbrev turns : ℕ → (Mitigation → Bool) → List Mitigation → AclRow → Bool
-turns domain stays ms row = ((row.domain == domain) && some_of (λ m. not (stays m)) row.cuid ms) && waits row.acl.activation
+abbrev touches : ℕ → (Mitigation → Bool) → List Mitigation → AclRow → Bool
+touches domain goes ms row = ((row.domain == domain) && some_of goes row.cuid ms) && waits row.acl.activation
 
-or_turns : (d a b w : Bool) → ((d && (a || false)) && w) ≡ true → ((d && (a || b)) && w) ≡ true
-or_turns true true b w is = is
-or_turns true false b w is = absurd (false≢true is)
-or_turns false a b w is = absurd (false≢true is)
+or_touches : (d a b w : Bool) → ((d && (a || false)) && w) ≡ true → ((d && (a || b)) && w) ≡ true
+or_touches true true b w is = is
+or_touches true false b w is = absurd (false≢true is)
+or_touches false a b w is = absurd (false≢true is)
 
 or_stays : (d a b w : Bool) → ((d && (a || false)) && w) ≡ false → ((d && (a || b)) && w) ≡ ((d && b) && w)
 or_stays true true true w is = refl
@@ -107,80 +204,80 @@ switched_twice : (b v : Bool) (row : AclRow) → cond b (acl_switched v (acl_swi
 switched_twice true v row = refl
 switched_twice false v row = refl
 
-settled_more : (domain : ℕ) (stays : Mitigation → Bool) (all : List Mitigation) (m : Mitigation) (ms : List Mitigation) (row : AclRow)
-    → settled_row domain stays all ms (settled_row domain stays all (m ∷ []) row) ≡ settled_row domain stays all (m ∷ ms) row
-settled_more domain stays all m ms row =
-    let v = some_of stays row.cuid all in
-    let own = not (stays m) && bytes_eq m.put.cuid row.cuid in
-    let rest = some_of (λ x. not (stays x)) row.cuid ms in
-    let first = turns domain stays (m ∷ []) row in
+settled_more : (domain : ℕ) (goes passes : Mitigation → Bool) (all : List Mitigation) (m : Mitigation) (ms : List Mitigation) (row : AclRow)
+    → settled_row domain goes passes all ms (settled_row domain goes passes all (m ∷ []) row) ≡ settled_row domain goes passes all (m ∷ ms) row
+settled_more domain goes passes all m ms row =
+    let v = some_of passes row.cuid all in
+    let own = goes m && bytes_eq m.put.cuid row.cuid in
+    let rest = some_of goes row.cuid ms in
+    let first = touches domain goes (m ∷ []) row in
     elim (cases_Bool first) [
       | inl is ↦
-          ap (settled_row domain stays all ms) (cond-true first (acl_switched v row) row is)
-          ∙ switched_twice (turns domain stays ms row) v row
+          ap (settled_row domain goes passes all ms) (cond-true first (acl_switched v row) row is)
+          ∙ switched_twice (touches domain goes ms row) v row
           ∙ sym (cond-true
-          (turns domain stays (m ∷ ms) row)
+          (touches domain goes (m ∷ ms) row)
           (acl_switched v row)
           row
-          (or_turns (row.domain == domain) own rest (waits row.acl.activation) is))
+          (or_touches (row.domain == domain) own rest (waits row.acl.activation) is))
       | inr out ↦
-          ap (settled_row domain stays all ms) (cond-false first (acl_switched v row) row out)
+          ap (settled_row domain goes passes all ms) (cond-false first (acl_switched v row) row out)
           ∙ ap (λ b. cond b (acl_switched v row) row) (sym (or_stays (row.domain == domain) own rest (waits row.acl.activation) out))
     ]
 
-abbrev pub settled : ℕ → (Mitigation → Bool) → List Mitigation → List Mitigation → FiltersValue → FiltersValue
-settled domain stays all ms filters = with_rows filters filters.scrubs (map (settled_row domain stays all ms) filters.acls)
+abbrev pub settled : ℕ → (Mitigation → Bool) → (Mitigation → Bool) → List Mitigation → List Mitigation → FiltersValue → FiltersValue
+settled domain goes passes all ms filters = with_rows filters filters.scrubs (map (settled_row domain goes passes all ms) filters.acls)
 
-pub settle_none : (domain : ℕ) (stays : Mitigation → Bool) (all : List Mitigation) (filters : FiltersValue) → settled domain stays all [] filters ≡ filters
-settle_none domain stays all filters =
+pub settle_none : (domain : ℕ) (goes passes : Mitigation → Bool) (all : List Mitigation) (filters : FiltersValue) → settled domain goes passes all [] filters ≡ filters
+settle_none domain goes passes all filters =
     ap
     (λ rows. with_rows filters filters.scrubs rows)
     (map_none
-    (settled_row domain stays all [])
-    (λ row. never (row.domain == domain) (waits row.acl.activation) (acl_switched (some_of stays row.cuid all) row) row)
+    (settled_row domain goes passes all [])
+    (λ row. never (row.domain == domain) (waits row.acl.activation) (acl_switched (some_of passes row.cuid all) row) row)
     filters.acls)
   where
     never : (d w : Bool) (x y : AclRow) → cond ((d && false) && w) x y ≡ y
     never true w x y = refl
     never false w x y = refl
 
-pub settle_more : (domain : ℕ) (stays : Mitigation → Bool) (all : List Mitigation) (m : Mitigation) (ms : List Mitigation) (filters new : FiltersValue)
-    → new ≡ settled domain stays all (m ∷ []) filters → settled domain stays all ms new ≡ settled domain stays all (m ∷ ms) filters
-settle_more domain stays all m ms filters new is =
-    ap (settled domain stays all ms) is
+pub settle_more : (domain : ℕ) (goes passes : Mitigation → Bool) (all : List Mitigation) (m : Mitigation) (ms : List Mitigation) (filters new : FiltersValue)
+    → new ≡ settled domain goes passes all (m ∷ []) filters → settled domain goes passes all ms new ≡ settled domain goes passes all (m ∷ ms) filters
+settle_more domain goes passes all m ms filters new is =
+    ap (settled domain goes passes all ms) is
     ∙ ap
     (λ rows. with_rows filters filters.scrubs rows)
-    (map_twice (settled_row domain stays all ms) (settled_row domain stays all (m ∷ [])) filters.acls
+    (map_twice (settled_row domain goes passes all ms) (settled_row domain goes passes all (m ∷ [])) filters.acls
     ∙ map_by
-    (λ row. settled_row domain stays all ms (settled_row domain stays all (m ∷ []) row))
-    (settled_row domain stays all (m ∷ ms))
-    (settled_more domain stays all m ms)
+    (λ row. settled_row domain goes passes all ms (settled_row domain goes passes all (m ∷ []) row))
+    (settled_row domain goes passes all (m ∷ ms))
+    (settled_more domain goes passes all m ms)
     filters.acls)
 
-pub settle_step : (domain : ℕ) (stays : Mitigation → Bool) (all : List Mitigation) (i : ℕ) (ms : List Mitigation) (m : Mitigation) (before new goal : FiltersValue)
-    → i < length ms → m ≡ get_or ms i m → new ≡ settled domain stays all (m ∷ []) before → settled domain stays all (drop i ms) before ≡ goal
-    → settled domain stays all (drop (i + 1) ms) new ≡ goal
-settle_step domain stays all i ms m before new goal less at is rest =
-    settle_more domain stays all m (drop (i + 1) ms) before new is
-    ∙ ap (λ x. settled domain stays all (x ∷ drop (i + 1) ms) before) at
-    ∙ ap (λ xs. settled domain stays all xs before) (sym (drop_more ms i m less))
+pub settle_step : (domain : ℕ) (goes passes : Mitigation → Bool) (all : List Mitigation) (i : ℕ) (ms : List Mitigation) (m : Mitigation) (before new goal : FiltersValue)
+    → i < length ms → m ≡ get_or ms i m → new ≡ settled domain goes passes all (m ∷ []) before → settled domain goes passes all (drop i ms) before ≡ goal
+    → settled domain goes passes all (drop (i + 1) ms) new ≡ goal
+settle_step domain goes passes all i ms m before new goal less at is rest =
+    settle_more domain goes passes all m (drop (i + 1) ms) before new is
+    ∙ ap (λ x. settled domain goes passes all (x ∷ drop (i + 1) ms) before) at
+    ∙ ap (λ xs. settled domain goes passes all xs before) (sym (drop_more ms i m less))
     ∙ rest
 
-pub settle_end : (domain : ℕ) (stays : Mitigation → Bool) (all : List Mitigation) (i : ℕ) (ms : List Mitigation) (new goal : FiltersValue) → length ms ≤ i
-    → settled domain stays all (drop i ms) new ≡ goal → new ≡ goal
-settle_end domain stays all i ms new goal past is =
-    sym (settle_none domain stays all new) ∙ ap (λ xs. settled domain stays all xs new) (sym (drop_all i ms past)) ∙ is
+pub settle_end : (domain : ℕ) (goes passes : Mitigation → Bool) (all : List Mitigation) (i : ℕ) (ms : List Mitigation) (new goal : FiltersValue) → length ms ≤ i
+    → settled domain goes passes all (drop i ms) new ≡ goal → new ≡ goal
+settle_end domain goes passes all i ms new goal past is =
+    sym (settle_none domain goes passes all new) ∙ ap (λ xs. settled domain goes passes all xs new) (sym (drop_all i ms past)) ∙ is
 
-pub settle_kept : (domain : ℕ) (stays : Mitigation → Bool) (all : List Mitigation) (m : Mitigation) (filters : FiltersValue) → stays m ≡ true
-    → filters ≡ settled domain stays all (m ∷ []) filters
-settle_kept domain stays all m filters is =
+pub settle_kept : (domain : ℕ) (goes passes : Mitigation → Bool) (all : List Mitigation) (m : Mitigation) (filters : FiltersValue) → goes m ≡ false
+    → filters ≡ settled domain goes passes all (m ∷ []) filters
+settle_kept domain goes passes all m filters is =
     ap
     (λ rows. with_rows filters filters.scrubs rows)
     (sym (map_none
-    (settled_row domain stays all (m ∷ []))
+    (settled_row domain goes passes all (m ∷ []))
     (λ row.
-    ap (λ b. cond (((row.domain == domain) && ((not b && bytes_eq m.put.cuid row.cuid) || false)) && waits row.acl.activation) (acl_switched (some_of stays row.cuid all) row) row) is
-    ∙ never (row.domain == domain) (waits row.acl.activation) (acl_switched (some_of stays row.cuid all) row) row)
+    ap (λ b. cond (((row.domain == domain) && ((b && bytes_eq m.put.cuid row.cuid) || false)) && waits row.acl.activation) (acl_switched (some_of passes row.cuid all) row) row) is
+    ∙ never (row.domain == domain) (waits row.acl.activation) (acl_switched (some_of passes row.cuid all) row) row)
     filters.acls))
   where
     never : (d w : Bool) (x y : AclRow) → cond ((d && false) && w) x y ≡ y
@@ -188,41 +285,24 @@ settle_kept domain stays all m filters is =
     never false w x y = refl
 
 -- the row of a client, by whether its name is that of the client
-one_settled : (domain : ℕ) (stays : Mitigation → Bool) (all : List Mitigation) (m : Mitigation) (row : AclRow) → stays m ≡ false
-    → activated_row domain m.put.cuid (some_of stays m.put.cuid all) row ≡ settled_row domain stays all (m ∷ []) row
-one_settled domain stays all m row out =
+one_settled : (domain : ℕ) (goes passes : Mitigation → Bool) (all : List Mitigation) (m : Mitigation) (row : AclRow) → goes m ≡ true
+    → activated_row domain m.put.cuid (some_of passes m.put.cuid all) row ≡ settled_row domain goes passes all (m ∷ []) row
+one_settled domain goes passes all m row here =
+    let on = acl_switched (some_of passes row.cuid all) row in
     elim (cases_Bool (bytes_eq row.cuid m.put.cuid)) [
       | inl same ↦
           let equal : row.cuid ≡ m.put.cuid = (bytes_eq-Decides row.cuid m.put.cuid).0 same in
           let back : bytes_eq m.put.cuid row.cuid ≡ true = (bytes_eq-Decides m.put.cuid row.cuid).1 (sym equal) in
-          ap (λ c. activated_row domain m.put.cuid (some_of stays c all) row) (sym equal)
-          ∙ ap (λ b. cond (((row.domain == domain) && b) && waits row.acl.activation) (acl_switched (some_of stays row.cuid all) row) row) same
-          ∙ sym (ap
-          (λ b.
-          cond
-          (((row.domain == domain) && ((not (stays m) && b) || false)) && waits row.acl.activation)
-          (acl_switched (some_of stays row.cuid all) row)
-          row)
-          back
-          ∙ ap
-          (λ b.
-          cond
-          (((row.domain == domain) && ((not b && true) || false)) && waits row.acl.activation)
-          (acl_switched (some_of stays row.cuid all) row)
-          row)
-          out)
+          ap (λ c. activated_row domain m.put.cuid (some_of passes c all) row) (sym equal)
+          ∙ ap (λ b. cond (((row.domain == domain) && b) && waits row.acl.activation) on row) same
+          ∙ sym (ap (λ b. cond (((row.domain == domain) && ((goes m && b) || false)) && waits row.acl.activation) on row) back
+          ∙ ap (λ b. cond (((row.domain == domain) && ((b && true) || false)) && waits row.acl.activation) on row) here)
       | inr other ↦
           let back : bytes_eq m.put.cuid row.cuid ≡ false = turned_bytes m.put.cuid row.cuid ∙ other in
-          ap (λ b. cond (((row.domain == domain) && b) && waits row.acl.activation) (acl_switched (some_of stays m.put.cuid all) row) row) other
-          ∙ never (row.domain == domain) (waits row.acl.activation) (acl_switched (some_of stays m.put.cuid all) row) row
-          ∙ sym (ap
-          (λ b.
-          cond
-          (((row.domain == domain) && ((not (stays m) && b) || false)) && waits row.acl.activation)
-          (acl_switched (some_of stays row.cuid all) row)
-          row)
-          back
-          ∙ none (row.domain == domain) (not (stays m)) (waits row.acl.activation) (acl_switched (some_of stays row.cuid all) row) row)
+          ap (λ b. cond (((row.domain == domain) && b) && waits row.acl.activation) (acl_switched (some_of passes m.put.cuid all) row) row) other
+          ∙ never (row.domain == domain) (waits row.acl.activation) (acl_switched (some_of passes m.put.cuid all) row) row
+          ∙ sym (ap (λ b. cond (((row.domain == domain) && ((goes m && b) || false)) && waits row.acl.activation) on row) back
+          ∙ none (row.domain == domain) (goes m) (waits row.acl.activation) on row)
     ]
   where
     never : (d w : Bool) (x y : AclRow) → cond ((d && false) && w) x y ≡ y
@@ -234,19 +314,19 @@ one_settled domain stays all m row out =
     none true false w x y = refl
     none false s w x y = refl
 
-pub settle_one : (domain : ℕ) (stays : Mitigation → Bool) (all : List Mitigation) (m : Mitigation) (cuid : List ℕ) (active : Bool) (filters new : FiltersValue)
-    → stays m ≡ false → cuid ≡ m.put.cuid → active ≡ some_of stays cuid all
-    → new ≡ with_rows filters filters.scrubs (map (activated_row domain cuid active) filters.acls) → new ≡ settled domain stays all (m ∷ []) filters
-settle_one domain stays all m cuid active filters new out cuid_is active_is is =
+pub settle_one : (domain : ℕ) (goes passes : Mitigation → Bool) (all : List Mitigation) (m : Mitigation) (cuid : List ℕ) (active : Bool) (filters new : FiltersValue)
+    → goes m ≡ true → cuid ≡ m.put.cuid → active ≡ some_of passes cuid all
+    → new ≡ with_rows filters filters.scrubs (map (activated_row domain cuid active) filters.acls) → new ≡ settled domain goes passes all (m ∷ []) filters
+settle_one domain goes passes all m cuid active filters new here cuid_is active_is is =
     is
     ∙ ap (λ b. with_rows filters filters.scrubs (map (activated_row domain cuid b) filters.acls)) active_is
-    ∙ ap (λ c. with_rows filters filters.scrubs (map (activated_row domain c (some_of stays c all)) filters.acls)) cuid_is
+    ∙ ap (λ c. with_rows filters filters.scrubs (map (activated_row domain c (some_of passes c all)) filters.acls)) cuid_is
     ∙ ap
     (λ rows. with_rows filters filters.scrubs rows)
     (map_by
-    (activated_row domain m.put.cuid (some_of stays m.put.cuid all))
-    (settled_row domain stays all (m ∷ []))
-    (λ row. one_settled domain stays all m row out)
+    (activated_row domain m.put.cuid (some_of passes m.put.cuid all))
+    (settled_row domain goes passes all (m ∷ []))
+    (λ row. one_settled domain goes passes all m row here)
     filters.acls)
 
 -- ---- lists of a client

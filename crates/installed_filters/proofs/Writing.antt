@@ -1,9 +1,8 @@
 -- The rows of lists after an entry that writes or takes away some.
-use Rattle.std.proofs.Common.{◌≡◌, ℕ, Bool, true, false, cond, not, ◌&&◌, ◌||◌, List, [], ◌∷◌, ◌++◌, map, filter, Option, Some, None, inl, inr, refl, sym, ap, ◌∙◌, append-nil, append_assoc}
+use Rattle.std.proofs.Common.{◌≡◌, ℕ, Bool, true, false, cond, not, ◌&&◌, ◌||◌, List, [], ◌∷◌, ◌++◌, filter, Option, Some, None, inl, inr, refl, sym, ap, ◌∙◌, append-nil, append_assoc}
 use Rattle.std.specs.Prelude.{bytes_eq, ◌==◌, option_to_list, option_map}
 use Rattle.std.specs.List.{list_any}
-use Rattle.std.proofs.lemmas.Bool.{false≢true, true≢false, both_ways, cond_both, cond-true, cond-false, cases_Bool, and_parts, and_from, and_left}
-use Rattle.std.proofs.lemmas.List.Elements.{filter-append}
+use Rattle.std.proofs.lemmas.Bool.{false≢true, both_ways, cond_both, cond-true, cond-false, cases_Bool, and_from, and_right}
 use Rattle.std.proofs.lemmas.Option.{none-some, same_Some}
 use Rattle.std.proofs.lemmas.Slice.Eq.{bytes_eq-Decides}
 use Rattle.acl_lists.specs.declared.acl.Acl.{Acl}
@@ -12,32 +11,34 @@ use Rattle.filter_table.specs.TableRows.{is_of_client}
 use Rattle.dots_history.specs.declared.entry.Entry.{Entry}
 use Rattle.dots_history.specs.declared.change.Change.{Change}
 use Rattle.dots_history.specs.declared.change.Change.TheVariants as change
-use Rattle.dots_history.specs.Entries.{same_client, is_held, undoes, undoes_of_client, undoes_of_peer, undoes_acl}
+use Rattle.dots_history.specs.Entries.{same_client, is_held, undoes, undoes_of_client, undoes_of_peer, undoes_acl, undoes_loss, reconfigures, resumes, is_lost, is_loss}
 use Rattle.dots_history.specs.Rows.{acl_of}
 use Rattle.dots_laws.specs.Tables.{Client, client_of, is_of}
 use Rattle.dots_laws.specs.Views.{held_with}
 use Rattle.dots_laws.proofs.Members.{In, any_of}
-use Rattle.dots_laws.proofs.Single.{of_itself, client_is_of}
+use Rattle.dots_laws.proofs.Single.{of_itself}
 use Rattle.held_resources.specs.Held.{acls_of, written}
-use Rattle.held_resources.proofs.Written.{undone_is, other_way}
+use Rattle.held_resources.proofs.Written.{other_way}
 use Rattle.installed_filters.specs.Filters.{acl_row_by, is_named_row, acls_by}
-use Rattle.installed_filters.proofs.Sieving.{filter_all, any_by}
+use Rattle.installed_filters.proofs.Sieving.{filter_all}
 use Rattle.installed_filters.proofs.Waking.{acls_by_client}
 
 -- ---- what a list is to a later entry
 
-acl_agrees : (c : Change) (a : Acl) (later : Change) → acl_of c ≡ Some a → (undoes_of_client c later ≡ undoes_acl a.name later) × (undoes_of_peer c later ≡ false)
-unfolding undoes_of_client undoes_of_peer
-acl_agrees (change.SetAcl acl) a later is = (ap (λ (x : Acl). undoes_acl x.name later) (same_Some acl a is), refl)
-acl_agrees _ a later is = absurd (none-some a is)
+acl_undone : (c : Change) (a : Acl) (later : Change) → acl_of c ≡ Some a → undoes_of_client c later ≡ undoes_acl a.name later
+unfolding undoes_of_client
+acl_undone (change.SetAcl acl) a later is = ap (λ (x : Acl). undoes_acl x.name later) (same_Some acl a is)
+acl_undone _ a later is = absurd (none-some a is)
+
+acl_of_client : (c : Change) (a : Acl) (later : Change) → acl_of c ≡ Some a → (undoes_of_peer c later ≡ false) × (undoes_loss c later ≡ false)
+unfolding undoes_of_peer undoes_loss is_lost
+acl_of_client (change.SetAcl acl) a later is = (refl, refl)
+acl_of_client _ a later is = absurd (none-some a is)
 
 acl_held : (c : Change) (a : Acl) → acl_of c ≡ Some a → is_held c ≡ true
 unfolding is_held
 acl_held (change.SetAcl acl) a is = refl
 acl_held _ a is = absurd (none-some a is)
-
-abbrev acl_undone : Acl → Change → Bool
-acl_undone a later = undoes_acl a.name later
 
 -- the row is of the entry's client, and the change takes its list away
 abbrev taken : Entry → Change → AclRow → Bool
@@ -47,9 +48,29 @@ client_is : (e x : Entry) → is_of (client_of x) e ≡ is_of_client e.domain e.
 unfolding is_of
 client_is e x = refl
 
+client_same : (e x : Entry) → same_client x e ≡ is_of_client e.domain e.cuid x.domain x.cuid
+client_same e x = of_itself x e ∙ client_is e x
+
 undone_list : (e x : Entry) (a : Acl) (active : Bool) → acl_of x.change ≡ Some a → undoes x e ≡ taken e e.change (acl_row_by active x a)
+unfolding undoes reconfigures resumes
 undone_list e x a active is =
-    undone_is acl_of acl_undone acl_agrees acl_held (client_of x) x e a (client_is_of x) is ∙ ap (λ b. b && undoes_acl a.name e.change) (client_is e x)
+    let alone = acl_of_client x.change a e.change is in
+    ap
+    (λ b. (same_client x e && undoes_of_client x.change e.change) || (b || ((x.peer == e.peer) && ((x.domain == e.domain) && undoes_loss x.change e.change))))
+    (and_right (x.peer == e.peer) (undoes_of_peer x.change e.change) alone.0)
+    ∙ ap
+    (λ b. (same_client x e && undoes_of_client x.change e.change) || (false || b))
+    (and_right
+    (x.peer == e.peer)
+    ((x.domain == e.domain) && undoes_loss x.change e.change)
+    (and_right (x.domain == e.domain) (undoes_loss x.change e.change) alone.1))
+    ∙ or_none (same_client x e && undoes_of_client x.change e.change)
+    ∙ ap (λ b. same_client x e && b) (acl_undone x.change a e.change is)
+    ∙ ap (λ b. b && undoes_acl a.name e.change) (client_same e x)
+  where
+    or_none : (b : Bool) → (b || (false || false)) ≡ b
+    or_none true = refl
+    or_none false = refl
 
 lists_left : (f : Entry → Bool) (e : Entry) (xs : List Entry)
     → acls_by_client f (filter (λ x. not (undoes x e)) xs) ≡ filter (λ row. not (taken e e.change row)) (acls_by_client f xs)
@@ -215,27 +236,13 @@ by_change f e es (change.DropAcl name) = sym (append-nil (filter (λ row. not (t
 by_change f e es change.Deregister =
     all_named f e es es (λ x there. there)
     ∙ sym (append-nil (filter (λ row. not (is_of_client e.domain e.cuid row.domain row.cuid && true)) (acls_by_client f es)))
-by_change f e es (change.Put put) = not_taken e (acls_by_client f es)
-by_change f e es (change.Withdraw mid) = not_taken e (acls_by_client f es)
-by_change f e es (change.SetAlias alias) = not_taken e (acls_by_client f es)
-by_change f e es (change.DropAlias name) = not_taken e (acls_by_client f es)
-by_change f e es change.Register = not_taken e (acls_by_client f es)
-by_change f e es (change.SetConfig sid config) = not_taken e (acls_by_client f es)
-by_change f e es change.ClearConfig = not_taken e (acls_by_client f es)
+by_change f e es _ = not_taken e (acls_by_client f es)
 
 -- whether its client mitigates matters to an entry that writes a list alone
 by_mitigating : (a b : Bool) (acls : List Acl) (e : Entry) (c : Change) (rows : List AclRow) → ((acl : Acl) → acl_of c ≡ Some acl → a ≡ b)
     → acls_by a acls e c rows ≡ acls_by b acls e c rows
 by_mitigating a b acls e (change.SetAcl acl) rows same = ap (λ m. acls_by m acls e (change.SetAcl acl) rows) (same acl refl)
-by_mitigating a b acls e (change.DropAcl name) rows same = refl
-by_mitigating a b acls e change.Deregister rows same = refl
-by_mitigating a b acls e (change.Put put) rows same = refl
-by_mitigating a b acls e (change.Withdraw mid) rows same = refl
-by_mitigating a b acls e (change.SetAlias alias) rows same = refl
-by_mitigating a b acls e (change.DropAlias name) rows same = refl
-by_mitigating a b acls e change.Register rows same = refl
-by_mitigating a b acls e (change.SetConfig sid config) rows same = refl
-by_mitigating a b acls e change.ClearConfig rows same = refl
+by_mitigating a b acls e _ rows same = refl
 
 pub acls_written : (f : Entry → Bool) (mitigating : Bool) (acls : List Acl) (e : Entry) (es : List Entry)
     → ((acl : Acl) → acl_of e.change ≡ Some acl → mitigating ≡ f e) → acls ≡ acls_of (client_of e) es
@@ -245,3 +252,28 @@ acls_written f mitigating acls e es same are =
     ∙ ap (λ given. acls_by (f e) given e e.change (acls_by_client f es)) are
     ∙ by_change f e es e.change
     ∙ sym (lists_with f e es)
+
+-- what says that a signal is lost or back says nothing of lists
+loss_lists : (mitigating : Bool) (acls : List Acl) (e : Entry) (c : Change) (rows : List AclRow) → is_loss c ≡ true → acls_by mitigating acls e c rows ≡ rows
+unfolding is_loss
+loss_lists mitigating acls e change.Lost rows is = refl
+loss_lists mitigating acls e change.Back rows is = refl
+loss_lists mitigating acls e _ rows is = absurd (false≢true is)
+
+loss_lists_none : (c : Change) → is_loss c ≡ true → acl_of c ≡ None
+unfolding is_loss
+loss_lists_none change.Lost is = refl
+loss_lists_none change.Back is = refl
+loss_lists_none _ is = absurd (false≢true is)
+
+pub acls_lost : (f : Entry → Bool) (e : Entry) (es : List Entry) → is_loss e.change ≡ true → acls_by_client f (held_with e es) ≡ acls_by_client f es
+acls_lost f e es is =
+    sym (acls_written
+    f
+    false
+    (acls_of (client_of e) es)
+    e
+    es
+    (λ acl some. absurd (none-some acl (sym (loss_lists_none e.change is) ∙ some)))
+    refl)
+    ∙ loss_lists false (acls_of (client_of e) es) e e.change (acls_by_client f es) is

@@ -1,5 +1,5 @@
 -- The rows that filter, in their order, and what each call makes of them.
-use Rattle.std.specs.Prelude.{◌≡◌, option_map, ℕ, ◌<◌, ◌≤◌, ◌^◌, Bool, true, false, not, ◌&&◌, ◌||◌, ◌==◌, bytes_eq, if◌then◌else◌, List, [], ◌∷◌, ◌++◌, map, filter, length, Option, Some, None, option_to_list}
+use Rattle.std.specs.Prelude.{◌≡◌, option_map, ℕ, ◌<◌, ◌≤◌, ◌^◌, Bool, true, false, not, ◌&&◌, ◌||◌, ◌==◌, bytes_eq, if◌then◌else◌, List, [], ◌∷◌, ◌++◌, map, filter, length, Option}
 use Rattle.std.specs.List.{list_any, AllByRecursion}
 use Rattle.acl_lists.specs.declared.acl.Acl.{Acl}
 use Rattle.acl_lists.specs.declared.acl.Activation.{Activation}
@@ -7,7 +7,7 @@ use Rattle.acl_lists.specs.declared.acl.Activation.TheVariants.{WhenMitigating, 
 use Rattle.filter_rows.specs.declared.rows.ScrubRow.{ScrubRow}
 use Rattle.filter_rows.specs.declared.rows.AclRow.{AclRow}
 use Rattle.filter_table.specs.declared.held.HeldAcl.{HeldAcl}
-use Rattle.filter_table.specs.TableRows.{HeldScrub, is_of_client, row_is_of, waits}
+use Rattle.filter_table.specs.TableRows.{HeldScrub, is_of_client, row_is_of, row_set, waits}
 use Rattle.filter_table.specs.Table.{TableValue}
 use Rattle.dots_history.specs.declared.entry.Entry.{Entry}
 use Rattle.ip_scope.specs.Prefix.{PrefixValue}
@@ -15,9 +15,10 @@ use Rattle.dots_history.specs.declared.put.Target.{Target}
 use Rattle.dots_history.specs.declared.change.Change.{Change}
 use Rattle.dots_history.specs.declared.change.Change.TheVariants as change
 use Rattle.dots_history.specs.declared.status.Status.TheVariants.{Open}
-use Rattle.dots_history.specs.Entries.{ends, undoes_acl}
+use Rattle.dots_history.specs.Entries.{ends}
 use Rattle.dots_history.specs.Histories.{Mitigation, live}
-use Rattle.dots_history.specs.Rows.{rows_of, plain_row, mid_of, acl_of}
+use Rattle.dots_history.specs.Rows.{Row, rows_of, triggers, mid_of, acl_of}
+use Rattle.dots_history.specs.Rows as history
 
 -- The rows of mitigations and those of access lists, each in their order, and how many of each there may be.
 pub record FiltersValue : Type 0 where
@@ -35,11 +36,41 @@ abbrev pub with_rows : FiltersValue → List ScrubRow → List AclRow → Filter
 with_rows filters scrubs acls =
     record { scrub_room = filters.scrub_room; acl_room = filters.acl_room; scrubs = scrubs; acls = acls }
 
+-- ---- mitigations that filter
+
+-- The mitigation that an entry puts filters at once, or its peer's signal is lost. The test says of a peer and its domain
+-- whether the signal is (RFC 9132, section 4.4.1: `trigger-mitigation`).
+abbrev pub works_by : (ℕ → ℕ → Bool) → Entry → Bool
+works_by lost put = triggers put.change || lost put.peer put.domain
+
+abbrev pub is_working : (ℕ → ℕ → Bool) → Mitigation → Bool
+is_working lost m = works_by lost m.put
+
+-- it filters only while the signal of this peer is lost
+abbrev pub is_waiting_for : ℕ → Mitigation → Bool
+is_waiting_for peer m = history.waits m.put.change && (m.put.peer == peer)
+
 -- ---- rows of mitigations
 
--- the rows of the mitigation that an entry puts
+-- the row of a prefix of a mitigation, active or not
+abbrev pub scrub_row_with : Bool → Row → ScrubRow
+scrub_row_with active row = record {
+  domain = row.put.domain;
+  cuid = row.put.cuid;
+  mid = mid_of row.put.change;
+  prefix = row.prefix;
+  ports = row.target.ports;
+  protocols = row.target.protocols;
+  active = active;
+}
+
+-- the rows of the mitigation that an entry puts, all active or all not
+abbrev pub rows_with : Bool → Entry → List ScrubRow
+rows_with active e = map (scrub_row_with active) (rows_of e)
+
+-- the same as they are made for it: not active yet
 abbrev pub rows_put : Entry → List ScrubRow
-rows_put e = map plain_row (rows_of e)
+rows_put e = rows_with false e
 
 -- the row is one of this mitigation of the domain
 abbrev pub is_row_of : ℕ → Mitigation → ScrubRow → Bool
@@ -52,6 +83,10 @@ scrubs_without_one domain cuid mid rows = filter (λ row. not (row_is_of domain 
 -- but for the rows of those of the domain's mitigations that don't stay
 abbrev pub scrubs_without : ℕ → (Mitigation → Bool) → List Mitigation → List ScrubRow → List ScrubRow
 scrubs_without domain stays ms rows = filter (λ row. not (list_any (λ m. not (stays m) && is_row_of domain m row) ms)) rows
+
+-- a row of one of the domain's mitigations that pass is active or not, as said; another is as it was
+abbrev pub woken_row : ℕ → (Mitigation → Bool) → Bool → List Mitigation → ScrubRow → ScrubRow
+woken_row domain passes active ms row = if list_any (λ m. passes m && is_row_of domain m row) ms then row_set active row else row
 
 -- it is live at this time
 abbrev pub lives_at : ℕ → Mitigation → Bool
@@ -75,15 +110,12 @@ activated_row domain cuid active row =
 abbrev pub some_of : (Mitigation → Bool) → List ℕ → List Mitigation → Bool
 some_of passes cuid ms = list_any (λ m. passes m && bytes_eq m.put.cuid cuid) ms
 
-abbrev pub everyone : Mitigation → Bool
-everyone m = true
-
--- A row of a client one of whose mitigations among these doesn't stay: where its list is active while the client mitigates, it
--- is so while another one, of all of the domain, stays. Any other row is as it was.
-abbrev pub settled_row : ℕ → (Mitigation → Bool) → List Mitigation → List Mitigation → AclRow → AclRow
-settled_row domain stays all ms row =
-    if ((row.domain == domain) && some_of (λ m. not (stays m)) row.cuid ms) && waits row.acl.activation
-    then acl_switched (some_of stays row.cuid all) row
+-- A row of a client that has one of these mitigations which changes: where its list is active while the client mitigates, it is so
+-- where one of the client's, among all of the domain, passes. Any other row is as it was.
+abbrev pub settled_row : ℕ → (Mitigation → Bool) → (Mitigation → Bool) → List Mitigation → List Mitigation → AclRow → AclRow
+settled_row domain changes passes all ms row =
+    if ((row.domain == domain) && some_of changes row.cuid ms) && waits row.acl.activation
+    then acl_switched (some_of passes row.cuid all) row
     else row
 
 -- but for the list of this client of this name
@@ -112,25 +144,55 @@ acl_row_by mitigating e acl = acl_row_with (active_by mitigating acl.activation)
 
 -- ---- what each call makes of them
 
--- the mitigations of the domain that aren't live by now go
-abbrev pub filters_at : ℕ → ℕ → List Mitigation → FiltersValue → FiltersValue
-filters_at domain now ms filters =
-    with_rows filters (scrubs_without domain (lives_at now) ms filters.scrubs) (map (settled_row domain (lives_at now) ms ms) filters.acls)
+-- it isn't live at this time
+abbrev pub is_over : ℕ → Mitigation → Bool
+is_over now m = not (lives_at now m)
+
+-- it is live at this time, and filters
+abbrev pub works_at : (ℕ → ℕ → Bool) → ℕ → Mitigation → Bool
+works_at lost now m = lives_at now m && is_working lost m
+
+-- The mitigations of the domain that aren't live by now go. A client that had one of them mitigates where one that is left of it
+-- filters.
+abbrev pub filters_at : (ℕ → ℕ → Bool) → ℕ → ℕ → List Mitigation → FiltersValue → FiltersValue
+filters_at lost domain now ms filters =
+    with_rows
+    filters
+    (scrubs_without domain (lives_at now) ms filters.scrubs)
+    (map (settled_row domain (is_over now) (works_at lost now) ms ms) filters.acls)
 
 abbrev pub lives_at_once : Entry → Bool
 lives_at_once e = live e.time e Open
 
-abbrev pub own_rows : Entry → List ScrubRow
-own_rows e = if lives_at_once e then rows_put e else []
+-- the rows that an entry has installed: those of its mitigation, where it is live at once, active where it filters
+abbrev pub own_rows : (ℕ → ℕ → Bool) → Entry → List ScrubRow
+own_rows lost e = if lives_at_once e then rows_with (works_by lost e) e else []
+
+-- the entry puts a mitigation that filters at the entry's time
+abbrev pub works_at_once : (ℕ → ℕ → Bool) → Entry → Bool
+works_at_once lost e = lives_at_once e && works_by lost e
+
+-- the entry doesn't end it, and it filters
+abbrev pub works_beside : (ℕ → ℕ → Bool) → Entry → Mitigation → Bool
+works_beside lost e m = stays_beside e m && is_working lost m
 
 -- Of the mitigations of its domain those go that the entry ends; its own rows come last, where it is live at once; and its
--- client mitigates where it is, or another one of the client stays.
-abbrev pub filters_put : Entry → List Mitigation → FiltersValue → FiltersValue
-filters_put e ms filters =
+-- client mitigates where it filters, or another one of the client that stays.
+abbrev pub filters_put : (ℕ → ℕ → Bool) → Entry → List Mitigation → FiltersValue → FiltersValue
+filters_put lost e ms filters =
     with_rows
     filters
-    (scrubs_without e.domain (stays_beside e) ms filters.scrubs ++ own_rows e)
-    (map (activated_row e.domain e.cuid (lives_at_once e || some_of (stays_beside e) e.cuid ms)) filters.acls)
+    (scrubs_without e.domain (stays_beside e) ms filters.scrubs ++ own_rows lost e)
+    (map (activated_row e.domain e.cuid (works_at_once lost e || some_of (works_beside lost e) e.cuid ms)) filters.acls)
+
+-- The signal of a peer of the domain is lost or back, as the test says now. The rows of the domain's mitigations that wait for it
+-- are active where it is lost, and a client that has one of these mitigates where one of its mitigations filters.
+abbrev pub filters_lost : (ℕ → ℕ → Bool) → ℕ → ℕ → List Mitigation → FiltersValue → FiltersValue
+filters_lost lost peer domain ms filters =
+    with_rows
+    filters
+    (map (woken_row domain (is_waiting_for peer) (lost peer domain) ms) filters.scrubs)
+    (map (settled_row domain (is_waiting_for peer) (is_working lost) ms ms) filters.acls)
 
 -- What an entry makes of the rows of lists: those of its client that it takes away go, and that which it writes comes last.
 -- `acls` are the lists that its client has.
@@ -146,9 +208,10 @@ filters_written mitigating acls e filters =
 
 -- ---- copies that an entry needs
 
--- a row for each prefix of a target
+-- a row for each prefix of a target, which isn't active yet
 abbrev pub rows_of_target : Entry → Target → List ScrubRow
-rows_of_target e target = map (λ (prefix : PrefixValue). plain_row (record { put = e; target = target; prefix = prefix })) target.prefixes
+rows_of_target e target =
+    map (λ (prefix : PrefixValue). scrub_row_with false (record { put = e; target = target; prefix = prefix })) target.prefixes
 
 -- the row of the list that it writes, which isn't active yet
 abbrev pub list_put : Entry → Option AclRow

@@ -1,5 +1,5 @@
 -- When the rows are those that a history comes to at a time.
-use Rattle.std.specs.Prelude.{◌≡◌, ℕ, ◌*◌, ◌≤◌, Bool, true, ◌&&◌, ◌==◌, nat_le, List, length}
+use Rattle.std.specs.Prelude.{◌≡◌, ℕ, ◌*◌, ◌≤◌, Bool, true, ◌&&◌, ◌==◌, nat_le, List}
 use Rattle.acl_lists.specs.declared.limits.TheConstants.{MAX_RESOLVED}
 use Rattle.std.specs.List.{list_all}
 use Rattle.dots_settings.specs.declared.limits.Limits.{Limits}

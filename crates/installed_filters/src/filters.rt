@@ -3,6 +3,7 @@
 ghost use Rattle.std.specs.Prelude.{◌≡◌, ◌*◌, ◌≤◌, ◌<◌, ◌^◌, ◌++◌, ◌∷◌, ℕ, [], map, length, IfOk};
 ghost use Rattle.dots_settings.specs.Settings.{SettingsValue};
 ghost use Rattle.installed_filters.specs.Filters.{FiltersValue, with_rows, scrubs_without_one, acls_without, activated_row, filters_of};
+ghost use Rattle.filter_table.specs.TableRows.{row_woken};
 ghost use Rattle.installed_filters.specs.HistoryRows.{Represents, HasRoom};
 
 use crate::placing::fresh_place;
@@ -74,6 +75,14 @@ impl InstalledFilters {
         ensures { self.new ≡ with_rows self.old (scrubs_without_one domain cuid.now mid self.old.scrubs) self.old.acls }
     {
         self.table.remove(domain, cuid, mid);
+    }
+
+    /// Says of each row of this mitigation whether it is active.
+    #[tactic(auto, using(crate::proofs::Places::woken_rows, crate::proofs::Places::woken_placed))]
+    pub(crate) fn wake(&mut self, domain: u16, cuid: &[u8], mid: u32, active: bool)
+        ensures { self.new ≡ with_rows self.old (map (row_woken domain cuid.now mid active) self.old.scrubs) self.old.acls }
+    {
+        self.table.wake(domain, cuid, mid, active);
     }
 
     /// Puts the row of an access list behind the others, and takes that of the same client and name out.

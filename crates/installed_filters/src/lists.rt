@@ -11,8 +11,8 @@ use filter_rows::AclRow;
 
 impl InstalledFilters {
     /// For an entry that puts no mitigation: the rows of the lists go that it takes away, and that of the list that it writes,
-    /// which is given, comes last. `mitigating` says whether its client has a live mitigation; `acls` are the lists that its
-    /// client has before the entry.
+    /// which is given, comes last. `mitigating` says whether its client has a live mitigation that filters; `acls` are the
+    /// lists that its client has before the entry.
     #[tactic(auto, using(crate::proofs::Changes::written_list, crate::proofs::Changes::list_fits, crate::proofs::Changes::no_list))]
     pub fn write(&mut self, entry: &Entry, list: Option<AclRow>, mitigating: bool, acls: &[Acl])
         requires staged { list ≡ list_put entry.now }
@@ -44,14 +44,7 @@ impl InstalledFilters {
         match &entry.change {
             Change::DropAcl { name } => self.drop_acl(entry.domain, entry.cuid.bytes(), name),
             Change::Deregister => self.drop_all(entry.domain, entry.cuid.bytes(), acls),
-            Change::Put(_)
-            | Change::Withdraw { .. }
-            | Change::SetAlias(_)
-            | Change::DropAlias { .. }
-            | Change::SetAcl(_)
-            | Change::Register
-            | Change::SetConfig { .. }
-            | Change::ClearConfig => {}
+            _ => {}
         }
     }
 

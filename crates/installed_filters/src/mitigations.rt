@@ -2,21 +2,26 @@
 
 ghost use Rattle.std.specs.Prelude.{◌≡◌, ◌≤◌, ◌++◌, ◌∷◌, ◌+◌, [], map, length};
 ghost use Rattle.std.specs.List.{list_any};
-ghost use Rattle.installed_filters.specs.Filters.{with_rows, rows_put, own_rows, scrubs_without, lives_at, stays_beside, some_of, settled_row, filters_at, filters_put, everyone};
+ghost use Rattle.filter_table.specs.TableRows.{row_set};
+ghost use Rattle.held_resources.specs.Tables.{lost_in};
+ghost use Rattle.installed_filters.specs.Filters.{with_rows, rows_put, own_rows, scrubs_without, lives_at, is_over, works_at, stays_beside, works_beside, works_at_once, some_of, settled_row, filters_at, filters_put};
 
 use crate::filters::InstalledFilters;
+use crate::working::{is_working, works};
 use dots_history::{Entry, Status, is_live};
 use filter_rows::ScrubRow;
+use held_resources::HeldResources;
 use live_mitigations::Row;
 
 impl InstalledFilters {
     /// Of the mitigations of a domain, which are given, the rows of those go that are over by this time. The lists of a client
-    /// that are active while it mitigates are so while one of its mitigations is live at this time.
-    pub fn retain_live(&mut self, domain: u16, rows: &[Row], now: u64)
-        ensures { self.new ≡ filters_at domain now rows.now self.old }
+    /// that are active while it mitigates are so while one of its mitigations is live at this time and filters; what is held
+    /// says whose signal is lost.
+    pub fn retain_live(&mut self, domain: u16, rows: &[Row], now: u64, held: &HeldResources)
+        ensures { self.new ≡ filters_at (lost_in held.now) domain now rows.now self.old }
     {
         self.remove_over(domain, rows, now);
-        self.settle(domain, rows, now);
+        self.settle_over(domain, rows, now, held);
     }
 
     #[tactic(auto, using(crate::proofs::Steps::sweep_step, crate::proofs::Steps::sweep_end))]
@@ -38,36 +43,46 @@ impl InstalledFilters {
     }
 
     #[tactic(auto, using(crate::proofs::Steps::settle_step, crate::proofs::Steps::settle_end))]
-    fn settle(&mut self, domain: u16, rows: &[Row], now: u64)
-        ensures { self.new ≡ with_rows self.old self.old.scrubs (map (settled_row domain (lives_at now) rows.now rows.now) self.old.acls) }
+    fn settle_over(&mut self, domain: u16, rows: &[Row], now: u64, held: &HeldResources)
+        ensures { self.new ≡ with_rows self.old self.old.scrubs
+            (map (settled_row domain (is_over now) (works_at (lost_in held.now) now) rows.now rows.now) self.old.acls) }
     {
         for row in rows {
-            self.settle_if_over(domain, row, rows, now);
+            self.settle_if_over(domain, row, rows, now, held);
         }
     }
 
     /// Settles the lists of the client of a mitigation that is over.
     #[tactic(auto, using(crate::proofs::Steps::settle_one, crate::proofs::Steps::settle_kept))]
-    fn settle_if_over(&mut self, domain: u16, row: &Row, rows: &[Row], now: u64)
-        ensures { self.new ≡ with_rows self.old self.old.scrubs (map (settled_row domain (lives_at now) rows.now (row.now ∷ [])) self.old.acls) }
+    fn settle_if_over(
+        &mut self,
+        domain: u16,
+        row: &Row,
+        rows: &[Row],
+        now: u64,
+        held: &HeldResources,
+    )
+        ensures { self.new ≡ with_rows self.old self.old.scrubs
+            (map (settled_row domain (is_over now) (works_at (lost_in held.now) now) rows.now (row.now ∷ [])) self.old.acls) }
     {
         if !row.is_live(now) {
             let cuid = row.cuid().bytes();
-            self.activate(domain, cuid, has_live(rows, cuid, now));
+            self.activate(domain, cuid, has_working(rows, cuid, now, held));
         }
     }
 
     /// For an entry that puts a mitigation: of the mitigations of its domain, which are given, the rows of those go that it
-    /// ends; its own rows, which are given too, come last, where it is live at once; and the lists of its client that are
-    /// active while it mitigates are so where one of its mitigations is live.
-    pub fn put(&mut self, entry: &Entry, own: Vec<ScrubRow>, rows: &[Row])
+    /// ends; its own rows, which are given too, come last, where it is live at once, and are active where it filters; and the
+    /// lists of its client that are active while it mitigates are so where one of its mitigations is live and filters. What
+    /// is held says whose signal is lost.
+    pub fn put(&mut self, entry: &Entry, own: Vec<ScrubRow>, rows: &[Row], held: &HeldResources)
         requires staged { own.items ≡ rows_put entry.now }
-        requires room { length (filters_put entry.now rows.now self.old).scrubs ≤ self.old.scrub_room }
-        ensures { self.new ≡ filters_put entry.now rows.now self.old }
+        requires room { length (filters_put (lost_in held.now) entry.now rows.now self.old).scrubs ≤ self.old.scrub_room }
+        ensures { self.new ≡ filters_put (lost_in held.now) entry.now rows.now self.old }
     {
         self.remove_ended(rows, entry);
-        self.install_own(entry, own);
-        let mitigates = is_live(entry.time, entry, Status::Open) || has_left(rows, entry);
+        self.install_own(entry, own, held);
+        let mitigates = works_at_once(entry, held) || has_left(rows, entry, held);
         self.activate(entry.domain, entry.cuid.bytes(), mitigates);
     }
 
@@ -89,45 +104,48 @@ impl InstalledFilters {
         }
     }
 
-    /// Installs the rows of the mitigation that an entry puts, where it is live at once.
-    fn install_own(&mut self, entry: &Entry, own: Vec<ScrubRow>)
+    /// Installs the rows of the mitigation that an entry puts, where it is live at once. They are active where it filters.
+    fn install_own(&mut self, entry: &Entry, own: Vec<ScrubRow>, held: &HeldResources)
         requires staged { own.items ≡ rows_put entry.now }
-        requires room { length (self.old.scrubs ++ own_rows entry.now) ≤ self.old.scrub_room }
-        ensures { self.new ≡ with_rows self.old (self.old.scrubs ++ own_rows entry.now) self.old.acls }
+        requires room { length (self.old.scrubs ++ own_rows (lost_in held.now) entry.now) ≤ self.old.scrub_room }
+        ensures { self.new ≡ with_rows self.old (self.old.scrubs ++ own_rows (lost_in held.now) entry.now) self.old.acls }
     {
         if is_live(entry.time, entry, Status::Open) {
-            self.install_all(own);
+            self.install_all(own, works(entry, held));
         }
     }
 
-    fn install_all(&mut self, own: Vec<ScrubRow>)
+    /// Installs these rows, and says of each whether it is active.
+    fn install_all(&mut self, own: Vec<ScrubRow>, active: bool)
         requires { length self.old.scrubs + length own.items ≤ self.old.scrub_room }
-        ensures { self.new ≡ with_rows self.old (self.old.scrubs ++ own.items) self.old.acls }
+        ensures { self.new ≡ with_rows self.old (self.old.scrubs ++ map (row_set active) own.items) self.old.acls }
     {
-        for row in own {
+        for mut row in own {
+            row.active = active;
             self.install(row);
         }
     }
 }
 
-/// Whether a client of this name has a mitigation, among those of its domain.
-pub fn is_mitigating(rows: &[Row], cuid: &[u8]) -> bool
-    ensures { result ≡ some_of everyone cuid.now rows.now }
+/// Whether a client of this name has one that is live at this time and filters.
+fn has_working(rows: &[Row], cuid: &[u8], now: u64, held: &HeldResources) -> bool
+    ensures { result ≡ some_of (works_at (lost_in held.now) now) cuid.now rows.now }
 {
-    rows.iter().any(|row| row.cuid().bytes() == cuid)
+    rows.iter().any(|row| row.is_live(now) && is_working(row, held) && row.cuid().bytes() == cuid)
 }
 
-/// Whether a client of this name has one that is live at this time.
-fn has_live(rows: &[Row], cuid: &[u8], now: u64) -> bool
-    ensures { result ≡ some_of (lives_at now) cuid.now rows.now }
+/// Whether the entry's client has one that the entry doesn't end, and that filters.
+fn has_left(rows: &[Row], entry: &Entry, held: &HeldResources) -> bool
+    ensures { result ≡ some_of (works_beside (lost_in held.now) entry.now) entry.now.cuid rows.now }
 {
-    rows.iter()
-        .any(|row| row.is_live(now) && row.cuid().bytes() == cuid)
+    rows.iter().any(|row| {
+        !row.is_ended_by(entry) && is_working(row, held) && row.cuid().bytes() == entry.cuid.bytes()
+    })
 }
 
-/// Whether the entry's client has one that the entry doesn't end.
-fn has_left(rows: &[Row], entry: &Entry) -> bool
-    ensures { result ≡ some_of (stays_beside entry.now) entry.now.cuid rows.now }
+/// Whether the mitigation that an entry puts is live at once, and filters.
+fn works_at_once(entry: &Entry, held: &HeldResources) -> bool
+    ensures { result ≡ works_at_once (lost_in held.now) entry.now }
 {
-    rows.iter().any(|row| !row.is_ended_by(entry) && row.cuid().bytes() == entry.cuid.bytes())
+    is_live(entry.time, entry, Status::Open) && works(entry, held)
 }

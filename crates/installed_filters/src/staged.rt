@@ -1,9 +1,9 @@
 //! An entry with the copies that its rows need.
 
 ghost use Rattle.std.specs.Prelude.{◌≡◌, ◌++◌, ℕ, true, false, map, option_map, IfOk, OnOk, OnErr};
-ghost use Rattle.dots_history.specs.Rows.{acl_of, mid_of, targets_of, plain_row};
+ghost use Rattle.dots_history.specs.Rows.{acl_of, mid_of, targets_of};
 ghost use Rattle.dots_history.specs.declared.change.Change.TheVariants as change;
-ghost use Rattle.installed_filters.specs.Filters.{rows_put, rows_of_target, list_put, acl_row_with, needs_rows};
+ghost use Rattle.installed_filters.specs.Filters.{rows_put, rows_of_target, scrub_row_with, list_put, acl_row_with, needs_rows};
 
 use acl_lists::Acl;
 use dots_history::{Change, Entry, Put, Target};
@@ -111,6 +111,7 @@ fn push_rows(
     Ok(())
 }
 
+/// A row that isn't active yet.
 fn row_of_prefix(
     entry: &Entry,
     mid: u32,
@@ -118,7 +119,7 @@ fn row_of_prefix(
     prefix: Prefix,
 ) -> Result<ScrubRow, NoMemory>
     requires { mid ≡ mid_of entry.now.change }
-    ensures { IfOk result (λ row. row ≡ plain_row (record { put = entry.now; target = target.now; prefix = prefix })) }
+    ensures { IfOk result (λ row. row ≡ scrub_row_with false (record { put = entry.now; target = target.now; prefix = prefix })) }
 {
     Ok(ScrubRow {
         domain: entry.domain,
@@ -127,7 +128,7 @@ fn row_of_prefix(
         prefix,
         ports: target.ports.copy()?,
         protocols: target.protocols.copy()?,
-        active: true,
+        active: false,
     })
 }
 

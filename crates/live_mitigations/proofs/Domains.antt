@@ -1,14 +1,14 @@
 -- The slots of all domains are those of the history.
-use Rattle.std.proofs.Common.{◌≡◌, ◌⊎◌, ℕ, ◌<◌, zero, suc, Bool, true, false, cond, ◌&&◌, ◌||◌, List, [], ◌∷◌, ◌++◌, length, map, Option, Some, None, inl, inr, refl, sym, ap, subst, ◌∙◌, arith}
-use Rattle.std.specs.Prelude.{◌==◌, slice_get, option_to_list, not, nat_lt}
-use Rattle.std.specs.List.{list_any, list_all}
-use Rattle.std.proofs.lemmas.Bool.{false≢true, cases_Bool, cond-true, cond-false, cond_both, and_left, and_right, or_left, or_right, eq-eqb, eqb-true, ltb-true, and_parts, both_ways}
+use Rattle.std.proofs.Common.{◌≡◌, ◌⊎◌, ℕ, ◌<◌, zero, suc, Bool, true, false, cond, ◌&&◌, ◌||◌, List, [], ◌∷◌, ◌++◌, length, map, Option, Some, None, inl, inr, refl, sym, ap, ◌∙◌, arith}
+use Rattle.std.specs.Prelude.{◌==◌, option_to_list, not, nat_lt}
+use Rattle.std.specs.List.{list_all}
+use Rattle.std.proofs.lemmas.Bool.{false≢true, cond-true, cond_both, and_left, and_right, or_left, or_right, eq-eqb, ltb-true, and_parts}
 use Rattle.dots_history.specs.declared.entry.Entry.{Entry}
 use Rattle.dots_history.specs.declared.put.Put.{Put}
 use Rattle.dots_history.specs.declared.status.Status.{Status}
-use Rattle.dots_history.specs.declared.status.Status.TheVariants.{Ended, Open, Withdrawn}
+use Rattle.dots_history.specs.declared.status.Status.TheVariants.{Open}
 use Rattle.dots_history.specs.Entries.{ends, withdraws, same_client, put_of, option_any}
-use Rattle.dots_history.specs.Histories.{live, status, step, alone}
+use Rattle.dots_history.specs.Histories.{live, status, step}
 use Rattle.dots_history.specs.Keeping.{is_open}
 use Rattle.dots_history.specs.Slots.{Rises}
 use Rattle.dots_laws.specs.KeptPlaces.{at_places, union, live_places, withdrawal_places}
@@ -18,7 +18,7 @@ use Rattle.live_mitigations.specs.LiveValues.{is_inside, filed_alone, SlotsAre}
 use Rattle.live_mitigations.specs.declared.slots.MitigationSlots.{MitigationSlots}
 use Rattle.dots_laws.specs.Filed.{Filed, entry_of, slot_of}
 use Rattle.live_mitigations.specs.Slots.{withdrawal_in, slots_by, live_slots}
-use Rattle.live_mitigations.specs.Rows.{LiveTable, slots_or_none, slots_of}
+use Rattle.live_mitigations.specs.Rows.{LiveTable, slots_of}
 use Rattle.live_mitigations.specs.Numbers.{numbers_of, numbers_in, all_numbers}
 use Rattle.live_mitigations.proofs.Members.{has, any_append, union_same}
 use Rattle.live_mitigations.proofs.Kept.{named_slots}

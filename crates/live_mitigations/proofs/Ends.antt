@@ -1,8 +1,8 @@
 -- When mitigations are over, as seconds.
-use Rattle.std.proofs.Common.{◌≡◌, ℕ, ◌<◌, ◌≤◌, suc, pos, negsuc, Bool, true, false, cond, not, ◌||◌, List, [], ◌∷◌, filter, length, inl, inr, refl, sym, ap, ◌∙◌, arith}
+use Rattle.std.proofs.Common.{◌≡◌, ℕ, ◌<◌, ◌≤◌, suc, pos, negsuc, true, cond, not, ◌||◌, List, [], ◌∷◌, length, inl, inr, refl, sym, ap, ◌∙◌, arith}
 use Rattle.std.specs.Prelude.{nat_lt, nat_le, min}
 use Rattle.std.specs.List.{list_any}
-use Rattle.std.proofs.lemmas.Bool.{false≢true, cond_both, both_ways, cases_lt, lt-ltb, le-ltb, leb-true, le-leb, lt-leb, or_parts, or_left, or_right, or_from, cases_Bool}
+use Rattle.std.proofs.lemmas.Bool.{false≢true, cond_both, cases_lt, lt-ltb, le-ltb, le-leb, lt-leb}
 use Rattle.dots_history.specs.declared.entry.Entry.{Entry}
 use Rattle.dots_history.specs.declared.status.Status.{Status}
 use Rattle.dots_history.specs.Histories.{Mitigation, live}

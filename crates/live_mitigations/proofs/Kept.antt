@@ -1,9 +1,8 @@
 -- The slots that are kept are those that a view names for its live mitigations.
-use Rattle.std.proofs.Common.{◌≡◌, ◌≢◌, ℕ, ◌+◌, ◌<◌, ◌≤◌, zero, suc, Bool, true, false, cond, ◌&&◌, ◌||◌, List, [], ◌∷◌, ◌++◌, length, map, filter, Option, Some, None, refl, sym, ap, ◌∙◌, inl, inr, arith}
+use Rattle.std.proofs.Common.{◌≡◌, ℕ, ◌+◌, zero, suc, Bool, true, false, cond, ◌&&◌, ◌||◌, List, [], ◌∷◌, ◌++◌, length, map, Option, Some, None, refl, sym, ap, ◌∙◌, arith}
 use Rattle.std.specs.Prelude.{◌==◌, slice_get, option_to_list}
-use Rattle.std.specs.List.{list_any, flat_map}
+use Rattle.std.specs.List.{list_any}
 use Rattle.std.proofs.lemmas.Bool.{cond_both, true≢false}
-use Rattle.std.proofs.lemmas.List.{map-append}
 use Rattle.dots_history.specs.declared.entry.Entry.{Entry}
 use Rattle.dots_history.specs.declared.status.Status.{Status}
 use Rattle.dots_history.specs.declared.status.Status.TheVariants.{Ended, Open, Withdrawn}
@@ -16,8 +15,7 @@ use Rattle.dots_laws.proofs.Keeping.{Keeper}
 use Rattle.live_mitigations.specs.declared.slots.MitigationSlots.{MitigationSlots}
 use Rattle.dots_laws.specs.Filed.{Filed, entry_of, slot_of}
 use Rattle.live_mitigations.specs.Slots.{withdrawal_in, slots_by, live_slots}
-use Rattle.live_mitigations.specs.Rows.{LiveTable}
-use Rattle.live_mitigations.specs.Numbers.{numbers_of, numbers_in, all_numbers}
+use Rattle.live_mitigations.specs.Numbers.{numbers_of, numbers_in}
 use Rattle.live_mitigations.proofs.Members.{has, any_union, any_append, union_same}
 
 or_false : (b : Bool) → (b || false) ≡ b

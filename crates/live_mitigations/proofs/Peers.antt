@@ -1,20 +1,20 @@
 -- Whether a live mitigation of some domain passes a test.
-use Rattle.std.proofs.Common.{◌≡◌, ℕ, ◌<◌, ◌≤◌, zero, suc, Bool, true, false, cond, not, ◌||◌, ◌&&◌, List, [], ◌∷◌, ◌++◌, filter, map, length, Option, Some, None, inl, inr, refl, sym, ap, subst, ◌∙◌, arith}
+use Rattle.std.proofs.Common.{◌≡◌, ℕ, ◌<◌, zero, suc, Bool, true, false, cond, not, ◌||◌, List, [], ◌∷◌, ◌++◌, map, Option, Some, None, inl, inr, refl, sym, ap, ◌∙◌, arith}
 use Rattle.std.specs.Prelude.{slice_get, ◌==◌, nat_lt, option_to_list}
 use Rattle.std.specs.List.{list_any, list_all}
 use Rattle.std.proofs.lemmas.Option.{none-some, slice_get_within}
-use Rattle.std.proofs.lemmas.Bool.{false≢true, true≢false, both_ways, cond_both, cases_Bool, or_cases, or_left, or_right, and_parts, eq-eqb, ltb-true, false_from_ne_true}
+use Rattle.std.proofs.lemmas.Bool.{false≢true, both_ways, cond_both, cases_Bool, or_cases, or_left, or_right, and_parts, eq-eqb, ltb-true}
 use Rattle.dots_history.specs.declared.entry.Entry.{Entry}
 use Rattle.dots_history.specs.declared.put.Put.{Put}
 use Rattle.dots_history.specs.declared.status.Status.TheVariants.{Open}
 use Rattle.dots_history.specs.Entries.{put_of, option_any}
-use Rattle.dots_history.specs.Histories.{Mitigation, live, status, mitigations, alone}
+use Rattle.dots_history.specs.Histories.{Mitigation, live, status, mitigations}
 use Rattle.dots_laws.specs.Tables.{bare, bare_mitigation}
 use Rattle.dots_laws.specs.Views.{mitigations_of}
 use Rattle.dots_laws.proofs.Touching.{never_live}
 use Rattle.dots_laws.proofs.Bare.{bare_mitigations}
 use Rattle.live_mitigations.specs.Rows.{LiveTable, rows_or_none, any_row}
-use Rattle.live_mitigations.specs.LiveValues.{LiveValue, rows_for, puts, is_inside, Represents}
+use Rattle.live_mitigations.specs.LiveValues.{LiveValue, puts, is_inside, Represents}
 use Rattle.live_mitigations.proofs.Updates.{there_within}
 use Rattle.live_mitigations.proofs.Room.{kept_is, of_domain_bare}
 

@@ -1,10 +1,10 @@
 -- The slots that are kept go on to be those of a history.
-use Rattle.std.proofs.Common.{◌≡◌, ◌≢◌, ℕ, ◌<◌, ◌≤◌, ◌+◌, zero, suc, Bool, true, false, cond, not, ◌||◌, List, [], ◌∷◌, ◌++◌, filter, map, length, Option, Some, None, inl, inr, refl, sym, ap, subst, ◌∙◌, arith}
+use Rattle.std.proofs.Common.{◌≡◌, ◌≢◌, ℕ, ◌<◌, ◌≤◌, ◌+◌, suc, Bool, true, false, cond, List, [], ◌∷◌, ◌++◌, map, length, Option, Some, None, inl, inr, refl, sym, ap, subst, ◌∙◌, arith}
 use Rattle.std.specs.Prelude.{◌==◌, slice_get, option_map, option_to_list}
 use Rattle.std.specs.List.{list_any}
 use Rattle.std.proofs.lemmas.List.{length-append, length-map, map-append, append-nil}
 use Rattle.std.proofs.lemmas.List.Elements.{filter-append}
-use Rattle.std.proofs.lemmas.Bool.{cases_eq, cond_both, cond-true, cond-false, eq-eqb, ne_eqb, or_parts, both_ways}
+use Rattle.std.proofs.lemmas.Bool.{cases_eq, cond_both, cond-true, cond-false, eq-eqb, ne_eqb}
 use Rattle.std.proofs.lemmas.Option.{none-some, slice_get-map}
 use Rattle.dots_history.specs.declared.entry.Entry.{Entry}
 use Rattle.dots_history.specs.declared.status.Status.TheVariants.{Open}
@@ -18,8 +18,8 @@ use Rattle.dots_laws.proofs.Endings.{none_due}
 use Rattle.dots_laws.proofs.Touching.{never_live}
 use Rattle.live_mitigations.specs.declared.slots.MitigationSlots.{MitigationSlots}
 use Rattle.live_mitigations.specs.Numbers.{renumbered, table_renumbered, live_renumbered}
-use Rattle.live_mitigations.specs.Rows.{LiveTable, AreEmpty, rows_or_none, rows_at, slots_or_none, slots_of, update, aged, noted, grown, of_entry}
-use Rattle.live_mitigations.specs.Slots.{live_slots, beside, if_live_at, slots_at, slots_moved, slots_left, slots_first}
+use Rattle.live_mitigations.specs.Rows.{LiveTable, AreEmpty, rows_or_none, rows_at, slots_or_none, slots_of, update, aged, noted, of_entry}
+use Rattle.live_mitigations.specs.Slots.{live_slots, slots_at, slots_moved, slots_left, slots_first}
 use Rattle.live_mitigations.specs.LiveValues.{LiveValue, AreTables, Represents, puts, filed_alone, SlotsAre, SlotsCome}
 use Rattle.live_mitigations.proofs.Bared.{bared, bared_entries, are_bared, bared_are, slots_left_bared, slots_first_bared}
 use Rattle.live_mitigations.proofs.Going.{slots_age, slots_add, as_many}

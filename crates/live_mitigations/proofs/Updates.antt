@@ -1,12 +1,12 @@
 -- What a change at one place leaves.
-use Rattle.std.proofs.Common.{◌≡◌, ℕ, ◌<◌, ◌≤◌, ◌+◌, ◌≢◌, zero, suc, List, [], ◌∷◌, ◌++◌, length, get_or, set, Option, Some, None, inl, inr, subst, refl, sym, ap, ◌∙◌, arith}
+use Rattle.std.proofs.Common.{◌≡◌, ℕ, ◌<◌, ◌+◌, ◌≢◌, zero, suc, List, [], ◌∷◌, ◌++◌, length, get_or, set, Option, Some, None, inl, inr, subst, refl, sym, ap, ◌∙◌, arith}
 use Rattle.std.specs.Prelude.{slice_get, option_map, is_some, if◌then◌else◌}
 use Rattle.std.proofs.lemmas.List.{length-append}
 use Rattle.std.proofs.lemmas.Option.{none-some, slice_get_past}
 use Rattle.std.proofs.lemmas.Bool.{cases_eq}
 use Rattle.dots_history.specs.Histories.{Mitigation}
 use Rattle.lifetime_clock.specs.Times.{Times, Updates, IsMap, time_of, count}
-use Rattle.live_mitigations.specs.Ends.{never, first_end}
+use Rattle.live_mitigations.specs.Ends.{first_end}
 use Rattle.live_mitigations.specs.Rows.{LiveTable, AreEmpty, Tied, update, rows_or_none, rows_at, count_rows, due_of}
 
 pub get_updated : {A : Type 0} → (f : A → A) (place : ℕ) (xs : List A) → slice_get (update f place xs) place ≡ option_map f (slice_get xs place)

@@ -1,6 +1,5 @@
 -- A live mitigation, as the rules for a request see it.
-use Rattle.std.specs.Prelude.{ℕ, List, [], map, Option, Some, None}
-use Rattle.acl_lists.specs.declared.asked.Asked.{Asked}
+use Rattle.std.specs.Prelude.{ℕ, true, List, [], map, Option, Some, None}
 use Rattle.dots_history.specs.declared.entry.Entry.{Entry}
 use Rattle.dots_history.specs.declared.put.Put.{Put}
 use Rattle.dots_history.specs.Entries.{put_of}
@@ -12,7 +11,7 @@ use Rattle.conflict_rules.specs.Wanted.{wanted}
 
 -- what asks for nothing
 abbrev pub nothing : Put
-nothing = wanted 0 (record { prefixes = []; ports = []; protocols = []; names = []; aliases = [] }) []
+nothing = wanted 0 (record { prefixes = []; ports = []; protocols = []; names = []; aliases = [] }) [] true
 
 -- The mitigation of an entry. Each live one is one, so `nothing` never comes of it.
 abbrev pub put_or_nothing : Option Put → Put

@@ -1,5 +1,5 @@
 -- What is read of the live mitigations of a client.
-use Rattle.std.specs.Prelude.{ℕ, ℤ, pos, negsuc, Bool, bytes_eq, List, map, filter}
+use Rattle.std.specs.Prelude.{ℕ, ℤ, pos, negsuc, bytes_eq, List, map, filter}
 use Rattle.std.specs.Int.{int_min, int_max}
 use Rattle.dots_history.specs.declared.entry.Entry.{Entry}
 use Rattle.dots_history.specs.declared.put.Put.{Put}

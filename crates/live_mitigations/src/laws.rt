@@ -28,7 +28,8 @@ pub fn what_stands_comes_later()
     ensures { (now : ℕ) (live : LiveValue) (entries : List Entry) → live.time ≤ now → Represents live entries → ComesTo now live entries }
 {}
 
-/// Of what is kept of a domain no two mitigations of a client have one mid, and no two overlap.
+/// Of what is kept of a domain no two mitigations of a client have one mid, and no two of them with one
+/// trigger value overlap.
 pub fn what_is_kept_is_apart()
     ensures mid { (client : Client) (mid domain : ℕ) (live : LiveValue) (entries : List Entry) → domain < live.domains → Represents live entries
         → tally (λ m. is_of client m.put && has_mid mid m.put) (rows_for live domain) ≤ 1 }

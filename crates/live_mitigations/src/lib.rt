@@ -9,7 +9,7 @@
 //!
 //! - Time: while [`LiveMitigations::next_due`] answers a domain, those of its [`LiveMitigations::rows`] that aren't
 //!   [`Row::is_live`] at the new time go; take out what was kept by them, and then call [`LiveMitigations::expire`] for this
-//!   domain. After that a client that has no row left in the domain is no longer mitigating. In the end
+//!   domain. After that a client of which no row that filters is left in the domain is no longer mitigating. In the end
 //!   [`LiveMitigations::tick`] moves the time. Between these calls what is kept `ComesTo` the histories that it stood for,
 //!   and the rows of the other domains are as they were.
 //! - An entry at the time: of a domain's rows those go that [`Row::is_ended_by`] it. A mitigation is handed over with

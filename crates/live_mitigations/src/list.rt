@@ -1,9 +1,10 @@
 //! The live mitigations of one domain.
 
-ghost use Rattle.std.specs.Prelude.{◌≡◌, ◌≤◌, ◌++◌, ◌∷◌, ◌==◌, [], None, length, map, IfOk, vec_capacity};
+ghost use Rattle.std.specs.Prelude.{◌≡◌, ◌≤◌, ◌++◌, ◌∷◌, ◌==◌, ◌&&◌, [], None, length, map, IfOk, vec_capacity};
 ghost use Rattle.std.specs.List.{list_any};
 ghost use Rattle.dots_history.specs.Entries.{put_of};
 ghost use Rattle.dots_history.specs.Keeping.{moved};
+ghost use Rattle.dots_history.specs.Rows.{triggers, waits};
 ghost use Rattle.dots_history.specs.declared.status.Status.TheVariants.{Open};
 ghost use Rattle.dots_laws.specs.Tables.{bare};
 ghost use Rattle.dots_laws.specs.Views.{mitigations_at, mitigations_with};
@@ -63,11 +64,22 @@ impl LiveList {
         self.rows.as_slice()
     }
 
-    /// Whether one of them has this peer.
-    pub fn has_peer(&self, peer: u32) -> bool
-        ensures { result ≡ list_any (λ m. m.put.peer == peer) self.now.rows }
+    /// Whether one of them has this peer and filters at once.
+    pub fn triggers(&self, peer: u32) -> bool
+        ensures { result ≡ list_any (λ m. (m.put.peer == peer) && triggers m.put.change) self.now.rows }
     {
-        self.rows.iter().any(|row| row.peer() == peer)
+        self.rows
+            .iter()
+            .any(|row| row.peer() == peer && row.triggers())
+    }
+
+    /// Whether one of them has this peer and waits for a lost signal.
+    pub fn waits(&self, peer: u32) -> bool
+        ensures { result ≡ list_any (λ m. (m.put.peer == peer) && waits m.put.change) self.now.rows }
+    {
+        self.rows
+            .iter()
+            .any(|row| row.peer() == peer && row.waits())
     }
 
     /// Takes those out that are over.

@@ -1,12 +1,14 @@
 //! The live mitigations of all domains at a time.
 
-ghost use Rattle.std.specs.Prelude.{◌≡◌, ◌≢◌, ℕ, ◌<◌, ◌≤◌, ◌++◌, ◌∷◌, ◌==◌, [], true, false, List, length, map, IfOk, IfSome, IfNone};
+ghost use Rattle.std.specs.Prelude.{◌≡◌, ◌≢◌, ℕ, ◌<◌, ◌≤◌, ◌++◌, ◌∷◌, ◌==◌, ◌&&◌, [], true, false, List, length, map, IfOk, IfSome, IfNone};
 ghost use Rattle.std.specs.List.{list_any};
 ghost use Rattle.dots_history.specs.declared.entry.Entry.{Entry};
 ghost use Rattle.dots_history.specs.Histories.{mitigations, alone};
+ghost use Rattle.dots_history.specs.Rows.{triggers, waits};
 ghost use Rattle.dots_history.specs.Slots.{Rises};
 ghost use Rattle.dots_laws.specs.Filed.{Filed, entry_of};
 ghost use Rattle.dots_laws.specs.KeptPlaces.{union};
+ghost use Rattle.dots_laws.specs.HistoryReading.{is_waiting};
 ghost use Rattle.dots_laws.specs.Tables.{bare};
 ghost use Rattle.dots_laws.specs.Views.{mitigations_at, mitigations_with, mitigations_of};
 ghost use Rattle.live_mitigations.specs.Ends.{never};
@@ -102,11 +104,19 @@ impl LiveMitigations {
         self.tables.rows(domain)
     }
 
-    /// Whether a live mitigation has this peer.
-    pub fn mitigating(&self, peer: u32) -> bool
-        ensures { (entries : List Entry) → Represents self.now entries → result ≡ list_any (λ m. m.put.peer == peer) (mitigations self.now.time entries) }
+    /// Whether a live mitigation of this peer filters at once (RFC 9132, section 4.4.1: `trigger-mitigation`).
+    pub fn triggers(&self, peer: u32) -> bool
+        ensures { (entries : List Entry) → Represents self.now entries
+            → result ≡ list_any (λ m. (m.put.peer == peer) && triggers m.put.change) (mitigations self.now.time entries) }
     {
-        self.tables.has_peer(peer)
+        self.tables.triggers(peer)
+    }
+
+    /// Whether a live mitigation of this peer filters only while the signal of its client is lost.
+    pub fn waits(&self, peer: u32) -> bool
+        ensures { (entries : List Entry) → Represents self.now entries → result ≡ is_waiting self.now.time entries peer }
+    {
+        self.tables.waits(peer)
     }
 
     /// The number of a domain in which a mitigation is over by this time; None where there is none.

@@ -3,6 +3,7 @@
 ghost use Rattle.std.specs.Prelude.{◌≡◌, ◌≤◌, ◌+◌, IfSome, IfNone, None, Some, nat_lt};
 ghost use Rattle.dots_history.specs.Entries.{ends, withdraws, runs, same_client, replaces, takes_back, is_unexpired, put_of};
 ghost use Rattle.dots_history.specs.Histories.{step, live, seconds_left, seconds_of};
+ghost use Rattle.dots_history.specs.Rows.{triggers, waits};
 ghost use Rattle.dots_history.specs.Keeping.{moved};
 ghost use Rattle.dots_history.specs.declared.status.Status.TheVariants.{Open};
 ghost use Rattle.dots_history.specs.declared.change.Change.TheVariants as change;
@@ -116,6 +117,13 @@ impl Row {
         self.peer
     }
 
+    /// The domain that it is of.
+    pub fn domain(&self) -> u16
+        ensures { result ≡ self.now.put.domain }
+    {
+        self.domain
+    }
+
     /// The client's name in its domain.
     pub fn cuid(&self) -> &Text
         ensures { result.now ≡ self.now.put.cuid }
@@ -129,6 +137,21 @@ impl Row {
         ensures value { result.now ≡ put_or_nothing (put_of self.now.put.change) }
     {
         &self.put
+    }
+
+    /// Whether it filters at once, and not only while the signal of its client is lost (RFC 9132, section 4.4.1:
+    /// `trigger-mitigation`).
+    pub fn triggers(&self) -> bool
+        ensures { result ≡ triggers self.now.put.change }
+    {
+        self.put.trigger
+    }
+
+    /// Whether it filters only while the signal of its client is lost.
+    pub fn waits(&self) -> bool
+        ensures { result ≡ waits self.now.put.change }
+    {
+        !self.put.trigger
     }
 
     /// The seconds left of it at the time t, as an i32.
@@ -166,7 +189,8 @@ impl Row {
         self.status
     }
 
-    /// Whether the entry ends it: it is a mitigation of its client with its mid, or overlaps with it.
+    /// Whether the entry ends it: it is a mitigation of its client with its mid, or with its trigger value, and overlaps
+    /// with it.
     #[tactic(auto, unfolding(dots_history::specs::Entries::ends))]
     pub fn is_ended_by(&self, entry: &Entry) -> bool
         ensures { result ≡ ends self.now.put entry.now }
@@ -186,7 +210,10 @@ impl Row {
         ensures { result ≡ replaces self.now.put.change change.now }
     {
         match put_of(change) {
-            Some(put) => self.put.mid == put.mid || overlaps(true, &self.put, put),
+            Some(put) => {
+                self.put.mid == put.mid
+                    || (self.put.trigger == put.trigger && overlaps(true, &self.put, put))
+            }
             None => false,
         }
     }

@@ -1,6 +1,7 @@
 //! The live mitigations of each domain, and when the first of each are over.
 
-ghost use Rattle.std.specs.Prelude.{◌≡◌, ℕ, ◌<◌, ◌≤◌, ◌==◌, length, map, IfOk, IfSome, IfNone, Some, slice_get};
+ghost use Rattle.std.specs.Prelude.{◌≡◌, ℕ, ◌<◌, ◌≤◌, ◌==◌, ◌&&◌, length, map, IfOk, IfSome, IfNone, Some, slice_get};
+ghost use Rattle.dots_history.specs.Rows.{triggers, waits};
 ghost use Rattle.dots_laws.specs.Tables.{bare};
 ghost use Rattle.dots_laws.specs.Views.{mitigations_with};
 ghost use Rattle.live_mitigations.specs.Ends.{never, first_end};
@@ -61,11 +62,18 @@ impl LiveTables {
         }
     }
 
-    /// Whether one of a domain has this peer.
-    pub fn has_peer(&self, peer: u32) -> bool
-        ensures { result ≡ any_row (λ m. m.put.peer == peer) self.now }
+    /// Whether one of a domain has this peer and filters at once.
+    pub fn triggers(&self, peer: u32) -> bool
+        ensures { result ≡ any_row (λ m. (m.put.peer == peer) && triggers m.put.change) self.now }
     {
-        self.lists.iter().any(|list| list.has_peer(peer))
+        self.lists.iter().any(|list| list.triggers(peer))
+    }
+
+    /// Whether one of a domain has this peer and waits for a lost signal.
+    pub fn waits(&self, peer: u32) -> bool
+        ensures { result ≡ any_row (λ m. (m.put.peer == peer) && waits m.put.change) self.now }
+    {
+        self.lists.iter().any(|list| list.waits(peer))
     }
 
     /// The number of a domain in which a mitigation is over by this time, where there is one.

@@ -1,4 +1,4 @@
-use Rattle.std.proofs.Common.{◌≡◌, ap, ◌∙◌, sym, subst, map}
+use Rattle.std.proofs.Common.{ap, ◌∙◌, sym, subst, map}
 use Rattle.std.specs.List.{list_any}
 use Rattle.conflict_rules.specs.Results.{Gives}
 use Rattle.conflict_rules.specs.Targets.{is_unknown}

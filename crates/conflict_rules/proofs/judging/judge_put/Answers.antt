@@ -1,4 +1,4 @@
-use Rattle.std.proofs.Common.{◌≡◌, ◌<◌, ap, ◌∙◌, sym, subst, map, length, Ok, arith}
+use Rattle.std.proofs.Common.{ap, ◌∙◌, sym, subst, map, Ok, arith}
 use Rattle.std.proofs.lemmas.List.{length-map}
 use Rattle.conflict_rules.specs.Requests.{Request, ClientValue}
 use Rattle.conflict_rules.specs.Judging.{refreshed, judge_new, judge_put}
@@ -9,7 +9,7 @@ use Rattle.conflict_rules.proofs.judging.judge_put.Goals as goal
 pub put_at-requires : goal.put_at-requires
 put_at-requires g c =
     let there = at_place c.args.settings.now (map g.T.Mitigates.live c.args.live.now) c.args.client.now c.args.time
-    (asked_by c.request.inside.peer c.request.inside.cuid.now c.request.inside.mid c.request.inside.asked.now c.request.inside.lifetime)
+    (asked_by c.request.inside.peer c.request.inside.cuid.now c.request.inside.mid c.request.inside.asked.now c.request.inside.lifetime c.request.inside.trigger)
     (sym c.is_of_another.ensures ∙ c.if-is_of_another.false)
     c.in-Refresh.at
     (sym c.in-Refresh.ensures) in
@@ -20,7 +20,7 @@ pub returns-in-Collision : goal.returns-in-Collision
 returns-in-Collision g c =
     ap (judge_put c.args.settings.now (map g.T.Mitigates.live c.args.live.now) c.args.client.now c.args.time) (sym c.request.view_is)
     ∙ taken c.args.settings.now (map g.T.Mitigates.live c.args.live.now) c.args.client.now c.args.time
-    (asked_by c.request.inside.peer c.request.inside.cuid.now c.request.inside.mid c.request.inside.asked.now c.request.inside.lifetime)
+    (asked_by c.request.inside.peer c.request.inside.cuid.now c.request.inside.mid c.request.inside.asked.now c.request.inside.lifetime c.request.inside.trigger)
     (sym c.is_of_another.ensures ∙ c.if-is_of_another.false)
     (sym c.in-Collision.ensures)
 
@@ -28,14 +28,14 @@ pub returns-in-Changed : goal.returns-in-Changed
 returns-in-Changed g c =
     ap (judge_put c.args.settings.now (map g.T.Mitigates.live c.args.live.now) c.args.client.now c.args.time) (sym c.request.view_is)
     ∙ changes c.args.settings.now (map g.T.Mitigates.live c.args.live.now) c.args.client.now c.args.time
-    (asked_by c.request.inside.peer c.request.inside.cuid.now c.request.inside.mid c.request.inside.asked.now c.request.inside.lifetime)
+    (asked_by c.request.inside.peer c.request.inside.cuid.now c.request.inside.mid c.request.inside.asked.now c.request.inside.lifetime c.request.inside.trigger)
     (sym c.is_of_another.ensures ∙ c.if-is_of_another.false)
     (sym c.in-Changed.ensures)
 
 pub returns-in-Refresh : goal.returns-in-Refresh
 returns-in-Refresh g c =
     let there = at_place c.args.settings.now (map g.T.Mitigates.live c.args.live.now) c.args.client.now c.args.time
-    (asked_by c.request.inside.peer c.request.inside.cuid.now c.request.inside.mid c.request.inside.asked.now c.request.inside.lifetime)
+    (asked_by c.request.inside.peer c.request.inside.cuid.now c.request.inside.mid c.request.inside.asked.now c.request.inside.lifetime c.request.inside.trigger)
     (sym c.is_of_another.ensures ∙ c.if-is_of_another.false)
     c.in-Refresh.at
     (sym c.in-Refresh.ensures) in
@@ -43,7 +43,7 @@ returns-in-Refresh g c =
     (Gives c.refreshed.result)
     (sym (ap (judge_put c.args.settings.now (map g.T.Mitigates.live c.args.live.now) c.args.client.now c.args.time) (sym c.request.view_is)
     ∙ refreshes c.args.settings.now (map g.T.Mitigates.live c.args.live.now) c.args.client.now c.args.time
-    (asked_by c.request.inside.peer c.request.inside.cuid.now c.request.inside.mid c.request.inside.asked.now c.request.inside.lifetime)
+    (asked_by c.request.inside.peer c.request.inside.cuid.now c.request.inside.mid c.request.inside.asked.now c.request.inside.lifetime c.request.inside.trigger)
     (sym c.is_of_another.ensures ∙ c.if-is_of_another.false)
     c.in-Refresh.at
     there.0
@@ -59,7 +59,7 @@ returns-in-New g c =
     (Gives c.judge_new.result)
     (sym (ap (judge_put c.args.settings.now (map g.T.Mitigates.live c.args.live.now) c.args.client.now c.args.time) (sym c.request.view_is)
     ∙ is_new c.args.settings.now (map g.T.Mitigates.live c.args.live.now) c.args.client.now c.args.time
-    (asked_by c.request.inside.peer c.request.inside.cuid.now c.request.inside.mid c.request.inside.asked.now c.request.inside.lifetime)
+    (asked_by c.request.inside.peer c.request.inside.cuid.now c.request.inside.mid c.request.inside.asked.now c.request.inside.lifetime c.request.inside.trigger)
     (sym c.is_of_another.ensures ∙ c.if-is_of_another.false)
     (sym c.in-New.ensures)
     ∙ ap (judge_new c.args.settings.now (map g.T.Mitigates.live c.args.live.now) c.args.client.now.aliases c.args.time) c.request.view_is

@@ -15,7 +15,7 @@ returns-in_ok-prefixes-in-Other g c =
     ∙ told
     (map g.T.Mitigates.live c.args.live.now)
     c.request.inside.cuid.now
-    (wanted c.request.inside.mid c.request.inside.asked.now c.args.targets.now)
+    (wanted c.request.inside.mid c.request.inside.asked.now c.args.targets.now c.request.inside.trigger)
     c.limits-limits.result
     c.in-Other.meeting c.in-Other.ensures)
     ∙ fault_is c.args.settings.now (map g.T.Mitigates.live c.args.live.now) c.args.targets.now _ c.args.request.now _ _ c.request.view_is c.limits-limits.ensures.value c.in-Other.ensures

@@ -1,4 +1,4 @@
-use Rattle.std.proofs.Common.{◌≡◌, ap, ◌∙◌, sym, List}
+use Rattle.std.proofs.Common.{ap, ◌∙◌, sym, List}
 use Rattle.std.specs.Prelude.{slice_get}
 use Rattle.held_resources.specs.Tables.{Clients}
 use Rattle.held_resources.proofs.resources.change_clients.Goals as goal

@@ -1,7 +1,7 @@
-use Rattle.std.proofs.Common.{◌≡◌, ap, ◌∙◌, sym, refl, subst, set, length}
+use Rattle.std.proofs.Common.{ap, ◌∙◌, sym, refl, subst, set, length}
 use Rattle.std.specs.Prelude.{slice_get}
 use Rattle.std.proofs.lemmas.Option.{slice_get_read}
-use Rattle.held_resources.specs.Tables.{Clients, clients_with, update}
+use Rattle.held_resources.specs.Tables.{clients_with, update}
 use Rattle.held_resources.specs.Accepting.{Takes}
 use Rattle.held_resources.proofs.HistoryTables.{set_updated}
 use Rattle.held_resources.proofs.resources.change_domain.Goals as goal

@@ -1,4 +1,4 @@
-use Rattle.std.proofs.Common.{◌<◌, length, set, ap, sym, ◌∙◌, arith}
+use Rattle.std.proofs.Common.{◌<◌, length, set, ap, ◌∙◌, arith}
 use Rattle.std.proofs.lemmas.List.Edits.{map_over_more}
 use Rattle.held_resources.specs.Tables.{session_with}
 use Rattle.held_resources.proofs.Places.{at_any}

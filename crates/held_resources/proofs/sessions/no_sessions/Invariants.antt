@@ -1,6 +1,4 @@
-use Rattle.std.proofs.Common.{◌≡◌, map, take, None}
-use Rattle.dots_settings.specs.declared.peer.PeerRow.{PeerRow}
-use Rattle.held_resources.specs.declared.sessions.Session.{Session}
+use Rattle.std.proofs.Common.{◌≡◌, map, take}
 use Rattle.held_resources.specs.Tables.{no_session}
 use Rattle.held_resources.proofs.sessions.no_sessions.Given as goal
 

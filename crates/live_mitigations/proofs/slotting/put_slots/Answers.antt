@@ -1,4 +1,4 @@
-use Rattle.std.proofs.Common.{◌≡◌, ◌+◌, drop, length, get_or, None, ap, ◌∙◌, arith}
+use Rattle.std.proofs.Common.{◌+◌, drop, length, get_or, None, ap, ◌∙◌, arith}
 use Rattle.dots_laws.specs.KeptPlaces.{union}
 use Rattle.dots_laws.proofs.Unions.{union_longer}
 use Rattle.live_mitigations.specs.declared.slots.MitigationSlots.{MitigationSlots}

@@ -1,4 +1,4 @@
-use Rattle.std.proofs.Common.{◌≡◌, ◌+◌, drop, length, ap, ◌∙◌, arith}
+use Rattle.std.proofs.Common.{◌+◌, drop, length, ap, ◌∙◌, arith}
 use Rattle.dots_laws.specs.KeptPlaces.{union}
 use Rattle.dots_laws.proofs.Unions.{union_longer}
 use Rattle.live_mitigations.specs.Numbers.{numbers_in, all_numbers}

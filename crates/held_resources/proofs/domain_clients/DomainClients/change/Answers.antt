@@ -1,8 +1,8 @@
-use Rattle.std.proofs.Common.{◌≡◌, ap, ◌∙◌, sym, map, get_or, [], Some, None, arith}
+use Rattle.std.proofs.Common.{◌≡◌, ap, ◌∙◌, sym, map, get_or, [], Some, arith}
 use Rattle.std.specs.Prelude.{position}
 use Rattle.std.specs.List.{find}
 use Rattle.std.proofs.lemmas.List.Quantifiers.{position-Some}
-use Rattle.held_resources.specs.Tables.{Holding, Clients, no_holding, has_cuid, changed}
+use Rattle.held_resources.specs.Tables.{Clients, no_holding, has_cuid, changed}
 use Rattle.held_resources.proofs.Places.{found, at_any, change_keeps, change_none, clients_by}
 use Rattle.held_resources.proofs.domain_clients.DomainClients.change.Goals as goal
 

@@ -1,6 +1,6 @@
-use Rattle.std.proofs.Common.{◌≡◌, ap, ◌∙◌, sym, not, filter, Some, None, arith}
+use Rattle.std.proofs.Common.{ap, ◌∙◌, sym, not, filter, arith}
 use Rattle.std.specs.Prelude.{position}
-use Rattle.held_resources.specs.Tables.{Holding, Clients, has_cuid}
+use Rattle.held_resources.specs.Tables.{Clients, has_cuid}
 use Rattle.held_resources.proofs.Places.{deregister_keeps, deregister_none, clients_by}
 use Rattle.held_resources.proofs.domain_clients.DomainClients.deregister.Goals as goal
 

@@ -1,4 +1,4 @@
-use Rattle.std.proofs.Common.{◌≡◌, ap, ◌∙◌, sym, length}
+use Rattle.std.proofs.Common.{ap, ◌∙◌, sym, length}
 use Rattle.std.specs.Prelude.{nat_lt, nat_le}
 use Rattle.held_resources.specs.Tables.{Clients, list_with}
 use Rattle.held_resources.proofs.Places.{number_more, number_kept}

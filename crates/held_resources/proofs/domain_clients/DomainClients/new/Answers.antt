@@ -1,4 +1,4 @@
-use Rattle.std.proofs.Common.{◌≡◌, ◌++◌, ◌∷◌, [], ap, ◌∙◌, sym, subst, length, arith, length-append}
+use Rattle.std.proofs.Common.{◌∷◌, [], ap, sym, subst, length, arith, length-append}
 use Rattle.held_resources.specs.Tables.{AreEmpty}
 use Rattle.held_resources.proofs.Places.{empty_pushed, fresh_is}
 use Rattle.held_resources.proofs.domain_clients.DomainClients.new.Goals as goal

@@ -1,7 +1,7 @@
-use Rattle.std.proofs.Common.{◌≡◌, ◌++◌, ◌∷◌, [], ap, ◌∙◌, sym, arith}
+use Rattle.std.proofs.Common.{◌++◌, ◌∷◌, [], ap, ◌∙◌, arith}
 use Rattle.std.specs.Prelude.{option_to_list}
 use Rattle.std.specs.List.{list_any}
-use Rattle.held_resources.specs.Tables.{Holding, Clients, no_holding, has_cuid}
+use Rattle.held_resources.specs.Tables.{Clients, no_holding, has_cuid}
 use Rattle.held_resources.proofs.Places.{register_keeps, clients_by}
 use Rattle.held_resources.proofs.domain_clients.DomainClients.register.Goals as goal
 

@@ -1,12 +1,14 @@
-use Rattle.std.proofs.Common.{◌≡◌, ap, ◌∙◌, sym, List, map, length}
-use Rattle.dots_settings.specs.declared.peer.PeerRow.{PeerRow}
-use Rattle.dots_settings.specs.declared.limits.Limits.{Limits}
-use Rattle.held_resources.specs.Tables.{no_session, rooms_of}
+use Rattle.std.proofs.Common.{ap, ◌∙◌, map}
+use Rattle.std.specs.List.{flat_map}
+use Rattle.dots_laws.specs.Calm.{loser_of}
+use Rattle.held_resources.specs.Tables.{no_session, no_loss, rooms_of}
 use Rattle.held_resources.proofs.HistoryTables.{represents_first, sizes_first}
 use Rattle.held_resources.proofs.resources.HeldResources.new.Goals as goal
 
 pub returns-clause-represents : goal.returns-clause-represents
-returns-clause-represents c = represents_first c.rooms_of-rooms.result _ _ c.in_ok-domains.domains.items c.in_ok-sessions.sessions.items _ c.in_ok-domains.ensures c.in_ok-sessions.ensures
+returns-clause-represents c =
+    represents_first c.rooms_of-rooms.result _ _ _ c.in_ok-domains.domains.items c.in_ok-sessions.sessions.items c.in_ok-signals.signals.items _ c.in_ok-domains.ensures
+    c.in_ok-sessions.ensures c.in_ok-signals.ensures
 
 pub returns-clause-sizes : goal.returns-clause-sizes
 returns-clause-sizes c =
@@ -16,8 +18,10 @@ returns-clause-sizes c =
     _
     c.in_ok-domains.domains.items
     c.in_ok-sessions.sessions.items
+    c.in_ok-signals.signals.items
     c.in_ok-slots.slots
     (c.rooms_of-rooms.ensures ∙ ap rooms_of c.limits.ensures.value)
     c.domains.ensures.number
     c.in_ok-domains.ensures
     (c.in_ok-sessions.ensures ∙ ap (map no_session) c.peers.ensures.value)
+    (c.in_ok-signals.ensures ∙ ap (λ peers. map no_loss (flat_map loser_of peers)) c.peers-2.ensures.value)

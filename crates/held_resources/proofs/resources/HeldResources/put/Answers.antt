@@ -1,4 +1,4 @@
-use Rattle.std.proofs.Common.{◌≡◌, ap, ◌∙◌, sym}
+use Rattle.std.proofs.Common.{ap, ◌∙◌, sym}
 use Rattle.std.specs.Prelude.{slice_get}
 use Rattle.held_resources.specs.Tables.{Tables, tables_with}
 use Rattle.held_resources.proofs.HistoryTables.{fields_with}
@@ -10,6 +10,6 @@ change_clients-requires c =
 
 pub returns : goal.returns
 returns c =
-    fields_with c.self.inside.rooms c.self.inside.domains.items _ c.self.inside.sessions.items _ c.self.inside.slots _ (record { entry = c.args.entry; slot = c.args.slot })
-    c.change_clients.ensures c.configure.ensures c.take.ensures
+    fields_with c.self.inside.rooms c.self.inside.domains.items _ c.self.inside.sessions.items _ c.self.inside.signals.items _ c.self.inside.slots _ (record { entry = c.args.entry; slot = c.args.slot })
+    c.change_clients.ensures c.configure.ensures c.note.ensures c.take.ensures
     ∙ ap (tables_with (record { entry = c.args.entry; slot = c.args.slot })) c.self.view_is

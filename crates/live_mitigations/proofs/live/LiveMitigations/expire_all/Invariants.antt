@@ -1,5 +1,5 @@
 -- what is kept comes to the same histories; there is less of it after each turn
-use Rattle.std.proofs.Common.{◌≡◌, List}
+use Rattle.std.proofs.Common.{List}
 use Rattle.dots_history.specs.declared.entry.Entry.{Entry}
 use Rattle.dots_laws.specs.Filed.{Filed}
 use Rattle.live_mitigations.specs.LiveValues.{ComesTo, SameButRows, SlotsCome, count_live}

@@ -1,5 +1,4 @@
-use Rattle.std.proofs.Common.{ap, ◌∙◌, ℕ, List}
-use Rattle.dots_history.specs.Histories.{Mitigation}
+use Rattle.std.proofs.Common.{ap, ◌∙◌, ℕ}
 use Rattle.live_mitigations.specs.LiveViews.{live_views_of}
 use Rattle.live_mitigations.proofs.Room.{shown_are}
 use Rattle.live_mitigations.proofs.live.LiveMitigations.mitigations.Goals as goal

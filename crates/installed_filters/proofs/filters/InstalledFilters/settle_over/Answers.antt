@@ -1,13 +1,15 @@
 use Rattle.std.proofs.Common.{arith}
-use Rattle.installed_filters.specs.Filters.{lives_at}
+use Rattle.held_resources.specs.Tables.{lost_in}
+use Rattle.installed_filters.specs.Filters.{is_over, works_at}
 use Rattle.installed_filters.proofs.Steps.{settle_step, settle_end}
-use Rattle.installed_filters.proofs.filters.InstalledFilters.settle.Goals as goal
+use Rattle.installed_filters.proofs.filters.InstalledFilters.settle_over.Goals as goal
 
 pub loop-row-preserved : goal.loop-row-preserved
 loop-row-preserved c =
     settle_step
     c.args.domain
-    (lives_at c.args.now)
+    (is_over c.args.now)
+    (works_at (lost_in c.args.held.now) c.args.now)
     c.args.rows.now
     c.loop-row.row-index
     c.args.rows.now
@@ -24,7 +26,8 @@ pub returns : goal.returns
 returns c =
     settle_end
     c.args.domain
-    (lives_at c.args.now)
+    (is_over c.args.now)
+    (works_at (lost_in c.args.held.now) c.args.now)
     c.args.rows.now
     c.loop-row.row-index
     c.args.rows.now

@@ -1,12 +1,12 @@
-use Rattle.std.proofs.Common.{◌≡◌, ap, ◌∙◌, sym, map, length}
+use Rattle.std.proofs.Common.{ap, ◌∙◌, sym, map, length}
 use Rattle.std.specs.Prelude.{◌==◌, nat_lt}
 use Rattle.std.specs.List.{list_any}
 use Rattle.std.proofs.lemmas.Bool.{cond-true}
 use Rattle.dots_history.specs.Entries.{is_configuration}
 use Rattle.held_resources.specs.declared.sessions.Session.{Session}
-use Rattle.held_resources.specs.Tables.{Tables, is_known, peer_of}
+use Rattle.held_resources.specs.Tables.{Tables, is_placed, peer_of}
 use Rattle.held_resources.proofs.Configs.{any_peer}
-use Rattle.held_resources.proofs.resources.HeldResources.knows.Goals as goal
+use Rattle.held_resources.proofs.resources.HeldResources.places.Goals as goal
 
 pub returns-then-is_configuration : goal.returns-then-is_configuration
 returns-then-is_configuration c =
@@ -18,4 +18,4 @@ returns-then-is_configuration c =
     (list_any (λ other. c.args.entry.now.peer == other) (map peer_of c.self.inside.sessions.items))
     (nat_lt c.args.entry.now.domain (length c.self.inside.domains.items))
     (sym c.is_configuration.ensures ∙ c.if-is_configuration.true))
-    ∙ ap (λ (t : Tables). is_known t.sizes c.args.entry.now) c.self.view_is
+    ∙ ap (λ (t : Tables). is_placed t.sizes c.args.entry.now) c.self.view_is
