@@ -39,6 +39,7 @@ capacities actors sizes limits = record {
   actors = actors;
   peers = sizes.peers;
   domains = numbers_from 0 sizes.domains;
+  losers = sizes.own;
   mitigations = limits.domain_mitigations;
   clients = limits.clients;
   aliases = limits.aliases;

@@ -10,7 +10,7 @@ use Rattle.dots_settings.specs.declared.peer.Role.{Role}
 use Rattle.dots_settings.specs.declared.peer.Role.TheVariants as role
 use Rattle.dots_settings.specs.Settings.{SettingsValue, IsSettings, IsNoStranger, is_gateway_role}
 use Rattle.dots_history.specs.Slots.{Slots}
-use Rattle.dots_laws.specs.Calm.{numbers_from}
+use Rattle.dots_laws.specs.Calm.{numbers_from, loser_by, loser_of}
 use Rattle.coap_exchange.specs.Pairs.{below, pairs_with_each, pair_with, pairs_of_role, pairs_of_row, pairs_of}
 use Rattle.dots_registry.specs.RegistryValues.{RegistryValue, IsOf}
 use Rattle.dots_registry.specs.Filed.{most_kept}
@@ -88,15 +88,32 @@ peers_many (row ∷ peers) none =
     let gateways = more_gateways row peers in
     omega (arith, rest, one, clients, gateways)
 
+-- ---- client peers, whose signal may be lost
+
+losers_many : (peers : List PeerRow) → length (flat_map loser_of peers) ≡ clients_of peers
+losers_many [] = refl
+losers_many (row ∷ peers) =
+    let rest = losers_many peers in
+    let one = by_role row.role in
+    let both = length-append (loser_of row) (flat_map loser_of peers) in
+    let clients = more_clients row peers in
+    omega (arith, rest, one, both, clients)
+  where
+    by_role : (r : Role) → length (loser_by row.peer r) ≡ cond (is_client_role r) 1 0
+    by_role role.Stranger = refl
+    by_role (role.Client domain) = refl
+    by_role role.Gateway = refl
+
 -- ---- the whole
 
-sums : (d d' each a a' n p cs gs : ℕ) → d ≡ d' → a ≡ a' → p ≡ cs + gs → d * each + a * n + p + 1 ≡ d' * each + n * a' + cs + gs + 1
-sums d d' each a a' n p cs gs domains actors peers =
+sums : (d d' each a a' n p cs gs losers : ℕ) → d ≡ d' → a ≡ a' → p ≡ cs + gs → losers ≡ cs
+    → d * each + a * n + p + losers + 1 ≡ (d' * each + n * a' + cs + gs + 1) + cs
+sums d d' each a a' n p cs gs losers domains actors peers lost =
     let first : d * each ≡ d' * each = ap (λ k. k * each) domains in
     let second : a * n ≡ n * a' = mul_comm a n ∙ ap (λ k. n * k) actors in
-    omega (arith, first, second, peers)
+    omega (arith, first, second, peers, lost)
 
-most_at : (settings : SettingsValue) → IsSettings settings → most_by settings ≡ kept_at_most settings
+most_at : (settings : SettingsValue) → IsSettings settings → most_by settings ≡ kept_at_most settings + clients_of settings.peers
 most_at settings is =
     sums
     (length (numbers_from 0 (length settings.domains)))
@@ -108,15 +125,30 @@ most_at settings is =
     (length (map (λ (row : PeerRow). row.peer) settings.peers))
     (clients_of settings.peers)
     (gateways_of settings.peers)
+    (length (flat_map loser_of settings.peers))
     (numbers_many 0 (length settings.domains))
     (length-map (pairs_of settings) pair_actor ∙ pairs_many (length settings.domains) settings.peers)
     (length-map settings.peers (λ (row : PeerRow). row.peer) ∙ peers_many settings.peers is.no_stranger)
+    (losers_many settings.peers)
+
+-- a summand is at most the sum
+less_sum : (x y c g : ℕ) → c ≤ x + y + c + g + 1
+less_sum x y c g = omega arith
+
+clients_fewer : (settings : SettingsValue) → clients_of settings.peers ≤ kept_at_most settings
+clients_fewer settings =
+    less_sum
+    (length settings.domains * most_of_domain settings.limits)
+    (settings.limits.remembered * actors_of (length settings.domains) settings.peers)
+    (clients_of settings.peers)
+    (gateways_of settings.peers)
 
 pub most_below : (settings : SettingsValue) (registry : RegistryValue) → IsSettings settings → IsOf settings registry → most_kept registry < slots_of settings
 most_below settings registry is is_of =
     let most = most_is settings registry is_of in
     let at = most_at settings is in
-    omega (arith, most, at)
+    let clients = clients_fewer settings in
+    omega (arith, most, at, clients)
 
 -- a list with as much room as a half has slots
 pub kept_room : {E : Type 0} (settings : SettingsValue) (answer : Result Slots E) (room : ℕ) → IsSettings settings → room ≡ slots_of settings

@@ -12,10 +12,10 @@ use Rattle.dots_history.specs.declared.entry.Entry.{Entry}
 use Rattle.dots_history.specs.declared.put.Put.{Put}
 use Rattle.dots_history.specs.declared.put.Target.{Target}
 use Rattle.dots_history.specs.declared.change.Change.TheVariants as change
-use Rattle.dots_history.specs.Entries.{same_client, some_prefix, targets_meet, share_alias, overlaps, replaces, ends}
+use Rattle.dots_history.specs.Entries.{same_client, some_prefix, targets_meet, share_alias, overlaps, replaces, ends, same_flag}
 use Rattle.dots_laws.proofs.Members.{In, any_of}
-use Rattle.conflict_rules.specs.Asking.{same_prefix, same_ports, all_among, same_set, asks_the_same}
-use Rattle.conflict_rules.specs.ByOverlap.{resolved}
+use Rattle.conflict_rules.specs.Asking.{same_prefix, same_ports, all_among, same_set, asks_the_same, would_refresh}
+use Rattle.conflict_rules.specs.ByOverlap.{resolved, rivals}
 use Rattle.dots_registry.proofs.Places.{in_any}
 
 -- ---- tests over two lists
@@ -142,8 +142,47 @@ same_overlap a b c targets asked =
     ap (λ ts. some_prefix (λ p. some_prefix (meets p) ts) a.targets || share_alias a b) targets
     ∙ ap (λ (q : Asked). some_prefix (λ p. some_prefix (meets p) c.targets) a.targets || list_any (λ name. list_any (bytes_eq name) q.aliases) a.asked.aliases) asked
 
+-- ---- trigger values
+pub flag_same : (a b : Bool) → a ≡ b → same_flag a b ≡ true
+flag_same true true is = refl
+flag_same true false is = sym is
+flag_same false true is = is
+flag_same false false is = refl
+
+pub flag_own : (a b : Bool) → same_flag a b ≡ true → a ≡ b
+flag_own true b is = sym is
+flag_own false true is = is
+flag_own false false is = refl
+
+-- of one trigger value, what can stay beside another doesn't overlap with it
+pub apart_by_rivals : (a b : Put) → a.trigger ≡ b.trigger → rivals a b ≡ false → overlaps true a b ≡ false
+apart_by_rivals a b same out =
+    sym (ap (λ f. f && overlaps true a b) (flag_same a.trigger b.trigger same)) ∙ out
+
+pub rivals_sym : (a b : Put) → rivals a b ≡ true → rivals b a ≡ true
+rivals_sym a b is =
+    let parts = and_parts (same_flag a.trigger b.trigger) (overlaps true a b) is in
+    and_from (same_flag b.trigger a.trigger) (overlaps true b a)
+    (flag_same b.trigger a.trigger (sym (flag_own a.trigger b.trigger parts.0)))
+    (sym (overlap_sym a b) ∙ parts.1)
+
+-- only the mid, what was asked, the targets and the trigger value count
+pub same_rivals : (a b c : Put) → b.targets ≡ c.targets → b.asked ≡ c.asked → b.trigger ≡ c.trigger → rivals a b ≡ rivals a c
+same_rivals a b c targets asked trigger =
+    ap (λ flag. same_flag a.trigger flag && overlaps true a b) trigger
+    ∙ ap (λ f. same_flag a.trigger c.trigger && f) (same_overlap a b c targets asked)
+
+-- what can't stay beside a refresh can't stay beside what is refreshed
+pub rivals_again : (a b c : Put) → b.targets ≡ c.targets → would_refresh b.asked b.trigger c ≡ true → rivals a b ≡ true → rivals a c ≡ true
+rivals_again a b c targets again is =
+    let parts = and_parts (same_flag a.trigger b.trigger) (overlaps true a b) is in
+    let same = and_parts (asks_the_same c.asked b.asked) (same_flag c.trigger b.trigger) again in
+    and_from (same_flag a.trigger c.trigger) (overlaps true a c)
+    (flag_same a.trigger c.trigger (flag_own a.trigger b.trigger parts.0 ∙ sym (flag_own c.trigger b.trigger same.1)))
+    (overlap_again a b c targets same.0 parts.1)
+
 -- ---- one that ends another
-replaced : (a b : Put) → replaces (change.Put a) (change.Put b) ≡ ((a.mid == b.mid) || overlaps true a b)
+replaced : (a b : Put) → replaces (change.Put a) (change.Put b) ≡ ((a.mid == b.mid) || rivals a b)
 unfolding replaces
 replaced a b = refl
 
@@ -164,20 +203,20 @@ unfolding same_client
 same_parts a b is =
     let parts = and_parts (a.domain == b.domain) (bytes_eq a.cuid b.cuid) is in (eqb-true a.domain b.domain parts.0, bytes_own a.cuid b.cuid parts.1)
 
--- it is of the client, and has the mid or overlaps
+-- it is of the client, and has the mid, or the trigger value and overlaps
 pub ends_so : (a b : Entry) (one other : Put) → a.change ≡ change.Put one → b.change ≡ change.Put other → ends a b ≡ true
-    → (a.domain ≡ b.domain) × (a.cuid ≡ b.cuid) × (((one.mid == other.mid) || overlaps true one other) ≡ true)
+    → (a.domain ≡ b.domain) × (a.cuid ≡ b.cuid) × (((one.mid == other.mid) || rivals one other) ≡ true)
 ends_so a b one other puts too is =
     let parts = and_parts (same_client a b) (replaces a.change b.change) (sym (end_parts a b) ∙ is) in
     let client = same_parts a b parts.0 in
     (client.0, client.1, sym (replaced one other) ∙ sym (ap (λ c. replaces c (change.Put other)) puts) ∙ sym (ap (λ c. replaces a.change c) too) ∙ parts.1)
 
--- one of the client that isn't ended doesn't overlap
+-- one of the client that isn't ended has another trigger value, or doesn't overlap
 pub unended_so : (a b : Entry) (one other : Put) → a.domain ≡ b.domain → a.cuid ≡ b.cuid → a.change ≡ change.Put one → b.change ≡ change.Put other → ends a b ≡ false
-    → overlaps true one other ≡ false
+    → rivals one other ≡ false
 unended_so a b one other domain cuid puts too out =
-    false_from_ne_true (overlaps true one other) (
+    false_from_ne_true (rivals one other) (
     λ is. both_ways (ends a b) out (
     end_parts a b
     ∙ and_from (same_client a b) (replaces a.change b.change) (client_parts a b domain cuid)
-    (ap (λ c. replaces c b.change) puts ∙ ap (λ c. replaces (change.Put one) c) too ∙ replaced one other ∙ or_right (one.mid == other.mid) (overlaps true one other) is)))
+    (ap (λ c. replaces c b.change) puts ∙ ap (λ c. replaces (change.Put one) c) too ∙ replaced one other ∙ or_right (one.mid == other.mid) (rivals one other) is)))

@@ -230,6 +230,6 @@ run_orderly settings from acts trace new orderly run = turns_orderly settings fr
 pub begun_orderly : (t : ℕ) → IsOrderly (record { history = []; time = t })
 begun_orderly t = record {
   timely = omega arith;
-  share_none = λ u less domain i j a b one put apart sa sb. absurd (none-some a sa.stands.there);
+  share_none = λ u less domain i j a b one put apart sa sb alike. absurd (none-some a sa.stands.there);
   higher_stays = λ domain i j a b one put less found puts st ended. absurd (none-some b found);
 }

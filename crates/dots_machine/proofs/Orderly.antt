@@ -8,13 +8,13 @@ use Rattle.ip_scope.specs.Prefix.{meets}
 use Rattle.dots_history.specs.declared.entry.Entry.{Entry}
 use Rattle.dots_history.specs.declared.put.Put.{Put}
 use Rattle.dots_history.specs.declared.change.Change.TheVariants as change
-use Rattle.dots_history.specs.Entries.{put_of, runs, ends, some_prefix, targets_meet, overlaps}
+use Rattle.dots_history.specs.Entries.{put_of, runs, ends, some_prefix, targets_meet}
 use Rattle.dots_history.specs.Places.{Stands}
 use Rattle.dots_settings.specs.Settings.{SettingsValue}
 use Rattle.dots_laws.specs.Tables.{Client}
 use Rattle.dots_laws.proofs.Lasting.{runs_no_more}
 use Rattle.dots_laws.proofs.Members.{In}
-use Rattle.conflict_rules.specs.ByOverlap.{resolved}
+use Rattle.conflict_rules.specs.ByOverlap.{resolved, rivals}
 use Rattle.conflict_rules.specs.Wanted.{wanted}
 use Rattle.live_mitigations.specs.Judging.{put_or_nothing}
 use Rattle.conflict_rules.specs.declared.fault.PutFault.{PutFault}
@@ -24,7 +24,7 @@ use Rattle.conflict_rules.specs.Judging.{refreshed, begun}
 use Rattle.dots_registry.specs.Judgements.{StandsIn, Meets, Those, IsJudged, collision, refreshes, changes, unknown, too_many, higher, other, client_full, domain_full, begins}
 use Rattle.dots_registry.proofs.Places.{in_any}
 use Rattle.dots_machine.specs.Orderly.{ShareNone, HigherStays}
-use Rattle.dots_machine.proofs.Meeting.{some_resolved, meet_sym, meet_by, same_targets, overlap_sym, overlap_again, apart_by_overlap, same_overlap, ends_so, unended_so}
+use Rattle.dots_machine.proofs.Meeting.{some_resolved, meet_sym, meet_by, same_targets, apart_by_overlap, apart_by_rivals, rivals_sym, rivals_again, same_rivals, ends_so, unended_so}
 
 -- ---- places
 get_within : (xs : List Entry) (i : ℕ) (e : Entry) → slice_get xs i ≡ Some e → i < length xs
@@ -94,8 +94,8 @@ same_put a one put is also = ap (λ c. put_or_nothing (put_of c)) (sym is ∙ al
 
 -- as time goes on
 pub share_later : (t u : ℕ) (entries : List Entry) → t ≤ u → ShareNone t entries → ShareNone u entries
-share_later t u entries less share domain i j a b one put apart sa sb =
-    share domain i j a b one put apart (stood_earlier domain t u entries i a one less sa) (stood_earlier domain t u entries j b put less sb)
+share_later t u entries less share domain i j a b one put apart sa sb alike =
+    share domain i j a b one put apart (stood_earlier domain t u entries i a one less sa) (stood_earlier domain t u entries j b put less sb) alike
 
 -- ---- an entry that isn't a mitigation
 module _ (t : ℕ) (entries : List Entry) (e : Entry) (none : (put : Put) → e.change ≡ change.Put put → ⊥) where
@@ -107,8 +107,8 @@ module _ (t : ℕ) (entries : List Entry) (e : Entry) (none : (put : Put) → e.
       by_place (inr (at, same)) = absurd (none one (ap (λ (x : Entry). x.change) same ∙ st.puts))
 
   pub share_without : ShareNone t entries → ShareNone t (entries ++ e ∷ [])
-  share_without share domain i j a b one put apart sa sb =
-      share domain i j a b one put apart (stood_in domain t entries e i a one (front_by domain i a one sa) sa) (stood_in domain t entries e j b put (front_by domain j b put sb) sb)
+  share_without share domain i j a b one put apart sa sb alike =
+      share domain i j a b one put apart (stood_in domain t entries e i a one (front_by domain i a one sa) sa) (stood_in domain t entries e j b put (front_by domain j b put sb) sb) alike
 
 -- what holds of the last entry is all that is new
 pub higher_more : (entries : List Entry) (e : Entry) → HigherStays entries
@@ -150,7 +150,7 @@ module _ (settings : SettingsValue) (t : ℕ) (entries : List Entry) (client : C
         same_targets one judged.put put now
         ∙ share client.domain i has.place a has.entry one put
         (λ here. another (ap (λ (e : Entry). e.cuid) (same_Some a has.entry (sym st.stands.there ∙ ap (slice_get entries) here ∙ has.stands.stands.there)) ∙ has.of_client))
-        st has.stands
+        st has.stands (λ same. absurd (another (same ∙ has.of_client)))
     apart_from another (begins targets own all free room too is) =
         let now : judged.put.targets ≡ targets = ap (λ (j : Judged). j.put.targets) (ok_same judged (begun settings targets t request) is) in
         meet_by one judged.put
@@ -170,13 +170,18 @@ module _ (settings : SettingsValue) (t : ℕ) (entries : List Entry) (client : C
     apart_from another (client_full targets own all free full is) = absurd (cc is)
     apart_from another (domain_full targets own all free room full is) = absurd (cc is)
 
-    -- one of the client that overlaps with it has no higher mid
-    not_higher : a.cuid ≡ client.cuid → overlaps true one judged.put ≡ true → IsJudged settings t entries client request (Ok judged) → one.mid ≤ judged.put.mid
+    -- one of the client that overlaps with it and has its trigger value has no higher mid
+    not_higher : a.cuid ≡ client.cuid → rivals one judged.put ≡ true → IsJudged settings t entries client request (Ok judged) → one.mid ≤ judged.put.mid
     not_higher cuid overlap (begins targets own all free room too is) =
         let same = ok_same judged (begun settings targets t request) is in
         let mid : judged.put.mid ≡ request.mid = ap (λ (j : Judged). j.put.mid) same in
-        let wants = wanted request.mid request.asked targets in
-        let met : overlaps true one wants ≡ true = sym (same_overlap one judged.put wants (ap (λ (j : Judged). j.put.targets) same) (ap (λ (j : Judged). j.put.asked) same)) ∙ overlap in
+        let wants = wanted request.mid request.asked targets request.trigger in
+        let met : rivals one wants ≡ true =
+        sym (same_rivals one judged.put wants
+        (ap (λ (j : Judged). j.put.targets) same)
+        (ap (λ (j : Judged). j.put.asked) same)
+        (ap (λ (j : Judged). j.put.trigger) same))
+        ∙ overlap in
         let no_more = at_most one.mid request.mid (
         λ more. free.is_highest.none_higher one.mid (record { place = i; entry = a; put = one; stands = st; of_client = cuid; of_mid = refl; higher = more; overlapping = met })) in
         omega (arith, mid, no_more)
@@ -188,12 +193,12 @@ module _ (settings : SettingsValue) (t : ℕ) (entries : List Entry) (client : C
               let of_mid : one.mid ≡ request.mid = ap (λ (p : Put). p.mid) same_one ∙ has.of_mid in
               omega (arith, mid, of_mid)
           | inr (inl less) ↦
-              absurd (both_ways (overlaps true one put)
+              absurd (both_ways (rivals one put)
               (unended_so a has.entry one put (st.of_domain ∙ sym has.stands.of_domain) (cuid ∙ sym has.of_client) st.puts has.stands.puts (st.stands.not_ended has.place has.entry less has.stands.stands.there)) met)
           | inr (inr more) ↦
-              absurd (both_ways (overlaps true put one)
+              absurd (both_ways (rivals put one)
               (unended_so has.entry a put one (has.stands.of_domain ∙ sym st.of_domain) (has.of_client ∙ sym cuid) has.stands.puts st.puts (has.stands.stands.not_ended i a more st.stands.there))
-              (overlap_sym put one ∙ met))
+              (rivals_sym one put met))
         ]
       where
         same : judged ≡ refreshed settings put request
@@ -202,8 +207,8 @@ module _ (settings : SettingsValue) (t : ℕ) (entries : List Entry) (client : C
         mid : judged.put.mid ≡ request.mid
         mid = ap (λ (j : Judged). j.put.mid) same
 
-        met : overlaps true one put ≡ true
-        met = overlap_again one (refreshed settings put request).put put refl again (ap (λ (j : Judged). overlaps true one j.put) (sym same) ∙ overlap)
+        met : rivals one put ≡ true
+        met = rivals_again one (refreshed settings put request).put put refl again (ap (λ (j : Judged). rivals one j.put) (sym same) ∙ overlap)
     not_higher cuid overlap (collision taken is) = absurd (cc is)
     not_higher cuid overlap (changes put free has out is) = absurd (cc is)
     not_higher cuid overlap (unknown free unused has is) = absurd (cc is)
@@ -215,13 +220,15 @@ module _ (settings : SettingsValue) (t : ℕ) (entries : List Entry) (client : C
 
   module _ (is : IsJudged settings t entries client request (Ok judged)) (e : Entry) (now : e.time ≡ t) (domain_is : e.domain ≡ client.domain) (cuid_is : e.cuid ≡ client.cuid) (puts : e.change ≡ change.Put judged.put) where
     -- beside one that stood before
-    new_apart : (i : ℕ) (a : Entry) (one : Put) → i < length entries → StandsIn client.domain t (entries ++ e ∷ []) i a one → targets_meet one judged.put ≡ false
-    new_apart i a one within st =
+    new_apart : (i : ℕ) (a : Entry) (one : Put) → i < length entries → StandsIn client.domain t (entries ++ e ∷ []) i a one
+        → (a.cuid ≡ e.cuid → one.trigger ≡ judged.put.trigger) → targets_meet one judged.put ≡ false
+    new_apart i a one within st alike =
         elim (cases_Bool (bytes_eq a.cuid client.cuid)) [
           | inl same ↦
               let cuid : a.cuid ≡ client.cuid = (bytes_eq-Decides a.cuid client.cuid).0 same in
               apart_by_overlap one judged.put
-              (unended_so a e one judged.put (st.of_domain ∙ sym domain_is) (cuid ∙ sym cuid_is) st.puts puts (st.stands.not_ended (length entries) e within (get_last entries e)))
+              (apart_by_rivals one judged.put (alike (cuid ∙ sym cuid_is))
+              (unended_so a e one judged.put (st.of_domain ∙ sym domain_is) (cuid ∙ sym cuid_is) st.puts puts (st.stands.not_ended (length entries) e within (get_last entries e))))
           | inr out ↦
               apart_from i a one (stood_in client.domain t entries e i a one within st)
               (λ cuid. both_ways (bytes_eq a.cuid client.cuid) out ((bytes_eq-Decides a.cuid client.cuid).1 cuid)) is
@@ -234,19 +241,21 @@ module _ (settings : SettingsValue) (t : ℕ) (entries : List Entry) (client : C
     last_domain domain b same is = sym is ∙ ap (λ (x : Entry). x.domain) (sym same) ∙ domain_is
 
     pub share_with : ShareNone t (entries ++ e ∷ [])
-    share_with domain i j a b one put apart sa sb = by_places (where_is entries e i a sa.stands.there) (where_is entries e j b sb.stands.there)
+    share_with domain i j a b one put apart sa sb alike = by_places (where_is entries e i a sa.stands.there) (where_is entries e j b sb.stands.there)
       where
         by_places : ((i < length entries) × (slice_get entries i ≡ Some a)) ⊎ ((i ≡ length entries) × (e ≡ a))
             → ((j < length entries) × (slice_get entries j ≡ Some b)) ⊎ ((j ≡ length entries) × (e ≡ b)) → targets_meet one put ≡ false
         by_places (inl (less, found)) (inl (under, there)) =
-            share domain i j a b one put apart (stood_in domain t entries e i a one less sa) (stood_in domain t entries e j b put under sb)
+            share domain i j a b one put apart (stood_in domain t entries e i a one less sa) (stood_in domain t entries e j b put under sb) alike
         by_places (inl (less, found)) (inr (at, same)) =
             ap (targets_meet one) (last_put b put same sb.puts)
             ∙ new_apart i a one less (subst (λ d. StandsIn d t (entries ++ e ∷ []) i a one) (last_domain domain b same sb.of_domain) sa)
+            (λ own. alike (own ∙ ap (λ (x : Entry). x.cuid) same) ∙ ap (λ (p : Put). p.trigger) (last_put b put same sb.puts))
         by_places (inr (at, same)) (inl (under, there)) =
             meet_sym one put
             ∙ ap (targets_meet put) (last_put a one same sa.puts)
             ∙ new_apart j b put under (subst (λ d. StandsIn d t (entries ++ e ∷ []) j b put) (last_domain domain a same sa.of_domain) sb)
+            (λ own. sym (alike (sym (own ∙ ap (λ (x : Entry). x.cuid) same))) ∙ ap (λ (p : Put). p.trigger) (last_put a one same sa.puts))
         by_places (inr (at, same)) (inr (here, also)) = absurd (apart (at ∙ sym here))
 
     pub higher_with : HigherStays entries → HigherStays (entries ++ e ∷ [])
@@ -258,7 +267,7 @@ module _ (settings : SettingsValue) (t : ℕ) (entries : List Entry) (client : C
             let so = ends_so a e one judged.put st.puts puts ended in
             let there : StandsIn client.domain t entries i a one = subst (λ d. StandsIn d t entries i a one) (sym st.of_domain ∙ so.0 ∙ domain_is) (subst (λ u. StandsIn domain u entries i a one) now st) in
             let mid : put.mid ≡ judged.put.mid = ap (λ (p : Put). p.mid) same in
-            elim (or_cases (one.mid == judged.put.mid) (overlaps true one judged.put) so.2) [
+            elim (or_cases (one.mid == judged.put.mid) (rivals one judged.put) so.2) [
               | inl equal ↦ let same_mid : one.mid ≡ judged.put.mid = eqb-true one.mid judged.put.mid equal in omega (arith, mid, same_mid)
               | inr overlap ↦ let no_more = not_higher i a one there (so.1 ∙ cuid_is) overlap is in omega (arith, mid, no_more)
             ]

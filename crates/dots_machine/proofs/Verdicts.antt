@@ -9,7 +9,8 @@ use Rattle.dots_history.specs.declared.entry.Entry.{Entry}
 use Rattle.dots_history.specs.declared.put.Put.{Put}
 use Rattle.dots_history.specs.declared.status.Status.{Status}
 use Rattle.dots_history.specs.declared.status.Status.TheVariants.{Ended, Open, Withdrawn}
-use Rattle.dots_history.specs.Histories.{Mitigation, mitigations}
+use Rattle.dots_history.specs.Histories.{Mitigation, mitigations, held}
+use Rattle.dots_history.specs.Rows.{is_lost_in}
 use Rattle.dots_history.specs.Keeping.{is_open}
 use Rattle.dots_laws.specs.Views.{mitigations_of}
 use Rattle.dots_heads.specs.declared.request.Content.{Content}
@@ -25,6 +26,7 @@ use Rattle.conflict_rules.specs.declared.fault.PutFault.{PutFault}
 use Rattle.conflict_rules.specs.declared.judging.Judged.{Judged}
 use Rattle.dots_registry.specs.Judging.{judge_request}
 use Rattle.dots_registry.specs.Judgements.{HasMid}
+use Rattle.dots_registry.specs.Statuses.{status_by, works_for, view_with, is_standing}
 use Rattle.dots_registry.proofs.Rules.{collides_taken, taken_collides, mid_stands, there_mid}
 use Rattle.dots_registry.proofs.JudgedByPlaces.{judged_by_places, places_judge}
 use Rattle.dots_machine.specs.declared.target.TargetFault.{TargetFault}
@@ -45,10 +47,11 @@ use Rattle.dots_machine.specs.Verdicts.{repeated, unless_repeated, unless_faulty
 use Rattle.dots_machine.proofs.MessageRepeats.{is_repeated, is_remembered, none_remembered, never_repeated}
 
 -- ---- what stands, as it is shown and as the rules see it
-two_is_open : (s : Status) → (status_number s == 2) ≡ is_open s
-two_is_open Open = refl
-two_is_open (Withdrawn at) = refl
-two_is_open Ended = refl
+standing_is_open : (works : Bool) (s : Status) → is_standing (status_by works (status_number s)) ≡ is_open s
+standing_is_open true Open = refl
+standing_is_open false Open = refl
+standing_is_open works (Withdrawn at) = refl
+standing_is_open works Ended = refl
 
 own_one : (stands own mid : Bool) → own ≡ true → (mid && stands) ≡ ((stands && own) && mid)
 own_one stands false mid is = absurd (cc is)
@@ -62,8 +65,8 @@ other_one stands true mid is = absurd (cc is)
 other_one true false mid is = refl
 other_one false false mid is = refl
 
-module _ (t : ℕ) (cuid : List ℕ) (mid : ℕ) where
-  same_standing : (ms : List Mitigation) → list_any (stands_as mid) (live_views_of t cuid ms) ≡ list_any (has_mid cuid mid) (map live_of ms)
+module _ (lost : ℕ → ℕ → Bool) (domain t : ℕ) (cuid : List ℕ) (mid : ℕ) where
+  same_standing : (ms : List Mitigation) → list_any (stands_as mid) (map (view_with lost domain) (live_views_of t cuid ms)) ≡ list_any (has_mid cuid mid) (map live_of ms)
   same_standing [] = refl
   same_standing (m ∷ ms) =
       let go = same_standing ms in
@@ -74,10 +77,11 @@ module _ (t : ℕ) (cuid : List ℕ) (mid : ℕ) where
       own
       (m ∷ of_cuid cuid ms)
       (of_cuid cuid ms)
-      (λ xs. list_any (stands_as mid) (map (live_view t) xs) ≡ (((is_open m.status && own) && of_mid) || rest))
+      (λ xs. list_any (stands_as mid) (map (view_with lost domain) (map (live_view t) xs)) ≡ (((is_open m.status && own) && of_mid) || rest))
       (λ is.
-      ap (λ b. (of_mid && b) || list_any (stands_as mid) (live_views_of t cuid ms)) (two_is_open m.status)
-      ∙ ap (λ b. b || list_any (stands_as mid) (live_views_of t cuid ms)) (own_one (is_open m.status) own of_mid is)
+      ap (λ b. (of_mid && b) || list_any (stands_as mid) (map (view_with lost domain) (live_views_of t cuid ms)))
+      (standing_is_open (works_for lost domain (live_view t m)) m.status)
+      ∙ ap (λ b. b || list_any (stands_as mid) (map (view_with lost domain) (live_views_of t cuid ms))) (own_one (is_open m.status) own of_mid is)
       ∙ ap (λ b. ((is_open m.status && own) && of_mid) || b) go)
       (λ out. go ∙ sym (ap (λ b. b || rest) (other_one (is_open m.status) own of_mid out)))
 
@@ -100,7 +104,7 @@ module _ (time : ℕ) (history : List Entry) (from : ClientRequest) where
     some_stands = list_any (stands_as mid) (lives time history from)
 
     as_rules : some_stands ≡ list_any (has_mid from.cuid mid) (map live_of (mitigations_of from.domain (mitigations time history)))
-    as_rules = same_standing time from.cuid mid (mitigations_of from.domain (mitigations time history))
+    as_rules = same_standing (is_lost_in (held history)) from.domain time from.cuid mid (mitigations_of from.domain (mitigations time history))
 
     stands_true : (put : Put) → HasMid time history (client_for from) mid put → some_stands ≡ true
     stands_true put has = as_rules ∙ there_mid time history (client_for from) mid put has

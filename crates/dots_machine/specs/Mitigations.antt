@@ -13,13 +13,14 @@ use Rattle.dots_history.specs.declared.change.Change.TheVariants as change
 use Rattle.dots_history.specs.declared.put.Put.{Put}
 use Rattle.dots_laws.specs.Tables.{Client}
 use Rattle.dots_heads.specs.declared.request.Content.{Content}
-use Rattle.live_mitigations.specs.LiveViews.{LiveView, live_views_in}
+use Rattle.live_mitigations.specs.LiveViews.{LiveView}
 use Rattle.reply_bodies.specs.declared.conflict.ConflictCause.TheVariants as cause
 use Rattle.conflict_rules.specs.declared.fault.PutFault.{PutFault}
 use Rattle.conflict_rules.specs.declared.fault.PutFault.TheVariants as faults
 use Rattle.conflict_rules.specs.declared.judging.Judged.{Judged}
 use Rattle.conflict_rules.specs.Requests.{Request}
 use Rattle.dots_registry.specs.Judgements.{IsTaken, HasMid, IsJudged}
+use Rattle.dots_registry.specs.Statuses.{views_in}
 use Rattle.dots_machine.specs.declared.target.TargetFault.{TargetFault}
 use Rattle.dots_machine.specs.declared.exchange.Exchange.{Exchange}
 use Rattle.dots_machine.specs.declared.mitigation_request.MitigationRequest.{MitigationRequest}
@@ -53,10 +54,10 @@ sent_by from = sent_for from.peer from.exchange from.domain
 
 -- ---- a mitigation is asked for (section 4.4.1)
 
--- as the rules see it
+-- as the rules see it; what waits for a lost signal isn't served yet, so each asks for what filters at once
 abbrev pub request_of : MitigationRequest → Request
 request_of asked =
-    record { peer = asked.from.peer; cuid = asked.from.cuid; mid = asked.mid; asked = asked.body.asked; lifetime = asked.body.lifetime }
+    record { peer = asked.from.peer; cuid = asked.from.cuid; mid = asked.mid; asked = asked.body.asked; lifetime = asked.body.lifetime; trigger = true }
 
 -- the answer to one that can't be granted
 abbrev pub refusal : Exchange → ℕ → PutFault → Verdict
@@ -118,9 +119,9 @@ pub data DecidesDelete (time : ℕ) (history : List Entry) (from : ClientRequest
 
 -- ---- mitigations are read (section 4.4.2)
 
--- the client's live mitigations, in order of their entries
+-- the client's live mitigations as they are shown, in order of their entries
 abbrev pub lives : ℕ → List Entry → ClientRequest → List LiveView
-lives time history from = live_views_in from.domain from.cuid time history
+lives time history from = views_in from.domain from.cuid time history
 
 -- any is wanted, or that of the one mid
 abbrev pub is_wanted : Option ℕ → LiveView → Bool

@@ -8,14 +8,15 @@ use Rattle.dots_laws.specs.Fits.{last_time}
 use Rattle.dots_registry.specs.Judgements.{StandsIn}
 use Rattle.dots_machine.specs.Machine.{State}
 
--- No two mitigations of a domain that stand at the time have an address in common, of whichever clients they are.
+-- No two mitigations of a domain that stand at the time have an address in common, of whichever clients they are; but of one client
+-- one that filters at once may have, and one that waits for a lost signal.
 abbrev pub ShareNone : ℕ → List Entry → Type 0
 ShareNone t entries =
     (domain i j : ℕ) (a b : Entry) (one other : Put) → i ≢ j → StandsIn domain t entries i a one → StandsIn domain t entries j b other
-    → targets_meet one other ≡ false
+    → (a.cuid ≡ b.cuid → one.trigger ≡ other.trigger) → targets_meet one other ≡ false
 
--- Of two of one client the one with the higher mid stands: where a mitigation ended one that stood when it came, by overlapping with it or by
--- having its mid, its mid isn't the lower one.
+-- Of two of one client the one with the higher mid stands: where a mitigation ended one that stood when it came, by overlapping with it, with
+-- its trigger value, or by having its mid, its mid isn't the lower one.
 abbrev pub HigherStays : List Entry → Type 0
 HigherStays entries =
     (domain i j : ℕ) (a b : Entry) (one other : Put) → i < j → slice_get entries j ≡ Some b → b.change ≡ change.Put other

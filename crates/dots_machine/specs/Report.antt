@@ -1,5 +1,5 @@
 -- The report: a line for each row that mitigations install in the filter table, and one for each sample packet.
-use Rattle.std.specs.Prelude.{◌≡◌, ℕ, ◌+◌, true, List, [], ◌∷◌, ◌++◌, codes, decimal}
+use Rattle.std.specs.Prelude.{◌≡◌, ℕ, ◌+◌, true, List, [], ◌∷◌, ◌++◌, filter, codes, decimal}
 use Rattle.std.specs.List.{list_all, flat_map}
 use Rattle.ip_scope.specs.Ports.{Ports}
 use Rattle.ip_scope.specs.PrefixText.{prefix_text}
@@ -55,11 +55,11 @@ abbrev pub packet_lines : (Packet → Fate) → ℕ → List Packet → List ℕ
 packet_lines fate number [] = []
 packet_lines fate number (packet ∷ packets) = packet_line number (fate packet) ++ packet_lines fate (number + 1) packets
 
--- the rows of the mitigations that are live at the state's time, in order of their entries, each with its prefixes in order, and the
--- fates of the sample packets of the settings, numbered from 1
+-- the rows of the mitigations that are live at the state's time and filter, in order of their entries, each with its prefixes in order, and
+-- the fates of the sample packets of the settings, numbered from 1
 abbrev pub report_of : SettingsValue → State → List ℕ
 report_of settings state =
-    flat_map (scrub_line settings) (plain_rows state.time state.history) ++ packet_lines (fate_in settings state) 1 settings.packets
+    flat_map (scrub_line settings) (filter (λ row. row.active) (plain_rows state.time state.history)) ++ packet_lines (fate_in settings state) 1 settings.packets
 
 -- containment: the prefix of each row of a mitigation lies inside the domain that its request was for, and so does each destination
 -- of an access list

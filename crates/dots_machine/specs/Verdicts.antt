@@ -14,6 +14,7 @@ use Rattle.dots_keys.specs.declared.request.MitigationBody.{MitigationBody}
 use Rattle.live_mitigations.specs.LiveViews.{LiveView}
 use Rattle.reply_bodies.specs.declared.conflict.ConflictCause.TheVariants as cause
 use Rattle.dots_registry.specs.Judging.{collides, judge_request}
+use Rattle.dots_registry.specs.Statuses.{is_standing}
 use Rattle.dots_machine.specs.declared.target.TargetFault.{TargetFault}
 use Rattle.dots_machine.specs.declared.exchange.Exchange.{Exchange}
 use Rattle.dots_machine.specs.declared.mitigation_request.MitigationRequest.{MitigationRequest}
@@ -59,7 +60,7 @@ is_taken time history from = collides time history from.peer (client_for from)
 
 -- it stands, and has this mid
 abbrev pub stands_as : ℕ → LiveView → Bool
-stands_as mid m = (m.put.mid == mid) && (m.status == 2)
+stands_as mid m = (m.put.mid == mid) && is_standing m.status
 
 -- by whether the name is taken, and whether one of the mid stands
 abbrev pub delete_by : ℕ → ClientRequest → ℕ → Bool → Bool → Verdict

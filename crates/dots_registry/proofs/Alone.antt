@@ -8,10 +8,12 @@ use Rattle.dots_settings.specs.Settings.{SettingsValue}
 use Rattle.dots_history.specs.declared.entry.Entry.{Entry}
 use Rattle.dots_history.specs.Entries.{is_held, undoes, is_deregister, option_any}
 use Rattle.dots_history.specs.Histories.{mitigations, stays, held, alone}
+use Rattle.dots_history.specs.Rows.{is_lost_in}
 use Rattle.dots_laws.specs.Capacities.{is_registration}
 use Rattle.dots_laws.specs.Tables.{Client, is_of}
 use Rattle.dots_laws.specs.Views.{mitigations_of}
 use Rattle.dots_laws.proofs.Apart.{apart}
+use Rattle.dots_laws.proofs.Isolating.{lost_alone}
 use Rattle.dots_laws.proofs.Single.{is_of_client}
 use Rattle.conflict_rules.specs.ByMid as by_mid
 use Rattle.live_mitigations.specs.Judging.{live_of, lives_of}
@@ -22,6 +24,8 @@ use Rattle.held_resources.proofs.Written.{aliases_alone}
 use Rattle.conflict_rules.specs.Requests.{Request, ClientValue}
 use Rattle.conflict_rules.specs.Judging.{judge_put}
 use Rattle.dots_registry.specs.Judging.{collides, judge_request}
+use Rattle.dots_registry.specs.Statuses.{view_with, views_in}
+use Rattle.dots_registry.proofs.ViewRows.{views_by}
 
 -- ---- the live mitigations
 same_mitigations : (domain t : ℕ) (one other : List Entry) → alone domain one ≡ alone domain other
@@ -154,6 +158,13 @@ collides_apart t one other peer client same =
     (λ o. by_mid.collides (lives_of client.domain t other) peer client.cuid || option_any (λ (other : ℕ). not (other == peer)) o)
     (same_registrant client one other same)
 
+same_lost : (domain peer : ℕ) (one other : List Entry) → alone domain one ≡ alone domain other
+    → is_lost_in (held one) peer domain ≡ is_lost_in (held other) peer domain
+same_lost domain peer one other same =
+    sym (lost_alone domain peer one) ∙ ap (λ es. is_lost_in (held es) peer domain) same ∙ lost_alone domain peer other
+
 pub shown_apart : (t : ℕ) (one other : List Entry) (domain : ℕ) (cuid : List ℕ) → alone domain one ≡ alone domain other
-    → live_views_in domain cuid t one ≡ live_views_in domain cuid t other
-shown_apart t one other domain cuid same = ap (live_views_of t cuid) (same_mitigations domain t one other same)
+    → views_in domain cuid t one ≡ views_in domain cuid t other
+shown_apart t one other domain cuid same =
+    views_by (is_lost_in (held one)) (is_lost_in (held other)) domain (live_views_in domain cuid t one) (λ peer. same_lost domain peer one other same)
+    ∙ ap (λ ms. map (view_with (is_lost_in (held other)) domain) (live_views_of t cuid ms)) (same_mitigations domain t one other same)

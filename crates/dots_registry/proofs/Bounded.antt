@@ -2,7 +2,7 @@
 use Rattle.std.proofs.Common.{◌≡◌, ℕ, ◌≤◌, ◌<◌, Bool, true, false, ◌&&◌, ◌||◌, List, [], ◌∷◌, length, Option, Some, None, Ok, refl, sym, ap, ◌∙◌, length-append, arith}
 use Rattle.std.specs.Prelude.{◌==◌, ◌^◌, nat_le, nat_lt, option_to_list, option_map, bytes_eq}
 use Rattle.std.specs.List.{list_all, flat_map}
-use Rattle.std.proofs.lemmas.Bool.{cond_both, and_parts, and_from, or_right, leb-true, le-leb, lt-ltb}
+use Rattle.std.proofs.lemmas.Bool.{false≢true, cond_both, and_parts, and_from, or_right, leb-true, le-leb, lt-ltb}
 use Rattle.std.proofs.lemmas.List.Folds.{list_all-append}
 use Rattle.std.proofs.lemmas.Option.{none-some, same_Some}
 use Rattle.dots_lists.specs.Name.{is_name}
@@ -14,7 +14,7 @@ use Rattle.dots_history.specs.declared.put.Put.{Put}
 use Rattle.dots_history.specs.declared.put.Target.{Target}
 use Rattle.dots_history.specs.declared.change.Change.{Change}
 use Rattle.dots_history.specs.declared.change.Change.TheVariants as change
-use Rattle.dots_history.specs.Entries.{put_of}
+use Rattle.dots_history.specs.Entries.{put_of, is_loss}
 use Rattle.dots_history.specs.Histories.{is_nil, held}
 use Rattle.dots_history.specs.Bounds.{asked_within, alias_within, target_within, prefix_count, put_within, change_within, within_bounds}
 use Rattle.dots_laws.specs.Tables.{Client}
@@ -219,3 +219,22 @@ bounded_granted settings t entries domain request judged e all asked time name r
 pub bounded_withdrawal : (mid : ℕ) (e : Entry) → e.change ≡ change.Withdraw mid → e.time < 2 ^ 48 → is_name e.cuid ≡ true → length e.reply ≤ 64
     → within_bounds e ≡ true
 bounded_withdrawal mid e is time name reply = entry_within e time name reply (ap change_within is)
+
+loss_within : (c : Change) → is_loss c ≡ true → change_within c ≡ true
+unfolding is_loss
+loss_within change.Lost is = refl
+loss_within change.Back is = refl
+loss_within _ is = absurd (false≢true is)
+
+pub bounded_loss : (e : Entry) → is_loss e.change ≡ true → e.time < 2 ^ 48 → e.cuid ≡ [] → e.reply ≡ [] → within_bounds e ≡ true
+bounded_loss e is time nobody silent =
+    let timed = nat_lt e.time (2 ^ 48) in
+    and_from
+    (in_front e)
+    (change_within e.change)
+    (and_from
+    (timed && ((length e.cuid == 0) || is_name e.cuid))
+    (nat_le (length e.reply) 64)
+    (and_from timed ((length e.cuid == 0) || is_name e.cuid) (lt-ltb e.time (2 ^ 48) time) (ap (λ (c : List ℕ). (length c == 0) || is_name c) nobody))
+    (ap (λ (r : List ℕ). nat_le (length r) 64) silent))
+    (loss_within e.change is)

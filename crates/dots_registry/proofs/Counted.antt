@@ -13,7 +13,7 @@ use Rattle.dots_history.specs.declared.change.Change.{Change}
 use Rattle.dots_history.specs.declared.change.Change.TheVariants as change
 use Rattle.dots_history.specs.declared.status.Status.{Status}
 use Rattle.dots_history.specs.declared.status.Status.TheVariants.{Ended, Open, Withdrawn}
-use Rattle.dots_history.specs.Entries.{same_client, put_of, ends, withdraws, replaces, overlaps, option_any}
+use Rattle.dots_history.specs.Entries.{same_client, put_of, ends, withdraws, replaces, is_loss, option_any}
 use Rattle.dots_history.specs.Histories.{Mitigation, live, step, status, tally, mitigations}
 use Rattle.dots_history.specs.Keeping.{moved}
 use Rattle.dots_laws.specs.Views.{mitigations_with, mitigations_of}
@@ -24,7 +24,7 @@ use Rattle.conflict_rules.specs.declared.live.Live.{Live}
 use Rattle.conflict_rules.specs.Wanted.{wanted}
 use Rattle.conflict_rules.specs.Live.{is_of, stands_for, would_end}
 use Rattle.conflict_rules.specs.ByMid.{has_mid}
-use Rattle.conflict_rules.specs.ByOverlap.{staying, own_staying}
+use Rattle.conflict_rules.specs.ByOverlap.{rivals, staying, own_staying}
 use Rattle.conflict_rules.proofs.Ending.{ended}
 use Rattle.live_mitigations.specs.LiveValues.{puts}
 use Rattle.live_mitigations.specs.Judging.{put_or_nothing, live_of, lives_of}
@@ -195,7 +195,7 @@ bracketed false b c = refl
 
 module _ (e : Entry) (put : Put) (asks : e.change ≡ change.Put put) where
   abbrev request : Put
-  request = wanted put.mid put.asked put.targets
+  request = wanted put.mid put.asked put.targets put.trigger
 
   ends_as : (m : Mitigation) → puts m.put ≡ true → (m.put.domain == e.domain) ≡ true → ends m.put e ≡ would_end e.cuid request (live_of m)
   ends_as m is here = ended m.put e (live_of m) put (eqb-true m.put.domain e.domain here) refl (put_there m.put.change is) asks
@@ -247,9 +247,9 @@ module _ (e : Entry) (put : Put) (asks : e.change ≡ change.Put put) where
       let of = and_parts m.standing (is_of e.cuid m) parts.0 in
       and_from
       (is_of e.cuid m)
-      ((m.put.mid == put.mid) || overlaps true m.put request)
+      ((m.put.mid == put.mid) || rivals m.put request)
       of.1
-      (or_left (m.put.mid == put.mid) (overlaps true m.put request) parts.1)
+      (or_left (m.put.mid == put.mid) (rivals m.put request) parts.1)
 
   -- one that has its mid is ended
   ends_one : (t : ℕ) (entries : List Entry) → list_any (has_mid e.cuid put.mid) (lives_of e.domain t entries) ≡ true
@@ -347,7 +347,7 @@ granted_room settings t entries client request judged e at (refreshes m found is
 granted_room settings t entries client request judged e at (begins few place is) cuid asks =
     let targets : List Target = targets_of settings client.aliases request.asked in
     let put = granted_put settings request targets t in
-    let wants = wanted request.mid request.asked targets in
+    let wants = wanted request.mid request.asked targets request.trigger in
     let changes : e.change ≡ change.Put put = asks ∙ ap (λ (j : Judged). change.Put j.put) is in
     let lives = lives_of e.domain t entries in
     let all : staying lives e.cuid wants < settings.limits.domain_mitigations =
@@ -367,26 +367,38 @@ granted_room settings t entries client request judged e at (begins few place is)
       of_client = λ before. after_entry (same_client e) t settings.limits.client_mitigations entries e at (omega (arith, own, stay_too));
     }
 
--- ---- a withdrawal adds none
-withdrawn_least : (q : Entry → Bool) (t most mid : ℕ) (entries : List Entry) (e : Entry) → e.time ≡ t → e.change ≡ change.Withdraw mid
+-- ---- what puts none adds none
+none_least : (q : Entry → Bool) (t most : ℕ) (entries : List Entry) (e : Entry) → e.time ≡ t → put_of e.change ≡ None
     → tally (λ (m : Mitigation). q m.put) (mitigations t entries) ≤ most
     → tally (λ (m : Mitigation). q m.put) (mitigations t (entries ++ e ∷ [])) ≤ most
-withdrawn_least q t most mid entries e at is few =
+none_least q t most entries e at is few =
     let timely : t ≤ e.time = omega (arith, at) in
     let left = left_by q e (mitigations t entries) in
     let fewer = none_more (λ (m : Mitigation). q m.put) (λ (m : Mitigation). ends m.put e) (mitigations t entries) in
     let nought : ℕ = 0 in
-    let none : cond (live e.time e Open) 1 0 ≡ nought = ap (λ b. cond b 1 0) (never_live e.time e Open (ap put_of is)) in
+    let none : cond (live e.time e Open) 1 0 ≡ nought = ap (λ b. cond b 1 0) (never_live e.time e Open is) in
     let less : tally (λ (m : Mitigation). q m.put) (mitigations_with e (mitigations t entries)) ≤ most = omega (arith, left, fewer, none, few) in
     subst
     (λ u. tally (λ (m : Mitigation). q m.put) (mitigations u (entries ++ e ∷ [])) ≤ most)
     at
     (subst (λ ms. tally (λ (m : Mitigation). q m.put) ms ≤ most) (sym (adding t e entries timely)) less)
 
+none_room : (limits : Limits) (t : ℕ) (entries : List Entry) (e : Entry) → e.time ≡ t → put_of e.change ≡ None → Keeps limits t entries e
+none_room limits t entries e at is =
+    record {
+      of_domain = none_least (λ (x : Entry). x.domain == e.domain) t limits.domain_mitigations entries e at is;
+      of_client = none_least (same_client e) t limits.client_mitigations entries e at is;
+    }
+
 pub withdrawn_room : (limits : Limits) (t mid : ℕ) (entries : List Entry) (e : Entry) → e.time ≡ t → e.change ≡ change.Withdraw mid
     → Keeps limits t entries e
-withdrawn_room limits t mid entries e at is =
-    record {
-      of_domain = withdrawn_least (λ (x : Entry). x.domain == e.domain) t limits.domain_mitigations mid entries e at is;
-      of_client = withdrawn_least (same_client e) t limits.client_mitigations mid entries e at is;
-    }
+withdrawn_room limits t mid entries e at is = none_room limits t entries e at (ap put_of is)
+
+loss_puts_none : (c : Change) → is_loss c ≡ true → put_of c ≡ None
+unfolding is_loss
+loss_puts_none change.Lost is = refl
+loss_puts_none change.Back is = refl
+loss_puts_none _ is = absurd (false≢true is)
+
+pub lost_room : (limits : Limits) (t : ℕ) (entries : List Entry) (e : Entry) → e.time ≡ t → is_loss e.change ≡ true → Keeps limits t entries e
+lost_room limits t entries e at is = none_room limits t entries e at (loss_puts_none e.change is)

@@ -1,12 +1,10 @@
 -- What a registry has of slots goes on with it.
-use Rattle.std.proofs.Common.{◌≡◌, ℕ, zero, suc, ◌+◌, ◌*◌, ◌<◌, ◌≤◌, Bool, true, false, cond, not, ◌&&◌, ◌||◌, List, [], ◌∷◌, ◌++◌, length, map, filter, Option, Some, None, inl, inr, refl, sym, ap, subst, ◌∙◌, le_refl, le_trans, arith}
-use Rattle.std.specs.Prelude.{◌==◌, nat_lt, nat_le, slice_get, option_map, option_to_list, unwrap_or}
+use Rattle.std.proofs.Common.{◌≡◌, ℕ, zero, suc, ◌+◌, ◌*◌, ◌<◌, ◌≤◌, Bool, true, false, cond, not, ◌&&◌, ◌||◌, List, [], ◌∷◌, ◌++◌, length, map, filter, Option, Some, None, inl, inr, refl, sym, ap, subst, ◌∙◌, le_trans, arith}
+use Rattle.std.specs.Prelude.{◌==◌, nat_lt, nat_le, option_map, option_to_list}
 use Rattle.std.specs.List.{list_any, list_all}
-use Rattle.std.proofs.lemmas.Bool.{cond_both, cases_Bool, and_from, and_parts, or_left, or_right, or_cases, eqb-true, eq-eqb, ltb-true, ltb-false, both_ways, false≢true}
+use Rattle.std.proofs.lemmas.Bool.{cond_both, cases_Bool, and_from, and_parts, or_left, or_right, or_cases, eqb-true, eq-eqb, ltb-true, both_ways, false≢true}
 use Rattle.std.proofs.lemmas.List.{map-append, length-map, append-nil}
-use Rattle.std.proofs.lemmas.List.Elements.{filter-append}
 use Rattle.std.proofs.lemmas.List.Folds.{list_all-append}
-use Rattle.std.proofs.lemmas.Option.{none-some, slice_get-map}
 use Rattle.dots_lists.specs.Name.{is_name}
 use Rattle.dots_settings.specs.Settings.{SettingsValue}
 use Rattle.dots_settings.specs.declared.limits.Limits.{Limits}
@@ -15,17 +13,14 @@ use Rattle.dots_history.specs.declared.change.Change.{Change}
 use Rattle.dots_history.specs.declared.change.Change.TheVariants as change
 use Rattle.dots_history.specs.declared.entry.Entry.{Entry}
 use Rattle.dots_history.specs.Bounds.{within_bounds, change_within}
-use Rattle.dots_history.specs.Entries.{same_client, is_signal, signals, is_configuration}
-use Rattle.dots_history.specs.Histories.{Mitigation, tally, mitigations, held, alone}
+use Rattle.dots_history.specs.Entries.{same_client, is_signal, signals, is_configuration, is_lost, is_loss}
+use Rattle.dots_history.specs.Histories.{tally, mitigations, held, alone}
 use Rattle.dots_history.specs.Keeping.{kept}
-use Rattle.dots_laws.specs.Capacities.{KeepsCapacities, belongs, has_client, is_alias, most_named}
+use Rattle.dots_laws.specs.Capacities.{KeepsCapacities, belongs_there, belongs, loses_as, has_client, is_alias, most_named}
 use Rattle.dots_laws.specs.Calm.{numbers_from}
 use Rattle.dots_laws.specs.Filed.{Filed, entry_of}
 use Rattle.dots_laws.specs.Fits.{is_of_mitigations}
 use Rattle.dots_laws.specs.Fits as laws
-use Rattle.dots_laws.specs.Tables.{bare, bare_mitigation}
-use Rattle.dots_laws.proofs.Apart.{apart}
-use Rattle.dots_laws.proofs.Bare.{bare_mitigations}
 use Rattle.dots_laws.proofs.Bounding.{named_few}
 use Rattle.dots_laws.proofs.GoingOn.{held_push}
 use Rattle.dots_laws.proofs.Joining.{fits_so, same_by, tally_held, tally_same}
@@ -36,7 +31,8 @@ use Rattle.live_mitigations.proofs.SlotsOfRows.{come_later}
 use Rattle.held_resources.specs.declared.row.HeldSlot.{HeldSlot}
 use Rattle.held_resources.specs.Rows.{HeldRows, written_of, row_with, rows_of, rows_with, is_undone, rows_more as rows_more_of}
 use Rattle.held_resources.specs.Sizes.{most_held}
-use Rattle.held_resources.specs.Tables.{Tables, Sizes, sizes_of, is_known}
+use Rattle.held_resources.specs.Tables.{Tables, Sizes, sizes_of, is_placed, is_known}
+use Rattle.held_resources.proofs.Losses.{lost_loss}
 use Rattle.held_resources.proofs.Going.{rows_more, none_undone}
 use Rattle.held_resources.proofs.Lawful.{known_of}
 use Rattle.held_resources.proofs.Names.{is_short}
@@ -49,7 +45,7 @@ use Rattle.installed_filters.specs.Filters.{FiltersValue}
 use Rattle.installed_filters.specs.HistoryRows.{KeepsLimits}
 use Rattle.installed_filters.proofs.Limits.{limits_with}
 use Rattle.dots_registry.specs.Kept.{RingsAre}
-use Rattle.dots_registry.specs.RegistryValues.{RegistryValue, Represents, IsOf, time_of, domains_of, limits_of, number_remembered, has_ring, rings_with, silent}
+use Rattle.dots_registry.specs.RegistryValues.{RegistryValue, Represents, time_of, domains_of, limits_of, number_remembered, has_ring, rings_with, silent}
 use Rattle.dots_registry.specs.Fitting.{FitsIn, fits_now, fits_then}
 use Rattle.dots_registry.specs.Filed.{RepresentsFiled, HasSlots, IsFiled, capacities_in, actor_of, most_kept, is_alias_of}
 use Rattle.dots_registry.proofs.RegistryValues.{joined, fits_within, fits_later, fits_ring, own_of, accepted, puts_kind}
@@ -67,9 +63,9 @@ most_same : (old new : RegistryValue) → limits_of new ≡ limits_of old → ne
     → most_named (capacities_in new) 0 ≡ most_named (capacities_in old) 0
 most_same old new limits sizes =
     most_of (capacities_in new) new.held.sizes.domains refl
-    ∙ ap (λ (l : Limits). new.held.sizes.domains * (2 * l.domain_mitigations + l.clients + l.clients * (l.aliases + l.acls)) + length new.held.sizes.peers + 1) limits
+    ∙ ap (λ (l : Limits). new.held.sizes.domains * (2 * l.domain_mitigations + l.clients + l.clients * (l.aliases + l.acls)) + length new.held.sizes.peers + length new.held.sizes.own + 1) limits
     ∙ ap
-    (λ (s : Sizes). s.domains * (2 * old.live.limits.domain_mitigations + old.live.limits.clients + old.live.limits.clients * (old.live.limits.aliases + old.live.limits.acls)) + length s.peers + 1)
+    (λ (s : Sizes). s.domains * (2 * old.live.limits.domain_mitigations + old.live.limits.clients + old.live.limits.clients * (old.live.limits.aliases + old.live.limits.acls)) + length s.peers + length s.own + 1)
     sizes
     ∙ sym (most_of (capacities_in old) old.held.sizes.domains refl)
 
@@ -114,7 +110,8 @@ slots_first_room live held rings filters settings domains limits sizes none = re
       (ap (λ (l : Limits). l.clients) limits)
       (ap (λ (l : Limits). l.aliases) limits)
       (ap (λ (l : Limits). l.acls) limits)
-      (ap (λ (s : Sizes). length s.peers) sizes ∙ length-map settings.peers (λ (row : PeerRow). row.peer)));
+      (ap (λ (s : Sizes). length s.peers) sizes ∙ length-map settings.peers (λ (row : PeerRow). row.peer))
+      (ap (λ (s : Sizes). s.own) sizes));
 }
 
 -- ---- the time
@@ -199,7 +196,11 @@ belongs_by registry e has known =
     let actors = map actor_of registry.rings in
     let peers = list_any (λ peer. e.peer == peer) registry.held.sizes.peers in
     let domains = list_any (λ domain. e.domain == domain) (numbers_from 0 registry.held.sizes.domains) in
+    let parts = and_parts (is_placed registry.held.sizes e) (not (is_loss e.change) || list_any (loses_as e) registry.held.sizes.own) known in
     and_from
+    (belongs_there (capacities_in registry) e)
+    (not (is_lost e.change) || list_any (loses_as e) registry.held.sizes.own)
+    (and_from
     (not (is_signal e.change) || list_any (λ (actor : ℕ × ℕ). signals actor.0 actor.1 e) actors)
     (cond (is_configuration e.change) peers domains)
     (elim (cases_Bool (is_signal e.change)) [
@@ -214,7 +215,8 @@ belongs_by registry e has known =
           (list_any (λ (actor : ℕ × ℕ). signals actor.0 actor.1 e) actors)
           (ap not quiet)
     ])
-    (by_kind (is_configuration e.change) known)
+    (by_kind (is_configuration e.change) parts.0))
+    (lost_too (is_lost e.change) refl parts.1)
   where
     by_kind : (b : Bool) → cond b (list_any (λ peer. e.peer == peer) registry.held.sizes.peers) (nat_lt e.domain registry.held.sizes.domains) ≡ true
         → cond b (list_any (λ peer. e.peer == peer) registry.held.sizes.peers) (list_any (λ domain. e.domain == domain) (numbers_from 0 registry.held.sizes.domains)) ≡ true
@@ -222,6 +224,11 @@ belongs_by registry e has known =
     by_kind false is =
         let below = ltb-true e.domain registry.held.sizes.domains is in
         among 0 registry.held.sizes.domains e.domain (omega arith) (omega (arith, below))
+
+    lost_too : (b : Bool) → is_lost e.change ≡ b → (not (is_loss e.change) || list_any (loses_as e) registry.held.sizes.own) ≡ true
+        → (not b || list_any (loses_as e) registry.held.sizes.own) ≡ true
+    lost_too false is there = refl
+    lost_too true is there = sym (ap (λ b. not b || list_any (loses_as e) registry.held.sizes.own) (lost_loss e.change is)) ∙ there
 
 all_belong : (registry : RegistryValue) (es : List Entry) → list_all (has_ring registry.rings) es ≡ true → list_all (is_known registry.held.sizes) es ≡ true
     → list_all (belongs (capacities_in registry)) es ≡ true

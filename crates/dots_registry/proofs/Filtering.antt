@@ -1,39 +1,38 @@
 -- The rows after an entry, and that there is room for them.
-use Rattle.std.proofs.Common.{◌≡◌, ℕ, ◌+◌, ◌<◌, ◌≤◌, Bool, true, false, cond, not, ◌&&◌, List, [], ◌∷◌, ◌++◌, map, length, Option, Some, None, refl, sym, ap, ◌∙◌, subst, arith}
+use Rattle.std.proofs.Common.{◌≡◌, ◌<◌, ◌≤◌, Bool, true, false, not, ◌||◌, List, [], ◌∷◌, ◌++◌, length, Some, refl, sym, ap, ◌∙◌, subst, arith}
 use Rattle.std.specs.Prelude.{◌==◌, nat_lt, nat_le}
 use Rattle.std.specs.List.{list_any, list_all}
 use Rattle.std.proofs.lemmas.Bool.{false≢true, cond-false, and_parts, and_from, ltb-true}
 use Rattle.std.proofs.lemmas.List.Folds.{list_all-append}
 use Rattle.std.proofs.lemmas.Option.{none-some}
 use Rattle.acl_lists.specs.declared.acl.Acl.{Acl}
-use Rattle.filter_table.specs.Table.{TableValue}
-use Rattle.dots_settings.specs.Settings.{SettingsValue}
 use Rattle.dots_settings.specs.declared.limits.Limits.{Limits}
 use Rattle.dots_history.specs.declared.entry.Entry.{Entry}
 use Rattle.dots_history.specs.declared.change.Change.{Change}
 use Rattle.dots_history.specs.declared.change.Change.TheVariants as change
 use Rattle.dots_history.specs.Bounds.{within_bounds}
-use Rattle.dots_history.specs.Entries.{is_configuration}
+use Rattle.dots_history.specs.declared.put.Put.{Put}
+use Rattle.dots_history.specs.Entries.{is_configuration, is_loss, put_of, option_any}
 use Rattle.dots_history.specs.Histories.{Mitigation, mitigations, held}
-use Rattle.dots_history.specs.Rows.{acl_of, plain_rows, acl_rows}
+use Rattle.dots_history.specs.Rows.{acl_of}
 use Rattle.dots_laws.specs.Fits as laws
 use Rattle.dots_laws.specs.Tables.{client_of}
-use Rattle.live_mitigations.specs.LiveValues.{LiveValue, rows_for, puts, is_inside}
+use Rattle.live_mitigations.specs.LiveValues.{LiveValue, SameButRows, rows_for, puts, is_inside}
 use Rattle.live_mitigations.specs.LiveValues as lives
-use Rattle.live_mitigations.proofs.LiveValues.{within_inside, quiet_inside}
+use Rattle.live_mitigations.proofs.LiveValues.{within_inside}
 use Rattle.held_resources.specs.Held.{acls_of}
-use Rattle.held_resources.specs.Tables.{Tables, is_known, sizes_of, tables_with}
+use Rattle.dots_laws.specs.Capacities.{loses_as}
+use Rattle.held_resources.specs.Tables.{Tables, is_placed, is_known, sizes_of, tables_with, lost_in}
 use Rattle.held_resources.specs.Tables as things
 use Rattle.held_resources.proofs.Lawful.{same_held, known_of}
-use Rattle.held_resources.proofs.HistoryTables.{represents_with}
-use Rattle.installed_filters.specs.Filters.{FiltersValue, filters_put, filters_written, some_of, everyone}
+use Rattle.held_resources.proofs.HistoryTables.{represents_with, lost_is}
+use Rattle.installed_filters.specs.Filters.{FiltersValue, filters_put, filters_written, filters_lost, some_of, is_working}
 use Rattle.installed_filters.specs.HistoryRows.{KeepsLimits, HasRoom, scrub_room_of, acl_room_of}
 use Rattle.installed_filters.specs.HistoryRows as rows
 use Rattle.installed_filters.proofs.Limits.{limits_with}
 use Rattle.installed_filters.proofs.Room.{scrubs_fit, lists_fit}
-use Rattle.installed_filters.proofs.HistoryRows.{put_represents, write_represents, client_mitigates, live_inside}
-use Rattle.installed_filters.proofs.Waking.{mitigates}
-use Rattle.dots_registry.specs.RegistryValues.{RegistryValue, IsOf, Represents, time_of}
+use Rattle.installed_filters.proofs.HistoryRows.{put_represents, write_represents, lost_represents_noted, client_mitigates, live_inside}
+use Rattle.dots_registry.specs.RegistryValues.{RegistryValue, Represents, time_of}
 use Rattle.dots_registry.specs.Fitting.{FitsIn, fits_then, fits_now}
 use Rattle.dots_registry.proofs.RegistryValues.{Filtered, fits_inside, fits_later, fits_within, law_fits, own_of, own_inside, puts_kind, accepted}
 use Rattle.dots_registry.proofs.Conditions.{same_fits}
@@ -88,13 +87,14 @@ pub put_within : (inside old : RegistryValue) (e : Entry) → inside ≡ old →
 put_within inside old e same fits put = domain_of inside e (fits_inside inside old e same fits) put
 
 rows_after_put : (inside : RegistryValue) (e : Entry) (new : FiltersValue) (entries : List Entry) → FitsIn inside e → e.time ≡ time_of inside → puts e ≡ true
-    → new ≡ filters_put e (rows_for inside.live e.domain) inside.filters → Represents inside entries
+    → new ≡ filters_put (lost_in inside.held) e (rows_for inside.live e.domain) inside.filters → Represents inside entries
     → rows.Represents new inside.live.time (entries ++ e ∷ [])
 rows_after_put inside e new entries fits at put made represents =
     subst
     (λ t. rows.Represents new t (entries ++ e ∷ []))
     at
     (put_represents
+    (lost_in inside.held)
     inside.live
     inside.filters
     new
@@ -105,11 +105,12 @@ rows_after_put inside e new entries fits at put made represents =
     put
     represents.live
     represents.filters
+    (lost_is inside.held (held entries) represents.held)
     made
     (same_held e entries (puts_kind e put).0))
 
 pub put_filtered : (inside old : RegistryValue) (e : Entry) (new : FiltersValue) (entries : List Entry) → inside ≡ old → FitsIn old e → e.time ≡ time_of old
-    → puts e ≡ true → new ≡ filters_put e (rows_for inside.live e.domain) inside.filters → Represents inside entries
+    → puts e ≡ true → new ≡ filters_put (lost_in inside.held) e (rows_for inside.live e.domain) inside.filters → Represents inside entries
     → Filtered inside new (entries ++ e ∷ [])
 put_filtered inside old e new entries same fits at put made represents =
     let here = fits_inside inside old e same fits in
@@ -120,11 +121,11 @@ put_filtered inside old e new entries same fits at put made represents =
     }
 
 pub put_fits : (inside old : RegistryValue) (e : Entry) → inside ≡ old → FitsIn old e → e.time ≡ time_of old → puts e ≡ true
-    → length (filters_put e (rows_for inside.live e.domain) inside.filters).scrubs ≤ inside.filters.scrub_room
+    → length (filters_put (lost_in inside.held) e (rows_for inside.live e.domain) inside.filters).scrubs ≤ inside.filters.scrub_room
 put_fits inside old e same fits at put =
     let here = fits_inside inside old e same fits in
     let now : e.time ≡ time_of inside = at ∙ sym (ap time_of same) in
-    let after = rows_after_put inside e (filters_put e (rows_for inside.live e.domain) inside.filters) here.entries here now put refl here.represents in
+    let after = rows_after_put inside e (filters_put (lost_in inside.held) e (rows_for inside.live e.domain) inside.filters) here.entries here now put refl here.represents in
     let most = scrubs_fit
     inside.live.domains
     inside.live.limits
@@ -156,14 +157,14 @@ list_inside inside e acl fits is =
     (list_any (λ peer. e.peer == peer) (sizes_of fits.settings).peers)
     (nat_lt e.domain (length fits.settings.domains))
     (list_no_configuration e.change acl is))
-    ∙ known_of fits.settings e own) in
+    ∙ (and_parts (is_placed (sizes_of fits.settings) e) (not (is_loss e.change) || list_any (loses_as e) (sizes_of fits.settings).own) (known_of fits.settings e own)).0) in
     subst (λ n. e.domain < n) (sym fits.is_of.domains) below
 
 rows_after_write : (inside : RegistryValue) (e : Entry) (mitigating : Bool) (acls : List Acl) (new : FiltersValue) (entries : List Entry) → FitsIn inside e
-    → e.time ≡ time_of inside → puts e ≡ false → new ≡ filters_written mitigating acls e inside.filters
-    → (e.domain < inside.live.domains → mitigating ≡ some_of everyone e.cuid (rows_for inside.live e.domain))
+    → e.time ≡ time_of inside → puts e ≡ false → is_loss e.change ≡ false → new ≡ filters_written mitigating acls e inside.filters
+    → (e.domain < inside.live.domains → mitigating ≡ some_of (is_working (lost_in inside.held)) e.cuid (rows_for inside.live e.domain))
     → acls ≡ acls_of (client_of e) (held entries) → Represents inside entries → rows.Represents new inside.live.time (entries ++ e ∷ [])
-rows_after_write inside e mitigating acls new entries fits at quiet made by_kept are represents =
+rows_after_write inside e mitigating acls new entries fits at quiet still made by_kept are represents =
     subst
     (λ t. rows.Represents new t (entries ++ e ∷ []))
     at
@@ -177,31 +178,32 @@ rows_after_write inside e mitigating acls new entries fits at quiet made by_kept
     entries
     at
     quiet
+    still
     represents.live
     represents.filters
     made
     (λ acl is.
-    let within = list_inside inside e acl fits is in by_kept within ∙ client_mitigates inside.live e entries within represents.live)
+    let within = list_inside inside e acl fits is in by_kept within ∙ client_mitigates (lost_in inside.held) inside.live e entries within represents.live (lost_is inside.held (held entries) represents.held))
     are)
 
 pub write_filtered : (inside old : RegistryValue) (e : Entry) (mitigating : Bool) (acls : List Acl) (new : FiltersValue) (entries : List Entry) → inside ≡ old
-    → FitsIn old e → e.time ≡ time_of old → puts e ≡ false → new ≡ filters_written mitigating acls e inside.filters
-    → (e.domain < inside.live.domains → mitigating ≡ some_of everyone e.cuid (rows_for inside.live e.domain))
+    → FitsIn old e → e.time ≡ time_of old → puts e ≡ false → is_loss e.change ≡ false → new ≡ filters_written mitigating acls e inside.filters
+    → (e.domain < inside.live.domains → mitigating ≡ some_of (is_working (lost_in inside.held)) e.cuid (rows_for inside.live e.domain))
     → (things.Represents inside.held entries → acls ≡ acls_of (client_of e) (held entries)) → Represents inside entries
     → Filtered inside new (entries ++ e ∷ [])
-write_filtered inside old e mitigating acls new entries same fits at quiet made by_kept are represents =
+write_filtered inside old e mitigating acls new entries same fits at quiet still made by_kept are represents =
     let here = fits_inside inside old e same fits in
     let now : e.time ≡ time_of inside = at ∙ sym (ap time_of same) in
     record {
-      filters_are = rows_after_write inside e mitigating acls new entries here now quiet made by_kept (are represents.held) represents;
+      filters_are = rows_after_write inside e mitigating acls new entries here now quiet still made by_kept (are represents.held) represents;
       limits_are = limits_after inside e entries here now represents;
     }
 
-pub write_fits : (inside old : RegistryValue) (e : Entry) (mitigating : Bool) (acls : List Acl) → inside ≡ old → FitsIn old e → e.time ≡ time_of old → puts e ≡ false
-    → (e.domain < inside.live.domains → mitigating ≡ some_of everyone e.cuid (rows_for inside.live e.domain))
+pub write_fits : (inside old : RegistryValue) (e : Entry) (mitigating : Bool) (acls : List Acl) → inside ≡ old → FitsIn old e → e.time ≡ time_of old → puts e ≡ false → is_loss e.change ≡ false
+    → (e.domain < inside.live.domains → mitigating ≡ some_of (is_working (lost_in inside.held)) e.cuid (rows_for inside.live e.domain))
     → ((entries : List Entry) → things.Represents inside.held entries → acls ≡ acls_of (client_of e) (held entries))
     → length (filters_written mitigating acls e inside.filters).acls ≤ inside.filters.acl_room
-write_fits inside old e mitigating acls same fits at quiet by_kept are =
+write_fits inside old e mitigating acls same fits at quiet still by_kept are =
     let here = fits_inside inside old e same fits in
     let now : e.time ≡ time_of inside = at ∙ sym (ap time_of same) in
     let after = rows_after_write
@@ -214,6 +216,7 @@ write_fits inside old e mitigating acls same fits at quiet by_kept are =
     here
     now
     quiet
+    still
     refl
     by_kept
     (are here.entries here.represents.held)
@@ -232,3 +235,58 @@ write_fits inside old e mitigating acls same fits at quiet by_kept are =
     here.is_of.filters.acls
     ∙ sym (ap (λ (s : things.Sizes). acl_room_of s.domains inside.live.limits) here.is_of.sizes ∙ ap (acl_room_of (length here.settings.domains)) here.is_of.limits) in
     omega (arith, most, long, room)
+
+-- ---- a loss, or its end
+loss_kind : (c : Change) → is_loss c ≡ true → (option_any (λ (put : Put). true) (put_of c) ≡ false) × (is_configuration c ≡ false)
+unfolding is_loss is_configuration
+loss_kind change.Lost is = (refl, refl)
+loss_kind change.Back is = (refl, refl)
+loss_kind _ is = absurd (false≢true is)
+
+pub loss_quiet : (e : Entry) → is_loss e.change ≡ true → puts e ≡ false
+loss_quiet e is = (loss_kind e.change is).0
+
+loss_inside : (inside : RegistryValue) (e : Entry) → FitsIn inside e → is_loss e.change ≡ true → e.domain < inside.live.domains
+loss_inside inside e fits is =
+    let own = own_of fits.settings fits.entries e (law_fits inside e fits) in
+    let known = (and_parts (is_placed (sizes_of fits.settings) e) (not (is_loss e.change) || list_any (loses_as e) (sizes_of fits.settings).own) (known_of fits.settings e own)).0 in
+    let below : e.domain < length fits.settings.domains =
+    ltb-true
+    e.domain
+    (length fits.settings.domains)
+    (sym (cond-false
+    (is_configuration e.change)
+    (list_any (λ peer. e.peer == peer) (sizes_of fits.settings).peers)
+    (nat_lt e.domain (length fits.settings.domains))
+    (loss_kind e.change is).1)
+    ∙ known) in
+    subst (λ n. e.domain < n) (sym fits.is_of.domains) below
+
+pub loss_within : (inside old : RegistryValue) (e : Entry) → inside ≡ old → FitsIn old e → is_loss e.change ≡ true → e.domain < inside.live.domains
+loss_within inside old e same fits is = loss_inside inside e (fits_inside inside old e same fits) is
+
+pub loss_filtered : (inside old : RegistryValue) (noted : LiveValue) (held_now : Tables) (e : Entry) (new : FiltersValue) (entries : List Entry) → inside ≡ old → FitsIn old e
+    → e.time ≡ time_of old → is_loss e.change ≡ true → SameButRows inside.live noted → lives.Represents noted (entries ++ e ∷ [])
+    → things.Represents held_now (entries ++ e ∷ []) → new ≡ filters_lost (lost_in held_now) e.peer e.domain (rows_for noted e.domain) inside.filters
+    → Represents inside entries → Filtered inside new (entries ++ e ∷ [])
+loss_filtered inside old noted held_now e new entries same fits at is but alive held_so made represents =
+    let here = fits_inside inside old e same fits in
+    let now : e.time ≡ time_of inside = at ∙ sym (ap time_of same) in
+    record {
+      filters_are = subst (λ t. rows.Represents new t (entries ++ e ∷ [])) now
+          (lost_represents_noted
+          (lost_in held_now)
+          noted
+          inside.filters
+          new
+          e
+          entries
+          (now ∙ sym but.time)
+          (subst (λ n. e.domain < n) (sym but.domains) (loss_inside inside e here is))
+          is
+          alive
+          (subst (λ t. rows.Represents inside.filters t entries) (sym now) represents.filters)
+          (lost_is held_now (held (entries ++ e ∷ [])) held_so)
+          made);
+      limits_are = limits_after inside e entries here now represents;
+    }

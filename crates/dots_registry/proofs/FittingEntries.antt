@@ -1,14 +1,14 @@
 -- What is granted and what is withdrawn fits the history, and the clients keep their limits.
 use Rattle.std.proofs.Common.{◌≡◌, ℕ, ◌+◌, ◌≤◌, Bool, true, false, cond, not, ◌&&◌, ◌||◌, List, [], ◌∷◌, ◌++◌, Ok, inl, inr, refl, sym, ap, ◌∙◌, subst, le_trans, arith}
 use Rattle.std.specs.Prelude.{◌==◌, nat_le}
-use Rattle.std.proofs.lemmas.Bool.{false≢true, cond_both, cases_Bool, and_parts, and_from, le-leb}
+use Rattle.std.proofs.lemmas.Bool.{false≢true, cond_both, cases_Bool, and_parts, and_from, and_left, or_parts, le-leb}
 use Rattle.dots_settings.specs.declared.limits.Limits.{Limits}
 use Rattle.dots_settings.specs.Settings.{SettingsValue}
 use Rattle.dots_history.specs.declared.entry.Entry.{Entry}
 use Rattle.dots_history.specs.declared.change.Change.{Change}
 use Rattle.dots_history.specs.declared.change.Change.TheVariants as change
 use Rattle.dots_history.specs.Bounds.{within_bounds}
-use Rattle.dots_history.specs.Entries.{same_client}
+use Rattle.dots_history.specs.Entries.{same_client, is_loss}
 use Rattle.dots_history.specs.Histories.{Mitigation, live, tally, mitigations, held}
 use Rattle.dots_laws.specs.Calm.{is_of_settings, came_rightly, is_own, IsCalmBy}
 use Rattle.dots_laws.specs.Capacities.{is_registration, is_alias, is_list, has_client}
@@ -20,7 +20,7 @@ use Rattle.dots_laws.proofs.Joining.{fits_so, tally_with, tally_held, tally_same
 use Rattle.dots_laws.specs.Views.{mitigations_at}
 use Rattle.held_resources.specs.Tables.{rooms_of}
 use Rattle.held_resources.specs.Accepting.{accepts, keeps_rooms}
-use Rattle.held_resources.proofs.Lawful.{same_held, accepts_own}
+use Rattle.held_resources.proofs.Lawful.{accepts_own}
 use Rattle.live_mitigations.specs.LiveValues.{has_live_room}
 use Rattle.live_mitigations.specs.Judging.{lives_of}
 use Rattle.conflict_rules.specs.declared.judging.Judged.{Judged}
@@ -31,7 +31,7 @@ use Rattle.dots_registry.specs.Judging.{client_in, judge_request}
 use Rattle.dots_registry.proofs.Conditions.{fits_possible}
 use Rattle.dots_registry.specs.Limits.{ClientsKeepLimits}
 use Rattle.dots_registry.proofs.Granted.{granted_by}
-use Rattle.dots_registry.proofs.Counted.{Keeps, granted_room, withdrawn_room}
+use Rattle.dots_registry.proofs.Counted.{Keeps, granted_room, withdrawn_room, lost_room}
 
 -- ---- what puts or withdraws a mitigation registers nothing, and holds nothing
 nothing_held : (c : Change) → is_of_mitigations c ≡ true → (is_registration c ≡ false) × (is_alias c || is_list c ≡ false)
@@ -40,18 +40,40 @@ nothing_held (change.Put put) is = (refl, refl)
 nothing_held (change.Withdraw mid) is = (refl, refl)
 nothing_held _ is = absurd (false≢true is)
 
-rightly : (standing : List Entry) (e : Entry) → is_of_mitigations e.change ≡ true → registers_rightly standing e ≡ true
-rightly standing e is =
-    let none = nothing_held e.change is in
+-- nor does what says that a signal is lost or back
+nothing_lost : (c : Change) → is_loss c ≡ true → (is_registration c ≡ false) × (is_alias c || is_list c ≡ false)
+unfolding is_loss is_registration is_alias is_list
+nothing_lost change.Lost is = (refl, refl)
+nothing_lost change.Back is = (refl, refl)
+nothing_lost _ is = absurd (false≢true is)
+
+-- an entry that registers nothing and writes no alias and no list
+abbrev HoldsNone : Entry → Type 0
+HoldsNone e = (is_registration e.change ≡ false) × (is_alias e.change || is_list e.change ≡ false)
+
+rightly : (standing : List Entry) (e : Entry) → HoldsNone e → registers_rightly standing e ≡ true
+rightly standing e none =
     and_from
     (not (is_registration e.change) || not (is_registered standing e))
     (has_client standing e)
     (ap (λ b. not b || not (is_registered standing e)) none.0)
     (ap (λ b. not b || is_registered standing e) none.1)
 
+-- of what it isn't itself no more is held after it
+held_fewer : (q : Entry → Bool) (e : Entry) (entries : List Entry) → q e ≡ false → tally q (held (entries ++ e ∷ [])) ≤ tally q (held entries)
+held_fewer q e entries out =
+    subst (λ es. tally q es ≤ tally q (held entries)) (sym (held_push e entries)) (tally_held q e (held entries) out)
+
+aliases_fewer : (client e : Entry) (entries : List Entry) → HoldsNone e
+    → tally (λ (x : Entry). is_alias x.change && same_client client x) (held (entries ++ e ∷ []))
+    ≤ tally (λ (x : Entry). is_alias x.change && same_client client x) (held entries)
+aliases_fewer client e entries none =
+    held_fewer (λ (x : Entry). is_alias x.change && same_client client x) e entries
+    (and_left (is_alias e.change) (same_client client e) (or_parts (is_alias e.change) (is_list e.change) none.1).0)
+
 module _ (settings : SettingsValue) (registry : RegistryValue) (entries : List Entry) (e : Entry) (is_of : IsOf settings registry)
     (represents : Represents registry entries) (clients : ClientsKeepLimits settings.limits (time_of registry) entries) (own : is_own settings e ≡ true)
-    (within : within_bounds e ≡ true) (at : e.time ≡ time_of registry) (is : is_of_mitigations e.change ≡ true)
+    (within : within_bounds e ≡ true) (at : e.time ≡ time_of registry) (none : HoldsNone e)
     (keeps : Keeps settings.limits (time_of registry) entries e) where
   of_settings : is_of_settings settings e ≡ true
   of_settings = (and_parts (is_of_settings settings e) (came_rightly e) own).0
@@ -59,20 +81,28 @@ module _ (settings : SettingsValue) (registry : RegistryValue) (entries : List E
   same_limits : registry.live.limits ≡ settings.limits
   same_limits = is_of.limits
 
-  held_rooms : keeps_rooms (rooms_of settings.limits) e (held entries) ≡ true
+  held_rooms : keeps_rooms (rooms_of settings.limits) e (held (entries ++ e ∷ [])) ≡ true
   held_rooms =
-      let registered = tally (λ (x : Entry). is_registration x.change && (x.domain == e.domain)) (held entries) in
-      let aliased = tally (λ (x : Entry). is_alias x.change && same_client e x) (held entries) in
-      let listed = tally (λ (x : Entry). is_list x.change && same_client e x) (held entries) in
+      let after = held (entries ++ e ∷ []) in
+      let registered = tally (λ (x : Entry). is_registration x.change && (x.domain == e.domain)) in
+      let aliased = tally (λ (x : Entry). is_alias x.change && same_client e x) in
+      let listed = tally (λ (x : Entry). is_list x.change && same_client e x) in
+      let lists = or_parts (is_alias e.change) (is_list e.change) none.1 in
       and_from
-      (nat_le registered settings.limits.clients)
-      (nat_le aliased settings.limits.aliases && nat_le listed settings.limits.acls)
-      (le-leb registered settings.limits.clients (subst (λ (l : Limits). registered ≤ l.clients) same_limits (represents.limits.registered e.domain)))
+      (nat_le (registered after) settings.limits.clients)
+      (nat_le (aliased after) settings.limits.aliases && nat_le (listed after) settings.limits.acls)
+      (le-leb (registered after) settings.limits.clients
+      (le_trans
+      (held_fewer (λ (x : Entry). is_registration x.change && (x.domain == e.domain)) e entries (and_left (is_registration e.change) (e.domain == e.domain) none.0))
+      (subst (λ (l : Limits). registered (held entries) ≤ l.clients) same_limits (represents.limits.registered e.domain))))
       (and_from
-      (nat_le aliased settings.limits.aliases)
-      (nat_le listed settings.limits.acls)
-      (le-leb aliased settings.limits.aliases (clients.aliased e))
-      (le-leb listed settings.limits.acls (subst (λ (l : Limits). listed ≤ l.acls) same_limits (represents.limits.listed e))))
+      (nat_le (aliased after) settings.limits.aliases)
+      (nat_le (listed after) settings.limits.acls)
+      (le-leb (aliased after) settings.limits.aliases (le_trans (aliases_fewer e e entries none) (clients.aliased e)))
+      (le-leb (listed after) settings.limits.acls
+      (le_trans
+      (held_fewer (λ (x : Entry). is_list x.change && same_client e x) e entries (and_left (is_list e.change) (same_client e e) lists.1))
+      (subst (λ (l : Limits). listed (held entries) ≤ l.acls) same_limits (represents.limits.listed e)))))
 
   accepted : accepts registry.held.sizes entries e ≡ true
   accepted =
@@ -81,8 +111,8 @@ module _ (settings : SettingsValue) (registry : RegistryValue) (entries : List E
       ∙ and_from
       (registers_rightly (held entries) e)
       (keeps_rooms (rooms_of settings.limits) e (held (entries ++ e ∷ [])))
-      (rightly (held entries) e is)
-      (ap (keeps_rooms (rooms_of settings.limits) e) (same_held e entries is) ∙ held_rooms)
+      (rightly (held entries) e none)
+      held_rooms
 
   live_room : has_live_room registry.live.limits entries e ≡ true
   live_room =
@@ -203,9 +233,9 @@ limits_fitting settings t entries e clients later is =
 pub limits_calm : (settings : SettingsValue) (t : ℕ) (entries : List Entry) → IsCalmBy settings t entries → ClientsKeepLimits settings.limits t entries
 limits_calm settings t entries calm = record { live = calm.of_client; aliased = calm.capacities.aliased }
 
-limits_kept : (limits : Limits) (t : ℕ) (entries : List Entry) (e : Entry) → ClientsKeepLimits limits t entries → e.time ≡ t → is_of_mitigations e.change ≡ true
+limits_kept : (limits : Limits) (t : ℕ) (entries : List Entry) (e : Entry) → ClientsKeepLimits limits t entries → e.time ≡ t → HoldsNone e
     → Keeps limits t entries e → ClientsKeepLimits limits t (entries ++ e ∷ [])
-limits_kept limits t entries e clients at is keeps =
+limits_kept limits t entries e clients at none keeps =
     let timely : t ≤ e.time = omega (arith, at) in
     let few : tally (λ (m : Mitigation). same_client e m.put) (mitigations e.time (entries ++ e ∷ [])) ≤ limits.client_mitigations =
     subst
@@ -218,11 +248,7 @@ limits_kept limits t entries e clients at is keeps =
           (λ u. tally (λ (m : Mitigation). same_client client m.put) (mitigations u (entries ++ e ∷ [])) ≤ limits.client_mitigations)
           at
           (live_still limits t entries e clients timely few client);
-      aliased = λ client.
-          subst
-          (λ hs. tally (λ (x : Entry). is_alias x.change && same_client client x) hs ≤ limits.aliases)
-          (sym (same_held e entries is))
-          (clients.aliased client);
+      aliased = λ client. le_trans (aliases_fewer client e entries none) (clients.aliased client);
     }
 
 -- ---- what is granted
@@ -256,7 +282,7 @@ fits_granted settings registry entries domain request judged e is_of represents 
     own
     within
     at
-    (put_kind e judged asks)
+    (nothing_held e.change (put_kind e judged asks))
     (granted_keeps settings (time_of registry) entries domain request judged e at is of cuid asks)
 
 pub limits_granted : (settings : SettingsValue) (t : ℕ) (entries : List Entry) (domain : ℕ) (request : Request) (judged : Judged) (e : Entry)
@@ -272,7 +298,7 @@ limits_granted settings t entries domain request judged e clients at is peer of 
     e
     clients
     at
-    (put_kind e judged asks)
+    (nothing_held e.change (put_kind e judged asks))
     (granted_keeps settings t entries domain request judged e at is of cuid asks)
 
 -- ---- what is withdrawn
@@ -296,10 +322,35 @@ fits_withdrawal settings registry entries mid e is is_of represents clients own 
     own
     within
     at
-    (withdrawal_kind e mid is)
+    (nothing_held e.change (withdrawal_kind e mid is))
     (withdrawn_room settings.limits (time_of registry) mid entries e at is)
 
 pub limits_withdrawal : (limits : Limits) (t : ℕ) (entries : List Entry) (mid : ℕ) (e : Entry) → e.change ≡ change.Withdraw mid
     → ClientsKeepLimits limits t entries → e.time ≡ t → ClientsKeepLimits limits t (entries ++ e ∷ [])
 limits_withdrawal limits t entries mid e is clients at =
-    limits_kept limits t entries e clients at (withdrawal_kind e mid is) (withdrawn_room limits t mid entries e at is)
+    limits_kept limits t entries e clients at (nothing_held e.change (withdrawal_kind e mid is)) (withdrawn_room limits t mid entries e at is)
+
+-- ---- a loss, or its end
+pub fits_loss : (settings : SettingsValue) (registry : RegistryValue) (entries : List Entry) (e : Entry) → is_loss e.change ≡ true
+    → IsOf settings registry → Represents registry entries → ClientsKeepLimits settings.limits (time_of registry) entries
+    → is_own settings e ≡ true → within_bounds e ≡ true → e.time ≡ time_of registry
+    → fits_now settings registry entries e ≡ true
+fits_loss settings registry entries e is is_of represents clients own within at =
+    kept_fits
+    settings
+    registry
+    entries
+    e
+    is_of
+    represents
+    clients
+    own
+    within
+    at
+    (nothing_lost e.change is)
+    (lost_room settings.limits (time_of registry) entries e at is)
+
+pub limits_loss : (limits : Limits) (t : ℕ) (entries : List Entry) (e : Entry) → is_loss e.change ≡ true
+    → ClientsKeepLimits limits t entries → e.time ≡ t → ClientsKeepLimits limits t (entries ++ e ∷ [])
+limits_loss limits t entries e is clients at =
+    limits_kept limits t entries e clients at (nothing_lost e.change is) (lost_room limits t entries e at is)

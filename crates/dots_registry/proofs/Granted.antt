@@ -14,7 +14,7 @@ use Rattle.conflict_rules.specs.declared.live.Live.{Live}
 use Rattle.conflict_rules.specs.declared.by_overlap.Judgement.{Judgement}
 use Rattle.conflict_rules.specs.declared.by_overlap.Judgement.TheVariants as judgement
 use Rattle.conflict_rules.specs.declared.by_overlap.Which.TheVariants as which
-use Rattle.conflict_rules.specs.Asking.{asks_the_same}
+use Rattle.conflict_rules.specs.Asking.{would_refresh}
 use Rattle.conflict_rules.specs.Wanted.{wanted}
 use Rattle.conflict_rules.specs.ByMid.{collides, has_mid}
 use Rattle.conflict_rules.specs.ByOverlap.{highest_mid, is_contested, meeting, staying, own_staying, judge_room, judge_others, judge_by, judge_overlap}
@@ -80,7 +80,7 @@ pub data IsGranted (settings : SettingsValue) (live : List Live) (client : Clien
       → IsGranted settings live client time request judged
   begins :
       nat_le (prefix_count (targets_of settings client.aliases request.asked)) 64 ≡ true
-      → HasPlace live request.cuid (wanted request.mid request.asked (targets_of settings client.aliases request.asked)) settings.limits
+      → HasPlace live request.cuid (wanted request.mid request.asked (targets_of settings client.aliases request.asked) request.trigger) settings.limits
       → judged ≡ begun settings (targets_of settings client.aliases request.asked) time request
       → IsGranted settings live client time request judged
 
@@ -110,8 +110,8 @@ module _ (settings : SettingsValue) (live : List Live) (client : ClientValue) (t
             (sym (cond-true (nat_le (prefix_count targets) 64) given (Err faults.TooMany) few) ∙ is) in
             begins
             few
-            (place_of live request.cuid (wanted request.mid request.asked targets) settings.limits
-            (fresh_fault live request.cuid targets (judge_overlap live request.cuid (wanted request.mid request.asked targets) settings.limits) both.0))
+            (place_of live request.cuid (wanted request.mid request.asked targets request.trigger) settings.limits
+            (fresh_fault live request.cuid targets (judge_overlap live request.cuid (wanted request.mid request.asked targets request.trigger) settings.limits) both.0))
             both.1
         | inr many ↦
             absurd (no_err faults.TooMany judged (sym (cond-false (nat_le (prefix_count targets) 64) given (Err faults.TooMany) many) ∙ is))
@@ -133,18 +133,18 @@ module _ (settings : SettingsValue) (live : List Live) (client : ClientValue) (t
   same_asked : (m : Live) → find (has_mid request.cuid request.mid) live ≡ Some m → judge_standing settings m.put request ≡ Ok judged
       → IsGranted settings live client time request judged
   same_asked m found is =
-      elim (cases_Bool (asks_the_same m.put.asked request.asked)) [
+      elim (cases_Bool (would_refresh request.asked request.trigger m.put)) [
         | inl same ↦
             refreshes
             m
             found
             (same_Some judged (refreshed settings m.put request)
-            (ap result_ok (sym is ∙ cond-true (asks_the_same m.put.asked request.asked) (Ok (refreshed settings m.put request)) (Err faults.Changed) same)))
+            (ap result_ok (sym is ∙ cond-true (would_refresh request.asked request.trigger m.put) (Ok (refreshed settings m.put request)) (Err faults.Changed) same)))
         | inr other ↦
             absurd (no_err
             faults.Changed
             judged
-            (sym (cond-false (asks_the_same m.put.asked request.asked) (Ok (refreshed settings m.put request)) (Err faults.Changed) other) ∙ is))
+            (sym (cond-false (would_refresh request.asked request.trigger m.put) (Ok (refreshed settings m.put request)) (Err faults.Changed) other) ∙ is))
       ]
 
   by_mid : (o : Option Live) → find (has_mid request.cuid request.mid) live ≡ o → judge_known settings live client.aliases time request o ≡ Ok judged

@@ -1,6 +1,6 @@
 -- What is held of a client, by the places of its entries.
 use Rattle.std.proofs.Common.{◌≡◌, ℕ, zero, suc, ◌<◌, Bool, true, false, cond, ◌&&◌, List, [], ◌∷◌, ◌++◌, drop, Option, Some, None, inl, inr, refl, sym, ap, ◌∙◌, subst, arith}
-use Rattle.std.specs.Prelude.{◌==◌, ◌≢◌, slice_get, option_to_list, option_map, is_none, bytes_eq}
+use Rattle.std.specs.Prelude.{◌||◌, ◌==◌, ◌≢◌, slice_get, option_to_list, option_map, is_none, bytes_eq}
 use Rattle.std.specs.List.{list_any, find, flat_map}
 use Rattle.std.proofs.lemmas.Bool.{false≢true, both_ways, cond-true, cond-false, cases_Bool, cases_order, and_parts, and_from, or_left, or_right, or_cases, or_parts, or_from, eqb-true, eq-eqb, false_from_ne_true}
 use Rattle.std.proofs.lemmas.Option.{none-some, same_Some}
@@ -12,7 +12,7 @@ use Rattle.dots_history.specs.declared.entry.Entry.{Entry}
 use Rattle.dots_history.specs.declared.put.Target.{Target}
 use Rattle.dots_history.specs.declared.change.Change.{Change}
 use Rattle.dots_history.specs.declared.change.Change.TheVariants as change
-use Rattle.dots_history.specs.Entries.{undoes, undoes_of_client, undoes_alias, reconfigures, same_client}
+use Rattle.dots_history.specs.Entries.{undoes, undoes_of_client, undoes_alias, reconfigures, same_client, resumes}
 use Rattle.dots_history.specs.Histories.{stays, held}
 use Rattle.dots_history.specs.Places.{IsHeld}
 use Rattle.dots_history.proofs.HeldPlaces.{held_at_place, place_is_held}
@@ -286,7 +286,7 @@ unfolding undoes same_client undoes_of_client undoes_alias
 undone_by a b one other domain cuid writes rewrites name =
     or_left
     (((a.domain == b.domain) && bytes_eq a.cuid b.cuid) && undoes_of_client a.change b.change)
-    (reconfigures a b)
+    (reconfigures a b || resumes a b)
     (and_from
     ((a.domain == b.domain) && bytes_eq a.cuid b.cuid)
     (undoes_of_client a.change b.change)

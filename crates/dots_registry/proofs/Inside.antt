@@ -1,8 +1,8 @@
 -- What is granted and what is withdrawn is the settings' own.
-use Rattle.std.proofs.Common.{◌≡◌, ℕ, Bool, true, false, cond, ◌&&◌, ◌||◌, not, List, [], ◌∷◌, Option, Some, None, Ok, refl, sym, ap, ◌∙◌}
-use Rattle.std.specs.Prelude.{◌==◌, option_to_list, option_map, bytes_eq}
+use Rattle.std.proofs.Common.{◌≡◌, ℕ, ◌<◌, Bool, true, false, cond, ◌&&◌, ◌||◌, not, List, [], ◌∷◌, length, Option, Some, None, Ok, refl, sym, ap, ◌∙◌}
+use Rattle.std.specs.Prelude.{◌==◌, nat_lt, option_to_list, option_map, bytes_eq}
 use Rattle.std.specs.List.{list_any, list_all, flat_map}
-use Rattle.std.proofs.lemmas.Bool.{false≢true, cond_both, and_parts, and_from, eqb-true}
+use Rattle.std.proofs.lemmas.Bool.{false≢true, cond_both, and_parts, and_from, or_right, eqb-true, eq-eqb, lt-ltb}
 use Rattle.std.proofs.lemmas.List.Folds.{list_all-append}
 use Rattle.std.proofs.lemmas.Option.{none-some, same_Some}
 use Rattle.ip_scope.specs.Prefix.{PrefixValue, inside}
@@ -15,16 +15,19 @@ use Rattle.dots_history.specs.declared.put.Put.{Put}
 use Rattle.dots_history.specs.declared.put.Target.{Target}
 use Rattle.dots_history.specs.declared.change.Change.{Change}
 use Rattle.dots_history.specs.declared.change.Change.TheVariants as change
-use Rattle.dots_history.specs.Entries.{is_configuration, is_signal, put_of}
+use Rattle.dots_history.specs.Entries.{is_configuration, is_signal, is_loss, put_of}
+use Rattle.dots_history.specs.Rows.{waits}
+use Rattle.dots_history.specs.declared.entry.MessageKey.TheVariants as key
+use Rattle.dots_settings.specs.declared.peer.Role.TheVariants as role
 use Rattle.dots_history.specs.Histories.{Mitigation, is_nil, held}
-use Rattle.dots_laws.specs.Calm.{may_act, may_configure, all_inside, name_inside, change_inside, is_of_settings, came_rightly, is_http, is_own}
+use Rattle.dots_laws.specs.Calm.{may_act, may_configure, is_client_of, all_inside, name_inside, change_inside, acts_rightly, loses_rightly, waits_rightly, is_of_settings, came_rightly, is_http, is_own}
 use Rattle.dots_laws.specs.Tables.{Client, is_of}
 use Rattle.conflict_rules.specs.declared.live.Live.{Live}
 use Rattle.conflict_rules.specs.ByMid.{has_mid}
 use Rattle.live_mitigations.specs.Judging.{put_or_nothing, live_of, lives_of}
 use Rattle.held_resources.specs.Held.{alias_of, aliases_of}
 use Rattle.conflict_rules.specs.declared.judging.Judged.{Judged}
-use Rattle.conflict_rules.specs.Requests.{Request}
+use Rattle.conflict_rules.specs.Requests.{Request, ClientValue}
 use Rattle.conflict_rules.specs.Targets.{prefixes_asked, target_of, own_target, alias_named, alias_target, targets_of}
 use Rattle.dots_registry.specs.Judging.{client_in, judge_request}
 use Rattle.dots_registry.proofs.Lists.{found_passes, held_pass, lives_pass, written_pass}
@@ -131,6 +134,10 @@ configures settings e = is_nil e.cuid && may_configure (role_of settings e.peer)
 abbrev acts : SettingsValue → Entry → Bool
 acts settings e = may_act settings (role_of settings e.peer) e.domain
 
+acts_of : (settings : SettingsValue) (e : Entry) → is_own settings e ≡ true → acts_rightly settings e ≡ true
+acts_of settings e own =
+    (and_parts (acts_rightly settings e) (loses_rightly settings e && waits_rightly settings e) (and_parts (is_of_settings settings e) (came_rightly e) own).0).0
+
 in_domain : (client : Client) (e : Entry) → is_of client e ≡ true → client.domain ≡ e.domain
 unfolding is_of
 in_domain client e is = eqb-true client.domain e.domain (and_parts (client.domain == e.domain) (bytes_eq client.cuid e.cuid) is).0
@@ -149,7 +156,7 @@ alias_own settings client e alias own of is =
     (is_configuration e.change)
     refl
     is
-    (and_parts (is_of_settings settings e) (came_rightly e) own).0
+    (acts_of settings e own)
 
 put_own : (settings : SettingsValue) (domain : ℕ) (m : Mitigation) → is_own settings m.put ≡ true → (m.put.domain == domain) ≡ true
     → targets_inside (prefixes_of settings domain) (live_of m).put.targets ≡ true
@@ -163,30 +170,81 @@ put_own settings domain m own here =
     (acts settings m.put)
     (is_configuration m.put.change)
     refl
-    (and_parts (is_of_settings settings m.put) (came_rightly m.put) own).0
+    (acts_of settings m.put own)
 
 -- ---- the entry
-own_put : (settings : SettingsValue) (e : Entry) (put : Put) → e.change ≡ change.Put put → may_act settings (role_of settings e.peer) e.domain ≡ true
-    → targets_inside (prefixes_of settings e.domain) put.targets ≡ true → is_own settings e ≡ true
-unfolding is_configuration is_signal
-own_put settings e put is may within =
+-- where it is neither a loss nor waits, it is the settings' own by what it names alone
+by_parts : (settings : SettingsValue) (e : Entry) → acts_rightly settings e ≡ true → loses_rightly settings e ≡ true → waits_rightly settings e ≡ true → came_rightly e ≡ true
+    → is_own settings e ≡ true
+by_parts settings e rightly losses waiting came =
     and_from
     (is_of_settings settings e)
     (came_rightly e)
+    (and_from
+    (acts_rightly settings e)
+    (loses_rightly settings e && waits_rightly settings e)
+    rightly
+    (and_from (loses_rightly settings e) (waits_rightly settings e) losses waiting))
+    came
+
+twice_not : (b c : Bool) → (b || c) ≡ true → (not (not b) || c) ≡ true
+twice_not true c is = refl
+twice_not false c is = is
+
+own_put : (settings : SettingsValue) (e : Entry) (put : Put) → e.change ≡ change.Put put → may_act settings (role_of settings e.peer) e.domain ≡ true
+    → (put.trigger || is_client_of (role_of settings e.peer) e.domain) ≡ true
+    → targets_inside (prefixes_of settings e.domain) put.targets ≡ true → is_own settings e ≡ true
+unfolding is_configuration is_signal is_loss
+own_put settings e put is may triggers within =
+    by_parts settings e
     (ap (λ c. cond (is_configuration c) (configures settings e) (acts settings e && change_inside settings (prefixes_of settings e.domain) c)) is
     ∙ and_from (acts settings e) (targets_inside (prefixes_of settings e.domain) put.targets) may within)
+    (ap (λ c. not (is_loss c) || (is_nil e.cuid && is_client_of (role_of settings e.peer) e.domain)) is)
+    (ap (λ c. not (waits c) || is_client_of (role_of settings e.peer) e.domain) is
+    ∙ twice_not put.trigger (is_client_of (role_of settings e.peer) e.domain) triggers)
     (ap (λ c. is_signal c || is_http e.key) is)
 
 pub own_withdrawal : (settings : SettingsValue) (mid : ℕ) (e : Entry) → e.change ≡ change.Withdraw mid → may_act settings (role_of settings e.peer) e.domain ≡ true
     → is_own settings e ≡ true
-unfolding is_configuration is_signal
+unfolding is_configuration is_signal is_loss
 own_withdrawal settings mid e is may =
-    and_from
-    (is_of_settings settings e)
-    (came_rightly e)
+    by_parts settings e
     (ap (λ c. cond (is_configuration c) (configures settings e) (acts settings e && change_inside settings (prefixes_of settings e.domain) c)) is
     ∙ and_from (acts settings e) true may refl)
+    (ap (λ c. not (is_loss c) || (is_nil e.cuid && is_client_of (role_of settings e.peer) e.domain)) is)
+    (ap (λ c. not (waits c) || is_client_of (role_of settings e.peer) e.domain) is)
     (ap (λ c. is_signal c || is_http e.key) is)
+
+-- a loss, or its end
+loss_kind : (settings : SettingsValue) (domain : List PrefixValue) (c : Change) → is_loss c ≡ true
+    → (is_configuration c ≡ false) × (change_inside settings domain c ≡ true) × (waits c ≡ false)
+unfolding is_configuration is_loss
+loss_kind settings domain change.Lost is = (refl, refl, refl)
+loss_kind settings domain change.Back is = (refl, refl, refl)
+loss_kind settings domain _ is = absurd (false≢true is)
+
+own_client : (settings : SettingsValue) (peer domain : ℕ) → role_of settings peer ≡ role.Client domain → domain < length settings.domains
+    → (may_act settings (role_of settings peer) domain ≡ true) × (is_client_of (role_of settings peer) domain ≡ true)
+own_client settings peer domain is less = (
+  ap (λ r. may_act settings r domain) is
+      ∙ and_from (domain == domain) (nat_lt domain (length settings.domains)) (eq-eqb domain domain refl) (lt-ltb domain (length settings.domains) less),
+  ap (λ r. is_client_of r domain) is ∙ eq-eqb domain domain refl,
+)
+
+pub own_loss : (settings : SettingsValue) (e : Entry) → is_loss e.change ≡ true → role_of settings e.peer ≡ role.Client e.domain
+    → e.domain < length settings.domains → e.cuid ≡ [] → e.key ≡ key.Http → is_own settings e ≡ true
+own_loss settings e is client less nobody http =
+    let kind = loss_kind settings (prefixes_of settings e.domain) e.change is in
+    let own = own_client settings e.peer e.domain client less in
+    by_parts settings e
+    (ap (λ b. cond b (configures settings e) (acts settings e && change_inside settings (prefixes_of settings e.domain) e.change)) kind.0
+    ∙ and_from (acts settings e) (change_inside settings (prefixes_of settings e.domain) e.change) own.0 kind.1)
+    (or_right
+    (not (is_loss e.change))
+    (is_nil e.cuid && is_client_of (role_of settings e.peer) e.domain)
+    (and_from (is_nil e.cuid) (is_client_of (role_of settings e.peer) e.domain) (ap is_nil nobody) own.1))
+    (ap (λ b. not b || is_client_of (role_of settings e.peer) e.domain) kind.2)
+    (or_right (is_signal e.change) (is_http e.key) (ap is_http http))
 
 granted_inside : (settings : SettingsValue) (t : ℕ) (entries : List Entry) (domain : ℕ) (request : Request) (judged : Judged)
     → list_all (is_own settings) entries ≡ true → all_inside (prefixes_of settings domain) request.asked.prefixes ≡ true
@@ -228,22 +286,33 @@ granted_inside settings t entries domain request judged own prefixes names (begi
     prefixes
     names
 
+-- what is granted has the trigger value of the request
+trigger_of : (settings : SettingsValue) (live : List Live) (client : ClientValue) (t : ℕ) (request : Request) (judged : Judged)
+    → IsGranted settings live client t request judged → judged.put.trigger ≡ request.trigger
+trigger_of settings live client t request judged (refreshes m found is) = ap (λ (j : Judged). j.put.trigger) is
+trigger_of settings live client t request judged (begins few place is) = ap (λ (j : Judged). j.put.trigger) is
+
 pub own_granted : (settings : SettingsValue) (t : ℕ) (entries : List Entry) (domain : ℕ) (request : Request) (judged : Judged) (e : Entry)
     → list_all (is_own settings) entries ≡ true
     → may_act settings (role_of settings request.peer) domain ≡ true
+    → (request.trigger || is_client_of (role_of settings request.peer) domain) ≡ true
     → all_inside (prefixes_of settings domain) request.asked.prefixes ≡ true
     → list_all (name_inside settings (prefixes_of settings domain)) request.asked.names ≡ true
     → judge_request settings t entries domain request ≡ Ok judged
     → e.peer ≡ request.peer → e.domain ≡ domain → e.cuid ≡ request.cuid → e.change ≡ change.Put judged.put
     → is_own settings e ≡ true
-own_granted settings t entries domain request judged e own may prefixes names is peer of cuid put =
+own_granted settings t entries domain request judged e own may triggers prefixes names is peer of cuid put =
     let client : Client = record { domain = domain; cuid = request.cuid } in
+    let granted = granted_by settings (lives_of domain t entries) (client_in entries client) t request judged is in
     own_put
     settings
     e
     judged.put
     put
     (ap (λ p. may_act settings (role_of settings p) e.domain) peer ∙ ap (λ d. may_act settings (role_of settings request.peer) d) of ∙ may)
+    (ap (λ b. b || is_client_of (role_of settings e.peer) e.domain) (trigger_of settings (lives_of domain t entries) (client_in entries client) t request judged granted)
+    ∙ ap (λ p. request.trigger || is_client_of (role_of settings p) e.domain) peer
+    ∙ ap (λ d. request.trigger || is_client_of (role_of settings request.peer) d) of
+    ∙ triggers)
     (ap (λ d. targets_inside (prefixes_of settings d) judged.put.targets) of
-    ∙ granted_inside settings t entries domain request judged own prefixes names
-    (granted_by settings (lives_of domain t entries) (client_in entries client) t request judged is))
+    ∙ granted_inside settings t entries domain request judged own prefixes names granted)

@@ -17,7 +17,7 @@ use Rattle.conflict_rules.specs.declared.live.Live.{Live}
 use Rattle.conflict_rules.specs.declared.by_overlap.Judgement.{Judgement}
 use Rattle.conflict_rules.specs.declared.by_overlap.Judgement.TheVariants as judgement
 use Rattle.conflict_rules.specs.declared.by_overlap.Which.TheVariants as which
-use Rattle.conflict_rules.specs.Asking.{asks_the_same}
+use Rattle.conflict_rules.specs.Asking.{would_refresh}
 use Rattle.conflict_rules.specs.Wanted.{wanted}
 use Rattle.conflict_rules.specs.ByMid.{has_mid}
 use Rattle.conflict_rules.specs.ByOverlap.{highest_mid, is_contested, resolved, meets_another, meeting, staying, own_staying, judge_room, judge_others, judge_by}
@@ -58,7 +58,7 @@ module _ (settings : SettingsValue) (t : ℕ) (entries : List Entry) (domain : �
   of_targets targets = judge_targets settings lives targets t request
 
   abbrev wants : List Target → Put
-  wants targets = wanted request.mid request.asked targets
+  wants targets = wanted request.mid request.asked targets request.trigger
 
   abbrev unopposed : List Target → Judgement → Result Judged PutFault
   unopposed targets j = unless (fault_of lives request.cuid targets j) (begun settings targets t request)
@@ -79,11 +79,11 @@ module _ (settings : SettingsValue) (t : ℕ) (entries : List Entry) (domain : �
   by_found : collides t entries request.peer client ≡ false → (o : Option Live) → found ≡ o → judged ≡ known o
   by_found free o is = cond-false (collides t entries request.peer client) (Err faults.Collision) (known found) free ∙ ap known is
 
-  by_same : (put : Put) → asks_the_same put.asked request.asked ≡ true → judge_standing settings put request ≡ Ok (refreshed settings put request)
-  by_same put is = cond-true (asks_the_same put.asked request.asked) (Ok (refreshed settings put request)) (Err faults.Changed) is
+  by_same : (put : Put) → would_refresh request.asked request.trigger put ≡ true → judge_standing settings put request ≡ Ok (refreshed settings put request)
+  by_same put is = cond-true (would_refresh request.asked request.trigger put) (Ok (refreshed settings put request)) (Err faults.Changed) is
 
-  by_other : (put : Put) → asks_the_same put.asked request.asked ≡ false → judge_standing settings put request ≡ Err faults.Changed
-  by_other put is = cond-false (asks_the_same put.asked request.asked) (Ok (refreshed settings put request)) (Err faults.Changed) is
+  by_other : (put : Put) → would_refresh request.asked request.trigger put ≡ false → judge_standing settings put request ≡ Err faults.Changed
+  by_other put is = cond-false (would_refresh request.asked request.trigger put) (Ok (refreshed settings put request)) (Err faults.Changed) is
 
   by_unknown : list_any (is_unknown aliases) request.asked.aliases ≡ true → known None ≡ Err faults.UnknownAlias
   by_unknown is =
@@ -291,7 +291,7 @@ module _ (settings : SettingsValue) (t : ℕ) (entries : List Entry) (domain : �
   to_known free None none is = to_new free (unused_mid none) judged is
   to_known free (Some m) one is =
       let has = mid_there t entries client request.mid m one in
-      elim (cases_Bool (asks_the_same m.put.asked request.asked)) [
+      elim (cases_Bool (would_refresh request.asked request.trigger m.put)) [
         | inl same ↦ refreshes m.put free has same (is ∙ by_same m.put same)
         | inr out ↦ changes m.put free has out (is ∙ by_other m.put out)
       ]

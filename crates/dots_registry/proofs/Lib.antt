@@ -1,4 +1,6 @@
 pub mod Lists
+pub mod ViewRows
+mod Mitigating
 pub mod Granted
 pub mod Inside
 pub mod Bounded

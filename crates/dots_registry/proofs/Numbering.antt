@@ -1,6 +1,6 @@
 -- New numbers of the slots: what a compaction leaves stands in the first slots.
 use Rattle.std.proofs.Common.{◌≡◌, ℕ, ◌+◌, ◌<◌, ◌≤◌, zero, suc, Bool, true, false, cond, List, [], ◌∷◌, ◌++◌, length, map, Some, refl, sym, ap, subst, ◌∙◌, le_refl, le_trans, append_assoc, arith}
-use Rattle.std.specs.Prelude.{option_to_list, slice_get, nat_lt, ◌==◌}
+use Rattle.std.specs.Prelude.{option_to_list, slice_get, ◌==◌}
 use Rattle.std.proofs.lemmas.Bool.{le-ltb, ne_eqb}
 use Rattle.std.proofs.lemmas.Option.{slice_get_within, get_or_from_slice_get}
 use Rattle.dots_history.specs.declared.entry.Entry.{Entry}

@@ -1,5 +1,5 @@
 -- What a registry keeps goes on to represent a history.
-use Rattle.std.proofs.Common.{◌≡◌, ℕ, ◌+◌, ◌<◌, ◌≤◌, Bool, true, false, cond, ◌&&◌, List, [], ◌∷◌, ◌++◌, map, length, Option, refl, sym, ap, ◌∙◌, subst, arith}
+use Rattle.std.proofs.Common.{◌≡◌, ℕ, ◌+◌, ◌<◌, ◌≤◌, Bool, true, false, cond, not, ◌&&◌, ◌||◌, List, [], ◌∷◌, ◌++◌, map, length, Option, refl, sym, ap, ◌∙◌, subst, arith}
 use Rattle.std.specs.Prelude.{◌==◌, nat_lt, nat_le}
 use Rattle.std.specs.List.{list_any, list_all}
 use Rattle.std.proofs.lemmas.Bool.{false≢true, cond-false, and_parts, and_from, ltb-true, leb-true, le-leb}
@@ -12,7 +12,7 @@ use Rattle.dots_history.specs.declared.change.Change.TheVariants as change
 use Rattle.dots_history.specs.declared.status.Status.{Status}
 use Rattle.dots_history.specs.declared.status.Status.TheVariants.{Ended, Open, Withdrawn}
 use Rattle.dots_history.specs.declared.put.Put.{Put}
-use Rattle.dots_history.specs.Entries.{is_configuration, same_client, ends, withdraws, runs, put_of, option_any}
+use Rattle.dots_history.specs.Entries.{is_configuration, is_loss, same_client, ends, withdraws, runs, put_of, option_any}
 use Rattle.dots_history.specs.Histories.{Mitigation, live, step, tally, mitigations, held}
 use Rattle.dots_history.specs.Bounds.{within_bounds}
 use Rattle.dots_laws.specs.Calm.{is_of_settings}
@@ -24,7 +24,8 @@ use Rattle.live_mitigations.specs.LiveValues.{LiveValue, SameButRows, rows_for, 
 use Rattle.live_mitigations.specs.LiveValues as lives
 use Rattle.live_mitigations.proofs.LiveValues.{comes_later}
 use Rattle.live_mitigations.proofs.Room.{has_room_is}
-use Rattle.held_resources.specs.Tables.{Tables, SameButSlots, sizes_of, is_known, tables_with}
+use Rattle.held_resources.specs.Tables.{Tables, SameButSlots, sizes_of, is_placed, is_known, tables_with}
+use Rattle.dots_laws.specs.Capacities.{loses_as}
 use Rattle.held_resources.specs.Tables as things
 use Rattle.held_resources.specs.Accepting.{accepts, accepts_by, keeps_rooms}
 use Rattle.held_resources.specs.Accepting as accepting
@@ -209,7 +210,7 @@ own_inside settings registry e is_of own put =
     (list_any (λ peer. e.peer == peer) (sizes_of settings).peers)
     (nat_lt e.domain (length settings.domains))
     (puts_kind e put).1)
-    ∙ known_of settings e own) in
+    ∙ (and_parts (is_placed (sizes_of settings) e) (not (is_loss e.change) || list_any (loses_as e) (sizes_of settings).own) (known_of settings e own)).0) in
     subst (λ n. e.domain < n) (sym is_of.domains) below
 
 pub put_inside : (inside old : RegistryValue) (e entry : Entry) → inside ≡ old → entry ≡ silent e → FitsIn old e → puts e ≡ true
@@ -355,15 +356,11 @@ held_fits inside old e entry same is fits =
     (sym is)
     (here.entries, here.represents.held, accepted_by inside.held here.entries (silent e) here.represents.held ∙ accepted inside e here)
 
-pub write_represents : (inside old : RegistryValue) (live : LiveValue) (held : Tables) (rings : List RingValue) (filters : FiltersValue) (last : Option ℕ) (slot : ℕ) (e entry : Entry)
-    (entries : List Entry) → inside ≡ old
-    → entry ≡ silent e → FitsIn old e → SameButRows inside.live live → held.sizes ≡ inside.held.sizes → rings ≡ rings_with slot e inside.rings
-    → (lives.Represents inside.live entries → lives.Represents live (entries ++ e ∷ []))
-    → (things.Represents inside.held entries → things.Represents held (entries ++ entry ∷ []))
-    → (Represents inside entries → Filtered inside filters (entries ++ e ∷ []))
-    → Represents old entries → Represents (joined live held rings filters last) (entries ++ e ∷ [])
-write_represents inside old live held rings filters last slot e entry entries same is fits but sizes made alive kept install represents =
-    let here : Represents inside entries = subst (λ r. Represents r entries) (sym same) represents in
+-- what is held after an entry without its reply is what is held after the entry
+pub held_after : (inside old : RegistryValue) (held : Tables) (slot : ℕ) (e entry : Entry) (entries : List Entry) → inside ≡ old → entry ≡ silent e → FitsIn old e
+    → held.sizes ≡ inside.held.sizes → (things.Represents inside.held entries → things.Represents held (entries ++ entry ∷ [])) → Represents inside entries
+    → things.Represents held (entries ++ e ∷ [])
+held_after inside old held slot e entry entries same is fits sizes kept here =
     let taken : accepts_by inside.held e ≡ true = accepted inside e (fits_inside inside old e same fits) in
     let more = tables_with (record { entry = silent e; slot = slot }) inside.held in
     let one : SameButSlots held more =
@@ -374,6 +371,17 @@ write_represents inside old live held rings filters last slot e entry entries sa
     sizes
     (subst (λ (x : Entry). things.Represents held (entries ++ x ∷ [])) is (kept here.held))
     (represents_with inside.held entries (silent e) slot here.held taken) in
+    same_represents held more (entries ++ e ∷ []) one (represents_with inside.held entries e slot here.held taken)
+
+pub write_represents : (inside old : RegistryValue) (live : LiveValue) (held : Tables) (rings : List RingValue) (filters : FiltersValue) (last : Option ℕ) (slot : ℕ) (e entry : Entry)
+    (entries : List Entry) → inside ≡ old
+    → entry ≡ silent e → FitsIn old e → SameButRows inside.live live → held.sizes ≡ inside.held.sizes → rings ≡ rings_with slot e inside.rings
+    → (lives.Represents inside.live entries → lives.Represents live (entries ++ e ∷ []))
+    → (things.Represents inside.held entries → things.Represents held (entries ++ entry ∷ []))
+    → (Represents inside entries → Filtered inside filters (entries ++ e ∷ []))
+    → Represents old entries → Represents (joined live held rings filters last) (entries ++ e ∷ [])
+write_represents inside old live held rings filters last slot e entry entries same is fits but sizes made alive kept install represents =
+    let here : Represents inside entries = subst (λ r. Represents r entries) (sym same) represents in
     represents_more
     inside
     live
@@ -389,5 +397,5 @@ write_represents inside old live held rings filters last slot e entry entries sa
     but
     made
     (alive here.live)
-    (same_represents held more (entries ++ e ∷ []) one (represents_with inside.held entries e slot here.held taken))
+    (held_after inside old held slot e entry entries same is fits sizes kept here)
     (install here)

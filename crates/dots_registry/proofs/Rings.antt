@@ -14,7 +14,7 @@ use Rattle.dots_settings.specs.Lookups.{no_domain, role_of, prefixes_of}
 use Rattle.dots_history.specs.declared.entry.Entry.{Entry}
 use Rattle.dots_history.specs.Entries.{is_signal, signals, is_configuration, may_repeat}
 use Rattle.dots_history.specs.Histories.{is_nil, is_recent, or_else, remembered}
-use Rattle.dots_laws.specs.Calm.{is_of_settings, may_act, may_configure, change_inside}
+use Rattle.dots_laws.specs.Calm.{is_of_settings, may_act, may_configure, change_inside, acts_rightly, loses_rightly, waits_rightly}
 use Rattle.coap_exchange.specs.declared.pair.Pair.{Pair}
 use Rattle.coap_exchange.specs.Pairs.{is_pair, pair_with, below, pairs_of_role, pairs_of_row}
 use Rattle.coap_exchange.specs.Rings.{RingValue, is_ring_of, messages_of, reply_to, noted}
@@ -49,7 +49,8 @@ abbrev Acts : SettingsValue → Entry → Role → Type 0
 Acts settings e role = cond (is_configuration e.change) (may_configure role e.domain) (may_act settings role e.domain) ≡ true
 
 acts : (settings : SettingsValue) (e : Entry) → is_of_settings settings e ≡ true → Acts settings e (role_of settings e.peer)
-acts settings e own = by_kind (is_configuration e.change) own
+acts settings e own =
+    by_kind (is_configuration e.change) (and_parts (acts_rightly settings e) (loses_rightly settings e && waits_rightly settings e) own).0
   where
     by_kind : (b : Bool)
         → cond b

@@ -10,7 +10,7 @@ use Rattle.filter_rows.specs.Fates.{greatest, greatest_from}
 use Rattle.dots_history.specs.declared.entry.Entry.{Entry}
 use Rattle.dots_history.specs.declared.put.Put.{Put}
 use Rattle.dots_history.specs.declared.change.Change.TheVariants as change
-use Rattle.dots_history.specs.Entries.{some_prefix, overlaps, ends, replaces, same_client, option_any, put_of}
+use Rattle.dots_history.specs.Entries.{some_prefix, ends, replaces, same_client, option_any, put_of}
 use Rattle.dots_history.specs.Histories.{held}
 use Rattle.dots_laws.specs.Tables.{Client}
 use Rattle.dots_laws.proofs.Members.{In, any_of, in_map}
@@ -18,7 +18,7 @@ use Rattle.conflict_rules.specs.declared.live.Live.{Live}
 use Rattle.conflict_rules.specs.Live.{is_of, stands_for, stands_against, would_end}
 use Rattle.conflict_rules.specs.ByMid as by_mid
 use Rattle.conflict_rules.specs.ByMid.{has_mid}
-use Rattle.conflict_rules.specs.ByOverlap.{is_higher, is_contested, resolved, meets_another, bits, staying, own_staying}
+use Rattle.conflict_rules.specs.ByOverlap.{rivals, is_higher, is_contested, resolved, meets_another, bits, staying, own_staying}
 use Rattle.conflict_rules.proofs.Contesting.{contested_marked}
 use Rattle.live_mitigations.specs.Judging.{lives_of, put_or_nothing}
 use Rattle.held_resources.specs.Held.{registers, is_of_another}
@@ -85,7 +85,7 @@ to_filter test (y ∷ ys) x (inr more) now =
     let go = to_filter test ys x more now in
     cond_both (test y) (y ∷ filter test ys) (filter test ys) (In x) (λ here. inr go) (λ out. go)
 
-replaced : (a b : Put) → replaces (change.Put a) (change.Put b) ≡ ((a.mid == b.mid) || overlaps true a b)
+replaced : (a b : Put) → replaces (change.Put a) (change.Put b) ≡ ((a.mid == b.mid) || rivals a b)
 unfolding replaces
 replaced a b = refl
 
@@ -97,11 +97,11 @@ by_unended : (a b : Bool) → (a ≡ true → b ≡ false) → not (a && b) ≡ 
 by_unended true b leads = ap not (leads refl)
 by_unended false b leads = refl
 
-unending : (wants p q : Put) → p ≡ q → (q.mid ≢ wants.mid) × (overlaps true q wants ≡ false) → replaces (change.Put p) (change.Put wants) ≡ false
+unending : (wants p q : Put) → p ≡ q → (q.mid ≢ wants.mid) × (rivals q wants ≡ false) → replaces (change.Put p) (change.Put wants) ≡ false
 unending wants p q same unended =
     ap (λ (x : Put). replaces (change.Put x) (change.Put wants)) same
     ∙ replaced q wants
-    ∙ or_from (q.mid == wants.mid) (overlaps true q wants) (ne_eqb q.mid wants.mid unended.0) unended.1
+    ∙ or_from (q.mid == wants.mid) (rivals q wants) (ne_eqb q.mid wants.mid unended.0) unended.1
 
 ends_by_mid : (a b : Entry) (one other : Put) → a.domain ≡ b.domain → a.cuid ≡ b.cuid → a.change ≡ change.Put one → b.change ≡ change.Put other → one.mid ≡ other.mid
     → ends a b ≡ true
@@ -114,7 +114,7 @@ ends_by_mid a b one other domain cuid puts_a puts_b mid =
     (ap (λ c. replaces c b.change) puts_a
     ∙ ap (λ c. replaces (change.Put one) c) puts_b
     ∙ replaced one other
-    ∙ or_left (one.mid == other.mid) (overlaps true one other) (eq-eqb one.mid other.mid mid))
+    ∙ or_left (one.mid == other.mid) (rivals one other) (eq-eqb one.mid other.mid mid))
 
 module _ (t : ℕ) (entries : List Entry) (client : Client) where
   abbrev pub lives : List Live
@@ -253,9 +253,9 @@ module _ (t : ℕ) (entries : List Entry) (client : Client) where
       → IsHigher t entries client wants (seen_at entries i e).put.mid
   higher_there wants i e at is =
       let m = seen_at entries i e in
-      let parts = and_parts (stands_for client.cuid m) (nat_lt wants.mid m.put.mid && overlaps true m.put wants) is in
+      let parts = and_parts (stands_for client.cuid m) (nat_lt wants.mid m.put.mid && rivals m.put wants) is in
       let standing = and_parts m.standing (bytes_eq e.cuid client.cuid) parts.0 in
-      let more = and_parts (nat_lt wants.mid m.put.mid) (overlaps true m.put wants) parts.1 in
+      let more = and_parts (nat_lt wants.mid m.put.mid) (rivals m.put wants) parts.1 in
       record {
         place = i;
         entry = e;
@@ -290,13 +290,13 @@ module _ (t : ℕ) (entries : List Entry) (client : Client) where
       let passes : is_higher client.cuid wants m ≡ true =
       and_from
       (stands_for client.cuid m)
-      (nat_lt wants.mid m.put.mid && overlaps true m.put wants)
+      (nat_lt wants.mid m.put.mid && rivals m.put wants)
       (and_from m.standing (bytes_eq e.cuid client.cuid) (standing_at entries i t e has.stands.stands) (bytes_own e.cuid client.cuid has.of_client))
       (and_from
       (nat_lt wants.mid m.put.mid)
-      (overlaps true m.put wants)
+      (rivals m.put wants)
       less
-      (ap (λ (p : Put). overlaps true p wants) same ∙ has.overlapping)) in
+      (ap (λ (p : Put). rivals p wants) same ∙ has.overlapping)) in
       subst
       (λ n. In n (higher_mids wants))
       (ap (λ (p : Put). p.mid) same ∙ has.of_mid)
@@ -373,11 +373,11 @@ module _ (t : ℕ) (entries : List Entry) (client : Client) where
       (false_from_ne_true (meets_another lives client.cuid p) (λ is. out.0 (meets_there p is))))
 
   -- ---- those that stay
-  stays_of : (wants : Put) (i : ℕ) (e : Entry) → At client.domain t entries i e → (bytes_eq e.cuid client.cuid ≡ true → (((seen_at entries i e).put.mid == wants.mid) || overlaps true (seen_at entries i e).put wants) ≡ false)
-      → e.cuid ≡ client.cuid → ((seen_at entries i e).put.mid ≢ wants.mid) × (overlaps true (seen_at entries i e).put wants ≡ false)
+  stays_of : (wants : Put) (i : ℕ) (e : Entry) → At client.domain t entries i e → (bytes_eq e.cuid client.cuid ≡ true → (((seen_at entries i e).put.mid == wants.mid) || rivals (seen_at entries i e).put wants) ≡ false)
+      → e.cuid ≡ client.cuid → ((seen_at entries i e).put.mid ≢ wants.mid) × (rivals (seen_at entries i e).put wants ≡ false)
   stays_of wants i e at out own =
       let m = seen_at entries i e in
-      let parts = or_parts (m.put.mid == wants.mid) (overlaps true m.put wants) (out (bytes_own e.cuid client.cuid own)) in
+      let parts = or_parts (m.put.mid == wants.mid) (rivals m.put wants) (out (bytes_own e.cuid client.cuid own)) in
       (λ same. both_ways (m.put.mid == wants.mid) parts.0 (eq-eqb m.put.mid wants.mid same), parts.1)
 
   stays_there : (wants : Put) (i : ℕ) → PassesAt client.domain t (λ m. not (would_end client.cuid wants m)) entries i → Stays t entries client wants i

@@ -1,13 +1,13 @@
 -- What a compaction leaves has the slots that were kept.
-use Rattle.std.proofs.Common.{◌≡◌, ℕ, ◌+◌, ◌-◌, ◌<◌, ◌≤◌, zero, suc, Bool, true, false, cond, not, ◌&&◌, List, [], ◌∷◌, ◌++◌, length, drop, map, filter, Option, Some, None, inl, inr, refl, sym, ap, subst, ◌∙◌, arith}
+use Rattle.std.proofs.Common.{◌≡◌, ℕ, ◌-◌, ◌<◌, ◌≤◌, Bool, true, false, cond, not, ◌&&◌, List, [], ◌∷◌, ◌++◌, length, drop, map, filter, Option, Some, None, inl, inr, refl, sym, ap, subst, ◌∙◌, arith}
 use Rattle.std.specs.Prelude.{nat_lt, ◌==◌, is_some, option_to_list}
 use Rattle.std.specs.List.{list_any}
-use Rattle.std.proofs.lemmas.Bool.{cond_both, cases_Bool, and_from, and_parts, both_ways, true≢false, false≢true, false_from_ne_true, eqb-true, eq-eqb, ltb-true, ltb-false, le-ltb}
+use Rattle.std.proofs.lemmas.Bool.{cond_both, cases_Bool, and_from, and_parts, both_ways, true≢false, false_from_ne_true, eqb-true, eq-eqb, ltb-true, ltb-false, le-ltb}
 use Rattle.dots_history.specs.declared.entry.Entry.{Entry}
 use Rattle.dots_history.specs.declared.status.Status.{Status}
 use Rattle.dots_history.specs.declared.status.Status.TheVariants.{Open}
-use Rattle.dots_history.specs.Entries.{withdraws, is_signal, signals}
-use Rattle.dots_history.specs.Histories.{Mitigation, Within, Calm, OnePeer, live, if_live, status, step, is_recent, stays, held, or_else}
+use Rattle.dots_history.specs.Entries.{withdraws, signals}
+use Rattle.dots_history.specs.Histories.{Mitigation, Within, Calm, OnePeer, live, if_live, status, step, stays, held, or_else}
 use Rattle.dots_history.specs.Keeping.{is_open, is_first, moved, names, pass, kept_by}
 use Rattle.dots_history.specs.Places.{lasts}
 use Rattle.dots_laws.proofs.Keeping.{Keeper}
@@ -23,7 +23,7 @@ use Rattle.live_mitigations.specs.LiveValues.{filed_alone}
 use Rattle.live_mitigations.proofs.Domains.{status_own, withdrawal_own}
 use Rattle.held_resources.specs.Rows.{row_of, rows_of}
 use Rattle.dots_registry.specs.Kept.{is_from, RingsAre, last_slot, KeptValue, AreOf, filed_kept_by, filed_kept}
-use Rattle.dots_registry.proofs.Recents.{more_few, more_many, own_recent, signal_parts}
+use Rattle.dots_registry.proofs.Recents.{more_many, own_recent, signal_parts}
 
 -- by what a keeper does with the first
 pub by_first : (keep : Keeper) (passed : List Mitigation) (x : Filed) (later : List Filed) (P : List Filed → Type 0)

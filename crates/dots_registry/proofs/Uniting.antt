@@ -1,5 +1,5 @@
 -- Slots that are put into a list part by part.
-use Rattle.std.proofs.Common.{◌≡◌, ℕ, ◌≤◌, List, [], ◌∷◌, ◌++◌, length, refl, ap, ◌∙◌, le_trans, subst, arith}
+use Rattle.std.proofs.Common.{◌≡◌, ℕ, ◌≤◌, List, [], ◌∷◌, ◌++◌, length, refl, ap, ◌∙◌, le_trans, subst}
 use Rattle.dots_history.specs.Slots.{placed}
 use Rattle.dots_laws.specs.KeptPlaces.{union}
 use Rattle.dots_laws.proofs.Unions.{union_longer}

@@ -21,6 +21,7 @@ capacities_in registry = record {
   actors = map actor_of registry.rings;
   peers = registry.held.sizes.peers;
   domains = numbers_from 0 registry.held.sizes.domains;
+  losers = registry.held.sizes.own;
   mitigations = (limits_of registry).domain_mitigations;
   clients = (limits_of registry).clients;
   aliases = (limits_of registry).aliases;

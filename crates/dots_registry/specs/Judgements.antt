@@ -11,13 +11,13 @@ use Rattle.dots_history.specs.declared.put.Put.{Put}
 use Rattle.dots_history.specs.declared.put.Target.{Target}
 use Rattle.dots_history.specs.declared.change.Change.TheVariants as change
 use Rattle.dots_history.specs.Bounds.{prefix_count}
-use Rattle.dots_history.specs.Entries.{some_prefix, overlaps}
+use Rattle.dots_history.specs.Entries.{some_prefix}
 use Rattle.dots_history.specs.Places.{Stands, Live, IsHeld}
 use Rattle.dots_laws.specs.Tables.{Client}
 use Rattle.conflict_rules.specs.declared.by_overlap.Which.TheVariants as which
-use Rattle.conflict_rules.specs.Asking.{asks_the_same}
+use Rattle.conflict_rules.specs.Asking.{would_refresh}
 use Rattle.conflict_rules.specs.Wanted.{wanted}
-use Rattle.conflict_rules.specs.ByOverlap.{resolved}
+use Rattle.conflict_rules.specs.ByOverlap.{resolved, rivals}
 use Rattle.conflict_rules.specs.declared.fault.PutFault.{PutFault}
 use Rattle.conflict_rules.specs.declared.fault.PutFault.TheVariants as faults
 use Rattle.conflict_rules.specs.declared.judging.Judged.{Judged}
@@ -99,7 +99,7 @@ AreTargets settings entries client asked targets =
 
 -- ---- what stands against it
 
--- A standing mitigation of the client overlaps with what is wanted, and has this higher mid.
+-- A standing mitigation of the client has the trigger value of what is wanted, overlaps with it, and has this higher mid.
 pub record IsHigher (t : ℕ) (entries : List Entry) (client : Client) (wants : Put) (mid : ℕ) : Type 0 where
   pub place : ℕ
   pub entry : Entry
@@ -108,7 +108,7 @@ pub record IsHigher (t : ℕ) (entries : List Entry) (client : Client) (wants : 
   pub of_client : entry.cuid ≡ client.cuid
   pub of_mid : put.mid ≡ mid
   pub higher : wants.mid < mid
-  pub overlapping : overlaps true put wants ≡ true
+  pub overlapping : rivals put wants ≡ true
 
 -- The prefix meets one of a standing mitigation of another client of the domain.
 pub record Meets (t : ℕ) (entries : List Entry) (client : Client) (prefix : PrefixValue) : Type 0 where
@@ -126,12 +126,12 @@ Those {A} Has (x ∷ xs) those =
     (Has x × ((rest : List A) × (those ≡ x ∷ rest) × Those Has xs rest)) ⊎ ((Has x → ⊥) × Those Has xs those)
 
 -- At place i is a live mitigation of the domain that what is wanted wouldn't end: it is of another client, or has another
--- mid and doesn't overlap.
+-- mid, and another trigger value or no overlap.
 pub record Stays (t : ℕ) (entries : List Entry) (client : Client) (wants : Put) (i : ℕ) : Type 0 where
   pub entry : Entry
   pub put : Put
   pub lives : LivesIn client.domain t entries i entry put
-  pub unended : entry.cuid ≡ client.cuid → (put.mid ≢ wants.mid) × (overlaps true put wants ≡ false)
+  pub unended : entry.cuid ≡ client.cuid → (put.mid ≢ wants.mid) × (rivals put wants ≡ false)
 
 -- and it is the client's own
 pub record StaysOwn (t : ℕ) (entries : List Entry) (client : Client) (wants : Put) (i : ℕ) : Type 0 where
@@ -139,7 +139,7 @@ pub record StaysOwn (t : ℕ) (entries : List Entry) (client : Client) (wants : 
   pub put : Put
   pub lives : LivesIn client.domain t entries i entry put
   pub of_client : entry.cuid ≡ client.cuid
-  pub unended : (put.mid ≢ wants.mid) × (overlaps true put wants ≡ false)
+  pub unended : (put.mid ≢ wants.mid) × (rivals put wants ≡ false)
 
 -- of so many places from place i on, n have it
 abbrev pub Number : (ℕ → Type 0) → ℕ → ℕ → ℕ → Type 0
@@ -160,24 +160,24 @@ pub record IsNew (settings : SettingsValue) (t : ℕ) (entries : List Entry) (cl
 -- and no standing mitigation of the client overlaps and has a higher mid
 pub record IsHighest (settings : SettingsValue) (t : ℕ) (entries : List Entry) (client : Client) (request : Request) (targets : List Target) : Type 0 where
   pub is_new : IsNew settings t entries client request targets
-  pub none_higher : (mid : ℕ) → IsHigher t entries client (wanted request.mid request.asked targets) mid → ⊥
+  pub none_higher : (mid : ℕ) → IsHigher t entries client (wanted request.mid request.asked targets request.trigger) mid → ⊥
 
 -- and no prefix meets a standing mitigation of another client; so many live ones of the client, and of the domain, would stay
 -- beside it
 pub record IsFree (settings : SettingsValue) (t : ℕ) (entries : List Entry) (client : Client) (request : Request) (targets : List Target) (own all : ℕ) : Type 0 where
   pub is_highest : IsHighest settings t entries client request targets
   pub none_meets : Those (Meets t entries client) (resolved targets) []
-  pub own_stay : Number (StaysOwn t entries client (wanted request.mid request.asked targets)) 0 (length entries) own
-  pub all_stay : Number (Stays t entries client (wanted request.mid request.asked targets)) 0 (length entries) all
+  pub own_stay : Number (StaysOwn t entries client (wanted request.mid request.asked targets request.trigger)) 0 (length entries) own
+  pub all_stay : Number (Stays t entries client (wanted request.mid request.asked targets request.trigger)) 0 (length entries) all
 
 -- The rules, in their order: the first that applies gives the result.
 pub data IsJudged (settings : SettingsValue) (t : ℕ) (entries : List Entry) (client : Client) (request : Request) (result : Result Judged PutFault) : Type 0 where
   collision : IsTaken t entries client request.peer → result ≡ Err faults.Collision → IsJudged settings t entries client request result
   refreshes :
-      (put : Put) → (IsTaken t entries client request.peer → ⊥) → HasMid t entries client request.mid put → asks_the_same put.asked request.asked ≡ true
+      (put : Put) → (IsTaken t entries client request.peer → ⊥) → HasMid t entries client request.mid put → would_refresh request.asked request.trigger put ≡ true
       → result ≡ Ok (refreshed settings put request) → IsJudged settings t entries client request result
   changes :
-      (put : Put) → (IsTaken t entries client request.peer → ⊥) → HasMid t entries client request.mid put → asks_the_same put.asked request.asked ≡ false
+      (put : Put) → (IsTaken t entries client request.peer → ⊥) → HasMid t entries client request.mid put → would_refresh request.asked request.trigger put ≡ false
       → result ≡ Err faults.Changed → IsJudged settings t entries client request result
   unknown :
       (IsTaken t entries client request.peer → ⊥) → ((put : Put) → HasMid t entries client request.mid put → ⊥) → HasUnknown entries client request.asked.aliases
@@ -188,8 +188,8 @@ pub data IsJudged (settings : SettingsValue) (t : ℕ) (entries : List Entry) (c
       → result ≡ Err faults.TooMany → IsJudged settings t entries client request result
   higher :
       (targets : List Target) (mid : ℕ) → IsNew settings t entries client request targets
-      → IsHigher t entries client (wanted request.mid request.asked targets) mid
-      → ((other : ℕ) → IsHigher t entries client (wanted request.mid request.asked targets) other → other ≤ mid)
+      → IsHigher t entries client (wanted request.mid request.asked targets request.trigger) mid
+      → ((other : ℕ) → IsHigher t entries client (wanted request.mid request.asked targets request.trigger) other → other ≤ mid)
       → result ≡ Err (faults.Higher mid) → IsJudged settings t entries client request result
   other :
       (targets : List Target) (prefixes : List PrefixValue) → IsHighest settings t entries client request targets

@@ -1,5 +1,5 @@
 -- How a history judges a request for a mitigation at a time (RFC 9132, section 4.4.1).
-use Rattle.std.specs.Prelude.{ℕ, Bool, ◌||◌, List, Result}
+use Rattle.std.specs.Prelude.{ℕ, Bool, true, ◌||◌, List, Result}
 use Rattle.dots_settings.specs.Settings.{SettingsValue}
 use Rattle.dots_heads.specs.declared.request.MitigationPath.{MitigationPath}
 use Rattle.dots_keys.specs.declared.request.MitigationBody.{MitigationBody}
@@ -34,7 +34,8 @@ judge_request settings t entries domain request =
     t
     request
 
--- what this peer asks for with the path and the body of a message, the path having this mid
+-- What this peer asks for with the path and the body of a message, the path having this mid. A message asks only for what
+-- filters at once.
 abbrev pub asked_by : ℕ → MitigationPath → MitigationBody → ℕ → Request
 asked_by peer path body mid =
-    record { peer = peer; cuid = path.cuid; mid = mid; asked = body.asked; lifetime = body.lifetime }
+    record { peer = peer; cuid = path.cuid; mid = mid; asked = body.asked; lifetime = body.lifetime; trigger = true }

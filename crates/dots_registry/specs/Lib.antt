@@ -4,5 +4,6 @@ pub mod RegistryValues
 pub mod Kept
 pub mod Fitting
 pub mod Judging
+pub mod Statuses
 pub mod ObserverViews
 pub mod Filed

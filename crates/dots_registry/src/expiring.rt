@@ -5,26 +5,33 @@ ghost use Rattle.dots_history.specs.declared.entry.Entry.{Entry};
 ghost use Rattle.live_mitigations.specs.Ends.{never};
 ghost use Rattle.live_mitigations.specs.LiveValues.{ComesTo, SameButRows, SlotsCome};
 ghost use Rattle.live_mitigations.specs.LiveValues as lives;
+ghost use Rattle.held_resources.specs.Tables as things;
 ghost use Rattle.installed_filters.specs.Filters.{SameRoom};
 ghost use Rattle.installed_filters.specs.HistoryRows.{Represents};
 ghost use Rattle.dots_laws.specs.Filed.{Filed};
 
+use held_resources::HeldResources;
 use installed_filters::InstalledFilters;
 use live_mitigations::LiveMitigations;
 
 /// Takes the mitigations out that are over by this time in seconds, domain by domain, and before that their rows. The time of
 /// the mitigations doesn't move; `LiveMitigations::tick` moves it then.
-pub(crate) fn expire_all(live: &mut LiveMitigations, filters: &mut InstalledFilters, now: u64)
+pub(crate) fn expire_all(
+    live: &mut LiveMitigations,
+    filters: &mut InstalledFilters,
+    held: &HeldResources,
+    now: u64,
+)
     requires bounded { now < never }
     ensures comes { (entries : List Entry) → ComesTo now live.old entries → ComesTo now live.new entries }
     ensures same { SameButRows live.old live.new }
-    ensures represents { (entries : List Entry) → live.old.time ≤ now → lives.Represents live.old entries → Represents filters.old live.old.time entries
-        → Represents filters.new now entries }
+    ensures represents { (entries : List Entry) → live.old.time ≤ now → lives.Represents live.old entries → things.Represents held.now entries
+        → Represents filters.old live.old.time entries → Represents filters.new now entries }
     ensures room { SameRoom filters.old filters.new }
     ensures slots { (filed : List Filed) → SlotsCome now live.old.tables filed → SlotsCome now live.new.tables filed }
 {
     while let Some(domain) = live.next_due(now) {
-        filters.retain_live(domain, live.rows(domain), now);
+        filters.retain_live(domain, live.rows(domain), now, held);
         live.expire(domain, now);
     }
 }

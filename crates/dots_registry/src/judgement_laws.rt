@@ -1,6 +1,6 @@
 //! Laws of what a registry's judgement comes to in a history: each function's contract is a law, and its body does nothing.
 
-ghost use Rattle.std.specs.Prelude.{◌≡◌, ℕ, ◌≤◌, ◌<◌, ◌++◌, ◌∷◌, ◌^◌, [], true, List, length, Result, Ok};
+ghost use Rattle.std.specs.Prelude.{◌≡◌, ℕ, ◌≤◌, ◌<◌, ◌++◌, ◌∷◌, ◌^◌, ◌||◌, [], true, List, length, Result, Ok};
 ghost use Rattle.std.specs.List.{list_any, list_all};
 ghost use Rattle.dots_lists.specs.Name.{is_name};
 ghost use Rattle.dots_settings.specs.declared.limits.Limits.{Limits};
@@ -9,30 +9,34 @@ ghost use Rattle.dots_settings.specs.Lookups.{role_of, prefixes_of};
 ghost use Rattle.dots_history.specs.declared.entry.Entry.{Entry};
 ghost use Rattle.dots_history.specs.declared.put.Put.{Put};
 ghost use Rattle.dots_history.specs.declared.change.Change.TheVariants as change;
+ghost use Rattle.dots_history.specs.declared.entry.MessageKey.TheVariants as key;
+ghost use Rattle.dots_history.specs.Entries.{is_loss};
+ghost use Rattle.dots_settings.specs.declared.peer.Role.TheVariants as role;
 ghost use Rattle.dots_history.specs.Bounds.{asked_within, within_bounds};
 ghost use Rattle.dots_history.specs.Histories.{alone};
-ghost use Rattle.dots_laws.specs.Calm.{may_act, all_inside, name_inside, is_own, IsCalmBy};
+ghost use Rattle.dots_laws.specs.Calm.{may_act, is_client_of, all_inside, name_inside, is_own, IsCalmBy};
 ghost use Rattle.dots_laws.specs.Fits.{fits};
 ghost use Rattle.dots_laws.specs.Tables.{Client};
 ghost use Rattle.conflict_rules.specs.ByMid.{has_mid};
 ghost use Rattle.live_mitigations.specs.Judging.{lives_of};
-ghost use Rattle.live_mitigations.specs.LiveViews.{live_views_in};
 ghost use Rattle.conflict_rules.specs.declared.fault.PutFault.{PutFault};
 ghost use Rattle.conflict_rules.specs.declared.judging.Judged.{Judged};
 ghost use Rattle.conflict_rules.specs.Requests.{Request};
 ghost use Rattle.dots_registry.specs.RegistryValues.{RegistryValue, Represents, IsOf, time_of};
 ghost use Rattle.dots_registry.specs.Fitting.{fits_now};
 ghost use Rattle.dots_registry.specs.Judging.{collides, judge_request};
+ghost use Rattle.dots_registry.specs.Statuses.{views_in};
 ghost use Rattle.dots_registry.specs.Limits.{ClientsKeepLimits};
 ghost use Rattle.dots_registry.specs.Judgements.{IsTaken, HasMid, IsJudged};
 
-/// The entry of what is granted is the settings' own, where the peer may act for the domain and what it asked for lies inside
-/// the domain; it is within bounds, where the entries and what was asked for are; and it fits the history at the registry's
+/// The entry of what is granted is the settings' own, where the peer may act for the domain, what it asked for lies inside the
+/// domain, and it filters at once or is asked for by a client of the domain; it is within bounds, where the entries and what was asked for are; and it fits the history at the registry's
 /// time, where the clients keep their limits, which they do after it too.
 pub fn what_is_granted_is_own_and_fits()
     ensures own { (settings : SettingsValue) (t : ℕ) (entries : List Entry) (domain : ℕ) (request : Request) (judged : Judged) (e : Entry)
         → list_all (is_own settings) entries ≡ true
         → may_act settings (role_of settings request.peer) domain ≡ true
+        → (request.trigger || is_client_of (role_of settings request.peer) domain) ≡ true
         → all_inside (prefixes_of settings domain) request.asked.prefixes ≡ true
         → list_all (name_inside settings (prefixes_of settings domain)) request.asked.names ≡ true
         → judge_request settings t entries domain request ≡ Ok judged
@@ -73,6 +77,21 @@ pub fn what_is_withdrawn_is_own_and_fits()
         → ClientsKeepLimits limits t entries → e.time ≡ t → ClientsKeepLimits limits t (entries ++ e ∷ []) }
 {}
 
+/// An entry that says that the signal of a client peer is lost or back, which has the peer's domain, no cuid, no message and no
+/// reply, is the settings' own; it is within bounds; and it fits the history at the registry's time, where the clients keep their
+/// limits, which they do after it too.
+pub fn what_is_lost_is_own_and_fits()
+    ensures own { (settings : SettingsValue) (e : Entry) → is_loss e.change ≡ true → role_of settings e.peer ≡ role.Client e.domain
+        → e.domain < length settings.domains → e.cuid ≡ [] → e.key ≡ key.Http → is_own settings e ≡ true }
+    ensures bounded { (e : Entry) → is_loss e.change ≡ true → e.time < 2 ^ 48 → e.cuid ≡ [] → e.reply ≡ [] → within_bounds e ≡ true }
+    ensures fits { (settings : SettingsValue) (registry : RegistryValue) (entries : List Entry) (e : Entry) → is_loss e.change ≡ true
+        → IsOf settings registry → Represents registry entries → ClientsKeepLimits settings.limits (time_of registry) entries
+        → is_own settings e ≡ true → within_bounds e ≡ true → e.time ≡ time_of registry
+        → fits_now settings registry entries e ≡ true }
+    ensures limits { (limits : Limits) (t : ℕ) (entries : List Entry) (e : Entry) → is_loss e.change ≡ true
+        → ClientsKeepLimits limits t entries → e.time ≡ t → ClientsKeepLimits limits t (entries ++ e ∷ []) }
+{}
+
 /// The clients of the empty history keep their limits; those of a history keep them later; an entry that fits leaves them kept; and
 /// those of a calm history keep them.
 pub fn client_limits_go_on()
@@ -91,7 +110,7 @@ pub fn judgements_are_apart()
     ensures collides { (t : ℕ) (one other : List Entry) (peer : ℕ) (client : Client) → alone client.domain one ≡ alone client.domain other
         → collides t one peer client ≡ collides t other peer client }
     ensures shown { (t : ℕ) (one other : List Entry) (domain : ℕ) (cuid : List ℕ) → alone domain one ≡ alone domain other
-        → live_views_in domain cuid t one ≡ live_views_in domain cuid t other }
+        → views_in domain cuid t one ≡ views_in domain cuid t other }
 {}
 
 /// A request is judged exactly as it is by the places of the entries: the first rule that applies, by what stands, lives or is held

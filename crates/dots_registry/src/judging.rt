@@ -36,6 +36,7 @@ impl Registry {
             mid: path.mid.unwrap(),
             asked: &body.asked,
             lifetime: body.lifetime,
+            trigger: true,
         };
         self.judge_request(settings, domain, &request)
     }

@@ -25,6 +25,8 @@ pub mod laws;
 mod reading;
 mod registry;
 pub mod slot_laws;
+mod statuses;
 mod viewing;
 
 pub use registry::Registry;
+pub use statuses::StatusViews;

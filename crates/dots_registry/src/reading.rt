@@ -1,21 +1,24 @@
 //! What is read of a registry.
 
-ghost use Rattle.std.specs.Prelude.{◌≡◌, ◌<◌, ◌==◌, List, option_copied, option_map};
+ghost use Rattle.std.specs.Prelude.{◌≡◌, ◌<◌, ◌==◌, ◌&&◌, List, option_copied, option_map};
 ghost use Rattle.std.specs.List.{list_any};
 ghost use Rattle.dots_history.specs.declared.entry.Entry.{Entry};
 ghost use Rattle.dots_history.specs.Histories.{mitigations, held, remembered};
-ghost use Rattle.live_mitigations.specs.LiveViews.{live_views_in};
-ghost use Rattle.held_resources.specs.Held.{aliases_of, acls_of, alias_named, acl_named, is_registered, registrant, is_of_another, config_of, number_of, reached};
+ghost use Rattle.dots_history.specs.Rows.{is_lost_in};
+ghost use Rattle.dots_laws.specs.HistoryReading.{is_mitigated, is_waiting};
+ghost use Rattle.held_resources.specs.Held.{aliases_of, acls_of, alias_named, acl_named, is_registered, registrant, is_of_another, config_of, is_lost_of, number_of, reached};
 ghost use Rattle.held_resources.specs.Tables.{most_of, config_now};
 ghost use Rattle.dots_registry.specs.RegistryValues.{Represents, time_of, domains_of, number_remembered};
 ghost use Rattle.dots_registry.specs.Judging.{collides};
+ghost use Rattle.dots_registry.specs.Statuses.{views_in};
 
 use crate::registry::Registry;
+use crate::statuses::StatusViews;
 use acl_lists::{Acl, Alias};
 use dots_history::Config;
 use dots_lists::Name;
 use held_resources::RoomKind;
-use live_mitigations::Mitigations;
+use live_mitigations::Row;
 
 impl Registry {
     /// The reply to a repeat of a message of this peer for this domain with this Message ID (RFC 7252, section 4.5).
@@ -45,19 +48,51 @@ impl Registry {
         }
     }
 
-    /// The live mitigations of a client, in order of their entries (RFC 9132, section 4.4.2).
-    pub fn mitigations<'a>(&'a self, domain: u16, cuid: &'a [u8]) -> Mitigations<'a>
+    /// The live mitigations of a client, in order of their entries, as they are shown (RFC 9132, section 4.4.2).
+    pub fn mitigations<'a>(&'a self, domain: u16, cuid: &'a [u8]) -> StatusViews<'a>
         requires { domain < domains_of self.now }
-        ensures { (entries : List Entry) → Represents self.now entries → result ≡ live_views_in domain cuid.now (time_of self.now) entries }
+        ensures { (entries : List Entry) → Represents self.now entries → result ≡ views_in domain cuid.now (time_of self.now) entries }
     {
-        self.live.mitigations(domain, cuid)
+        StatusViews {
+            rows: self.live.mitigations(domain, cuid),
+            domain,
+            held: &self.held,
+        }
     }
 
-    /// Whether a live mitigation has this peer.
+    /// Whether a live mitigation that filters has this peer: one that filters at once, or that waits for the peer's signal, which
+    /// is lost.
     pub fn mitigating(&self, peer: u32) -> bool
-        ensures { (entries : List Entry) → Represents self.now entries → result ≡ list_any (λ m. m.put.peer == peer) (mitigations (time_of self.now) entries) }
+        ensures { (entries : List Entry) → Represents self.now entries → result ≡ is_mitigated (time_of self.now) entries peer }
     {
-        self.live.mitigating(peer)
+        self.live.triggers(peer) || self.has_lost_one(peer)
+    }
+
+    /// Whether a live mitigation has this peer, in a domain in which the peer's signal is lost.
+    fn has_lost_one(&self, peer: u32) -> bool
+        ensures { (entries : List Entry) → Represents self.now entries
+            → result ≡ list_any (λ m. (m.put.peer == peer) && is_lost_in (held entries) m.put.peer m.put.domain) (mitigations (time_of self.now) entries) }
+    {
+        for domain in 0..self.live.domains() {
+            if self.held.lost(peer, domain) && is_of_peer(self.live.rows(domain), peer) {
+                return true;
+            }
+        }
+        false
+    }
+
+    /// Whether a live mitigation of this peer waits for a lost signal.
+    pub fn waits(&self, peer: u32) -> bool
+        ensures { (entries : List Entry) → Represents self.now entries → result ≡ is_waiting (time_of self.now) entries peer }
+    {
+        self.live.waits(peer)
+    }
+
+    /// Whether the signal of this peer is lost.
+    pub fn lost(&self, peer: u32) -> bool
+        ensures { (entries : List Entry) → Represents self.now entries → result ≡ is_lost_of (held entries) peer }
+    {
+        self.held.has_lost(peer)
     }
 
     /// Whether the client is registered (RFC 8783, section 5.1).
@@ -119,4 +154,11 @@ impl Registry {
     {
         self.held.room_for(domain, cuid, kind)
     }
+}
+
+/// Whether one of these mitigations has this peer.
+fn is_of_peer(rows: &[Row], peer: u32) -> bool
+    ensures { result ≡ list_any (λ m. m.put.peer == peer) rows.now }
+{
+    rows.iter().any(|row| row.peer() == peer)
 }

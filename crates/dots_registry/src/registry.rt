@@ -9,7 +9,9 @@ ghost use Rattle.live_mitigations.specs.Ends.{never};
 ghost use Rattle.live_mitigations.specs.LiveValues.{puts, rows_for};
 ghost use Rattle.filter_table.specs.TableRows.{row_of_scrub, row_of_acl, active_rows};
 ghost use Rattle.dots_history.specs.Rows.{plain_rows, acl_rows};
-ghost use Rattle.installed_filters.specs.Filters.{rows_put, list_put, needs_rows, some_of, everyone};
+ghost use Rattle.installed_filters.specs.Filters.{rows_put, list_put, needs_rows, some_of, is_working};
+ghost use Rattle.dots_history.specs.Entries.{is_loss};
+ghost use Rattle.held_resources.specs.Tables.{lost_in};
 ghost use Rattle.dots_registry.specs.RegistryValues.{Represents, IsOf, time_of, has_ring, silent, answered, rings_with};
 ghost use Rattle.dots_registry.specs.Fitting.{FitsIn};
 ghost use Rattle.dots_laws.specs.Filed.{Filed};
@@ -17,7 +19,7 @@ ghost use Rattle.dots_registry.specs.Filed.{RepresentsFiled};
 
 use crate::expiring::expire_all;
 use coap_exchange::Remembered;
-use dots_history::{Entry, is_signal};
+use dots_history::{Entry, is_loss, is_signal};
 use dots_lists::{Bytes, NoMemory};
 use dots_settings::Settings;
 use filter_rows::{AclRow, ScrubRow};
@@ -118,7 +120,7 @@ impl Registry {
         ensures rings { self.new.rings ≡ self.old.rings }
         ensures settings { (settings : SettingsValue) → IsOf settings self.old → IsOf settings self.new }
     {
-        expire_all(&mut self.live, &mut self.filters, now);
+        expire_all(&mut self.live, &mut self.filters, &self.held, now);
         self.live.tick(now);
     }
 
@@ -131,8 +133,9 @@ impl Registry {
         Staged::of(self.alloc, entry)
     }
 
-    /// The rows that filter: those of the live mitigations, each active, in order of the entries, their targets and their
-    /// prefixes; and those of the access lists that are held, in order of writing.
+    /// The rows that filter where they are active: those of the live mitigations, in order of the entries, their targets and their
+    /// prefixes; and those of the access lists that are held, in order of writing. Those of a mitigation that waits for a lost
+    /// signal are active while it is lost.
     pub fn filters(&self) -> &FilterTable
         ensures scrubs { (entries : List Entry) → Represents self.now entries → map row_of_scrub result.now.scrubs ≡ plain_rows (time_of self.now) entries }
         ensures acls { (entries : List Entry) → Represents self.now entries → map row_of_acl result.now.acls ≡ acl_rows (time_of self.now) entries }
@@ -157,6 +160,26 @@ impl Registry {
             self.put(entry, scrubs, slot);
         } else {
             drop(scrubs);
+            self.write_or_lose(entry, list, slot);
+        }
+    }
+
+    /// Takes an entry at the time that puts no mitigation, with the row of the access list that it writes.
+    fn write_or_lose(&mut self, entry: Entry, list: Option<AclRow>, slot: u32)
+        requires fits { FitsIn self.old entry }
+        requires at { entry.time ≡ time_of self.old }
+        requires puts { puts entry ≡ false }
+        requires staged { list ≡ list_put entry }
+        ensures represents { (entries : List Entry) → Represents self.old entries → Represents self.new (entries ++ entry ∷ []) }
+        ensures filed { (filed : List Filed) → RepresentsFiled self.old filed → RepresentsFiled self.new (filed ++ record { entry = entry; slot = slot } ∷ []) }
+        ensures time { time_of self.new ≡ time_of self.old }
+        ensures slot { self.new.rings ≡ rings_with slot entry self.old.rings }
+        ensures settings { (settings : SettingsValue) → IsOf settings self.old → IsOf settings self.new }
+    {
+        if is_loss(&entry.change) {
+            drop(list);
+            self.lose(entry, slot);
+        } else {
             self.write(entry, list, slot);
         }
     }
@@ -174,17 +197,39 @@ impl Registry {
         ensures settings { (settings : SettingsValue) → IsOf settings self.old → IsOf settings self.new }
     {
         self.filters
-            .put(&entry, scrubs, self.live.rows(entry.domain));
+            .put(&entry, scrubs, self.live.rows(entry.domain), &self.held);
         let entry = remember(&mut self.remembered, self.alloc, entry, slot);
         self.live.put(entry, slot);
         self.last = Some(slot);
     }
 
-    /// Takes an entry at the time that puts no mitigation, with the row of the access list that it writes.
+    /// Takes an entry at the time that says that the signal of a client peer is lost, or back.
+    fn lose(&mut self, entry: Entry, slot: u32)
+        requires fits { FitsIn self.old entry }
+        requires at { entry.time ≡ time_of self.old }
+        requires loss { is_loss entry.change ≡ true }
+        ensures represents { (entries : List Entry) → Represents self.old entries → Represents self.new (entries ++ entry ∷ []) }
+        ensures filed { (filed : List Filed) → RepresentsFiled self.old filed → RepresentsFiled self.new (filed ++ record { entry = entry; slot = slot } ∷ []) }
+        ensures time { time_of self.new ≡ time_of self.old }
+        ensures slot { self.new.rings ≡ rings_with slot entry self.old.rings }
+        ensures settings { (settings : SettingsValue) → IsOf settings self.old → IsOf settings self.new }
+    {
+        let (peer, domain) = (entry.peer, entry.domain);
+        self.live.note(&entry, slot);
+        let entry = remember(&mut self.remembered, self.alloc, entry, slot);
+        self.held.apply(entry, slot);
+        self.filters
+            .lose(peer, domain, self.live.rows(domain), &self.held);
+        self.last = Some(slot);
+    }
+
+    /// Takes an entry at the time that puts no mitigation and says nothing of a signal, with the row of the access list that it
+    /// writes.
     fn write(&mut self, entry: Entry, list: Option<AclRow>, slot: u32)
         requires fits { FitsIn self.old entry }
         requires at { entry.time ≡ time_of self.old }
         requires puts { puts entry ≡ false }
+        requires quiet { is_loss entry.change ≡ false }
         requires staged { list ≡ list_put entry }
         ensures represents { (entries : List Entry) → Represents self.old entries → Represents self.new (entries ++ entry ∷ []) }
         ensures filed { (filed : List Filed) → RepresentsFiled self.old filed → RepresentsFiled self.new (filed ++ record { entry = entry; slot = slot } ∷ []) }
@@ -192,7 +237,7 @@ impl Registry {
         ensures slot { self.new.rings ≡ rings_with slot entry self.old.rings }
         ensures settings { (settings : SettingsValue) → IsOf settings self.old → IsOf settings self.new }
     {
-        let mitigating = has_live(&self.live, &entry);
+        let mitigating = has_working(&self.live, &self.held, &entry);
         let acls = self.held.acls(entry.domain, entry.cuid.bytes());
         self.filters.write(&entry, list, mitigating, acls);
         self.live.note(&entry, slot);
@@ -208,12 +253,13 @@ fn give_up<T: Drop>(tables: T, fault: NoMemory) -> NoMemory {
     fault
 }
 
-/// Whether the entry's client has a live mitigation, where its domain is one of these.
-fn has_live(live: &LiveMitigations, entry: &Entry) -> bool
-    ensures { entry.now.domain < live.now.domains → result ≡ some_of everyone entry.now.cuid (rows_for live.now entry.now.domain) }
+/// Whether the entry's client has a live mitigation that filters, where its domain is one of these.
+fn has_working(live: &LiveMitigations, held: &HeldResources, entry: &Entry) -> bool
+    ensures { entry.now.domain < live.now.domains
+        → result ≡ some_of (is_working (lost_in held.now)) entry.now.cuid (rows_for live.now entry.now.domain) }
 {
     if entry.domain < live.domains() {
-        return is_mitigating(live.rows(entry.domain), entry.cuid.bytes());
+        return is_mitigating(live.rows(entry.domain), entry.cuid.bytes(), held);
     }
     false
 }

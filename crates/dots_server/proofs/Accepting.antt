@@ -55,7 +55,7 @@ module _ (server : ServerValue) (asked : MitigationRequest) (judged : Judged) (r
       let inside = lies_inside settings (prefixes_of settings asked.from.domain) asked.body.asked
       (subst (λ s. scope_fault s (prefixes_of s asked.from.domain) asked.body.asked ≡ None) same clear) in
       own_granted settings state.time state.history asked.from.domain (request_of asked) judged entry_put represents.own
-      (subst (λ s. may_act s (role_of s asked.from.peer) asked.from.domain ≡ true) same may)
+      (subst (λ s. may_act s (role_of s asked.from.peer) asked.from.domain ≡ true) same may) refl
       inside.prefixes inside.names (is settings state represents) refl refl refl refl
 
   pub grant_acceptable : IsAcceptable server entry_put

@@ -6,16 +6,11 @@ use Rattle.filter_table.specs.TableRows.{HeldScrub, row_of_scrub, row_of_acl, is
 use Rattle.filter_table.specs.declared.held.HeldAcl.{HeldAcl}
 use Rattle.dots_settings.specs.Settings.{SettingsValue}
 use Rattle.dots_settings.specs.Lookups.{prefixes_of}
-use Rattle.dots_history.specs.Rows.{Row, plain_row, scrub_rows, plain_rows, acl_rows}
+use Rattle.dots_history.specs.Rows.{plain_rows, acl_rows}
 use Rattle.dots_machine.specs.Machine.{State}
 use Rattle.dots_machine.specs.Report.{scrub_line, packet_lines, report_of}
 use Rattle.dots_server.specs.Gathering.{Sunk, HasWritten}
 use Rattle.dots_server.specs.ServerValues.{ServerValue, Represents}
-
--- each row of a live mitigation is active
-all_active : (rows : List Row) → filter is_active (map plain_row rows) ≡ map plain_row rows
-all_active [] = refl
-all_active (row ∷ rows) = ap (λ rest. plain_row row ∷ rest) (all_active rows)
 
 -- what a table of these rows has to report
 abbrev pub lines_of : SettingsValue → List HeldScrub → List HeldAcl → List ℕ
@@ -29,9 +24,9 @@ pub report_is : (server : ServerValue) (settings : SettingsValue) (state : State
 report_is server settings state scrubs acls represents rows lists =
     ap (λ s. lines_of s scrubs acls) represents.settings_are
     ∙ ap (λ active. flat_map (scrub_line settings) active ++ packet_lines (fate_by_rows (prefixes_of settings) (map row_of_scrub scrubs) (map row_of_acl acls)) 1 settings.packets)
-    (ap (filter is_active) rows ∙ all_active (scrub_rows state.time state.history))
-    ∙ ap (λ held. flat_map (scrub_line settings) (plain_rows state.time state.history) ++ packet_lines (fate_by_rows (prefixes_of settings) held (map row_of_acl acls)) 1 settings.packets) rows
-    ∙ ap (λ held. flat_map (scrub_line settings) (plain_rows state.time state.history) ++ packet_lines (fate_by_rows (prefixes_of settings) (plain_rows state.time state.history) held) 1 settings.packets) lists
+    (ap (filter is_active) rows)
+    ∙ ap (λ held. flat_map (scrub_line settings) (filter is_active (plain_rows state.time state.history)) ++ packet_lines (fate_by_rows (prefixes_of settings) held (map row_of_acl acls)) 1 settings.packets) rows
+    ∙ ap (λ held. flat_map (scrub_line settings) (filter is_active (plain_rows state.time state.history)) ++ packet_lines (fate_by_rows (prefixes_of settings) (plain_rows state.time state.history) held) 1 settings.packets) lists
 
 pub nothing_written : (now : Sunk) → HasWritten now now false [] []
 nothing_written now = (owes_all now.held [], refl)

@@ -21,6 +21,7 @@ ghost use Rattle.dots_machine.specs.declared.verdict.Verdict.TheVariants as verd
 ghost use Rattle.dots_machine.specs.Mitigations.{grant, entry_of, refusal, judged, request_of, lives, is_wanted};
 ghost use Rattle.dots_machine.specs.Verdicts.{put_verdict, is_taken, stands_as, delete_by, delete_verdict, delete_in, get_verdict};
 ghost use Rattle.live_mitigations.specs.LiveViews.{LiveView, row_view};
+ghost use Rattle.dots_registry.specs.Statuses.{is_standing};
 ghost use Rattle.dots_server.specs.ServerValues.{Represents, CanCarryOut};
 
 use crate::server::Server;
@@ -39,8 +40,11 @@ use dots_settings::Settings;
 use live_mitigations::MitigationRow;
 use reply_bodies::{ConflictCause, Content, MitigationView, ViewList};
 
-/// The status of a mitigation that stands (RFC 9132, section 4.4.2).
-const STANDS: u8 = 2;
+/// The status of a mitigation that stands and filters (RFC 9132, section 4.4.2).
+const FILTERS: u8 = 2;
+
+/// That of one that stands and waits for a lost signal.
+const WAITS: u8 = 8;
 
 impl Server {
     /// What is decided on a request for a mitigation of a peer that may act for the domain (RFC 9132, section 4.4.1).
@@ -258,7 +262,7 @@ impl Server {
             .registry()
             .mitigations(from.domain, from.cuid.bytes())
         {
-            if row.put.mid == mid && row.status == STANDS {
+            if row.put.mid == mid && is_standing(row.status) {
                 return true;
             }
         }
@@ -286,6 +290,13 @@ impl Server {
         }
         Ok(views)
     }
+}
+
+/// Whether a mitigation stands, by the status that is shown of it.
+fn is_standing(status: u8) -> bool
+    ensures { result ≡ is_standing status }
+{
+    status == FILTERS || status == WAITS
 }
 
 /// Puts what is to be told of a live mitigation behind the others, where it is wanted.
@@ -344,6 +355,7 @@ fn judged_by(
         mid: asked.mid,
         asked: &asked.body.asked,
         lifetime: asked.body.lifetime,
+        trigger: true,
     };
     tables.judge_request(settings, asked.from.domain, &request)
 }

@@ -1,5 +1,8 @@
 use Rattle.std.proofs.Common.{◌≡◌, ◌<◌, refl, sym, ap, ◌∙◌, subst}
 use Rattle.live_mitigations.specs.LiveValues.{LiveValue, ComesTo, SlotsCome}
+use Rattle.dots_history.specs.Histories.{held}
+use Rattle.held_resources.specs.Tables.{lost_in}
+use Rattle.held_resources.proofs.HistoryTables.{lost_is}
 use Rattle.installed_filters.specs.Filters.{FiltersValue, filters_at}
 use Rattle.installed_filters.proofs.HistoryRows.{Between, between_first, between_next, between_last}
 use Rattle.dots_registry.proofs.expiring.expire_all.Goals as goal
@@ -8,7 +11,7 @@ pub loop-domain-init : goal.loop-domain-init
 loop-domain-init c = record {
   comes = λ entries comes. comes;
   same = record { domains = refl; limits = refl; time = refl };
-  between = λ entries less alive represents. between_first _ _ _ entries less alive represents;
+  between = λ entries less alive held_so represents. between_first _ _ _ entries less alive represents;
   room = record { scrubs = refl; acls = refl };
   slots = λ filed come. come;
 }
@@ -24,8 +27,9 @@ loop-domain-preserved c =
         limits = c.expire.ensures.same.limits ∙ ap (λ (l : LiveValue). l.limits) same ∙ before.same.limits;
         time = c.expire.ensures.same.time ∙ ap (λ (l : LiveValue). l.time) same ∙ before.same.time;
       };
-      between = λ entries less alive represents.
+      between = λ entries less alive held_so represents.
           between_next
+          (lost_in c.args.held.now)
           c.args.now
           c.in-Some.domain
           c.next_due.new.self
@@ -37,8 +41,9 @@ loop-domain-preserved c =
           c.expire.ensures.same
           c.expire.ensures.own
           c.expire.ensures.others
-          (c.retain_live.ensures ∙ ap (λ kept. filters_at c.in-Some.domain c.args.now kept c.loop-domain.filters) c.rows.ensures.kept)
-          (subst (λ (l : LiveValue). Between c.args.now l c.loop-domain.filters entries) (sym same) (before.between entries less alive represents));
+          (lost_is c.args.held.now (held entries) held_so)
+          (c.retain_live.ensures ∙ ap (λ kept. filters_at (lost_in c.args.held.now) c.in-Some.domain c.args.now kept c.loop-domain.filters) c.rows.ensures.kept)
+          (subst (λ (l : LiveValue). Between c.args.now l c.loop-domain.filters entries) (sym same) (before.between entries less alive held_so represents));
       room = record {
         scrubs = ap (λ (f : FiltersValue). f.scrub_room) c.retain_live.ensures ∙ before.room.scrubs;
         acls = ap (λ (f : FiltersValue). f.acl_room) c.retain_live.ensures ∙ before.room.acls;
@@ -47,5 +52,5 @@ loop-domain-preserved c =
     }
 
 pub returns-clause-represents : goal.returns-clause-represents
-returns-clause-represents c = λ entries less alive represents.
-    between_last c.args.now _ c.loop-domain.filters entries c.in_default.ensures.none (c.loop-domain.invariant.between entries less alive represents)
+returns-clause-represents c = λ entries less alive held_so represents.
+    between_last c.args.now _ c.loop-domain.filters entries c.in_default.ensures.none (c.loop-domain.invariant.between entries less alive held_so represents)

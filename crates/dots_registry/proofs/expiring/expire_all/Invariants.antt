@@ -3,6 +3,7 @@ use Rattle.std.proofs.Common.{◌≤◌, List}
 use Rattle.dots_history.specs.declared.entry.Entry.{Entry}
 use Rattle.live_mitigations.specs.LiveValues.{ComesTo, SameButRows, count_live, SlotsCome}
 use Rattle.live_mitigations.specs.LiveValues as lives
+use Rattle.held_resources.specs.Tables as things
 use Rattle.installed_filters.specs.Filters.{SameRoom}
 use Rattle.installed_filters.specs.HistoryRows.{Represents}
 use Rattle.installed_filters.proofs.HistoryRows.{Between}
@@ -13,7 +14,8 @@ abbrev pub invariant-loop-domain : goal.invariant-loop-domain
 invariant-loop-domain l = record {
   comes : (entries : List Entry) → ComesTo l.now l.fn.live entries → ComesTo l.now l.live entries;
   same : SameButRows l.fn.live l.live;
-  between : (entries : List Entry) → l.fn.live.time ≤ l.now → lives.Represents l.fn.live entries → Represents l.fn.filters l.fn.live.time entries
+  between : (entries : List Entry) → l.fn.live.time ≤ l.now → lives.Represents l.fn.live entries → things.Represents l.held entries
+      → Represents l.fn.filters l.fn.live.time entries
       → Between l.now l.live l.filters entries;
   room : SameRoom l.fn.filters l.filters;
   slots : (filed : List Filed) → SlotsCome l.now l.fn.live.tables filed → SlotsCome l.now l.live.tables filed;

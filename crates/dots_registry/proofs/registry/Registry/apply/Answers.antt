@@ -1,5 +1,5 @@
 use Rattle.dots_registry.specs.Filed.{RepresentsFiled}
-use Rattle.std.proofs.Common.{◌≡◌, ◌≤◌, ◌++◌, ◌∷◌, [], sym, ap, ◌∙◌, subst}
+use Rattle.std.proofs.Common.{◌≤◌, ◌++◌, ◌∷◌, [], sym, ap, ◌∙◌, subst}
 use Rattle.dots_history.specs.declared.entry.Entry.{Entry}
 use Rattle.dots_registry.specs.RegistryValues.{Represents, time_of}
 use Rattle.dots_registry.specs.Fitting.{FitsIn}
@@ -24,8 +24,8 @@ put-requires-clause-fits c =
     c.tick.ensures.settings
     (c.tick.ensures.time ∙ ap (λ (e : Entry). e.time) c.into_parts-entry.ensures.entry))
 
-pub write-requires-clause-fits : goal.write-requires-clause-fits
-write-requires-clause-fits c =
+pub write_or_lose-requires-clause-fits : goal.write_or_lose-requires-clause-fits
+write_or_lose-requires-clause-fits c =
     subst
     (FitsIn c.tick.new.self)
     (sym c.into_parts-entry.ensures.entry)
@@ -47,10 +47,10 @@ returns-then-puts-clause-settings c = λ settings is_of. c.put.ensures.settings 
 
 pub returns-else-puts-clause-represents : goal.returns-else-puts-clause-represents
 returns-else-puts-clause-represents c = λ entries represents.
-    subst (λ (e : Entry). Represents c.write.new.self (entries ++ e ∷ [])) c.into_parts-entry.ensures.entry (c.write.ensures.represents entries (c.tick.ensures.represents entries represents))
+    subst (λ (e : Entry). Represents c.write_or_lose.new.self (entries ++ e ∷ [])) c.into_parts-entry.ensures.entry (c.write_or_lose.ensures.represents entries (c.tick.ensures.represents entries represents))
 
 pub returns-else-puts-clause-settings : goal.returns-else-puts-clause-settings
-returns-else-puts-clause-settings c = λ settings is_of. c.write.ensures.settings settings (c.tick.ensures.settings settings is_of)
+returns-else-puts-clause-settings c = λ settings is_of. c.write_or_lose.ensures.settings settings (c.tick.ensures.settings settings is_of)
 
 pub returns-then-puts-clause-filed : goal.returns-then-puts-clause-filed
 returns-then-puts-clause-filed c = λ filed represents.
@@ -62,6 +62,6 @@ returns-then-puts-clause-filed c = λ filed represents.
 pub returns-else-puts-clause-filed : goal.returns-else-puts-clause-filed
 returns-else-puts-clause-filed c = λ filed represents.
     subst
-    (λ (e : Entry). RepresentsFiled c.write.new.self (filed ++ record { entry = e; slot = c.args.slot } ∷ []))
+    (λ (e : Entry). RepresentsFiled c.write_or_lose.new.self (filed ++ record { entry = e; slot = c.args.slot } ∷ []))
     c.into_parts-entry.ensures.entry
-    (c.write.ensures.filed filed (c.tick.ensures.filed filed represents))
+    (c.write_or_lose.ensures.filed filed (c.tick.ensures.filed filed represents))

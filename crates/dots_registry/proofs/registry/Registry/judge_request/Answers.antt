@@ -1,5 +1,4 @@
-use Rattle.std.proofs.Common.{◌≡◌, List, ap, ◌∙◌, sym, subst, map}
-use Rattle.dots_history.specs.declared.entry.Entry.{Entry}
+use Rattle.std.proofs.Common.{List, ap, ◌∙◌, sym, subst, map}
 use Rattle.dots_history.specs.Histories.{Mitigation, held}
 use Rattle.live_mitigations.specs.Judging.{live_of, lives_of}
 use Rattle.live_mitigations.proofs.Room.{lives_are}

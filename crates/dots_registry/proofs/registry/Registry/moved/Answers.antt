@@ -1,12 +1,11 @@
-use Rattle.std.proofs.Common.{◌≡◌, ℕ, List, map, refl, sym, ap, ◌∙◌, subst}
-use Rattle.coap_exchange.specs.Rings.{RingValue, ring_renumbered}
+use Rattle.std.proofs.Common.{map, refl, subst}
 use Rattle.dots_laws.specs.Filed.{refiled, entry_of}
 use Rattle.dots_registry.specs.Kept.{filed}
 use Rattle.dots_history.specs.Keeping.{kept}
 use Rattle.dots_registry.specs.RegistryValues.{RegistryValue, Represents, IsOf, time_of, number_remembered}
 use Rattle.dots_registry.specs.Filed.{RepresentsFiled, HasSlots}
 use Rattle.dots_registry.proofs.RegistryValues.{joined}
-use Rattle.dots_registry.proofs.Shrinking.{renumbered, renumbered_to, moved_represents, moved_of, moved_in, moved_room, compacted_in}
+use Rattle.dots_registry.proofs.Shrinking.{renumbered_to, moved_represents, moved_of, moved_in, moved_room, compacted_in}
 use Rattle.dots_registry.proofs.registry.Registry.moved.Goals as goal
 
 pub invariant_of-self : goal.invariant_of-self

@@ -1,4 +1,4 @@
-use Rattle.std.proofs.Common.{[], ◌∷◌, ◌++◌, map, Some, refl, ap, sym, ◌∙◌, ◌≡◌, ◌≤◌, length, subst}
+use Rattle.std.proofs.Common.{[], ◌∷◌, ◌++◌, map, Some, refl, ap, sym, ◌∙◌, ◌≤◌, length, subst}
 use Rattle.dots_laws.specs.Filed.{entry_of}
 use Rattle.dots_registry.specs.RegistryValues.{RegistryValue}
 use Rattle.dots_registry.specs.Filed.{RepresentsFiled}
@@ -6,6 +6,7 @@ use Rattle.dots_laws.specs.Tables.{bare}
 use Rattle.dots_registry.proofs.Filed.{quiet_rows, filed_more, room_more}
 use Rattle.dots_registry.proofs.Rings.{made_pairs}
 use Rattle.dots_registry.proofs.RegistryValues.{joined, still_of, fits_ring, put_inside, put_room, put_represents}
+use Rattle.held_resources.specs.Tables.{lost_in}
 use Rattle.installed_filters.specs.Filters.{FiltersValue, filters_put}
 use Rattle.dots_registry.proofs.Filtering.{put_fits, put_filtered, put_within}
 use Rattle.dots_registry.proofs.registry.Registry.put.Goals as goal
@@ -58,7 +59,7 @@ returns-clause-represents c = λ entries represents.
     c.remember-entry.ensures.rings
     (c.put-2.ensures.represents entries)
     (put_filtered (joined c.self.inside.live c.self.inside.held c.self.inside.remembered c.self.inside.filters c.self.inside.last) c.args.self.now c.args.entry c.put.new.self entries c.self.view_is c.requires.fits c.requires.at c.requires.puts
-    (c.put.ensures ∙ ap (λ kept. filters_put c.args.entry kept c.self.inside.filters) c.rows.ensures.kept))
+    (c.put.ensures ∙ ap (λ kept. filters_put (lost_in c.self.inside.held) c.args.entry kept c.self.inside.filters) c.rows.ensures.kept))
     represents
 
 pub returns-clause-settings : goal.returns-clause-settings
@@ -86,7 +87,7 @@ rows-requires c = put_within (joined c.self.inside.live c.self.inside.held c.sel
 pub put-requires-clause-room : goal.put-requires-clause-room
 put-requires-clause-room c =
     subst
-    (λ kept. length (filters_put c.args.entry kept c.self.inside.filters).scrubs ≤ c.self.inside.filters.scrub_room)
+    (λ kept. length (filters_put (lost_in c.self.inside.held) c.args.entry kept c.self.inside.filters).scrubs ≤ c.self.inside.filters.scrub_room)
     (sym c.rows.ensures.kept)
     (put_fits (joined c.self.inside.live c.self.inside.held c.self.inside.remembered c.self.inside.filters c.self.inside.last) c.args.self.now c.args.entry c.self.view_is c.requires.fits c.requires.at c.requires.puts)
 

@@ -1,8 +1,8 @@
-use Rattle.std.proofs.Common.{map, subst, ◌∙◌, refl, ap, arith}
+use Rattle.std.proofs.Common.{map, sym, subst, ◌∙◌, refl, ap, arith}
 use Rattle.dots_laws.specs.Filed.{entry_of}
 use Rattle.dots_registry.specs.Filed.{RepresentsFiled}
 use Rattle.dots_registry.proofs.Filed.{filed_later, slots_still}
-use Rattle.dots_registry.specs.RegistryValues.{RegistryValue}
+use Rattle.dots_registry.specs.RegistryValues.{RegistryValue, Represents}
 use Rattle.dots_registry.proofs.RegistryValues.{joined, still_of, represents_later}
 use Rattle.dots_registry.proofs.registry.Registry.tick.Goals as goal
 
@@ -21,7 +21,8 @@ returns-clause-represents c = λ entries represents.
     (c.tick.ensures.limits ∙ c.expire_all.ensures.same.limits)
     c.tick.ensures.time
     (λ comes. c.tick.ensures.represents entries (c.expire_all.ensures.comes entries comes))
-    (c.expire_all.ensures.represents entries)
+    (λ less alive installed.
+    c.expire_all.ensures.represents entries less alive (subst (λ (r : RegistryValue). Represents r entries) (sym c.self.view_is) represents).held installed)
     represents
 
 pub returns-clause-settings : goal.returns-clause-settings

@@ -48,8 +48,8 @@ returns-clause-represents c = λ entries represents.
     c.remember-entry.ensures.rings
     (c.note.ensures.represents entries)
     (c.apply.ensures.represents entries)
-    (write_filtered (joined c.self.inside.live c.self.inside.held c.self.inside.remembered c.self.inside.filters c.self.inside.last) c.args.self.now c.args.entry c.has_live-mitigating.result c.acls-acls.result.now c.write.new.self entries c.self.view_is
-    c.requires.fits c.requires.at c.requires.puts c.write.ensures c.has_live-mitigating.ensures (λ held_so. c.acls-acls.ensures entries held_so ∙ ap (λ cuid. acls_of (record { domain = c.args.entry.domain; cuid = cuid }) (held entries)) c.bytes.ensures.value))
+    (write_filtered (joined c.self.inside.live c.self.inside.held c.self.inside.remembered c.self.inside.filters c.self.inside.last) c.args.self.now c.args.entry c.has_working-mitigating.result c.acls-acls.result.now c.write.new.self entries c.self.view_is
+    c.requires.fits c.requires.at c.requires.puts c.requires.quiet c.write.ensures c.has_working-mitigating.ensures (λ held_so. c.acls-acls.ensures entries held_so ∙ ap (λ cuid. acls_of (record { domain = c.args.entry.domain; cuid = cuid }) (held entries)) c.bytes.ensures.value))
     represents
 
 pub returns-clause-settings : goal.returns-clause-settings
@@ -73,8 +73,8 @@ returns-clause-settings c = λ settings is_of.
 
 pub write-requires-clause-room : goal.write-requires-clause-room
 write-requires-clause-room c =
-    write_fits (joined c.self.inside.live c.self.inside.held c.self.inside.remembered c.self.inside.filters c.self.inside.last) c.args.self.now c.args.entry c.has_live-mitigating.result c.acls-acls.result.now c.self.view_is c.requires.fits c.requires.at c.requires.puts
-    c.has_live-mitigating.ensures (λ entries held_so. c.acls-acls.ensures entries held_so ∙ ap (λ cuid. acls_of (record { domain = c.args.entry.domain; cuid = cuid }) (held entries)) c.bytes.ensures.value)
+    write_fits (joined c.self.inside.live c.self.inside.held c.self.inside.remembered c.self.inside.filters c.self.inside.last) c.args.self.now c.args.entry c.has_working-mitigating.result c.acls-acls.result.now c.self.view_is c.requires.fits c.requires.at c.requires.puts c.requires.quiet
+    c.has_working-mitigating.ensures (λ entries held_so. c.acls-acls.ensures entries held_so ∙ ap (λ cuid. acls_of (record { domain = c.args.entry.domain; cuid = cuid }) (held entries)) c.bytes.ensures.value)
 
 pub apply-requires-clause-name : goal.apply-requires-clause-name
 apply-requires-clause-name c =
