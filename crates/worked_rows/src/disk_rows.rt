@@ -73,7 +73,10 @@ $ replay settings
 = not ours 8192
 ? 7
 
-* 8237 0b
+* 8237 0d
+= ROW_SECOND
+
+* 8237 0e
 = not ours 8192
 ? 7
 

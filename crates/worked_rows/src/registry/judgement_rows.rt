@@ -29,7 +29,8 @@ const BY_MID: Table = (
 1 A NON PUT M123 NETS PORTS PROTOCOLS_AND_1 WWW ALIASES NOTHING_MORE HOUR NOW ? mid = changed 0
 1 A NON PUT M123 NETS PORTS PROTOCOLS WWW_UPPER ALIASES NOTHING_MORE HOUR NOW ? mid = changed 0
 1 A NON PUT M123 NETS PORTS PROTOCOLS WWW ALIAS NOTHING_MORE HOUR NOW ? mid = changed 0
-1 A NON PUT M123 192.0.2.0/24 HOUR NOW ? mid = changed 0",
+1 A NON PUT M123 192.0.2.0/24 HOUR NOW ? mid = changed 0
+1 A NON WAIT M123 SAME HOUR NOW ? mid = changed 0",
 );
 
 /// Of two mitigations of a client that overlap the higher mid is to stay, whatever ports they name.
@@ -42,7 +43,9 @@ const BY_OVERLAP: Table = (
 1 A NON PUT M122 LOW_80_WEB HOUR NOW ? 16 64 = higher 127
 1 A NON PUT M124 192.0.2.128/25 HOUR NOW ? 16 64 = fresh 0
 1 A NON PUT M128 192.0.0.0/16 HOUR NOW ? 16 64 = fresh 0
-1 A NON PUT M122 203.0.113.0/24 HOUR NOW ? 16 64 = fresh 0",
+1 A NON PUT M122 203.0.113.0/24 HOUR NOW ? 16 64 = fresh 0
+1 A NON WAIT M122 192.0.2.0/25 HOUR NOW ? 16 64 = fresh 0
+1 B NON WAIT M122 192.0.2.0/32 HOUR NOW ? 16 64 = other 1",
 );
 
 /// A standing mitigation of another client refuses the prefixes that it meets, shared names of aliases or not, behind a

@@ -36,6 +36,7 @@ fn by_mid(request: &Live, live: &[Live]) -> (&'static str, u64) {
         request.cuid.bytes(),
         put.mid,
         &put.asked,
+        put.trigger,
     ) {
         MidJudgement::Collision => ("collision ", 0),
         MidJudgement::Refresh { at } => ("refresh ", at as u64),
@@ -51,7 +52,15 @@ fn by_overlap(request: &Live, live: &[Live], limits: Limits) -> (&'static str, u
         return ("many ", 0);
     }
     let cuid = request.cuid.bytes();
-    match judge_overlap(live, cuid, put.mid, &put.asked, &put.targets, &limits) {
+    match judge_overlap(
+        live,
+        cuid,
+        put.mid,
+        &put.asked,
+        &put.targets,
+        &limits,
+        put.trigger,
+    ) {
         Judgement::Higher { mid } => ("higher ", u64::from(mid)),
         Judgement::Other { meeting } => ("other ", meeting),
         Judgement::Full {

@@ -63,6 +63,26 @@ const FATES: &str = "\
 1000 A NON PUT_DNS ? fates 1000 = s6s6p-p-p-
 1000 A NON PUT_DNS; 1000 B NON PUT_NET ? fates 1000 = s6s6s5s5s5";
 
+/// RFC 9132, section 4.4.1: a mitigation with `trigger-mitigation` false filters exactly while the signal of its own client peer is lost,
+/// and so do the lists that are active while its client mitigates.
+const WAITING: &str = "\
+1000 A NON WAIT_NET ? fates 1000 = p-p-p-p-p-
+1000 A NON WAIT_NET; 1001 PEER_0 HTTP LOST ? fates 1001 = s5s5s5s5s5
+1000 A NON WAIT_NET; 1001 PEER_1 HTTP LOST ? fates 1001 = p-p-p-p-p-
+1000 A NON WAIT_NET; 1001 PEER_0 HTTP LOST ? fates 4599 = s5s5s5s5s5
+1000 A NON WAIT_NET; 1001 PEER_0 HTTP LOST ? fates 4600 = p-p-p-p-p-
+1000 A NON WAIT_NET; 1001 PEER_0 HTTP LOST; 1002 PEER_0 HTTP BACK ? fates 1002 = p-p-p-p-p-
+1000 A NON WAIT_NET; 1001 PEER_0 HTTP LOST; 1002 PEER_1 HTTP BACK ? fates 1002 = s5s5s5s5s5
+1000 PEER_0 HTTP LOST; 1001 A NON WAIT_NET ? fates 1001 = s5s5s5s5s5
+1000 A NON PUT_NET; 1001 PEER_0 HTTP BACK ? fates 1001 = s5s5s5s5s5
+900 A HTTP REGISTER; 901 A HTTP OK; 902 A HTTP NO; 1000 A NON WAIT_NET ? fates 1000 = aop-p-p-p-
+900 A HTTP REGISTER; 901 A HTTP OK; 902 A HTTP NO; 1000 A NON WAIT_NET; 1001 PEER_0 HTTP LOST ? fates 1001 = aodndns5s5
+900 A HTTP REGISTER; 901 A HTTP OK; 902 A HTTP NO; 1000 A NON WAIT_NET; 1001 PEER_0 HTTP LOST; 1002 PEER_0 HTTP BACK ? fates 1002 = aop-p-p-p-
+1000 PEER_0 HTTP LOST; 1001 PEER_0 HTTP LOST; 1002 PEER_0 HTTP BACK; 1003 PEER_0 HTTP BACK ? fit = yyyy
+1000 GATED NON WAIT_NET ? fit = n
+1000 A HTTP LOST ? fit = n
+1000 GATEWAY HTTP LOST ? fit = n";
+
 /// RFC 9132, section 4.4.1.3: the name of a client that another peer registered is in use.
 const JUDGED: &str = "\
 0 A HTTP REGISTER ? judge 0 = 9
@@ -77,6 +97,7 @@ fn registries_say_what_stands(rt: HostRuntime) -> Result<(), Fail> {
         ("", REGISTERING),
         ("", ROOM),
         ("", FATES),
+        ("", WAITING),
         ("", JUDGED),
     ];
     all_hold(&rt, rt.alloc(), Part::Registry, &tables)

@@ -31,8 +31,8 @@ capacity domain-mitigations 1
 ///
 /// A and B are clients of the first domain, by peers 0 and 1, and FAR is one of the other domain, by peer 2, with the cuid of A;
 /// NOWHERE is A in a third domain, ELSEWHERE in the second by peer 0, and STRAYED in the first by peer 1. C is a client by peer 2, and
-/// C_OF_1 the same by peer 1; B_OF_0 is B by peer 0, and D another one by it. PEER_0 and GATEWAY are the sessions of peers 0 and 3,
-/// and AWAY that of peer 0 in the second domain. HTTP, NON and CON say how a message came, the second with Message ID 330 and the
+/// C_OF_1 the same by peer 1; B_OF_0 is B by peer 0, and D another one by it; GATED is A by the gateway. PEER_0, PEER_1 and GATEWAY are
+/// the sessions of peers 0, 1 and 3, and AWAY that of peer 0 in the second domain. HTTP, NON and CON say how a message came, the second with Message ID 330 and the
 /// third with 331.
 ///
 /// WEB, DNS and NTP are aliases for a host. OK is an immediate list that accepts what comes from 203.0.113.0/24, and NO one that drops
@@ -41,7 +41,8 @@ capacity domain-mitigations 1
 ///
 /// PUT_1 to PUT_3 are mitigations of these mids for 192.0.2.0/32 to 192.0.2.2/32, PUT_4 is mid 4 for 192.0.2.9/32, PUT_NET mid 5 for
 /// 192.0.2.0/24, PUT_DNS mid 6 for port 53 of UDP there, and PUT_FAR mid 7 for 198.51.100.0/24, each for 3600 seconds. PUT begins
-/// another one: behind it stand a mid, what is asked and its targets, a lifetime and a start. SAME asks for two networks, for ports,
+/// another one: behind it stand a mid, what is asked and its targets, a lifetime and a start. WAIT_NET and WAIT are the same of one that waits
+/// for a lost signal, and LOST and BACK say that a signal is lost, and back. SAME asks for two networks, for ports,
 /// protocols and host names and by aliases; NETS to ALIASES are its parts, and behind each are others in its place. A name with WEB
 /// names the alias `web` too.
 ///
@@ -59,7 +60,9 @@ C_OF_1 0000000100000163
 B_OF_0 0000000000000162
 D 0000000000000164
 PEER_0 00000000000000
+PEER_1 00000001000000
 GATEWAY 00000003ffff00
+GATED 0000000300000161
 HTTP 0000000000
 NON 01014a0000
 CON 02014b0000
@@ -98,9 +101,13 @@ PUT_4 0100000004010420000000000000000000000000c000020900000000010104200000000000
 PUT_NET 0100000005010418000000000000000000000000c00002000000000001010418000000000000000000000000c0000200000000000e1000000000000003e8
 PUT_DNS 0100000006010418000000000000000000000000c000020001003500350111000001010418000000000000000000000000c00002000100350035011100000e1000000000000003e8
 PUT_FAR 0100000007010418000000000000000000000000c63364000000000001010418000000000000000000000000c6336400000000000e1000000000000003e8
+WAIT_NET 0d00000005010418000000000000000000000000c00002000000000001010418000000000000000000000000c0000200000000000e1000000000000003e8
+LOST 0b
+BACK 0c
 WITHDRAW_2 0200000002
 WITHDRAW_NET 0200000005
 PUT 01
+WAIT 0d
 WITHDRAW 02
 M1 00000001
 M2 00000002
