@@ -1,0 +1,4 @@
+mod Numbers
+mod Lists
+mod Steps
+mod Within

@@ -1,0 +1,5 @@
+pub mod Lines
+pub mod Said
+pub mod Admitting
+pub mod File
+pub mod Taking

@@ -1,0 +1,11 @@
+use Rattle.std.proofs.Common.{◌≤◌}
+use Rattle.dots_host.specs.Runs.{Added}
+use Rattle.dots_agents.proofs.Turning.{Goes}
+use Rattle.dots_agents.proofs.turns.take_turns.Given as goal
+
+abbrev pub invariant-loop-turn : goal.invariant-loop-turn
+invariant-loop-turn g l = record {
+  leads : g.W.Wire.leads l.fn.wire l.wire;
+  later : g.W.Wire.faults l.fn.wire ≤ g.W.Wire.faults l.wire;
+  came : Added (g.W.Wire.acts l.fn.wire) (g.W.Wire.acts l.wire) (Goes g.A.Agent.step l.fn.agent l._turn l.agent);
+}
