@@ -95,20 +95,20 @@ module _ {Z : Type 0} where
       insert_step (key_order (tree_of e.1.0) (tree_of key)) e es encoding key value refl (encoding_order encoding.items e.0.items (tree_of key) (tree_of e.1.0) _ is all.0 refl) fresh
       (insert_put es encoding key value all.1 is)
 
-  kept_step : (o : Ordering) (e : Entry Z) (es : List (Entry Z)) (encoding : Vec ℕ Z) (key value : Item) → key_order (tree_of e.1.0) (tree_of key) ≡ o → vec_order encoding e.0 ≡ ordering_reverse o
+  encoded_step : (o : Ordering) (e : Entry Z) (es : List (Entry Z)) (encoding : Vec ℕ Z) (key value : Item) → key_order (tree_of e.1.0) (tree_of key) ≡ o → vec_order encoding e.0 ≡ ordering_reverse o
       → has_key (tree_of key) (encoded_pairs (e ∷ es)) ≡ false → AreEncoded (e ∷ es) → encoding.items ≡ canon (tree_of key)
       → (has_key (tree_of key) (encoded_pairs es) ≡ false → AreEncoded (inserted es encoding key value))
       → AreEncoded (inserted (e ∷ es) encoding key value)
-  kept_step Less e es encoding key value order compared fresh all is more = rw compared (all.0, more (rw order at fresh))
-  kept_step Equal e es encoding key value order compared fresh all is more = let no : true ≡ false = rw order at fresh in absurd (cc)
-  kept_step Greater e es encoding key value order compared fresh all is more = rw compared (is, all)
+  encoded_step Less e es encoding key value order compared fresh all is more = rw compared (all.0, more (rw order at fresh))
+  encoded_step Equal e es encoding key value order compared fresh all is more = let no : true ≡ false = rw order at fresh in absurd (cc)
+  encoded_step Greater e es encoding key value order compared fresh all is more = rw compared (is, all)
 
-  pub insert_kept : (es : List (Entry Z)) (encoding : Vec ℕ Z) (key value : Item) → AreEncoded es → encoding.items ≡ canon (tree_of key) → has_key (tree_of key) (encoded_pairs es) ≡ false
+  pub insert_encoded : (es : List (Entry Z)) (encoding : Vec ℕ Z) (key value : Item) → AreEncoded es → encoding.items ≡ canon (tree_of key) → has_key (tree_of key) (encoded_pairs es) ≡ false
       → AreEncoded (inserted es encoding key value)
-  insert_kept [] encoding key value all is fresh = (is, tt)
-  insert_kept (e ∷ es) encoding key value all is fresh =
-      kept_step (key_order (tree_of e.1.0) (tree_of key)) e es encoding key value refl (encoding_order encoding.items e.0.items (tree_of key) (tree_of e.1.0) _ is all.0 refl) fresh all is
-      (insert_kept es encoding key value all.1 is)
+  insert_encoded [] encoding key value all is fresh = (is, tt)
+  insert_encoded (e ∷ es) encoding key value all is fresh =
+      encoded_step (key_order (tree_of e.1.0) (tree_of key)) e es encoding key value refl (encoding_order encoding.items e.0.items (tree_of key) (tree_of e.1.0) _ is all.0 refl) fresh all is
+      (insert_encoded es encoding key value all.1 is)
 
   found_step : (o : Ordering) (e : Entry Z) (es : List (Entry Z)) (q : List ℕ) (k : Tree) → key_order (tree_of e.1.0) k ≡ o → slice_cmp nat_cmp q e.0.items ≡ ordering_reverse o
       → is_some (lookup (λ x. is_eq (slice_cmp nat_cmp q x.items)) es) ≡ has_key k (encoded_pairs es)

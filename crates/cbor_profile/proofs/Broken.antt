@@ -19,7 +19,7 @@ use Rattle.cbor_profile.proofs.Beginnings.{byte_is, HasOpen, Begins, begins}
 use Rattle.cbor_profile.proofs.Nested.{within_starts}
 use Rattle.cbor_profile.proofs.Taken.{Argument, argument_taken}
 use Rattle.cbor_profile.proofs.Spelled.{within_taken}
-use Rattle.cbor_profile.proofs.Sound.{Held, held_rest, within_sound}
+use Rattle.cbor_profile.proofs.Sound.{ShortBytes, short_rest, within_sound}
 use Rattle.cbor_profile.proofs.Faults.{cut, string_broken, parts_broken, head_of}
 use Rattle.cbor_profile.proofs.PartFaults.{Faults, items_broken, open_items_broken, pairs_broken, open_pairs_broken, pairs_break}
 
@@ -47,8 +47,8 @@ abbrev Inner : ℕ → ℕ → Type 0
 Inner zero end = Unit {0}
 Inner (suc levels) end = Faults (BreaksWithin levels) (item_at levels end) end
 
-held_tail : (first : ℕ) (more : List ℕ) → Held (first ∷ more) → Held more
-held_tail first more held = held_rest (first ∷ more) (first ∷ []) more held refl
+short_tail : (first : ℕ) (more : List ℕ) → ShortBytes (first ∷ more) → ShortBytes more
+short_tail first more held = short_rest (first ∷ more) (first ∷ []) more held refl
 
 number_broken : (levels end at major info : ℕ) (more : List ℕ) (t : ℕ → Tree) (f : CborFault) → IsNumber major → at + suc (length more) ≡ end → info < 28 → (argument_at end info more >>= λ n. whole (t n.0, n.1)) ≡ Err f
     → BreaksWithin levels at ((32 * major + info) ∷ more) f
@@ -70,7 +70,7 @@ head_end at end major info n more rest arg h = let l = ap length arg.is in let m
 head_rest : (major info n : ℕ) (more rest : List ℕ) (arg : Argument info n more rest) → (32 * major + info) ∷ more ≡ ((32 * major + info) ∷ arg.following) ++ rest
 head_rest major info n more rest arg = ap (λ (l : List ℕ). (32 * major + info) ∷ l) arg.is
 
-array_broken : (levels end at info : ℕ) (more : List ℕ) (f : CborFault) → Faults (BreaksWithin levels) (item_at levels end) end → Held more → at + suc (length more) ≡ end → info < 28
+array_broken : (levels end at info : ℕ) (more : List ℕ) (f : CborFault) → Faults (BreaksWithin levels) (item_at levels end) end → ShortBytes more → at + suc (length more) ≡ end → info < 28
     → (argument_at end info more >>= λ n. items_at (item_at levels end) n.0 n.1 >>= λ ts. whole (array (items_of ts.0), ts.1)) ≡ Err f → BreaksWithin (suc levels) at ((32 * 4 + info) ∷ more) f
 array_broken levels end at info more f inner held h lt e =
     let read = item_at levels end in
@@ -83,7 +83,7 @@ array_broken levels end at info more f inner held h lt e =
           elim (bind_err (items_at read n.0 n.1) (λ ts. whole (array (items_of ts.0), ts.1)) f next.2) [
             | inl bad ↦
                 let b = items_broken (SpellsWithin levels) (BreaksWithin levels) read end (within_starts levels end) (within_taken levels end) inner (nothing_short levels end) n.0 (at + length head) n.1 f
-                (held_rest more arg.following n.1 held arg.is) (head_end at end 4 info n.0 more n.1 arg h) bad in
+                (short_rest more arg.following n.1 held arg.is) (head_end at end 4 info n.0 more n.1 arg h) bad in
                 nest_breaks levels at _ f (
                 BreaksNest.item (b.0).ts head (b.0).content (b.0).more (GoesOn.definite n.0 b.1 (head_of 4 info n.0 more n.1 arg))
                 (head_rest 4 info n.0 more n.1 arg ∙ ap (λ (l : List ℕ). head ++ l) (b.0).is) (b.0).items (b.0).breaks
@@ -92,7 +92,7 @@ array_broken levels end at info more f inner held h lt e =
           ]
     ]
 
-map_broken : (levels end at info : ℕ) (more : List ℕ) (f : CborFault) → Faults (BreaksWithin levels) (item_at levels end) end → Held more → at + suc (length more) ≡ end → info < 28
+map_broken : (levels end at info : ℕ) (more : List ℕ) (f : CborFault) → Faults (BreaksWithin levels) (item_at levels end) end → ShortBytes more → at + suc (length more) ≡ end → info < 28
     → (argument_at end info more >>= λ n. pairs_at (item_at levels end) end n.0 [] n.1 >>= λ ps. whole (mapping (pairs_of ps.0), ps.1)) ≡ Err f → BreaksWithin (suc levels) at ((32 * 5 + info) ∷ more) f
 map_broken levels end at info more f inner held h lt e =
     let read = item_at levels end in
@@ -104,7 +104,7 @@ map_broken levels end at info more f inner held h lt e =
           let head : List ℕ = (32 * 5 + info) ∷ arg.following in
           elim (bind_err (pairs_at read end n.0 [] n.1) (λ ps. whole (mapping (pairs_of ps.0), ps.1)) f next.2) [
             | inl bad ↦
-                let behind = held_rest more arg.following n.1 held arg.is in
+                let behind = short_rest more arg.following n.1 held arg.is in
                 let b = pairs_broken (SpellsWithin levels) (BreaksWithin levels) read end (within_starts levels end) (within_taken levels end) inner (nothing_short levels end) n.0 [] (at + length head) n.1 f
                 behind (head_end at end 5 info n.0 more n.1 arg h) bad in
                 let p = pairs_break levels (SpellsWithin levels) (BreaksWithin levels) (within_starts levels end) (within_sound levels) (at + length head) n.1 f b.0 behind in
@@ -116,7 +116,7 @@ map_broken levels end at info more f inner held h lt e =
           ]
     ]
 
-tag_broken : (levels end at info : ℕ) (more : List ℕ) (f : CborFault) → Faults (BreaksWithin levels) (item_at levels end) end → Held more → at + suc (length more) ≡ end → info < 28
+tag_broken : (levels end at info : ℕ) (more : List ℕ) (f : CborFault) → Faults (BreaksWithin levels) (item_at levels end) end → ShortBytes more → at + suc (length more) ≡ end → info < 28
     → (argument_at end info more >>= λ n. item_at levels end n.1 >>= λ t. whole (tag n.0 t.0, t.1)) ≡ Err f → BreaksWithin (suc levels) at ((32 * 6 + info) ∷ more) f
 tag_broken levels end at info more f inner held h lt e =
     elim (bind_err (argument_at end info more) (λ n. item_at levels end n.1 >>= λ t. whole (tag n.0 t.0, t.1)) f e) [
@@ -127,7 +127,7 @@ tag_broken levels end at info more f inner held h lt e =
           let head : List ℕ = (32 * 6 + info) ∷ arg.following in
           elim (bind_err (item_at levels end n.1) (λ t. whole (tag n.0 t.0, t.1)) f next.2) [
             | inl bad ↦
-                let b = inner (at + length head) n.1 f (held_rest more arg.following n.1 held arg.is) (head_end at end 6 info n.0 more n.1 arg h) bad in
+                let b = inner (at + length head) n.1 f (short_rest more arg.following n.1 held arg.is) (head_end at end 6 info n.0 more n.1 arg h) bad in
                 nest_breaks levels at _ f (BreaksNest.tagged n.0 head n.1 (head_of 6 info n.0 more n.1 arg) (head_rest 6 info n.0 more n.1 arg) b)
             | inr good ↦ absurd (not_both _ f good.2)
           ]
@@ -136,7 +136,7 @@ tag_broken levels end at info more f inner held h lt e =
 nesting : (major info : ℕ) → 4 ≤ major → major ≤ 6 → info < 28 → IsNesting (32 * major + info)
 nesting major info least most lt = IsNesting.definite major info least most lt refl
 
-value_broken : (levels end at : ℕ) (a : Major) (info : ℕ) (more : List ℕ) (f : CborFault) → Inner levels end → Held more → at + suc (length more) ≡ end → HasArgument a → info < 28
+value_broken : (levels end at : ℕ) (a : Major) (info : ℕ) (more : List ℕ) (f : CborFault) → Inner levels end → ShortBytes more → at + suc (length more) ≡ end → HasArgument a → info < 28
     → value_at (parts_of levels end) end at a info more ≡ Err f → BreaksWithin levels at ((32 * number_of a + info) ∷ more) f
 unfolding value_at
 value_broken levels end at major_type.Unsigned info more f inner held h has lt e = number_broken levels end at 0 info more unsigned f (inl refl) h lt e
@@ -160,7 +160,7 @@ open_text_broken levels end at a more t f is h e = elim (bind_err (parts_at (len
   | inr good ↦ absurd (not_both _ f good.2)
 ]
 
-open_array_broken : (levels end at : ℕ) (more : List ℕ) (f : CborFault) → Faults (BreaksWithin levels) (item_at levels end) end → Held more → at + suc (length more) ≡ end
+open_array_broken : (levels end at : ℕ) (more : List ℕ) (f : CborFault) → Faults (BreaksWithin levels) (item_at levels end) end → ShortBytes more → at + suc (length more) ≡ end
     → (open_items_at (item_at levels end) (length more) end more >>= λ ts. whole (array (items_of ts.0), ts.1)) ≡ Err f → BreaksWithin (suc levels) at (begin 4 ∷ more) f
 open_array_broken levels end at more f inner held h e = elim (bind_err (open_items_at (item_at levels end) (length more) end more) (λ ts. whole (array (items_of ts.0), ts.1)) f e) [
   | inl bad ↦
@@ -169,7 +169,7 @@ open_array_broken levels end at more f inner held h e = elim (bind_err (open_ite
   | inr good ↦ absurd (not_both _ f good.2)
 ]
 
-open_map_broken : (levels end at : ℕ) (more : List ℕ) (f : CborFault) → Faults (BreaksWithin levels) (item_at levels end) end → Held more → at + suc (length more) ≡ end
+open_map_broken : (levels end at : ℕ) (more : List ℕ) (f : CborFault) → Faults (BreaksWithin levels) (item_at levels end) end → ShortBytes more → at + suc (length more) ≡ end
     → (open_pairs_at (item_at levels end) (length more) end [] more >>= λ ps. whole (mapping (pairs_of ps.0), ps.1)) ≡ Err f → BreaksWithin (suc levels) at (begin 5 ∷ more) f
 open_map_broken levels end at more f inner held h e = elim (bind_err (open_pairs_at (item_at levels end) (length more) end [] more) (λ ps. whole (mapping (pairs_of ps.0), ps.1)) f e) [
   | inl bad ↦
@@ -179,7 +179,7 @@ open_map_broken levels end at more f inner held h e = elim (bind_err (open_pairs
   | inr good ↦ absurd (not_both _ f good.2)
 ]
 
-open_broken : (levels end at : ℕ) (a : Major) (more : List ℕ) (f : CborFault) → Inner levels end → Held more → at + suc (length more) ≡ end → HasOpen a → indefinite_at (parts_of levels end) end at a more ≡ Err f
+open_broken : (levels end at : ℕ) (a : Major) (more : List ℕ) (f : CborFault) → Inner levels end → ShortBytes more → at + suc (length more) ≡ end → HasOpen a → indefinite_at (parts_of levels end) end at a more ≡ Err f
     → BreaksWithin levels at (begin (number_of a) ∷ more) f
 unfolding indefinite_at
 open_broken levels end at major_type.Bytes more f inner held h has e = open_text_broken levels end at major_type.Bytes more byte_string f (inl refl) h e
@@ -219,7 +219,7 @@ simple_reads : (parts : Option (List ℕ → Read Tree)) (end at info : ℕ) (mo
 unfolding value_at
 simple_reads parts end at info more = refl
 
-begun_broken : (levels end at : ℕ) (a : Major) (info : ℕ) (s : Start) (more : List ℕ) (f : CborFault) → Inner levels end → Held more → at + suc (length more) ≡ end → Begins a info s
+begun_broken : (levels end at : ℕ) (a : Major) (info : ℕ) (s : Start) (more : List ℕ) (f : CborFault) → Inner levels end → ShortBytes more → at + suc (length more) ≡ end → Begins a info s
     → begun_at (parts_of levels end) end at s more ≡ Err f → BreaksWithin levels at ((32 * number_of a + info) ∷ more) f
 unfolding begun_at
 begun_broken levels end at a info s more f inner held h kind e =
@@ -248,7 +248,7 @@ item_broken levels end inner at (first ∷ more) f held h e =
     let place : end - suc (length more) ≡ at = omega arith in
     let begun = sym (item_begins levels end first more (start_of first) refl) ∙ e in
     let here = subst (λ (p : ℕ). begun_at (parts_of levels end) end p (start_of first) more ≡ Err f) place begun in
-    let made = begun_broken levels end at a (first % 32) (start_of first) more f inner (held_tail first more held) h (begins a (first % 32) (omega arith)) here in
+    let made = begun_broken levels end at a (first % 32) (start_of first) more f inner (short_tail first more held) h (begins a (first % 32) (omega arith)) here in
     subst (λ (b : ℕ). BreaksWithin levels at (b ∷ more) f) (sym (byte_is first (held.each).0)) made
 
 pub within_broken : (levels end : ℕ) → Faults (BreaksWithin levels) (item_at levels end) end

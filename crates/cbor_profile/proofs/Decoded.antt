@@ -11,19 +11,19 @@ use Rattle.cbor_profile.specs.Spelling.{Spells}
 use Rattle.cbor_profile.specs.Breaking.{Refuses}
 use Rattle.cbor_profile.specs.ItemReading.{Gives, whole}
 use Rattle.cbor_profile.proofs.WholeReading.{whole_found, whole_again, whole_broken, whole_refused}
-use Rattle.cbor_profile.proofs.Sound.{Held}
+use Rattle.cbor_profile.proofs.Sound.{ShortBytes}
 
-pub found_is : (bytes : List ℕ) (r : Result Item CborFault) → Held bytes → Gives tree_of r (whole bytes) → IfOk r (λ item. IsValid (tree_of item) × Spells bytes (tree_of item) 0)
+pub found_is : (bytes : List ℕ) (r : Result Item CborFault) → ShortBytes bytes → Gives tree_of r (whole bytes) → IfOk r (λ item. IsValid (tree_of item) × Spells bytes (tree_of item) 0)
 found_is bytes (Ok item) h given = whole_found bytes (tree_of item) h given
 found_is bytes (Err e) h given = tt
 
 pub only_is : (bytes : List ℕ) (r : Result Item CborFault) (tree : Tree) → Spells bytes tree 0 → Gives tree_of r (whole bytes) → Gives tree_of r (Ok tree)
 only_is bytes r tree spelled given = subst (λ (w : Result Tree CborFault). Gives tree_of r w) (whole_again bytes tree spelled) given
 
-pub first_is : (bytes : List ℕ) (r : Result Item CborFault) (fault : CborFault) → Held bytes → Refuses bytes fault → Gives tree_of r (whole bytes) → Gives tree_of r (Err fault)
+pub first_is : (bytes : List ℕ) (r : Result Item CborFault) (fault : CborFault) → ShortBytes bytes → Refuses bytes fault → Gives tree_of r (whole bytes) → Gives tree_of r (Err fault)
 first_is bytes r fault h refuses given = subst (λ (w : Result Tree CborFault). Gives tree_of r w) (whole_refused bytes fault h refuses) given
 
-pub fault_is : (bytes : List ℕ) (r : Result Item CborFault) → Held bytes → Gives tree_of r (whole bytes) → IfErr r (λ fault. fault ≢ NoMemory → Refuses bytes fault)
+pub fault_is : (bytes : List ℕ) (r : Result Item CborFault) → ShortBytes bytes → Gives tree_of r (whole bytes) → IfErr r (λ fault. fault ≢ NoMemory → Refuses bytes fault)
 fault_is bytes (Ok item) h given = tt
 fault_is bytes (Err (Short at)) h given = λ other. whole_broken bytes (Short at) h given
 fault_is bytes (Err (Reserved at)) h given = λ other. whole_broken bytes (Reserved at) h given

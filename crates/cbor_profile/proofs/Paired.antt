@@ -16,15 +16,15 @@ use Rattle.cbor_profile.proofs.Loops.{fails_then}
 use Rattle.cbor_profile.proofs.KeyOrder.{after_nothing}
 use Rattle.cbor_profile.proofs.Ordered.{put_rises}
 use Rattle.cbor_profile.proofs.Keys.{put_sound}
-use Rattle.cbor_profile.proofs.Sound.{Held, held_front, within_sound}
+use Rattle.cbor_profile.proofs.Sound.{ShortBytes, short_front, within_sound}
 use Rattle.cbor_profile.proofs.Spelled.{within_taken}
 
-pub key_sound : (levels end : ℕ) (bytes after : List ℕ) (key : Tree) → Held bytes → item_at levels end bytes ≡ Ok (key, after) → IsSound key
+pub key_sound : (levels end : ℕ) (bytes after : List ℕ) (key : Tree) → ShortBytes bytes → item_at levels end bytes ≡ Ok (key, after) → IsSound key
 key_sound levels end bytes after key h e =
     let t = within_taken levels end bytes (key, after) h.each e in
-    (within_sound levels t.front key (held_front bytes t.front after h t.is) t.part).0
+    (within_sound levels t.front key (short_front bytes t.front after h t.is) t.part).0
 
-pub item_sound : (r : Result (Item × Bor (List ℕ)) CborFault) (levels end : ℕ) (bytes : List ℕ) → Held bytes → Gives item_read r (item_at levels end bytes) → IfOk r (λ read. IsSound (tree_of read.0))
+pub item_sound : (r : Result (Item × Bor (List ℕ)) CborFault) (levels end : ℕ) (bytes : List ℕ) → ShortBytes bytes → Gives item_read r (item_at levels end bytes) → IfOk r (λ read. IsSound (tree_of read.0))
 item_sound (Ok x) levels end bytes h e = key_sound levels end bytes x.1.now (tree_of x.0) h e
 item_sound (Err f) levels end bytes h e = tt
 

@@ -17,13 +17,13 @@ use Rattle.cbor_profile.proofs.Nested.{PartStarts}
 use Rattle.cbor_profile.proofs.Ordered.{Runs, runs_in_order}
 use Rattle.cbor_profile.proofs.Taken.{Took, Takes, Pair, pair_taken}
 use Rattle.cbor_profile.proofs.Faults.{end_after}
-use Rattle.cbor_profile.proofs.Sound.{Held, held_front, held_rest, PartSound, PairSound, pairs_sound}
+use Rattle.cbor_profile.proofs.Sound.{ShortBytes, short_front, short_rest, PartSound, PairSound, pairs_sound}
 use Rattle.cbor_profile.proofs.Places.{KeySound}
 use Rattle.cbor_profile.proofs.Keys.{key_permutation, has_true_key, fresh_not, runs_distinct, runs_sound}
 use Rattle.std.proofs.lemmas.List.Sorted.{IsPermutation-sym}
 
 abbrev pub Faults : (ℕ → List ℕ → CborFault → Type 0) → (List ℕ → Read Tree) → ℕ → Type 0
-Faults Break read end = (at : ℕ) (bytes : List ℕ) (f : CborFault) → Held bytes → at + length bytes ≡ end → read bytes ≡ Err f → Break at bytes f
+Faults Break read end = (at : ℕ) (bytes : List ℕ) (f : CborFault) → ShortBytes bytes → at + length bytes ≡ end → read bytes ≡ Err f → Break at bytes f
 
 pub record ItemsBreak (Part : List ℕ → Tree → Type 0) (Break : ℕ → List ℕ → CborFault → Type 0) (at : ℕ) (bytes : List ℕ) (f : CborFault) : Type 0 where
   pub ts : Trees
@@ -81,7 +81,7 @@ module _ (Part : List ℕ → Tree → Type 0) (Break : ℕ → List ℕ → Cbo
         breaks = subst (λ (p : ℕ). Break p rest.more f) place rest.breaks;
       }
 
-  pub items_broken : (n at : ℕ) (bytes : List ℕ) (f : CborFault) → Held bytes → at + length bytes ≡ end → items_at read n bytes ≡ Err f → (b : ItemsBreak Part Break at bytes f) × (count b.ts < n)
+  pub items_broken : (n at : ℕ) (bytes : List ℕ) (f : CborFault) → ShortBytes bytes → at + length bytes ≡ end → items_at read n bytes ≡ Err f → (b : ItemsBreak Part Break at bytes f) × (count b.ts < n)
   unfolding items_at items_now
   items_broken zero at bytes f held h e = absurd (not_both _ f e)
   items_broken (suc n) at bytes f held h e = elim (bind_err (read bytes) (λ first. items_at read n first.1 >>= λ others. Ok (first.0 ∷ others.0, others.1)) f e) [
@@ -91,17 +91,17 @@ module _ (Part : List ℕ → Tree → Type 0) (Break : ℕ → List ℕ → Cbo
         let one = takes bytes x held.each next.1 in
         elim (bind_err (items_at read n x.1) (λ others. Ok (x.0 ∷ others.0, others.1)) f next.2) [
           | inl later ↦
-              let rest = items_broken n (at + length one.front) x.1 f (held_rest bytes one.front x.1 held one.is) (end_after at end bytes one.front x.1 h one.is) later in
+              let rest = items_broken n (at + length one.front) x.1 f (short_rest bytes one.front x.1 held one.is) (end_after at end bytes one.front x.1 h one.is) later in
               let fewer = rest.1 in
               (items_later at bytes f x one rest.0, omega arith)
           | inr good ↦ absurd (not_both _ f good.2)
         ]
   ]
 
-  at_nothing : (at : ℕ) (bytes : List ℕ) (f : CborFault) → Held bytes → at + length bytes ≡ end → bytes ≡ [] → Short end ≡ f → Break at bytes f
+  at_nothing : (at : ℕ) (bytes : List ℕ) (f : CborFault) → ShortBytes bytes → at + length bytes ≡ end → bytes ≡ [] → Short end ≡ f → Break at bytes f
   at_nothing at bytes f held h empty is = faults at bytes f held h (ap read empty ∙ nothing ∙ ap (λ (g : CborFault). broken {A = Tree × List ℕ} g) is)
 
-  pub open_items_broken : (fuel at : ℕ) (bytes : List ℕ) (f : CborFault) → Held bytes → at + length bytes ≡ end → length bytes ≤ fuel → open_items_at read fuel end bytes ≡ Err f
+  pub open_items_broken : (fuel at : ℕ) (bytes : List ℕ) (f : CborFault) → ShortBytes bytes → at + length bytes ≡ end → length bytes ≤ fuel → open_items_at read fuel end bytes ≡ Err f
       → (b : ItemsBreak Part Break at bytes f) × NoEnd b.more
   unfolding open_items_at items_now
   open_items_broken zero at bytes f held h enough e =
@@ -120,7 +120,7 @@ module _ (Part : List ℕ → Tree → Type 0) (Break : ℕ → List ℕ → Cbo
           let m = length-append one.front x.1 in
           elim (bind_err (open_items_at read fuel end x.1) (λ others. Ok (x.0 ∷ others.0, others.1)) f next.2) [
             | inl later ↦
-                let rest = open_items_broken fuel (at + length one.front) x.1 f (held_rest (first ∷ bytes) one.front x.1 held one.is) (end_after at end (first ∷ bytes) one.front x.1 h one.is) (omega arith) later in
+                let rest = open_items_broken fuel (at + length one.front) x.1 f (short_rest (first ∷ bytes) one.front x.1 held one.is) (end_after at end (first ∷ bytes) one.front x.1 h one.is) (omega arith) later in
                 (items_later at (first ∷ bytes) f x one rest.0, rest.1)
             | inr good ↦ absurd (not_both _ f good.2)
           ]
@@ -132,7 +132,7 @@ module _ (Part : List ℕ → Tree → Type 0) (Break : ℕ → List ℕ → Cbo
   abbrev value_then : List (Tree × Tree) → Tree × List ℕ → Read (List (Tree × Tree))
   value_then acc k = read k.1 >>= λ v. Ok (put k.0 v.0 acc, v.1)
 
-  pair_broken : (acc : List (Tree × Tree)) (at : ℕ) (bytes : List ℕ) (f : CborFault) → Held bytes → at + length bytes ≡ end → pair_at read end acc bytes ≡ Err f → PairBreaks Part Break acc at bytes f
+  pair_broken : (acc : List (Tree × Tree)) (at : ℕ) (bytes : List ℕ) (f : CborFault) → ShortBytes bytes → at + length bytes ≡ end → pair_at read end acc bytes ≡ Err f → PairBreaks Part Break acc at bytes f
   unfolding pair_at
   pair_broken acc at bytes f held h e = elim (bind_err (read bytes) (λ key. cond (has_key key.0 acc) (broken (Duplicate (end - length bytes))) (value_then acc key)) f e) [
     | inl now ↦ PairBreaks.key (faults at bytes f held h now)
@@ -144,7 +144,7 @@ module _ (Part : List ℕ → Tree → Type 0) (Break : ℕ → List ℕ → Cbo
               let is : f ≡ Duplicate at = sym (err_is {A = List (Tree × Tree) × List ℕ} (Duplicate (end - length bytes)) f again.1) ∙ ap Duplicate (omega arith) in
               PairBreaks.duplicate x.0 key.front x.1 key.is key.part again.0 is
           | inr fresh ↦ elim (bind_err (read x.1) (λ value. Ok (put x.0 value.0 acc, value.1)) f fresh.1) [
-            | inl later ↦ PairBreaks.value x.0 key.front x.1 key.is key.part fresh.0 (faults (at + length key.front) x.1 f (held_rest bytes key.front x.1 held key.is) (end_after at end bytes key.front x.1 h key.is) later)
+            | inl later ↦ PairBreaks.value x.0 key.front x.1 key.is key.part fresh.0 (faults (at + length key.front) x.1 f (short_rest bytes key.front x.1 held key.is) (end_after at end bytes key.front x.1 h key.is) later)
             | inr good ↦ absurd (not_both _ f good.2)
           ]
         ]
@@ -176,7 +176,7 @@ module _ (Part : List ℕ → Tree → Type 0) (Break : ℕ → List ℕ → Cbo
   pair_front : (acc : List (Tree × Tree)) (bytes : List ℕ) (y : List (Tree × Tree) × List ℕ) (one : Pair Part acc bytes y) → bytes ≡ (one.key ++ one.value) ++ y.1
   pair_front acc bytes y one = one.is ∙ sym (append_assoc one.key one.value y.1)
 
-  pub pairs_broken : (n : ℕ) (acc : List (Tree × Tree)) (at : ℕ) (bytes : List ℕ) (f : CborFault) → Held bytes → at + length bytes ≡ end → pairs_at read end n acc bytes ≡ Err f
+  pub pairs_broken : (n : ℕ) (acc : List (Tree × Tree)) (at : ℕ) (bytes : List ℕ) (f : CborFault) → ShortBytes bytes → at + length bytes ≡ end → pairs_at read end n acc bytes ≡ Err f
       → (b : PairsBreak Part Break acc at bytes f) × (length b.read < n)
   unfolding pairs_at
   pairs_broken zero acc at bytes f held h e = absurd (not_both _ f e)
@@ -186,12 +186,12 @@ module _ (Part : List ℕ → Tree → Type 0) (Break : ℕ → List ℕ → Cbo
         let y = next.0 in
         let one = pair_taken Part read takes end acc bytes y held.each next.1 in
         let front = pair_front acc bytes y one in
-        let rest = pairs_broken n y.0 (at + length (one.key ++ one.value)) y.1 f (held_rest bytes (one.key ++ one.value) y.1 held front) (end_after at end bytes (one.key ++ one.value) y.1 h front) next.2 in
+        let rest = pairs_broken n y.0 (at + length (one.key ++ one.value)) y.1 f (short_rest bytes (one.key ++ one.value) y.1 held front) (end_after at end bytes (one.key ++ one.value) y.1 h front) next.2 in
         let fewer = rest.1 in
         (pairs_later acc at bytes f y one rest.0, omega arith)
   ]
 
-  pub open_pairs_broken : (fuel : ℕ) (acc : List (Tree × Tree)) (at : ℕ) (bytes : List ℕ) (f : CborFault) → Held bytes → at + length bytes ≡ end → length bytes ≤ fuel → open_pairs_at read fuel end acc bytes ≡ Err f
+  pub open_pairs_broken : (fuel : ℕ) (acc : List (Tree × Tree)) (at : ℕ) (bytes : List ℕ) (f : CborFault) → ShortBytes bytes → at + length bytes ≡ end → length bytes ≤ fuel → open_pairs_at read fuel end acc bytes ≡ Err f
       → (b : PairsBreak Part Break acc at bytes f) × NoEnd b.more
   unfolding open_pairs_at
   open_pairs_broken zero acc at bytes f held h enough e =
@@ -211,7 +211,7 @@ module _ (Part : List ℕ → Tree → Type 0) (Break : ℕ → List ℕ → Cbo
           let l = ap length front in
           let m = length-append (one.key ++ one.value) y.1 in
           let k = length-append one.key one.value in
-          let rest = open_pairs_broken fuel y.0 (at + length (one.key ++ one.value)) y.1 f (held_rest (first ∷ bytes) (one.key ++ one.value) y.1 held front) (end_after at end (first ∷ bytes) (one.key ++ one.value) y.1 h front) (omega arith) next.2 in
+          let rest = open_pairs_broken fuel y.0 (at + length (one.key ++ one.value)) y.1 f (short_rest (first ∷ bytes) (one.key ++ one.value) y.1 held front) (end_after at end (first ∷ bytes) (one.key ++ one.value) y.1 h front) (omega arith) next.2 in
           (pairs_later acc at (first ∷ bytes) f y one rest.0, rest.1)
     ]
   ]
@@ -223,22 +223,22 @@ key_sounds levels [] all = tt
 key_sounds levels (p ∷ ps) all = ((all.0).0, key_sounds levels ps all.1)
 
 module _ (levels : ℕ) (Part : List ℕ → Tree → Type 0) (Break : ℕ → List ℕ → CborFault → Type 0) (starts : PartStarts Part) (sound : PartSound levels Part) where
-  pub read_sounds : (read : List (Tree × Tree)) (content : List ℕ) → Held content → SpellsPairs Part content read → AllByRecursion KeySound read
+  pub read_sounds : (read : List (Tree × Tree)) (content : List ℕ) → ShortBytes content → SpellsPairs Part content read → AllByRecursion KeySound read
   read_sounds read content held pairs = key_sounds levels read (pairs_sound levels Part starts sound read content held pairs).0
 
-  pair_breaks : (read final : List (Tree × Tree)) (at : ℕ) (bytes : List ℕ) (f : CborFault) → Held bytes → Runs [] read final → AllByRecursion KeySound read → PairBreaks Part Break final at bytes f → BreaksPair Part Break read at bytes f
+  pair_breaks : (read final : List (Tree × Tree)) (at : ℕ) (bytes : List ℕ) (f : CborFault) → ShortBytes bytes → Runs [] read final → AllByRecursion KeySound read → PairBreaks Part Break final at bytes f → BreaksPair Part Break read at bytes f
   pair_breaks read final at bytes f held runs sounds b =
       let same = (runs_in_order read [] final tt runs).1 in
       elim b [
         | PairBreaks.key now ↦ BreaksPair.key now
         | PairBreaks.duplicate k front more is part has e ↦
-            let one = sound front k (held_front bytes front more held is) part in
+            let one = sound front k (short_front bytes front more held is) part in
             let key = has_true_key final k (runs_sound read [] final tt sounds runs) one.0 has in
             BreaksPair.duplicate k front more is part (key_permutation final read k (IsPermutation-sym _ _ same) key) e
         | PairBreaks.value k front more is part fresh later ↦ BreaksPair.value k front more is part (λ key. fresh_not final k fresh (key_permutation read final k same key)) later
       ]
 
-  pub pairs_break : (at : ℕ) (bytes : List ℕ) (f : CborFault) (b : PairsBreak Part Break [] at bytes f) → Held bytes → AreDistinct b.read × BreaksPair Part Break b.read (at + length b.content) b.more f
+  pub pairs_break : (at : ℕ) (bytes : List ℕ) (f : CborFault) (b : PairsBreak Part Break [] at bytes f) → ShortBytes bytes → AreDistinct b.read × BreaksPair Part Break b.read (at + length b.content) b.more f
   pairs_break at bytes f b held =
-      let sounds = read_sounds b.read b.content (held_front bytes b.content b.more held b.is) b.pairs in
-      (runs_distinct b.read [] b.final b.runs, pair_breaks b.read b.final (at + length b.content) b.more f (held_rest bytes b.content b.more held b.is) b.runs sounds b.breaks)
+      let sounds = read_sounds b.read b.content (short_front bytes b.content b.more held b.is) b.pairs in
+      (runs_distinct b.read [] b.final b.runs, pair_breaks b.read b.final (at + length b.content) b.more f (short_rest bytes b.content b.more held b.is) b.runs sounds b.breaks)

@@ -17,7 +17,7 @@ use Rattle.cbor_profile.proofs.Firsts.{HasArgument, value_begins, open_begins, n
 use Rattle.cbor_profile.proofs.Again.{argument_again, head_begins, IsStringMajor}
 use Rattle.cbor_profile.proofs.Nested.{within_again, within_starts}
 use Rattle.cbor_profile.proofs.Keys.{distinct_runs}
-use Rattle.cbor_profile.proofs.Sound.{Held, held_front, held_rest, within_sound}
+use Rattle.cbor_profile.proofs.Sound.{ShortBytes, short_front, short_rest, within_sound}
 use Rattle.cbor_profile.proofs.Faults.{end_after}
 use Rattle.cbor_profile.proofs.PartFaults.{read_sounds}
 use Rattle.cbor_profile.proofs.Refused.{Refuse, short_end, first_reserved, first_unsupported, reserved_refused, unsupported_refused, argument_refused, string_refused, parts_refused, items_refused, open_items_refused, pairs_refused, open_pairs_refused, pair_refused}
@@ -191,10 +191,10 @@ open_map_value levels end at rest f e = rw e refl
 place_behind : (at end : ℕ) (bytes opening content more : List ℕ) → at + length bytes ≡ end → bytes ≡ opening ++ (content ++ more) → at + length opening + length content + length more ≡ end
 place_behind at end bytes opening content more h is = let l = ap length is in let m = length-append opening (content ++ more) in let n = length-append content more in omega arith
 
-held_behind : (bytes opening content more : List ℕ) → Held bytes → bytes ≡ opening ++ (content ++ more) → Held content × Held more
-held_behind bytes opening content more held is =
-    let behind = held_rest bytes opening (content ++ more) held is in
-    (held_front (content ++ more) content more behind refl, held_rest (content ++ more) content more behind refl)
+short_behind : (bytes opening content more : List ℕ) → ShortBytes bytes → bytes ≡ opening ++ (content ++ more) → ShortBytes content × ShortBytes more
+short_behind bytes opening content more held is =
+    let behind = short_rest bytes opening (content ++ more) held is in
+    (short_front (content ++ more) content more behind refl, short_rest (content ++ more) content more behind refl)
 
 module _ (levels end : ℕ) (refuse : Refuse (BreaksWithin levels) (item_at levels end) end) where
   array_refused : (at : ℕ) (bytes : List ℕ) (f : CborFault) (ts : Rattle.cbor_profile.specs.Tree.Trees) (opening content more : List ℕ) → bytes ≡ opening ++ (content ++ more)
@@ -211,12 +211,12 @@ module _ (levels end : ℕ) (refuse : Refuse (BreaksWithin levels) (item_at leve
         ∙ open_array_value levels end _ (content ++ more) f second
   ]
 
-  map_refused : (at : ℕ) (bytes : List ℕ) (f : CborFault) (read : List (Tree × Tree)) (opening content more : List ℕ) → Held bytes → at + length bytes ≡ end → bytes ≡ opening ++ (content ++ more)
+  map_refused : (at : ℕ) (bytes : List ℕ) (f : CborFault) (read : List (Tree × Tree)) (opening content more : List ℕ) → ShortBytes bytes → at + length bytes ≡ end → bytes ≡ opening ++ (content ++ more)
       → SpellsPairs (SpellsWithin levels) content read → AreDistinct read → BreaksPair (SpellsWithin levels) (BreaksWithin levels) read (at + length opening + length content) more f → GoesOn 5 (length read) opening more
       → item_at (suc levels) end bytes ≡ Err f
   unfolding start_with
   map_refused at bytes f read opening content more held h is pairs apart b goes =
-      let held2 = held_behind bytes opening content more held is in
+      let held2 = short_behind bytes opening content more held is in
       let sounds = read_sounds levels (SpellsWithin levels) (BreaksWithin levels) (within_starts levels end) (within_sound levels) read content held2.0 pairs in
       let runs = distinct_runs read sounds apart in
       let e = pair_refused (SpellsWithin levels) (BreaksWithin levels) (item_at levels end) end (within_starts levels end) (within_again levels end) refuse (nothing_short levels end) levels (within_sound levels) read runs.0
@@ -244,16 +244,16 @@ module _ (levels end : ℕ) (refuse : Refuse (BreaksWithin levels) (item_at leve
     ]
   ]
 
-  nest_refused : (at : ℕ) (bytes : List ℕ) (f : CborFault) → Held bytes → at + length bytes ≡ end → BreaksNest (SpellsWithin levels) (BreaksWithin levels) at bytes f → item_at (suc levels) end bytes ≡ Err f
+  nest_refused : (at : ℕ) (bytes : List ℕ) (f : CborFault) → ShortBytes bytes → at + length bytes ≡ end → BreaksNest (SpellsWithin levels) (BreaksWithin levels) at bytes f → item_at (suc levels) end bytes ≡ Err f
   nest_refused at bytes f held h b = elim b [
     | BreaksNest.argument major least most cut is ↦ nest_argument at major bytes f least most h cut is
     | BreaksNest.item ts opening content more goes is items later ↦
-        let held2 = held_behind bytes opening content more held is in
+        let held2 = short_behind bytes opening content more held is in
         let e = refuse (at + length opening + length content) more f held2.1 (place_behind at end bytes opening content more h is) later in
         array_refused at bytes f ts opening content more is items e goes
     | BreaksNest.pair read opening content more goes is pairs apart later ↦ map_refused at bytes f read opening content more held h is pairs apart later goes
     | BreaksNest.tagged n head more counted is later ↦
-        let e = refuse (at + length head) more f (held_rest bytes head more held is) (end_after at end bytes head more h is) later in
+        let e = refuse (at + length head) more f (short_rest bytes head more held is) (end_after at end bytes head more h is) later in
         ap (item_at (suc levels) end) is ∙ head_begins (suc levels) end n major_type.Tag head more counted tt
         ∙ tag_value levels end _ counted.info n counted.following more f (argument_again end counted.info n counted.following more counted.argument) e
   ]
@@ -263,7 +263,7 @@ either_deep end at bytes f h (inl plain) = plain_refused zero end at bytes f h p
 either_deep end at bytes f h (inr deep) =
     ap (item_at zero end) deep.is ∙ deep_refused end at deep.first deep.more (let l = ap length deep.is in omega arith) deep.nesting ∙ ap tree_fault (sym deep.fault_is)
 
-either_nest : (levels end at : ℕ) (bytes : List ℕ) (f : CborFault) → Refuse (BreaksWithin levels) (item_at levels end) end → Held bytes → at + length bytes ≡ end
+either_nest : (levels end at : ℕ) (bytes : List ℕ) (f : CborFault) → Refuse (BreaksWithin levels) (item_at levels end) end → ShortBytes bytes → at + length bytes ≡ end
     → BreaksPlain at bytes f ⊎ BreaksNest (SpellsWithin levels) (BreaksWithin levels) at bytes f → item_at (suc levels) end bytes ≡ Err f
 either_nest levels end at bytes f refuse held h (inl plain) = plain_refused (suc levels) end at bytes f h plain
 either_nest levels end at bytes f refuse held h (inr nest) = nest_refused levels end refuse at bytes f held h nest

@@ -24,7 +24,7 @@ use Rattle.cbor_profile.proofs.Beginnings.{Begins, begins}
 use Rattle.cbor_profile.proofs.Again.{argument_again, head_parts, IsStringMajor, part_begins, string_again}
 use Rattle.cbor_profile.proofs.Nested.{Reads, PartStarts}
 use Rattle.cbor_profile.proofs.Ordered.{Runs, runs_in_order}
-use Rattle.cbor_profile.proofs.Sound.{Held, held_front, held_rest, PartSound}
+use Rattle.cbor_profile.proofs.Sound.{ShortBytes, short_front, short_rest, PartSound}
 use Rattle.cbor_profile.proofs.Keys.{key_permutation, not_has, key_has_true}
 use Rattle.cbor_profile.proofs.PartFaults.{NoEnd}
 use Rattle.cbor_profile.proofs.Faults.{end_after}
@@ -257,7 +257,7 @@ parts_refused (part ∷ parts) (suc fuel) end at a string content more f kind h 
 -- ---- items and pairs
 
 abbrev pub Refuse : (ℕ → List ℕ → CborFault → Type 0) → (List ℕ → Read Tree) → ℕ → Type 0
-Refuse Break read end = (at : ℕ) (bytes : List ℕ) (f : CborFault) → Held bytes → at + length bytes ≡ end → Break at bytes f → read bytes ≡ Err f
+Refuse Break read end = (at : ℕ) (bytes : List ℕ) (f : CborFault) → ShortBytes bytes → at + length bytes ≡ end → Break at bytes f → read bytes ≡ Err f
 
 module _ (Part : List ℕ → Tree → Type 0) (Break : ℕ → List ℕ → CborFault → Type 0) (read : List ℕ → Read Tree) (end : ℕ) (starts : PartStarts Part) (again : Reads Part read) (refuse : Refuse Break read end)
     (nothing : read [] ≡ Err (Short end)) where
@@ -373,7 +373,7 @@ module _ (Part : List ℕ → Tree → Type 0) (Break : ℕ → List ℕ → Cbo
       ∙ ap (λ (r : Read (List (Tree × Tree))). r >>= λ more. open_pairs_at read (fuel - 1) end more.0 more.1) first ∙ next
 
   -- the next pair, behind pairs that were put in order
-  pub pair_refused : (levels : ℕ) → PartSound levels Part → (ps final : List (Tree × Tree)) (at : ℕ) (bytes : List ℕ) (f : CborFault) → Held bytes → at + length bytes ≡ end → Runs [] ps final → AllByRecursion KeySound final → BreaksPair Part Break ps at bytes f
+  pub pair_refused : (levels : ℕ) → PartSound levels Part → (ps final : List (Tree × Tree)) (at : ℕ) (bytes : List ℕ) (f : CborFault) → ShortBytes bytes → at + length bytes ≡ end → Runs [] ps final → AllByRecursion KeySound final → BreaksPair Part Break ps at bytes f
       → pair_at read end final bytes ≡ Err f
   unfolding pair_at
   pair_refused levels sound ps final at bytes f held h runs sounds b =
@@ -387,8 +387,8 @@ module _ (Part : List ℕ → Tree → Type 0) (Break : ℕ → List ℕ → Cbo
             rw (first, found, place) (ap (λ (g : CborFault). broken {A = List (Tree × Tree) × List ℕ} g) (sym e))
         | BreaksPair.value k front more is part none later ↦
             let first = ap read is ∙ again front k more part in
-            let one = sound front k (held_front bytes front more held is) part in
+            let one = sound front k (short_front bytes front more held is) part in
             let fresh = not_has final k sounds one.0 (λ key. none (key_permutation final ps k (IsPermutation-sym _ _ same) key)) in
-            let second = refuse (at + length front) more f (held_rest bytes front more held is) (end_after at end bytes front more h is) later in
+            let second = refuse (at + length front) more f (short_rest bytes front more held is) (end_after at end bytes front more h is) later in
             rw (first, fresh, second) refl
       ]

@@ -20,19 +20,19 @@ AreBytes-front [] rest h = tt
 AreBytes-front (b ∷ front) rest h = (h.0, AreBytes-front front rest h.1)
 
 -- bytes that memory can hold
-pub record Held (bytes : List ℕ) : Type 0 where
+pub record ShortBytes (bytes : List ℕ) : Type 0 where
   pub each : AreBytes bytes
   pub short : length bytes < 2 ^ 64
 
-pub held_front : (bytes front rest : List ℕ) → Held bytes → bytes ≡ front ++ rest → Held front
-held_front bytes front rest h is =
+pub short_front : (bytes front rest : List ℕ) → ShortBytes bytes → bytes ≡ front ++ rest → ShortBytes front
+short_front bytes front rest h is =
     let l = ap length is in
     let m = length-append front rest in
     let k = h.short in
     record { each = AreBytes-front front rest (subst AreBytes is h.each); short = omega arith }
 
-pub held_rest : (bytes front rest : List ℕ) → Held bytes → bytes ≡ front ++ rest → Held rest
-held_rest bytes front rest h is =
+pub short_rest : (bytes front rest : List ℕ) → ShortBytes bytes → bytes ≡ front ++ rest → ShortBytes rest
+short_rest bytes front rest h is =
     let l = ap length is in
     let m = length-append front rest in
     let k = h.short in
@@ -110,7 +110,7 @@ text_utf8 string bytes spelled = elim spelled [
 -- ---- items and pairs
 
 abbrev pub PartSound : ℕ → (List ℕ → Tree → Type 0) → Type 0
-PartSound levels Part = (bytes : List ℕ) (t : Tree) → Held bytes → Part bytes t → IsSound t × (depth t ≤ levels)
+PartSound levels Part = (bytes : List ℕ) (t : Tree) → ShortBytes bytes → Part bytes t → IsSound t × (depth t ≤ levels)
 
 starts_length : (bytes : List ℕ) → Starts bytes → 1 ≤ length bytes
 starts_length bytes s = let e = ap length s.is in omega arith
@@ -126,28 +126,28 @@ pairs_sound_of levels (p ∷ ps) all =
     ((one.0, one.1, rest.0), omega arith, ap suc rest.2)
 
 module _ (levels : ℕ) (Part : List ℕ → Tree → Type 0) (starts : PartStarts Part) (sound : PartSound levels Part) where
-  items_sound : (ts : Trees) (bytes : List ℕ) → Held bytes → SpellsItems Part bytes ts → AreSound ts × (items_depth ts ≤ levels) × (count ts ≤ length bytes)
+  items_sound : (ts : Trees) (bytes : List ℕ) → ShortBytes bytes → SpellsItems Part bytes ts → AreSound ts × (items_depth ts ≤ levels) × (count ts ≤ length bytes)
   items_sound no_items bytes fits h = (tt, omega arith, omega arith)
   items_sound (item t ts) bytes fits h =
       let front = h.0 in
       let more = h.1 in
-      let one = sound front t (held_front bytes front more fits h.2) h.3 in
-      let rest = items_sound ts more (held_rest bytes front more fits h.2) h.4 in
+      let one = sound front t (short_front bytes front more fits h.2) h.3 in
+      let rest = items_sound ts more (short_rest bytes front more fits h.2) h.4 in
       let long = ap length h.2 in
       let sum = length-append front more in
       let some = starts_length front (starts front t h.3) in
       ((one.0, rest.0), omega arith, omega arith)
 
-  pub pairs_sound : (ps : List (Tree × Tree)) (bytes : List ℕ) → Held bytes → SpellsPairs Part bytes ps → AllByRecursion (PairSound levels) ps × (length ps ≤ length bytes)
+  pub pairs_sound : (ps : List (Tree × Tree)) (bytes : List ℕ) → ShortBytes bytes → SpellsPairs Part bytes ps → AllByRecursion (PairSound levels) ps × (length ps ≤ length bytes)
   pairs_sound [] bytes fits h = (tt, omega arith)
   pairs_sound (p ∷ ps) bytes fits h =
       let key = h.0 in
       let value = h.1 in
       let more = h.2 in
-      let behind = held_rest bytes key (value ++ more) fits h.3 in
-      let one = sound key p.0 (held_front bytes key (value ++ more) fits h.3) h.4 in
-      let two = sound value p.1 (held_front (value ++ more) value more behind refl) h.5 in
-      let rest = pairs_sound ps more (held_rest (value ++ more) value more behind refl) h.6 in
+      let behind = short_rest bytes key (value ++ more) fits h.3 in
+      let one = sound key p.0 (short_front bytes key (value ++ more) fits h.3) h.4 in
+      let two = sound value p.1 (short_front (value ++ more) value more behind refl) h.5 in
+      let rest = pairs_sound ps more (short_rest (value ++ more) value more behind refl) h.6 in
       let long = ap length h.3 in
       let sum = length-append key (value ++ more) in
       let sum2 = length-append value more in
@@ -164,13 +164,13 @@ module _ (levels : ℕ) (Part : List ℕ → Tree → Type 0) (starts : PartStar
       let d : pairs_depth ps ≡ pairs_depth (pairs_of order.sorted) = ap pairs_depth order.is in
       ((omega arith, subst ArePairsSound (sym order.is) made.0, order.rise), omega arith)
 
-  holds_content : (major n : ℕ) (content bytes : List ℕ) → Held bytes → Holds major n content bytes → Held content
+  holds_content : (major n : ℕ) (content bytes : List ℕ) → ShortBytes bytes → Holds major n content bytes → ShortBytes content
   holds_content major n content bytes fits holds = elim holds [
-    | Holds.definite head counted is ↦ held_rest bytes head content fits is
-    | Holds.indefinite is ↦ held_front (content ++ break ∷ []) content (break ∷ []) (held_rest bytes (begin major ∷ []) (content ++ break ∷ []) fits is) refl
+    | Holds.definite head counted is ↦ short_rest bytes head content fits is
+    | Holds.indefinite is ↦ short_front (content ++ break ∷ []) content (break ∷ []) (short_rest bytes (begin major ∷ []) (content ++ break ∷ []) fits is) refl
   ]
 
-  nest_sound : (t : Tree) (bytes : List ℕ) → Held bytes → SpellsNest Part bytes t → IsSound t × (depth t ≤ suc levels)
+  nest_sound : (t : Tree) (bytes : List ℕ) → ShortBytes bytes → SpellsNest Part bytes t → IsSound t × (depth t ≤ suc levels)
   nest_sound (unsigned n) bytes fits h = absurd h
   nest_sound (negative n) bytes fits h = absurd h
   nest_sound (byte_string s) bytes fits h = absurd h
@@ -188,11 +188,11 @@ module _ (levels : ℕ) (Part : List ℕ → Tree → Type 0) (starts : PartStar
       let short = content.short in
       map_sound h.1 ps pairs.0 (omega arith) h.4
   nest_sound (tag n t) bytes fits h =
-      let inside = sound h.1 t (held_rest bytes h.0 h.1 fits h.3) h.4 in
-      let front = held_front bytes h.0 h.1 fits h.3 in
+      let inside = sound h.1 t (short_rest bytes h.0 h.1 fits h.3) h.4 in
+      let front = short_front bytes h.0 h.1 fits h.3 in
       ((head_below 6 n h.0 front.each h.2, inside.0), omega arith)
 
-plain_sound : (levels : ℕ) (t : Tree) (bytes : List ℕ) → Held bytes → SpellsPlain bytes t → IsSound t × (depth t ≤ levels)
+plain_sound : (levels : ℕ) (t : Tree) (bytes : List ℕ) → ShortBytes bytes → SpellsPlain bytes t → IsSound t × (depth t ≤ levels)
 plain_sound levels (unsigned n) bytes fits h = (head_below 0 n bytes fits.each h, omega arith)
 plain_sound levels (negative n) bytes fits h = (head_below 1 n bytes fits.each h, omega arith)
 plain_sound levels (byte_string s) bytes fits h = let l = string_length 2 s bytes h in let k = fits.short in (omega arith, omega arith)
@@ -204,7 +204,7 @@ plain_sound levels (boolean false) bytes fits h = (tt, omega arith)
 plain_sound levels (boolean true) bytes fits h = (tt, omega arith)
 plain_sound levels null bytes fits h = (tt, omega arith)
 
-either_sound : (levels : ℕ) → PartSound levels (SpellsWithin levels) → (bytes : List ℕ) (t : Tree) → Held bytes → SpellsPlain bytes t ⊎ SpellsNest (SpellsWithin levels) bytes t → IsSound t × (depth t ≤ suc levels)
+either_sound : (levels : ℕ) → PartSound levels (SpellsWithin levels) → (bytes : List ℕ) (t : Tree) → ShortBytes bytes → SpellsPlain bytes t ⊎ SpellsNest (SpellsWithin levels) bytes t → IsSound t × (depth t ≤ suc levels)
 either_sound levels inner bytes t fits (inl plain) = plain_sound (suc levels) t bytes fits plain
 either_sound levels inner bytes t fits (inr nest) = nest_sound levels (SpellsWithin levels) (within_starts levels 0) inner t bytes fits nest
 

@@ -16,7 +16,7 @@ use Rattle.cbor_profile.proofs.Beginnings.{AreBytes}
 use Rattle.cbor_profile.proofs.Nested.{within_again}
 use Rattle.cbor_profile.proofs.Spellings.{canon_spells}
 use Rattle.cbor_profile.proofs.Spelled.{within_taken}
-use Rattle.cbor_profile.proofs.Sound.{Held, within_sound}
+use Rattle.cbor_profile.proofs.Sound.{ShortBytes, within_sound}
 use Rattle.cbor_profile.proofs.Broken.{within_broken}
 use Rattle.cbor_profile.proofs.Refusals.{within_refused}
 
@@ -25,8 +25,8 @@ bytes_from : (bytes : List ℕ) → ((i : ℕ) → get_or bytes i 0 < 256) → A
 bytes_from [] h = tt
 bytes_from (b ∷ bytes) h = (h 0, bytes_from bytes (λ i. h (suc i)))
 
-pub held : (bytes : List ℕ) → ((i : ℕ) → get_or bytes i 0 < 256) → length bytes < 2 ^ 64 → Held bytes
-held bytes h short = record { each = bytes_from bytes h; short = short }
+pub short_bytes : (bytes : List ℕ) → ((i : ℕ) → get_or bytes i 0 < 256) → length bytes < 2 ^ 64 → ShortBytes bytes
+short_bytes bytes h short = record { each = bytes_from bytes h; short = short }
 
 -- ---- one spelling
 
@@ -46,23 +46,23 @@ same_front a b x y same e =
 pub canon_is : (tree : Tree) → IsValid tree → Spells (canon tree) tree 0
 canon_is tree valid = (omega arith, canon_spells tree 16 valid.sound valid.nests)
 
-pub spelled_valid : (bytes : List ℕ) (tree : Tree) → Held bytes → Spells bytes tree 0 → IsValid tree
+pub spelled_valid : (bytes : List ℕ) (tree : Tree) → ShortBytes bytes → Spells bytes tree 0 → IsValid tree
 spelled_valid bytes tree h spelled = let sound = within_sound 16 bytes tree h spelled.1 in record { sound = sound.0; nests = sound.1 }
 
 -- ---- one reading
 
-pub reading : (bytes : List ℕ) → Held bytes → (r : Read Tree) → item_at 16 (length bytes) bytes ≡ r
+pub reading : (bytes : List ℕ) → ShortBytes bytes → (r : Read Tree) → item_at 16 (length bytes) bytes ≡ r
     → ((front : List ℕ) × (rest : List ℕ) × (tree : Tree) × (bytes ≡ front ++ rest) × Spells front tree 0) ⊎ ((fault : CborFault) × Breaks bytes 0 fault)
 reading bytes h (Ok x) is = let t = within_taken 16 (length bytes) bytes x h.each is in inl (t.front, x.1, x.0, t.is, (omega arith, t.part))
 reading bytes h (Err f) is = inr (f, (omega arith, within_broken 16 (length bytes) 0 bytes f h (omega arith) is))
 
-pub breaks_read : (bytes : List ℕ) (f : CborFault) → Held bytes → Breaks bytes 0 f → item_at 16 (length bytes) bytes ≡ Err f
+pub breaks_read : (bytes : List ℕ) (f : CborFault) → ShortBytes bytes → Breaks bytes 0 f → item_at 16 (length bytes) bytes ≡ Err f
 breaks_read bytes f h b = within_refused 16 (length bytes) 0 bytes f h (omega arith) b.1
 
-pub one_fault : (bytes : List ℕ) (f g : CborFault) → Held bytes → Breaks bytes 0 f → Breaks bytes 0 g → f ≡ g
+pub one_fault : (bytes : List ℕ) (f g : CborFault) → ShortBytes bytes → Breaks bytes 0 f → Breaks bytes 0 g → f ≡ g
 one_fault bytes f g h a b = err_is {A = Tree × List ℕ} f g (sym (breaks_read bytes f h a) ∙ breaks_read bytes g h b)
 
-pub not_spelled : (bytes front rest : List ℕ) (tree : Tree) (f : CborFault) → Held bytes → bytes ≡ front ++ rest → Spells front tree 0 → Breaks bytes 0 f → ⊥
+pub not_spelled : (bytes front rest : List ℕ) (tree : Tree) (f : CborFault) → ShortBytes bytes → bytes ≡ front ++ rest → Spells front tree 0 → Breaks bytes 0 f → ⊥
 not_spelled bytes front rest tree f h is spelled b =
     not_both (tree, rest) f (sym (within_again 16 (length bytes) front tree rest spelled.1) ∙ ap (item_at 16 (length bytes)) (sym is) ∙ breaks_read bytes f h b)
 
@@ -71,7 +71,7 @@ not_spelled bytes front rest tree f h is spelled b =
 abbrev ended : List ℕ → Tree × List ℕ → Result Tree CborFault
 ended bytes item = cond (length item.1 == 0) (done item.0) (broken (Trailing (length bytes - length item.1)))
 
-pub whole_found : (bytes : List ℕ) (tree : Tree) → Held bytes → whole bytes ≡ Ok tree → IsValid tree × Spells bytes tree 0
+pub whole_found : (bytes : List ℕ) (tree : Tree) → ShortBytes bytes → whole bytes ≡ Ok tree → IsValid tree × Spells bytes tree 0
 unfolding whole
 whole_found bytes tree h e =
     let x = bind_ok (item_at 16 (length bytes) bytes) (ended bytes) tree e in
@@ -100,7 +100,7 @@ trailing_is bytes front (next ∷ more) tree f is part some e =
     let m = length-append front (next ∷ more) in
     record { tree = tree; front = front; next = next; more = more; spelled = (omega arith, part); is = is; fault_is = e ∙ ap Trailing (omega arith) }
 
-pub whole_broken : (bytes : List ℕ) (f : CborFault) → Held bytes → whole bytes ≡ Err f → Refuses bytes f
+pub whole_broken : (bytes : List ℕ) (f : CborFault) → ShortBytes bytes → whole bytes ≡ Err f → Refuses bytes f
 unfolding whole
 whole_broken bytes f h e = elim (bind_err (item_at 16 (length bytes) bytes) (ended bytes) f e) [
   | inl bad ↦ inl (omega arith, within_broken 16 (length bytes) 0 bytes f h (omega arith) bad)
@@ -113,7 +113,7 @@ whole_broken bytes f h e = elim (bind_err (item_at 16 (length bytes) bytes) (end
       ]
 ]
 
-refused_either : (bytes : List ℕ) (f : CborFault) → Held bytes → Refuses bytes f → whole bytes ≡ Err f
+refused_either : (bytes : List ℕ) (f : CborFault) → ShortBytes bytes → Refuses bytes f → whole bytes ≡ Err f
 unfolding whole
 refused_either bytes f h (inl b) = let e = breaks_read bytes f h b in rw e refl
 refused_either bytes f h (inr t) =
@@ -124,5 +124,5 @@ refused_either bytes f h (inr t) =
     let some = ne_eqb (length (t.next ∷ t.more)) 0 (λ z. absurd (omega arith)) in
     rw (e, some, place) (ap (λ (g : CborFault). broken {A = Tree} g) (sym t.fault_is))
 
-pub whole_refused : (bytes : List ℕ) (f : CborFault) → Held bytes → Refuses bytes f → whole bytes ≡ Err f
+pub whole_refused : (bytes : List ℕ) (f : CborFault) → ShortBytes bytes → Refuses bytes f → whole bytes ≡ Err f
 whole_refused bytes f h r = refused_either bytes f h r

@@ -86,9 +86,9 @@ any_of_pairs : (peer domain : ℕ) (rings : List RingValue) → list_any (is_pai
 any_of_pairs peer domain [] = refl
 any_of_pairs peer domain (r ∷ rs) = ap (λ b. is_ring_of peer domain r || b) (any_of_pairs peer domain rs)
 
-pub ring_held : (peer domain : ℕ) (rings : List RingValue) (pairs : List Pair) → map pair_of rings ≡ pairs
+pub ring_there : (peer domain : ℕ) (rings : List RingValue) (pairs : List Pair) → map pair_of rings ≡ pairs
     → list_any (is_pair peer domain) pairs ≡ list_any (is_ring_of peer domain) rings
-ring_held peer domain rings pairs same = ap (list_any (is_pair peer domain)) (sym same) ∙ any_of_pairs peer domain rings
+ring_there peer domain rings pairs same = ap (list_any (is_pair peer domain)) (sym same) ∙ any_of_pairs peer domain rings
 
 first_grown : (peer domain : ℕ) (message : Message) (rings : List RingValue)
     → replace_first (is_ring_of peer domain) (λ r. grown message r ∷ []) rings ≡ noted peer domain message rings

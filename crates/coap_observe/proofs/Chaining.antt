@@ -16,7 +16,7 @@ use Rattle.coap_observe.specs.Chains.{ChainValue, ChainsValue, no_chain, chain_a
 use Rattle.coap_observe.specs.Observed.{ObservedValue}
 use Rattle.coap_observe.specs.Rolls.{Row, one_of, is_key, keys_of, observed_of, has_key, one_at, without_key, with_key, peer_of, is_row_of, own_keys}
 use Rattle.coap_observe.proofs.Keying.{keys_last, keys_less, keys_with, own_last, own_less, own_other, own_with}
-use Rattle.coap_observe.proofs.Rolling.{distinct_kept}
+use Rattle.coap_observe.proofs.Rolling.{distinct_without}
 
 -- ---- the chain of a peer
 
@@ -164,9 +164,9 @@ has_with k key becomes (r ∷ rows) = by_test (r.0 == key) ∙ ap (λ b. (r.0 ==
     by_test true = refl
     by_test false = refl
 
-has_kept : (k key : ℕ) (rows : List Row) → k ≢ key → has_key k rows ≡ true → has_key k (without_key key rows) ≡ true
-has_kept k key [] apart has = absurd (false≢true has)
-has_kept k key (r ∷ rows) apart has = by_test (r.0 == key) refl (r.0 == k) refl has (has_kept k key rows apart)
+has_still : (k key : ℕ) (rows : List Row) → k ≢ key → has_key k rows ≡ true → has_key k (without_key key rows) ≡ true
+has_still k key [] apart has = absurd (false≢true has)
+has_still k key (r ∷ rows) apart has = by_test (r.0 == key) refl (r.0 == k) refl has (has_still k key rows apart)
   where
     by_test : (b : Bool) → (r.0 == key) ≡ b → (s : Bool) → (r.0 == k) ≡ s → s || has_key k rows ≡ true → (has_key k rows ≡ true → has_key k (without_key key rows) ≡ true)
         → has_key k (cond (not b) (r ∷ without_key key rows) (without_key key rows)) ≡ true
@@ -209,7 +209,7 @@ within_left rows peer key (c ∷ cs) within = by_test (is_chain_of peer c) (with
 within_less : (key : ℕ) (rows : List Row) (cs : List ChainValue) → AreWithin rows cs → IsNowhere key cs → AreWithin (without_key key rows) cs
 within_less key rows [] within gone = record {}
 within_less key rows (c ∷ cs) within gone = (
-  each_two (λ k. has_key k rows ≡ true) (λ k. k ≢ key) (λ k. has_key k (without_key key rows) ≡ true) c.keys (λ k has apart. has_kept k key rows apart has) within.0 gone.0,
+  each_two (λ k. has_key k rows ≡ true) (λ k. k ≢ key) (λ k. has_key k (without_key key rows) ≡ true) c.keys (λ k has apart. has_still k key rows apart has) within.0 gone.0,
   within_less key rows cs within.1 gone.1,
 )
 
@@ -265,7 +265,7 @@ chained_last chains rows key o new some are = record {
 pub chained_less : (chains : List ChainValue) (rows : List Row) (key : ℕ) (one : ObservedValue) → one_at key rows ≡ Some one → AreChained chains rows
     → IsNowhere key (one_left (peer_of one) key chains) → AreChained (one_left (peer_of one) key chains) (without_key key rows)
 chained_less chains rows key one there are gone = record {
-  apart = subst Distinct (sym (keys_less key rows)) (distinct_kept key (keys_of rows) are.apart);
+  apart = subst Distinct (sym (keys_less key rows)) (distinct_without key (keys_of rows) are.apart);
   own = λ peer. own_is peer;
   within = within_less key rows (one_left (peer_of one) key chains) (within_left rows (peer_of one) key chains are.within) gone;
 }

@@ -19,28 +19,28 @@ use Rattle.coap_observe.specs.Observing.{own_of, has_room, registered_first, ent
 pub none_bounded : (pairs : List Pair) (room : ℕ) → AreBounded pairs room []
 none_bounded pairs room = record { known = record {}; few = λ peer domain. omega arith }
 
-count_kept : (q f : ObservedValue → Bool) (xs : List ObservedValue) → tally q (filter f xs) ≤ tally q xs
-count_kept q f [] = omega arith
-count_kept q f (o ∷ os) = by_test (f o) (count_kept q f os)
+count_filtered : (q f : ObservedValue → Bool) (xs : List ObservedValue) → tally q (filter f xs) ≤ tally q xs
+count_filtered q f [] = omega arith
+count_filtered q f (o ∷ os) = by_test (f o) (count_filtered q f os)
   where
     by_test : (b : Bool) → tally q (filter f os) ≤ tally q os
         → tally q (cond b (o ∷ filter f os) (filter f os)) ≤ cond (q o) 1 0 + tally q os
     by_test true less = omega (arith, less)
     by_test false less = omega (arith, less)
 
-known_kept : (pairs : List Pair) (f : ObservedValue → Bool) (xs : List ObservedValue) → AreOf pairs xs → AreOf pairs (filter f xs)
-known_kept pairs f [] known = record {}
-known_kept pairs f (o ∷ os) known = by_test (f o) known.0 (known_kept pairs f os known.1)
+known_filtered : (pairs : List Pair) (f : ObservedValue → Bool) (xs : List ObservedValue) → AreOf pairs xs → AreOf pairs (filter f xs)
+known_filtered pairs f [] known = record {}
+known_filtered pairs f (o ∷ os) known = by_test (f o) known.0 (known_filtered pairs f os known.1)
   where
     by_test : (b : Bool) → list_any (λ (pair : Pair). is_of pair.peer pair.domain o) pairs ≡ true → AreOf pairs (filter f os)
         → AreOf pairs (cond b (o ∷ filter f os) (filter f os))
     by_test true own rest = (own, rest)
     by_test false own rest = rest
 
-pub bounded_kept : (pairs : List Pair) (room : ℕ) (f : ObservedValue → Bool) (xs : List ObservedValue) → AreBounded pairs room xs → AreBounded pairs room (filter f xs)
-bounded_kept pairs room f xs bounded = record {
-  known = known_kept pairs f xs bounded.known;
-  few = λ peer domain. let less = count_kept (is_of peer domain) f xs in let few = bounded.few peer domain in omega (arith, less, few);
+pub bounded_filtered : (pairs : List Pair) (room : ℕ) (f : ObservedValue → Bool) (xs : List ObservedValue) → AreBounded pairs room xs → AreBounded pairs room (filter f xs)
+bounded_filtered pairs room f xs bounded = record {
+  known = known_filtered pairs f xs bounded.known;
+  few = λ peer domain. let less = count_filtered (is_of peer domain) f xs in let few = bounded.few peer domain in omega (arith, less, few);
 }
 
 -- ---- no more than the pairs have room for
@@ -75,7 +75,7 @@ bounded_length (pair ∷ pairs) room xs bounded =
     let rest = bounded_length pairs room (others pair xs) (record {
       known = others_known pair pairs xs bounded.known;
       few = λ peer domain.
-          let less = count_kept (is_of peer domain) (λ o. not (is_of pair.peer pair.domain o)) xs in
+          let less = count_filtered (is_of peer domain) (λ o. not (is_of pair.peer pair.domain o)) xs in
           let all = bounded.few peer domain in
           omega (arith, less, all);
     }) in
@@ -118,7 +118,7 @@ few_of_peer (pair ∷ pairs) room peer xs bounded =
     (few_of_peer pairs room peer (others pair xs) (record {
       known = others_known pair pairs xs bounded.known;
       few = λ p domain.
-          let less = count_kept (is_of p domain) (λ o. not (is_of pair.peer pair.domain o)) xs in
+          let less = count_filtered (is_of p domain) (λ o. not (is_of pair.peer pair.domain o)) xs in
           let all = bounded.few p domain in
           omega (arith, less, all);
     }))

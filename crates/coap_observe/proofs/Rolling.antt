@@ -79,9 +79,9 @@ pub none_has : (key : ℕ) (keys : List ℕ) → Apart key keys → has_slot key
 none_has key [] apart = refl
 none_has key (k ∷ keys) apart = ap (λ b. b || has_slot key keys) (ne_eqb k key apart.0) ∙ none_has key keys apart.1
 
-pub kept_last : (at new : ℕ → Option ObservedValue) (key : ℕ) (one : ObservedValue) (keys : List ℕ) → AreKept at keys → at key ≡ None → new key ≡ Some one
+pub pushed_there : (at new : ℕ → Option ObservedValue) (key : ℕ) (one : ObservedValue) (keys : List ℕ) → AreKept at keys → at key ≡ None → new key ≡ Some one
     → ((other : ℕ) → other ≢ key → new other ≡ at other) → AreKept new (keys ++ key ∷ [])
-kept_last at new key one keys kept none is others =
+pushed_there at new key one keys kept none is others =
     let apart = off_keys at key keys kept.there none in
     record {
       there =
@@ -117,9 +117,9 @@ rows_less at new key (k ∷ keys) others = by_test (k == key) refl (at k) refl (
         ∙ ap (λ rows. (k, one) ∷ rows) rest
         ∙ sym (ap (λ b. cond (not b) ((k, one) ∷ without_key key (rows_of at keys)) (without_key key (rows_of at keys))) same)
 
-each_kept : (P : ℕ → Type 0) (key : ℕ) (keys : List ℕ) → Each P keys → Each P (without key keys)
-each_kept P key [] each = record {}
-each_kept P key (k ∷ keys) each = by_test (is_slot key k) (each_kept P key keys each.1)
+each_less : (P : ℕ → Type 0) (key : ℕ) (keys : List ℕ) → Each P keys → Each P (without key keys)
+each_less P key [] each = record {}
+each_less P key (k ∷ keys) each = by_test (is_slot key k) (each_less P key keys each.1)
   where
     by_test : (b : Bool) → Each P (without key keys) → Each P (cond (not b) (k ∷ without key keys) (without key keys))
     by_test true rest = rest
@@ -133,13 +133,13 @@ off_without key (k ∷ keys) = by_test (k == key) refl (off_without key keys)
     by_test true same rest = rest
     by_test false same rest = (λ is. absurd (false≢true (sym same ∙ eq-eqb k key is)), rest)
 
-pub distinct_kept : (key : ℕ) (keys : List ℕ) → Distinct keys → Distinct (without key keys)
-distinct_kept key [] distinct = record {}
-distinct_kept key (k ∷ keys) distinct = by_test (is_slot key k) (distinct_kept key keys distinct.1)
+pub distinct_without : (key : ℕ) (keys : List ℕ) → Distinct keys → Distinct (without key keys)
+distinct_without key [] distinct = record {}
+distinct_without key (k ∷ keys) distinct = by_test (is_slot key k) (distinct_without key keys distinct.1)
   where
     by_test : (b : Bool) → Distinct (without key keys) → Distinct (cond (not b) (k ∷ without key keys) (without key keys))
     by_test true rest = rest
-    by_test false rest = (each_kept (λ x. x ≢ k) key keys distinct.0, rest)
+    by_test false rest = (each_less (λ x. x ≢ k) key keys distinct.0, rest)
 
 off_more : (key other : ℕ) (keys : List ℕ) → other ≢ key → Apart other (without key keys) → Apart other keys
 off_more key other [] apart off = record {}
@@ -149,14 +149,14 @@ off_more key other (k ∷ keys) apart off = by_test (k == key) refl off (λ rest
     by_test true same rest more = (λ is. apart (sym is ∙ eqb-true k key same), more rest)
     by_test false same rest more = (rest.0, more rest.1)
 
-pub kept_less : (at new : ℕ → Option ObservedValue) (key : ℕ) (keys : List ℕ) → AreKept at keys → new key ≡ None
+pub removed_there : (at new : ℕ → Option ObservedValue) (key : ℕ) (keys : List ℕ) → AreKept at keys → new key ≡ None
     → ((other : ℕ) → other ≢ key → new other ≡ at other) → AreKept new (without key keys)
-kept_less at new key keys kept is others = record {
+removed_there at new key keys kept is others = record {
   there =
       each_two (λ k. is_some (at k) ≡ true) (λ k. k ≢ key) (λ k. is_some (new k) ≡ true) (without key keys) (λ k some off. ap is_some (others k off) ∙ some)
-      (each_kept (λ k. is_some (at k) ≡ true) key keys kept.there) (off_without key keys);
+      (each_less (λ k. is_some (at k) ≡ true) key keys kept.there) (off_without key keys);
   nowhere = λ k off. by_test k (k == key) refl off;
-  distinct = distinct_kept key keys kept.distinct;
+  distinct = distinct_without key keys kept.distinct;
 }
   where
     by_test : (k : ℕ) (b : Bool) → (k == key) ≡ b → Apart k (without key keys) → new k ≡ None
@@ -204,9 +204,9 @@ rows_with at new key becomes (k ∷ keys) is others = by_test (k == key) refl (a
         ∙ ap (λ rows. (k, one) ∷ rows) rest
         ∙ sym (ap (λ b. cond b (k, becomes one) (k, one) ∷ with_key key becomes (rows_of at keys)) same)
 
-pub kept_with : (at new : ℕ → Option ObservedValue) (key : ℕ) (one : ObservedValue) (keys : List ℕ) → AreKept at keys → has_slot key keys ≡ true → new key ≡ Some one
+pub put_there : (at new : ℕ → Option ObservedValue) (key : ℕ) (one : ObservedValue) (keys : List ℕ) → AreKept at keys → has_slot key keys ≡ true → new key ≡ Some one
     → ((other : ℕ) → other ≢ key → new other ≡ at other) → AreKept new keys
-kept_with at new key one keys kept there is others = record {
+put_there at new key one keys kept there is others = record {
   there = each_weaker (λ k. is_some (at k) ≡ true) (λ k. is_some (new k) ≡ true) keys (λ k some. by_test k (k == key) refl some) kept.there;
   nowhere = λ k off. out k off;
   distinct = kept.distinct;

@@ -45,9 +45,9 @@ other_is live cuid request limits n is = by_highest (highest_mid live cuid reque
     by_highest (Some mid) is = cc
     by_highest None is = by_contested (is_contested live cuid request) is
 
-pub told : (live : List Live) (cuid : List ℕ) (request : Put) (limits : Limits) (n : ℕ) → Other n ≡ judge_overlap live cuid request limits
+pub marked_meeting : (live : List Live) (cuid : List ℕ) (request : Put) (limits : Limits) (n : ℕ) → Other n ≡ judge_overlap live cuid request limits
     → marked (resolved request.targets) n ≡ filter (meets_another live cuid) (resolved request.targets)
-told live cuid request limits n is =
+marked_meeting live cuid request limits n is =
     ap (marked (resolved request.targets)) (other_is live cuid request limits n is)
     ∙ marked_bits (meets_another live cuid) (resolved request.targets)
 

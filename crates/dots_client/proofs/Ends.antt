@@ -82,8 +82,8 @@ grant_scope request m lifetime says = by request.scope says
     by (Some asked) says = refl
     by None says = absurd says
 
-grant_lasts : (request : Request) (m : CoapMessage) (lifetime : ℤ) → Says request m (answer.Granted lifetime) → IsGranted lifetime
-grant_lasts request m lifetime says = by request.scope says
+granted_lifetime : (request : Request) (m : CoapMessage) (lifetime : ℤ) → Says request m (answer.Granted lifetime) → IsGranted lifetime
+granted_lifetime request m lifetime says = by request.scope says
   where
     by : (scope : Option Asked) → SaysTo scope request.mid m (answer.Granted lifetime) → IsGranted lifetime
     by (Some asked) says = says.lasts
@@ -95,7 +95,7 @@ granted_fits (negsuc n) is = omega (arith, is)
 
 -- the lifetime that was read is passed on as it is
 pub lifetime_passed : (request : Request) (m : CoapMessage) (lifetime : ℤ) → Says request m (answer.Granted lifetime) → to_z w32 (of_z w32 lifetime) ≡ lifetime
-lifetime_passed request m lifetime says = to_z-of_z w32 lifetime (granted_fits lifetime (grant_lasts request m lifetime says))
+lifetime_passed request m lifetime says = to_z-of_z w32 lifetime (granted_fits lifetime (granted_lifetime request m lifetime says))
 
 grant_said : (request : Request) (m : CoapMessage) (lifetime : ℤ) (asked : Asked) → request.scope ≡ Some asked → Says request m (answer.Granted lifetime) → GrantsMid request.mid m lifetime
 grant_said request m lifetime asked scope says = subst (λ (s : Option Asked). SaysTo s request.mid m (answer.Granted lifetime)) scope says

@@ -13,9 +13,9 @@ pub becomes_more : (acts later : List Act) (call : Act) (Step : Medium → Mediu
 becomes_more acts later call Step more step = (after (media_since acts).now call, ap media_since more ∙ grown-push (blank []) acts call, step)
 
 -- what a read gives after a call that changed nothing of it
-pub seen_kept : (acts later : List Act) (call : Act) → later ≡ acts ++ call ∷ [] → ((medium : Medium) → (after medium call).seen ≡ medium.seen)
+pub seen_unchanged : (acts later : List Act) (call : Act) → later ≡ acts ++ call ∷ [] → ((medium : Medium) → (after medium call).seen ≡ medium.seen)
     → (media_since later).now.seen ≡ (media_since acts).now.seen
-seen_kept acts later call more keeps = ap (λ acts. (media_since acts).now.seen) more ∙ ap (λ media. media.now.seen) (grown-push (blank []) acts call) ∙ keeps (media_since acts).now
+seen_unchanged acts later call more keeps = ap (λ acts. (media_since acts).now.seen) more ∙ ap (λ media. media.now.seen) (grown-push (blank []) acts call) ∙ keeps (media_since acts).now
 
 pub adds_one : (old new : Logged) (call : Act) → new.acts ≡ old.acts ++ call ∷ [] → IsOfDisk call → AddsCalls old new
 adds_one old new call more is = record { more = call ∷ []; grown = more; disk = (is, tt) }

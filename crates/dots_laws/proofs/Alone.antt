@@ -75,27 +75,27 @@ of_domain domain row = row.put.domain == domain
 abbrev row_with : Entry → Target → PrefixValue → Row
 row_with put target prefix = record { put = put; target = target; prefix = prefix }
 
-all_kept : (domain : ℕ) (put : Entry) (target : Target) (prefixes : List PrefixValue) → (put.domain == domain) ≡ true
+all_of_domain : (domain : ℕ) (put : Entry) (target : Target) (prefixes : List PrefixValue) → (put.domain == domain) ≡ true
     → filter (of_domain domain) (map (row_with put target) prefixes) ≡ map (row_with put target) prefixes
-all_kept domain put target [] own = refl
-all_kept domain put target (p ∷ prefixes) own =
+all_of_domain domain put target [] own = refl
+all_of_domain domain put target (p ∷ prefixes) own =
     cond-true
     (put.domain == domain)
     (row_with put target p ∷ filter (of_domain domain) (map (row_with put target) prefixes))
     (filter (of_domain domain) (map (row_with put target) prefixes))
     own
-    ∙ ap (λ rows. row_with put target p ∷ rows) (all_kept domain put target prefixes own)
+    ∙ ap (λ rows. row_with put target p ∷ rows) (all_of_domain domain put target prefixes own)
 
-none_kept : (domain : ℕ) (put : Entry) (target : Target) (prefixes : List PrefixValue) → (put.domain == domain) ≡ false
+none_of_domain : (domain : ℕ) (put : Entry) (target : Target) (prefixes : List PrefixValue) → (put.domain == domain) ≡ false
     → filter (of_domain domain) (map (row_with put target) prefixes) ≡ []
-none_kept domain put target [] other = refl
-none_kept domain put target (p ∷ prefixes) other =
+none_of_domain domain put target [] other = refl
+none_of_domain domain put target (p ∷ prefixes) other =
     cond-false
     (put.domain == domain)
     (row_with put target p ∷ filter (of_domain domain) (map (row_with put target) prefixes))
     (filter (of_domain domain) (map (row_with put target) prefixes))
     other
-    ∙ none_kept domain put target prefixes other
+    ∙ none_of_domain domain put target prefixes other
 
 filter_both : {A : Type 0} → (test : A → Bool) (xs ys : List A) → filter test (xs ++ ys) ≡ filter test xs ++ filter test ys
 filter_both test [] ys = refl
@@ -116,7 +116,7 @@ all_rows : (domain : ℕ) (put : Entry) (targets : List Target) → (put.domain 
 all_rows domain put [] own = refl
 all_rows domain put (target ∷ targets) own =
     filter_both (of_domain domain) (map (row_with put target) target.prefixes) (rows_of_targets put targets)
-    ∙ ap (λ rows. rows ++ filter (of_domain domain) (rows_of_targets put targets)) (all_kept domain put target target.prefixes own)
+    ∙ ap (λ rows. rows ++ filter (of_domain domain) (rows_of_targets put targets)) (all_of_domain domain put target target.prefixes own)
     ∙ ap (λ rows. map (row_with put target) target.prefixes ++ rows) (all_rows domain put targets own)
 
 no_rows : (domain : ℕ) (put : Entry) (targets : List Target) → (put.domain == domain) ≡ false
@@ -124,7 +124,7 @@ no_rows : (domain : ℕ) (put : Entry) (targets : List Target) → (put.domain =
 no_rows domain put [] other = refl
 no_rows domain put (target ∷ targets) other =
     filter_both (of_domain domain) (map (row_with put target) target.prefixes) (rows_of_targets put targets)
-    ∙ ap (λ rows. rows ++ filter (of_domain domain) (rows_of_targets put targets)) (none_kept domain put target target.prefixes other)
+    ∙ ap (λ rows. rows ++ filter (of_domain domain) (rows_of_targets put targets)) (none_of_domain domain put target target.prefixes other)
     ∙ no_rows domain put targets other
 
 abbrev rows_in : List Mitigation → List Row
@@ -188,10 +188,10 @@ same_undone domain e (x ∷ later) is own =
     (λ same. ap (λ b. undoes e x || b) go)
     (λ other. go ∙ sym (ap (λ b. b || list_any (undoes e) later) (list_undone e x is (other_domain domain e x own other))))
 
-list_kept : (s : Bool) (e : Entry) (rest : List Entry) → writes_list e ≡ true
+list_passes : (s : Bool) (e : Entry) (rest : List Entry) → writes_list e ≡ true
     → filter writes_list (option_to_list (cond s (Some e) None) ++ rest) ≡ option_to_list (cond s (Some e) None) ++ filter writes_list rest
-list_kept true e rest is = cond-true (writes_list e) (e ∷ filter writes_list rest) (filter writes_list rest) is
-list_kept false e rest is = refl
+list_passes true e rest is = cond-true (writes_list e) (e ∷ filter writes_list rest) (filter writes_list rest) is
+list_passes false e rest is = refl
 
 list_dropped : (s : Bool) (e : Entry) (rest : List Entry) → writes_list e ≡ false
     → filter writes_list (option_to_list (cond s (Some e) None) ++ rest) ≡ filter writes_list rest
@@ -201,10 +201,10 @@ list_dropped false e rest out = refl
 abbrev pub in_domain : ℕ → Entry → Bool
 in_domain domain e = e.domain == domain
 
-pub own_kept : (s : Bool) (domain : ℕ) (e : Entry) (rest : List Entry) → (e.domain == domain) ≡ true
+pub own_passes : (s : Bool) (domain : ℕ) (e : Entry) (rest : List Entry) → (e.domain == domain) ≡ true
     → filter (in_domain domain) (option_to_list (cond s (Some e) None) ++ rest) ≡ option_to_list (cond s (Some e) None) ++ filter (in_domain domain) rest
-own_kept true domain e rest own = cond-true (e.domain == domain) (e ∷ filter (in_domain domain) rest) (filter (in_domain domain) rest) own
-own_kept false domain e rest own = refl
+own_passes true domain e rest own = cond-true (e.domain == domain) (e ∷ filter (in_domain domain) rest) (filter (in_domain domain) rest) own
+own_passes false domain e rest own = refl
 
 pub other_dropped : (s : Bool) (domain : ℕ) (e : Entry) (rest : List Entry) → (e.domain == domain) ≡ false
     → filter (in_domain domain) (option_to_list (cond s (Some e) None) ++ rest) ≡ filter (in_domain domain) rest
@@ -223,15 +223,15 @@ lists_alone domain (e ∷ later) =
           (alone domain later)
           (λ es. list_rows es ≡ alone domain (list_rows (e ∷ later)))
           (λ own.
-          list_kept (stays e (alone domain later)) e (held (alone domain later)) is
+          list_passes (stays e (alone domain later)) e (held (alone domain later)) is
           ∙ ap (λ b. option_to_list (cond (is_held e.change && not b) (Some e) None) ++ list_rows (alone domain later)) (same_undone domain e later is own)
           ∙ ap (λ es. option_to_list (cond (stays e later) (Some e) None) ++ es) go
-          ∙ sym (own_kept (stays e later) domain e (list_rows later) own)
-          ∙ sym (ap (alone domain) (list_kept (stays e later) e (held later) is)))
+          ∙ sym (own_passes (stays e later) domain e (list_rows later) own)
+          ∙ sym (ap (alone domain) (list_passes (stays e later) e (held later) is)))
           (λ other.
           go
           ∙ sym (other_dropped (stays e later) domain e (list_rows later) other)
-          ∙ sym (ap (alone domain) (list_kept (stays e later) e (held later) is)))
+          ∙ sym (ap (alone domain) (list_passes (stays e later) e (held later) is)))
       | inr out ↦
           cond_both
           (e.domain == domain)

@@ -42,10 +42,10 @@ status_alone domain p s (e ∷ later) own =
     status_alone domain p s later own
     ∙ ap (λ now. status p now later) (sym (untouched p e s (other_domain domain p e own other))))
 
-kept_of : (b : Bool) (q : Mitigation → Bool) (m : Mitigation) (rest : List Mitigation) → q m ≡ true
+passes_of : (b : Bool) (q : Mitigation → Bool) (m : Mitigation) (rest : List Mitigation) → q m ≡ true
     → filter q (option_to_list (cond b (Some m) None) ++ rest) ≡ option_to_list (cond b (Some m) None) ++ filter q rest
-kept_of true q m rest is = cond-true (q m) (m ∷ filter q rest) (filter q rest) is
-kept_of false q m rest is = refl
+passes_of true q m rest is = cond-true (q m) (m ∷ filter q rest) (filter q rest) is
+passes_of false q m rest is = refl
 
 left_out : (b : Bool) (q : Mitigation → Bool) (m : Mitigation) (rest : List Mitigation) → q m ≡ false
     → filter q (option_to_list (cond b (Some m) None) ++ rest) ≡ filter q rest
@@ -64,7 +64,7 @@ apart domain t (e ∷ later) =
     (λ own.
     ap (λ now. option_to_list (if_live t e now) ++ mitigations t (alone domain later)) (status_alone domain e Open later own)
     ∙ ap (λ rest. option_to_list (if_live t e s) ++ rest) (apart domain t later)
-    ∙ sym (kept_of (live t e s) (λ (m : Mitigation). m.put.domain == domain) (record { put = e; status = s }) (mitigations t later) own))
+    ∙ sym (passes_of (live t e s) (λ (m : Mitigation). m.put.domain == domain) (record { put = e; status = s }) (mitigations t later) own))
     (λ other.
     apart domain t later
     ∙ sym (left_out (live t e s) (λ (m : Mitigation). m.put.domain == domain) (record { put = e; status = s }) (mitigations t later) other))

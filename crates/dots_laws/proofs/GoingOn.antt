@@ -34,14 +34,14 @@ stays_push : (e x : Entry) (later : List Entry) → stays x (later ++ e ∷ []) 
 stays_push e x later =
     ap (λ any. is_held x.change && not any) (any_push (undoes x) later e) ∙ not_either (is_held x.change) (list_any (undoes x) later) (undoes x e)
 
-alone_kept : (b : Bool) (e : Entry) → option_to_list (cond (b && true) (Some e) None) ++ [] ≡ cond b (e ∷ []) []
-alone_kept true e = refl
-alone_kept false e = refl
+one_at_most : (b : Bool) (e : Entry) → option_to_list (cond (b && true) (Some e) None) ++ [] ≡ cond b (e ∷ []) []
+one_at_most true e = refl
+one_at_most false e = refl
 
 pub held_push : (e : Entry) (entries : List Entry) → held (entries ++ e ∷ []) ≡ held_with e (held entries)
 held_push e entries =
     kept_push stays (λ x. not (undoes x e)) e (stays_push e) entries
-    ∙ ap (λ end. filter (λ x. not (undoes x e)) (held entries) ++ end) (alone_kept (is_held e.change) e)
+    ∙ ap (λ end. filter (λ x. not (undoes x e)) (held entries) ++ end) (one_at_most (is_held e.change) e)
 
 -- the last entry
 pub last_push : (e : Entry) (entries : List Entry) → last (entries ++ e ∷ []) ≡ e ∷ []

@@ -19,7 +19,7 @@ use Rattle.dots_history.specs.Histories.{Mitigation, OneDomain, Calm, stays, mit
 use Rattle.dots_history.specs.Rows.{Row, scrub_rows, list_rows, plain_row, plain_rows, acl_of, acl_row, acl_rows_of, acl_rows, is_mitigating, is_active, fate, is_lost_in, loses, works, triggers, mid_of}
 use Rattle.dots_laws.specs.Views.{mitigations_of}
 use Rattle.dots_laws.proofs.Apart.{other_domain, apart}
-use Rattle.dots_laws.proofs.Alone.{own_kept, other_dropped, rows_alone, lists_alone, far_resumes}
+use Rattle.dots_laws.proofs.Alone.{own_passes, other_dropped, rows_alone, lists_alone, far_resumes}
 
 -- ---- what is held
 far_undone : (domain : ℕ) (e x : Entry) → (e.domain == domain) ≡ true → (x.domain == domain) ≡ false
@@ -66,7 +66,7 @@ held_alone domain (e ∷ later) calm =
     (λ b. option_to_list (cond (is_held e.change && not b) (Some e) None) ++ held (alone domain later))
     (same_undone domain e later own calm.1)
     ∙ ap (λ es. option_to_list (cond (stays e later) (Some e) None) ++ es) go
-    ∙ sym (own_kept (stays e later) domain e (held later) own))
+    ∙ sym (own_passes (stays e later) domain e (held later) own))
     (λ other. go ∙ sym (other_dropped (stays e later) domain e (held later) other))
 
 -- ---- whose signal is lost

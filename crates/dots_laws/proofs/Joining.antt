@@ -198,13 +198,13 @@ touch_changes put e is =
 abbrev HasPeer : Entry → Mitigation → Type 0
 HasPeer e m = ends m.put e || withdraws m.put e ≡ true → e.peer ≡ m.put.peer
 
-abbrev peer_kept : Entry → Mitigation → Bool
-peer_kept e m = not (same_client m.put e) || (e.peer == m.put.peer)
+abbrev has_own_peer : Entry → Mitigation → Bool
+has_own_peer e m = not (same_client m.put e) || (e.peer == m.put.peer)
 
-of_all : (e : Entry) (ms : List Mitigation) → list_all (peer_kept e) ms ≡ true → All (HasPeer e) ms
+of_all : (e : Entry) (ms : List Mitigation) → list_all (has_own_peer e) ms ≡ true → All (HasPeer e) ms
 of_all e [] all = All-nil (HasPeer e)
 of_all e (m ∷ ms) all =
-    let parts = and_parts (peer_kept e m) (list_all (peer_kept e) ms) all in
+    let parts = and_parts (has_own_peer e m) (list_all (has_own_peer e) ms) all in
     All-cons
     (HasPeer e)
     m
@@ -231,7 +231,7 @@ pub has_peers : (e : Entry) (ms : List Mitigation) → has_one_peer e ms ≡ tru
 has_peers e ms is =
     elim (cases_Bool (is_of_mitigations e.change)) [
       | inl does ↦
-          elim (or_cases (not (is_of_mitigations e.change)) (list_all (peer_kept e) ms) is) [
+          elim (or_cases (not (is_of_mitigations e.change)) (list_all (has_own_peer e) ms) is) [
             | inl out ↦ absurd (both_ways (not (is_of_mitigations e.change)) (not_from_true (is_of_mitigations e.change) does) out)
             | inr all ↦ of_all e ms all
           ]
@@ -285,15 +285,15 @@ has_domains settings (x ∷ xs) e all own =
     All-cons (HasDomain e) x xs (same_domain settings x e parts.0 own) (has_domains settings xs e parts.1 own)
 
 -- ---- registered clients
-leaves_both : (c x later : Change) → is_registration c ≡ true → is_alias x || is_list x ≡ true → undoes_of_client c later ≡ true
+undoes_both : (c x later : Change) → is_registration c ≡ true → is_alias x || is_list x ≡ true → undoes_of_client c later ≡ true
     → undoes_of_client x later ≡ true
 unfolding is_registration is_alias is_list undoes_of_client undoes_alias undoes_acl is_deregister
-leaves_both change.Register (change.SetAlias alias) change.Deregister is own undone = refl
-leaves_both change.Register (change.SetAlias alias) _ is own undone = absurd (false≢true undone)
-leaves_both change.Register (change.SetAcl acl) change.Deregister is own undone = refl
-leaves_both change.Register (change.SetAcl acl) _ is own undone = absurd (false≢true undone)
-leaves_both change.Register _ later is own undone = absurd (false≢true own)
-leaves_both _ x later is own undone = absurd (false≢true is)
+undoes_both change.Register (change.SetAlias alias) change.Deregister is own undone = refl
+undoes_both change.Register (change.SetAlias alias) _ is own undone = absurd (false≢true undone)
+undoes_both change.Register (change.SetAcl acl) change.Deregister is own undone = refl
+undoes_both change.Register (change.SetAcl acl) _ is own undone = absurd (false≢true undone)
+undoes_both change.Register _ later is own undone = absurd (false≢true own)
+undoes_both _ x later is own undone = absurd (false≢true is)
 
 registration_of_client : (c later : Change) → is_registration c ≡ true → undoes_of_peer c later ≡ false
 unfolding is_registration undoes_of_peer
@@ -345,7 +345,7 @@ undone_with_client r x e is same own undone =
     x
     e
     (sym (same_by r x e same) ∙ parts.0)
-    (leaves_both r.change x.change e.change is own parts.1)
+    (undoes_both r.change x.change e.change is own parts.1)
 
 pub stays_registered : (r e : Entry) → is_registration r.change ≡ true → is_alias e.change || is_list e.change ≡ true → undoes r e ≡ false
 stays_registered r e is own =

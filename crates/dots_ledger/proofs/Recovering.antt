@@ -29,7 +29,7 @@ use Rattle.slot_journal.specs.Sizes.{slots_of}
 use Rattle.slot_journal.specs.DiskEntries.{HasRecord, Holds}
 use Rattle.slot_journal.specs.DiskEntries as journal
 use Rattle.slot_journal.specs.Refused.{Refuses, Caused}
-use Rattle.slot_journal.proofs.Crashing.{held_not_refused, one_history}
+use Rattle.slot_journal.proofs.Crashing.{holds_not_refused, one_history}
 use Rattle.dots_registry.specs.RegistryValues.{RegistryValue, IsOf, time_of, number_remembered}
 use Rattle.dots_registry.specs.RegistryValues as registry
 use Rattle.dots_registry.specs.Filed.{RepresentsFiled, most_kept}
@@ -213,7 +213,7 @@ pub fails_alone : (settings : SettingsValue) (extent : ℕ) (seen : ℕ → ℕ)
     → RefusesLedger settings extent seen new why → Holds settings seen entries → is_calm settings entries ≡ true → needed_of (slots_of settings) ≤ extent
     → IsFailure why
 fails_alone settings extent seen new entries (fault.NotOurs at) (inl refuses) holds calm size =
-    absurd (held_not_refused settings extent seen entries (fault.NotOurs at) holds refuses tt)
+    absurd (holds_not_refused settings extent seen entries (fault.NotOurs at) holds refuses tt)
 fails_alone settings extent seen new entries (fault.NotOurs at) (inr stray) holds calm size =
     let apart = stray.apart in
     let same = one_history settings seen entries stray.entries holds stray.holds ∙ apart.cut in
@@ -225,7 +225,7 @@ fails_alone settings extent seen new entries (fault.TooSmall needed found) refus
     let is = refuses.1 in
     absurd (omega (arith, small, all, is, size))
 fails_alone settings extent seen new entries (fault.SettingsChanged stored given) refuses holds calm size =
-    absurd (held_not_refused settings extent seen entries (fault.SettingsChanged stored given) holds refuses tt)
+    absurd (holds_not_refused settings extent seen entries (fault.SettingsChanged stored given) holds refuses tt)
 fails_alone settings extent seen new entries fault.DiskFault refuses holds calm size = tt
 fails_alone settings extent seen new entries fault.NoMemory refuses holds calm size = tt
 

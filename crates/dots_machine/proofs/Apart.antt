@@ -17,7 +17,7 @@ use Rattle.dots_keys.specs.declared.request.Request.{Request}
 use Rattle.dots_keys.specs.declared.request.Request.TheVariants as request
 use Rattle.dots_keys.specs.declared.request.MitigationBody.{MitigationBody}
 use Rattle.dots_registry.specs.Judging.{judge_request}
-use Rattle.dots_registry.proofs.Alone.{judged_apart, collides_apart, shown_apart}
+use Rattle.dots_registry.proofs.Alone.{judged_apart, collides_apart, views_apart}
 use Rattle.dots_machine.specs.declared.exchange.Exchange.{Exchange}
 use Rattle.dots_machine.specs.declared.received.Received.TheVariants as received
 use Rattle.dots_machine.specs.declared.client_request.ClientRequest.{ClientRequest}
@@ -102,7 +102,7 @@ module _ (settings : SettingsValue) where
           ∙ collides_apart other.time one.history other.history from.peer (record { domain = from.domain; cuid = from.cuid }) own
 
       lives_same : lives one.time one.history from ≡ lives other.time other.history from
-      lives_same = ap (λ t. lives t one.history from) same.time ∙ shown_apart other.time one.history other.history from.domain from.cuid own
+      lives_same = ap (λ t. lives t one.history from) same.time ∙ views_apart other.time one.history other.history from.domain from.cuid own
 
       delete_same : (mid : ℕ) → delete_verdict one.time one.history from mid ≡ delete_verdict other.time other.history from mid
       delete_same mid =

@@ -7,7 +7,7 @@ use Rattle.dots_host.specs.declared.event.Event.TheVariants as event
 use Rattle.dots_host.specs.declared.out.OwnedOut.{OwnedOut}
 use Rattle.dots_host.specs.Runs.{outs_of, each_telling}
 use Rattle.dots_host.proofs.RunLemmas.{outs_back}
-use Rattle.cbor_profile.proofs.WholeReading.{held, same_reading, same_front, one_fault, not_spelled}
+use Rattle.cbor_profile.proofs.WholeReading.{short_bytes, same_reading, same_front, one_fault, not_spelled}
 use Rattle.coap_message.specs.Message.{CoapMessage, header, options_bytes, payload_bytes, spelling}
 use Rattle.dots_keys.proofs.OneMeaning.{OneReading}
 use Rattle.dots_settings.specs.Settings.{SettingsValue}
@@ -40,7 +40,7 @@ payload_are_bytes datagram m is are =
 
 reads_once : (payload : List ℕ) → AreBytes payload → OneReading payload
 reads_once payload are =
-    let holds = held payload are.0 are.1 in
+    let holds = short_bytes payload are.0 are.1 in
     record {
       spelling = λ s t a b x y one other same.
           let found = same_reading a b x y s t 16 one.1 other.1 same in

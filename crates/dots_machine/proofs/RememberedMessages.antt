@@ -94,11 +94,11 @@ none_behind test [] e ys (suc j) y none less found = none_of test ys j y none fo
 none_behind test (x ∷ xs) e ys zero y none less found = absurd (omega (arith, less))
 none_behind test (x ∷ xs) e ys (suc j) y none less found = none_behind test xs e ys j y none (omega (arith, less)) found
 
-pub kept_is_repeated : (n t time peer : ℕ) (x : Exchange) (domain : ℕ) (reply : List ℕ) (before : List Entry) (entry : Entry) (later : List Entry)
+pub entry_is_repeated : (n t time peer : ℕ) (x : Exchange) (domain : ℕ) (reply : List ℕ) (before : List Entry) (entry : Entry) (later : List Entry)
     → Keeps time peer x domain reply entry → t ≤ time + heard_for x.kind → tally (signals peer domain) later < n
     → list_any (λ (e : Entry). signals peer domain e && may_repeat t x.id e.time e.key) later ≡ false
     → IsRepeatOf n t (before ++ entry ∷ later) (sent_for peer x domain) entry
-kept_is_repeated n t time peer x domain reply before entry later keeps early few none = record {
+entry_is_repeated n t time peer x domain reply before entry later keeps early few none = record {
   place = length before;
   there = get_there before entry later;
   of_both = keeps.of_both;
@@ -111,105 +111,105 @@ kept_is_repeated n t time peer x domain reply before entry later keeps early few
 
 -- ---- what is accepted is kept so
 module _ (settings : SettingsValue) (state : State) (peer : ℕ) (x : Exchange) where
-  abbrev KeptFor : ℕ → Verdict → Type 0
-  KeptFor domain (verdict.Accept reply entry) = Keeps state.time peer x domain reply entry
-  KeptFor domain _ = Unit {0}
+  abbrev KeepsFor : ℕ → Verdict → Type 0
+  KeepsFor domain (verdict.Accept reply entry) = Keeps state.time peer x domain reply entry
+  KeepsFor domain _ = Unit {0}
 
-  refusal_kept : (domain mid : ℕ) (fault : PutFault) → KeptFor domain (refusal x mid fault)
-  refusal_kept domain mid faults.Collision = tt
-  refusal_kept domain mid faults.Changed = tt
-  refusal_kept domain mid faults.UnknownAlias = tt
-  refusal_kept domain mid faults.TooMany = tt
-  refusal_kept domain mid (faults.Higher higher) = tt
-  refusal_kept domain mid (faults.Other prefixes) = tt
-  refusal_kept domain mid (faults.Capacity which number) = tt
-  refusal_kept domain mid faults.NoMemory = tt
+  refusal_keeps : (domain mid : ℕ) (fault : PutFault) → KeepsFor domain (refusal x mid fault)
+  refusal_keeps domain mid faults.Collision = tt
+  refusal_keeps domain mid faults.Changed = tt
+  refusal_keeps domain mid faults.UnknownAlias = tt
+  refusal_keeps domain mid faults.TooMany = tt
+  refusal_keeps domain mid (faults.Higher higher) = tt
+  refusal_keeps domain mid (faults.Other prefixes) = tt
+  refusal_keeps domain mid (faults.Capacity which number) = tt
+  refusal_keeps domain mid faults.NoMemory = tt
 
-  repeat_kept : (domain : ℕ) (entry : Option Entry) (v : Verdict) → KeptFor domain v → KeptFor domain (unless_repeated entry v)
-  repeat_kept domain (Some entry) v kept = tt
-  repeat_kept domain None v kept = kept
+  repeat_keeps : (domain : ℕ) (entry : Option Entry) (v : Verdict) → KeepsFor domain v → KeepsFor domain (unless_repeated entry v)
+  repeat_keeps domain (Some entry) v kept = tt
+  repeat_keeps domain None v kept = kept
 
-  unless_kept : (domain : ℕ) (fault : Option TargetFault) (v : Verdict) → KeptFor domain v → KeptFor domain (unless_faulty x fault v)
-  unless_kept domain (Some fault) v kept = tt
-  unless_kept domain None v kept = kept
+  unless_keeps : (domain : ℕ) (fault : Option TargetFault) (v : Verdict) → KeepsFor domain v → KeepsFor domain (unless_faulty x fault v)
+  unless_keeps domain (Some fault) v kept = tt
+  unless_keeps domain None v kept = kept
 
-  with_mid_kept : (domain : ℕ) (mid : Option ℕ) (f : ℕ → Verdict) → ((m : ℕ) → KeptFor domain (f m)) → KeptFor domain (with_mid x mid f)
-  with_mid_kept domain None f each = tt
-  with_mid_kept domain (Some mid) f each = each mid
+  with_mid_keeps : (domain : ℕ) (mid : Option ℕ) (f : ℕ → Verdict) → ((m : ℕ) → KeepsFor domain (f m)) → KeepsFor domain (with_mid x mid f)
+  with_mid_keeps domain None f each = tt
+  with_mid_keeps domain (Some mid) f each = each mid
 
-  tell_kept : (domain : ℕ) (content : Content) (ms : List LiveView) → KeptFor domain (get_reply x content ms)
-  tell_kept domain content [] = tt
-  tell_kept domain content (m ∷ ms) = tt
+  tell_keeps : (domain : ℕ) (content : Content) (ms : List LiveView) → KeepsFor domain (get_reply x content ms)
+  tell_keeps domain content [] = tt
+  tell_keeps domain content (m ∷ ms) = tt
 
   module _ (path : MitigationPath) (domain : ℕ) where
     abbrev from : ClientRequest
     from = asks_for peer x path domain
 
-    entry_kept : (reply : List ℕ) (made : Change) → is_signal made ≡ true → Keeps state.time peer x domain reply (entry_of state.time from reply made)
-    entry_kept reply made is = record { time_is = refl; of_both = signal_of peer domain (entry_of state.time from reply made) is refl refl; key_is = refl; reply_is = refl }
+    entry_keeps : (reply : List ℕ) (made : Change) → is_signal made ≡ true → Keeps state.time peer x domain reply (entry_of state.time from reply made)
+    entry_keeps reply made is = record { time_is = refl; of_both = signal_of peer domain (entry_of state.time from reply made) is refl refl; key_is = refl; reply_is = refl }
 
-    judged_kept : (body : MitigationBody) (mid : ℕ) (r : Result Judged PutFault) → KeptFor domain (judged state.time (record { from = from; mid = mid; body = body }) r)
-    judged_kept body mid (Ok j) = entry_kept _ (change.Put j.put) (put_is_signal j.put)
-    judged_kept body mid (Err fault) = refusal_kept domain mid fault
+    judged_keeps : (body : MitigationBody) (mid : ℕ) (r : Result Judged PutFault) → KeepsFor domain (judged state.time (record { from = from; mid = mid; body = body }) r)
+    judged_keeps body mid (Ok j) = entry_keeps _ (change.Put j.put) (put_is_signal j.put)
+    judged_keeps body mid (Err fault) = refusal_keeps domain mid fault
 
-    put_kept : (body : MitigationBody) → KeptFor domain (put_for settings state peer x path body domain)
-    put_kept body =
-        with_mid_kept domain path.mid (put_in settings state from body)
+    put_keeps : (body : MitigationBody) → KeepsFor domain (put_for settings state peer x path body domain)
+    put_keeps body =
+        with_mid_keeps domain path.mid (put_in settings state from body)
         (λ mid.
-        unless_kept domain (scope_fault settings (prefixes_of settings domain) body.asked) _
-        (repeat_kept domain (repeated settings state.time state.history (sent_by from)) _
-        (judged_kept body mid (judge_request settings state.time state.history domain (request_of (record { from = from; mid = mid; body = body }))))))
+        unless_keeps domain (scope_fault settings (prefixes_of settings domain) body.asked) _
+        (repeat_keeps domain (repeated settings state.time state.history (sent_by from)) _
+        (judged_keeps body mid (judge_request settings state.time state.history domain (request_of (record { from = from; mid = mid; body = body }))))))
 
-    delete_kept : KeptFor domain (delete_for settings state peer x path domain)
-    delete_kept =
-        with_mid_kept domain path.mid (delete_in settings state from)
+    delete_keeps : KeepsFor domain (delete_for settings state peer x path domain)
+    delete_keeps =
+        with_mid_keeps domain path.mid (delete_in settings state from)
         (λ mid.
-        repeat_kept domain (repeated settings state.time state.history (sent_by from)) _
+        repeat_keeps domain (repeated settings state.time state.history (sent_by from)) _
         (by_test mid (is_taken state.time state.history from) (list_any (stands_as mid) (lives state.time state.history from))))
       where
-        by_test : (mid : ℕ) (taken stands : Bool) → KeptFor domain (delete_by state.time from mid taken stands)
+        by_test : (mid : ℕ) (taken stands : Bool) → KeepsFor domain (delete_by state.time from mid taken stands)
         by_test mid true stands = tt
-        by_test mid false true = entry_kept _ (change.Withdraw mid) (withdrawal_is_signal mid)
+        by_test mid false true = entry_keeps _ (change.Withdraw mid) (withdrawal_is_signal mid)
         by_test mid false false = tt
 
-    get_kept : (content : Content) → KeptFor domain (get_for state peer x path content domain)
-    get_kept content = by_test (is_taken state.time state.history from)
+    get_keeps : (content : Content) → KeepsFor domain (get_for state peer x path content domain)
+    get_keeps content = by_test (is_taken state.time state.history from)
       where
-        by_test : (taken : Bool) → KeptFor domain (get_by x path.mid content taken (lives state.time state.history from))
+        by_test : (taken : Bool) → KeepsFor domain (get_by x path.mid content taken (lives state.time state.history from))
         by_test true = tt
-        by_test false = tell_kept domain content _
+        by_test false = tell_keeps domain content _
 
-  config_kept : (domain : ℕ) → KeptFor domain (config_for settings state peer x domain)
-  config_kept domain = repeat_kept domain (repeated settings state.time state.history (sent_for peer x domain)) _ tt
+  config_keeps : (domain : ℕ) → KeepsFor domain (config_for settings state peer x domain)
+  config_keeps domain = repeat_keeps domain (repeated settings state.time state.history (sent_for peer x domain)) _ tt
 
   -- for the domain of the request
-  abbrev Kept : Option ℕ → Verdict → Type 0
-  Kept found (verdict.Accept reply entry) = (domain : ℕ) × (found ≡ Some domain) × Keeps state.time peer x domain reply entry
-  Kept found _ = Unit {0}
+  abbrev KeepsFound : Option ℕ → Verdict → Type 0
+  KeepsFound found (verdict.Accept reply entry) = (domain : ℕ) × (found ≡ Some domain) × Keeps state.time peer x domain reply entry
+  KeepsFound found _ = Unit {0}
 
-  of_domain : (domain : ℕ) (v : Verdict) → KeptFor domain v → Kept (Some domain) v
+  of_domain : (domain : ℕ) (v : Verdict) → KeepsFor domain v → KeepsFound (Some domain) v
   of_domain domain verdict.Silent kept = tt
   of_domain domain (verdict.Reply reply) kept = tt
   of_domain domain (verdict.LongReply reply) kept = tt
   of_domain domain (verdict.Accept reply entry) kept = (domain, refl, kept)
 
-  in_domain_kept : (found : Option ℕ) (f : ℕ → Verdict) → ((d : ℕ) → KeptFor d (f d)) → Kept found (in_domain x found f)
-  in_domain_kept None f each = tt
-  in_domain_kept (Some d) f each = of_domain d (f d) (each d)
+  in_domain_keeps : (found : Option ℕ) (f : ℕ → Verdict) → ((d : ℕ) → KeepsFor d (f d)) → KeepsFound found (in_domain x found f)
+  in_domain_keeps None f each = tt
+  in_domain_keeps (Some d) f each = of_domain d (f d) (each d)
 
-  asked_kept : (r : Request) → Kept (domain_of settings (role_of settings peer) r) (asked_verdict settings state peer x r)
-  asked_kept (request.PutMitigation path body) = in_domain_kept (domain_for settings (role_of settings peer) path.cdid) _ (λ d. put_kept path d body)
-  asked_kept (request.GetMitigation path content observe) = in_domain_kept (domain_for settings (role_of settings peer) path.cdid) _ (λ d. get_kept path d content)
-  asked_kept (request.DeleteMitigation path) = in_domain_kept (domain_for settings (role_of settings peer) path.cdid) _ (λ d. delete_kept path d)
-  asked_kept (request.PutConfig sid body) = in_domain_kept (session_domain (role_of settings peer)) _ config_kept
-  asked_kept (request.GetConfig sid) = tt
-  asked_kept (request.DeleteConfig sid) = in_domain_kept (session_domain (role_of settings peer)) _ config_kept
-  asked_kept (request.PutHeartbeat heard) = tt
+  asked_keeps : (r : Request) → KeepsFound (domain_of settings (role_of settings peer) r) (asked_verdict settings state peer x r)
+  asked_keeps (request.PutMitigation path body) = in_domain_keeps (domain_for settings (role_of settings peer) path.cdid) _ (λ d. put_keeps path d body)
+  asked_keeps (request.GetMitigation path content observe) = in_domain_keeps (domain_for settings (role_of settings peer) path.cdid) _ (λ d. get_keeps path d content)
+  asked_keeps (request.DeleteMitigation path) = in_domain_keeps (domain_for settings (role_of settings peer) path.cdid) _ (λ d. delete_keeps path d)
+  asked_keeps (request.PutConfig sid body) = in_domain_keeps (session_domain (role_of settings peer)) _ config_keeps
+  asked_keeps (request.GetConfig sid) = tt
+  asked_keeps (request.DeleteConfig sid) = in_domain_keeps (session_domain (role_of settings peer)) _ config_keeps
+  asked_keeps (request.PutHeartbeat heard) = tt
 
-  pub accepted_kept : (r : Request) (reply : List ℕ) (entry : Entry) → DecidesRequest settings state peer x r (verdict.Accept reply entry)
+  pub accepted_keeps : (r : Request) (reply : List ℕ) (entry : Entry) → DecidesRequest settings state peer x r (verdict.Accept reply entry)
       → (domain : ℕ) × (domain_of settings (role_of settings peer) r ≡ Some domain) × Keeps state.time peer x domain reply entry
-  accepted_kept r reply entry decides =
-      subst (Kept (domain_of settings (role_of settings peer) r)) (sym (request_valued settings state peer x r (verdict.Accept reply entry) decides)) (asked_kept r)
+  accepted_keeps r reply entry decides =
+      subst (KeepsFound (domain_of settings (role_of settings peer) r)) (sym (request_valued settings state peer x r (verdict.Accept reply entry) decides)) (asked_keeps r)
 
 -- the entry of an accepted message is the one that its repeats are answered by
 pub accepted_is_repeated : (settings : SettingsValue) (state : State) (peer : ℕ) (x : Exchange) (r : Request) (reply : List ℕ) (entry : Entry)
@@ -219,9 +219,9 @@ pub accepted_is_repeated : (settings : SettingsValue) (state : State) (peer : �
     → list_any (λ (e : Entry). signals peer domain e && may_repeat t x.id e.time e.key) later ≡ false
     → IsRepeatOf settings.limits.remembered t (state.history ++ entry ∷ later) (sent_for peer x domain) entry)
 accepted_is_repeated settings state peer x r reply entry decides =
-    let kept = accepted_kept settings state peer x r reply entry decides in (
+    let kept = accepted_keeps settings state peer x r reply entry decides in (
       kept.0,
       kept.1,
       kept.2.reply_is,
-      λ t later early few none. kept_is_repeated settings.limits.remembered t state.time peer x kept.0 reply state.history entry later kept.2 early few none,
+      λ t later early few none. entry_is_repeated settings.limits.remembered t state.time peer x kept.0 reply state.history entry later kept.2 early few none,
     )

@@ -313,8 +313,8 @@ either_way true n = refl
 either_way false n = refl
 
 module _ (settings : SettingsValue) (start : State) where
-  abbrev Held : ℕ → List Entry → (ℕ → ℕ) → Type 0
-  Held t history image = HoldsKept settings settings.limits.remembered t history image
+  abbrev HoldsFrom : ℕ → List Entry → (ℕ → ℕ) → Type 0
+  HoldsFrom t history image = HoldsKept settings settings.limits.remembered t history image
 
   abbrev first_entries : ℕ
   first_entries = length start.history
@@ -326,8 +326,8 @@ module _ (settings : SettingsValue) (start : State) where
     count = stands.count;
     within = let within = stands.within in let longer = length-append history extra in omega (arith, within, longer);
     has_shown = subst (λ n. n ≤ stands.count) (sym (shown_then m acts more trace told first_entries same ∙ shown_late m more told (shown m acts trace first_entries) late)) stands.has_shown;
-    holds = subst (λ t. Held t (take stands.count (history ++ extra)) image) (sym (time_then m acts more trace told start.time same ∙ time_late m more told (time_at m acts trace start.time) late))
-        (subst (λ es. Held (time_at m acts trace start.time) es image) (sym (take_front stands.count history extra stands.within)) stands.holds);
+    holds = subst (λ t. HoldsFrom t (take stands.count (history ++ extra)) image) (sym (time_then m acts more trace told start.time same ∙ time_late m more told (time_at m acts trace start.time) late))
+        (subst (λ es. HoldsFrom (time_at m acts trace start.time) es image) (sym (take_front stands.count history extra stands.within)) stands.holds);
   }
 
   -- the moments of the turn: behind the event, the sends say what was told
@@ -347,13 +347,13 @@ module _ (settings : SettingsValue) (start : State) where
         ∙ time_sends m next owed more new.time gives
 
     newer : (m next : ℕ) (image : ℕ → ℕ) (count : ℕ) → moment < m → Gives next (outs_of owed) more → count ≤ length new.history
-        → shown m more (told_by owed) (shown m acts trace first_entries) ≤ count → Held new.time (take count new.history) image
+        → shown m more (told_by owed) (shown m acts trace first_entries) ≤ count → HoldsFrom new.time (take count new.history) image
         → MeansAt settings start (acts ++ event_taken ∷ more) (trace ++ new ∷ told_by owed) new.history m image
     newer m next image count less gives within told holds = record {
       count = count;
       within = within;
       has_shown = subst (λ n. n ≤ count) (sym (shown_here m)) told;
-      holds = subst (λ t. Held t (take count new.history) image) (sym (time_here m next less gives)) holds;
+      holds = subst (λ t. HoldsFrom t (take count new.history) image) (sym (time_here m next less gives)) holds;
     }
 
     module _ (old : State) (grown : (extra : List Entry) × (new.history ≡ old.history ++ extra)) (few : TellFew (length new.history) owed)
@@ -368,26 +368,26 @@ module _ (settings : SettingsValue) (start : State) where
       before_front = ap (take (length old.history)) grown.1 ∙ take_front (length old.history) old.history grown.0 (le_refl (length old.history)) ∙ take_all old.history
 
       -- before the first send the disk has the old entries or the new ones
-      unsent : (m next : ℕ) (image : ℕ → ℕ) → moment < m → m ≤ next → Gives next (outs_of owed) more → Held new.time old.history image ⊎ Held new.time new.history image → Whole m image
+      unsent : (m next : ℕ) (image : ℕ → ℕ) → moment < m → m ≤ next → Gives next (outs_of owed) more → HoldsFrom new.time old.history image ⊎ HoldsFrom new.time new.history image → Whole m image
       unsent m next image less le gives (inl holds) =
           newer m next image (length old.history) less gives grown_length
           (subst (λ n. n ≤ length old.history) (sym (shown_late m more (told_by owed) (shown m acts trace first_entries) (gives_late m next (outs_of owed) more le gives))) (bounded m))
-          (subst (λ es. Held new.time es image) (sym before_front) holds)
+          (subst (λ es. HoldsFrom new.time es image) (sym before_front) holds)
       unsent m next image less le gives (inr holds) =
           let told = bounded m in
           let longer = grown_length in
           newer m next image (length new.history) less gives (le_refl (length new.history))
           (subst (λ n. n ≤ length new.history) (sym (shown_late m more (told_by owed) (shown m acts trace first_entries) (gives_late m next (outs_of owed) more le gives))) (omega (arith, told, longer)))
-          (subst (λ es. Held new.time es image) (sym (take_all new.history)) holds)
+          (subst (λ es. HoldsFrom new.time es image) (sym (take_all new.history)) holds)
 
       -- and then the new ones alone
-      sent : (m next : ℕ) (image : ℕ → ℕ) → moment < m → Gives next (outs_of owed) more → Held new.time new.history image → Whole m image
+      sent : (m next : ℕ) (image : ℕ → ℕ) → moment < m → Gives next (outs_of owed) more → HoldsFrom new.time new.history image → Whole m image
       sent m next image less gives holds =
           let told = bounded m in
           let longer = grown_length in
           newer m next image (length new.history) less gives (le_refl (length new.history))
           (shown_sends m next owed more (shown m acts trace first_entries) (length new.history) gives (omega (arith, told, longer)) few)
-          (subst (λ es. Held new.time es image) (sym (take_all new.history)) holds)
+          (subst (λ es. HoldsFrom new.time es image) (sym (take_all new.history)) holds)
 
       pub bounded_still : (next : ℕ) → Gives next (outs_of owed) more → (m : ℕ) → shown m (acts ++ event_taken ∷ more) (trace ++ new ∷ told_by owed) first_entries ≤ length new.history
       bounded_still next gives m =
@@ -397,11 +397,11 @@ module _ (settings : SettingsValue) (start : State) where
 
       -- the event is taken, and then it is written
       pub survives_writing : (first a b c : Option Media) (next : ℕ) → past_of a ≡ moment → past_of c ≤ next → Gives next (outs_of owed) more
-          → LeavesAt first a (MeansAt settings start acts trace old.history) → RestsWith a (Held new.time old.history) → KeepsMedia a b
-          → Leaves b c (λ image. Held new.time old.history image ⊎ Held new.time new.history image) → LeavesAt first c Whole
+          → LeavesAt first a (MeansAt settings start acts trace old.history) → RestsWith a (HoldsFrom new.time old.history) → KeepsMedia a b
+          → Leaves b c (λ image. HoldsFrom new.time old.history image ⊎ HoldsFrom new.time new.history image) → LeavesAt first c Whole
       survives_writing first a b c next here le gives leaves rests keeps writes =
-          let Before : (ℕ → ℕ) → Type 0 = λ image. Held new.time old.history image in
-          let Either : (ℕ → ℕ) → Type 0 = λ image. Held new.time old.history image ⊎ Held new.time new.history image in
+          let Before : (ℕ → ℕ) → Type 0 = λ image. HoldsFrom new.time old.history image in
+          let Either : (ℕ → ℕ) → Type 0 = λ image. HoldsFrom new.time old.history image ⊎ HoldsFrom new.time new.history image in
           let rests_b = rests_still a b Before rests keeps in
           let later_b = keeps_past a b Before rests keeps in
           let later_c = leaves_past b c Before Either rests_b writes in
@@ -417,9 +417,9 @@ module _ (settings : SettingsValue) (start : State) where
 
       -- and then all is sent
       pub survives_sending : (first c d : Option Media) (next : ℕ) → moment ≤ past_of c → Gives next (outs_of owed) more → LeavesAt first c Whole
-          → RestsWith c (Held new.time new.history) → KeepsMedia c d → LeavesAt first d Whole
+          → RestsWith c (HoldsFrom new.time new.history) → KeepsMedia c d → LeavesAt first d Whole
       survives_sending first c d next here gives leaves rests keeps =
-          let After : (ℕ → ℕ) → Type 0 = λ image. Held new.time new.history image in
+          let After : (ℕ → ℕ) → Type 0 = λ image. HoldsFrom new.time new.history image in
           leaves_at_then Whole first c d leaves (leaves_there Whole c d After After rests (λ k low high image holds. sent k next image (omega (arith, low, here)) gives holds) (rests_on c d After rests keeps))
 
 -- ---- the opening, before the first event
@@ -453,6 +453,6 @@ pub within_last : (high : ℕ) (xs : List Entry) → Within 0 xs high → last_t
 within_last high xs within = within_or 0 0 high xs (le_refl 0) within
 
 -- entries that a disk holds with the view of a history have it later too
-pub held_later : (settings : SettingsValue) (t u : ℕ) (history : List Entry) (image : ℕ → ℕ) → t ≤ u → HoldsKept settings settings.limits.remembered t history image → HoldsKept settings settings.limits.remembered u history image
-held_later settings t u history image le held =
+pub holds_later : (settings : SettingsValue) (t u : ℕ) (history : List Entry) (image : ℕ → ℕ) → t ≤ u → HoldsKept settings settings.limits.remembered t history image → HoldsKept settings settings.limits.remembered u history image
+holds_later settings t u history image le held =
     record { entries = held.entries; holds = held.holds; calm = held.calm; kept = kept_later settings.limits.remembered t u held.entries history le held.kept }

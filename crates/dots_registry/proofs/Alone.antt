@@ -163,8 +163,8 @@ same_lost : (domain peer : ℕ) (one other : List Entry) → alone domain one �
 same_lost domain peer one other same =
     sym (lost_alone domain peer one) ∙ ap (λ es. is_lost_in (held es) peer domain) same ∙ lost_alone domain peer other
 
-pub shown_apart : (t : ℕ) (one other : List Entry) (domain : ℕ) (cuid : List ℕ) → alone domain one ≡ alone domain other
+pub views_apart : (t : ℕ) (one other : List Entry) (domain : ℕ) (cuid : List ℕ) → alone domain one ≡ alone domain other
     → views_in domain cuid t one ≡ views_in domain cuid t other
-shown_apart t one other domain cuid same =
+views_apart t one other domain cuid same =
     views_by (is_lost_in (held one)) (is_lost_in (held other)) domain (live_views_in domain cuid t one) (λ peer. same_lost domain peer one other same)
     ∙ ap (λ ms. map (view_with (is_lost_in (held other)) domain) (live_views_of t cuid ms)) (same_mitigations domain t one other same)

@@ -137,8 +137,8 @@ module _ (settings : SettingsValue) (registry : RegistryValue) (entries : List E
       (represents.limits.live e.domain))))
       (le-leb of_client settings.limits.client_mitigations (keeps.of_client (clients.live e)))
 
-  pub kept_fits : fits_now settings registry entries e ≡ true
-  kept_fits =
+  pub entry_fits_now : fits_now settings registry entries e ≡ true
+  entry_fits_now =
       fits_possible settings registry entries e is_of represents (and_from (within_bounds e) (is_of_settings settings e) within of_settings)
       ∙ and_from
       (nat_le (time_of registry) e.time)
@@ -233,9 +233,9 @@ limits_fitting settings t entries e clients later is =
 pub limits_calm : (settings : SettingsValue) (t : ℕ) (entries : List Entry) → IsCalmBy settings t entries → ClientsKeepLimits settings.limits t entries
 limits_calm settings t entries calm = record { live = calm.of_client; aliased = calm.capacities.aliased }
 
-limits_kept : (limits : Limits) (t : ℕ) (entries : List Entry) (e : Entry) → ClientsKeepLimits limits t entries → e.time ≡ t → HoldsNone e
+limits_hold : (limits : Limits) (t : ℕ) (entries : List Entry) (e : Entry) → ClientsKeepLimits limits t entries → e.time ≡ t → HoldsNone e
     → Keeps limits t entries e → ClientsKeepLimits limits t (entries ++ e ∷ [])
-limits_kept limits t entries e clients at none keeps =
+limits_hold limits t entries e clients at none keeps =
     let timely : t ≤ e.time = omega (arith, at) in
     let few : tally (λ (m : Mitigation). same_client e m.put) (mitigations e.time (entries ++ e ∷ [])) ≤ limits.client_mitigations =
     subst
@@ -271,7 +271,7 @@ pub fits_granted : (settings : SettingsValue) (registry : RegistryValue) (entrie
     → e.peer ≡ request.peer → e.domain ≡ domain → e.cuid ≡ request.cuid → e.change ≡ change.Put judged.put
     → fits_now settings registry entries e ≡ true
 fits_granted settings registry entries domain request judged e is_of represents clients own within at is peer of cuid asks =
-    kept_fits
+    entry_fits_now
     settings
     registry
     entries
@@ -291,7 +291,7 @@ pub limits_granted : (settings : SettingsValue) (t : ℕ) (entries : List Entry)
     → e.peer ≡ request.peer → e.domain ≡ domain → e.cuid ≡ request.cuid → e.change ≡ change.Put judged.put
     → ClientsKeepLimits settings.limits t (entries ++ e ∷ [])
 limits_granted settings t entries domain request judged e clients at is peer of cuid asks =
-    limits_kept
+    limits_hold
     settings.limits
     t
     entries
@@ -311,7 +311,7 @@ pub fits_withdrawal : (settings : SettingsValue) (registry : RegistryValue) (ent
     → is_own settings e ≡ true → within_bounds e ≡ true → e.time ≡ time_of registry
     → fits_now settings registry entries e ≡ true
 fits_withdrawal settings registry entries mid e is is_of represents clients own within at =
-    kept_fits
+    entry_fits_now
     settings
     registry
     entries
@@ -328,7 +328,7 @@ fits_withdrawal settings registry entries mid e is is_of represents clients own 
 pub limits_withdrawal : (limits : Limits) (t : ℕ) (entries : List Entry) (mid : ℕ) (e : Entry) → e.change ≡ change.Withdraw mid
     → ClientsKeepLimits limits t entries → e.time ≡ t → ClientsKeepLimits limits t (entries ++ e ∷ [])
 limits_withdrawal limits t entries mid e is clients at =
-    limits_kept limits t entries e clients at (nothing_held e.change (withdrawal_kind e mid is)) (withdrawn_room limits t mid entries e at is)
+    limits_hold limits t entries e clients at (nothing_held e.change (withdrawal_kind e mid is)) (withdrawn_room limits t mid entries e at is)
 
 -- ---- a loss, or its end
 pub fits_loss : (settings : SettingsValue) (registry : RegistryValue) (entries : List Entry) (e : Entry) → is_loss e.change ≡ true
@@ -336,7 +336,7 @@ pub fits_loss : (settings : SettingsValue) (registry : RegistryValue) (entries :
     → is_own settings e ≡ true → within_bounds e ≡ true → e.time ≡ time_of registry
     → fits_now settings registry entries e ≡ true
 fits_loss settings registry entries e is is_of represents clients own within at =
-    kept_fits
+    entry_fits_now
     settings
     registry
     entries
@@ -353,4 +353,4 @@ fits_loss settings registry entries e is is_of represents clients own within at 
 pub limits_loss : (limits : Limits) (t : ℕ) (entries : List Entry) (e : Entry) → is_loss e.change ≡ true
     → ClientsKeepLimits limits t entries → e.time ≡ t → ClientsKeepLimits limits t (entries ++ e ∷ [])
 limits_loss limits t entries e is clients at =
-    limits_kept limits t entries e clients at (nothing_lost e.change is) (lost_room limits t entries e at is)
+    limits_hold limits t entries e clients at (nothing_lost e.change is) (lost_room limits t entries e at is)

@@ -33,7 +33,7 @@ use Rattle.dots_registry.specs.Judging.{collides, judge_request}
 use Rattle.dots_registry.specs.Judgements.{IsTaken, HasMid, AreTargets, Meets, Those, Stays, StaysOwn, IsNew, IsHighest, IsFree, IsJudged, collision, refreshes, changes, unknown, too_many, higher, other, client_full, domain_full, begins}
 use Rattle.dots_registry.proofs.Places.{one_number}
 use Rattle.dots_registry.proofs.HeldPlaces.{unknown_there, there_unknown, are_targets, targets_are}
-use Rattle.dots_registry.proofs.Rules.{found_some, collides_taken, taken_collides, mid_there, there_mid, one_of_mid, in_higher, higher_in, higher_mids, those_meet, meet_those, number_staying, number_own, greatest_in, greatest_none, in_greatest, contested_by, none_kept, some_kept}
+use Rattle.dots_registry.proofs.Rules.{found_some, collides_taken, taken_collides, mid_there, there_mid, one_of_mid, in_higher, higher_in, higher_mids, those_meet, meet_those, number_staying, number_own, greatest_in, greatest_none, in_greatest, contested_by, none_pass, some_pass}
 
 module _ (settings : SettingsValue) (t : ℕ) (entries : List Entry) (domain : ℕ) (request : Request) where
   abbrev client : Client
@@ -191,7 +191,7 @@ module _ (settings : SettingsValue) (t : ℕ) (entries : List Entry) (domain : �
       is_highest = highest;
       none_meets = subst
           (Those (Meets t entries client) (resolved targets))
-          (none_kept (meets_another lives request.cuid) (resolved targets) (sym (contested_by lives request.cuid (wants targets)) ∙ out))
+          (none_pass (meets_another lives request.cuid) (resolved targets) (sym (contested_by lives request.cuid (wants targets)) ∙ out))
           (those_meet t entries client (resolved targets));
       own_stay = number_own t entries client (wants targets);
       all_stay = number_staying t entries client (wants targets);
@@ -234,7 +234,7 @@ module _ (settings : SettingsValue) (t : ℕ) (entries : List Entry) (domain : �
               (filter (meets_another lives request.cuid) (resolved targets))
               highest
               (those_meet t entries client (resolved targets))
-              (some_kept (meets_another lives request.cuid) (resolved targets) (sym (contested_by lives request.cuid (wants targets)) ∙ contested))
+              (some_pass (meets_another lives request.cuid) (resolved targets) (sym (contested_by lives request.cuid (wants targets)) ∙ contested))
               (is ∙ by_contested targets contested)
           | inr out ↦ to_room highest out (is ∙ by_room targets out)
         ]
@@ -351,7 +351,7 @@ module _ (settings : SettingsValue) (t : ℕ) (entries : List Entry) (domain : �
       contested_by lives request.cuid (wants targets)
       ∙ false_from_ne_true
       (list_any (meets_another lives request.cuid) (resolved targets))
-      (λ some. some_kept (meets_another lives request.cuid) (resolved targets) some (sym (meet_those t entries client (resolved targets) [] none)))
+      (λ some. some_pass (meets_another lives request.cuid) (resolved targets) some (sym (meet_those t entries client (resolved targets) [] none)))
 
   contested : (targets : List Target) (prefixes : List PrefixValue) → Those (Meets t entries client) (resolved targets) prefixes → prefixes ≢ []
       → is_contested lives request.cuid (wants targets) ≡ true
@@ -362,7 +362,7 @@ module _ (settings : SettingsValue) (t : ℕ) (entries : List Entry) (domain : �
       by_any : (b : Bool) → list_any (meets_another lives request.cuid) (resolved targets) ≡ b → list_any (meets_another lives request.cuid) (resolved targets) ≡ true
       by_any true is = is
       by_any false out =
-          absurd (some (meet_those t entries client (resolved targets) prefixes those ∙ none_kept (meets_another lives request.cuid) (resolved targets) out))
+          absurd (some (meet_those t entries client (resolved targets) prefixes those ∙ none_pass (meets_another lives request.cuid) (resolved targets) out))
 
   from_free : (targets : List Target) (own all : ℕ) → IsFree settings t entries client request targets own all
       → judged ≡ unopposed targets (judge_room own all settings.limits)

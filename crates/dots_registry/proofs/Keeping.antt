@@ -111,9 +111,9 @@ named_represents registry entries calm represents =
 
 -- ---- one for a history
 
-pub same_kept : (a b : RegistryValue) (entries : List Entry) → SameSize a b → Represents a entries → Represents b entries → (domain : ℕ) → domain < a.live.domains
+pub same_live_rows : (a b : RegistryValue) (entries : List Entry) → SameSize a b → Represents a entries → Represents b entries → (domain : ℕ) → domain < a.live.domains
     → rows_for a.live domain ≡ rows_for b.live domain
-same_kept a b entries same of_a of_b domain within =
+same_live_rows a b entries same of_a of_b domain within =
     of_a.live.rows domain within
     ∙ ap (λ t. mitigations t (alone domain (map bare entries))) same.time
     ∙ sym (of_b.live.rows domain (subst (λ n. domain < n) same.domains within))

@@ -118,15 +118,15 @@ module _ (standing : List Entry) (peer : ℕ) where
   bare_peer [] = refl
   bare_peer (m ∷ ms) = ap (λ b. of_peer m || b) (bare_peer ms)
 
-  pub kept_peer : (domain t : ℕ) (entries : List Entry) → list_any of_peer (mitigations_of domain (mitigations t (map bare entries))) ≡ list_any of_peer (mitigations_of domain (mitigations t entries))
-  kept_peer domain t entries =
+  pub of_peer_bare : (domain t : ℕ) (entries : List Entry) → list_any of_peer (mitigations_of domain (mitigations t (map bare entries))) ≡ list_any of_peer (mitigations_of domain (mitigations t entries))
+  of_peer_bare domain t entries =
       ap (λ ms. list_any of_peer (mitigations_of domain ms)) (bare_mitigations t entries)
       ∙ ap (list_any of_peer) (of_domain_bare domain (mitigations t entries))
       ∙ bare_peer (mitigations_of domain (mitigations t entries))
 
   pub found_one : (domain t : ℕ) (entries : List Entry) → is_lost_in standing peer domain ≡ true
       → list_any of_peer (mitigations_of domain (mitigations t (map bare entries))) ≡ true → list_any of_lost (mitigations t entries) ≡ true
-  found_one domain t entries lost is = some_in domain (mitigations t entries) lost (sym (kept_peer domain t entries) ∙ is)
+  found_one domain t entries lost is = some_in domain (mitigations t entries) lost (sym (of_peer_bare domain t entries) ∙ is)
 
   pub found_none : (domains t : ℕ) (entries : List Entry) → NoneIn domains (mitigations t entries)
       → list_all (λ (m : Mitigation). nat_lt m.put.domain domains) (mitigations t entries) ≡ true → list_any of_lost (mitigations t entries) ≡ false

@@ -522,11 +522,11 @@ bits_any test (x ∷ xs) = bit_any (test x) (bits (map test xs)) (list_any test 
 pub contested_by : (live : List Live) (cuid : List ℕ) (request : Put) → is_contested live cuid request ≡ list_any (meets_another live cuid) (resolved request.targets)
 contested_by live cuid request = contested_marked live cuid request ∙ bits_any (meets_another live cuid) (resolved request.targets)
 
-pub none_kept : {A : Type 0} (test : A → Bool) (xs : List A) → list_any test xs ≡ false → filter test xs ≡ []
-none_kept test [] out = refl
-none_kept test (x ∷ xs) out =
+pub none_pass : {A : Type 0} (test : A → Bool) (xs : List A) → list_any test xs ≡ false → filter test xs ≡ []
+none_pass test [] out = refl
+none_pass test (x ∷ xs) out =
     let parts = or_parts (test x) (list_any test xs) out in
-    cond-false (test x) (x ∷ filter test xs) (filter test xs) parts.0 ∙ none_kept test xs parts.1
+    cond-false (test x) (x ∷ filter test xs) (filter test xs) parts.0 ∙ none_pass test xs parts.1
 
 is_empty : {A : Type 0} → List A → Bool
 is_empty [] = true
@@ -536,14 +536,14 @@ not_nothing : {A : Type 0} (y : A) (ys : List A) → y ∷ ys ≡ [] → ⊥
 unfolding is_empty
 not_nothing y ys same = false≢true (ap is_empty same)
 
-pub some_kept : {A : Type 0} (test : A → Bool) (xs : List A) → list_any test xs ≡ true → filter test xs ≢ []
-some_kept test [] is none = false≢true is
-some_kept test (x ∷ xs) is none =
+pub some_pass : {A : Type 0} (test : A → Bool) (xs : List A) → list_any test xs ≡ true → filter test xs ≢ []
+some_pass test [] is none = false≢true is
+some_pass test (x ∷ xs) is none =
     elim (cases_Bool (test x)) [
       | inl here ↦ not_nothing x (filter test xs) (sym (cond-true (test x) (x ∷ filter test xs) (filter test xs) here) ∙ none)
       | inr out ↦
           elim (or_cases (test x) (list_any test xs) is) [
             | inl here ↦ both_ways (test x) out here
-            | inr more ↦ some_kept test xs more (sym (cond-false (test x) (x ∷ filter test xs) (filter test xs) out) ∙ none)
+            | inr more ↦ some_pass test xs more (sym (cond-false (test x) (x ∷ filter test xs) (filter test xs) out) ∙ none)
           ]
     ]

@@ -162,26 +162,26 @@ module _ (words : List (List ℕ)) (before now : Outside) where
     ends_well (ending.Served (stop.Unrecovered fault)) served behaves = wants_memory fault (behaves.3.runs_from ready.seen ready.sees).found behaves.3.any.2.1
     ends_well ending.ReportFailed served behaves = absurd (written behaves.3.1)
 
-  no_fault_shown : (word text : List ℕ) → IsReadable word → PrintsFault word text ⊎ PrintsNoHex word text → ⊥
-  no_fault_shown word text readable (inl fault) =
+  no_fault_printed : (word text : List ℕ) → IsReadable word → PrintsFault word text ⊎ PrintsNoHex word text → ⊥
+  no_fault_printed word text readable (inl fault) =
       let same = one_text _ _ _ readable.writes.bytes_are fault.writes.bytes_are in
       breaks_no_message _ fault.fault readable.message fault.breaks readable.is (sym same)
-  no_fault_shown word text readable (inr no_hex) = no_hex.none (spelling readable.message) readable.writes
+  no_fault_printed word text readable (inr no_hex) = no_hex.none (spelling readable.message) readable.writes
 
   readable_of : (word text : List ℕ) → IsPrinted word (printed.Message text) → IsReadable word
   readable_of word text shows = record { message = shows.message; is = shows.is; writes = shows.writes }
 
-  pub ends_shown : (how : Ending) → is_show words ≡ true → IsReadable (second_of words) → (ReportFailed before now → ⊥) → Behaves how words before now → (status_of how ≡ 0) ⊎ (status_of how ≡ 4)
-  ends_shown ending.WrongWords show readable written behaves = absurd (show_is_command words show behaves.0)
-  ends_shown (ending.Printed printings.Written) show readable written behaves = inl refl
-  ends_shown (ending.Printed printings.Failed) show readable written behaves = absurd (written behaves.2.3)
-  ends_shown (ending.Printed printings.Unreadable) show readable written behaves = absurd (no_fault_shown (second_of words) behaves.2.0 readable behaves.2.1)
-  ends_shown (ending.Refused fault) show readable written behaves = absurd (one_command words behaves.0 show)
-  ends_shown ending.NoMemory show readable written behaves = inr refl
-  ends_shown ending.SettingsFailed show readable written behaves = absurd (one_command words behaves.0 show)
-  ends_shown (ending.Unrecovered fault) show readable written behaves = absurd (one_command words behaves.0 show)
-  ends_shown (ending.Served how) show readable written behaves = absurd (one_command words behaves.0 show)
-  ends_shown ending.ReportFailed show readable written behaves = absurd (one_command words behaves.0 show)
+  pub ends_printed : (how : Ending) → is_show words ≡ true → IsReadable (second_of words) → (ReportFailed before now → ⊥) → Behaves how words before now → (status_of how ≡ 0) ⊎ (status_of how ≡ 4)
+  ends_printed ending.WrongWords show readable written behaves = absurd (show_is_command words show behaves.0)
+  ends_printed (ending.Printed printings.Written) show readable written behaves = inl refl
+  ends_printed (ending.Printed printings.Failed) show readable written behaves = absurd (written behaves.2.3)
+  ends_printed (ending.Printed printings.Unreadable) show readable written behaves = absurd (no_fault_printed (second_of words) behaves.2.0 readable behaves.2.1)
+  ends_printed (ending.Refused fault) show readable written behaves = absurd (one_command words behaves.0 show)
+  ends_printed ending.NoMemory show readable written behaves = inr refl
+  ends_printed ending.SettingsFailed show readable written behaves = absurd (one_command words behaves.0 show)
+  ends_printed (ending.Unrecovered fault) show readable written behaves = absurd (one_command words behaves.0 show)
+  ends_printed (ending.Served how) show readable written behaves = absurd (one_command words behaves.0 show)
+  ends_printed ending.ReportFailed show readable written behaves = absurd (one_command words behaves.0 show)
 
   pub ends_unreadable : (how : Ending) → is_show words ≡ true → (IsReadable (second_of words) → ⊥) → Behaves how words before now → (status_of how ≡ 1) ⊎ (status_of how ≡ 4)
   ends_unreadable ending.WrongWords show none behaves = absurd (show_is_command words show behaves.0)

@@ -50,8 +50,8 @@ module _ (settings : SettingsValue) (held : List Entry) (how : Stop) (before bet
   abbrev from : State
   from = begun_from held
 
-  held_first : (image : ℕ → ℕ) → Holds settings image held → HoldsKept settings settings.limits.remembered from.time from.history image
-  held_first image holds = record { entries = held; holds = holds; calm = calm; kept = kept_refl settings.limits.remembered from.time held }
+  holds_first : (image : ℕ → ℕ) → Holds settings image held → HoldsKept settings settings.limits.remembered from.time from.history image
+  holds_first image holds = record { entries = held; holds = holds; calm = calm; kept = kept_refl settings.limits.remembered from.time held }
 
   lived_by : (trace : List State) (acts : List Timed) → (grows : (extra : List Entry) × (end.last.history ≡ held ++ extra)) → Ran settings from trace end how acts → NoneBefore (past_of between.media) acts
       → Survives settings from between.media now.media acts trace end.last.history → HasRun settings from how before now trace end acts
@@ -60,7 +60,7 @@ module _ (settings : SettingsValue) (held : List Entry) (how : Stop) (before bet
     laws = λ none. keeps_laws settings from acts trace end.last (story_trace settings (resting from) (resting end.last) acts trace (subst (λ e. Story settings (resting from) acts trace e) (resting_end end none) ran.run));
     survives = λ seen rests.
         survives_opening settings from before.media between.media now.media acts trace end.last.history grows.0 grows.1 late (Is seen) rests
-        (leaves_as before.media between.media (λ image. Holds settings image held) (HoldsKept settings settings.limits.remembered from.time from.history) held_first (opened seen rests)) survives;
+        (leaves_as before.media between.media (λ image. Holds settings image held) (HoldsKept settings settings.limits.remembered from.time from.history) holds_first (opened seen rests)) survives;
   }
 
   pub lives_from : (wrote : State → Type 0) → Came settings from how between.media now.media between.acts now.acts end → wrote end.last → RunsFrom settings held how before now wrote

@@ -21,8 +21,8 @@ use Rattle.dots_machine.specs.Report.{report_of}
 use Rattle.dots_run.specs.Scripted.{Replays, JoinsTexts}
 use Rattle.dots_run.proofs.Blank.{zeros_hold_nothing}
 
-abbrev pub standing_of : Option (List ℕ) → Option (List ℕ) → ℕ → Outer
-standing_of script held failures = record { script = script; held = held; failures = failures }
+abbrev pub outer_of : Option (List ℕ) → Option (List ℕ) → ℕ → Outer
+outer_of script held failures = record { script = script; held = held; failures = failures }
 
 all_added : (acts : List Timed) (P : List Timed → Type 0) → Added (Some []) (Some acts) P → P acts
 all_added acts P a = subst P (sym a.1) a.2
@@ -72,5 +72,5 @@ nothing_ahead None = refl
 nothing_ahead (Some text) = refl
 
 -- a host stands at first as its source and its sink do
-pub is_at_first : (left held : Option (List ℕ)) (failures : ℕ) → standing_of (to_come [] left) held failures ≡ standing_of left held failures
-is_at_first left held failures = ap (λ script. standing_of script held failures) (nothing_ahead left)
+pub is_at_first : (left held : Option (List ℕ)) (failures : ℕ) → outer_of (to_come [] left) held failures ≡ outer_of left held failures
+is_at_first left held failures = ap (λ script. outer_of script held failures) (nothing_ahead left)

@@ -35,8 +35,8 @@ fault_stays [] before after all split fault = split
 fault_stays (line ∷ lines) before after all split fault =
     absurd (stops_at_fault before fault line (with_feeds lines ++ after) (split ∙ append_assoc (with_feed line) (with_feeds lines) after) all.0 all.1)
 
-fault_kept : (lines : List (List ℕ)) (before after : List ℕ) → AreSkipped lines → before ≡ with_feeds lines ++ after → IsFault before → IsFault after
-fault_kept lines before after all split fault = subst IsFault (fault_stays lines before after all split fault) fault
+fault_behind : (lines : List (List ℕ)) (before after : List ℕ) → AreSkipped lines → before ≡ with_feeds lines ++ after → IsFault before → IsFault after
+fault_behind lines before after all split fault = subst IsFault (fault_stays lines before after all split fault) fault
 
 no_end : (at : ℕ) → event.Failed ≡ event.End → ⊥
 no_end at is = let one : 0 ≡ 1 = ap (λ e. length (event_in (took e at)) + number e) is in absurd (omega (arith, one))
@@ -54,7 +54,7 @@ pass_failed before after at other f =
       said = skipped_say lines f.2.skipped;
       ended = λ is. absurd (no_end at is);
       failed = λ _. elim f.3 [ inl full ↦ inr (inl (omega (arith, full, f.2.counted))) | inr rest ↦ elim rest [ inl fault ↦ inl fault | inr cause ↦ inr (inr cause) ] ];
-      fault = fault_kept lines before after f.2.skipped f.2.passed;
+      fault = fault_behind lines before after f.2.skipped f.2.passed;
     }
 
 pass_end : (before after : List ℕ) (at : ℕ) (other : Type 0) → Ends (Some before) (Some after) → Passing before after event.End at other
@@ -64,7 +64,7 @@ pass_end before after at other e = record {
   said = skipped_say e.2.lines e.2.skipped;
   ended = λ _. e.3;
   failed = λ is. absurd (no_end at (sym is));
-  fault = fault_kept e.2.lines before after e.2.skipped e.2.passed;
+  fault = fault_behind e.2.lines before after e.2.skipped e.2.passed;
 }
 
 no_taken : (before after : List ℕ) (got : Event) (at : ℕ) → Takes (Some before) (Some after) got at → IsFault before → ⊥
@@ -114,7 +114,7 @@ no_answer before event.Restart at other a = a.passed
 -- at a fault a call fails, and reads no further
 fault_known : (before after : List ℕ) (got : Event) (at : ℕ) (other : Type 0) → IsFault before → NextIs (Some before) (Some after) got at other → (got ≡ event.Failed) × (after ≡ before)
 fault_known before after event.Failed at other fault a = (refl, sym (fault_stays a.0.2.lines before after a.0.2.skipped a.0.2.passed fault))
-fault_known before after event.End at other fault a = absurd (no_fault_at_end after a.0.3 (fault_kept a.0.2.lines before after a.0.2.skipped a.0.2.passed fault))
+fault_known before after event.End at other fault a = absurd (no_fault_at_end after a.0.3 (fault_behind a.0.2.lines before after a.0.2.skipped a.0.2.passed fault))
 fault_known before after (event.Datagram peer bytes) at other fault a = absurd (no_taken before after _ at a fault)
 fault_known before after (event.Opened conn peer) at other fault a = absurd (no_taken before after _ at a fault)
 fault_known before after (event.Piece conn bytes) at other fault a = absurd (no_taken before after _ at a fault)
@@ -215,11 +215,11 @@ accounts_taken start old new before after moment now got at adds a later held h 
     } in
     subst (Accounts start new) (sym adds.0) all
 
-read_kept : (script rest : Option (List ℕ)) (other : Type 0) (acts : List Timed) (timed : Timed) (out : OwnedOut) (done : Bool) → timed.act ≡ gave out done
+read_unchanged : (script rest : Option (List ℕ)) (other : Type 0) (acts : List Timed) (timed : Timed) (out : OwnedOut) (done : Bool) → timed.act ≡ gave out done
     → HasReadKnown script rest other acts → HasReadKnown script rest other (acts ++ timed ∷ [])
-read_kept None rest other acts timed out done is h = tt
-read_kept (Some script) None other acts timed out done is h = h
-read_kept (Some script) (Some rest) other acts timed out done is h =
+read_unchanged None rest other acts timed out done is h = tt
+read_unchanged (Some script) None other acts timed out done is h = h
+read_unchanged (Some script) (Some rest) other acts timed out done is h =
     let same : events_among (acts ++ timed ∷ []) ≡ events_among acts = events_push acts timed ∙ ap (λ act. events_among acts ++ event_in act) is ∙ append-nil (events_among acts) in
     record {
       lines = h.lines;
@@ -251,7 +251,7 @@ pub accounts_given : (start old new : Outer) (before after : List Timed) (moment
     → new.script ≡ old.script → new.failures ≡ old.failures → Piece old.held new.held out result → Accounts start old before → Accounts start new after
 accounts_given start old new before after moment now out result adds script failures one h =
     let timed : Timed = record { moment = moment; act = gave out (is_done result) } in
-    let read = read_kept start.script old.script (Rose start.failures old.failures) before timed out (is_done result) refl h.read in
+    let read = read_unchanged start.script old.script (Rose start.failures old.failures) before timed out (is_done result) refl h.read in
     let all : Accounts start new (before ++ timed ∷ []) = record {
       later = omega (arith, failures, h.later);
       read = subst (λ (rest : Option (List ℕ)). HasReadKnown start.script rest (Rose start.failures new.failures) (before ++ timed ∷ [])) (sym script)

@@ -45,8 +45,8 @@ line_passes left ahead len has = known_front left ahead (with_feed (take len ahe
 pub skips_none : (a : Option (List ℕ)) → Skips a a 0
 skips_none a = record { lines = []; skipped = tt; counted = refl; passed = Consumes-nil a }
 
-pub skips_kept : (a b c : Option (List ℕ)) (count : ℕ) → Skips a b count → Keeps b c → Skips a c count
-skips_kept a b c count skips kept = record {
+pub skips_unchanged : (a b c : Option (List ℕ)) (count : ℕ) → Skips a b count → Keeps b c → Skips a c count
+skips_unchanged a b c count skips kept = record {
   lines = skips.lines;
   skipped = skips.skipped;
   counted = skips.counted;
@@ -70,10 +70,10 @@ skips_more a b left ahead len count skips kept has skip =
 -- what is found behind lines that are skipped
 pub reaches : (what : Found) (a b left : Option (List ℕ)) (ahead : List ℕ) (count : ℕ) (other : Type 0) → Skips a b count → count < 2 ^ 40 → Keeps b (to_come ahead left) → Finds what ahead left other
     → ((len : ℕ) → what ≡ found.Line len → ¬ (IsSkipped (take len ahead))) → Reaches a what ahead left other
-reaches (found.Line len) a b left ahead count other skips few kept finds unlike = (count, few, skips_kept a b _ count skips kept, finds, unlike len refl)
-reaches found.End a b left ahead count other skips few kept finds unlike = (count, few, skips_kept a b _ count skips kept, finds)
-reaches found.Fault a b left ahead count other skips few kept finds unlike = (count, omega arith, skips_kept a b _ count skips kept, inr finds)
-reaches found.Failed a b left ahead count other skips few kept finds unlike = (count, omega arith, skips_kept a b _ count skips kept, finds)
+reaches (found.Line len) a b left ahead count other skips few kept finds unlike = (count, few, skips_unchanged a b _ count skips kept, finds, unlike len refl)
+reaches found.End a b left ahead count other skips few kept finds unlike = (count, few, skips_unchanged a b _ count skips kept, finds)
+reaches found.Fault a b left ahead count other skips few kept finds unlike = (count, omega arith, skips_unchanged a b _ count skips kept, inr finds)
+reaches found.Failed a b left ahead count other skips few kept finds unlike = (count, omega arith, skips_unchanged a b _ count skips kept, finds)
 
 -- ---- what a call answers
 

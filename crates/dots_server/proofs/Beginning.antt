@@ -149,9 +149,9 @@ pub seen_of : (media : Option Media) (P : (ℕ → ℕ) → Type 0) → RestsWit
 seen_of None P rests = absurd rests
 seen_of (Some media) P rests = (media.now.seen, refl, (rests.0, refl), rests.1)
 
-pub same_held : (settings : SettingsValue) (media : Option Media) (value : JournalValue) (entries found : List Entry) → RestsWith media (journal.Represents value settings entries)
+pub same_found : (settings : SettingsValue) (media : Option Media) (value : JournalValue) (entries found : List Entry) → RestsWith media (journal.Represents value settings entries)
     → ((seen : ℕ → ℕ) → Sees media seen → Holds settings seen found) → found ≡ entries
-same_held settings media value entries found rests found_there =
+same_found settings media value entries found rests found_there =
     let (seen, sees, is, represents) = seen_of media (journal.Represents value settings entries) rests in
     one_history settings seen found entries (found_there seen sees) (represents_holds value settings entries seen represents)
 
@@ -179,7 +179,7 @@ module _ (settings given : SettingsValue) (same : given ≡ settings) (old : Ser
         → IsKept new settings (restarted state at) entries × RestsWith media_new (journal.Represents new.journal settings entries)
     found_same held begun found =
         let (seen, sees, is, represents) = seen_of media (journal.Represents old.journal settings entries) rests in
-        let one = same_held settings media old.journal entries held rests (λ seen sees. (found seen sees).0) in (
+        let one = same_found settings media old.journal entries held rests (λ seen sees. (found seen sees).0) in (
           restarted_kept settings at old new state entries kept (subst (λ es. IsKept new settings (restarted (begun_from es) at) es) one begun),
           subst (λ es. RestsWith media_new (journal.Represents new.journal settings es)) one (found seen sees).1,
         )

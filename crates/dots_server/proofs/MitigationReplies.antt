@@ -13,20 +13,20 @@ use Rattle.dots_machine.specs.Replies.{mitigation_fields, with_body, absent}
 use Rattle.dots_machine.specs.Mitigations.{is_wanted, get_reply}
 
 module _ (content : Content) (wanted : Option ℕ) where
-  abbrev told_of : List LiveView → List Tree
-  told_of ms = map (mitigation_fields content) (filter (is_wanted wanted) ms)
+  abbrev trees_of_rows : List LiveView → List Tree
+  trees_of_rows ms = map (mitigation_fields content) (filter (is_wanted wanted) ms)
 
-  one_and_others : (row : LiveView) (rest : List LiveView) → told_of (row ∷ rest) ≡ told_of (row ∷ []) ++ told_of rest
+  one_and_others : (row : LiveView) (rest : List LiveView) → trees_of_rows (row ∷ rest) ≡ trees_of_rows (row ∷ []) ++ trees_of_rows rest
   one_and_others row rest = by_test (is_wanted wanted row)
     where
-      by_test : (b : Bool) → map (mitigation_fields content) (cond b (row ∷ filter (is_wanted wanted) rest) (filter (is_wanted wanted) rest)) ≡ map (mitigation_fields content) (cond b (row ∷ []) []) ++ told_of rest
+      by_test : (b : Bool) → map (mitigation_fields content) (cond b (row ∷ filter (is_wanted wanted) rest) (filter (is_wanted wanted) rest)) ≡ map (mitigation_fields content) (cond b (row ∷ []) []) ++ trees_of_rows rest
       by_test true = refl
       by_test false = refl
 
   -- one more is told
-  pub told_more : (old new : List Tree) (row : LiveView) (left rest : List LiveView) → left ≡ row ∷ rest → new ≡ old ++ told_of (row ∷ []) → old ++ told_of left ≡ new ++ told_of rest
-  told_more old new row left rest is pushed =
-      ap (λ ms. old ++ told_of ms) is ∙ ap (λ ts. old ++ ts) (one_and_others row rest) ∙ sym (append_assoc old (told_of (row ∷ [])) (told_of rest)) ∙ ap (λ ts. ts ++ told_of rest) (sym pushed)
+  pub trees_more : (old new : List Tree) (row : LiveView) (left rest : List LiveView) → left ≡ row ∷ rest → new ≡ old ++ trees_of_rows (row ∷ []) → old ++ trees_of_rows left ≡ new ++ trees_of_rows rest
+  trees_more old new row left rest is pushed =
+      ap (λ ms. old ++ trees_of_rows ms) is ∙ ap (λ ts. old ++ ts) (one_and_others row rest) ∙ sym (append_assoc old (trees_of_rows (row ∷ [])) (trees_of_rows rest)) ∙ ap (λ ts. ts ++ trees_of_rows rest) (sym pushed)
 
 -- what is told of those that there are, and where there is none
 pub tells_some : (x : Exchange) (content : Content) (ms : List LiveView) (views : List MitigationView) → map scope_of views ≡ map (mitigation_fields content) ms → views ≢ []

@@ -29,7 +29,7 @@ use Rattle.dots_machine.specs.Endings.{Stops, IsSettled}
 use Rattle.dots_machine.specs.Machine.{State, restarted, Step}
 use Rattle.dots_server.specs.ServerValues.{ServerValue, IsKept}
 use Rattle.dots_server.specs.Turning.{IsServed, HoldsTurn}
-use Rattle.dots_server.proofs.Turning.{kept_still, added_behind}
+use Rattle.dots_server.proofs.Turning.{keeps_itself, added_behind}
 use Rattle.dots_server.specs.Running.{StopsFor}
 use Rattle.dots_server.specs.Taking.{IsTaken, MayStop, Took, StoppedAt}
 use Rattle.dots_server.proofs.Turns.{go_on_then}
@@ -65,7 +65,7 @@ module _ (settings : SettingsValue) (state : State) (at : ℕ) (old : ServerValu
         gives = added_behind acts acts_new acts_new (Gives moment []) silent (added_none acts_new (Gives moment []) tt);
         writes = restart_writes;
         rests = λ rests. rests_new;
-        sends = kept_still media_new;
+        sends = keeps_itself media_new;
       };
     }
 

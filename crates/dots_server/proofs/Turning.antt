@@ -15,9 +15,9 @@ use Rattle.dots_machine.specs.Machine.{State, later, with_entry}
 use Rattle.dots_server.specs.Turning.{HoldsTurn, Turned, Broke}
 
 -- where nothing was written the disk is as it was, at each moment of none
-pub kept_still : (media : Option Media) → KeepsMedia media media
-kept_still None = tt
-kept_still (Some media) = ([], sym (append-nil _), tt, refl)
+pub keeps_itself : (media : Option Media) → KeepsMedia media media
+keeps_itself None = tt
+keeps_itself (Some media) = ([], sym (append-nil _), tt, refl)
 
 -- acts that no call of the disk added to
 pub none_added : (a b : Option (List Timed)) → KeepsActs a b → Added a b (λ more. more ≡ [])
@@ -44,7 +44,7 @@ module _ (settings : SettingsValue) (old new : State) (outs : List OwnedOut) (Be
 -- nothing is sent, and nothing is written
 pub silent : (settings : SettingsValue) (old new : State) (Before : (ℕ → ℕ) → Type 0) (media : Option Media) (moment : ℕ) (acts : Option (List Timed)) → IsMoment moment media
     → Turned settings old new [] Before Before media media acts acts
-silent settings old new Before media moment acts at = unwritten settings old new [] Before media media moment acts acts at (added_none acts (Gives moment []) tt) (kept_still media)
+silent settings old new Before media moment acts at = unwritten settings old new [] Before media media moment acts acts at (added_none acts (Gives moment []) tt) (keeps_itself media)
 
 -- what a ledger leaves while it accepts an entry at the time of the state
 pub accepting : (settings : SettingsValue) (n t : ℕ) (state : State) (entry : Entry) (old new : Option Media) → n ≡ settings.limits.remembered → t ≡ state.time → entry.time ≡ state.time

@@ -71,8 +71,8 @@ module _ (settings : SettingsValue) where
   abbrev owing : State → List (State × OwnedOut) → Owing State
   owing state owed = record { last = state; owed = owed }
 
-  abbrev Held : ℕ → List Entry → (ℕ → ℕ) → Type 0
-  Held t history image = HoldsKept settings settings.limits.remembered t history image
+  abbrev HoldsFrom : ℕ → List Entry → (ℕ → ℕ) → Type 0
+  HoldsFrom t history image = HoldsKept settings settings.limits.remembered t history image
 
   abbrev timed_at : ℕ → Event → ℕ → Timed
   timed_at moment what at = record { moment = moment; act = took what at }
@@ -110,7 +110,7 @@ module _ (settings : SettingsValue) where
   }
 
   module _ (from old new : State) (n moment at : ℕ) (what : Event) (owed : List (State × OwnedOut)) (trace : List State) (media a b : Option Media)
-      (step : Step settings old what at owed new) (here : IsMoment moment a) (rests : RestsWith a (Held new.time old.history)) (keeps : KeepsMedia a b) where
+      (step : Step settings old what at owed new) (here : IsMoment moment a) (rests : RestsWith a (HoldsFrom new.time old.history)) (keeps : KeepsMedia a b) where
     pub grows_on : (extra : List Entry) × (old.history ≡ from.history ++ extra) → (extra : List Entry) × (new.history ≡ from.history ++ extra)
     grows_on before =
         let grown = step_grows settings old what at owed new step in
@@ -121,17 +121,17 @@ module _ (settings : SettingsValue) where
 
     -- one more turn of the loop
     lives_then : (c d : Option Media) (next : ℕ) (front acts : List Timed) → IsNoEnd (took what at) → RunsTo settings from old n media a trace front → Gives next (outs_of owed) acts
-        → IsMoment next c → Leaves b c (HoldsTurn settings old new) → RestsWith c (Held new.time new.history) → KeepsMedia c d
+        → IsMoment next c → Leaves b c (HoldsTurn settings old new) → RestsWith c (HoldsFrom new.time new.history) → KeepsMedia c d
         → RunsTo settings from new (n + 1) media d (trace ++ (new ∷ told_by owed)) (front ++ (timed_at moment what at ∷ acts))
     lives_then c d next front acts goes lives g at_c writes rests_c sends =
         let same = story_length settings (resting from) (resting old) front trace lives.story in
         let count = lives.count in
         let grown = step_grows settings old what at owed new step in
         let few = step_tells settings old what at owed new step in
-        let past_a = moment_past moment a (Held new.time old.history) rests here in
-        let past_c = moment_past next c (Held new.time new.history) rests_c at_c in
+        let past_a = moment_past moment a (HoldsFrom new.time old.history) rests here in
+        let past_c = moment_past next c (HoldsFrom new.time new.history) rests_c at_c in
         let first = past_start media a front lives in
-        let later = later_past a b c (Held new.time old.history) (HoldsTurn settings old new) rests keeps writes in
+        let later = later_past a b c (HoldsFrom new.time old.history) (HoldsTurn settings old new) rests keeps writes in
         let written = survives_writing settings from front trace same moment at what new acts owed old grown few lives.bounded media a b c next past_a (omega (arith, past_c)) g lives.survives rests keeps writes in
         record {
           story = story_then settings (resting from) (resting old) (resting new) front _ trace (new ∷ told_by owed) lives.story (event_story old new moment next what at owed acts step g);
@@ -145,7 +145,7 @@ module _ (settings : SettingsValue) where
 
     pub turned : (d : Option Media) (Before After : (ℕ → ℕ) → Type 0) (now : ℕ) (xs ys zs ws : Option (List Timed)) → IsNoEnd (took what at) → Added xs ys (RunsTo settings from old n media a trace)
         → Adds ys moment zs now (took what at) → (turn : Turned settings old new (outs_of owed) Before After b d zs ws) → RestsWith b Before
-        → (RestsWith turn.between After → RestsWith turn.between (Held new.time new.history))
+        → (RestsWith turn.between After → RestsWith turn.between (HoldsFrom new.time new.history))
         → Added xs ws (RunsTo settings from new (n + 1) media d (trace ++ (new ∷ told_by owed)))
     turned d Before After now xs ys zs ws goes lives took_it turn rests_b holds =
         let timed : Timed = timed_at moment what at in
@@ -164,7 +164,7 @@ module _ (settings : SettingsValue) where
     ends_then c how front stops lives writes =
         let same = story_length settings (resting from) (resting old) front trace lives.story in
         let grown = step_grows settings old what at owed new step in
-        let past_a = moment_past moment a (Held new.time old.history) rests here in
+        let past_a = moment_past moment a (HoldsFrom new.time old.history) rests here in
         let first = past_start media a front lives in (
           record {
             run = story_then settings (resting from) (resting old) (owing new owed) front _ trace (new ∷ []) lives.story (taken_story old new moment what at owed step);

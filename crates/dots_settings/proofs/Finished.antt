@@ -22,16 +22,16 @@ pub mapped_length : {A B : Type 0} (f : A → B) (xs : List A) → length (map f
 mapped_length f [] = refl
 mapped_length f (x ∷ xs) = ap suc (mapped_length f xs)
 
-mapped_kept : {A B : Type 0} (f : A → B) (p : B → Bool) (xs : List A) → length (filter p (map f xs)) ≡ length (filter (λ x. p (f x)) xs)
-mapped_kept f p [] = refl
-mapped_kept f p (x ∷ xs) = by (mapped_kept f p xs) (p (f x))
+mapped_filter : {A B : Type 0} (f : A → B) (p : B → Bool) (xs : List A) → length (filter p (map f xs)) ≡ length (filter (λ x. p (f x)) xs)
+mapped_filter f p [] = refl
+mapped_filter f p (x ∷ xs) = by (mapped_filter f p xs) (p (f x))
   where
     by : length (filter p (map f xs)) ≡ length (filter (λ y. p (f y)) xs) → (b : Bool) → length (cond b (f x ∷ filter p (map f xs)) (filter p (map f xs))) ≡ length (cond b (x ∷ filter (λ y. p (f y)) xs) (filter (λ y. p (f y)) xs))
     by rest true = ap suc rest
     by rest false = rest
 
 mapped_count : {A B : Type 0} (f : A → B) (p : B → Bool) (xs : List A) → count_by p (map f xs) ≡ count_by (λ x. p (f x)) xs
-mapped_count f p xs = sym (length-filter p (map f xs)) ∙ mapped_kept f p xs ∙ length-filter (λ x. p (f x)) xs
+mapped_count f p xs = sym (length-filter p (map f xs)) ∙ mapped_filter f p xs ∙ length-filter (λ x. p (f x)) xs
 
 mapped_all : {A B : Type 0} (f : A → B) (P : B → Type 0) (xs : List A) → AllByRecursion (λ x. P (f x)) xs → AllByRecursion P (map f xs)
 mapped_all f P [] all = tt

@@ -85,9 +85,9 @@ no_fault_here front front' number number' line form why rows place says none (in
     none_some why (sym none ∙ (λ i. fault_of (draft_of (rows i)) (place i) (says_once line form form' says says' i)) ∙ faulty)
 
 -- a line among others that stand has no fault
-stands_there : (before : List (List ℕ)) (line : List ℕ) (behind : List (List ℕ)) (rows front : List Row) (why : SettingsFault) → Stand (before ++ line ∷ behind) rows → Stand before front
+no_fault_there : (before : List (List ℕ)) (line : List ℕ) (behind : List (List ℕ)) (rows front : List Row) (why : SettingsFault) → Stand (before ++ line ∷ behind) rows → Stand before front
     → HasFault front (length before + 1) line why → ⊥
-stands_there before line behind rows front why stand stand_front at_fault = by (row_at 1 before line behind rows stand.read)
+no_fault_there before line behind rows front why stand stand_front at_fault = by (row_at 1 before line behind rows stand.read)
   where
     by : HasRowAt 1 before line rows → ⊥
     by at = here (is_skipped line) refl at.here
@@ -114,7 +114,7 @@ no_settings_at_fault file settings why are fail = by (is_past file fail.behind) 
     by : (b : Bool) → is_past file fail.behind ≡ b → MatchBool b (why ≡ fault.Capacity (length fail.before + 1)) (HasFault fail.rows (length fail.before + 1) fail.line why) → ⊥
     by true e at_fault = long_or_not (length file) (not_behind file fail.behind e).1 are.short
     by false e at_fault =
-        stands_there fail.before fail.line fail.behind are.rows fail.rows why (subst (λ (lines : List (List ℕ)). Stand lines are.rows) fail.split are.stand) fail.stand at_fault
+        no_fault_there fail.before fail.line fail.behind are.rows fail.rows why (subst (λ (lines : List (List ℕ)). Stand lines are.rows) fail.split are.stand) fail.stand at_fault
 
 pub one_settings : (file : List ℕ) (one other : SettingsValue) → SettingsAre file one → SettingsAre file other → one ≡ other
 one_settings file one other x y = x.given ∙ ap settings_of (rows_once 1 (lines_of (content_of file)) x.rows y.rows x.stand.read y.stand.read) ∙ sym y.given
@@ -155,14 +155,14 @@ own_fault file why fail between line' behind' more = rw (more_behind between) at
 -- no line in front of a failing one fails
 not_earlier : (file : List ℕ) (one other : SettingsFault) (x : SettingsFail file one) (y : SettingsFail file other) (between : List (List ℕ)) → y.before ≡ x.before ++ x.line ∷ between → x.behind ≡ between ++ y.line ∷ y.behind → ⊥
 not_earlier file one other x y between before behind =
-    stands_there x.before x.line between y.rows x.rows one (subst (λ (lines : List (List ℕ)). Stand lines y.rows) before y.stand) x.stand (own_fault file one x between y.line y.behind behind)
+    no_fault_there x.before x.line between y.rows x.rows one (subst (λ (lines : List (List ℕ)). Stand lines y.rows) before y.stand) x.stand (own_fault file one x between y.line y.behind behind)
 
-one_told : (front front' : List Row) (number number' : ℕ) (line line' : List ℕ) (one other : SettingsFault) → front ≡ front' → number ≡ number' → line ≡ line'
+faults_agree : (front front' : List Row) (number number' : ℕ) (line line' : List ℕ) (one other : SettingsFault) → front ≡ front' → number ≡ number' → line ≡ line'
     → HasFault front number line one → HasFault front' number' line' other → one ≡ other
-one_told front front' number number' line line' one other rows place text (inl (u, none, is)) (inl (u', none', is')) = is ∙ ap fault.Line place ∙ sym is'
-one_told front front' number number' line line' one other rows place text (inl (u, none, is)) (inr (u', form, says, is')) = absurd (none form (subst (λ (l : List ℕ). Says l form) (sym text) says))
-one_told front front' number number' line line' one other rows place text (inr (u, form, says, is)) (inl (u', none, is')) = absurd (none form (subst (λ (l : List ℕ). Says l form) text says))
-one_told front front' number number' line line' one other rows place text (inr (u, form, says, is)) (inr (u', form', says', is')) =
+faults_agree front front' number number' line line' one other rows place text (inl (u, none, is)) (inl (u', none', is')) = is ∙ ap fault.Line place ∙ sym is'
+faults_agree front front' number number' line line' one other rows place text (inl (u, none, is)) (inr (u', form, says, is')) = absurd (none form (subst (λ (l : List ℕ). Says l form) (sym text) says))
+faults_agree front front' number number' line line' one other rows place text (inr (u, form, says, is)) (inl (u', none, is')) = absurd (none form (subst (λ (l : List ℕ). Says l form) text says))
+faults_agree front front' number number' line line' one other rows place text (inr (u, form, says, is)) (inr (u', form', says', is')) =
     same_some one other (sym is ∙ (λ i. fault_of (draft_of (rows i)) (place i) (says_once line form form' says (subst (λ (l : List ℕ). Says l form') (sym text) says') i)) ∙ is')
   where
     same_some : (a b : SettingsFault) → Some a ≡ Some b → a ≡ b
@@ -182,7 +182,7 @@ same_place file one other x y before line behind = by (is_past file x.behind) (i
     by true true e at at' = at ∙ ap fault.Capacity number ∙ sym at'
     by true false e at at' = absurd (true≢false e)
     by false true e at at' = absurd (true≢false (sym e))
-    by false false e at at' = one_told x.rows y.rows (length x.before + 1) (length y.before + 1) x.line y.line one other rows number line at at'
+    by false false e at at' = faults_agree x.rows y.rows (length x.before + 1) (length y.before + 1) x.line y.line one other rows number line at at'
 
 pub one_fault : (file : List ℕ) (one other : SettingsFault) → SettingsFail file one → SettingsFail file other → one ≡ other
 one_fault file one other x y = by (places x.before x.line x.behind y.before y.line y.behind (sym x.split ∙ y.split))

@@ -42,14 +42,14 @@ pushed_at_most p xs x most few room = by (p x) refl
     by true e = omega (arith, count_yes p xs x e, room e)
     by false e = omega (arith, count_no p xs x e)
 
-none_kept : {A : Type 0} (p : A → Bool) (xs : List A) → list_any p xs ≡ false → length (filter p xs) ≡ 0
-none_kept p [] none = refl
-none_kept p (x ∷ xs) none =
+none_pass : {A : Type 0} (p : A → Bool) (xs : List A) → list_any p xs ≡ false → length (filter p xs) ≡ 0
+none_pass p [] none = refl
+none_pass p (x ∷ xs) none =
     let parts = both_false (p x) (list_any p xs) none in
-    ap (λ b. length (cond b (x ∷ filter p xs) (filter p xs))) parts.0 ∙ none_kept p xs parts.1
+    ap (λ b. length (cond b (x ∷ filter p xs) (filter p xs))) parts.0 ∙ none_pass p xs parts.1
 
 none_counted : {A : Type 0} (p : A → Bool) (xs : List A) → list_any p xs ≡ false → count_by p xs ≡ 0
-none_counted p xs none = sym (length-filter p xs) ∙ none_kept p xs none
+none_counted p xs none = sym (length-filter p xs) ∙ none_pass p xs none
 
 or_true : (b : Bool) → (b || true) ≡ true
 or_true true = refl

@@ -117,28 +117,28 @@ more_broken bytes e b rest may is =
 
 -- ---- what reading says
 
-abbrev Told : List ℕ → Result Entry ℕ → Type 0
-Told bytes (Ok e) = IsRecord bytes e
-Told bytes (Err at) = IsBroken bytes at
+abbrev IsJudged : List ℕ → Result Entry ℕ → Type 0
+IsJudged bytes (Ok e) = IsRecord bytes e
+IsJudged bytes (Err at) = IsBroken bytes at
 
-told_end : (bytes : List ℕ) (e : Entry) (rest : List ℕ) → MayBe e → bytes ≡ record_bytes e ++ rest → Told bytes (alone (length bytes) (e, rest))
-told_end bytes e [] may is = record_of bytes e may (is ∙ append-nil (record_bytes e))
-told_end bytes e (b ∷ rest) may is =
+judged_end : (bytes : List ℕ) (e : Entry) (rest : List ℕ) → MayBe e → bytes ≡ record_bytes e ++ rest → IsJudged bytes (alone (length bytes) (e, rest))
+judged_end bytes e [] may is = record_of bytes e may (is ∙ append-nil (record_bytes e))
+judged_end bytes e (b ∷ rest) may is =
     let some : (suc (length rest) == 0) ≡ false = grind (arith, nat_tests) in
-    subst (λ (v : Bool). Told bytes (if v then Ok e else Err (length bytes - length (b ∷ rest)))) (sym some) (more_broken bytes e b rest may is)
+    subst (λ (v : Bool). IsJudged bytes (if v then Ok e else Err (length bytes - length (b ∷ rest)))) (sym some) (more_broken bytes e b rest may is)
 
-told_read : (bytes : List ℕ) (r : Read Entry) → entry_at (length bytes) bytes ≡ r → Sound MayBe record_bytes entry_at (length bytes) bytes r → Told bytes (r >>= alone (length bytes))
-told_read bytes (Ok x) is s = told_end bytes x.0 x.1 s.0 s.1
-told_read bytes (Err at) is s = stuck_broken bytes at s (ap (λ r. r >>= alone (length bytes)) is)
+judged_read : (bytes : List ℕ) (r : Read Entry) → entry_at (length bytes) bytes ≡ r → Sound MayBe record_bytes entry_at (length bytes) bytes r → IsJudged bytes (r >>= alone (length bytes))
+judged_read bytes (Ok x) is s = judged_end bytes x.0 x.1 s.0 s.1
+judged_read bytes (Err at) is s = stuck_broken bytes at s (ap (λ r. r >>= alone (length bytes)) is)
 
-told : (bytes : List ℕ) → AreBytes bytes → Told bytes (record_at bytes)
-told bytes fits = told_read bytes (entry_at (length bytes) bytes) refl (entry_reader.sound (length bytes) bytes fits)
+judged : (bytes : List ℕ) → AreBytes bytes → IsJudged bytes (record_at bytes)
+judged bytes fits = judged_read bytes (entry_at (length bytes) bytes) refl (entry_reader.sound (length bytes) bytes fits)
 
 pub read_is : (bytes : List ℕ) (e : Entry) → AreBytes bytes → record_at bytes ≡ Ok e → IsRecord bytes e
-read_is bytes e fits is = subst (Told bytes) is (told bytes fits)
+read_is bytes e fits is = subst (IsJudged bytes) is (judged bytes fits)
 
 pub broken_is : (bytes : List ℕ) (at : ℕ) → AreBytes bytes → record_at bytes ≡ Err at → IsBroken bytes at
-broken_is bytes at fits is = subst (Told bytes) is (told bytes fits)
+broken_is bytes at fits is = subst (IsJudged bytes) is (judged bytes fits)
 
 -- ---- one place
 
@@ -166,12 +166,12 @@ one_place bytes at other here there =
       | inr least ↦ elim (cases_lt other at) as (λ _. at ≡ other) [ inl less ↦ not_later bytes other at there here less | inr most ↦ omega (arith, least, most) ]
     ]
 
-first_of : (bytes : List ℕ) (at : ℕ) → IsBroken bytes at → (r : Result Entry ℕ) → Told bytes r → r ≡ Err at
+first_of : (bytes : List ℕ) (at : ℕ) → IsBroken bytes at → (r : Result Entry ℕ) → IsJudged bytes r → r ≡ Err at
 first_of bytes at is (Ok e) rec = whole_before bytes at is (e, rec)
 first_of bytes at is (Err other) there = ap (λ (n : ℕ). Err n) (one_place bytes other at there is)
 
 pub read_broken : (bytes : List ℕ) (at : ℕ) → AreBytes bytes → IsBroken bytes at → record_at bytes ≡ Err at
-read_broken bytes at fits is = first_of bytes at is (record_at bytes) (told bytes fits)
+read_broken bytes at fits is = first_of bytes at is (record_at bytes) (judged bytes fits)
 
 -- ---- one record
 
@@ -187,9 +187,9 @@ same_rest r e f more first next = ap rest_of (sym first ∙ next)
 pub no_more : (bytes more : List ℕ) → IsSomeRecord bytes → IsSomeRecord (bytes ++ more) → more ≡ []
 no_more bytes more some longer = same_rest (entry_at 0 (bytes ++ more)) some.0 longer.0 more (read_whole 0 bytes more some.0 some.1) (read_alone (bytes ++ more) longer)
 
-either_told : (bytes : List ℕ) (r : Result Entry ℕ) → Told bytes r → IsSomeRecord bytes ⊎ ((at : ℕ) × IsBroken bytes at)
-either_told bytes (Ok e) rec = inl (e, rec)
-either_told bytes (Err at) broken = inr (at, broken)
+either_judged : (bytes : List ℕ) (r : Result Entry ℕ) → IsJudged bytes r → IsSomeRecord bytes ⊎ ((at : ℕ) × IsBroken bytes at)
+either_judged bytes (Ok e) rec = inl (e, rec)
+either_judged bytes (Err at) broken = inr (at, broken)
 
 pub either_of : (bytes : List ℕ) → AreBytes bytes → IsSomeRecord bytes ⊎ ((at : ℕ) × IsBroken bytes at)
-either_of bytes fits = either_told bytes (record_at bytes) (told bytes fits)
+either_of bytes fits = either_judged bytes (record_at bytes) (judged bytes fits)

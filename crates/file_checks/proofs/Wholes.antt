@@ -21,8 +21,8 @@ again : (file : List ℕ) → content_of (content_of file) ≡ content_of file
 again file = take_all (2 ^ 16 + 1) (content_of file) (omega (arith, length-take (2 ^ 16 + 1) file))
 
 -- that bytes which are read whole have this fault
-pub fault_told : (content text : List ℕ) (told : SettingsFault) → length content ≤ 2 ^ 16 + 1 → SettingsFail content told → text ≡ fault_report content told → ChecksSettings content (checked.AtFault text)
-fault_told content text told short fails is =
+pub fault_reported : (content text : List ℕ) (told : SettingsFault) → length content ≤ 2 ^ 16 + 1 → SettingsFail content told → text ≡ fault_report content told → ChecksSettings content (checked.AtFault text)
+fault_reported content text told short fails is =
     (told, fails, is ∙ ap (λ (bytes : List ℕ). fault_report bytes told) (sym (take_all (2 ^ 16 + 1) content short)))
 
 -- what is told of the bytes of a file that are read is told of the file

@@ -71,11 +71,11 @@ best-covering packet rows (r ∷ rs) =
 
 -- ---- each row
 
-only_held : (active held rest : Bool) (mid : ℕ) → cond held (cond (active && (held && rest)) (Some mid) None) None ≡ cond (active && (held && rest)) (Some mid) None
-only_held true true rest mid = refl
-only_held true false rest mid = refl
-only_held false true rest mid = refl
-only_held false false rest mid = refl
+active_once : (active held rest : Bool) (mid : ℕ) → cond held (cond (active && (held && rest)) (Some mid) None) None ≡ cond (active && (held && rest)) (Some mid) None
+active_once true true rest mid = refl
+active_once true false rest mid = refl
+active_once false true rest mid = refl
+active_once false false rest mid = refl
 
 row_mid : (packet : Packet) (rows : List (Option ScrubRow)) (scrub : HeldScrub) → IsStored rows scrub
     → covered packet rows (rank_of scrub) ≡ cond (scrubs packet scrub.row) (Some scrub.row.mid) None
@@ -83,7 +83,7 @@ row_mid packet rows scrub stored =
     ap (λ (v : Bool). cond v (mid_in packet rows scrub.slot) None)
     (cover_by scrub.row.prefix.family packet.destination.family scrub.row.prefix.length scrub.row.prefix.number packet.destination.number scrub.place scrub.slot stored.prefix.length stored.prefix.host_bits)
     ∙ ap (λ r. cond (holds scrub.row.prefix packet.destination.family packet.destination.number) (mid_of packet r) None) stored.is
-    ∙ only_held scrub.row.active (holds scrub.row.prefix packet.destination.family packet.destination.number) (has_protocol scrub.row.protocols packet && has_port scrub.row.ports packet.ports) scrub.row.mid
+    ∙ active_once scrub.row.active (holds scrub.row.prefix packet.destination.family packet.destination.number) (has_protocol scrub.row.protocols packet && has_port scrub.row.ports packet.ports) scrub.row.mid
 
 one_greatest : (packet : Packet) (h : HeldScrub) (held : List HeldScrub) (v : Bool) → scrubs packet h.row ≡ v
     → greater_of (cond (scrubs packet h.row) (Some h.row.mid) None) (scrubbing_mid packet (map row_of_scrub held)) ≡ scrubbing_mid packet (map row_of_scrub (h ∷ held))

@@ -91,14 +91,14 @@ own_loss change.Lost of = refl
 own_loss c of = and_none (is_held c)
 
 -- what a change of its peer makes of it
-told : (c : Change) (before : Bool) → ((not (is_loss c) && before) || is_lost c) ≡ lost_after c before
+loss_after : (c : Change) (before : Bool) → ((not (is_loss c) && before) || is_lost c) ≡ lost_after c before
 unfolding is_loss is_lost
-told change.Lost before = refl
-told change.Back before = refl
-told _ before = or_no before false refl
+loss_after change.Lost before = refl
+loss_after change.Back before = refl
+loss_after _ before = or_no before false refl
 
 by_own : (own : Bool) (c : Change) (before : Bool) → ((not (own && is_loss c) && before) || (is_lost c && own)) ≡ cond own (lost_after c before) before
-by_own true c before = ap (λ b. (not (is_loss c) && before) || b) (and_all (is_lost c)) ∙ told c before
+by_own true c before = ap (λ b. (not (is_loss c) && before) || b) (and_all (is_lost c)) ∙ loss_after c before
 by_own false c before = ap (λ b. before || b) (and_none (is_lost c)) ∙ or_no before false refl
 
 pub lost_with : (peer domain : ℕ) (e : Entry) (es : List Entry)
@@ -236,9 +236,9 @@ lost_push : (peer domain : ℕ) (e : Entry) (es : List Entry)
     → is_lost_in (held (es ++ e ∷ [])) peer domain ≡ step peer domain (is_lost_in (held es) peer domain) e
 lost_push peer domain e es = ap (λ held_now. is_lost_in held_now peer domain) (held_push e es) ∙ lost_with peer domain e (held es)
 
-pub lost_told : (peer domain : ℕ) (e : Entry) (es : List Entry) → loses_as e (peer, domain) ≡ true
+pub lost_changed : (peer domain : ℕ) (e : Entry) (es : List Entry) → loses_as e (peer, domain) ≡ true
     → is_lost_in (held (es ++ e ∷ [])) peer domain ≡ lost_after e.change (is_lost_in (held es) peer domain)
-lost_told peer domain e es own =
+lost_changed peer domain e es own =
     let before = is_lost_in (held es) peer domain in
     lost_push peer domain e es ∙ cond-true (loses_as e (peer, domain)) (lost_after e.change before) before own
 

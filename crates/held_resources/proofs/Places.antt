@@ -272,14 +272,14 @@ length_filtered test (x ∷ xs) =
     cond_both (test x) (x ∷ filter test xs) (filter test xs) (λ ys. length ys ≤ length (x ∷ xs)) (λ is. omega (arith, go)) (λ out. omega (arith, go))
 
 -- one that doesn't register adds no client
-pub number_kept : (rooms : Rooms) (peer : ℕ) (cuid : List ℕ) (c : Change) (list spare : List Holding) → length list + length spare ≡ rooms.clients
+pub number_within : (rooms : Rooms) (peer : ℕ) (cuid : List ℕ) (c : Change) (list spare : List Holding) → length list + length spare ≡ rooms.clients
     → is_registration c ≡ false → nat_le (length (list_with rooms peer cuid c list)) rooms.clients ≡ true
 unfolding is_registration
-number_kept rooms peer cuid change.Register list spare sum out = absurd (false≢true (sym out))
-number_kept rooms peer cuid change.Deregister list spare sum out =
+number_within rooms peer cuid change.Register list spare sum out = absurd (false≢true (sym out))
+number_within rooms peer cuid change.Deregister list spare sum out =
     let few = length_filtered (λ h. not (has_cuid cuid h)) list in
     le-leb (length (filter (λ h. not (has_cuid cuid h)) list)) rooms.clients (omega (arith, few, sum))
-number_kept rooms peer cuid c list spare sum out =
+number_within rooms peer cuid c list spare sum out =
     let same = length-map list (changed cuid c) in
     le-leb (length (map (changed cuid c) list)) rooms.clients (omega (arith, same, sum))
 

@@ -88,10 +88,10 @@ module _ {A : Type 0} (pick : Change → Option A) (undone : A → Change → Bo
   passes client e a = not (is_of client e && undone a e.change)
 
   -- what of it is left
-  kept_of : (client : Client) (e : Entry) (xs : List Entry)
+  written_without : (client : Client) (e : Entry) (xs : List Entry)
       → written pick client (filter (λ x. not (undoes x e)) xs) ≡ filter (λ a. not (is_of client e && undone a e.change)) (written pick client xs)
-  kept_of client e [] = refl
-  kept_of client e (x ∷ xs) = by_one (one client x) refl (kept_of client e xs)
+  written_without client e [] = refl
+  written_without client e (x ∷ xs) = by_one (one client x) refl (written_without client e xs)
     where
       by_one : (o : Option A) → one client x ≡ o
           → written pick client (filter (λ x. not (undoes x e)) xs) ≡ filter (passes client e) (written pick client xs)
@@ -141,7 +141,7 @@ module _ {A : Type 0} (pick : Change → Option A) (undone : A → Change → Bo
       → written pick client (held_with e es) ≡ filter (λ a. not (is_of client e && undone a e.change)) (written pick client es) ++ option_to_list (one client e)
   with_any client e es =
       written-append client (filter (λ x. not (undoes x e)) es) (cond (is_held e.change) (e ∷ []) [])
-      ∙ ap (λ given. given ++ written pick client (cond (is_held e.change) (e ∷ []) [])) (kept_of client e es)
+      ∙ ap (λ given. given ++ written pick client (cond (is_held e.change) (e ∷ []) [])) (written_without client e es)
       ∙ ap (λ given. filter (λ a. not (is_of client e && undone a e.change)) (written pick client es) ++ given) (tail_is client e)
 
   pub with_own : (client : Client) (e : Entry) (es : List Entry) → is_of client e ≡ true

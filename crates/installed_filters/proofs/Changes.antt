@@ -56,22 +56,22 @@ pub drops_all : (acls : List Acl) (e : Entry) (filters new : FiltersValue) → e
 drops_all acls e filters new is made mitigating =
     made ∙ ap (λ c. with_rows filters filters.scrubs (acls_by mitigating acls e c filters.acls)) (sym is)
 
-abbrev pub leaves_lists : Change → Bool
-leaves_lists (change.SetAcl acl) = false
-leaves_lists (change.DropAcl name) = false
-leaves_lists change.Deregister = false
-leaves_lists _ = true
+abbrev pub spares_lists : Change → Bool
+spares_lists (change.SetAcl acl) = false
+spares_lists (change.DropAcl name) = false
+spares_lists change.Deregister = false
+spares_lists _ = true
 
-left_lists : (mitigating : Bool) (acls : List Acl) (e : Entry) (c : Change) (rows : List AclRow) → leaves_lists c ≡ true → rows ≡ acls_by mitigating acls e c rows
+left_lists : (mitigating : Bool) (acls : List Acl) (e : Entry) (c : Change) (rows : List AclRow) → spares_lists c ≡ true → rows ≡ acls_by mitigating acls e c rows
 left_lists mitigating acls e (change.SetAcl acl) rows is = absurd (false≢true is)
 left_lists mitigating acls e (change.DropAcl name) rows is = absurd (false≢true is)
 left_lists mitigating acls e change.Deregister rows is = absurd (false≢true is)
 left_lists mitigating acls e _ rows is = refl
 
-pub lists_left : (acls : List Acl) (e : Entry) (c : Change) (filters : FiltersValue) → e.change ≡ c → leaves_lists c ≡ true → (mitigating : Bool)
+pub lists_left : (acls : List Acl) (e : Entry) (c : Change) (filters : FiltersValue) → e.change ≡ c → spares_lists c ≡ true → (mitigating : Bool)
     → filters ≡ filters_written mitigating acls e filters
 lists_left acls e c filters is leaves mitigating =
-    ap (λ rows. with_rows filters filters.scrubs rows) (left_lists mitigating acls e e.change filters.acls (ap leaves_lists is ∙ leaves))
+    ap (λ rows. with_rows filters filters.scrubs rows) (left_lists mitigating acls e e.change filters.acls (ap spares_lists is ∙ leaves))
 
 pub never_set : (acls : List Acl) (e : Entry) (acl : Acl) (filters : FiltersValue) → e.change ≡ change.SetAcl acl → acl_of e.change ≡ None → (mitigating : Bool)
     → filters ≡ filters_written mitigating acls e filters

@@ -33,13 +33,13 @@ use Rattle.dots_laws.proofs.Members.{In}
 use Rattle.dots_laws.proofs.Endings.{live_end}
 use Rattle.live_mitigations.specs.LiveValues.{LiveValue, SameButRows, rows_for, has_due, puts}
 use Rattle.live_mitigations.specs.LiveValues as lives
-use Rattle.live_mitigations.proofs.Room.{kept_is, of_domain_bare}
+use Rattle.live_mitigations.proofs.Room.{rows_are_live, of_domain_bare}
 use Rattle.live_mitigations.proofs.Rows.{puts_none}
 use Rattle.held_resources.specs.Held.{acls_of}
 use Rattle.installed_filters.specs.Filters.{FiltersValue, with_rows, rows_with, own_rows, is_row_of, scrubs_without, woken_row, lives_at, is_over, lives_at_once, stays_beside, works_by, is_working, is_waiting_for, works_at, works_at_once, works_beside, some_of, settled_row, acl_switched, activated_row, acls_by, filters_at, filters_put, filters_lost, filters_written}
 use Rattle.installed_filters.specs.HistoryRows.{Represents}
 use Rattle.installed_filters.proofs.Sieving.{filter_by, filter_twice, filter_all, map_by, all_filter, all_in}
-use Rattle.installed_filters.proofs.Keys.{Keyed, keeps, leaves, scrubs_by, rows_are, live_keyed, left_keyed, scrubs_left, scrubs_woken}
+use Rattle.installed_filters.proofs.Keys.{Keyed, keeps, goes_from, scrubs_by, rows_are, live_keyed, left_keyed, scrubs_left, scrubs_woken}
 use Rattle.installed_filters.proofs.Waking.{mitigates, acls_by_client, own_of, lists_are, same_clients, some_working, acls_settled, acls_put, acls_woken}
 use Rattle.installed_filters.proofs.Signals.{quiet_works, works_after}
 use Rattle.installed_filters.proofs.Writing.{acls_written, acls_lost}
@@ -160,10 +160,10 @@ at_of_bare now (m ∷ ms) =
     by_live true rest = ap (λ xs. bare_mitigation m ∷ xs) rest
     by_live false rest = rest
 
-pub kept_bare : (lived : LiveValue) (entries : List Entry) (domain : ℕ) → domain < lived.domains → lives.Represents lived entries
+pub rows_are_bare : (lived : LiveValue) (entries : List Entry) (domain : ℕ) → domain < lived.domains → lives.Represents lived entries
     → rows_for lived domain ≡ map bare_mitigation (mitigations_of domain (mitigations lived.time entries))
-kept_bare lived entries domain within stands =
-    kept_is lived entries domain within stands
+rows_are_bare lived entries domain within stands =
+    rows_are_live lived entries domain within stands
     ∙ ap (mitigations_of domain) (bare_mitigations lived.time entries)
     ∙ of_domain_bare domain (mitigations lived.time entries)
 
@@ -230,7 +230,7 @@ pub between_first : (now : ℕ) (lived : LiveValue) (filters : FiltersValue) (en
 between_first now lived filters entries less alive stands = record {
   ms = mitigations lived.time entries;
   keyed = live_keyed lived.time entries;
-  own = λ domain within. kept_bare lived entries domain within alive;
+  own = λ domain within. rows_are_bare lived entries domain within alive;
   inside = live_inside lived.time lived.domains entries alive.inside;
   scrubs = stands.scrubs ∙ rows_are lived.time entries;
   acls = stands.acls ∙ lists_are lived.time entries;
@@ -464,9 +464,9 @@ puts_with e (m ∷ ms) all =
     ]
 
 -- a mitigation that it ends is of its domain
-kept_beside : (e : Entry) (m : Mitigation) → keeps e.domain (stays_beside e) m ≡ stays_beside e m
+keeps_beside : (e : Entry) (m : Mitigation) → keeps e.domain (stays_beside e) m ≡ stays_beside e m
 unfolding ends same_client
-kept_beside e m = by_ends (m.put.domain == e.domain) (bytes_eq m.put.cuid e.cuid) (replaces m.put.change e.change)
+keeps_beside e m = by_ends (m.put.domain == e.domain) (bytes_eq m.put.cuid e.cuid) (replaces m.put.change e.change)
   where
     by_ends : (d c r : Bool) → not (d && not (not ((d && c) && r))) ≡ not ((d && c) && r)
     by_ends true true true = refl
@@ -494,7 +494,7 @@ put_represents lost lived filters new e entries at within put alive stands losse
     let made : new ≡ filters_put lost_there e (mitigations_of e.domain ms) filters =
     is
     ∙ ap (λ test. filters_put test e (rows_for lived e.domain) filters) (tests_same lost (held entries) losses)
-    ∙ ap (λ kept. filters_put lost_there e kept filters) (kept_bare lived entries e.domain within alive)
+    ∙ ap (λ kept. filters_put lost_there e kept filters) (rows_are_bare lived entries e.domain within alive)
     ∙ put_bare lost_there e (mitigations_of e.domain ms) filters in
     let with_e : after ≡ mitigations_with e ms = adding lived.time e entries (omega (arith, at)) in
     let puts_are : map (λ (m : Mitigation). m.put) after ≡ map (λ (m : Mitigation). m.put) left =
@@ -504,7 +504,7 @@ put_represents lost lived filters new e entries at within put alive stands losse
           ∙ ap (λ rows. rows ++ own_rows lost_there e)
           (ap (scrubs_without e.domain (stays_beside e) (mitigations_of e.domain ms)) (stands.scrubs ∙ rows_are lived.time entries)
           ∙ scrubs_left working e.domain (stays_beside e) ms (live_keyed lived.time entries)
-          ∙ ap (scrubs_by working) (filter_by (keeps e.domain (stays_beside e)) (stays_beside e) (kept_beside e) ms))
+          ∙ ap (scrubs_by working) (filter_by (keeps e.domain (stays_beside e)) (stays_beside e) (keeps_beside e) ms))
           ∙ ap (λ rows. scrubs_by working (filter (stays_beside e) ms) ++ rows) (sym (own_scrubs lost_there e))
           ∙ sym (flat_map-append (λ (m : Mitigation). rows_with (working m.put) m.put) (filter (stays_beside e) ms) (own_of e))
           ∙ sym (scrubs_of_puts working after left puts_are)
@@ -552,7 +552,7 @@ client_mitigates lost lived e entries within alive losses =
     let ms = mitigations lived.time entries in
     let lost_there = is_lost_in (held entries) in
     ap (λ test. some_of (is_working test) e.cuid (rows_for lived e.domain)) (tests_same lost (held entries) losses)
-    ∙ ap (some_of (is_working lost_there) e.cuid) (kept_bare lived entries e.domain within alive)
+    ∙ ap (some_of (is_working lost_there) e.cuid) (rows_are_bare lived entries e.domain within alive)
     ∙ some_bare (is_working lost_there) (λ m. refl) e.cuid (mitigations_of e.domain ms)
     ∙ some_working e.domain e (works (held entries)) ms refl
 
@@ -613,7 +613,7 @@ module _ (lost : ℕ → ℕ → Bool) (filters new : FiltersValue) (t : ℕ) (e
   standing = held (entries ++ e ∷ [])
 
   changes : (m : Mitigation) → In m ms
-      → works standing m.put ≡ cond (leaves e.domain (is_waiting_for e.peer) m) (is_lost_in standing e.peer e.domain) (works (held entries) m.put)
+      → works standing m.put ≡ cond (goes_from e.domain (is_waiting_for e.peer) m) (is_lost_in standing e.peer e.domain) (works (held entries) m.put)
   changes m there = works_after e entries m (all_in (λ (x : Mitigation). puts x.put) m ms (live_keyed t entries).puts there)
 
   rows_by_domain : new ≡ filters_lost (is_lost_in standing) e.peer e.domain (mitigations_of e.domain ms) filters → Represents new e.time (entries ++ e ∷ [])
@@ -638,16 +638,16 @@ module _ (lost : ℕ → ℕ → Bool) (filters new : FiltersValue) (t : ℕ) (e
             (works standing)
             ms
             (held entries)
-            (λ m there kept. changes m there ∙ cond-false (leaves e.domain goes m) active (works (held entries) m.put) kept)
+            (λ m there kept. changes m there ∙ cond-false (goes_from e.domain goes m) active (works (held entries) m.put) kept)
             ∙ sym (acls_lost (mitigates (works standing) ms) e (held entries) loss)
             ∙ sym (ap (acls_by_client (mitigates (works standing) ms)) (held_push e entries))
             ∙ ap (λ xs. acls_by_client (mitigates (works standing) xs) standing) (sym same)
             ∙ sym (lists_are e.time (entries ++ e ∷ []));
       }
 
-  rows_by_kept : (kept : List Mitigation) → kept ≡ map bare_mitigation (mitigations_of e.domain ms) → new ≡ filters_lost lost e.peer e.domain kept filters
+  rows_by_bare : (kept : List Mitigation) → kept ≡ map bare_mitigation (mitigations_of e.domain ms) → new ≡ filters_lost lost e.peer e.domain kept filters
       → Represents new e.time (entries ++ e ∷ [])
-  rows_by_kept kept same is =
+  rows_by_bare kept same is =
       rows_by_domain
       (is
       ∙ ap (λ test. filters_lost test e.peer e.domain kept filters) (tests_same lost standing losses)
@@ -660,7 +660,7 @@ pub lost_represents : (lost : ℕ → ℕ → Bool) (lived : LiveValue) (filters
     → ((peer domain : ℕ) → lost peer domain ≡ is_lost_in (held (entries ++ e ∷ [])) peer domain)
     → new ≡ filters_lost lost e.peer e.domain (rows_for lived e.domain) filters → Represents new e.time (entries ++ e ∷ [])
 lost_represents lost lived filters new e entries at within loss alive stands losses is =
-    rows_by_kept lost filters new lived.time e entries at loss stands losses (rows_for lived e.domain) (kept_bare lived entries e.domain within alive) is
+    rows_by_bare lost filters new lived.time e entries at loss stands losses (rows_for lived e.domain) (rows_are_bare lived entries e.domain within alive) is
 
 -- and after it
 pub lost_represents_noted : (lost : ℕ → ℕ → Bool) (noted : LiveValue) (filters new : FiltersValue) (e : Entry) (entries : List Entry) → e.time ≡ noted.time
@@ -668,7 +668,7 @@ pub lost_represents_noted : (lost : ℕ → ℕ → Bool) (noted : LiveValue) (f
     → ((peer domain : ℕ) → lost peer domain ≡ is_lost_in (held (entries ++ e ∷ [])) peer domain)
     → new ≡ filters_lost lost e.peer e.domain (rows_for noted e.domain) filters → Represents new e.time (entries ++ e ∷ [])
 lost_represents_noted lost noted filters new e entries at within loss alive stands losses is =
-    rows_by_kept
+    rows_by_bare
     lost
     filters
     new
@@ -680,7 +680,7 @@ lost_represents_noted lost noted filters new e entries at within loss alive stan
     stands
     losses
     (rows_for noted e.domain)
-    (kept_bare noted (entries ++ e ∷ []) e.domain within alive
+    (rows_are_bare noted (entries ++ e ∷ []) e.domain within alive
     ∙ ap (λ t. map bare_mitigation (mitigations_of e.domain (mitigations t (entries ++ e ∷ [])))) (sym at)
     ∙ ap (λ xs. map bare_mitigation (mitigations_of e.domain xs)) (loss_mitigations e.time e entries refl loss))
     is

@@ -126,8 +126,8 @@ by_key domain active e target prefix m is own =
     ∙ ap (λ b. ((e.domain == m.put.domain) && bytes_eq e.cuid m.put.cuid) && b) (mid_same (mid_of e.change) m.put.change is)
 
 -- it is of the domain, and goes
-abbrev pub leaves : ℕ → (Mitigation → Bool) → Mitigation → Bool
-leaves domain goes m = (m.put.domain == domain) && goes m
+abbrev pub goes_from : ℕ → (Mitigation → Bool) → Mitigation → Bool
+goes_from domain goes m = (m.put.domain == domain) && goes m
 
 abbrev pub keeps : ℕ → (Mitigation → Bool) → Mitigation → Bool
 keeps domain stays m = not ((m.put.domain == domain) && not (stays m))
@@ -143,13 +143,13 @@ any_of_puts p q (m ∷ ms) all same =
 -- some of the domain that goes has the key of one of them: just where that one is of the domain and goes
 row_goes : (domain : ℕ) (goes : Mitigation → Bool) (ms : List Mitigation) → Keyed ms → (x : Mitigation) → In x ms → (active : Bool) (target : Target) (prefix : PrefixValue)
     → list_any (λ m. goes m && is_row_of domain m (scrub_row_with active (row_of x.put target prefix))) (mitigations_of domain ms)
-    ≡ leaves domain goes x
+    ≡ goes_from domain goes x
 row_goes domain goes ms keyed x there active target prefix =
     let row = scrub_row_with active (row_of x.put target prefix) in
     any_filter (λ m. goes m && is_row_of domain m row) (λ (m : Mitigation). m.put.domain == domain) ms
     ∙ any_of_puts
     (λ m. (m.put.domain == domain) && (goes m && is_row_of domain m row))
-    (λ m. leaves domain goes m && has_key x.put m)
+    (λ m. goes_from domain goes m && has_key x.put m)
     ms
     keyed.puts
     (λ m is.
@@ -163,7 +163,7 @@ row_goes domain goes ms keyed x there active target prefix =
     ])
     ∙ only_one
     (has_key x.put)
-    (leaves domain goes)
+    (goes_from domain goes)
     x
     ms
     there
@@ -266,7 +266,7 @@ scrubs_left working domain stays ms keyed =
 
 -- those that filter are others, and differ from those before in some of the domain alone, which are all active or all not
 pub scrubs_woken : (domain : ℕ) (goes : Mitigation → Bool) (active : Bool) (before after : Entry → Bool) (ms : List Mitigation) → Keyed ms
-    → ((m : Mitigation) → In m ms → after m.put ≡ cond (leaves domain goes m) active (before m.put))
+    → ((m : Mitigation) → In m ms → after m.put ≡ cond (goes_from domain goes m) active (before m.put))
     → map (woken_row domain goes active (mitigations_of domain ms)) (scrubs_by before ms) ≡ scrubs_by after ms
 scrubs_woken domain goes active before after ms keyed same =
     changed_each
@@ -284,7 +284,7 @@ scrubs_woken domain goes active before after ms keyed same =
     (λ target prefix.
     let row = scrub_row_with (before x.put) (row_of x.put target prefix) in
     ap (λ b. cond b (row_set active row) row) (row_goes domain goes ms keyed x there (before x.put) target prefix)
-    ∙ set_by (leaves domain goes x) (before x.put) (row_of x.put target prefix)
+    ∙ set_by (goes_from domain goes x) (before x.put) (row_of x.put target prefix)
     ∙ ap (λ b. scrub_row_with b (row_of x.put target prefix)) (sym (same x there))))
   where
     set_by : (b was : Bool) (row : Row) → cond b (row_set active (scrub_row_with was row)) (scrub_row_with was row) ≡ scrub_row_with (cond b active was) row

@@ -17,7 +17,7 @@ use Rattle.dots_laws.proofs.GoingOn.{held_push}
 use Rattle.live_mitigations.specs.LiveValues.{puts}
 use Rattle.installed_filters.specs.Filters.{is_waiting_for}
 use Rattle.installed_filters.proofs.Sieving.{any_by, any_filter}
-use Rattle.installed_filters.proofs.Keys.{leaves}
+use Rattle.installed_filters.proofs.Keys.{goes_from}
 
 -- the entry says anew whether the signal of this peer is lost
 abbrev pub tells_of : ℕ → ℕ → Entry → Bool
@@ -173,7 +173,7 @@ waiting _ p d peer domain before after is others = absurd (false≢true is)
 -- the mitigations that filter after it are those before, but for those that wait for the signal
 pub works_after : (e : Entry) (entries : List Entry) (m : Mitigation) → puts m.put ≡ true
     → works (held (entries ++ e ∷ [])) m.put
-    ≡ cond (leaves e.domain (is_waiting_for e.peer) m) (is_lost_in (held (entries ++ e ∷ [])) e.peer e.domain) (works (held entries) m.put)
+    ≡ cond (goes_from e.domain (is_waiting_for e.peer) m) (is_lost_in (held (entries ++ e ∷ [])) e.peer e.domain) (works (held entries) m.put)
 works_after e entries m is =
     waiting
     m.put.change

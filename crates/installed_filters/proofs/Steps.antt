@@ -77,8 +77,8 @@ sweep_one domain stays m cuid mid filters new out cuid_is mid_is is =
     by_stays false is_out true = refl
     by_stays false is_out false = refl
 
-pub sweep_kept : (domain : ℕ) (stays : Mitigation → Bool) (m : Mitigation) (filters : FiltersValue) → stays m ≡ true → filters ≡ swept domain stays (m ∷ []) filters
-sweep_kept domain stays m filters is =
+pub sweep_unchanged : (domain : ℕ) (stays : Mitigation → Bool) (m : Mitigation) (filters : FiltersValue) → stays m ≡ true → filters ≡ swept domain stays (m ∷ []) filters
+sweep_unchanged domain stays m filters is =
     ap
     (λ rows. with_rows filters rows filters.acls)
     (sym (filter_all
@@ -88,10 +88,10 @@ sweep_kept domain stays m filters is =
 
 -- ---- rows of mitigations that become active or not
 
-woken_kept : (domain : ℕ) (goes : Mitigation → Bool) (active : Bool) (m : Mitigation) (ms : List Mitigation) (row : ScrubRow)
+woken_unchanged : (domain : ℕ) (goes : Mitigation → Bool) (active : Bool) (m : Mitigation) (ms : List Mitigation) (row : ScrubRow)
     → list_any (λ x. goes x && is_row_of domain x row) (m ∷ []) ≡ false
     → list_any (λ x. goes x && is_row_of domain x row) (m ∷ ms) ≡ list_any (λ x. goes x && is_row_of domain x row) ms
-woken_kept domain goes active m ms row none = by_test (goes m && is_row_of domain m row) none
+woken_unchanged domain goes active m ms row none = by_test (goes m && is_row_of domain m row) none
   where
     by_test : (b : Bool) → (b || false) ≡ false → (b || list_any (λ x. goes x && is_row_of domain x row) ms) ≡ list_any (λ x. goes x && is_row_of domain x row) ms
     by_test true out = absurd (true≢false out)
@@ -113,7 +113,7 @@ woken_more domain goes active m ms row =
           ∙ sym (cond-true ((goes m && is_row_of domain m row) || rest) (row_set active row) row (or_more (goes m && is_row_of domain m row) rest is))
       | inr out ↦
           ap (woken_row domain goes active ms) (cond-false first (row_set active row) row out)
-          ∙ ap (λ b. cond b (row_set active row) row) (sym (woken_kept domain goes active m ms row out))
+          ∙ ap (λ b. cond b (row_set active row) row) (sym (woken_unchanged domain goes active m ms row out))
     ]
   where
     or_more : (a b : Bool) → (a || false) ≡ true → (a || b) ≡ true
@@ -173,9 +173,9 @@ wake_one domain goes active m cuid mid filters new here cuid_is mid_is is =
     by_goes true is_here false = refl
     by_goes false is_here b = absurd (false≢true is_here)
 
-pub wake_kept : (domain : ℕ) (goes : Mitigation → Bool) (active : Bool) (m : Mitigation) (filters : FiltersValue) → goes m ≡ false
+pub wake_unchanged : (domain : ℕ) (goes : Mitigation → Bool) (active : Bool) (m : Mitigation) (filters : FiltersValue) → goes m ≡ false
     → filters ≡ waked domain goes active (m ∷ []) filters
-wake_kept domain goes active m filters out =
+wake_unchanged domain goes active m filters out =
     ap
     (λ rows. with_rows filters rows filters.acls)
     (sym (map_none
@@ -268,9 +268,9 @@ pub settle_end : (domain : ℕ) (goes passes : Mitigation → Bool) (all : List 
 settle_end domain goes passes all i ms new goal past is =
     sym (settle_none domain goes passes all new) ∙ ap (λ xs. settled domain goes passes all xs new) (sym (drop_all i ms past)) ∙ is
 
-pub settle_kept : (domain : ℕ) (goes passes : Mitigation → Bool) (all : List Mitigation) (m : Mitigation) (filters : FiltersValue) → goes m ≡ false
+pub settle_unchanged : (domain : ℕ) (goes passes : Mitigation → Bool) (all : List Mitigation) (m : Mitigation) (filters : FiltersValue) → goes m ≡ false
     → filters ≡ settled domain goes passes all (m ∷ []) filters
-settle_kept domain goes passes all m filters is =
+settle_unchanged domain goes passes all m filters is =
     ap
     (λ rows. with_rows filters filters.scrubs rows)
     (sym (map_none

@@ -20,7 +20,7 @@ use Rattle.dots_laws.proofs.Members.{In}
 use Rattle.held_resources.proofs.Holdings.{turned_eq, turned_bytes}
 use Rattle.installed_filters.specs.Filters.{some_of, settled_row, acl_switched, activated_row, active_by, acl_row_by, lives_at_once, stays_beside}
 use Rattle.installed_filters.proofs.Sieving.{any_by, any_filter, any_left, any_less, any_unless_in}
-use Rattle.installed_filters.proofs.Keys.{keeps, leaves}
+use Rattle.installed_filters.proofs.Keys.{keeps, goes_from}
 
 -- a mitigation of the entry's client that filters is among these
 abbrev pub mitigates : (Entry → Bool) → List Mitigation → Entry → Bool
@@ -172,9 +172,9 @@ some_that_stay domain e working stays ms own =
     ms
 
 -- those that a test of one client keeps
-kept_same : (domain : ℕ) (stays : Mitigation → Bool) (e : Entry) (m : Mitigation) (passes : Bool) → e.domain ≡ domain
+keeps_same : (domain : ℕ) (stays : Mitigation → Bool) (e : Entry) (m : Mitigation) (passes : Bool) → e.domain ≡ domain
     → (keeps domain stays m && (same_client e m.put && passes)) ≡ (stays m && (same_client e m.put && passes))
-kept_same domain stays e m passes own =
+keeps_same domain stays e m passes own =
     elim (cases_Bool (same_client e m.put)) [
       | inl is ↦
           ap (λ b. not (b && not (stays m)) && (same_client e m.put && passes)) (eq-eqb m.put.domain domain (sym (own_domain e m.put is) ∙ own))
@@ -195,9 +195,9 @@ kept_same domain stays e m passes own =
     none false true = refl
     none false false = refl
 
-kept_other : (domain : ℕ) (stays : Mitigation → Bool) (e : Entry) (m : Mitigation) (passes : Bool) → (e.domain == domain) ≡ false
+keeps_other : (domain : ℕ) (stays : Mitigation → Bool) (e : Entry) (m : Mitigation) (passes : Bool) → (e.domain == domain) ≡ false
     → (keeps domain stays m && (same_client e m.put && passes)) ≡ (same_client e m.put && passes)
-kept_other domain stays e m passes other =
+keeps_other domain stays e m passes other =
     elim (cases_Bool (same_client e m.put)) [
       | inl is ↦
           ap (λ d. not ((d == domain) && not (stays m)) && (same_client e m.put && passes)) (sym (own_domain e m.put is))
@@ -249,7 +249,7 @@ still_mitigates working domain stays ms e =
           any_by
           (λ m. keeps domain stays m && (same_client e m.put && working m.put))
           (λ m. stays m && (same_client e m.put && working m.put))
-          (λ m. kept_same domain stays e m (working m.put) own)
+          (λ m. keeps_same domain stays e m (working m.put) own)
           ms
           ∙ elim (cases_Bool (some_of (λ m. not (stays m)) e.cuid (mitigations_of domain ms))) [
             | inl some ↦
@@ -272,7 +272,7 @@ still_mitigates working domain stays ms e =
           any_by
           (λ m. keeps domain stays m && (same_client e m.put && working m.put))
           (λ m. same_client e m.put && working m.put)
-          (λ m. kept_other domain stays e m (working m.put) other)
+          (λ m. keeps_other domain stays e m (working m.put) other)
           ms
           ∙ sym (settled_far domain (λ m. not (stays m)) (λ m. stays m && working m.put) ms e (mitigates working ms e) other)
     ]
@@ -308,7 +308,7 @@ acls_settled working domain stays ms es =
 
 -- those that filter after differ from those before in some of the domain that go, at most
 pub now_mitigates : (domain : ℕ) (goes : Mitigation → Bool) (before after : Entry → Bool) (ms : List Mitigation)
-    → ((m : Mitigation) → In m ms → leaves domain goes m ≡ false → after m.put ≡ before m.put) → (e : Entry)
+    → ((m : Mitigation) → In m ms → goes_from domain goes m ≡ false → after m.put ≡ before m.put) → (e : Entry)
     → mitigates after ms e ≡ settled_by domain goes (λ m. after m.put) ms e (mitigates before ms e)
 now_mitigates domain goes before after ms same e =
     elim (cases_Bool (e.domain == domain)) [
@@ -341,7 +341,7 @@ now_mitigates domain goes before after ms same e =
     never [] = refl
     never (x ∷ xs) = never xs
 
-    of_others : (m : Mitigation) → (leaves domain goes m ≡ false → after m.put ≡ before m.put) → (goes m && same_client e m.put) ≡ false
+    of_others : (m : Mitigation) → (goes_from domain goes m ≡ false → after m.put ≡ before m.put) → (goes m && same_client e m.put) ≡ false
         → (same_client e m.put && after m.put) ≡ (same_client e m.put && before m.put)
     of_others m here out =
         elim (cases_Bool (same_client e m.put)) [
@@ -356,7 +356,7 @@ now_mitigates domain goes before after ms same e =
         and_one true = refl
         and_one false = refl
 
-    of_far : (m : Mitigation) → (leaves domain goes m ≡ false → after m.put ≡ before m.put) → (e.domain == domain) ≡ false
+    of_far : (m : Mitigation) → (goes_from domain goes m ≡ false → after m.put ≡ before m.put) → (e.domain == domain) ≡ false
         → (same_client e m.put && after m.put) ≡ (same_client e m.put && before m.put)
     of_far m here other =
         elim (cases_Bool (same_client e m.put)) [
@@ -368,7 +368,7 @@ now_mitigates domain goes before after ms same e =
         ]
 
 pub acls_woken : (domain : ℕ) (goes : Mitigation → Bool) (before after : Entry → Bool) (ms : List Mitigation) (es : List Entry)
-    → ((m : Mitigation) → In m ms → leaves domain goes m ≡ false → after m.put ≡ before m.put)
+    → ((m : Mitigation) → In m ms → goes_from domain goes m ≡ false → after m.put ≡ before m.put)
     → map
     (settled_row domain goes (λ m. after m.put) (mitigations_of domain ms) (mitigations_of domain ms))
     (acls_by_client (mitigates before ms) es)

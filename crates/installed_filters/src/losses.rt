@@ -31,7 +31,7 @@ impl InstalledFilters {
         }
     }
 
-    #[tactic(auto, using(crate::proofs::Steps::wake_one, crate::proofs::Steps::wake_kept))]
+    #[tactic(auto, using(crate::proofs::Steps::wake_one, crate::proofs::Steps::wake_unchanged))]
     fn wake_if_waiting(&mut self, peer: u32, domain: u16, row: &Row, active: bool)
         ensures { self.new ≡ with_rows self.old (map (woken_row domain (filters.is_waiting_for peer) active (row.now ∷ [])) self.old.scrubs) self.old.acls }
     {
@@ -51,7 +51,7 @@ impl InstalledFilters {
     }
 
     /// Settles the lists of the client of a mitigation that waits for this signal.
-    #[tactic(auto, using(crate::proofs::Steps::settle_one, crate::proofs::Steps::settle_kept))]
+    #[tactic(auto, using(crate::proofs::Steps::settle_one, crate::proofs::Steps::settle_unchanged))]
     fn settle_if_waiting(
         &mut self,
         peer: u32,

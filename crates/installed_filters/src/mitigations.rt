@@ -33,7 +33,7 @@ impl InstalledFilters {
         }
     }
 
-    #[tactic(auto, using(crate::proofs::Steps::sweep_one, crate::proofs::Steps::sweep_kept))]
+    #[tactic(auto, using(crate::proofs::Steps::sweep_one, crate::proofs::Steps::sweep_unchanged))]
     fn remove_if_over(&mut self, domain: u16, row: &Row, now: u64)
         ensures { self.new ≡ with_rows self.old (scrubs_without domain (lives_at now) (row.now ∷ []) self.old.scrubs) self.old.acls }
     {
@@ -53,7 +53,7 @@ impl InstalledFilters {
     }
 
     /// Settles the lists of the client of a mitigation that is over.
-    #[tactic(auto, using(crate::proofs::Steps::settle_one, crate::proofs::Steps::settle_kept))]
+    #[tactic(auto, using(crate::proofs::Steps::settle_one, crate::proofs::Steps::settle_unchanged))]
     fn settle_if_over(
         &mut self,
         domain: u16,
@@ -95,7 +95,7 @@ impl InstalledFilters {
         }
     }
 
-    #[tactic(auto, using(crate::proofs::Steps::sweep_one, crate::proofs::Steps::sweep_kept))]
+    #[tactic(auto, using(crate::proofs::Steps::sweep_one, crate::proofs::Steps::sweep_unchanged))]
     fn remove_if_ended(&mut self, row: &Row, entry: &Entry)
         ensures { self.new ≡ with_rows self.old (scrubs_without entry.now.domain (stays_beside entry.now) (row.now ∷ []) self.old.scrubs) self.old.acls }
     {

@@ -40,16 +40,16 @@ same_family-true V6 V6 h = refl
 
 -- ---- what the tests say
 
-pub record IsHeld (p : PrefixValue) (f : Family) (n : ℕ) : Type 0 where
+pub record IsAddressOf (p : PrefixValue) (f : Family) (n : ℕ) : Type 0 where
   pub same : p.family ≡ f
   pub leading : n / block_size p.family p.length ≡ p.number / block_size p.family p.length
 
-pub holds-says : (p : PrefixValue) (f : Family) (n : ℕ) → holds p f n ≡ true → IsHeld p f n
+pub holds-says : (p : PrefixValue) (f : Family) (n : ℕ) → holds p f n ≡ true → IsAddressOf p f n
 holds-says p f n h =
     let (families, parts) = and_parts _ _ h in
     record { same = same_family-true p.family f families; leading = eqb-true _ _ parts }
 
-pub holds-from : (p : PrefixValue) (f : Family) (n : ℕ) → IsHeld p f n → holds p f n ≡ true
+pub holds-from : (p : PrefixValue) (f : Family) (n : ℕ) → IsAddressOf p f n → holds p f n ≡ true
 holds-from p f n is =
     and_true _ _ (ap (same_family p.family) (sym is.same) ∙ same_family-itself p.family) (eq-eqb _ _ is.leading)
 
@@ -58,7 +58,7 @@ holds-itself p = holds-from p p.family p.number (record { same = refl; leading =
 
 pub record IsInside (a b : PrefixValue) : Type 0 where
   pub longer : b.length ≤ a.length
-  pub held : IsHeld b a.family a.number
+  pub held : IsAddressOf b a.family a.number
 
 pub inside-says : (a b : PrefixValue) → inside a b ≡ true → IsInside a b
 inside-says a b h =
@@ -101,7 +101,7 @@ meets-sym a b = or_comm (inside a b) (inside b a)
 -- ---- meets
 
 -- of two prefixes with one address in both the longer is inside
-inside-shared : (a b : PrefixValue) (f : Family) (n : ℕ) → b.length ≤ a.length → IsHeld a f n → IsHeld b f n → inside a b ≡ true
+inside-shared : (a b : PrefixValue) (f : Family) (n : ℕ) → b.length ≤ a.length → IsAddressOf a f n → IsAddressOf b f n → inside a b ≡ true
 inside-shared a b f n longer in_a in_b =
     let down : n / block_size a.family b.length ≡ a.number / block_size a.family b.length = fewer_bits (width a.family) a.length b.length n a.number longer in_a.leading in
     let same : a.family ≡ b.family = in_a.same ∙ sym in_b.same in

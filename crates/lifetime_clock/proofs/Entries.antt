@@ -39,13 +39,13 @@ first_differs : (entry : ℕ × ℕ) (es : List (ℕ × ℕ)) (i key : ℕ) → 
 first_differs entry es i key differ within is = apart entry es key _ differ.0 (look_up-key es i key differ.1 within is)
 
 -- where a key stands with its time
-pub record StandsWith (es : List (ℕ × ℕ)) (key time : ℕ) : Type 0 where
+pub record IsThereWith (es : List (ℕ × ℕ)) (key time : ℕ) : Type 0 where
   pub place : ℕ
   pub within : place < length es
   pub key_is : (get_or es place (0, 0)).0 ≡ key
   pub time_is : (get_or es place (0, 0)).1 ≡ time
 
-pub look_up-found : (es : List (ℕ × ℕ)) (key time : ℕ) → look_up es key ≡ Some time → StandsWith es key time
+pub look_up-found : (es : List (ℕ × ℕ)) (key time : ℕ) → look_up es key ≡ Some time → IsThereWith es key time
 look_up-found [] key time found = absurd (some_is_not_none time (sym found))
 look_up-found (entry ∷ es) key time found =
     elim (cases_eq entry.0 key) [

@@ -93,13 +93,13 @@ linked_same behind before new_behind new_before from to (x ∷ xs) out off is = 
 rewalked : (behind before : List ℕ) (n from to : ℕ) (xs : List ℕ) → length xs ≡ n → Linked behind before from xs to → walk n behind from ≡ xs
 rewalked behind before n from to xs long is = ap (λ k. walk k behind from) (sym long) ∙ walked behind before from to xs is
 
-record IsKept (behind before new_behind new_before : List ℕ) (ring : Ring) : Type 0 where
+record IsUnchanged (behind before new_behind new_before : List ℕ) (ring : Ring) : Type 0 where
   pub slots_are : slots_of new_behind ring ≡ slots_of behind ring
   pub linked : IsLinked new_behind new_before ring
 
-ring_kept : (behind before new_behind new_before : List ℕ) (ring : Ring) → SameLinks behind new_behind (nodes_of behind ring) → SameLinks before new_before (nodes_of behind ring)
-    → IsLinked behind before ring → IsKept behind before new_behind new_before ring
-ring_kept behind before new_behind new_before ring out off is =
+ring_unchanged : (behind before new_behind new_before : List ℕ) (ring : Ring) → SameLinks behind new_behind (nodes_of behind ring) → SameLinks before new_before (nodes_of behind ring)
+    → IsLinked behind before ring → IsUnchanged behind before new_behind new_before ring
+ring_unchanged behind before new_behind new_before ring out off is =
     let slots = slots_of behind ring in
     let linked = linked_same behind before new_behind new_before ring.start ring.start slots out (each_both (λ x. link new_before x ≡ link before x) slots (ring.start ∷ []) off.1 (off.0, record {})) is in
     let are = rewalked new_behind new_before ring.count ring.start ring.start slots (walk_length ring.count behind ring.start) linked in
@@ -112,20 +112,20 @@ first_value start same rest = cc
 first_nodes : (start : ℕ) {xs ys vs ws : List ℕ} → xs ≡ ys → vs ≡ ws → (start ∷ xs) ++ vs ≡ (start ∷ ys) ++ ws
 first_nodes start same rest = cc
 
-record AreKept (behind before new_behind new_before : List ℕ) (rings : List Ring) : Type 0 where
+record AreUnchanged (behind before new_behind new_before : List ℕ) (rings : List Ring) : Type 0 where
   pub values_are : map (ring_of new_behind) rings ≡ map (ring_of behind) rings
   pub nodes_are : nodes new_behind rings ≡ nodes behind rings
   pub linked : AreLinked new_behind new_before rings
 
-rings_kept : (behind before new_behind new_before : List ℕ) (rings : List Ring) → SameLinks behind new_behind (nodes behind rings) → SameLinks before new_before (nodes behind rings)
-    → AreLinked behind before rings → AreKept behind before new_behind new_before rings
-rings_kept behind before new_behind new_before [] out off is = record { values_are = refl; nodes_are = refl; linked = record {} }
-rings_kept behind before new_behind new_before (ring ∷ rings) out off is =
+rings_unchanged : (behind before new_behind new_before : List ℕ) (rings : List Ring) → SameLinks behind new_behind (nodes behind rings) → SameLinks before new_before (nodes behind rings)
+    → AreLinked behind before rings → AreUnchanged behind before new_behind new_before rings
+rings_unchanged behind before new_behind new_before [] out off is = record { values_are = refl; nodes_are = refl; linked = record {} }
+rings_unchanged behind before new_behind new_before (ring ∷ rings) out off is =
     let own = nodes_of behind ring in
     let others = nodes behind rings in
-    let one = ring_kept behind before new_behind new_before ring
+    let one = ring_unchanged behind before new_behind new_before ring
     (each_front (λ x. link new_behind x ≡ link behind x) own others out) (each_front (λ x. link new_before x ≡ link before x) own others off) is.0 in
-    let rest = rings_kept behind before new_behind new_before rings
+    let rest = rings_unchanged behind before new_behind new_before rings
     (each_back (λ x. link new_behind x ≡ link behind x) own others out) (each_back (λ x. link new_before x ≡ link before x) own others off) is.1 in
     record {
       values_are = first_value ring.start one.slots_are rest.values_are;
@@ -224,7 +224,7 @@ pushed_first behind before slot last ring rings are slot_low outside is_last =
     let long = length_last slot slots in
     let wide = walk_length ring.count behind start in
     let walked_on = rewalked new_behind new_before (ring.count + 1) start start (slots ++ slot ∷ []) (omega (arith, long, wide)) is in
-    let rest = rings_kept behind before new_behind new_before rings (same_two behind last slot slot start others last_far out) (same_two before slot last start slot others out far.0) are.linked.1 in
+    let rest = rings_unchanged behind before new_behind new_before rings (same_two behind last slot slot start others last_far out) (same_two before slot last start slot others out far.0) are.linked.1 in
     record {
       values_are = first_value start walked_on rest.values_are;
       linked = (subst (λ xs. Linked new_behind new_before start xs start) (sym walked_on) is, rest.linked);
@@ -251,7 +251,7 @@ pushed behind before slot last (suc place) (ring ∷ rings) d less are slot_low 
     let last_far = subst (λ n. Apart n own) (sym is_last) (last_in (λ x. Apart x own) behind before place rings d within are.linked.1 near) in
     let slot_far = each_front (λ x. x ≢ slot) own others outside in
     let rest = pushed behind before slot last place rings d within (apart_rest behind before ring rings are) slot_low (each_back (λ x. x ≢ slot) own others outside) is_last in
-    let one = ring_kept behind before (set (set behind last slot) slot start) (set (set before slot last) start slot) ring
+    let one = ring_unchanged behind before (set (set behind last slot) slot start) (set (set before slot last) start slot) ring
     (same_two behind last slot slot start own last_far slot_far) (same_two before slot last start slot own slot_far start_far) are.linked.0 in
     record {
       values_are = first_value ring.start one.slots_are rest.values_are;
@@ -301,7 +301,7 @@ left_first behind before slot p q ring rings are there is_p is_q =
     let long = ap length at.is ∙ length_among slot at.front at.back in
     let wide = walk_length ring.count behind start in
     let walked_on = rewalked (set behind p q) (set before q p) (ring.count - 1) start start (at.front ++ at.back) (omega (arith, long, wide)) is in
-    let rest = rings_kept behind before (set behind p q) (set before q p) rings
+    let rest = rings_unchanged behind before (set behind p q) (set before q p) rings
     (same_set behind p q others (subst (λ n. Apart n others) (sym is_p) far.front)) (same_set before q p others (subst (λ n. Apart n others) (sym is_q) far.back)) are.linked.1 in
     record {
       values_are = first_value start (walked_on ∙ sym without_is) rest.values_are;
@@ -325,7 +325,7 @@ left behind before slot p q (suc place) (ring ∷ rings) d less are there is_p i
     let within : place < length rings = omega (arith, less) in
     let far = near_in (λ x. Apart x own) behind before slot place rings d within are.linked.1 there (crossing_back own others are.distinct) in
     let rest = left behind before slot p q place rings d within (apart_rest behind before ring rings are) there is_p is_q in
-    let one = ring_kept behind before (set behind p q) (set before q p) ring
+    let one = ring_unchanged behind before (set behind p q) (set before q p) ring
     (same_set behind p q own (subst (λ n. Apart n own) (sym is_p) far.front)) (same_set before q p own (subst (λ n. Apart n own) (sym is_q) far.back)) are.linked.0 in
     record {
       values_are = first_value ring.start one.slots_are rest.values_are;
@@ -485,15 +485,15 @@ reached behind before rings room at slot place values are same less there is =
     }
 
 -- a slot that an order has
-pub record IsHeld (behind before : List ℕ) (rings : List Ring) (place slot : ℕ) : Type 0 where
+pub record IsThere (behind before : List ℕ) (rings : List Ring) (place slot : ℕ) : Type 0 where
   pub within : place < length rings
   pub there : has_slot slot (slots_of behind (get_or rings place (record { start = 0; count = 0 }))) ≡ true
   pub lows : AreNear (λ x. x < length behind) behind before slot
   pub some : (d : Ring) → 0 < (get_or rings place d).count
 
-pub held : (behind before : List ℕ) (rings : List Ring) (room place slot : ℕ) (values : List RingValue) → AreRings behind before rings room → map (ring_of behind) rings ≡ values
-    → place < length values → has_slot slot (ring_at place values).slots ≡ true → IsHeld behind before rings place slot
-held behind before rings room place slot values are same less has =
+pub is_there : (behind before : List ℕ) (rings : List Ring) (room place slot : ℕ) (values : List RingValue) → AreRings behind before rings room → map (ring_of behind) rings ≡ values
+    → place < length values → has_slot slot (ring_at place values).slots ≡ true → IsThere behind before rings place slot
+is_there behind before rings room place slot values are same less has =
     let d : Ring = record { start = 0; count = 0 } in
     let long = length-map rings (ring_of behind) in
     let within : place < length rings = omega (arith, less, ap length (sym same), long) in
@@ -533,7 +533,7 @@ pub after_depart : (behind before : List ℕ) (rings : List Ring) (room slot p q
     → p ≡ link before slot → q ≡ link behind slot → new_behind ≡ set behind p q → new_before ≡ set before q p → new_rings ≡ with_ring place discounted rings
     → AreLeftOf new_behind new_before new_rings room slot (with_ring place (one_less slot) values)
 after_depart behind before rings room slot p q place values new_behind new_before new_rings all are less there is_p is_q is_behind is_before is_rings =
-    let at = held behind before rings room place slot values all are less there in
+    let at = is_there behind before rings room place slot values all are less there in
     let done = rings_less behind before rings room slot p q place (record { start = 0; count = 0 }) all at.within at.there is_p is_q in
     subst (λ vs. AreLeftOf new_behind new_before new_rings room slot (with_ring place (one_less slot) vs)) are
     (subst (λ rs. AreLeftOf new_behind new_before rs room slot (with_ring place (one_less slot) (map (ring_of behind) rings))) (sym is_rings)

@@ -70,13 +70,13 @@ linked_back behind before from slot to (y ∷ ys) zs is = linked_back behind bef
 -- ---- a slot goes
 
 -- links of others stay
-kept : (behind before : List ℕ) (p q v w from to : ℕ) (xs : List ℕ) → Apart p (from ∷ xs) → Apart q (xs ++ to ∷ []) → Linked behind before from xs to
+linked_still : (behind before : List ℕ) (p q v w from to : ℕ) (xs : List ℕ) → Apart p (from ∷ xs) → Apart q (xs ++ to ∷ []) → Linked behind before from xs to
     → Linked (set behind p v) (set before q w) from xs to
-kept behind before p q v w from to [] out off is = (get_or-set_other behind p from v 0 out.0 ∙ is.0, get_or-set_other before q to w 0 off.0 ∙ is.1)
-kept behind before p q v w from to (x ∷ xs) out off is = (
+linked_still behind before p q v w from to [] out off is = (get_or-set_other behind p from v 0 out.0 ∙ is.0, get_or-set_other before q to w 0 off.0 ∙ is.1)
+linked_still behind before p q v w from to (x ∷ xs) out off is = (
   get_or-set_other behind p from v 0 out.0 ∙ is.0,
   get_or-set_other before q x w 0 off.0 ∙ is.1,
-  kept behind before p q v w x to xs out.1 off.1 is.2,
+  linked_still behind before p q v w x to xs out.1 off.1 is.2,
 )
 
 unlinked_first : (behind before : List ℕ) (p q from slot to : ℕ) (zs : List ℕ) → p ≡ link before slot → q ≡ link behind slot → p < length behind → q < length before
@@ -89,7 +89,7 @@ unlinked_first behind before p q from slot to [] is_p is_q p_less q_less apart d
 unlinked_first behind before p q from slot to (z ∷ zs) is_p is_q p_less q_less apart distinct front back = (
   get_or-set_at behind p from q 0 (sym front.1 ∙ sym is_p) p_less ∙ (is_q ∙ back.0),
   get_or-set_at before q z p 0 (sym back.0 ∙ sym is_q) q_less ∙ (is_p ∙ front.1),
-  kept
+  linked_still
       behind
       before
       p

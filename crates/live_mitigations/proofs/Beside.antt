@@ -63,10 +63,10 @@ set_there [] k by s new less is made = absurd (omega (arith, less))
 set_there (x ∷ ss) zero by s new less is made = ap (λ o. option_to_list o ++ ss) (sym made ∙ ap by is)
 set_there (x ∷ ss) (suc k) by s new less is made = ap (λ rest. x ∷ rest) (set_there ss k by s new (omega (arith, less)) is made)
 
-pub kept_there : (ss : List MitigationSlots) (k : ℕ) (by : MitigationSlots → Option MitigationSlots) → ((s : MitigationSlots) → by s ≡ Some s) → ss ≡ replaced k by ss
-kept_there [] k by same = refl
-kept_there (x ∷ ss) zero by same = ap (λ o. option_to_list o ++ ss) (sym (same x))
-kept_there (x ∷ ss) (suc k) by same = ap (λ rest. x ∷ rest) (kept_there ss k by same)
+pub same_there : (ss : List MitigationSlots) (k : ℕ) (by : MitigationSlots → Option MitigationSlots) → ((s : MitigationSlots) → by s ≡ Some s) → ss ≡ replaced k by ss
+same_there [] k by same = refl
+same_there (x ∷ ss) zero by same = ap (λ o. option_to_list o ++ ss) (sym (same x))
+same_there (x ∷ ss) (suc k) by same = ap (λ rest. x ∷ rest) (same_there ss k by same)
 
 in_some : (b : Bool) (s : MitigationSlots) → b ≡ true → cond b (Some s) None ≡ Some s
 in_some true s is = refl
@@ -82,7 +82,7 @@ pub over_goes : (ss new : List MitigationSlots) (k now : ℕ) (m : Mitigation) (
 over_goes ss new k now m s less is dead made = made ∙ removed_there ss k (if_live_at now m) s less is (in_none (live now m.put m.status) s dead)
 
 pub live_stays : (ss : List MitigationSlots) (k now : ℕ) (m : Mitigation) → live now m.put m.status ≡ true → ss ≡ replaced k (if_live_at now m) ss
-live_stays ss k now m lives = kept_there ss k (if_live_at now m) (λ s. in_some (live now m.put m.status) s lives)
+live_stays ss k now m lives = same_there ss k (if_live_at now m) (λ s. in_some (live now m.put m.status) s lives)
 
 -- ---- by one more entry
 pub left_goes : (ss new : List MitigationSlots) (k : ℕ) (x : Filed) (m : Mitigation) (s : MitigationSlots) → k < length ss → s ≡ get_or ss k s → is_left x.entry m ≡ false

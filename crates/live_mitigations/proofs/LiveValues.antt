@@ -272,16 +272,16 @@ put_represents old new entries slot put e changed same at within stands =
     stands
 
 -- ---- one at most of each
-pub one_kept : (client : Client) (mid domain : ℕ) (live : LiveValue) (entries : List Entry) → domain < live.domains → Represents live entries
+pub one_row_each : (client : Client) (mid domain : ℕ) (live : LiveValue) (entries : List Entry) → domain < live.domains → Represents live entries
     → tally (λ (m : Mitigation). is_of client m.put && has_mid mid m.put) (rows_for live domain) ≤ 1
-one_kept client mid domain live entries within stands =
+one_row_each client mid domain live entries within stands =
     subst
     (λ ms. tally (λ (m : Mitigation). is_of client m.put && has_mid mid m.put) ms ≤ 1)
     (sym (stands.rows domain within))
     (one_mid client mid live.time (alone domain (map bare entries)))
 
-pub kept_apart : (domain : ℕ) (live : LiveValue) (entries : List Entry) → domain < live.domains → Represents live entries → AreApart (rows_for live domain)
-kept_apart domain live entries within stands = subst AreApart (sym (stands.rows domain within)) (live_apart live.time (alone domain (map bare entries)))
+pub rows_apart : (domain : ℕ) (live : LiveValue) (entries : List Entry) → domain < live.domains → Represents live entries → AreApart (rows_for live domain)
+rows_apart domain live entries within stands = subst AreApart (sym (stands.rows domain within)) (live_apart live.time (alone domain (map bare entries)))
 
 pub are_empty_tables : (live : LiveValue) → AreEmpty live.domains live.limits.domain_mitigations live.tables → AreTables live
 are_empty_tables live are = record {

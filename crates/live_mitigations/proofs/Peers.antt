@@ -16,7 +16,7 @@ use Rattle.dots_laws.proofs.Bare.{bare_mitigations}
 use Rattle.live_mitigations.specs.Rows.{LiveTable, rows_or_none, any_row}
 use Rattle.live_mitigations.specs.LiveValues.{LiveValue, puts, is_inside, Represents}
 use Rattle.live_mitigations.proofs.Updates.{there_within}
-use Rattle.live_mitigations.proofs.Room.{kept_is, of_domain_bare}
+use Rattle.live_mitigations.proofs.Room.{rows_are_live, of_domain_bare}
 
 any_of_domain : (test : Mitigation → Bool) (domain : ℕ) (ms : List Mitigation) → list_any test (mitigations_of domain ms) ≡ true → list_any test ms ≡ true
 any_of_domain test domain [] is = is
@@ -114,22 +114,22 @@ abbrev tests : (Entry → Bool) → Mitigation → Bool
 tests test m = test m.put
 
 -- one that is kept passes exactly where a live one of the history does
-pub any_kept : (test : Entry → Bool) (live : LiveValue) (entries : List Entry) → ((e : Entry) → test (bare e) ≡ test e) → Represents live entries
+pub any_live_row : (test : Entry → Bool) (live : LiveValue) (entries : List Entry) → ((e : Entry) → test (bare e) ≡ test e) → Represents live entries
     → any_row (tests test) live.tables ≡ list_any (tests test) (mitigations live.time entries)
-any_kept test live entries same stands =
+any_live_row test live entries same stands =
     same_truth (any_row (tests test) live.tables) (list_any (tests test) (mitigations live.time entries))
     (λ is.
     let found = there_any (λ (table : LiveTable). list_any (tests test) table.rows) live.tables is in
     let less : found.0 < live.domains = omega (arith, slice_get_within live.tables found.0 found.1 found.2, stands.are_tables.number) in
     let rows : found.1.rows ≡ mitigations_of found.0 (mitigations live.time (map bare entries)) =
-    sym (ap rows_or_none found.2) ∙ kept_is live entries found.0 less stands in
+    sym (ap rows_or_none found.2) ∙ rows_are_live live entries found.0 less stands in
     sym (ap (list_any (tests test)) (bare_mitigations live.time entries) ∙ any_bare test (mitigations live.time entries) same)
     ∙ any_of_domain (tests test) found.0 (mitigations live.time (map bare entries)) (sym (ap (list_any (tests test)) rows) ∙ found.3))
     (λ is.
     let found = domain_any (tests test) live.time live.domains entries stands.inside is in
     let there = there_within live.tables found.0 (omega (arith, found.1, stands.are_tables.number)) in
     let rows : there.0.rows ≡ mitigations_of found.0 (map bare_mitigation (mitigations live.time entries)) =
-    sym (ap rows_or_none there.1) ∙ kept_is live entries found.0 found.1 stands ∙ ap (mitigations_of found.0) (bare_mitigations live.time entries) in
+    sym (ap rows_or_none there.1) ∙ rows_are_live live entries found.0 found.1 stands ∙ ap (mitigations_of found.0) (bare_mitigations live.time entries) in
     any_there (λ (table : LiveTable). list_any (tests test) table.rows) live.tables found.0 there.0 there.1
     (ap (list_any (tests test)) (rows ∙ of_domain_bare found.0 (mitigations live.time entries))
     ∙ any_bare test (mitigations_of found.0 (mitigations live.time entries)) same

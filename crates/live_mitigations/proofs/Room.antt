@@ -124,9 +124,9 @@ counted test live entries e later within stands same own is =
     ∙ tally_grown test e (rows_for live e.domain) is
     ∙ ap (λ b. tally (λ (m : Mitigation). is_left e m && test m.put) (rows_for live e.domain) + cond b 1 0) (first_bare e)
 
-pub kept_is : (live : LiveValue) (entries : List Entry) (domain : ℕ) → domain < live.domains → Represents live entries
+pub rows_are_live : (live : LiveValue) (entries : List Entry) (domain : ℕ) → domain < live.domains → Represents live entries
     → rows_for live domain ≡ mitigations_of domain (mitigations live.time (map bare entries))
-kept_is live entries domain within stands = stands.rows domain within ∙ apart domain live.time (map bare entries)
+rows_are_live live entries domain within stands = stands.rows domain within ∙ apart domain live.time (map bare entries)
 
 same_domain : (e p : Entry) → same_client e p ≡ true → (p.domain == e.domain) ≡ true
 unfolding same_client
@@ -146,7 +146,7 @@ domain_count : (live : LiveValue) (entries : List Entry) (e : Entry) → live.ti
     → tally (λ (m : Mitigation). m.put.domain == e.domain) (mitigations e.time (entries ++ e ∷ []))
     ≡ tally (is_left e) (rows_for live e.domain) + cond (lives_at_first e) 1 0
 domain_count live entries e later within stands =
-    let is = kept_is live entries e.domain within stands in
+    let is = rows_are_live live entries e.domain within stands in
     counted (λ (p : Entry). p.domain == e.domain) live entries e later within stands (λ p. refl) (λ p own. own) (eq-eqb e.domain e.domain refl)
     ∙ ap
     (λ n. n + cond (lives_at_first e) 1 0)
@@ -191,9 +191,9 @@ length_grown e ms =
     ∙ ap (λ b. tally (is_left e) ms + cond b 1 0) (first_bare e)
 
 -- where the limits are kept, the table of the domain has room for them
-pub fits_kept : (inside live : LiveValue) (e : Entry) → inside ≡ live → AreTables inside → keeps_limits live.limits e (rows_for live e.domain) ≡ true
+pub fits_limits : (inside live : LiveValue) (e : Entry) → inside ≡ live → AreTables inside → keeps_limits live.limits e (rows_for live e.domain) ≡ true
     → (table : LiveTable) → slice_get inside.tables e.domain ≡ Some table → length (mitigations_with (bare e) table.rows) ≤ table.room
-fits_kept inside live e is are keeps table there =
+fits_limits inside live e is are keeps table there =
     let here : keeps_limits inside.limits e (rows_for inside e.domain) ≡ true = ap (λ (v : LiveValue). keeps_limits v.limits e (rows_for v e.domain)) is ∙ keeps in
     let rows : rows_for inside e.domain ≡ table.rows = ap rows_or_none there in
     let few : tally (is_left e) (rows_for inside e.domain) + cond (lives_at_first e) 1 0 ≤ inside.limits.domain_mitigations =
@@ -222,8 +222,8 @@ read_bare f domain (m ∷ ms) same =
     ∙ ap (λ ys. f m ∷ ys) go)
     (λ out. ap (λ b. map f (cond b (bare_mitigation m ∷ mitigations_of domain (map bare_mitigation ms)) (mitigations_of domain (map bare_mitigation ms)))) out ∙ go)
 
-shown_bare : (t : ℕ) (m : Mitigation) → live_view t (bare_mitigation m) ≡ live_view t m
-shown_bare t m = by_status m.put m.status
+view_of_bare : (t : ℕ) (m : Mitigation) → live_view t (bare_mitigation m) ≡ live_view t m
+view_of_bare t m = by_status m.put m.status
   where
     by_status : (e : Entry) (s : Status) → live_view t (record { put = bare e; status = s }) ≡ live_view t (record { put = e; status = s })
     by_status e Ended = refl
@@ -240,7 +240,7 @@ of_cuid_bare cuid t (m ∷ ms) =
     (of_cuid cuid ms)
     (λ xs. map (live_view t) (cond (bytes_eq m.put.cuid cuid) (bare_mitigation m ∷ of_cuid cuid (map bare_mitigation ms)) (of_cuid cuid (map bare_mitigation ms))) ≡ map (live_view t) xs)
     (λ is. ap (λ b. map (live_view t) (cond b (bare_mitigation m ∷ of_cuid cuid (map bare_mitigation ms)) (of_cuid cuid (map bare_mitigation ms)))) is
-    ∙ ap (λ y. y ∷ map (live_view t) (of_cuid cuid (map bare_mitigation ms))) (shown_bare t m)
+    ∙ ap (λ y. y ∷ map (live_view t) (of_cuid cuid (map bare_mitigation ms))) (view_of_bare t m)
     ∙ ap (λ ys. live_view t m ∷ ys) go)
     (λ out. ap (λ b. map (live_view t) (cond b (bare_mitigation m ∷ of_cuid cuid (map bare_mitigation ms)) (of_cuid cuid (map bare_mitigation ms)))) out ∙ go)
 
@@ -257,8 +257,8 @@ pub lives_are : (t domain : ℕ) (entries : List Entry) → map live_of (mitigat
 lives_are t domain entries =
     ap (λ ms. map live_of (mitigations_of domain ms)) (bare_mitigations t entries) ∙ read_bare live_of domain (mitigations t entries) (λ m. refl)
 
-pub shown_are : (t domain : ℕ) (cuid : List ℕ) (entries : List Entry) → live_views_of t cuid (mitigations_of domain (mitigations t (map bare entries))) ≡ live_views_in domain cuid t entries
-shown_are t domain cuid entries =
+pub views_are : (t domain : ℕ) (cuid : List ℕ) (entries : List Entry) → live_views_of t cuid (mitigations_of domain (mitigations t (map bare entries))) ≡ live_views_in domain cuid t entries
+views_are t domain cuid entries =
     ap (λ ms. live_views_of t cuid (mitigations_of domain ms)) (bare_mitigations t entries)
     ∙ ap (live_views_of t cuid) (of_domain_bare domain (mitigations t entries))
     ∙ of_cuid_bare cuid t (mitigations_of domain (mitigations t entries))

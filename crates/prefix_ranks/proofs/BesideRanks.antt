@@ -15,10 +15,10 @@ use Rattle.prefix_ranks.proofs.Ranked.{ranked_with, ranked_without, ranked_back,
 use Rattle.prefix_ranks.proofs.Counting.{levels_with, levels_without}
 use Rattle.prefix_ranks.proofs.Runs.{FirstLevel}
 
-pub kept_with : (rank : Rank) (ranks later : List Rank) (numbers more slots others : List ℕ) (levels counts : List Level) (at : ℕ) → StandBeside ranks numbers slots levels
+pub beside_with : (rank : Rank) (ranks later : List Rank) (numbers more slots others : List ℕ) (levels counts : List Level) (at : ℕ) → StandBeside ranks numbers slots levels
     → at ≡ place_of rank ranks → later ≡ insert ranks at rank → more ≡ insert numbers at (low_of rank) → others ≡ insert slots at (slot_of rank) → counts ≡ one_more rank.kind levels
     → StandBeside later more others counts
-kept_with rank ranks later numbers more slots others levels counts at beside here rows news ones counted =
+beside_with rank ranks later numbers more slots others levels counts at beside here rows news ones counted =
     let all : later ≡ with_rank rank ranks = rows ∙ ap (λ (n : ℕ). insert ranks n rank) here in
     record {
       in_order = subst AreRanked (sym all) (ranked_with rank ranks beside.in_order);
@@ -27,11 +27,11 @@ kept_with rank ranks later numbers more slots others levels counts at beside her
       levels_are = counted ∙ ap (one_more rank.kind) beside.levels_are ∙ sym (levels_with rank ranks (kinds_rise ranks beside.in_order)) ∙ ap levels_of (sym all);
     }
 
-pub kept_without : (rank : Rank) (ranks rest later : List Rank) (numbers fewer slots others : List ℕ) (levels counts : List Level) (at : ℕ) → StandBeside ranks numbers slots levels
+pub beside_without : (rank : Rank) (ranks rest later : List Rank) (numbers fewer slots others : List ℕ) (levels counts : List Level) (at : ℕ) → StandBeside ranks numbers slots levels
     → ranks ≡ with_rank rank rest
     → at ≡ place_of rank ranks → later ≡ remove ranks at → fewer ≡ remove numbers at → others ≡ remove slots at → counts ≡ one_less rank.kind levels
     → StandBeside later fewer others counts
-kept_without rank ranks rest later numbers fewer slots others levels counts at beside split here rows news ones counted =
+beside_without rank ranks rest later numbers fewer slots others levels counts at beside split here rows news ones counted =
     let left : later ≡ rest = rows ∙ ap (remove ranks) here ∙ ap (λ rs. remove rs (place_of rank rs)) split ∙ taken_back rank rest in
     let order : AreRanked later = subst AreRanked (sym rows) (ranked_without ranks at beside.in_order) in
     record {
@@ -42,9 +42,9 @@ kept_without rank ranks rest later numbers fewer slots others levels counts at b
           ∙ sym (ap levels_of left ∙ levels_without rank ranks rest split (kinds_rise rest (subst AreRanked left order)));
     }
 
-pub kept_behind : (ranks later : List Rank) (numbers fewer slots others : List ℕ) (levels : List Level) (l : Level) (ls : List Level) → StandBeside ranks numbers slots levels → FirstLevel l ls ranks
+pub beside_behind : (ranks later : List Rank) (numbers fewer slots others : List ℕ) (levels : List Level) (l : Level) (ls : List Level) → StandBeside ranks numbers slots levels → FirstLevel l ls ranks
     → later ≡ drop l.len ranks → fewer ≡ drop l.len numbers → others ≡ drop l.len slots → StandBeside later fewer others ls
-kept_behind ranks later numbers fewer slots others levels l ls beside first rows news ones = record {
+beside_behind ranks later numbers fewer slots others levels l ls beside first rows news ones = record {
   in_order = subst AreRanked (sym rows) (ranked_back l.len ranks beside.in_order);
   numbers_are = news ∙ ap (drop l.len) beside.numbers_are ∙ drop-map low_of l.len ranks ∙ ap (map low_of) (sym rows);
   slots_are = ones ∙ ap (drop l.len) beside.slots_are ∙ drop-map slot_of l.len ranks ∙ ap (map slot_of) (sym rows);

@@ -72,30 +72,30 @@ numbers_rise kind (x ∷ xs) order of_kind = (
   numbers_rise kind xs order.1 of_kind.1,
 )
 
-each_kept : (P : Rank → Type 0) (p : Rank → Bool) (xs : List Rank) → AllByRecursion P xs → AllByRecursion P (filter p xs)
-each_kept P p [] all = all
-each_kept P p (x ∷ xs) all =
-    elim (p x) as (λ v. AllByRecursion P (cond v (x ∷ filter p xs) (filter p xs))) [ true ↦ (all.0, each_kept P p xs all.1) | false ↦ each_kept P p xs all.1 ]
+each_filtered : (P : Rank → Type 0) (p : Rank → Bool) (xs : List Rank) → AllByRecursion P xs → AllByRecursion P (filter p xs)
+each_filtered P p [] all = all
+each_filtered P p (x ∷ xs) all =
+    elim (p x) as (λ v. AllByRecursion P (cond v (x ∷ filter p xs) (filter p xs))) [ true ↦ (all.0, each_filtered P p xs all.1) | false ↦ each_filtered P p xs all.1 ]
 
-kept_in_order : (p : Rank → Bool) (xs : List Rank) → AreRanked xs → AreRanked (filter p xs)
-kept_in_order p [] order = order
-kept_in_order p (x ∷ xs) order =
+filtered_in_order : (p : Rank → Bool) (xs : List Rank) → AreRanked xs → AreRanked (filter p xs)
+filtered_in_order p [] order = order
+filtered_in_order p (x ∷ xs) order =
     elim (p x) as (λ v. AreRanked (cond v (x ∷ filter p xs) (filter p xs))) [
-      | true ↦ (each_kept (λ later. is_before later x ≡ false) p xs order.0, kept_in_order p xs order.1)
-      | false ↦ kept_in_order p xs order.1
+      | true ↦ (each_filtered (λ later. is_before later x ≡ false) p xs order.0, filtered_in_order p xs order.1)
+      | false ↦ filtered_in_order p xs order.1
     ]
 
-kept_of_kind : (kind : ℕ) (xs : List Rank) → OfKind kind (filter (is_of_kind kind) xs)
-kept_of_kind kind [] = tt
-kept_of_kind kind (x ∷ xs) =
+filtered_of_kind : (kind : ℕ) (xs : List Rank) → OfKind kind (filter (is_of_kind kind) xs)
+filtered_of_kind kind [] = tt
+filtered_of_kind kind (x ∷ xs) =
     elim (x.kind == kind) as (λ v. x.kind == kind ≡ v → OfKind kind (cond v (x ∷ filter (is_of_kind kind) xs) (filter (is_of_kind kind) xs))) [
-      | true ↦ λ is. (eqb-true _ _ is, kept_of_kind kind xs)
-      | false ↦ λ is. kept_of_kind kind xs
+      | true ↦ λ is. (eqb-true _ _ is, filtered_of_kind kind xs)
+      | false ↦ λ is. filtered_of_kind kind xs
     ] refl
 
 -- the ranks of one kind among all are in order of their numbers
 pub numbers_of_kind : (kind : ℕ) (xs : List Rank) → AreRanked xs → NumbersRise (filter (is_of_kind kind) xs)
-numbers_of_kind kind xs order = numbers_rise kind (filter (is_of_kind kind) xs) (kept_in_order (is_of_kind kind) xs order) (kept_of_kind kind xs)
+numbers_of_kind kind xs order = numbers_rise kind (filter (is_of_kind kind) xs) (filtered_in_order (is_of_kind kind) xs order) (filtered_of_kind kind xs)
 
 still_not_below : (bound low high : ℕ) → nat_lt low bound ≡ false → low ≤ high → nat_lt high bound ≡ false
 still_not_below bound low high fails more = grind arith

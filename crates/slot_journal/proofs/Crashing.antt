@@ -115,8 +115,8 @@ gap_refused slots half image records at is gap = elim (cases_lt gap.slot (length
   | inr over ↦ is.closed gap.slot (omega (arith, over)) gap.within (ap image (sym gap.there) ∙ gap.gate)
 ]
 
-pub held_not_refused : (settings : SettingsValue) (extent : ℕ) (image : ℕ → ℕ) (entries : List Entry) (why : JournalFault) → Holds settings image entries → Refuses settings extent image why → IsRefusal why → ⊥
-held_not_refused settings extent image entries (fault.NotOurs at) holds refuses refusal = by_cases holds.records refuses
+pub holds_not_refused : (settings : SettingsValue) (extent : ℕ) (image : ℕ → ℕ) (entries : List Entry) (why : JournalFault) → Holds settings image entries → Refuses settings extent image why → IsRefusal why → ⊥
+holds_not_refused settings extent image entries (fault.NotOurs at) holds refuses refusal = by_cases holds.records refuses
   where
     by_cases : HoldsRecords (slots_of settings) settings.digest image (records_of entries) → Refuses settings extent image (fault.NotOurs at) → ⊥
     by_cases (inl blank) (inl (inl gates)) = blank_refused (slots_of settings) image at (record { gate = blank.gate; gates = blank.gates; none = refl }) gates.1
@@ -126,14 +126,14 @@ held_not_refused settings extent image entries (fault.NotOurs at) holds refuses 
     by_cases (inr journal) (inl (inr header)) = header_refused (slots_of settings) settings.digest image at journal.header header.1
     by_cases (inr journal) (inr (header, inl bad)) = bad_refused (slots_of settings) (image 48 % 2) image entries at journal.half holds.each bad
     by_cases (inr journal) (inr (header, inr gap)) = gap_refused (slots_of settings) (image 48 % 2) image (records_of entries) at journal.half gap
-held_not_refused settings extent image entries (fault.SettingsChanged stored given) holds refuses refusal = by_cases holds.records
+holds_not_refused settings extent image entries (fault.SettingsChanged stored given) holds refuses refusal = by_cases holds.records
   where
     by_cases : HoldsRecords (slots_of settings) settings.digest image (records_of entries) → ⊥
     by_cases (inl blank) = blank.gate refuses.0.0
     by_cases (inr journal) = fits_not (slots_of settings) settings.digest image 16 48 refuses.0.1.wrong.0 (omega arith) journal.header refuses.0.1.wrong.1
-held_not_refused settings extent image entries (fault.TooSmall needed bytes) holds refuses refusal = absurd refusal
-held_not_refused settings extent image entries fault.DiskFault holds refuses refusal = absurd refusal
-held_not_refused settings extent image entries fault.NoMemory holds refuses refusal = absurd refusal
+holds_not_refused settings extent image entries (fault.TooSmall needed bytes) holds refuses refusal = absurd refusal
+holds_not_refused settings extent image entries fault.DiskFault holds refuses refusal = absurd refusal
+holds_not_refused settings extent image entries fault.NoMemory holds refuses refusal = absurd refusal
 
 -- ---- what is recovered after a crash
 
@@ -152,8 +152,8 @@ survived settings before after found image (inl is) held = inl (one_history sett
 survived settings before after found image (inr is) held = inr (one_history settings image found after held is)
 
 pub left_not_refused : (settings : SettingsValue) (extent : ℕ) (before after : List Entry) (image : ℕ → ℕ) (why : JournalFault) → HoldsEither settings before after image → Refuses settings extent image why → IsRefusal why → ⊥
-left_not_refused settings extent before after image why (inl is) refuses refusal = held_not_refused settings extent image before why is refuses refusal
-left_not_refused settings extent before after image why (inr is) refuses refusal = held_not_refused settings extent image after why is refuses refusal
+left_not_refused settings extent before after image why (inl is) refuses refusal = holds_not_refused settings extent image before why is refuses refusal
+left_not_refused settings extent before after image why (inr is) refuses refusal = holds_not_refused settings extent image after why is refuses refusal
 
 pub on_ok_as : {A E : Type 0} {P R : Type 0} (result : Result A E) → (P → R) → OnOk result P → OnOk result R
 on_ok_as (Ok x) made is = made is

@@ -66,12 +66,12 @@ read_refused seen at room len bytes why found whole same none = slot_refused see
 
 -- ---- the entries, one after the other
 
-pub none_held : (slots half : ℕ) (seen : ℕ → ℕ) → HoldsFirst slots half seen []
-none_held slots half seen slot under = absurd (omega (arith, under))
+pub holds_none : (slots half : ℕ) (seen : ℕ → ℕ) → HoldsFirst slots half seen []
+holds_none slots half seen slot under = absurd (omega (arith, under))
 
-pub one_more_held : (slots half : ℕ) (seen : ℕ → ℕ) (entries : List Entry) (entry : Entry) → HoldsFirst slots half seen entries → IsSlot seen (place_of slots half (length entries)) (record_bytes entry)
+pub holds_one_more : (slots half : ℕ) (seen : ℕ → ℕ) (entries : List Entry) (entry : Entry) → HoldsFirst slots half seen entries → IsSlot seen (place_of slots half (length entries)) (record_bytes entry)
     → HoldsFirst slots half seen (entries ++ entry ∷ [])
-one_more_held slots half seen entries entry first next slot under = elim (cases_eq slot (length entries)) [
+holds_one_more slots half seen entries entry first next slot under = elim (cases_eq slot (length entries)) [
   | inl same ↦
       let count : length (records_of entries) ≡ slot = length-map entries record_bytes ∙ sym same in
       let last : get_or (records_of (entries ++ entry ∷ [])) slot [] ≡ record_bytes entry = ap (λ records. get_or records slot []) (sym (records_push entries entry (record_bytes entry) refl)) ∙ last_of (records_of entries) (record_bytes entry) slot count in

@@ -16,7 +16,7 @@ use Rattle.slot_store.specs.Gates.{Sees}
 use Rattle.slot_store.specs.Refusing.{Refuses as RefusesStore, IsOpen, IsCount, Caused as CausedOpening}
 use Rattle.slot_store.specs.StoreValues.{JournalValue, RepresentsRecords, IsKnown}
 use Rattle.slot_store.proofs.Steps.{leaves_as, leaves_then, seen_at_rest, rests_as}
-use Rattle.slot_store.proofs.DiskReading.{sees_at_rest, rests_kept, leaves_kept}
+use Rattle.slot_store.proofs.DiskReading.{sees_at_rest, rests_unchanged, leaves_unchanged}
 use Rattle.slot_store.proofs.Counting.{opened_journal}
 use Rattle.slot_store.proofs.SameRecords.{one_list}
 use Rattle.slot_journal.specs.declared.fault.JournalFault.{JournalFault}
@@ -87,7 +87,7 @@ recovered between new settings store entries seen size known keeps count each ha
     } in
     record {
       held = holds settings store.slots seen (records_of entries) entries size (record { same = refl; each = each }) read.held;
-      rests = rests_kept between new (Represents store settings entries) keeps (rests_as between (Is found.0) (Represents store settings entries) (λ image same. subst (Represents store settings entries) (sym same) represents) found.1);
+      rests = rests_unchanged between new (Represents store settings entries) keeps (rests_as between (Is found.0) (Represents store settings entries) (λ image same. subst (Represents store settings entries) (sym same) represents) found.1);
     }
 
 -- ---- what is held stays held
@@ -103,7 +103,7 @@ holds_reading start between new settings store entries seen size is known keeps 
     let opened : IsOpen (slots_of settings) settings.digest seen store.selector found.0 = subst (λ slots. IsOpen slots settings.digest seen store.selector found.0) size found.2.opened in
     let journal = opened_journal (slots_of settings) settings.digest seen found.0 store.selector (records_of entries) opened is.records in
     leaves_then start between new (λ image. Holds settings image entries) (holds_opening start between settings entries is.each leaves)
-    (leaves_kept between new found.0 (λ image. Holds settings image entries) keeps found.1 (record { records = inr journal; each = is.each }))
+    (leaves_unchanged between new found.0 (λ image. Holds settings image entries) keeps found.1 (record { records = inr journal; each = is.each }))
 
 -- ---- why a half is refused
 
@@ -155,7 +155,7 @@ not_written between new digest store seen why other known keeps some refuses =
     let found = seen_at_rest between (IsKnown store digest seen) known in
     let opened = by_fault why found.0 found.2 other some (refuses found.0 (sees_at_rest between found.0 found.1) found.2.count) in
     let was = as_it_was store digest seen found.0 opened.0 found.2 opened.1 opened.2 in
-    rests_kept between new (Is seen) keeps (rests_as between (Is found.0) (Is seen) (λ image same. same ∙ was.1) found.1)
+    rests_unchanged between new (Is seen) keeps (rests_as between (Is found.0) (Is seen) (λ image same. same ∙ was.1) found.1)
   where
     by_fault : (why : JournalFault) (image : ℕ → ℕ) → IsKnown store digest seen image → why ≢ fault.DiskFault → (why ≡ fault.NoMemory → 0 < store.used) → RefusesHalf store.slots (store.selector % 2) image why
         → (slot : ℕ) × (slot < store.slots) × (image (place_of store.slots (store.selector % 2) slot) ≡ 165)

@@ -6,7 +6,7 @@ use Rattle.slot_store.specs.Layout.{place_of, IsSlot, IsHalf, IsJournal}
 use Rattle.slot_store.specs.StoreValues.{HoldsEither, sized}
 use Rattle.slot_store.specs.Opening.{IsOpening, IsOpened}
 use Rattle.slot_store.proofs.Places.{Agree, same_header, same_slot}
-use Rattle.slot_store.proofs.SameRecords.{journal_kept, half_more}
+use Rattle.slot_store.proofs.SameRecords.{journal_same, half_more}
 
 -- slots of a half lie behind the header and behind each other
 pub behind_header : (slots half slot place : ℕ) → place < 64 → place < place_of slots half slot
@@ -30,9 +30,9 @@ slot_of image at added gate fits bytes =
 agree_front : (slots half used count : ℕ) (seen image : ℕ → ℕ) → ((place : ℕ) → (place < place_of slots half used ⊎ place_of slots half used + count ≤ place) → image place ≡ seen place) → Agree seen image 0 64
 agree_front slots half used count seen image kept place low high = kept place (inl (behind_header slots half used place high))
 
-agree_held : (slots half used count : ℕ) (seen image : ℕ → ℕ) → ((place : ℕ) → (place < place_of slots half used ⊎ place_of slots half used + count ≤ place) → image place ≡ seen place)
+agree_used : (slots half used count : ℕ) (seen image : ℕ → ℕ) → ((place : ℕ) → (place < place_of slots half used ⊎ place_of slots half used + count ≤ place) → image place ≡ seen place)
     → (slot : ℕ) → slot < used → Agree seen image (place_of slots half slot) 8192
-agree_held slots half used count seen image kept slot below place low high =
+agree_used slots half used count seen image kept slot below place low high =
     let apart = slots_apart slots half slot used below in
     kept place (inl (omega arith))
 
@@ -48,7 +48,7 @@ pub still_closed : (slots : ℕ) (digest : List ℕ) (records : List (List ℕ))
     → ((place : ℕ) → (place < place_of slots (seen 48 % 2) (length records) ⊎ place_of slots (seen 48 % 2) (length records) + count ≤ place) → image place ≡ seen place)
     → image (place_of slots (seen 48 % 2) (length records)) ≢ 165 → IsJournal slots digest image records
 still_closed slots digest records count seen image is small kept gate =
-    journal_kept slots digest seen image records (agree_front slots (seen 48 % 2) (length records) count seen image kept) (agree_held slots (seen 48 % 2) (length records) count seen image kept) closed is
+    journal_same slots digest seen image records (agree_front slots (seen 48 % 2) (length records) count seen image kept) (agree_used slots (seen 48 % 2) (length records) count seen image kept) closed is
   where
     closed : (slot : ℕ) → length records ≤ slot → slot < slots → image (place_of slots (seen 48 % 2) slot) ≢ 165
     closed slot low high = elim (cases_eq (length records) slot) [
@@ -72,7 +72,7 @@ now_open slots digest records added count seen image is room small kept last =
   where
     held : (slot : ℕ) → slot < length records → IsSlot image (place_of slots (seen 48 % 2) slot) (get_or records slot [])
     held slot below =
-        let agree = agree_held slots (seen 48 % 2) (length records) count seen image kept slot below in
+        let agree = agree_used slots (seen 48 % 2) (length records) count seen image kept slot below in
         same_slot seen image (place_of slots (seen 48 % 2) slot) (place_of slots (seen 48 % 2) slot) (get_or records slot [])
         (λ offset within. agree (place_of slots (seen 48 % 2) slot + offset) (omega arith) (omega arith)) (is.half.held slot below)
 

@@ -12,7 +12,7 @@ use Rattle.slot_store.specs.StoreValues.{RepresentsRecords, IsKnown}
 use Rattle.slot_store.specs.Refusing.{IsOpen, IsCount}
 use Rattle.slot_store.specs.Opening.{Is}
 use Rattle.slot_store.proofs.Steps.{seen_at_rest, rests_as, leaves_then}
-use Rattle.slot_store.proofs.DiskReading.{sees_at_rest, leaves_kept}
+use Rattle.slot_store.proofs.DiskReading.{sees_at_rest, leaves_unchanged}
 use Rattle.slot_store.proofs.SameRecords.{gate_of_header, one_list}
 
 gate_at : (slots half slot : ℕ) → place_of slots half 0 + 8192 * slot ≡ place_of slots half slot
@@ -64,9 +64,9 @@ opened_journal slots digest seen image selector records opened holds = by_cases 
     by_cases (inl as_it_was) (inr journal) = subst (λ image. IsJournal slots digest image records) (sym as_it_was.1) journal
     by_cases (inr formatted) holds = subst (IsJournal slots digest image) (one_list slots digest seen [] records (inl formatted.0) holds) formatted.1
 
-pub opened_stands : (new : Option Media) (slots : ℕ) (digest : List ℕ) (seen : ℕ → ℕ) (selector used : ℕ) (records : List (List ℕ)) → RestsWith new (IsOpen slots digest seen selector) → HoldsRecords slots digest seen records
+pub opened_is_there : (new : Option Media) (slots : ℕ) (digest : List ℕ) (seen : ℕ → ℕ) (selector used : ℕ) (records : List (List ℕ)) → RestsWith new (IsOpen slots digest seen selector) → HoldsRecords slots digest seen records
     → ((image : ℕ → ℕ) → Sees new image → IsCount slots (selector % 2) image used) → RestsWith new (RepresentsRecords (record { slots = slots; selector = selector; used = used }) digest records)
-opened_stands new slots digest seen selector used records rests holds count =
+opened_is_there new slots digest seen selector used records rests holds count =
     let found = seen_at_rest new (IsOpen slots digest seen selector) rests in
     let counted = count found.0 (sees_at_rest new found.0 found.1) in
     rests_as new (Is found.0) (RepresentsRecords (record { slots = slots; selector = selector; used = used }) digest records) (λ image same. stands image (subst (IsOpen slots digest seen selector) (sym same) found.2) (subst (λ image. IsCount slots (selector % 2) image used) (sym same) counted)) found.1
@@ -91,4 +91,4 @@ pub opened_reads : (start between new : Option Media) (slots : ℕ) (digest : Li
 opened_reads start between new slots digest seen selector records leaves rests holds keeps =
     let found = seen_at_rest between (IsOpen slots digest seen selector) rests in
     leaves_then start between new (λ image. HoldsRecords slots digest image records) leaves
-    (leaves_kept between new found.0 (λ image. HoldsRecords slots digest image records) keeps found.1 (inr (opened_journal slots digest seen found.0 selector records found.2 holds)))
+    (leaves_unchanged between new found.0 (λ image. HoldsRecords slots digest image records) keeps found.1 (inr (opened_journal slots digest seen found.0 selector records found.2 holds)))

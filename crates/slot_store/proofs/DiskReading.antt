@@ -58,15 +58,15 @@ reads_then (Some start) (Some between) (Some new) a b = (
   b.3 ∙ a.3,
 )
 
-pub sees_kept : (start new : Option Media) (seen : ℕ → ℕ) → KeepsMedia start new → Sees start seen → Sees new seen
-sees_kept None new seen keeps sees = absurd sees
-sees_kept (Some start) None seen keeps sees = absurd keeps
-sees_kept (Some start) (Some new) seen keeps sees = ap (λ medium. medium.seen) keeps.3 ∙ sees
+pub sees_unchanged : (start new : Option Media) (seen : ℕ → ℕ) → KeepsMedia start new → Sees start seen → Sees new seen
+sees_unchanged None new seen keeps sees = absurd sees
+sees_unchanged (Some start) None seen keeps sees = absurd keeps
+sees_unchanged (Some start) (Some new) seen keeps sees = ap (λ medium. medium.seen) keeps.3 ∙ sees
 
-pub rests_kept : (start new : Option Media) (P : (ℕ → ℕ) → Type 0) → KeepsMedia start new → RestsWith start P → RestsWith new P
-rests_kept None new P keeps rests = absurd rests
-rests_kept (Some start) None P keeps rests = absurd keeps
-rests_kept (Some start) (Some new) P keeps rests = subst (λ medium. (medium.pending ≡ []) × P medium.seen) (sym keeps.3) rests
+pub rests_unchanged : (start new : Option Media) (P : (ℕ → ℕ) → Type 0) → KeepsMedia start new → RestsWith start P → RestsWith new P
+rests_unchanged None new P keeps rests = absurd rests
+rests_unchanged (Some start) None P keeps rests = absurd keeps
+rests_unchanged (Some start) (Some new) P keeps rests = subst (λ medium. (medium.pending ≡ []) × P medium.seen) (sym keeps.3) rests
 
 pub sees_at_rest : (start : Option Media) (seen : ℕ → ℕ) → RestsWith start (Is seen) → Sees start seen
 sees_at_rest None seen rests = absurd rests
@@ -77,10 +77,10 @@ bytes_seen None seen at count bytes read sees = absurd sees
 bytes_seen (Some start) seen at count bytes read sees = read ∙ ap (λ seen. bytes_at seen at count) sees
 
 -- while a disk at rest is read, its images are what a read gives
-pub leaves_kept : (start new : Option Media) (seen : ℕ → ℕ) (P : (ℕ → ℕ) → Type 0) → KeepsMedia start new → RestsWith start (Is seen) → P seen → Leaves start new P
-leaves_kept None new seen P keeps rests holds = absurd rests
-leaves_kept (Some start) None seen P keeps rests holds = absurd keeps
-leaves_kept (Some start) (Some new) seen P keeps rests holds = (keeps.0, keeps.1, each keeps.0 keeps.2)
+pub leaves_unchanged : (start new : Option Media) (seen : ℕ → ℕ) (P : (ℕ → ℕ) → Type 0) → KeepsMedia start new → RestsWith start (Is seen) → P seen → Leaves start new P
+leaves_unchanged None new seen P keeps rests holds = absurd rests
+leaves_unchanged (Some start) None seen P keeps rests holds = absurd keeps
+leaves_unchanged (Some start) (Some new) seen P keeps rests holds = (keeps.0, keeps.1, each keeps.0 keeps.2)
   where
     image_of : (medium : Medium) → medium ≡ start.now → Images P medium
     image_of medium same = λ image of.

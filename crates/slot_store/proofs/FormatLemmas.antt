@@ -12,7 +12,7 @@ use Rattle.slot_store.specs.Gates.{is_wanted}
 use Rattle.slot_store.specs.Gates.{NoneIs, IsFirst}
 use Rattle.slot_store.specs.Refusing.{IsStrayGate}
 use Rattle.slot_store.proofs.Steps.{leaves_as, leaves_then, rests_as}
-use Rattle.slot_store.proofs.DiskReading.{leaves_kept, rests_kept}
+use Rattle.slot_store.proofs.DiskReading.{leaves_unchanged, rests_unchanged}
 
 -- ---- gates of both halves
 
@@ -62,8 +62,8 @@ pub record IsRest (slots : ℕ) (digest : List ℕ) (bytes : List ℕ) : Type 0 
   pub each : (offset : ℕ) → offset < 63 → get_or bytes offset 0 ≡ byte_of (header_of slots digest) (1 + offset)
   pub selector : byte_of (header_of slots digest) 48 ≡ 0
 
-stands_there : (slots : ℕ) (digest : List ℕ) (bytes : List ℕ) (image : ℕ → ℕ) → IsRest slots digest bytes → bytes_at image (0 + 1) (length bytes) ≡ bytes → (offset : ℕ) → offset < 63 → image (1 + offset) ≡ byte_of (header_of slots digest) (1 + offset)
-stands_there slots digest bytes image rest stands offset under =
+is_there : (slots : ℕ) (digest : List ℕ) (bytes : List ℕ) (image : ℕ → ℕ) → IsRest slots digest bytes → bytes_at image (0 + 1) (length bytes) ≡ bytes → (offset : ℕ) → offset < 63 → image (1 + offset) ≡ byte_of (header_of slots digest) (1 + offset)
+is_there slots digest bytes image rest stands offset under =
     let size = rest.size in
     let inside : offset < length bytes = omega arith in
     let place : 1 + offset ≡ 0 + 1 + offset = omega arith in
@@ -72,7 +72,7 @@ stands_there slots digest bytes image rest stands offset under =
 pub formatted : (slots : ℕ) (digest : List ℕ) (bytes : List ℕ) (seen image : ℕ → ℕ) → IsRest slots digest bytes → IsBlank slots seen [] → ((place : ℕ) → 64 ≤ place → image place ≡ seen place) → image 0 ≡ 165
     → bytes_at image (0 + 1) (length bytes) ≡ bytes → IsJournal slots digest image [] × (image 48 ≡ 0)
 formatted slots digest bytes seen image rest blank kept gate stands =
-    let selector : image 48 ≡ 0 = stands_there slots digest bytes image rest stands 47 (omega arith) ∙ rest.selector in
+    let selector : image 48 ≡ 0 = is_there slots digest bytes image rest stands 47 (omega arith) ∙ rest.selector in
     let half : 0 ≡ image 48 % 2 = sym (ap (λ n. n % 2) selector) in
     (record { header = header; half = subst (λ half. IsHalf slots half image []) half empty }, selector)
   where
@@ -81,7 +81,7 @@ formatted slots digest bytes seen image rest blank kept gate stands =
     header (suc place) low other =
         let offset : place < 63 = omega arith in
         let here : suc place ≡ 1 + place = omega arith in
-        ap image here ∙ stands_there slots digest bytes image rest stands place offset ∙ ap (byte_of (header_of slots digest)) (sym here)
+        ap image here ∙ is_there slots digest bytes image rest stands place offset ∙ ap (byte_of (header_of slots digest)) (sym here)
 
     empty : IsHalf slots 0 image []
     empty = record {
@@ -115,16 +115,16 @@ format_image slots digest bytes seen image rest blank opening = elim (cases_eq (
 -- ---- the calls
 
 pub format_reads : (start new : Option Media) (slots : ℕ) (digest : List ℕ) (seen : ℕ → ℕ) → KeepsMedia start new → RestsWith start (Is seen) → IsBlank slots seen [] → Leaves start new (λ image. HoldsRecords slots digest image [])
-format_reads start new slots digest seen keeps rests blank = leaves_kept start new seen (λ image. HoldsRecords slots digest image []) keeps rests (inl blank)
+format_reads start new slots digest seen keeps rests blank = leaves_unchanged start new seen (λ image. HoldsRecords slots digest image []) keeps rests (inl blank)
 
 pub format_leaves : (start between new : Option Media) (slots : ℕ) (digest : List ℕ) (bytes : List ℕ) (seen : ℕ → ℕ) → IsRest slots digest bytes → KeepsMedia start between → ((seen : ℕ → ℕ) → RestsWith between (Is seen) → Leaves between new (IsOpening seen 0 bytes))
     → RestsWith start (Is seen) → IsBlank slots seen [] → Leaves start new (λ image. HoldsRecords slots digest image [])
 format_leaves start between new slots digest bytes seen rest keeps moments rests blank =
     leaves_then start between new (λ image. HoldsRecords slots digest image []) (format_reads start between slots digest seen keeps rests blank)
-    (leaves_as between new (IsOpening seen 0 bytes) (λ image. HoldsRecords slots digest image []) (λ image opening. format_image slots digest bytes seen image rest blank opening) (moments seen (rests_kept start between (Is seen) keeps rests)))
+    (leaves_as between new (IsOpening seen 0 bytes) (λ image. HoldsRecords slots digest image []) (λ image opening. format_image slots digest bytes seen image rest blank opening) (moments seen (rests_unchanged start between (Is seen) keeps rests)))
 
 pub format_rests : (start between new : Option Media) (slots : ℕ) (digest : List ℕ) (bytes : List ℕ) (seen : ℕ → ℕ) → IsRest slots digest bytes → KeepsMedia start between → ((seen : ℕ → ℕ) → RestsWith between (Is seen) → RestsWith new (IsOpened seen 0 bytes))
     → RestsWith start (Is seen) → IsBlank slots seen [] → RestsWith new (λ image. IsJournal slots digest image [] × (image 48 ≡ 0))
 format_rests start between new slots digest bytes seen rest keeps opened rests blank =
     rests_as new (IsOpened seen 0 bytes) (λ image. IsJournal slots digest image [] × (image 48 ≡ 0))
-    (λ image is. formatted slots digest bytes seen image rest blank (λ place high. is.kept place (inr (let size = rest.size in omega arith))) is.gate is.bytes) (opened seen (rests_kept start between (Is seen) keeps rests))
+    (λ image is. formatted slots digest bytes seen image rest blank (λ place high. is.kept place (inr (let size = rest.size in omega arith))) is.gate is.bytes) (opened seen (rests_unchanged start between (Is seen) keeps rests))

@@ -14,7 +14,7 @@ use Rattle.slot_store.specs.Refusing.{Fits, FirstWrong, IsForm, IsOtherHeader, R
 use Rattle.slot_store.proofs.SameRecords.{gate_of_header}
 use Rattle.slot_store.proofs.Steps.{Images, Rests, leaves_as, leaves_then, rests_as}
 use Rattle.slot_store.proofs.OpeningLemmas.{rests_settled, images_at_rest}
-use Rattle.slot_store.proofs.DiskReading.{leaves_kept}
+use Rattle.slot_store.proofs.DiskReading.{leaves_unchanged}
 use Rattle.slot_store.proofs.Stages.{more, unsynced, no_call}
 
 -- ---- the first sync
@@ -37,7 +37,7 @@ sync_rests (Some start) (Some new) seen sees becomes =
     (ap (λ medium. medium.pending) same, ap (λ medium. medium.seen) same ∙ sees)
 
 pub sync_reads : (start between new : Option Media) (seen : ℕ → ℕ) → Leaves start between (Is seen) → KeepsMedia between new → RestsWith between (Is seen) → Leaves start new (Is seen)
-sync_reads start between new seen leaves keeps rests = leaves_then start between new (Is seen) leaves (leaves_kept between new seen (Is seen) keeps rests refl)
+sync_reads start between new seen leaves keeps rests = leaves_then start between new (Is seen) leaves (leaves_unchanged between new seen (Is seen) keeps rests refl)
 
 -- ---- the header that was read
 

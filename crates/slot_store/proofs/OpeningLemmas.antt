@@ -81,15 +81,15 @@ opened seen at bytes old now rests is = record {
 pub bytes_stand : (seen : ℕ → ℕ) (at : ℕ) (bytes : List ℕ) (image : ℕ → ℕ) → ((place : ℕ) → at + 1 ≤ place → image place ≡ overwritten seen (at + 1) bytes place) → bytes_at image (at + 1) (length bytes) ≡ bytes
 bytes_stand seen at bytes image same = same_bytes (overwritten seen (at + 1) bytes) image (at + 1) (length bytes) (λ place low high. same place low) ∙ bytes_written seen (at + 1) bytes
 
-pub kept_outside : (seen : ℕ → ℕ) (at : ℕ) (bytes : List ℕ) (image : ℕ → ℕ) → ((place : ℕ) → (place < at ⊎ at + 1 ≤ place) → image place ≡ overwritten seen (at + 1) bytes place)
+pub same_outside : (seen : ℕ → ℕ) (at : ℕ) (bytes : List ℕ) (image : ℕ → ℕ) → ((place : ℕ) → (place < at ⊎ at + 1 ≤ place) → image place ≡ overwritten seen (at + 1) bytes place)
     → (place : ℕ) → (place < at ⊎ at + 1 + length bytes ≤ place) → image place ≡ seen place
-kept_outside seen at bytes image same place (inl below) = same place (inl below) ∙ overwritten_outside seen (at + 1) bytes place (inl (omega arith))
-kept_outside seen at bytes image same place (inr past) = same place (inr (omega arith)) ∙ overwritten_outside seen (at + 1) bytes place (inr past)
+same_outside seen at bytes image same place (inl below) = same place (inl below) ∙ overwritten_outside seen (at + 1) bytes place (inl (omega arith))
+same_outside seen at bytes image same place (inr past) = same place (inr (omega arith)) ∙ overwritten_outside seen (at + 1) bytes place (inr past)
 
 pub images_opening : (seen : ℕ → ℕ) (at : ℕ) (bytes : List ℕ) (medium : Medium) → Opens seen at bytes medium → Images (IsOpening seen at bytes) medium
 images_opening seen at bytes medium opens = λ image of.
     let same = as_seen image of in
-    record { kept = kept_outside seen at bytes image same; gate = inr (bytes_stand seen at bytes image (λ place low. same place (inr low))) }
+    record { kept = same_outside seen at bytes image same; gate = inr (bytes_stand seen at bytes image (λ place low. same place (inr low))) }
   where
     as_seen : (image : ℕ → ℕ) → IsImage medium image → (place : ℕ) → (place < at ⊎ at + 1 ≤ place) → image place ≡ overwritten seen (at + 1) bytes place
     as_seen image of place outside = outside_one medium image at 1 place opens.pending of outside ∙ opens.kept place outside
@@ -98,7 +98,7 @@ pub settled_opened : (seen : ℕ → ℕ) (at : ℕ) (bytes : List ℕ) (old now
 settled_opened seen at bytes old now is same = (
   ap (λ medium. medium.pending) same,
   record {
-    kept = kept_outside seen at bytes now.seen as_old;
+    kept = same_outside seen at bytes now.seen as_old;
     gate = ap (λ medium. medium.seen at) same ∙ is.gate;
     bytes = bytes_stand seen at bytes now.seen (λ place low. as_old place (inr low));
   },

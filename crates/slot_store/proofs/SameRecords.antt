@@ -15,10 +15,10 @@ same_half slots half old new records held closed is = record {
   closed = closed;
 }
 
-pub journal_kept : (slots : ℕ) (digest : List ℕ) (old new : ℕ → ℕ) (records : List (List ℕ)) → Agree old new 0 64
+pub journal_same : (slots : ℕ) (digest : List ℕ) (old new : ℕ → ℕ) (records : List (List ℕ)) → Agree old new 0 64
     → ((slot : ℕ) → slot < length records → Agree old new (place_of slots (old 48 % 2) slot) 8192)
     → ((slot : ℕ) → length records ≤ slot → slot < slots → new (place_of slots (old 48 % 2) slot) ≢ 165) → IsJournal slots digest old records → IsJournal slots digest new records
-journal_kept slots digest old new records front held closed is =
+journal_same slots digest old new records front held closed is =
     let selector : new 48 ≡ old 48 = front 48 (omega arith) (omega arith) in
     let half : old 48 % 2 ≡ new 48 % 2 = ap (λ n. n % 2) (sym selector) in
     record {

@@ -5,7 +5,7 @@ use Rattle.dots_disk.specs.Becoming.{Becomes, MayBecome, Stays, Leaves, RestsWit
 use Rattle.slot_store.specs.Opening.{IsOpening, IsOpened, Is}
 use Rattle.slot_store.proofs.Steps.{Now, Images, Rests, begins, rests_now, leaves_more, leaves_lost, now_then, rests_with}
 use Rattle.slot_store.proofs.Places.{same_bytes}
-use Rattle.slot_store.proofs.OpeningLemmas.{Wrote, Opened, behind, behind_torn, wrote_behind, images_behind, images_opening, opens_torn, opened, settled_opened, rests_settled, images_at_rest, images_stay, kept_outside, bytes_stand}
+use Rattle.slot_store.proofs.OpeningLemmas.{Wrote, Opened, behind, behind_torn, wrote_behind, images_behind, images_opening, opens_torn, opened, settled_opened, rests_settled, images_at_rest, images_stay, same_outside, bytes_stand}
 
 -- what was left at each moment, and what is now
 pub record Stage (start new : Option Media) (P : (ℕ → ℕ) → Type 0) (Q : Medium → Type 0) : Type 0 where
@@ -30,7 +30,7 @@ unsynced start between new P Q stage becomes images = leaves_lost start between 
 -- a disk at rest whose bytes stand behind the gate
 images_written : (seen : ℕ → ℕ) (at : ℕ) (bytes : List ℕ) (now : Medium) → Rests (overwritten seen (at + 1) bytes) now → Images (IsOpening seen at bytes) now
 images_written seen at bytes now rests = images_at_rest (overwritten seen (at + 1) bytes) now (IsOpening seen at bytes) rests (λ image same. record {
-  kept = kept_outside seen at bytes image (λ place outside. same place);
+  kept = same_outside seen at bytes image (λ place outside. same place);
   gate = inr (bytes_stand seen at bytes image (λ place low. same place));
 })
 

@@ -7,7 +7,7 @@ use Rattle.cbor_profile.specs.ItemReading.{item_read, item_at, items_at, open_it
 use Rattle.cbor_profile.specs.ItemTrees.{tree_of, trees, tree_pairs}
 use Rattle.cbor_profile.specs.Gathering.{gathered, AllBefore}
 use Rattle.cbor_profile.specs.Keys.{has_key}
-use Rattle.cbor_profile.proofs.WholeReading.{held}
+use Rattle.cbor_profile.proofs.WholeReading.{short_bytes}
 use Rattle.cbor_profile.proofs.Inside.{small_read, item_short, value_begun, indefinite_begun, reserved_begun, unsupported_begun, gives_same}
 use Rattle.cbor_profile.proofs.Paired.{key_sound, item_sound, same_gathered, put_gathered}
 use Rattle.cbor_profile.proofs.Made.{array_made, array_fails, map_made, map_fails}
@@ -23,12 +23,12 @@ read_item-returns-in-Some-clause-value t c = small_read c.args.levels c.args.end
 
 pub read_item-returns-in-Some-clause-sound : goal.read_item-returns-in-Some-clause-sound
 read_item-returns-in-Some-clause-sound t c =
-    key_sound c.args.levels c.args.end c.args.bytes.now c.in-Some.rest.now _ (held c.args.bytes.now (λ i. omega (arith, c.type_inv.bytes i)) (omega (arith, c.requires, c.ranges.end.fits)))
+    key_sound c.args.levels c.args.end c.args.bytes.now c.in-Some.rest.now _ (short_bytes c.args.bytes.now (λ i. omega (arith, c.type_inv.bytes i)) (omega (arith, c.requires, c.ranges.end.fits)))
     (read_item-returns-in-Some-clause-value t c)
 
 pub read_item-returns-in_default-clause-sound : goal.read_item-returns-in_default-clause-sound
 read_item-returns-in_default-clause-sound t c =
-    item_sound c.read_long_item.result c.args.levels c.args.end c.args.bytes.now (held c.args.bytes.now (λ i. omega (arith, c.type_inv.bytes i)) (omega (arith, c.requires, c.ranges.end.fits))) c.read_long_item.ensures.value
+    item_sound c.read_long_item.result c.args.levels c.args.end c.args.bytes.now (short_bytes c.args.bytes.now (λ i. omega (arith, c.type_inv.bytes i)) (omega (arith, c.requires, c.ranges.end.fits))) c.read_long_item.ensures.value
 
 pub read_long_item-returns-in_default-clause-value : goal.read_long_item-returns-in_default-clause-value
 read_long_item-returns-in_default-clause-value t c = item_short c.args.levels c.args.end c.args.bytes.now c.in_default.ensures.cases

@@ -3,7 +3,7 @@ use Rattle.conflict_rules.specs.Wanted.{wanted}
 use Rattle.conflict_rules.specs.ByOverlap.{resolved}
 use Rattle.conflict_rules.specs.declared.fault.PutFault.TheVariants as faults
 use Rattle.conflict_rules.specs.Marking.{marked}
-use Rattle.conflict_rules.proofs.Faults.{fault_is, told}
+use Rattle.conflict_rules.proofs.Faults.{fault_is, marked_meeting}
 use Rattle.conflict_rules.proofs.judging.overlap_fault.Goals as goal
 
 pub returns-in_ok-prefixes-in-Other : goal.returns-in_ok-prefixes-in-Other
@@ -12,7 +12,7 @@ returns-in_ok-prefixes-in-Other g c =
     (λ ps. Some (faults.Other ps))
     (c.in_ok-prefixes-in-Other.ensures
     ∙ ap (λ ts. marked (resolved ts) c.in-Other.meeting) c.items.ensures
-    ∙ told
+    ∙ marked_meeting
     (map g.T.Mitigates.live c.args.live.now)
     c.request.inside.cuid.now
     (wanted c.request.inside.mid c.request.inside.asked.now c.args.targets.now c.request.inside.trigger)

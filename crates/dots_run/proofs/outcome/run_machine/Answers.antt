@@ -1,5 +1,5 @@
 use Rattle.std.proofs.Common.{◌∙◌}
-use Rattle.dots_run.proofs.Completeness.{ends_refused, ends_well, ends_shown, ends_unreadable, wrong_words, no_command, has_read, has_written, has_failed, has_heard, not_served}
+use Rattle.dots_run.proofs.Completeness.{ends_refused, ends_well, ends_printed, ends_unreadable, wrong_words, no_command, has_read, has_written, has_failed, has_heard, not_served}
 use Rattle.dots_run.proofs.outcome.run_machine.Goals as goal
 
 pub returns-clause-words : goal.returns-clause-words
@@ -28,7 +28,7 @@ pub returns-clause-disk : goal.returns-clause-disk
 returns-clause-disk g c = λ is. has_failed _ _ _ c.ending_of.result (rw c.status.ensures at is) c.ending_of.ensures.machine
 
 pub returns-clause-readable : goal.returns-clause-readable
-returns-clause-readable g c = λ show readable written. rw c.status.ensures (ends_shown _ _ _ c.ending_of.result show readable written c.ending_of.ensures.machine)
+returns-clause-readable g c = λ show readable written. rw c.status.ensures (ends_printed _ _ _ c.ending_of.result show readable written c.ending_of.ensures.machine)
 
 pub returns-clause-unreadable : goal.returns-clause-unreadable
 returns-clause-unreadable g c = λ show none. rw c.status.ensures (ends_unreadable _ _ _ c.ending_of.result show none c.ending_of.ensures.machine)

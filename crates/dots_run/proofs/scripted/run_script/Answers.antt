@@ -8,7 +8,7 @@ use Rattle.dots_script.specs.Scripting.{Scripting}
 use Rattle.dots_run.specs.Outcomes.{Outcome}
 use Rattle.dots_run.specs.Scripted.{outside_first, outside_with}
 use Rattle.dots_run.proofs.Blank.{ready_blank}
-use Rattle.dots_run.proofs.Texts.{standing_of, joins, is_at_first}
+use Rattle.dots_run.proofs.Texts.{outer_of, joins, is_at_first}
 use Rattle.dots_run.proofs.Asking.{not_served}
 use Rattle.dots_run.proofs.scripted.run_script.Goals as goal
 
@@ -20,7 +20,7 @@ returns-in-Ok-clause-runs g c =
     let words = map string_bytes c.args.words.now in
     let status = c.run-status.result in
     let host = c.run-status.new.host in
-    let start : Outer = standing_of (left c.args.script) (holds c.args.sends) (faults c.args.script) in
+    let start : Outer = outer_of (left c.args.script) (holds c.args.sends) (faults c.args.script) in
     let given = g.S.Source.left c.args.settings.now in
     let after : Outside =
     outside_with (g.S.Source.left c.run-status.new.settings) (g.S.Source.faults c.run-status.new.settings) host (g.R.Sink.holds c.run-status.new.report) (g.R.Sink.faults c.run-status.new.report) in

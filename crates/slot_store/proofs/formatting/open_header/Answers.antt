@@ -6,7 +6,7 @@ use Rattle.slot_store.specs.Opening.{Is}
 use Rattle.slot_store.specs.Refusing.{RefusesDisk, IsOpen}
 use Rattle.slot_store.specs.Layout.{HoldsRecords}
 use Rattle.slot_store.specs.declared.fault.OpenFault.TheVariants as OpenFault
-use Rattle.slot_store.proofs.DiskReading.{sees_at_rest, rests_kept}
+use Rattle.slot_store.proofs.DiskReading.{sees_at_rest, rests_unchanged}
 use Rattle.slot_store.proofs.Steps.{leaves_then}
 use Rattle.slot_store.proofs.OpenLemmas.{holds_still, if_ok_as, if_err_as}
 use Rattle.slot_store.proofs.formatting.open_header.Goals as goal
@@ -35,7 +35,7 @@ pub returns-in-Ok-clause-unwritten : goal.returns-in-Ok-clause-unwritten
 returns-in-Ok-clause-unwritten g c = if_err_as c.open_found.result
     (λ fault. fault ≢ OpenFault.DiskFault → KeepsMedia (g.D.Disk.media c.read_header.new.disk) (g.D.Disk.media c.open_found.new.disk))
     (λ fault. (seen : ℕ → ℕ) → fault ≢ OpenFault.DiskFault → RestsWith (g.D.Disk.media c.args.disk.now) (Is seen) → RestsWith (g.D.Disk.media c.open_found.new.disk) (Is seen))
-    (λ fault keeps seen other rests. rests_kept _ _ (Is seen) (keeps other) (c.in-Ok.ensures.rests seen (sees_at_rest _ seen rests))) c.open_found.ensures.unwritten
+    (λ fault keeps seen other rests. rests_unchanged _ _ (Is seen) (keeps other) (c.in-Ok.ensures.rests seen (sees_at_rest _ seen rests))) c.open_found.ensures.unwritten
 
 pub returns-in-Err-clause-unwritten : goal.returns-in-Err-clause-unwritten
 returns-in-Err-clause-unwritten g c = λ seen other rests. absurd (other refl)

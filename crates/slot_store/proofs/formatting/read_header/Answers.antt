@@ -2,7 +2,7 @@ use Rattle.std.proofs.Common.{arith, ◌≡◌, ◌∙◌, ap, length}
 use Rattle.std.proofs.lemmas.Result.{err_from_is_err_and}
 use Rattle.dots_disk.specs.Media.{bytes_at}
 use Rattle.slot_store.specs.Opening.{Is}
-use Rattle.slot_store.proofs.DiskReading.{reads_none, reads_more, reads_lost, rests_kept, sees_at_rest, bytes_seen}
+use Rattle.slot_store.proofs.DiskReading.{reads_none, reads_more, reads_lost, rests_unchanged, sees_at_rest, bytes_seen}
 use Rattle.slot_store.proofs.OpenLemmas.{sync_lost, sync_left, sync_rests, sync_reads}
 use Rattle.slot_store.proofs.formatting.read_header.Goals as goal
 
@@ -41,7 +41,7 @@ returns g c =
     record {
       moments = λ seen rests.
           sync_reads _ _ _ seen (sync_left _ _ seen rests c.in_ok-sync.ensures.ok) (reads_more _ _ _ (reads_none _) c.in_ok-read.ensures.ok) (sync_rests _ _ seen (sees_at_rest _ seen rests) c.in_ok-sync.ensures.ok);
-      rests = λ seen sees. rests_kept _ _ (Is seen) (reads_more _ _ _ (reads_none _) c.in_ok-read.ensures.ok) (sync_rests _ _ seen sees c.in_ok-sync.ensures.ok);
+      rests = λ seen sees. rests_unchanged _ _ (Is seen) (reads_more _ _ _ (reads_none _) c.in_ok-read.ensures.ok) (sync_rests _ _ seen sees c.in_ok-sync.ensures.ok);
       bytes = λ seen sees.
           bytes_seen _ seen 0 (length c.args.found.now) _ c.in_ok-read.ensures.bytes (sees_at_rest _ seen (sync_rests _ _ seen sees c.in_ok-sync.ensures.ok)) ∙ ap (bytes_at seen 0) size;
       extent = c.in_ok-read.ensures.extent ∙ c.in_ok-sync.ensures.extent;

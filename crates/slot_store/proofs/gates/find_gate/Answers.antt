@@ -1,7 +1,7 @@
 use Rattle.std.proofs.Common.{refl, ◌∙◌, ap, sym, arith}
 use Rattle.std.proofs.lemmas.Result.{err_from_is_err_and}
 use Rattle.slot_store.specs.Gates.{is_wanted}
-use Rattle.slot_store.proofs.DiskReading.{reads_none, reads_then, sees_kept, none_more}
+use Rattle.slot_store.proofs.DiskReading.{reads_none, reads_then, sees_unchanged, none_more}
 use Rattle.slot_store.proofs.gates.find_gate.Goals as goal
 
 pub loop-index-init : goal.loop-index-init
@@ -35,7 +35,7 @@ returns-then-is_wanted g c =
       found = λ seen sees. record {
         low = omega arith;
         high = omega arith;
-        is = ap (is_wanted c.args.what) (sym (c.in_ok-byte.ensures.byte seen (sees_kept _ _ seen c.loop-index.invariant.keeps sees))) ∙ sym c.is_wanted.ensures ∙ c.if-is_wanted.true;
+        is = ap (is_wanted c.args.what) (sym (c.in_ok-byte.ensures.byte seen (sees_unchanged _ _ seen c.loop-index.invariant.keeps sees))) ∙ sym c.is_wanted.ensures ∙ c.if-is_wanted.true;
         before = c.loop-index.invariant.passed seen sees;
       };
       within = (omega arith, omega arith);
@@ -64,5 +64,5 @@ loop-index-preserved g c = record {
   faults = c.in_ok-byte.ensures.cause.same ∙ c.loop-index.invariant.faults;
   beside = g.met.D.Disk.beside_then _ _ _ c.loop-index.invariant.beside c.in_ok-byte.ensures.beside;
   passed = λ seen sees. none_more c.args.what seen c.args.first c.args.from c.loop-index.index (c.loop-index.invariant.passed seen sees)
-      (ap (is_wanted c.args.what) (sym (c.in_ok-byte.ensures.byte seen (sees_kept _ _ seen c.loop-index.invariant.keeps sees))) ∙ sym c.is_wanted.ensures ∙ c.if-is_wanted.false);
+      (ap (is_wanted c.args.what) (sym (c.in_ok-byte.ensures.byte seen (sees_unchanged _ _ seen c.loop-index.invariant.keeps sees))) ∙ sym c.is_wanted.ensures ∙ c.if-is_wanted.false);
 }

@@ -3,7 +3,7 @@ use Rattle.slab.specs.Slab.{get}
 use Rattle.linked_orders.specs.Orders.{OrderValue}
 use Rattle.coap_observe.specs.Rolls.{RollValue, has_key, rows_of, AreKept}
 use Rattle.coap_observe.proofs.Entering.{length_more}
-use Rattle.coap_observe.proofs.Rolling.{length_rows, has_rows, off_keys, none_has, rows_last, kept_last}
+use Rattle.coap_observe.proofs.Rolling.{length_rows, has_rows, off_keys, none_has, rows_last, pushed_there}
 use Rattle.coap_observe.proofs.roll.Roll.push.Goals as goal
 
 pub insert_reserved-key-requires : goal.insert_reserved-key-requires
@@ -63,7 +63,7 @@ invariant_of-self c =
     record {
       kept =
           subst (λ (o : OrderValue). AreKept new o.slots) (sym c.push.ensures)
-          (kept_last at new key c.args.one slots c.self.invariant.kept c.insert_reserved-key.ensures.was_vacant c.insert_reserved-key.ensures.updates.changed c.insert_reserved-key.ensures.updates.others);
+          (pushed_there at new key c.args.one slots c.self.invariant.kept c.insert_reserved-key.ensures.was_vacant c.insert_reserved-key.ensures.updates.changed c.insert_reserved-key.ensures.updates.others);
       count = omega (arith, more, long, c.self.invariant.count, c.insert_reserved-key.ensures.len);
       room = wide ∙ c.self.invariant.room ∙ sym c.insert_reserved-key.ensures.capacity;
     }

@@ -3,7 +3,7 @@ use Rattle.std.specs.Prelude.{option_map}
 use Rattle.slab.specs.Slab.{get}
 use Rattle.coap_observe.specs.Observed.{ObservedValue, registered_again}
 use Rattle.coap_observe.specs.Rolls.{RollValue, has_key, one_at, with_key}
-use Rattle.coap_observe.proofs.Rolling.{has_rows, found, rows_with, kept_with, is_there}
+use Rattle.coap_observe.proofs.Rolling.{has_rows, found, rows_with, put_there, is_there}
 use Rattle.coap_observe.proofs.roll.Roll.register_again.Goals as goal
 
 pub remove-one-requires : goal.remove-one-requires
@@ -45,7 +45,7 @@ invariant_of-self c =
     let others : (other : ℕ) → other ≢ c.args.key → new other ≡ at other =
     λ other apart. c.insert_reserved.ensures.updates.others other (λ one. apart (one ∙ same)) ∙ c.remove-one.ensures.updates.others other apart in
     record {
-      kept = kept_with at new c.args.key c.register_again-number.new.self slots c.self.invariant.kept (sym (has_rows at c.args.key slots c.self.invariant.kept.there) ∙ has) is others;
+      kept = put_there at new c.args.key c.register_again-number.new.self slots c.self.invariant.kept (sym (has_rows at c.args.key slots c.self.invariant.kept.there) ∙ has) is others;
       count = omega (arith, c.self.invariant.count, c.remove-one.ensures.len, c.insert_reserved.ensures.len);
       room = c.self.invariant.room ∙ sym c.remove-one.ensures.capacity ∙ sym c.insert_reserved.ensures.capacity;
     }

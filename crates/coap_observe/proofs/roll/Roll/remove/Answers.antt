@@ -2,7 +2,7 @@ use Rattle.std.proofs.Common.{◌≡◌, true, length, ap, sym, subst, ◌∙◌
 use Rattle.slab.specs.Slab.{get}
 use Rattle.linked_orders.specs.Orders.{OrderValue}
 use Rattle.coap_observe.specs.Rolls.{RollValue, has_key, without_key, rows_of, AreKept}
-use Rattle.coap_observe.proofs.Rolling.{has_rows, rows_less, kept_less, length_less, is_there}
+use Rattle.coap_observe.proofs.Rolling.{has_rows, rows_less, removed_there, length_less, is_there}
 use Rattle.coap_observe.proofs.roll.Roll.remove.Goals as goal
 
 pub remove-gone-requires : goal.remove-gone-requires
@@ -41,7 +41,7 @@ invariant_of-self c =
     record {
       kept =
           subst (λ (o : OrderValue). AreKept new o.slots) (sym c.depart.ensures)
-          (kept_less at new c.args.key slots c.self.invariant.kept c.remove-gone.ensures.updates.changed c.remove-gone.ensures.updates.others);
+          (removed_there at new c.args.key slots c.self.invariant.kept c.remove-gone.ensures.updates.changed c.remove-gone.ensures.updates.others);
       count = omega (arith, less, long, c.self.invariant.count, c.remove-gone.ensures.len);
       room = wide ∙ c.self.invariant.room ∙ sym c.remove-gone.ensures.capacity;
     }

@@ -4,13 +4,13 @@ use Rattle.dots_host.specs.declared.act.Act.TheVariants as act
 use Rattle.dots_host.specs.Acts.{owned_of, is_done}
 use Rattle.dots_host.proofs.TapeLemmas.{adds_gave}
 use Rattle.dots_disk.proofs.DiskLemmas.{seen_wire}
-use Rattle.dots_disk.proofs.LoggedLemmas.{seen_kept, keeps_one}
+use Rattle.dots_disk.proofs.LoggedLemmas.{seen_unchanged, keeps_one}
 use Rattle.dots_disk.proofs.logged_disk.LoggedDisk.note_given.Goals as goal
 
 pub invariant_of-self : goal.invariant_of-self
 invariant_of-self c =
     let call = act.Gave (owned_of c.args.out.now) (is_done c.args.sent) in
-    c.self.invariant ∙ sym (seen_kept c.self.inside.log.acts c.after-self-inside.result.acts call c.after-self-inside.ensures (seen_wire call tt))
+    c.self.invariant ∙ sym (seen_unchanged c.self.inside.log.acts c.after-self-inside.result.acts call c.after-self-inside.ensures (seen_wire call tt))
 
 pub returns-clause-adds : goal.returns-clause-adds
 returns-clause-adds c =

@@ -2,11 +2,11 @@ use Rattle.std.proofs.Common.{◌≡◌, ◌∙◌, ◌∷◌, ◌++◌, [], ap,
 use Rattle.std.specs.Prelude.{true}
 use Rattle.dots_host.specs.declared.act.Act.TheVariants as act
 use Rattle.dots_disk.specs.Media.{settled}
-use Rattle.dots_disk.proofs.LoggedLemmas.{becomes_more, seen_kept, adds_one}
+use Rattle.dots_disk.proofs.LoggedLemmas.{becomes_more, seen_unchanged, adds_one}
 use Rattle.dots_disk.proofs.logged_disk.LoggedDiskDisk.sync.Goals as goal
 
 pub invariant_of-self : goal.invariant_of-self
-invariant_of-self c = c.self.invariant ∙ sym (seen_kept c.self.inside.log.acts c.after-self-inside.result.acts (act.Synced true) c.after-self-inside.ensures (λ medium. refl))
+invariant_of-self c = c.self.invariant ∙ sym (seen_unchanged c.self.inside.log.acts c.after-self-inside.result.acts (act.Synced true) c.after-self-inside.ensures (λ medium. refl))
 
 pub returns-clause-ok : goal.returns-clause-ok
 returns-clause-ok c =

@@ -3,7 +3,7 @@ use Rattle.std.specs.Prelude.{true, false}
 use Rattle.dots_host.specs.declared.act.Act.TheVariants as act
 use Rattle.dots_disk.specs.Media.{written, overwritten, byte_of, IsTorn}
 use Rattle.dots_disk.proofs.DiskLemmas.{seen_after}
-use Rattle.dots_disk.proofs.LoggedLemmas.{becomes_more, adds_one, seen_kept}
+use Rattle.dots_disk.proofs.LoggedLemmas.{becomes_more, adds_one, seen_unchanged}
 use Rattle.dots_disk.proofs.logged_disk.LoggedDiskDisk.write_at.Goals as goal
 
 pub invariant_of-self : goal.invariant_of-self
@@ -24,7 +24,7 @@ returns-in-Ok-clause-beside c =
 pub invariant_of-self-in-Err : goal.invariant_of-self-in-Err
 invariant_of-self-in-Err c =
     let call = act.Wrote c.args.at c.args.bytes.now false in
-    ap byte_of c.in-Err.ensures.err ∙ c.self.invariant ∙ sym (seen_kept c.self.inside.log.acts c.after-self-inside-in-Err.result.acts call c.after-self-inside-in-Err.ensures (λ medium. refl))
+    ap byte_of c.in-Err.ensures.err ∙ c.self.invariant ∙ sym (seen_unchanged c.self.inside.log.acts c.after-self-inside-in-Err.result.acts call c.after-self-inside-in-Err.ensures (λ medium. refl))
 
 pub returns-in-Err-clause-err : goal.returns-in-Err-clause-err
 returns-in-Err-clause-err c =
@@ -40,4 +40,4 @@ returns-in-Err-clause-beside c =
 pub returns-in-Err-clause-unwritten : goal.returns-in-Err-clause-unwritten
 returns-in-Err-clause-unwritten c =
     let call = act.Wrote c.args.at c.args.bytes.now false in
-    seen_kept c.args.self.now.acts c.after-self-inside-in-Err.result.acts call (c.after-self-inside-in-Err.ensures ∙ ap (λ disk. disk.acts ++ call ∷ []) c.self.view_is) (λ medium. refl)
+    seen_unchanged c.args.self.now.acts c.after-self-inside-in-Err.result.acts call (c.after-self-inside-in-Err.ensures ∙ ap (λ disk. disk.acts ++ call ∷ []) c.self.view_is) (λ medium. refl)

@@ -7,7 +7,7 @@ use Rattle.dots_laws.specs.Views.{mitigations_of}
 use Rattle.installed_filters.proofs.HistoryRows.{live_inside}
 use Rattle.dots_registry.specs.RegistryValues.{RegistryValue, Represents, time_of}
 use Rattle.dots_registry.proofs.RegistryValues.{joined}
-use Rattle.dots_registry.proofs.Mitigating.{of_peer, of_lost, kept_peer, found_one, found_none}
+use Rattle.dots_registry.proofs.Mitigating.{of_peer, of_lost, of_peer_bare, found_one, found_none}
 use Rattle.dots_registry.proofs.registry.Registry.has_lost_one.Goals.{else-lost-via-then-lost+else-is_of_peer, else-lost-via-else-lost}
 use Rattle.dots_registry.proofs.registry.Registry.has_lost_one.Goals as goal
 
@@ -44,7 +44,7 @@ loop-domain-preserved c = λ entries represents domain less.
                 and_right
                 (is_lost_in (held entries) c.args.peer c.loop-domain.domain)
                 (list_any (of_peer (held entries) c.args.peer) (mitigations_of c.loop-domain.domain (mitigations c.self.inside.live.time entries)))
-                (sym (kept_peer (held entries) c.args.peer c.loop-domain.domain c.self.inside.live.time entries)
+                (sym (of_peer_bare (held entries) c.args.peer c.loop-domain.domain c.self.inside.live.time entries)
                 ∙ sym (ap (list_any (of_peer (held entries) c.args.peer)) (w.rows.ensures.live entries here.live))
                 ∙ sym w.is_of_peer.ensures
                 ∙ w.if-is_of_peer.false)

@@ -2,7 +2,7 @@ use Rattle.std.proofs.Common.{◌≡◌, ℕ, Bool, List, Option, map, ap, ◌�
 use Rattle.std.specs.Prelude.{slice_get}
 use Rattle.dots_history.specs.Histories.{Mitigation}
 use Rattle.live_mitigations.specs.LiveViews.{LiveView, live_views_of, live_views_in}
-use Rattle.live_mitigations.proofs.Room.{shown_are}
+use Rattle.live_mitigations.proofs.Room.{views_are}
 use Rattle.dots_registry.specs.RegistryValues.{RegistryValue, Represents, time_of, domains_of}
 use Rattle.dots_registry.specs.ObserverViews.{seen_of}
 use Rattle.held_resources.specs.Tables.{lost_in}
@@ -23,7 +23,7 @@ returns-then-domain-domains-clause-history c = λ entries represents inside.
     let seen_by : (ℕ → ℕ → Bool) → List LiveView → Option (ℕ × ℕ) = λ test views. slice_get (seen_of c.args.mid (map (view_with test c.args.domain) views)) c.args.place in
     c.view_of.ensures c.self.inside.live.time
     ∙ ap (λ (ms : List Mitigation). seen_by lost (live_views_of c.self.inside.live.time c.args.cuid.now ms)) (c.rows.ensures.live entries here.live)
-    ∙ ap (seen_by lost) (shown_are c.self.inside.live.time c.args.domain c.args.cuid.now entries)
+    ∙ ap (seen_by lost) (views_are c.self.inside.live.time c.args.domain c.args.cuid.now entries)
     ∙ ap
     (λ (views : List LiveView). slice_get (seen_of c.args.mid views) c.args.place)
     (views_so c.self.inside.held entries c.args.domain (live_views_in c.args.domain c.args.cuid.now c.self.inside.live.time entries) here.held)

@@ -1,7 +1,7 @@
 use Rattle.std.proofs.Common.{ap, ◌∙◌, sym, length}
 use Rattle.std.specs.Prelude.{nat_lt, nat_le}
 use Rattle.held_resources.specs.Tables.{Clients, list_with}
-use Rattle.held_resources.proofs.Places.{number_more, number_kept}
+use Rattle.held_resources.proofs.Places.{number_more, number_within}
 use Rattle.held_resources.proofs.domain_clients.DomainClients.keeps_number.Goals as goal
 
 pub returns-then-is_registration : goal.returns-then-is_registration
@@ -14,7 +14,7 @@ returns-then-is_registration c =
 pub returns : goal.returns
 returns c =
     λ peer.
-    sym (number_kept
+    sym (number_within
     c.self.inside.rooms
     peer
     c.args.cuid.now

@@ -1,6 +1,6 @@
 use Rattle.std.proofs.Common.{ap, ◌∙◌, ℕ}
 use Rattle.live_mitigations.specs.LiveViews.{live_views_of}
-use Rattle.live_mitigations.proofs.Room.{shown_are}
+use Rattle.live_mitigations.proofs.Room.{views_are}
 use Rattle.live_mitigations.proofs.live.LiveMitigations.mitigations.Goals as goal
 
 pub returns : goal.returns
@@ -8,4 +8,4 @@ returns c = λ entries stands.
     c.of.ensures
     ∙ ap (λ (t : ℕ). live_views_of t c.args.cuid.now c.rows.result.now) c.time.ensures
     ∙ ap (live_views_of c.args.self.now.time c.args.cuid.now) (c.rows.ensures.live entries stands)
-    ∙ shown_are c.args.self.now.time c.args.domain c.args.cuid.now entries
+    ∙ views_are c.args.self.now.time c.args.domain c.args.cuid.now entries

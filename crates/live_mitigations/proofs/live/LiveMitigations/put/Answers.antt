@@ -5,7 +5,7 @@ use Rattle.live_mitigations.specs.Rows.{grown}
 use Rattle.live_mitigations.specs.LiveValues.{LiveValue}
 use Rattle.live_mitigations.proofs.LiveValues.{changed_to, changed_here, within_tables, changed_own, changed_other, put_represents}
 use Rattle.live_mitigations.proofs.SlotsOfRows.{slots_with}
-use Rattle.live_mitigations.proofs.Room.{fits_kept}
+use Rattle.live_mitigations.proofs.Room.{fits_limits}
 use Rattle.live_mitigations.proofs.live.LiveMitigations.put.Goals as goal
 
 pub put-requires : goal.put-requires
@@ -13,7 +13,7 @@ put-requires c =
     let same = ap (λ (v : LiveValue). v.domains) c.self.view_is in
     record {
       domain = omega (arith, same, c.self.invariant.number, c.requires.inside);
-      room = fits_kept _ c.args.self.now c.args.entry c.self.view_is c.self.invariant c.requires.room;
+      room = fits_limits _ c.args.self.now c.args.entry c.self.view_is c.self.invariant c.requires.room;
     }
 
 pub invariant_of-self : goal.invariant_of-self

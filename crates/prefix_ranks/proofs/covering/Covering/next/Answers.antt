@@ -9,7 +9,7 @@ use Rattle.prefix_ranks.proofs.Each.{each_take, each_drop, none_there}
 use Rattle.prefix_ranks.proofs.Ranked.{ranked_front}
 use Rattle.prefix_ranks.proofs.Counting.{no_levels}
 use Rattle.prefix_ranks.proofs.Runs.{OfKind, FirstLevel, first_level}
-use Rattle.prefix_ranks.proofs.BesideRanks.{kept_behind}
+use Rattle.prefix_ranks.proofs.BesideRanks.{beside_behind}
 use Rattle.prefix_ranks.proofs.covering.Covering.next.Goals as goal
 
 pub returns-in_err-level-clause-none : goal.returns-in_err-level-clause-none
@@ -37,7 +37,7 @@ pub invariant_of-self : goal.invariant_of-self
 invariant_of-self c =
     let first : FirstLevel c.in_ok-level.level.now c.in_ok-level.levels.now c.self.inside.ranks.now =
     first_level c.self.inside.ranks.now c.in_ok-level.level.now c.in_ok-level.levels.now (sym c.self.invariant.0.levels_are ∙ c.in_ok-level.ensures.cases.0) in (
-      kept_behind _ _ _ _ _ _ _ c.in_ok-level.level.now c.in_ok-level.levels.now c.self.invariant.0 first c.split_at.ensures.back c.split_at-2.ensures.back c.split_at-3.ensures.back,
+      beside_behind _ _ _ _ _ _ _ c.in_ok-level.level.now c.in_ok-level.levels.now c.self.invariant.0 first c.split_at.ensures.back c.split_at-2.ensures.back c.split_at-3.ensures.back,
       subst (AllByRecursion IsShort) (sym c.split_at.ensures.back) (each_drop IsShort c.in_ok-level.level.now.len c.self.inside.ranks.now c.self.invariant.1),
       c.self.invariant.2,
     )

@@ -2,9 +2,9 @@ use Rattle.std.proofs.Common.{refl, ◌∙◌, arith}
 use Rattle.std.proofs.lemmas.Result.{err_from_is_err_and}
 use Rattle.slot_store.specs.Layout.{HoldsRecords}
 use Rattle.slot_store.proofs.Steps.{begins}
-use Rattle.slot_store.proofs.DiskReading.{sees_at_rest, rests_kept}
+use Rattle.slot_store.proofs.DiskReading.{sees_at_rest, rests_unchanged}
 use Rattle.slot_store.proofs.OpenLemmas.{disk_refuses}
-use Rattle.slot_store.proofs.Counting.{opened_reads, opened_stands, opened_known}
+use Rattle.slot_store.proofs.Counting.{opened_reads, opened_is_there, opened_known}
 use Rattle.slot_store.proofs.store.SlotStore.open.Goals as goal
 
 pub returns-then-found-needed : goal.returns-then-found-needed
@@ -76,10 +76,10 @@ returns g c =
       moments = λ seen records rests holds.
           opened_reads _ _ _ c.args.slots c.args.digest.now seen c.in_ok-selector.selector records (c.in_ok-selector.ensures.moments seen records rests holds) (c.in_ok-selector.ensures.opened seen (sees_at_rest _ seen rests)) holds c.in_ok-used.ensures.keeps;
       opened = λ seen records sees holds.
-          rests_kept _ _ _ c.in_ok-used.ensures.keeps (opened_stands _ c.args.slots c.args.digest.now seen c.in_ok-selector.selector c.in_ok-used.used records (c.in_ok-selector.ensures.opened seen sees) holds c.in_ok-used.ensures.count);
+          rests_unchanged _ _ _ c.in_ok-used.ensures.keeps (opened_is_there _ c.args.slots c.args.digest.now seen c.in_ok-selector.selector c.in_ok-used.used records (c.in_ok-selector.ensures.opened seen sees) holds c.in_ok-used.ensures.count);
       size = (refl, omega (arith, needed, found, large, extent));
       known = λ seen sees.
-          rests_kept _ _ _ c.in_ok-used.ensures.keeps (opened_known _ c.args.slots c.args.digest.now seen c.in_ok-selector.selector c.in_ok-used.used (c.in_ok-selector.ensures.opened seen sees) c.in_ok-used.ensures.count);
+          rests_unchanged _ _ _ c.in_ok-used.ensures.keeps (opened_known _ c.args.slots c.args.digest.now seen c.in_ok-selector.selector c.in_ok-used.used (c.in_ok-selector.ensures.opened seen sees) c.in_ok-used.ensures.count);
       refused = tt;
       unwritten = tt;
       extent = extent;
