@@ -9,7 +9,7 @@ use Rattle.linked_orders.specs.Orders.{is_slot, has_slot, without}
 use Rattle.linked_orders.proofs.Linking.{each_both, each_two, each_weaker}
 use Rattle.linked_orders.proofs.Ringing.{apart_from, distinct_last}
 use Rattle.coap_observe.specs.Observed.{ObservedValue}
-use Rattle.coap_observe.specs.Rolls.{Row, key_of, one_of, keys_of, is_key, has_key, one_at, without_key, with_key, row_of, rows_of, AreKept}
+use Rattle.coap_observe.specs.Rolls.{Row, key_of, one_of, keys_of, is_key, has_key, one_at, without_key, with_key, row_of, rows_of, AreThere}
 
 abbrev AllThere : (ℕ → Option ObservedValue) → List ℕ → Type 0
 AllThere at keys = Each (λ key. is_some (at key) ≡ true) keys
@@ -49,7 +49,7 @@ found_among at key (k ∷ keys) there = by_one (at k) refl there.0 (found_among 
     by_one None is some rest = absurd (false≢true some)
     by_one (Some one) is some rest = by_test (k == key) one refl is rest
 
-pub found : (at : ℕ → Option ObservedValue) (key : ℕ) (keys : List ℕ) → AreKept at keys → one_at key (rows_of at keys) ≡ at key
+pub found : (at : ℕ → Option ObservedValue) (key : ℕ) (keys : List ℕ) → AreThere at keys → one_at key (rows_of at keys) ≡ at key
 found at key keys kept = found_among at key keys kept.there ∙ by_test (has_slot key keys) refl
   where
     by_test : (b : Bool) → has_slot key keys ≡ b → cond b (at key) None ≡ at key
@@ -79,8 +79,8 @@ pub none_has : (key : ℕ) (keys : List ℕ) → Apart key keys → has_slot key
 none_has key [] apart = refl
 none_has key (k ∷ keys) apart = ap (λ b. b || has_slot key keys) (ne_eqb k key apart.0) ∙ none_has key keys apart.1
 
-pub pushed_there : (at new : ℕ → Option ObservedValue) (key : ℕ) (one : ObservedValue) (keys : List ℕ) → AreKept at keys → at key ≡ None → new key ≡ Some one
-    → ((other : ℕ) → other ≢ key → new other ≡ at other) → AreKept new (keys ++ key ∷ [])
+pub pushed_there : (at new : ℕ → Option ObservedValue) (key : ℕ) (one : ObservedValue) (keys : List ℕ) → AreThere at keys → at key ≡ None → new key ≡ Some one
+    → ((other : ℕ) → other ≢ key → new other ≡ at other) → AreThere new (keys ++ key ∷ [])
 pushed_there at new key one keys kept none is others =
     let apart = off_keys at key keys kept.there none in
     record {
@@ -149,8 +149,8 @@ off_more key other (k ∷ keys) apart off = by_test (k == key) refl off (λ rest
     by_test true same rest more = (λ is. apart (sym is ∙ eqb-true k key same), more rest)
     by_test false same rest more = (rest.0, more rest.1)
 
-pub removed_there : (at new : ℕ → Option ObservedValue) (key : ℕ) (keys : List ℕ) → AreKept at keys → new key ≡ None
-    → ((other : ℕ) → other ≢ key → new other ≡ at other) → AreKept new (without key keys)
+pub removed_there : (at new : ℕ → Option ObservedValue) (key : ℕ) (keys : List ℕ) → AreThere at keys → new key ≡ None
+    → ((other : ℕ) → other ≢ key → new other ≡ at other) → AreThere new (without key keys)
 removed_there at new key keys kept is others = record {
   there =
       each_two (λ k. is_some (at k) ≡ true) (λ k. k ≢ key) (λ k. is_some (new k) ≡ true) (without key keys) (λ k some off. ap is_some (others k off) ∙ some)
@@ -204,8 +204,8 @@ rows_with at new key becomes (k ∷ keys) is others = by_test (k == key) refl (a
         ∙ ap (λ rows. (k, one) ∷ rows) rest
         ∙ sym (ap (λ b. cond b (k, becomes one) (k, one) ∷ with_key key becomes (rows_of at keys)) same)
 
-pub put_there : (at new : ℕ → Option ObservedValue) (key : ℕ) (one : ObservedValue) (keys : List ℕ) → AreKept at keys → has_slot key keys ≡ true → new key ≡ Some one
-    → ((other : ℕ) → other ≢ key → new other ≡ at other) → AreKept new keys
+pub put_there : (at new : ℕ → Option ObservedValue) (key : ℕ) (one : ObservedValue) (keys : List ℕ) → AreThere at keys → has_slot key keys ≡ true → new key ≡ Some one
+    → ((other : ℕ) → other ≢ key → new other ≡ at other) → AreThere new keys
 put_there at new key one keys kept there is others = record {
   there = each_weaker (λ k. is_some (at k) ≡ true) (λ k. is_some (new k) ≡ true) keys (λ k some. by_test k (k == key) refl some) kept.there;
   nowhere = λ k off. out k off;

@@ -71,7 +71,7 @@ rows_of at [] = []
 rows_of at (key ∷ keys) = row_of key (at key) ++ rows_of at keys
 
 -- exactly the keys in the order have one, and each stands in it once
-pub record AreKept (at : ℕ → Option ObservedValue) (keys : List ℕ) : Type 0 where
+pub record AreThere (at : ℕ → Option ObservedValue) (keys : List ℕ) : Type 0 where
   pub there : Each (λ key. is_some (at key) ≡ true) keys
   pub nowhere : (key : ℕ) → Apart key keys → at key ≡ None
   pub distinct : Distinct keys

@@ -23,14 +23,14 @@ pub struct Roll {
 impl Model for Roll {
     ghost use Rattle.std.specs.Prelude.{◌≡◌, ◌≤◌, length};
     ghost use Rattle.slab.specs.Slab.{get, slab_len};
-    ghost use Rattle.coap_observe.specs.Rolls.{RollValue, rows_of, AreKept};
+    ghost use Rattle.coap_observe.specs.Rolls.{RollValue, rows_of, AreThere};
 
     ghost Value = { RollValue };
 
     ghost view = { λ roll. record { room = roll.order.room; rows = rows_of (get roll.ones) roll.order.slots } };
 
     ghost invariant = { λ roll. record {
-      kept : AreKept (get roll.ones) roll.order.slots;
+      kept : AreThere (get roll.ones) roll.order.slots;
       count : slab_len roll.ones ≡ length roll.order.slots;
       room : roll.order.room ≡ roll.ones.capacity;
     } };

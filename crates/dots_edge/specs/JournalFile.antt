@@ -4,6 +4,8 @@ use Rattle.std.specs.List.{list_all}
 use Rattle.std.specs.Fs.{metadata_len, file_type, IsFile}
 use Rattle.std.specs.declared.fs.attrs.Metadata.{Metadata}
 use Rattle.dots_edge.specs.declared.journal.Journal.{Journal}
+use Rattle.dots_edge.specs.declared.journal_file.Front.{Front}
+use Rattle.dots_edge.specs.declared.journal_file.Front.TheVariants as front
 
 -- a regular file of whole pages
 pub record IsWhole (found : Metadata) : Type 0 where
@@ -15,6 +17,12 @@ pub record IsWhole (found : Metadata) : Type 0 where
 abbrev pub is_front : List ℕ → Bool
 is_front [] = true
 is_front (gate ∷ behind) = gate == 165 || (gate == 0 && list_all (λ byte. byte == 0) (drop 64 (gate ∷ behind)))
+
+-- a journal may begin so
+abbrev pub is_journal_front : Front → Bool
+is_journal_front front.Open = true
+is_journal_front front.Blank = true
+is_journal_front front.Other = false
 
 -- how many bytes the disk has: those that are reserved, as whole pages, and else as many as a journal may have
 abbrev pub room_of : Option ℕ → ℕ

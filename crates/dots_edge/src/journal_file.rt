@@ -3,7 +3,7 @@
 ghost use Rattle.std.specs.Prelude.{◌≡◌, ◌==◌, ◌%◌, ◌↔◌, drop, true};
 ghost use Rattle.std.specs.List.{list_all};
 ghost use Rattle.std.specs.Fs.{metadata_len, file_type, IsFile};
-ghost use Rattle.dots_edge.specs.JournalFile.{is_front, IsWhole};
+ghost use Rattle.dots_edge.specs.JournalFile.{is_front, is_journal_front, IsWhole};
 
 use std::fs::{File, Files, Metadata, OpenOptions};
 use std::io::{Error, ErrorKind};
@@ -73,7 +73,7 @@ pub fn admit(file: &File) -> io::Result<Metadata> {
 }
 
 /// Whether it is a regular file of whole pages.
-fn is_whole(found: &Metadata) -> bool
+pub fn is_whole(found: &Metadata) -> bool
     ensures { result ≡ true ↔ IsWhole found.now }
 {
     found.is_file() && found.len() % PAGE == 0
@@ -81,10 +81,42 @@ fn is_whole(found: &Metadata) -> bool
 
 /// Whether the file of this length begins as a journal does.
 fn has_front(file: &File, len: u64) -> io::Result<bool> {
+    match front_of(file, len)? {
+        Front::Open | Front::Blank => Ok(true),
+        Front::Other => Ok(false),
+    }
+}
+
+/// How a file begins.
+#[derive(Clone, Copy)]
+pub enum Front {
+    /// With an open gate.
+    Open,
+    /// As a journal does whose header isn't whole yet: behind that nothing stands.
+    Blank,
+    /// As no journal does.
+    Other,
+}
+
+/// How the file of this length begins.
+pub fn front_of(file: &File, len: u64) -> io::Result<Front> {
     let mut room = [0; FRONT];
     let front = &mut room[..len.min(FRONT as u64) as usize];
     file.read_exact_at(front, 0)?;
-    Ok(is_front(front))
+    Ok(kind_of(front))
+}
+
+/// How a journal begins with these bytes, which are all of its first slot that there are.
+fn kind_of(front: &[u8]) -> Front
+    ensures { is_journal_front result ≡ is_front front.now }
+{
+    if !is_front(front) {
+        return Front::Other;
+    }
+    match front {
+        [gate, ..] if *gate == OPEN => Front::Open,
+        _ => Front::Blank,
+    }
 }
 
 /// Whether a journal may begin with these bytes, which are all of its first slot that there are: with an open gate, or with a header that

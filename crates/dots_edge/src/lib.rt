@@ -21,6 +21,7 @@ mod ends;
 mod file_socket_host;
 mod journal;
 mod journal_file;
+mod journal_reader;
 mod passing;
 mod peers;
 mod seconds;
@@ -31,3 +32,5 @@ pub use file_socket_host::FileSocketHost;
 pub use host_file::{
     Complaint, Endpoint, HostFault, HostLine, Reason, complaint_about, read_host_file,
 };
+pub use journal::room_of;
+pub use journal_reader::{FoundJournal, JournalReader};

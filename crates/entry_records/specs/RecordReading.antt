@@ -3,6 +3,7 @@
 use Rattle.std.specs.Prelude.{◌≡◌, ℕ, zero, suc, ◌+◌, ◌-◌, ◌*◌, ◌/◌, ◌%◌, ◌^◌, min, Bool, true, false, ◌&&◌, ◌||◌, ◌==◌, nat_le, nat_lt, if◌then◌else◌, List, [], ◌∷◌, length, take, drop, Option, Some, None, Result, Ok, Err, ℤ}
 use Rattle.std.specs.Char.{is_ascii_graphic}
 use Rattle.std.specs.Int.{Width, w16, w32, w64, byte_len, from_be_bytes, cast_signed}
+use Rattle.dots_lists.specs.Steps.{unless}
 use Rattle.ip_scope.specs.declared.family.Family.{Family}
 use Rattle.ip_scope.specs.declared.family.Family.TheVariants.{V4, V6}
 use Rattle.ip_scope.specs.Family.{width}
@@ -38,10 +39,18 @@ abbrev pub ◌>>=◌ : {A B : Type 0} → Result A ℕ → (A → Result B ℕ) 
 (Ok x) >>= f = f x
 (Err at) >>= f = Err at
 
+-- which fault is want of memory, and at which place another is
+abbrev pub lacks : EntryFault → Bool
+lacks (NotEntry at) = false
+lacks NoMemory = true
+
+abbrev pub place_of : EntryFault → ℕ
+place_of (NotEntry at) = at
+place_of NoMemory = 0
+
 -- What a function returned, seen by view, is what reading gives, unless memory ran out.
 abbrev pub Stops : {Y : Type 0} → EntryFault → Result Y ℕ → Type 0
-Stops (NotEntry at) read = read ≡ Err at
-Stops NoMemory read = Unit {0}
+Stops fault read = unless (lacks fault) (read ≡ Err (place_of fault))
 
 abbrev pub Gives : {X Y : Type 0} → (X → Y) → Result X EntryFault → Result Y ℕ → Type 0
 Gives view (Ok x) read = read ≡ Ok (view x)

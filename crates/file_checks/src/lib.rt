@@ -21,6 +21,8 @@ mod settings_remarks;
 mod summary;
 
 pub use checked::{Checked, Unchecked};
+pub use quoting::end_quoted;
 pub use reading::read_front;
 pub use script_check::check_script;
-pub use settings_check::check_settings;
+pub use settings_check::{check_content, check_settings, quoted_part};
+pub use summary::add_count;

@@ -42,7 +42,7 @@ pub fn check_settings<S: Source>(alloc: Global, source: &mut S) -> Result<Checke
 }
 
 /// The same of a file of which these are the first 65,537 bytes.
-fn check_content(alloc: Global, content: &[u8]) -> Result<Checked, NoMemory>
+pub fn check_content(alloc: Global, content: &[u8]) -> Result<Checked, NoMemory>
     requires { length content.now ≤ 2 ^ 16 + 1 }
     ensures { IfOk result (ChecksSettings content.now) }
 {
@@ -155,7 +155,7 @@ pub fn add_remark(
 }
 
 /// What is quoted: the field of this place, or the whole line.
-fn quoted_part<'a>(field: Option<usize>, line: &'a [u8], fields: &[&'a [u8]]) -> &'a [u8]
+pub fn quoted_part<'a>(field: Option<usize>, line: &'a [u8], fields: &[&'a [u8]]) -> &'a [u8]
     ensures { result.now ≡ quoted_part field line.now (map (λ field. field.now) fields.now) }
 {
     match field {

@@ -1,7 +1,7 @@
 use Rattle.std.proofs.Common.{◌<◌, ◌∷◌, [], ◌++◌, length, ap, sym, subst, ◌∙◌, arith}
 use Rattle.slab.specs.Slab.{get}
 use Rattle.linked_orders.specs.Orders.{OrderValue}
-use Rattle.coap_observe.specs.Rolls.{RollValue, has_key, rows_of, AreKept}
+use Rattle.coap_observe.specs.Rolls.{RollValue, has_key, rows_of, AreThere}
 use Rattle.coap_observe.proofs.Entering.{length_more}
 use Rattle.coap_observe.proofs.Rolling.{length_rows, has_rows, off_keys, none_has, rows_last, pushed_there}
 use Rattle.coap_observe.proofs.roll.Roll.push.Goals as goal
@@ -62,7 +62,7 @@ invariant_of-self c =
     let wide = ap (λ (o : OrderValue). o.room) c.push.ensures in
     record {
       kept =
-          subst (λ (o : OrderValue). AreKept new o.slots) (sym c.push.ensures)
+          subst (λ (o : OrderValue). AreThere new o.slots) (sym c.push.ensures)
           (pushed_there at new key c.args.one slots c.self.invariant.kept c.insert_reserved-key.ensures.was_vacant c.insert_reserved-key.ensures.updates.changed c.insert_reserved-key.ensures.updates.others);
       count = omega (arith, more, long, c.self.invariant.count, c.insert_reserved-key.ensures.len);
       room = wide ∙ c.self.invariant.room ∙ sym c.insert_reserved-key.ensures.capacity;

@@ -1,7 +1,7 @@
 use Rattle.std.proofs.Common.{◌≡◌, true, length, ap, sym, subst, ◌∙◌, arith}
 use Rattle.slab.specs.Slab.{get}
 use Rattle.linked_orders.specs.Orders.{OrderValue}
-use Rattle.coap_observe.specs.Rolls.{RollValue, has_key, without_key, rows_of, AreKept}
+use Rattle.coap_observe.specs.Rolls.{RollValue, has_key, without_key, rows_of, AreThere}
 use Rattle.coap_observe.proofs.Rolling.{has_rows, rows_less, removed_there, length_less, is_there}
 use Rattle.coap_observe.proofs.roll.Roll.remove.Goals as goal
 
@@ -40,7 +40,7 @@ invariant_of-self c =
     let wide = ap (λ (o : OrderValue). o.room) c.depart.ensures in
     record {
       kept =
-          subst (λ (o : OrderValue). AreKept new o.slots) (sym c.depart.ensures)
+          subst (λ (o : OrderValue). AreThere new o.slots) (sym c.depart.ensures)
           (removed_there at new c.args.key slots c.self.invariant.kept c.remove-gone.ensures.updates.changed c.remove-gone.ensures.updates.others);
       count = omega (arith, less, long, c.self.invariant.count, c.remove-gone.ensures.len);
       room = wide ∙ c.self.invariant.room ∙ sym c.remove-gone.ensures.capacity;
