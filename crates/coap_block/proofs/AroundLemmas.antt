@@ -1,27 +1,46 @@
 -- One more act inside, and the same act as seen above.
-use Rattle.std.proofs.Common.{◌≡◌, ℕ, List, [], ◌∷◌, ◌++◌, Option, Some, None, refl, sym, ap, subst, ◌∙◌, append_assoc}
-use Rattle.std.specs.Prelude.{Bool, true, false, ◌+◌, IfSome}
-use Rattle.std.proofs.lemmas.Bool.{false≢true}
+use Rattle.std.proofs.Common.{◌≡◌, ℕ, ◌≤◌, List, [], ◌∷◌, ◌++◌, length, take, drop, Option, Some, None, refl, sym, ap, subst, ◌∙◌, arith, append_assoc, append-nil}
+use Rattle.std.specs.Prelude.{Bool, true, false, ◌+◌, nat_le}
+use Rattle.std.proofs.lemmas.Bool.{false≢true, leb-true, le-leb}
+use Rattle.std.proofs.lemmas.Bool.Decides.{nat_tests}
+use Rattle.std.proofs.lemmas.List.{length-append, length-drop, take_all, drop_all, take-append-le, drop-append-le, append_cancel_left}
 use Rattle.dots_host.specs.declared.act.Act.{Act}
-use Rattle.dots_host.specs.Acts.{Timed, WireAct, Adds}
+use Rattle.dots_host.specs.declared.event.Event.TheVariants as event
+use Rattle.dots_host.specs.Acts.{Timed, WireAct, Adds, took}
 use Rattle.dots_host.specs.Runs.{Added}
 use Rattle.coap_block.specs.Blocks.{Blocks}
-use Rattle.coap_block.specs.Around.{wire_of, retimed, same_length, if_told, seen_above, IsSeen, AreSeen, Start, SeenSince, AreSince, GoesOnSeen, from_none, no_blocks, IsRunAround}
+use Rattle.coap_block.specs.Around.{wire_of, retimed, earlier, with_calls, if_told, seen_above, IsSeen, AreSeen, Start, SeenSince, AreSince, GoesOnSeen, from_acts, no_blocks, IsSeenFrom, IsRunAround}
 
-same_push : {A B : Type 0} (xs : List A) (ys : List B) (x : A) (y : B) → same_length (xs ++ x ∷ []) (ys ++ y ∷ []) ≡ same_length xs ys
-same_push [] [] x y = refl
-same_push [] (b ∷ []) x y = refl
-same_push [] (b ∷ c ∷ ys) x y = refl
-same_push (a ∷ []) [] x y = refl
-same_push (a ∷ c ∷ xs) [] x y = refl
-same_push (a ∷ xs) (b ∷ ys) x y = same_push xs ys x y
+-- as many acts are earlier
+same_earlier : (acts : List Timed) (log : List Act) (timed : Timed) (call : Act) → earlier (acts ++ timed ∷ []) (log ++ call ∷ []) ≡ earlier acts log
+same_earlier acts log timed call = omega (arith, length-append acts (timed ∷ []), length-append log (call ∷ []))
 
-retimed_push : (acts : List Timed) (log : List Act) (timed : Timed) (call : Act) → same_length acts log ≡ true
+within_push : (acts : List Timed) (log : List Act) (timed : Timed) (call : Act)
+    → nat_le (length (log ++ call ∷ [])) (length (acts ++ timed ∷ [])) ≡ nat_le (length log) (length acts)
+within_push acts log timed call =
+    let a = length-append acts (timed ∷ []) in
+    let b = length-append log (call ∷ []) in
+    grind (arith, nat_tests)
+
+retimed_push : (acts : List Timed) (log : List Act) (timed : Timed) (call : Act) → length acts ≡ length log
     → retimed (acts ++ timed ∷ []) (log ++ call ∷ []) ≡ retimed acts log ++ (record { moment = timed.moment; act = wire_of call }) ∷ []
 retimed_push [] [] timed call same = refl
-retimed_push [] (b ∷ log) timed call same = absurd (false≢true same)
-retimed_push (a ∷ acts) [] timed call same = absurd (false≢true same)
-retimed_push (a ∷ acts) (b ∷ log) timed call same = ap (λ later. (record { moment = a.moment; act = wire_of b }) ∷ later) (retimed_push acts log timed call same)
+retimed_push [] (b ∷ log) timed call same = absurd (cc same)
+retimed_push (a ∷ acts) [] timed call same = absurd (cc same)
+retimed_push (a ∷ acts) (b ∷ log) timed call same = ap (λ later. (record { moment = a.moment; act = wire_of b }) ∷ later) (retimed_push acts log timed call (omega (arith, same)))
+
+calls_push : (acts : List Timed) (log : List Act) (timed : Timed) (call : Act) → nat_le (length log) (length acts) ≡ true
+    → with_calls (acts ++ timed ∷ []) (log ++ call ∷ []) ≡ with_calls acts log ++ (record { moment = timed.moment; act = wire_of call }) ∷ []
+calls_push acts log timed call told =
+    let within : length log ≤ length acts = leb-true (length log) (length acts) told in
+    let count = earlier acts log in
+    let some : count ≤ length acts = omega arith in
+    let as_many : length (drop count acts) ≡ length log = omega (arith, length-drop count acts, within) in
+    ap (λ n. take n (acts ++ timed ∷ []) ++ retimed (drop n (acts ++ timed ∷ [])) (log ++ call ∷ [])) (same_earlier acts log timed call)
+    ∙ ap (λ front. front ++ retimed (drop count (acts ++ timed ∷ [])) (log ++ call ∷ [])) (take-append-le count acts (timed ∷ []) some)
+    ∙ ap (λ back. take count acts ++ retimed back (log ++ call ∷ [])) (drop-append-le count acts (timed ∷ []) some)
+    ∙ ap (λ back. take count acts ++ back) (retimed_push (drop count acts) log timed call as_many)
+    ∙ sym (append_assoc (take count acts) (retimed (drop count acts) log) ((record { moment = timed.moment; act = wire_of call }) ∷ []))
 
 adds_told : (b c : Bool) (old new : List Timed) (before now : ℕ) (act : WireAct) → c ≡ b → (b ≡ true → new ≡ old ++ (record { moment = before; act = act }) ∷ []) → now ≡ before + 1
     → Adds (if_told b old) before (if_told c new) now act
@@ -37,8 +56,8 @@ seen_adds None (Some new) before now log inner outer adds = absurd adds
 seen_adds (Some old) (Some new) before now log inner outer adds =
     let one : Timed = record { moment = before; act = inner } in
     subst (λ acts. Adds (seen_above (Some old) log) before (seen_above (Some acts) (log ++ outer ∷ [])) now (wire_of outer)) (sym adds.0)
-    (adds_told (same_length old log) (same_length (old ++ one ∷ []) (log ++ outer ∷ [])) (retimed old log) (retimed (old ++ one ∷ []) (log ++ outer ∷ [])) before now (wire_of outer)
-    (same_push old log one outer) (retimed_push old log one outer) adds.1)
+    (adds_told (nat_le (length log) (length old)) (nat_le (length (log ++ outer ∷ [])) (length (old ++ one ∷ []))) (with_calls old log) (with_calls (old ++ one ∷ []) (log ++ outer ∷ [])) before now (wire_of outer)
+    (within_push old log one outer) (calls_push old log one outer) adds.1)
 
 -- ---- the relation
 
@@ -78,23 +97,79 @@ seen_goes_on (Some old) (Some new) before now log inner outer blocks blocks_now 
     let same : Timed = record { moment = before; act = wire_of outer } in
     subst (λ acts. GoesOnSeen (Some old) log blocks (Some acts) (log ++ outer ∷ []) blocks_now) (sym adds.0)
     (λ start since.
-    since_told (same_length old log) (same_length (old ++ one ∷ []) (log ++ outer ∷ [])) start old (retimed old log) (retimed (old ++ one ∷ []) (log ++ outer ∷ [])) blocks blocks_now one same
-    (same_push old log one outer) (retimed_push old log one outer) refl seen since)
+    since_told (nat_le (length log) (length old)) (nat_le (length (log ++ outer ∷ [])) (length (old ++ one ∷ []))) start old (with_calls old log) (with_calls (old ++ one ∷ []) (log ++ outer ∷ [])) blocks blocks_now one same
+    (within_push old log one outer) (calls_push old log one outer) refl seen since)
 
--- ---- a run around a host that had no acts
+-- ---- before any call, and since
 
-pub from_first : (P : List Timed → Type 0) (inner : Option (List Timed)) (log : List Act) (blocks : Blocks) → Added (Some []) (seen_above inner log) P → AreSince from_none inner (seen_above inner log) blocks → IfSome inner (IsRunAround P)
-from_first P None log blocks added since = tt
-from_first P (Some inner) log blocks added since = told (same_length inner log) (retimed inner log) added since
+all_earlier : (acts : List Timed) → with_calls acts [] ≡ acts
+all_earlier acts =
+    let long : length acts ≤ earlier acts [] = omega arith in
+    ap (λ back. take (earlier acts []) acts ++ retimed back []) (drop_all (earlier acts []) acts long) ∙ append-nil (take (earlier acts []) acts) ∙ take_all (earlier acts []) acts long
+
+told_all : (b : Bool) (acts : List Timed) → b ≡ true → if_told b acts ≡ Some acts
+told_all true acts is = refl
+told_all false acts is = absurd (false≢true is)
+
+pub seen_at_first : (old : Option (List Timed)) → seen_above old [] ≡ old
+seen_at_first None = refl
+seen_at_first (Some acts) =
+    told_all (nat_le 0 (length acts)) (with_calls acts []) (le-leb 0 (length acts) (omega arith)) ∙ ap Some (all_earlier acts)
+
+since_first : (acts : List Timed) → AreSince (from_acts acts) (Some acts) (Some acts) no_blocks
+since_first acts = record { inners = []; outers = []; inner_is = sym (append-nil acts); outer_is = sym (append-nil acts); are = refl }
+
+-- no acts are told that weren't told at first
+never_told : (new : List Timed) (log : List Act) (blocks : Blocks) → GoesOnSeen None [] no_blocks (Some new) log blocks → ⊥
+never_told new log blocks goes = by (nat_le (length log) (length new)) (goes start tt)
   where
-    told : (b : Bool) (outer : List Timed) → Added (Some []) (if_told b outer) P → AreSince from_none (Some inner) (if_told b outer) blocks → IsRunAround P inner
-    told false outer added since = absurd since
-    told true outer added since = record {
-      outers = outer;
+    start : Start
+    start = from_acts ((record { moment = 0; act = took event.Tick 0 }) ∷ new)
+
+    by : (b : Bool) → AreSince start (Some new) (if_told b (with_calls new log)) blocks → ⊥
+    by true since = absurd (omega (arith, ap length since.inner_is, length-append new since.inners))
+    by false since = since
+
+pub seen_from : (old new : Option (List Timed)) (log : List Act) (blocks : Blocks) → GoesOnSeen old [] no_blocks new log blocks → IsSeenFrom old new (seen_above new log)
+seen_from old None log blocks goes = refl
+seen_from None (Some new) log blocks goes = never_told new log blocks goes
+seen_from (Some old) (Some new) log blocks goes =
+    told (nat_le (length log) (length new)) (with_calls new log)
+    (goes (from_acts old) (subst (λ seen. AreSince (from_acts old) (Some old) seen no_blocks) (sym (seen_at_first (Some old))) (since_first old)))
+  where
+    told : (b : Bool) (outer : List Timed) → AreSince (from_acts old) (Some new) (if_told b outer) blocks → IsSeenFrom (Some old) (Some new) (if_told b outer)
+    told false outer since = absurd since
+    told true outer since = record {
+      inners = since.inners;
+      outers = since.outers;
       blocks = blocks;
-      has = subst P (sym added.1) added.2;
-      are = subst (λ acts. AreSeen no_blocks acts outer blocks) (sym since.inner_is) (subst (λ acts. AreSeen no_blocks since.inners acts blocks) (sym since.outer_is) since.are);
+      inner_is = since.inner_is;
+      seen_is = ap Some since.outer_is;
+      are = since.are;
     }
 
-pub from_nothing : AreSince from_none (Some []) (seen_above (Some []) []) no_blocks
-from_nothing = record { inners = []; outers = []; inner_is = refl; outer_is = refl; are = refl }
+-- a host around another that was never called
+pub seen_unchanged : (acts : Option (List Timed)) → IsSeenFrom acts acts acts
+seen_unchanged None = refl
+seen_unchanged (Some acts) = record {
+  inners = [];
+  outers = [];
+  blocks = no_blocks;
+  inner_is = sym (append-nil acts);
+  seen_is = ap Some (sym (append-nil acts));
+  are = refl;
+}
+
+some_once : (xs ys : List Timed) → Some xs ≡ Some ys → xs ≡ ys
+some_once xs ys is = cc is
+
+pub run_inside : (P : List Timed → Type 0) (old new seen : Option (List Timed)) → IsSeenFrom old new seen → Added old seen P → Added old new (IsRunAround P)
+run_inside P old None seen from added = tt
+run_inside P None (Some new) seen from added = absurd from
+run_inside P (Some old) (Some new) None from added = absurd (cc from.seen_is)
+run_inside P (Some old) (Some new) (Some seen) from added =
+    let same : from.outers ≡ added.0 = append_cancel_left old from.outers added.0 (sym (some_once seen (old ++ from.outers) from.seen_is) ∙ added.1) in (
+      from.inners,
+      from.inner_is,
+      record { outers = from.outers; blocks = from.blocks; has = subst P (sym same) added.2; are = from.are },
+    )

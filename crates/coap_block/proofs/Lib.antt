@@ -7,3 +7,4 @@ pub mod Values
 pub mod AroundLemmas
 pub mod BesideAround
 pub mod Joining
+pub mod Plain

@@ -1,5 +1,6 @@
 -- A host around a host: what it tells of its own acts, and how they stand to those of the host inside.
-use Rattle.std.specs.Prelude.{◌≡◌, ℕ, Bool, true, false, if◌then◌else◌, List, [], ◌∷◌, ◌++◌, Option, Some, None, ⊤}
+use Rattle.std.specs.Prelude.{◌≡◌, ℕ, ◌-◌, ◌≤◌, nat_le, Bool, true, false, if◌then◌else◌, List, [], ◌∷◌, ◌++◌, length, take, drop, Option, Some, None, ⊤}
+use Rattle.coap_message.specs.Message.{CoapMessage, IsMessage, spelling}
 use Rattle.dots_host.specs.declared.act.Act.{Act}
 use Rattle.dots_host.specs.declared.act.Act.TheVariants as act
 use Rattle.dots_host.specs.declared.event.Event.{Event}
@@ -7,7 +8,7 @@ use Rattle.dots_host.specs.declared.event.Event.TheVariants as event
 use Rattle.dots_host.specs.declared.out.OwnedOut.{OwnedOut}
 use Rattle.dots_host.specs.declared.out.OwnedOut.TheVariants as owned
 use Rattle.dots_host.specs.Acts.{Timed, WireAct, took, gave}
-use Rattle.coap_block.specs.Blocks.{Blocks, Sees, Sends}
+use Rattle.coap_block.specs.Blocks.{Blocks, blocks_in, Sees, Sends}
 
 -- the host inside, the calls of the wire as those above see them, and what is known of blocks between them
 pub record Wrapped (H : Type 0) : Type 0 where
@@ -22,25 +23,28 @@ wire_of (act.Took event at) = took event at
 wire_of (act.Gave out done) = gave out done
 wire_of _ = took event.Failed 0
 
--- the acts as seen above, each at the moment of the act inside
+-- the calls above, each at the moment of the act inside
 abbrev pub retimed : List Timed → List Act → List Timed
 retimed [] log = []
 retimed (timed ∷ acts) [] = []
 retimed (timed ∷ acts) (call ∷ log) = (record { moment = timed.moment; act = wire_of call }) ∷ retimed acts log
 
--- where the host inside tells its acts, and each of them has its own above
-abbrev pub same_length : {A B : Type 0} → List A → List B → Bool
-same_length [] [] = true
-same_length (x ∷ xs) (y ∷ ys) = same_length xs ys
-same_length _ _ = false
+-- how many acts there were inside before the first call above
+abbrev pub earlier : List Timed → List Act → ℕ
+earlier acts log = length acts - length log
+
+-- the acts as seen above: those before the first call as they were, and then the calls
+abbrev pub with_calls : List Timed → List Act → List Timed
+with_calls acts log = take (earlier acts log) acts ++ retimed (drop (earlier acts log) acts) log
 
 abbrev pub if_told : Bool → List Timed → Option (List Timed)
 if_told true acts = Some acts
 if_told false acts = None
 
+-- where the host inside tells its acts, and each call above was one of them
 abbrev pub seen_above : Option (List Timed) → List Act → Option (List Timed)
 seen_above None log = None
-seen_above (Some inner) log = if_told (same_length inner log) (retimed inner log)
+seen_above (Some inner) log = if_told (nat_le (length log) (length inner)) (with_calls inner log)
 
 -- ---- the relation
 
@@ -102,13 +106,46 @@ abbrev pub GoesOnSeen : Option (List Timed) → List Act → Blocks → Option (
 GoesOnSeen inner log blocks inner_now log_now blocks_now =
     (start : Start) → AreSince start inner (seen_above inner log) blocks → AreSince start inner_now (seen_above inner_now log_now) blocks_now
 
--- before any act
-abbrev pub from_none : Start
-from_none = record { inner = []; outer = []; blocks = no_blocks }
+-- before any call above, where the host inside has these acts
+abbrev pub from_acts : List Timed → Start
+from_acts acts = record { inner = acts; outer = acts; blocks = no_blocks }
 
--- The acts of a host that had none are those of a run above, with this property, as the host around it handed them on.
+-- What the host inside told at first it still tells, and then more. Those above saw the same acts at first, and then these as they were handed on.
+pub record HandsOn (old new : List Timed) (seen : Option (List Timed)) : Type 0 where
+  pub inners : List Timed
+  pub outers : List Timed
+  pub blocks : Blocks
+  pub inner_is : new ≡ old ++ inners
+  pub seen_is : seen ≡ Some (old ++ outers)
+  pub are : AreSeen no_blocks inners outers blocks
+
+-- The host inside told the old acts where the host around it was made, and tells the new ones now: so the acts are seen above. Where it tells none, none are.
+abbrev pub IsSeenFrom : Option (List Timed) → Option (List Timed) → Option (List Timed) → Type 0
+IsSeenFrom old None seen = seen ≡ None
+IsSeenFrom None (Some new) seen = ⊥
+IsSeenFrom (Some old) (Some new) seen = HandsOn old new seen
+
+-- The acts inside are those of a run above, with this property, as the host around handed them on.
 pub record IsRunAround (P : List Timed → Type 0) (inner : List Timed) : Type 0 where
   pub outers : List Timed
   pub blocks : Blocks
   pub has : P outers
   pub are : AreSeen no_blocks inner outers blocks
+
+-- ---- where no block is asked for, and no payload is long
+
+abbrev pub AsksNoBlock : List ℕ → Type 0
+AsksNoBlock bytes = (message : CoapMessage) → IsMessage message → bytes ≡ spelling message → blocks_in message.options ≡ []
+
+abbrev pub IsShort : List ℕ → Type 0
+IsShort bytes = (message : CoapMessage) → IsMessage message → bytes ≡ spelling message → length message.payload ≤ 1024
+
+-- a datagram that came has no Block2, and the payload of one that was to be sent has at most 1,024 bytes
+abbrev pub IsPlain : WireAct → WireAct → Type 0
+IsPlain (took (event.Datagram from bytes) at) outer = AsksNoBlock bytes
+IsPlain (gave leaves done) (gave (owned.To peer bytes) was) = IsShort bytes
+IsPlain inner outer = ⊤
+
+abbrev pub ArePlain : List Timed → List Timed → Type 0
+ArePlain (inner ∷ inners) (outer ∷ outers) = IsPlain inner.act outer.act × ArePlain inners outers
+ArePlain inners outers = ⊤
