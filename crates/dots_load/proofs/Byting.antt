@@ -15,7 +15,8 @@ use Rattle.coap_message.specs.declared.parts.Parts.{Parts}
 use Rattle.coap_message.specs.Parts.{parts_of, values_of}
 use Rattle.dots_host.specs.declared.event.Event.{Event}
 use Rattle.dots_host.specs.declared.event.Event.TheVariants as event
-use Rattle.dots_load.specs.Events.{sends, event_by, load_event, events_to}
+use Rattle.dots_host.specs.Memory.{Coming}
+use Rattle.dots_load.specs.Events.{sends, event_by, load_event, events_to, load_events}
 use Rattle.dots_load.proofs.Options.{AreFrom, message_is, spelling_short, get_short, delete_short, put_short}
 use Rattle.dots_load.proofs.Scopes.{scope_short, prefix_short}
 use Rattle.dots_load.specs.Datagrams.{EachComing, AreBytes}
@@ -209,3 +210,11 @@ bytes_from seed from (suc count) few = (load_bytes seed from (omega (arith, few)
 pub each_bytes : (seed count : ℕ) → count ≤ 2 ^ 16 → EachComing AreBytes (events_to seed count)
 unfolding events_to
 each_bytes seed count few = bytes_from seed 0 count (omega (arith, few))
+
+-- the End behind them has none
+and_end : (came : List Coming) (at : ℕ) → EachComing AreBytes came → EachComing AreBytes (came ++ (record { event = event.End; at = at }) ∷ [])
+and_end [] at each = (tt, tt)
+and_end (coming ∷ came) at each = (each.0, and_end came at each.1)
+
+pub all_bytes : (seed : ℕ) → EachComing AreBytes (load_events seed ++ (record { event = event.End; at = 0 }) ∷ [])
+all_bytes seed = and_end (load_events seed) 0 (each_bytes seed 20000 (omega arith))

@@ -4,4 +4,5 @@ pub mod Wrapping
 pub mod Coming
 pub mod Taken
 pub mod Adding
-mod Byting
+pub mod Byting
+pub mod Alike

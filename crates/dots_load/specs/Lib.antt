@@ -5,3 +5,4 @@ pub mod Report
 pub mod Calls
 pub mod Domains
 pub mod Datagrams
+pub mod Deciding
