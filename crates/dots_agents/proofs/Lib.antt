@@ -1,2 +1,3 @@
-mod Sends
+pub mod Sends
 mod Turning
+pub mod Wrote

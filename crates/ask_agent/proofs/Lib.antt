@@ -1,0 +1,7 @@
+pub mod Apart
+pub mod Asks
+pub mod Complete
+pub mod Draining
+pub mod Order
+pub mod Ran
+pub mod Turns

@@ -1,0 +1,5 @@
+pub mod Asking
+pub mod Report
+pub mod Numbers
+pub mod Running
+pub mod Unmoved

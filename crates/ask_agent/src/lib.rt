@@ -1,0 +1,25 @@
+//! The client of a network as an agent: it takes the events of a wire, makes the asks of its settings at their times, and at the end
+//! reports what was granted.
+//!
+//! [`run_ask`] reads the settings, takes the events of a wire until the end, and writes the report. [`Asker`] is the agent, whose
+//! turns [`ask_over`] takes over any wire.
+//!
+//! Start reading at `specs/Asking.antt`, which has the client as a machine over events: what is heard, what is asked, and what is
+//! sent. `specs/Report.antt` has the report, and `specs/Running.antt` what a run has done by its ending.
+#![tactic(auto)]
+
+mod asker;
+mod ending;
+mod firsts;
+pub mod laws;
+mod making;
+mod report;
+mod running;
+mod sending;
+mod unsent;
+
+pub use asker::{Asker, ROOM};
+pub use ending::AskEnding;
+pub use firsts::Firsts;
+pub use running::{ask_over, run_ask};
+pub use unsent::{Unsent, Why};
