@@ -1,6 +1,6 @@
 //! The file of a journal, to be read alone.
 
-ghost use Rattle.std.specs.Prelude.{◌≡◌, ◌+◌, ◌≤◌, length, None, OnOk, OnErr, ⊤, ⊥};
+ghost use Rattle.std.specs.Prelude.{◌≡◌, ◌+◌, ◌≤◌, length, None, OnOk, OnErr, ⊤};
 ghost use Rattle.dots_host.specs.Causes.{HasCause};
 ghost use Rattle.dots_edge.specs.JournalFile.{room_of};
 

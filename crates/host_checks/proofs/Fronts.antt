@@ -1,0 +1,10 @@
+-- What was read of two files.
+use Rattle.std.proofs.Common.{◌≡◌, ℕ, List, Option, Some, None, take, subst}
+use Rattle.std.specs.Prelude.{IfSome}
+
+-- what holds of what was read holds of the fronts of what was there, where that is told
+pub of_fronts : (P : List ℕ → List ℕ → Type 0) (most : ℕ) (left named : Option (List ℕ)) (content text : List ℕ) → IfSome left (λ file. content ≡ take most file)
+    → IfSome named (λ file. text ≡ take most file) → P content text → IfSome left (λ file. IfSome named (λ host. P (take most file) (take most host)))
+of_fronts P most None named content text is are holds = tt
+of_fronts P most (Some file) None content text is are holds = tt
+of_fronts P most (Some file) (Some host) content text is are holds = subst (λ front. P front (take most host)) is (subst (λ front. P content front) are holds)

@@ -1,0 +1,2 @@
+mod Domains
+mod Fronts

@@ -1,0 +1,8 @@
+use Rattle.std.proofs.Common.{◌≡◌, ◌+◌, ◌≤◌, map, drop}
+use Rattle.host_file.specs.HostLine.{line_value, how_many}
+use Rattle.host_checks.specs.Findings.{is_http}
+use Rattle.host_checks.proofs.findings.count_http.Given as goal
+
+abbrev pub invariant-loop-line : goal.invariant-loop-line
+invariant-loop-line l =
+    (l.count + how_many is_http (map line_value (drop l.line-index l.said)) ≡ how_many is_http (map line_value l.said)) × (l.count ≤ l.line-index)

@@ -1,0 +1,6 @@
+pub mod EntryLines
+pub mod Findings
+pub mod HostChecks
+pub mod Journals
+pub mod Listings
+pub mod Reasons
