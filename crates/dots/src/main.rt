@@ -1,9 +1,9 @@
-//! The program `dots`: it hands [`run_program`], or with the words `serve ..` [`run_sockets`], the words of its command line, the real
-//! files and streams, and the runtime, and ends with its status.
+//! The program `dots`: it hands [`run_program`], or with the words `serve ..` [`run_sockets`] and with those that ask about a host file
+//! [`check_host`], the words of its command line, the real files and streams, and the runtime, and ends with its status.
 #![tactic(auto)]
 
 use dots_lists::NoMemory;
-use dots_run::{is_serve, run_program, run_sockets};
+use dots_run::{check_host, host_task, is_serve, run_program, run_sockets};
 use std::io::ErrorKind;
 use std::process::ExitCode;
 use std::{env, fs, io};
@@ -25,6 +25,10 @@ fn main(rt: HostRuntime) -> ExitCode {
     let opening = |name: &str| fs::open(&rt, name).ok();
     let report = io::writer(&rt);
     if let Ok(list) = &words {
+        if host_task(list.as_slice()).is_some() {
+            let checked = check_host(rt.alloc(), list.as_slice(), opening, &rt, report);
+            return ExitCode::from(checked.into_status());
+        }
         if is_serve(list.as_slice()) {
             let served = run_sockets(rt.alloc(), list.as_slice(), opening, &rt, report);
             return ExitCode::from(served.into_status());

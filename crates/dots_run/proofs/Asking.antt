@@ -2,6 +2,8 @@
 use Rattle.std.proofs.Common.{◌≡◌, ◌≢◌, ℕ, ◌⊎◌, inl, inr, Bool, true, false, ◌&&◌, ◌||◌, if◌then◌else◌, List, [], ◌∷◌, codes, Option, Some, None, refl, sym, ◌∙◌, subst, arith}
 use Rattle.std.proofs.lemmas.Bool.Decides.{nat_tests}
 use Rattle.std.specs.Prelude.{bytes_eq, is_some}
+use Rattle.std.specs.Option.{option_map}
+use Rattle.plain_text.specs.Numbers.{number_in}
 use Rattle.dots_machine.specs.Commands.{is_word, is_replay, is_serve, is_served, is_show, is_command}
 use Rattle.dots_run.specs.declared.topic_outcome.TopicOutcome.{TopicOutcome}
 use Rattle.dots_run.specs.declared.topic_outcome.TopicOutcome.TheVariants as outcomes
@@ -9,7 +11,7 @@ use Rattle.dots_run.specs.declared.topic.Topic.{Topic}
 use Rattle.dots_run.specs.declared.topic.Topic.TheVariants as topic
 use Rattle.dots_run.specs.Reporting.{outcome_status, has_source}
 use Rattle.dots_run.proofs.Commands.{served_by}
-use Rattle.dots_run.specs.Topics.{is_check, is_alone, is_check_script, is_help, is_version, topic_of, is_known}
+use Rattle.dots_run.specs.Topics.{is_check, is_alone, is_check_script, is_help, is_version, load_of, topic_of, is_known}
 
 check_or_replay : (name word : List ℕ) → (bytes_eq name (codes "check") && is_word word) ≡ true → (bytes_eq name (codes "replay") && is_word word) ≡ true → ⊥
 check_or_replay [] word c r = absurd (cc c)
@@ -52,15 +54,46 @@ alone_no_show word [] a s = absurd (cc a)
 alone_no_show word (name ∷ []) a s = absurd (cc s)
 alone_no_show word (name ∷ other ∷ words) a s = absurd (cc a)
 
+-- a number comes only with the name
+named_so : (b : Bool) (found : Option ℕ) (number : ℕ) → (if b then found else None) ≡ Some number → b ≡ true
+named_so true found number is = refl
+named_so false found number is = absurd (cc is)
+
+load_or_replay : (name word : List ℕ) → bytes_eq name (codes "load") ≡ true → (bytes_eq name (codes "replay") && is_word word) ≡ true → ⊥
+load_or_replay [] word l r = absurd (cc l)
+load_or_replay (byte ∷ name) word l r = grind (arith, nat_tests)
+
+load_or_show : (name word : List ℕ) → bytes_eq name (codes "load") ≡ true → (bytes_eq name (codes "show") && is_word word) ≡ true → ⊥
+load_or_show [] word l s = absurd (cc l)
+load_or_show (byte ∷ name) word l s = grind (arith, nat_tests)
+
+load_no_replay : (words : List (List ℕ)) (number : ℕ) → load_of words ≡ Some number → is_replay words ≡ true → ⊥
+load_no_replay [] number l r = absurd (cc l)
+load_no_replay (name ∷ []) number l r = absurd (cc l)
+load_no_replay (name ∷ word ∷ []) number l r = load_or_replay name word (named_so (bytes_eq name (codes "load")) (number_in 1 1000 word) number l) r
+load_no_replay (name ∷ word ∷ more ∷ words) number l r = absurd (cc l)
+
+load_no_serve : (words : List (List ℕ)) (number : ℕ) → load_of words ≡ Some number → is_serve words ≡ true → ⊥
+load_no_serve [] number l s = absurd (cc l)
+load_no_serve (name ∷ []) number l s = absurd (cc l)
+load_no_serve (name ∷ word ∷ []) number l s = absurd (cc s)
+load_no_serve (name ∷ word ∷ more ∷ words) number l s = absurd (cc l)
+
+load_no_show : (words : List (List ℕ)) (number : ℕ) → load_of words ≡ Some number → is_show words ≡ true → ⊥
+load_no_show [] number l s = absurd (cc l)
+load_no_show (name ∷ []) number l s = absurd (cc l)
+load_no_show (name ∷ word ∷ []) number l s = load_or_show name word (named_so (bytes_eq name (codes "load")) (number_in 1 1000 word) number l) s
+load_no_show (name ∷ word ∷ more ∷ words) number l s = absurd (cc l)
+
 some_once : (x y : Topic) → Some x ≡ Some y → x ≡ y
 some_once x y e = cc e
 
 module _ (words : List (List ℕ)) (asked : Topic) where
-  -- words with a topic are a check of settings, or one word
-  one_of : (P : Type 0) → topic_of words ≡ Some asked → (is_check words ≡ true → P) → ((word : List ℕ) → is_alone word words ≡ true → P) → P
-  one_of P is check alone =
-      by (is_check words) (is_alone (codes "check-script") words) (is_help words) (is_version words) check (alone (codes "check-script")) (either (codes "help") (codes "--help"))
-      (either (codes "version") (codes "--version")) is
+  -- words with a topic are a check of settings, or one word, or a generated run
+  one_of : (P : Type 0) → topic_of words ≡ Some asked → (is_check words ≡ true → P) → ((word : List ℕ) → is_alone word words ≡ true → P) → ((number : ℕ) → load_of words ≡ Some number → P) → P
+  one_of P is check alone load =
+      by (is_check words) (is_alone (codes "check-script") words) (is_help words) (is_version words) (load_of words) check (alone (codes "check-script")) (either (codes "help") (codes "--help"))
+      (either (codes "version") (codes "--version")) load is
     where
       either : (one other : List ℕ) → (is_alone one words || is_alone other words) ≡ true → P
       either one other is = split (is_alone one words) refl is
@@ -69,19 +102,20 @@ module _ (words : List (List ℕ)) (asked : Topic) where
           split true first is = alone one first
           split false first is = alone other is
 
-      by : (a b c d : Bool) → (a ≡ true → P) → (b ≡ true → P) → (c ≡ true → P) → (d ≡ true → P)
-          → (if a then Some topic.Settings else if b then Some topic.Script else if c then Some topic.Usage else if d then Some topic.Version else None) ≡ Some asked → P
-      by true b c d p q r s is = p refl
-      by false true c d p q r s is = q refl
-      by false false true d p q r s is = r refl
-      by false false false true p q r s is = s refl
-      by false false false false p q r s is = absurd (cc is)
+      by : (a b c d : Bool) (found : Option ℕ) → (a ≡ true → P) → (b ≡ true → P) → (c ≡ true → P) → (d ≡ true → P) → ((number : ℕ) → found ≡ Some number → P)
+          → (if a then Some topic.Settings else if b then Some topic.Script else if c then Some topic.Usage else if d then Some topic.Version else option_map topic.Load found) ≡ Some asked → P
+      by true b c d found p q r s t is = p refl
+      by false true c d found p q r s t is = q refl
+      by false false true d found p q r s t is = r refl
+      by false false false true found p q r s t is = s refl
+      by false false false false (Some number) p q r s t is = t number refl
+      by false false false false None p q r s t is = absurd (cc is)
 
   pub never_served : topic_of words ≡ Some asked → is_served words ≡ true → ⊥
   never_served is served =
       served_by words ⊥ served
-      (λ replay. one_of ⊥ is (λ check. check_no_replay words check replay) (λ word alone. alone_no_replay word words alone replay))
-      (λ serve. one_of ⊥ is (λ check. check_no_serve words check serve) (λ word alone. alone_no_serve word words alone serve))
+      (λ replay. one_of ⊥ is (λ check. check_no_replay words check replay) (λ word alone. alone_no_replay word words alone replay) (λ number load. load_no_replay words number load replay))
+      (λ serve. one_of ⊥ is (λ check. check_no_serve words check serve) (λ word alone. alone_no_serve word words alone serve) (λ number load. load_no_serve words number load serve))
 
   -- so the run doesn't serve
   pub not_served : topic_of words ≡ Some asked → is_served words ≡ false
@@ -92,19 +126,21 @@ module _ (words : List (List ℕ)) (asked : Topic) where
       by false none = refl
 
   pub no_show : topic_of words ≡ Some asked → is_show words ≡ true → ⊥
-  no_show is show = one_of ⊥ is (λ check. check_no_show words check show) (λ word alone. alone_no_show word words alone show)
+  no_show is show = one_of ⊥ is (λ check. check_no_show words check show) (λ word alone. alone_no_show word words alone show) (λ number load. load_no_show words number load show)
 
   -- where neither settings nor a script are checked no source is read
   pub no_source : topic_of words ≡ Some asked → is_check words ≡ false → is_check_script words ≡ false → has_source asked ≡ false
-  no_source is none nor = by (is_check words) (is_alone (codes "check-script") words) (is_help words) (is_version words) none nor is
+  no_source is none nor = by (is_check words) (is_alone (codes "check-script") words) (is_help words) (is_version words) (load_of words) none nor is
     where
-      by : (a b c d : Bool) → a ≡ false → b ≡ false
-          → (if a then Some topic.Settings else if b then Some topic.Script else if c then Some topic.Usage else if d then Some topic.Version else None) ≡ Some asked → has_source asked ≡ false
-      by true b c d p q is = absurd (cc p)
-      by false true c d p q is = absurd (cc q)
-      by false false true d p q is = subst (λ t. has_source t ≡ false) (some_once topic.Usage asked is) refl
-      by false false false true p q is = subst (λ t. has_source t ≡ false) (some_once topic.Version asked is) refl
-      by false false false false p q is = absurd (cc is)
+      by : (a b c d : Bool) (found : Option ℕ) → a ≡ false → b ≡ false
+          → (if a then Some topic.Settings else if b then Some topic.Script else if c then Some topic.Usage else if d then Some topic.Version else option_map topic.Load found) ≡ Some asked
+          → has_source asked ≡ false
+      by true b c d found p q is = absurd (cc p)
+      by false true c d found p q is = absurd (cc q)
+      by false false true d found p q is = subst (λ t. has_source t ≡ false) (some_once topic.Usage asked is) refl
+      by false false false true found p q is = subst (λ t. has_source t ≡ false) (some_once topic.Version asked is) refl
+      by false false false false (Some number) p q is = subst (λ t. has_source t ≡ false) (some_once (topic.Load number) asked is) refl
+      by false false false false None p q is = absurd (cc is)
 
 or_true : (b : Bool) → (b || true) ≡ false → ⊥
 or_true true e = cc e

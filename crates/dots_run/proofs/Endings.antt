@@ -40,6 +40,7 @@ module _ (end : TopicOutcome) (left old new : Option (List ℕ)) (unread unwritt
   found_is topic.Script one found is finds = one_text topic.Script left one found is (come ChecksScript one found is finds)
   found_is topic.Usage one found is finds = is ∙ sym (ok_once found (checked.Good usage_text) (Ok found) refl finds)
   found_is topic.Version one found is finds = is ∙ sym (ok_once found (checked.Good version_text) (Ok found) refl finds)
+  found_is (topic.Load number) one found is finds = one_text (topic.Load number) left one found is finds
 
   -- a read failed where none of its bytes is judged
   must_read : (topic : Topic) → Finds topic left unread (Err unchecked.ReadFailed) → (unread → ⊥) → ⊥
@@ -47,6 +48,7 @@ module _ (end : TopicOutcome) (left old new : Option (List ℕ)) (unread unwritt
   must_read topic.Script finds read = read finds
   must_read topic.Usage finds read = absurd (cc finds)
   must_read topic.Version finds read = absurd (cc finds)
+  must_read (topic.Load number) finds read = finds
 
   pub has_read : (asked : Topic) → ReportsTopic asked end left old new unread unwritten → end ≡ outcomes.Unread → unread
   has_read asked reported is = by reported.found reported.finds reported.reports
@@ -56,6 +58,7 @@ module _ (end : TopicOutcome) (left old new : Option (List ℕ)) (unread unwritt
       of_topic topic.Script finds = finds
       of_topic topic.Usage finds = absurd (cc finds)
       of_topic topic.Version finds = absurd (cc finds)
+      of_topic (topic.Load number) finds = absurd finds
 
       by : (found : Result Checked Unchecked) → Finds asked left unread found → Reports found end old new unwritten → unread
       by (Ok (checked.Good text)) finds (inl ended) = absurd (cc (sym is ∙ ended.0))

@@ -1,4 +1,6 @@
 mod Scripts
+mod Generating
+mod Loads
 mod Once
 mod Endings
 mod Commands
@@ -9,4 +11,6 @@ mod Writing
 mod Serving
 mod Texts
 mod Asking
+mod InBlocks
 mod Leaving
+mod HostReporting

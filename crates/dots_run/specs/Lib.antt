@@ -1,9 +1,12 @@
 pub mod Usage
 pub mod Reporting
 pub mod Refusals
+pub mod Blocks
 pub mod Outcomes
 pub mod Programs
 pub mod OverSockets
 pub mod Scripted
 pub mod Topics
 pub mod Leaving
+pub mod HostReports
+pub mod Load

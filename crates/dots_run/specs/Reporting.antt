@@ -11,6 +11,7 @@ use Rattle.dots_run.specs.declared.topic.Topic.{Topic}
 use Rattle.dots_run.specs.declared.topic.Topic.TheVariants as topic
 use Rattle.dots_run.specs.declared.topic_outcome.TopicOutcome.{TopicOutcome}
 use Rattle.dots_run.specs.declared.topic_outcome.TopicOutcome.TheVariants as outcomes
+use Rattle.dots_run.specs.Load.{TellsLoad, FindsLoad}
 use Rattle.dots_run.specs.Usage.{usage_text, version_text}
 
 abbrev pub outcome_status : TopicOutcome → ℕ
@@ -26,6 +27,7 @@ has_source topic.Settings = true
 has_source topic.Script = true
 has_source topic.Usage = false
 has_source topic.Version = false
+has_source (topic.Load number) = false
 
 -- a check of the bytes that the source has left, where it tells them; no answer where a read failed, or for want of memory
 abbrev pub Checks : (List ℕ → Checked → Type 0) → Option (List ℕ) → Type 0 → Result Checked Unchecked → Type 0
@@ -33,12 +35,13 @@ Checks check left failed (Ok found) = IfSome left (λ bytes. check bytes found)
 Checks check left failed (Err unchecked.ReadFailed) = failed
 Checks check left failed (Err unchecked.NoMemory) = ⊤
 
--- what is found of a topic; usage and version are there whatever the source has
+-- what is found of a topic; the others look at no source
 abbrev pub Finds : Topic → Option (List ℕ) → Type 0 → Result Checked Unchecked → Type 0
 Finds topic.Settings left failed found = Checks ChecksSettings left failed found
 Finds topic.Script left failed found = Checks ChecksScript left failed found
 Finds topic.Usage left failed found = found ≡ Ok (checked.Good usage_text)
 Finds topic.Version left failed found = found ≡ Ok (checked.Good version_text)
+Finds (topic.Load number) left failed found = FindsLoad number found
 
 -- What was written of what is found: all of its text, or for this cause only a beginning of it. A fault stays one where its text can't be written.
 abbrev pub Reports : Result Checked Unchecked → TopicOutcome → Option (List ℕ) → Option (List ℕ) → Type 0 → Type 0
@@ -65,6 +68,7 @@ IsOf topic.Settings left found = Comes ChecksSettings left found
 IsOf topic.Script left found = Comes ChecksScript left found
 IsOf topic.Usage left found = found ≡ checked.Good usage_text
 IsOf topic.Version left found = found ≡ checked.Good version_text
+IsOf (topic.Load number) left found = TellsLoad number found
 
 -- there is no fault, and there is one
 abbrev pub IsSound : Topic → Option (List ℕ) → Type 0

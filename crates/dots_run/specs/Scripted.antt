@@ -5,6 +5,8 @@ use Rattle.dots_host.specs.Runs.{Owing}
 use Rattle.dots_host.specs.Writing.{AppendsBeginning}
 use Rattle.dots_disk.specs.Media.{blank}
 use Rattle.dots_disk.specs.Logged.{media_since, acts_told}
+use Rattle.coap_block.specs.Blocks.{Blocks}
+use Rattle.coap_block.specs.Around.{AreSeen, no_blocks}
 use Rattle.dots_script.specs.Accounts.{Outer, Accounts}
 use Rattle.dots_script.specs.Scripting.{Scripting}
 use Rattle.dots_settings.specs.Settings.{SettingsValue}
@@ -46,13 +48,16 @@ outside_with left source_faults host held report_faults = record {
 }
 
 -- Some acts are a run of the machine with these settings from an empty disk, which stops so, keeps the laws, and survives a crash at any moment.
--- Their events are, in order, those of the script's lines, their sends are, line by line, what the sink of sends was written, and of the last
--- state this was written.
+-- The acts of the host are the same ones as they were handed on, with replies in blocks: their events are, in order, those of the script's lines,
+-- and their sends are, line by line, what the sink of sends was written. Of the last state this was written.
 pub record Replays (settings : SettingsValue) (how : Stop) (before after : Outside) (start now : Outer) (wrote : State → Type 0) : Type 0 where
   pub acts : List Timed
+  pub seen : List Timed
+  pub blocks : Blocks
+  pub handed_on : AreSeen no_blocks acts seen blocks
   pub end : Owing State
   pub trace : List State
-  pub has_run : HasRun settings (begun_from []) how before after trace end acts
+  pub has_run : HasRun settings (begun_from []) how before after trace end seen
   pub accounts : Accounts start now acts
   pub reports : wrote end.last
 

@@ -2,6 +2,8 @@
 use Rattle.std.specs.Prelude.{ℕ, List, [], ◌∷◌, Bool, false, ◌&&◌, ◌||◌, if◌then◌else◌, bytes_eq, codes, Option, Some, None, is_some}
 use Rattle.dots_run.specs.declared.topic.Topic.{Topic}
 use Rattle.dots_run.specs.declared.topic.Topic.TheVariants as topic
+use Rattle.std.specs.Option.{option_map}
+use Rattle.plain_text.specs.Numbers.{number_in}
 use Rattle.dots_machine.specs.Commands.{is_word, is_served, is_command}
 
 -- `check SETTINGS`
@@ -25,6 +27,11 @@ is_help words = is_alone (codes "help") words || is_alone (codes "--help") words
 abbrev pub is_version : List (List ℕ) → Bool
 is_version words = is_alone (codes "version") words || is_alone (codes "--version") words
 
+-- the number of `load N`, of 1 to 1,000
+abbrev pub load_of : List (List ℕ) → Option ℕ
+load_of (name ∷ number ∷ []) = if bytes_eq name (codes "load") then number_in 1 1000 number else None
+load_of _ = None
+
 -- the topic that the words ask for
 abbrev pub topic_of : List (List ℕ) → Option Topic
 topic_of words =
@@ -32,7 +39,7 @@ topic_of words =
     else if is_check_script words then Some topic.Script
     else if is_help words then Some topic.Usage
     else if is_version words then Some topic.Version
-    else None
+    else option_map topic.Load (load_of words)
 
 -- the words are a line that the program knows
 abbrev pub is_known : List (List ℕ) → Bool

@@ -2,6 +2,7 @@
 
 ghost use Rattle.std.specs.Prelude.{◌≡◌, ℕ, List, Option};
 ghost use Rattle.file_checks.specs.declared.checked.Checked.{Checked};
+ghost use Rattle.dots_run.specs.Load.{LoadTold};
 ghost use Rattle.dots_run.specs.Reporting.{IsOf};
 
 use crate::topic::Topic;
@@ -9,4 +10,9 @@ use crate::topic::Topic;
 /// The topic and the bytes of the source decide what is to be told.
 pub fn one_text()
     ensures { (topic : Topic) (left : Option (List ℕ)) (one other : Checked) → IsOf topic left one → IsOf topic left other → one ≡ other }
+{}
+
+/// A number has one report of its generated run.
+pub fn one_load_text()
+    ensures { (seed : ℕ) (one other : List ℕ) → LoadTold seed one → LoadTold seed other → one ≡ other }
 {}

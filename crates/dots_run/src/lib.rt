@@ -1,14 +1,19 @@
-//! The top call of the program, [`run`]; the same over a script, [`run_script`]; over the streams that the program is handed,
-//! [`run_program`]; and over sockets and a journal in a file, [`run_sockets`]. [`run_again`] runs twice, the second time over what a crash
-//! left.
+//! The top call, [`run`], and that of the program, [`run_blocks`], from which long replies leave in blocks; the same over a script,
+//! [`run_script`]; over the streams that the program is handed, [`run_program`]; and over sockets and a journal in a file,
+//! [`run_sockets`]. [`run_again`] runs twice, the second time over what a crash left.
 //!
 //! What the program tells without serving, [`report_topic`] writes: what a settings file or a script comes to, or its first fault and why it is one;
 //! how the program is called; and its version. That text is a function of the [`Topic`] and of the bytes of the source ([`one_text`]):
 //! `specs/Reporting.antt` says which, `specs/Usage.antt` has the texts that no file decides, and those of files are in `file_checks`.
+//!
+//! A generated run, [`run_load`], has a host of its own. Its report is a function of its number ([`one_load_text`]), and `specs/Load.antt` says which.
 #![tactic(auto)]
 
 mod again;
+mod blocks;
+mod host_report;
 mod laws;
+mod load;
 mod outcome;
 mod program;
 mod refusals;
@@ -23,8 +28,11 @@ mod wording;
 mod words;
 
 pub use again::run_again;
+pub use blocks::{Ended, run_blocks};
 pub use dots_script::ScriptHost;
-pub use laws::one_text;
+pub use host_report::{HostChecked, check_host, host_task};
+pub use laws::{one_load_text, one_text};
+pub use load::run_load;
 pub use program::{Finished, run_program};
 pub use reporting::report_topic;
 pub use running::run;

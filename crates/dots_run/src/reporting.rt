@@ -1,11 +1,15 @@
 //! Telling of a topic.
 
-ghost use Rattle.std.specs.Prelude.{◌≡◌, ◌⊎◌, false, Ok, IfSome};
+ghost use Rattle.std.specs.Prelude.{◌≡◌, ◌⊎◌, false, Result, Ok, IfSome};
 ghost use Rattle.dots_host.specs.Causes.{Rose};
+ghost use Rattle.file_checks.specs.declared.checked.Checked.{Checked};
 ghost use Rattle.file_checks.specs.declared.checked.Checked.TheVariants as checked;
+ghost use Rattle.file_checks.specs.declared.checked.Unchecked.{Unchecked};
+ghost use Rattle.dots_run.specs.Load.{FindsLoad};
 ghost use Rattle.dots_run.specs.declared.topic_outcome.TopicOutcome.TheVariants as outcomes;
 ghost use Rattle.dots_run.specs.Reporting.{has_source, Reports, ReportsTopic, IsSound, IsAtFault};
 
+use crate::load::run_load;
 use crate::topic::Topic;
 use crate::topic_outcome::TopicOutcome;
 use crate::wording::{usage, version};
@@ -42,11 +46,23 @@ pub fn report_topic<S: Source, K: Sink>(
         Topic::Script => return report_found(check_script(alloc, source), report),
         Topic::Usage => return write_good(usage(), report),
         Topic::Version => return write_good(version(), report),
+        Topic::Load(number) => return report_load(alloc, number, report),
+    }
+}
+
+/// Writes the report of a generated run.
+fn report_load<K: Sink>(alloc: Global, number: u64, report: &mut K) -> TopicOutcome
+    ensures { (found : Result Checked Unchecked) × FindsLoad number found
+        × Reports found result (K.holds report.old) (K.holds report.new) (Rose (K.faults report.old) (K.faults report.new)) }
+{
+    match run_load(alloc, number) {
+        Ok(text) => return write_good(text.as_bytes(), report),
+        Err(_) => return TopicOutcome::NoMemory,
     }
 }
 
 /// Writes what was found.
-fn report_found<K: Sink>(found: Result<Checked, Unchecked>, report: &mut K) -> TopicOutcome
+pub fn report_found<K: Sink>(found: Result<Checked, Unchecked>, report: &mut K) -> TopicOutcome
     ensures { Reports found result (K.holds report.old) (K.holds report.new) (Rose (K.faults report.old) (K.faults report.new)) }
 {
     match found {

@@ -25,7 +25,7 @@ use std::alloc::Global;
 /// to the report. With `show HEX` the lines of a message are written to the report, or that of its fault, and neither source
 /// nor host is called. With `check SETTINGS` and `check-script` the source gives what is checked, and what it comes to, or its
 /// first fault and why it is one, is written to the report; with `help` or `--help` the usage is, and with `version` or `--version` the
-/// version. None of these calls the host.
+/// version; and with `load N` the report of a generated run is. None of these calls the host.
 pub fn run<H: Host, S: Source, K: Sink>(
     alloc: Global,
     words: &[String],

@@ -5,7 +5,7 @@ ghost use Rattle.dots_script.specs.Accounts.{outer};
 ghost use Rattle.dots_run.specs.Scripted.{outside_first, outside_with};
 ghost use Rattle.dots_run.specs.Programs.{Runs};
 
-use crate::running::run;
+use crate::blocks::{Ended, run_blocks};
 use dots_host::{Sink, Source};
 use dots_script::ScriptHost;
 use std::alloc::Global;
@@ -23,7 +23,7 @@ pub struct Scripted<P, K> {
 }
 
 /// Does all that the program does over a script: its events are the lines that the source gives, and its sends are written to
-/// the sink as lines. Status 4 where no memory is found to make the host.
+/// the sink as lines, long replies in blocks. Status 4 where no memory is found to make the host.
 pub fn run_script<P: Source + Drop, K: Sink + Drop, S: Source, R: Sink>(
     alloc: Global,
     words: &[String],
@@ -42,8 +42,8 @@ pub fn run_script<P: Source + Drop, K: Sink + Drop, S: Source, R: Sink>(
         (outer P.left P.faults K.holds host)) }
 {
     match ScriptHost::new(alloc, script, sends) {
-        Ok(mut host) => {
-            let status = run(alloc, words, settings, &mut host, report);
+        Ok(host) => {
+            let Ended { status, host } = run_blocks(alloc, words, settings, host, report);
             return Scripted {
                 status,
                 host: Some(host),

@@ -7,7 +7,7 @@ ghost use Rattle.dots_edge.specs.Edge.{Edge};
 ghost use Rattle.dots_machine.specs.Commands.{is_serve, second_of, third_of};
 ghost use Rattle.dots_run.specs.OverSockets.{IsHostText, IsOpenedFrom, outside_at, RunsOver};
 
-use crate::running::run;
+use crate::blocks::{Ended, run_blocks};
 use crate::words::names_of;
 use dots_edge::FileSocketHost;
 use dots_host::{Sink, Source, StdSink, StdSource};
@@ -58,7 +58,7 @@ impl<F: Drop, K: Drop, R: Drop> Served<F, K, R> {
 /// Does all that the program does with the words `serve SETTINGS HOSTFILE`: `opening` opens both files by their names, the runtime opens
 /// the sockets and the journal that the host file names, and what is reported is written to `report`. A file that can't be
 /// opened, where `opening` gives None, fails when it is read. In place of a host file that can't be read, or has more than 65,536 bytes, stands one
-/// with a fault, over which every call of the host fails. Status 4 where no memory is found for the host.
+/// with a fault, over which every call of the host fails. Long replies leave in blocks. Status 4 where no memory is found for the host.
 pub fn run_sockets<
     F: Read + Drop,
     K: Write + Drop,
@@ -84,7 +84,7 @@ pub fn run_sockets<
     let mut settings = StdSource::new(opening(settings));
     let mut host_file = StdSource::new(opening(host_file));
     let mut report = StdSink::new(report);
-    let Ok(mut host) = open_host(alloc, rt, &mut host_file) else {
+    let Ok(host) = open_host(alloc, rt, &mut host_file) else {
         return Served {
             status: NO_MEMORY,
             settings,
@@ -93,7 +93,7 @@ pub fn run_sockets<
             report,
         };
     };
-    let status = run(alloc, words, &mut settings, &mut host, &mut report);
+    let Ended { status, host } = run_blocks(alloc, words, &mut settings, host, &mut report);
     Served {
         status,
         settings,

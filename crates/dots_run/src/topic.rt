@@ -9,4 +9,6 @@ pub enum Topic {
     Usage,
     /// The version of the program, and the logic that it is proved with.
     Version,
+    /// The report of the generated run of this number, of 1 to 1,000.
+    Load(u64),
 }

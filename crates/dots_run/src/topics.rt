@@ -1,13 +1,14 @@
 //! The words that ask for what is told without serving.
 
 ghost use Rattle.std.specs.Prelude.{◌≡◌, map, string_bytes};
-ghost use Rattle.dots_run.specs.Topics.{is_check, is_alone, is_check_script, is_help, is_version, topic_of};
+ghost use Rattle.dots_run.specs.Topics.{is_check, is_alone, is_check_script, is_help, is_version, load_of, topic_of};
 
 use crate::topic::Topic;
 use crate::words::is_word;
+use plain_text::number_in;
 
 /// The topic that the words ask for: `check SETTINGS`, `check-script`, `help` and `version` have one, and
-/// `--help` and `--version` have that of `help` and `version`.
+/// `--help` and `--version` have that of `help` and `version`. So has `load N`, where N is a number of 1 to 1,000 without leading zeros.
 pub fn topic_of(words: &[String]) -> Option<Topic>
     ensures { result ≡ topic_of (map string_bytes words.now) }
 {
@@ -23,7 +24,25 @@ pub fn topic_of(words: &[String]) -> Option<Topic>
     if is_version(words) {
         return Some(Topic::Version);
     }
-    None
+    match load_number(words) {
+        Some(number) => Some(Topic::Load(number)),
+        None => None,
+    }
+}
+
+/// The number of `load N`, of 1 to 1,000.
+fn load_number(words: &[String]) -> Option<u64>
+    ensures { result ≡ load_of (map string_bytes words.now) }
+{
+    match words {
+        [name, number] => {
+            if name.as_str() == "load" {
+                return number_in(1, 1000, number.as_bytes());
+            }
+            None
+        }
+        _ => None,
+    }
 }
 
 /// Whether they are `check SETTINGS`.

@@ -15,7 +15,13 @@ dots serve SETTINGS HOSTFILE
                        serves what comes to the sockets that a host file names, and keeps the journal in a file
 dots show HEX          prints the CoAP message that bytes in hexadecimal spell
 dots check SETTINGS    prints what a settings file comes to, or its first fault and why it is one
+dots check SETTINGS HOSTFILE
+                       prints what both files and the journal come to, and what a server would refuse
+dots journal SETTINGS HOSTFILE
+                       prints the entries of the journal that a host file names
 dots check-script      reads a script from standard input: prints how many events it has, or its first fault, and why
+dots load N            serves 20,000 events that the number N, of 1 to 1,000, generates, over a host in memory: prints
+                       eight counts, the same for the same N
 dots help              prints this
 dots version           prints the version of the program, and the logic that it is proved with
 
@@ -29,13 +35,14 @@ The exit status, and what to do:
   0   all went well
   1   show: the bytes spell no message. What is printed names the first fault: mend the bytes there
   2   the words are no command: take a line from above
-  3   the settings, or a script that is checked, have a fault. What is printed names the line; dots check SETTINGS says
-      why it is one
+  3   the settings, or what is checked, have a fault. What is printed names it; dots check SETTINGS says why a line of
+      the settings is one
   4   no memory was found: free some, and begin again
   5   the settings or the script can't be read, or a line is no script line: dots check-script says which, and why.
       With serve: the settings can't be read, or the sockets failed
   6   a call of the disk failed. What was answered is on it: see what it lacks, and begin again. With serve also: the
-      host file can't be read or has a fault, a socket can't be bound, or another server has the journal
+      host file can't be read or has a fault, a socket can't be bound, or another server has the journal: dots check
+      SETTINGS HOSTFILE names what it can see
   7   the disk holds something that isn't a journal of this program. What is printed is the first such place
   8   the journal was written under other settings, and the digests of both are printed: take those again
   9   standard output can't be written: look where it goes

@@ -17,6 +17,10 @@ mod acts;
 #[cfg(test)]
 mod alike;
 #[cfg(test)]
+mod ask_rows;
+#[cfg(test)]
+mod block_rows;
+#[cfg(test)]
 mod checks;
 #[cfg(test)]
 mod crashes;
@@ -38,6 +42,10 @@ mod hosts;
 mod images;
 #[cfg(test)]
 mod journal_rows;
+#[cfg(test)]
+mod load_rows;
+#[cfg(test)]
+mod long_lists;
 #[cfg(test)]
 mod many;
 #[cfg(test)]

@@ -1,12 +1,13 @@
 //! All rows.
 
-use crate::checks;
+use crate::block_rows::BLOCKS;
 use crate::datagram_rows::DATAGRAMS;
 use crate::disk_rows::{CHANGED, FOREIGN, JOINS, OTHERS, SIZES};
 use crate::disks::goes_over_disk;
 use crate::domain_rows::DOMAINS;
 use crate::faults::{FAULTY, LARGE, UNREAD};
 use crate::journal_rows::{DIGESTS, JOURNALS, TIMES};
+use crate::long_lists::long_list;
 use crate::mitigation_rows::{FATES, MITIGATIONS};
 use crate::name_rows::{LIFETIMES, SCOPES};
 use crate::option_rows::OPTIONS;
@@ -19,6 +20,7 @@ use crate::scripted::goes_over_script;
 use crate::shown_rows::SHOWN;
 use crate::tables::Row;
 use crate::topic_rows::{EVENTS, FAULTS, WORDS};
+use crate::{ask_rows, checks};
 use dots_host::MemorySink;
 use std::alloc::Global;
 use std::process::Abort;
@@ -74,6 +76,20 @@ fn runs_over_scripts(rt: HostRuntime) {
     all_hold(&rt, alloc, LAST_TWO);
     all_hold(&rt, alloc, RESTARTS);
     all_hold(&rt, alloc, SCRIPTS);
+    all_hold(&rt, alloc, BLOCKS);
+}
+
+/// Whether a run in which a long list is read goes as its row says.
+fn list_holds(alloc: Global) -> bool {
+    match long_list(alloc) {
+        Some(text) => holds(alloc, "$ replay settings\n:&", text.as_str()),
+        None => false,
+    }
+}
+
+#[test]
+fn long_lists_come_in_blocks(rt: HostRuntime) {
+    assert!(rt; list_holds(rt.alloc()));
 }
 
 #[test]
@@ -88,6 +104,13 @@ fn runs_of_commands(rt: HostRuntime) {
     all_hold(&rt, alloc, FAULTY);
     all_hold(&rt, alloc, LARGE);
     all_hold(&rt, alloc, UNREAD);
+}
+
+#[test]
+fn runs_of_clients(rt: HostRuntime) {
+    let alloc = rt.alloc();
+    all_hold(&rt, alloc, ask_rows::ASKED);
+    all_hold(&rt, alloc, ask_rows::FAULTS);
 }
 
 #[test]

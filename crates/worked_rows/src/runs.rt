@@ -1,6 +1,7 @@
 //! Runs of the program.
 
 use crate::tables::Row;
+use ask_agent::{Firsts, run_ask};
 use dots_disk::Host;
 use dots_host::{MemorySink, MemorySource, NoMemory};
 use dots_run::run;
@@ -40,6 +41,55 @@ pub fn sink_of(alloc: Global, failing: u64) -> Result<MemorySink, NoMemory> {
     Ok(sink)
 }
 
+/// The words of a run and the source of its settings.
+#[derive(Drop)]
+pub struct Parts {
+    pub words: Vec<String>,
+    pub settings: MemorySource,
+}
+
+fn parts_of(alloc: Global, asked: Asked) -> Result<Parts, NoMemory> {
+    let words = words_of(alloc, asked.words)?;
+    let settings = source_of(alloc, asked.settings, asked.failing)?;
+    Ok(Parts { words, settings })
+}
+
+/// The words of a row and the source of its settings.
+pub fn parts_of_row(alloc: Global, row: Row) -> Option<Parts> {
+    let settings = row.text(alloc, ":")?;
+    let asked = Asked {
+        words: row.word("$ "),
+        settings: settings.as_bytes(),
+        failing: row.number("! read "),
+    };
+    parts_of(alloc, asked).ok()
+}
+
+/// Whether a run of the row with this status ended as the row says, and reported what it says.
+pub fn has_ended(alloc: Global, row: Row, status: u8, sink: &MemorySink) -> bool {
+    u64::from(status) == row.number("? ") && row.has(alloc, "=", sink.bytes())
+}
+
+/// The status of a run of these words with their settings over the host: a client asks with `ask`, and the program does all else.
+fn run_parts<H: Host>(
+    alloc: Global,
+    words: &str,
+    parts: &mut Parts,
+    host: &mut H,
+    sink: &mut MemorySink,
+) -> u8 {
+    if words == "ask settings" {
+        return run_ask(alloc, &mut parts.settings, Firsts::ones(), host, sink).status();
+    }
+    run(
+        alloc,
+        parts.words.as_slice(),
+        &mut parts.settings,
+        host,
+        sink,
+    )
+}
+
 /// The status of a run over the host. What it reports is in the sink.
 pub fn run_over<H: Host>(
     alloc: Global,
@@ -47,9 +97,9 @@ pub fn run_over<H: Host>(
     host: &mut H,
     sink: &mut MemorySink,
 ) -> Result<u8, NoMemory> {
-    let words = words_of(alloc, asked.words)?;
-    let mut settings = source_of(alloc, asked.settings, asked.failing)?;
-    Ok(run(alloc, words.as_slice(), &mut settings, host, sink))
+    let words = asked.words;
+    let mut parts = parts_of(alloc, asked)?;
+    Ok(run_parts(alloc, words, &mut parts, host, sink))
 }
 
 /// Whether a run of the row over the host ends with its status, and reports what it says.
@@ -59,12 +109,7 @@ pub fn run_of<H: Host>(
     host: &mut H,
     sink: &mut MemorySink,
 ) -> Option<bool> {
-    let settings = row.text(alloc, ":")?;
-    let asked = Asked {
-        words: row.word("$ "),
-        settings: settings.as_bytes(),
-        failing: row.number("! read "),
-    };
-    let status = run_over(alloc, asked, host, sink).ok()?;
-    Some(u64::from(status) == row.number("? ") && row.has(alloc, "=", sink.bytes()))
+    let mut parts = parts_of_row(alloc, row)?;
+    let status = run_parts(alloc, row.word("$ "), &mut parts, host, sink);
+    Some(has_ended(alloc, row, status, sink))
 }

@@ -1,9 +1,9 @@
-//! Runs over scripts.
+//! Runs over scripts, as the program makes them: long replies leave in blocks.
 
-use crate::runs::run_of;
+use crate::runs::{Parts, has_ended, parts_of_row};
 use crate::tables::Row;
 use dots_host::{MemorySink, MemorySource, NoMemory};
-use dots_run::ScriptHost;
+use dots_run::{Ended, ScriptHost, run_blocks};
 use std::alloc::Global;
 
 type Scripted = ScriptHost<MemorySource, MemorySink>;
@@ -15,16 +15,25 @@ fn host_of(alloc: Global, script: &str) -> Result<Scripted, NoMemory> {
 }
 
 /// Whether a run of the row over the host goes as it says.
-fn leaves(alloc: Global, row: Row, host: &mut Scripted, sink: &mut MemorySink) -> bool {
-    run_of(alloc, row, host, sink) == Some(true) && row.has(alloc, ">", host.sink().bytes())
+fn leaves(
+    alloc: Global,
+    row: Row,
+    parts: &mut Parts,
+    host: Scripted,
+    sink: &mut MemorySink,
+) -> bool {
+    let words = parts.words.as_slice();
+    let Ended { status, host } = run_blocks(alloc, words, &mut parts.settings, host, sink);
+    let goes = has_ended(alloc, row, status, sink) && row.has(alloc, ">", host.sink().bytes());
+    drop(host);
+    goes
 }
 
 /// Whether a run of the row over this script goes as it says.
 fn goes_over(alloc: Global, row: Row, script: &str, sink: &mut MemorySink) -> Option<bool> {
-    let mut host = host_of(alloc, script).ok()?;
-    let goes = leaves(alloc, row, &mut host, sink);
-    drop(host);
-    Some(goes)
+    let mut parts = parts_of_row(alloc, row)?;
+    let host = host_of(alloc, script).ok()?;
+    Some(leaves(alloc, row, &mut parts, host, sink))
 }
 
 /// Whether a run of the row over its script goes as it says.

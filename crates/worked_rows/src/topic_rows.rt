@@ -46,6 +46,26 @@ $ show -4
 = words
 ? 2
 
+$ load
+= words
+? 2
+
+$ load 0
+= words
+? 2
+
+$ load 1001
+= words
+? 2
+
+$ load 01
+= words
+? 2
+
+$ load 1 1
+= words
+? 2
+
 # the first read fails
 $ replay settings
 ! read 1
@@ -86,6 +106,8 @@ $ help
 = dots show HEX          prints the CoAP message that bytes in hexadecimal spell
 = dots check SETTINGS    prints what a settings file comes to, or its first fault and why it is one
 = dots check-script      reads a script from standard input: prints how many events it has, or its first fault, and why
+= dots load N            serves 20,000 events that the number N, of 1 to 1,000, generates, over a host in memory: prints
+=                        eight counts, the same for the same N
 = dots help              prints this
 = dots version           prints the version of the program, and the logic that it is proved with
 =

@@ -54,3 +54,24 @@ returns-in-Version-clause-reported g c =
     let unread = Rose (g.S.Source.faults c.args.source.now) (g.S.Source.faults c.args.source.now) in
     let found = Ok (checked.Good c.version.result.now) in
     record { found = found; finds = subst (λ topic. Finds topic left unread found) (sym c.in-Version.is) (ap (λ text. Ok (checked.Good text)) c.version.ensures); reports = c.write_good-in-Version.ensures }
+
+pub returns-in-Load-clause-reported : goal.returns-in-Load-clause-reported
+returns-in-Load-clause-reported g c =
+    let left = g.S.Source.left c.args.source.now in
+    let unread = Rose (g.S.Source.faults c.args.source.now) (g.S.Source.faults c.args.source.now) in
+    let (found, finds, reports) = c.report_load.ensures in
+    record { found = found; finds = subst (λ topic. Finds topic left unread found) (sym c.in-Load.is) finds; reports = reports }
+
+pub returns-in-Load-clause-sound : goal.returns-in-Load-clause-sound
+returns-in-Load-clause-sound g c =
+    let left = g.S.Source.left c.args.source.now in
+    let unread = Rose (g.S.Source.faults c.args.source.now) (g.S.Source.faults c.args.source.now) in
+    let (found, finds, reports) = c.report_load.ensures in
+    ends_well c.report_load.result left _ _ unread _ c.args.topic (record { found = found; finds = subst (λ topic. Finds topic left unread found) (sym c.in-Load.is) finds; reports = reports })
+
+pub returns-in-Load-clause-at_fault : goal.returns-in-Load-clause-at_fault
+returns-in-Load-clause-at_fault g c =
+    let left = g.S.Source.left c.args.source.now in
+    let unread = Rose (g.S.Source.faults c.args.source.now) (g.S.Source.faults c.args.source.now) in
+    let (found, finds, reports) = c.report_load.ensures in
+    ends_at_fault c.report_load.result left _ _ unread _ c.args.topic (record { found = found; finds = subst (λ topic. Finds topic left unread found) (sym c.in-Load.is) finds; reports = reports })

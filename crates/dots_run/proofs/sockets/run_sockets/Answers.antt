@@ -4,7 +4,8 @@ use Rattle.std.proofs.lemmas.Fn.{says_at}
 use Rattle.dots_host.specs.Causes.{Rose}
 use Rattle.dots_machine.specs.Outside.{Outside}
 use Rattle.dots_run.specs.OverSockets.{IsOpenedFrom, outside_at, RunsOver}
-use Rattle.dots_run.specs.Outcomes.{Outcome}
+use Rattle.dots_machine.specs.Endings.{Behaves}
+use Rattle.dots_run.specs.Blocks.{seeing}
 use Rattle.dots_run.proofs.Asking.{served_no_topic}
 use Rattle.dots_run.proofs.Commands.{serve_is_served}
 use Rattle.dots_run.proofs.sockets.run_sockets.Goals as goal
@@ -27,30 +28,19 @@ returns-in_default g c = (
 pub returns : goal.returns
 returns g c =
     let words = map string_bytes c.args.words.now in
-    let said = c.run-status.ensures in
+    let said = c.run_blocks-status.ensures in
     let host = c.in-Ok.host in
     let settings = c.new-settings.result in
     let report = c.new-report.result in
     let left = option_and_then g.F.Read.remaining in
     let before : Outside = outside_at (left settings.reader) settings.faults host (g.K.Write.contents report.writer) report.faults in
     let after : Outside =
-    outside_at (left c.run-status.new.settings.reader) c.run-status.new.settings.faults c.run-status.new.host (g.K.Write.contents c.run-status.new.report.writer) c.run-status.new.report.faults in
-    let outcome : Outcome words c.run-status.result before after = record {
-      commands = said.words;
-      read = said.read;
-      heard = said.heard;
-      disk = said.disk;
-      written = said.written;
-      refused = said.refused;
-      complete = said.complete;
-      readable = said.readable;
-      unreadable = said.unreadable;
-      sound = said.sound;
-      at_fault = said.at_fault;
-    } in
-    let runs : RunsOver words c.run-status.result before after host c.run-status.new.host = record {
-      machine = said.machine (served_no_topic words (serve_is_served words c.requires.serves));
-      outcome = outcome;
+    outside_at (left c.run_blocks-status.new.settings.reader) c.run_blocks-status.new.settings.faults c.run_blocks-status.result.host (g.K.Write.contents c.run_blocks-status.new.report.writer) c.run_blocks-status.new.report.faults in
+    let runs : RunsOver words c.run_blocks-status.result.status before after host c.run_blocks-status.result.host =
+    let did = said.machine (served_no_topic words (serve_is_served words c.requires.serves)) in
+    record {
+      machine = (did.ending, did.status_is, subst (λ seen. Behaves did.ending words before (seeing after seen)) did.handed_on did.behaves, did.idle);
+      outcome = said.outcome;
     } in (
       c.opening.result,
       c.opening-2.result,
@@ -59,7 +49,7 @@ returns g c =
       (
         host,
         subst (λ source. IsOpenedFrom (left source.reader) (Rose source.faults c.open_host.new.file.faults) host) c.new-host_file.ensures c.in-Ok.ensures,
-        subst (λ sink. RunsOver words c.run-status.result (outside_at (left c.opening.result) 0 host (g.K.Write.contents sink.writer) sink.faults) after host c.run-status.new.host) c.new-report.ensures
-            (subst (λ source. RunsOver words c.run-status.result (outside_at (left source.reader) source.faults host (g.K.Write.contents report.writer) report.faults) after host c.run-status.new.host) c.new-settings.ensures runs),
+        subst (λ sink. RunsOver words c.run_blocks-status.result.status (outside_at (left c.opening.result) 0 host (g.K.Write.contents sink.writer) sink.faults) after host c.run_blocks-status.result.host) c.new-report.ensures
+            (subst (λ source. RunsOver words c.run_blocks-status.result.status (outside_at (left source.reader) source.faults host (g.K.Write.contents report.writer) report.faults) after host c.run_blocks-status.result.host) c.new-settings.ensures runs),
       ),
     )

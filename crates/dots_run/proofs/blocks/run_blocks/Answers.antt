@@ -1,0 +1,106 @@
+use Rattle.std.proofs.Common.{◌≡◌, ◌∙◌, map, string_bytes, refl, sym, ap, subst}
+use Rattle.std.proofs.lemmas.Bool.{true≢false}
+use Rattle.coap_block.specs.Around.{Wrapped, seen_above, GoesOnSeen}
+use Rattle.dots_machine.specs.Outside.{Outside, outside}
+use Rattle.dots_machine.specs.Endings.{Behaves}
+use Rattle.dots_run.specs.Outcomes.{Outcome}
+use Rattle.dots_run.specs.Blocks.{RunsInBlocks}
+use Rattle.dots_run.proofs.Asking.{served_no_topic, no_topic}
+use Rattle.dots_run.proofs.InBlocks.{over_blocks, over_none, lacks_memory, lacks_outcome}
+use Rattle.dots_run.proofs.blocks.run_blocks.Goals as goal
+
+-- ---- the host itself
+
+pub returns-then-not-is_served : goal.returns-then-not-is_served
+returns-then-not-is_served g c =
+    let words = map string_bytes c.args.words.now in
+    let said = c.run-status.ensures in
+    let none = said.unserved (sym c.is_served.ensures ∙ c.if-not-is_served.true) in
+    record {
+      machine = λ is.
+          let (how, status_is, behaves, idle) = said.machine is in
+          over_none words c.run-status.result _ _ _ (ap g.H.Wire.acts none) how status_is behaves none;
+      told = said.told;
+      leads = said.leads;
+      outcome = record {
+        commands = said.words;
+        read = said.read;
+        heard = said.heard;
+        disk = said.disk;
+        written = said.written;
+        refused = said.refused;
+        complete = said.complete;
+        readable = said.readable;
+        unreadable = said.unreadable;
+        sound = said.sound;
+        at_fault = said.at_fault;
+      };
+      unread = said.unread;
+      unserved = said.unserved;
+      uncalled = said.uncalled;
+    }
+
+-- ---- a host around it
+
+pub returns-in-Ok : goal.returns-in-Ok
+returns-in-Ok g c =
+    let words = map string_bytes c.args.words.now in
+    let served = sym c.is_served.ensures ∙ c.if-not-is_served.false in
+    let said = c.run-status-in-Ok.ensures in
+    let status = c.run-status-in-Ok.result in
+    let around = c.in-Ok.around in
+    let first = c.in-Ok.ensures.ok in
+    let new = c.run-status-in-Ok.new.host in
+    let taken = sym c.into_inner.ensures in
+    let acts = g.H.Wire.acts in
+    let before : (h : _) → Outside =
+    λ h. outside (g.S.Source.left c.args.settings.now) (g.S.Source.faults c.args.settings.now) (acts h) (g.H.Wire.faults h) (g.H.Disk.media h) (g.H.Disk.extent h) (g.H.Disk.faults h) (g.K.Sink.holds c.args.report.now) (g.K.Sink.faults c.args.report.now) in
+    let after : (h : _) → Outside =
+    λ h. outside (g.S.Source.left c.run-status-in-Ok.new.settings) (g.S.Source.faults c.run-status-in-Ok.new.settings) (acts h) (g.H.Wire.faults h) (g.H.Disk.media h) (g.H.Disk.extent h) (g.H.Disk.faults h) (g.K.Sink.holds c.run-status-in-Ok.new.report) (g.K.Sink.faults c.run-status-in-Ok.new.report) in
+    let stays : new ≡ around → new.inner ≡ c.args.host = λ same. ap (λ (w : Wrapped _). w.inner) (same ∙ first) in
+    let outcome : Outcome words status (before around.inner) (after new.inner) = record {
+      commands = said.words;
+      read = said.read;
+      heard = said.heard;
+      disk = said.disk;
+      written = said.written;
+      refused = said.refused;
+      complete = said.complete;
+      readable = said.readable;
+      unreadable = said.unreadable;
+      sound = said.sound;
+      at_fault = said.at_fault;
+    } in
+    record {
+      machine = λ is.
+          let (how, status_is, behaves, idle) = said.machine is in
+          let goes = subst (λ (w : Wrapped _). GoesOnSeen (acts w.inner) w.log w.blocks (acts new.inner) new.log new.blocks) first said.leads.1 in
+          let did = subst (λ (w : Wrapped _). Behaves how words (record (before w.inner) { acts = seen_above (acts w.inner) w.log }) (record (after new.inner) { acts = seen_above (acts new.inner) new.log })) first behaves in
+          subst (λ h. RunsInBlocks words status (before c.args.host) (after h) (h ≡ c.args.host)) taken
+          (over_blocks words status (before c.args.host) (after new.inner) new.log new.blocks (new.inner ≡ c.args.host) goes how status_is did (λ none. stays (idle none)));
+      told = λ topic is. no_topic words topic _ (served_no_topic words served) is;
+      leads = subst (λ h. g.H.Wire.leads c.args.host h) taken (subst (λ (w : Wrapped _). g.H.Wire.leads w.inner new.inner) first said.leads.0);
+      outcome = subst (λ h. Outcome words status (before c.args.host) (after h)) taken (subst (λ (w : Wrapped _). Outcome words status (before w.inner) (after new.inner)) first outcome);
+      unread = λ none. absurd (true≢false (sym served ∙ none));
+      unserved = λ none. absurd (true≢false (sym served ∙ none));
+      uncalled = λ one three. subst (λ h. h ≡ c.args.host) taken (stays (said.uncalled one three));
+    }
+
+-- ---- no memory for one
+
+pub returns-in-Err : goal.returns-in-Err
+returns-in-Err g c =
+    let words = map string_bytes c.args.words.now in
+    let served = sym c.is_served.ensures ∙ c.if-not-is_served.false in
+    let same = sym c.in-Err.ensures.err in
+    let before : (h : _) → Outside =
+    λ h. outside (g.S.Source.left c.args.settings.now) (g.S.Source.faults c.args.settings.now) (g.H.Wire.acts h) (g.H.Wire.faults h) (g.H.Disk.media h) (g.H.Disk.extent h) (g.H.Disk.faults h) (g.K.Sink.holds c.args.report.now) (g.K.Sink.faults c.args.report.now) in
+    record {
+      machine = λ is. subst (λ h. RunsInBlocks words 4 (before c.args.host) (before h) (h ≡ c.args.host)) same (lacks_memory words (before c.args.host) (c.args.host ≡ c.args.host) served refl);
+      told = λ topic is. no_topic words topic _ (served_no_topic words served) is;
+      leads = subst (λ h. g.H.Wire.leads c.args.host h) same (g.met.H.Wire.leads_same c.args.host);
+      outcome = subst (λ h. Outcome words 4 (before c.args.host) (before h)) same (lacks_outcome words (before c.args.host) served);
+      unread = λ none check script. refl;
+      unserved = λ none. sym same;
+      uncalled = λ one three. sym same;
+    }

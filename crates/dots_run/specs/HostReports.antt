@@ -1,0 +1,37 @@
+-- What is told of a settings file and a host file, and what was written of it.
+use Rattle.std.specs.Prelude.{◌≡◌, ◌⊎◌, ℕ, Bool, false, ◌&&◌, if◌then◌else◌, List, [], ◌∷◌, bytes_eq, codes, Option, Some, None, IfSome, Result, Ok, Err, ⊤}
+use Rattle.file_checks.specs.declared.checked.Checked.{Checked}
+use Rattle.file_checks.specs.declared.checked.Unchecked.{Unchecked}
+use Rattle.file_checks.specs.declared.checked.Unchecked.TheVariants as unchecked
+use Rattle.host_checks.specs.declared.files.Task.{Task}
+use Rattle.host_checks.specs.declared.files.Task.TheVariants as task
+use Rattle.host_checks.specs.HostChecks.{ChecksFiles, front_of}
+use Rattle.dots_machine.specs.Commands.{is_word}
+use Rattle.dots_run.specs.declared.topic_outcome.TopicOutcome.{TopicOutcome}
+use Rattle.dots_run.specs.Reporting.{outcome_status, Reports}
+
+-- this word, and behind it two that name a settings file and a host file
+abbrev pub is_of_host : List ℕ → List (List ℕ) → Bool
+is_of_host word (name ∷ settings ∷ host ∷ []) = bytes_eq name word && (is_word settings && is_word host)
+is_of_host word _ = false
+
+-- what `check SETTINGS HOSTFILE` and `journal SETTINGS HOSTFILE` ask for
+abbrev pub host_task : List (List ℕ) → Option Task
+host_task words =
+    if is_of_host (codes "check") words then Some task.Check
+    else if is_of_host (codes "journal") words then Some task.List
+    else None
+
+-- what is found of both files, where they tell their bytes; no answer where a read of one failed, or for want of memory
+abbrev pub FindsHost : Task → Option (List ℕ) → Option (List ℕ) → Type 0 → Type 0 → Result Checked Unchecked → Type 0
+FindsHost asked left named unread unnamed (Ok found) = IfSome left (λ file. IfSome named (λ host. ChecksFiles asked (front_of file) (front_of host) found))
+FindsHost asked left named unread unnamed (Err unchecked.ReadFailed) = unread ⊎ unnamed
+FindsHost asked left named unread unnamed (Err unchecked.NoMemory) = ⊤
+
+-- Telling ended with this status, from what both files had and what the report held to what it holds now; and what must have failed.
+pub record ReportsHost (asked : Task) (status : ℕ) (left named old new : Option (List ℕ)) (unread unnamed unwritten : Type 0) : Type 0 where
+  pub found : Result Checked Unchecked
+  pub finds : FindsHost asked left named unread unnamed found
+  pub how : TopicOutcome
+  pub is_status : status ≡ outcome_status how
+  pub reports : Reports found how old new unwritten

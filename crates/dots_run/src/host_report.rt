@@ -1,0 +1,111 @@
+//! What is told of a settings file and a host file, without serving them.
+
+ghost use Rattle.std.specs.Prelude.{◌≡◌, map, string_bytes, Option, Some, true, is_some, option_and_then};
+ghost use Rattle.std.specs.Fn.{FnReturnsAt};
+ghost use Rattle.dots_host.specs.Causes.{Rose};
+ghost use Rattle.dots_machine.specs.Commands.{second_of, third_of};
+ghost use Rattle.host_checks.specs.declared.files.Task.{Task};
+ghost use Rattle.dots_run.specs.HostReports.{host_task, is_of_host, ReportsHost};
+
+use crate::reporting::report_found;
+use crate::words::is_word;
+use dots_host::{Sink, Source, StdSink, StdSource};
+use host_checks::{Task, check_files};
+use std::alloc::Global;
+use std::fs::{File, Files};
+use std::io::{Read, Write};
+use std::time::Clock;
+
+/// What is left of a check of both files.
+#[derive(Drop)]
+pub struct HostChecked<F, K> {
+    /// The exit status.
+    pub status: u8,
+    /// The file of the settings.
+    pub settings: StdSource<F>,
+    /// The host file.
+    pub host_file: StdSource<F>,
+    /// The sink of what is told.
+    pub report: StdSink<K>,
+}
+
+impl<F: Drop, K: Drop> HostChecked<F, K> {
+    /// The exit status. All else is let go.
+    pub fn into_status(self) -> u8
+        ensures { result ≡ self.status }
+    {
+        self.status
+    }
+}
+
+/// What `check SETTINGS HOSTFILE` and `journal SETTINGS HOSTFILE` ask for; None where the words are neither.
+pub fn host_task(words: &[String]) -> Option<Task>
+    ensures { result ≡ host_task (map string_bytes words.now) }
+{
+    if is_of_host("check", words) {
+        return Some(Task::Check);
+    }
+    if is_of_host("journal", words) {
+        return Some(Task::List);
+    }
+    None
+}
+
+/// Whether they are this word, and behind it two that name files.
+fn is_of_host(word: &str, words: &[String]) -> bool
+    ensures { result ≡ is_of_host word.now (map string_bytes words.now) }
+{
+    match words {
+        [name, settings, host] => {
+            name.as_str() == word && (is_word(settings.as_bytes()) && is_word(host.as_bytes()))
+        }
+        _ => false,
+    }
+}
+
+/// The second and the third word, and what the words ask for.
+fn asked_of(words: &[String]) -> (Task, &str, &str)
+    requires { is_some (host_task (map string_bytes words.now)) ≡ true }
+    ensures task { host_task (map string_bytes words.now) ≡ Some result.0 }
+    ensures settings { result.1.now ≡ second_of (map string_bytes words.now) }
+    ensures host { result.2.now ≡ third_of (map string_bytes words.now) }
+{
+    match (host_task(words), words) {
+        (Some(task), [_, settings, host]) => (task, settings.as_str(), host.as_str()),
+        _ => unreachable!(),
+    }
+}
+
+/// Does what the words `check SETTINGS HOSTFILE` or `journal SETTINGS HOSTFILE` ask for: `opening` opens both files by their names, and what
+/// they come to is written to `report`, with what is found of the journal that the host file names, or the entries of that; or the
+/// first fault of either file, and why it is one. Status 3 where a server wouldn't start with them. A file that can't be opened, where `opening` gives None, fails when it is read. Nothing is bound, and
+/// nothing else is written.
+pub fn check_host<
+    F: Read + Drop,
+    K: Write + Drop,
+    R: Files<File = File> + Clock + Drop,
+    Open: Fn(&str) -> Option<F> + Drop,
+>(alloc: Global, words: &[String], opening: Open, rt: R, report: K) -> HostChecked<F, K>
+    requires opens { Open.IsAlwaysCallable opening }
+    requires asks { is_some (host_task (map string_bytes words.now)) ≡ true }
+    // The two files are what opening the second and the third word gave, and this was found of them and written.
+    ensures { (asked : Task) × (host_task (map string_bytes words.now) ≡ Some asked) × (file named : Option F) × FnReturnsAt Open.Fn opening (second_of (map string_bytes words.now)) file
+        × FnReturnsAt Open.Fn opening (third_of (map string_bytes words.now)) named
+        × ReportsHost asked result.status (option_and_then F.remaining file) (option_and_then F.remaining named)
+        (K.contents report) (⟦<StdSink<K> as Sink>⟧.holds result.report)
+        (Rose 0 (⟦<StdSource<F> as Source>⟧.faults result.settings)) (Rose 0 (⟦<StdSource<F> as Source>⟧.faults result.host_file))
+        (Rose 0 (⟦<StdSink<K> as Sink>⟧.faults result.report)) }
+{
+    let (task, settings, host_file) = asked_of(words);
+    let mut settings = StdSource::new(opening(settings));
+    let mut host_file = StdSource::new(opening(host_file));
+    let mut report = StdSink::new(report);
+    let found = check_files(alloc, &rt, task, &mut settings, &mut host_file);
+    let status = report_found(found, &mut report).status();
+    HostChecked {
+        status,
+        settings,
+        host_file,
+        report,
+    }
+}
