@@ -1,7 +1,6 @@
 //! Runs of the program.
 
 use crate::tables::Row;
-use ask_agent::{Firsts, run_ask};
 use dots_disk::Host;
 use dots_host::{MemorySink, MemorySource, NoMemory};
 use dots_run::run;
@@ -70,26 +69,6 @@ pub fn has_ended(alloc: Global, row: Row, status: u8, sink: &MemorySink) -> bool
     u64::from(status) == row.number("? ") && row.has(alloc, "=", sink.bytes())
 }
 
-/// The status of a run of these words with their settings over the host: a client asks with `ask`, and the program does all else.
-fn run_parts<H: Host>(
-    alloc: Global,
-    words: &str,
-    parts: &mut Parts,
-    host: &mut H,
-    sink: &mut MemorySink,
-) -> u8 {
-    if words == "ask settings" {
-        return run_ask(alloc, &mut parts.settings, Firsts::ones(), host, sink).status();
-    }
-    run(
-        alloc,
-        parts.words.as_slice(),
-        &mut parts.settings,
-        host,
-        sink,
-    )
-}
-
 /// The status of a run over the host. What it reports is in the sink.
 pub fn run_over<H: Host>(
     alloc: Global,
@@ -97,9 +76,14 @@ pub fn run_over<H: Host>(
     host: &mut H,
     sink: &mut MemorySink,
 ) -> Result<u8, NoMemory> {
-    let words = asked.words;
     let mut parts = parts_of(alloc, asked)?;
-    Ok(run_parts(alloc, words, &mut parts, host, sink))
+    Ok(run(
+        alloc,
+        parts.words.as_slice(),
+        &mut parts.settings,
+        host,
+        sink,
+    ))
 }
 
 /// Whether a run of the row over the host ends with its status, and reports what it says.
@@ -110,6 +94,12 @@ pub fn run_of<H: Host>(
     sink: &mut MemorySink,
 ) -> Option<bool> {
     let mut parts = parts_of_row(alloc, row)?;
-    let status = run_parts(alloc, row.word("$ "), &mut parts, host, sink);
+    let status = run(
+        alloc,
+        parts.words.as_slice(),
+        &mut parts.settings,
+        host,
+        sink,
+    );
     Some(has_ended(alloc, row, status, sink))
 }
