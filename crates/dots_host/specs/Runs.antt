@@ -30,6 +30,21 @@ Trace step old (timed ∷ acts) [] new = ⊥
 abbrev pub each_telling : {S : Type 0} → S → List OwnedOut → List (S × OwnedOut)
 each_telling state sends = map (λ out. (state, out)) sends
 
+-- One turn of an event: its sends, in order, and the state after it, which each of them tells. What it writes is written before the first of them.
+pub record Turn (S : Type 0) : Type 0 where
+  pub sends : List OwnedOut
+  pub left : S
+
+-- the turns, one after the other, lead from the one state to the other
+abbrev pub Chain : {S : Type 0} → (S → List OwnedOut → S → Type 0) → S → List (Turn S) → S → Type 0
+Chain makes old [] new = new ≡ old
+Chain makes old (turn ∷ turns) new = makes old turn.sends turn.left × Chain makes turn.left turns new
+
+-- the sends of all turns, each beside the state that its turn leaves
+abbrev pub owed_in : {S : Type 0} → List (Turn S) → List (S × OwnedOut)
+owed_in [] = []
+owed_in (turn ∷ turns) = each_telling turn.left turn.sends ++ owed_in turns
+
 -- in one turn: all the sends tell the state after it
 abbrev pub in_one_turn : {S : Type 0} → (List OwnedOut → Type 0) → List (S × OwnedOut) → S → Type 0
 in_one_turn makes owed new = (sends : List OwnedOut) × (owed ≡ each_telling new sends) × makes sends
