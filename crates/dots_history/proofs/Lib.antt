@@ -8,3 +8,4 @@ pub mod Placing
 pub mod CalmPlaces
 pub mod NamedPlaces
 pub mod Rising
+pub mod Reaching

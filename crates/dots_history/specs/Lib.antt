@@ -6,3 +6,4 @@ pub mod Places
 pub mod Rows
 pub mod Slots
 pub mod HandedOut
+pub mod Reach

@@ -20,6 +20,7 @@ pub mod laws;
 mod lives;
 mod overlap;
 mod put;
+mod reach;
 mod relations;
 mod reply;
 mod slots;

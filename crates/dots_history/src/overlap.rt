@@ -4,8 +4,10 @@ ghost use Rattle.std.specs.Prelude.{◌≡◌, bytes_eq};
 ghost use Rattle.std.specs.List.{list_any};
 ghost use Rattle.ip_scope.specs.Prefix.{meets};
 ghost use Rattle.dots_history.specs.Entries.{overlaps, targets_meet, share_alias, some_prefix};
+ghost use Rattle.dots_history.specs.Reach.{Encloses};
 
 use crate::put::{Put, Target};
+use crate::reach::{Reaches, reaches_of, touches};
 use dots_lists::Name;
 use ip_scope::{Prefix, meets};
 
@@ -25,19 +27,28 @@ fn targets_meet(a: &Put, b: &Put) -> bool
     some_target_meets(a.targets.items(), b.targets.items())
 }
 
-/// Whether a prefix of the one's targets meets one of the other's.
+/// Whether a prefix of the one's targets meets one of the other's. Where the addresses of the two lie apart, no two prefixes are compared.
 pub fn some_target_meets(targets: &[Target], others: &[Target]) -> bool
     ensures { result ≡ some_prefix (λ prefix. some_prefix (meets prefix) others.now) targets.now }
 {
-    targets
-        .iter()
-        .any(|target| some_meets(target.prefixes.items(), others))
+    let reaches = reaches_of(others);
+    targets.iter().any(|target| some_meets(target.prefixes.items(), others, &reaches))
 }
 
-fn some_meets(prefixes: &[Prefix], targets: &[Target]) -> bool
+fn some_meets(prefixes: &[Prefix], targets: &[Target], reaches: &Reaches) -> bool
+    requires { Encloses reaches.now targets.now }
     ensures { result ≡ list_any (λ prefix. some_prefix (meets prefix) targets.now) prefixes.now }
 {
-    prefixes.iter().any(|prefix| meets_some(prefix, targets))
+    prefixes
+        .iter()
+        .any(|prefix| meets_within(prefix, targets, reaches))
+}
+
+fn meets_within(prefix: &Prefix, targets: &[Target], reaches: &Reaches) -> bool
+    requires { Encloses reaches.now targets.now }
+    ensures { result ≡ some_prefix (meets prefix.now) targets.now }
+{
+    touches(prefix, reaches) && meets_some(prefix, targets)
 }
 
 /// Whether the prefix meets one of the targets.
@@ -52,7 +63,17 @@ pub fn meets_some(prefix: &Prefix, targets: &[Target]) -> bool
 fn meets_any(prefix: &Prefix, list: &[Prefix]) -> bool
     ensures { result ≡ list_any (meets prefix.now) list.now }
 {
-    list.iter().any(|other| meets(prefix, other))
+    list.iter().any(|other| is_meeting(prefix, other))
+}
+
+/// Whether two prefixes meet. Those of one length do where they are equal.
+fn is_meeting(a: &Prefix, b: &Prefix) -> bool
+    ensures { result ≡ meets a.now b.now }
+{
+    if a.length() == b.length() {
+        return a.number() == b.number() && a.family().is_same(b.family());
+    }
+    meets(a, b)
 }
 
 #[tactic(auto, unfolding(crate::specs::Entries::share_alias))]

@@ -7,18 +7,18 @@ ghost use Rattle.prefix_ranks.specs.Numbers.{low_of};
 
 use ip_scope::{Family, Prefix};
 
-/// What an order of prefixes looks at, the first that differs deciding. Other things with a kind and a number may stand in an
+/// What an order of prefixes looks at: the kind, and where it is the same the number, then the place and the slot. Other things with a kind and a number may stand in an
 /// order of their own.
 #[derive(Clone, Copy, Drop)]
 pub struct Rank {
-    /// Of a prefix its family and length, as one number.
-    pub kind: u16,
     /// Of a prefix its number.
     pub number: u128,
     /// Where it stands among those of its number.
     pub place: u64,
     /// What it stands for. No two have the same.
     pub slot: u32,
+    /// Of a prefix its family and length, as one number. It decides first.
+    pub kind: u16,
 }
 
 /// The family and length of a prefix as one number: those of IPv4 come first, and then the shorter ones.
