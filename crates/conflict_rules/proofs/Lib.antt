@@ -6,3 +6,9 @@ pub mod Resolving
 pub mod Places
 pub mod Ending
 pub mod Contesting
+pub mod Puts
+pub mod LivePlaces
+pub mod HeldPlaces
+pub mod Rules
+pub mod JudgedByPlaces
+pub mod Alone

@@ -8,3 +8,8 @@ pub mod Wanted
 pub mod Live
 pub mod ByMid
 pub mod ByOverlap
+pub mod Lives
+pub mod LiveViews
+pub mod Statuses
+pub mod ByHistory
+pub mod Judgements

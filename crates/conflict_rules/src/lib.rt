@@ -5,6 +5,9 @@
 //! the definition in `specs/`: `Live` says what a live mitigation is to a request, `Asking` when two requests ask for
 //! the same, `ByMid` and `ByOverlap` have the rules in their order.
 //!
+//! `Lives`, `ByHistory` and `LiveViews` say which mitigations a history has at a time, how it judges a request by them, and what is shown
+//! of them (with `Statuses`); `Judgements` says the judgement by the places of the entries.
+//!
 //! When two mitigations overlap, and when one ends another, is defined in `dots_history`. No call takes memory.
 #![tactic(auto)]
 

@@ -34,3 +34,4 @@ pub mod Isolating
 pub mod Containing
 pub mod KeptPlaces
 pub mod Unions
+pub mod Written

@@ -9,3 +9,4 @@ pub mod Fits
 pub mod Containing
 pub mod KeptPlaces
 pub mod Filed
+pub mod Held

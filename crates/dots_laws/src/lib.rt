@@ -4,7 +4,7 @@
 //! The definitions that they speak of are those of `dots_history`, and here those of what time, one more entry and a list
 //! of turns make of a view (`specs/Views`, `Turns`), what is read of a history (`HistoryReading`), how much it may come to
 //! (`Capacities`), which entries fit and when a history is calm by the settings of a server (`Fits`, `Calm`), what tables
-//! cite (`Tables`, `KeptPlaces`), rows inside domains (`Containing`), and the first entry that ends a mitigation
+//! cite (`Tables`, `KeptPlaces`), what is left held of a client (`Held`), rows inside domains (`Containing`), and the first entry that ends a mitigation
 //! (`Firsts`).
 //!
 //! [`fits`], [`joins`] and [`is_calm`] are plain and slow programs, each by its definition.

@@ -36,7 +36,8 @@ use Rattle.dots_registry.specs.Filed.{RepresentsFiled, most_kept}
 use Rattle.dots_registry.specs.Fitting.{FitsIn, fits_now}
 use Rattle.dots_registry.proofs.Conditions.{timed_within}
 use Rattle.dots_ledger.specs.LedgerValues.{LedgerValue, Represents}
-use Rattle.dots_ledger.specs.Beginning.{HasTaken, IsApart, joins_now, RefusesEntries, RefusesLedger, IsFailure}
+use Rattle.dots_ledger.specs.Beginning.{HasTaken, joins_now}
+use Rattle.slot_journal.specs.Untaken.{IsApart, RefusesEntries, RefusesLedger, IsFailure}
 
 -- ---- one entry
 

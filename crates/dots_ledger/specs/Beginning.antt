@@ -1,5 +1,5 @@
--- How a ledger begins by what a disk holds, and why it doesn't.
-use Rattle.std.specs.Prelude.{◌≡◌, ℕ, ◌%◌, ◌⊎◌, ⊤, max, Bool, ◌&&◌, true, false, List, ◌∷◌, ◌++◌, length, Option}
+-- How a ledger begins by what a disk holds.
+use Rattle.std.specs.Prelude.{◌≡◌, ℕ, max, Bool, ◌&&◌, true, List, Option}
 use Rattle.dots_disk.specs.Media.{Media}
 use Rattle.dots_disk.specs.Becoming.{RestsWith}
 use Rattle.dots_settings.specs.Settings.{SettingsValue}
@@ -11,16 +11,12 @@ use Rattle.dots_registry.specs.Kept.{filed}
 use Rattle.dots_registry.specs.RegistryValues.{RegistryValue, IsOf, time_of}
 use Rattle.dots_registry.specs.Filed.{RepresentsFiled}
 use Rattle.dots_registry.specs.Fitting.{fits_now}
-use Rattle.slot_store.specs.Layout.{place_of}
 use Rattle.slot_store.specs.Gates.{Sees}
-use Rattle.slot_store.specs.StoreValues.{JournalValue}
 use Rattle.slot_journal.specs.declared.fault.JournalFault.{JournalFault}
 use Rattle.slot_journal.specs.declared.fault.JournalFault.TheVariants as fault
-use Rattle.slot_journal.specs.Sizes.{slots_of}
 use Rattle.std.specs.List.{AllByRecursion}
 use Rattle.slot_journal.specs.DiskEntries.{Holds, HasRecord}
 use Rattle.slot_journal.specs.DiskEntries as journal
-use Rattle.slot_journal.specs.Refused.{Refuses}
 use Rattle.dots_ledger.specs.LedgerValues.{LedgerValue, Represents}
 
 -- A registry of these settings has the tables of these entries, each in the slot of its place, at the time of the last one; and the
@@ -50,42 +46,3 @@ pub record HasBegun (settings : SettingsValue) (at : ℕ) (start now : Option Me
   pub time : time_of ledger.registry ≡ max at (last_time entries)
   pub held : (seen : ℕ → ℕ) → Sees start seen → Holds settings seen entries
   pub rests : (seen : ℕ → ℕ) → Sees start seen → RestsWith now (journal.Represents ledger.journal settings entries)
-
--- ---- why it doesn't
-
--- at this place stands the first of the entries that doesn't join those before it
-pub record IsApart (settings : SettingsValue) (entries : List Entry) (place : ℕ) : Type 0 where
-  pub before : List Entry
-  pub entry : Entry
-  pub later : List Entry
-  pub cut : entries ≡ before ++ entry ∷ later
-  pub calm : is_calm settings before ≡ true
-  pub apart : joins settings before entry ≡ false
-  pub there : place ≡ length before
-
--- why the entries of a journal aren't taken: one of them doesn't join, and its slot is told; or memory ran out
-abbrev pub RefusesEntries : SettingsValue → JournalValue → List Entry → JournalFault → Type 0
-RefusesEntries settings journal entries (fault.NotOurs at) =
-    (slot : ℕ) × IsApart settings entries slot × (at ≡ place_of journal.slots (journal.selector % 2) slot)
-RefusesEntries settings journal entries fault.NoMemory = ⊤
-RefusesEntries settings journal entries _ = ⊥
-
--- A disk holds entries, one of which doesn't join: the place is that of its slot, in the half that is in use by what the disk rests with
--- in the end.
-pub record HoldsStray (settings : SettingsValue) (seen : ℕ → ℕ) (now : Option Media) (at : ℕ) : Type 0 where
-  pub entries : List Entry
-  pub holds : Holds settings seen entries
-  pub slot : ℕ
-  pub apart : IsApart settings entries slot
-  pub there : RestsWith now (λ image. at ≡ place_of (slots_of settings) (image 48 % 2) slot)
-
--- why no ledger begins: the journal isn't recovered, or holds an entry that doesn't join those before it
-abbrev pub RefusesLedger : SettingsValue → ℕ → (ℕ → ℕ) → Option Media → JournalFault → Type 0
-RefusesLedger settings extent seen now (fault.NotOurs at) = Refuses settings extent seen (fault.NotOurs at) ⊎ HoldsStray settings seen now at
-RefusesLedger settings extent seen now why = Refuses settings extent seen why
-
--- memory ran out, or a call of the disk failed
-abbrev pub IsFailure : JournalFault → Type 0
-IsFailure fault.NoMemory = ⊤
-IsFailure fault.DiskFault = ⊤
-IsFailure _ = ⊥

@@ -14,7 +14,8 @@ ghost use Rattle.slot_journal.specs.declared.fault.JournalFault.{JournalFault};
 ghost use Rattle.slot_journal.specs.Sizes.{slots_of};
 ghost use Rattle.slot_journal.specs.DiskEntries.{Holds};
 ghost use Rattle.slot_journal.specs.Refused.{Caused};
-ghost use Rattle.dots_ledger.specs.Beginning.{HasTaken, HasBegun, RefusesLedger, IsFailure};
+ghost use Rattle.dots_ledger.specs.Beginning.{HasTaken, HasBegun};
+ghost use Rattle.slot_journal.specs.Untaken.{RefusesLedger, IsFailure};
 
 use crate::ledger::Ledger;
 use crate::taking::take_all;

@@ -7,7 +7,8 @@ ghost use Rattle.dots_history.specs.Bounds.{within_bounds};
 ghost use Rattle.dots_laws.specs.Fits.{joins};
 ghost use Rattle.dots_registry.specs.RegistryValues.{Represents, IsOf};
 ghost use Rattle.slot_journal.specs.DiskEntries.{HasRecord};
-ghost use Rattle.dots_ledger.specs.Beginning.{HasTaken, HasTakenSome, joins_now, RefusesEntries};
+ghost use Rattle.dots_ledger.specs.Beginning.{HasTaken, HasTakenSome, joins_now};
+ghost use Rattle.slot_journal.specs.Untaken.{RefusesEntries};
 
 use dots_history::Entry;
 use dots_laws::came_rightly;

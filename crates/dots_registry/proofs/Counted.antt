@@ -1,9 +1,8 @@
 -- How many live mitigations there are after an entry that is granted or withdraws.
 use Rattle.std.proofs.Common.{◌≡◌, ◌⊎◌, ℕ, suc, ◌+◌, ◌<◌, ◌≤◌, Bool, true, false, cond, not, ◌&&◌, ◌||◌, List, [], ◌∷◌, ◌++◌, map, Some, None, inl, inr, refl, sym, ap, ◌∙◌, subst, arith}
 use Rattle.std.specs.Prelude.{◌==◌, nat_le, bytes_eq, option_to_list}
-use Rattle.std.specs.List.{list_any, list_all, count_by}
+use Rattle.std.specs.List.{list_any, list_all}
 use Rattle.std.proofs.lemmas.Bool.{false≢true, both_ways, cond_both, cond-true, cases_Bool, and_parts, and_from, or_left, or_right, or_cases, eqb-true, leb-false, false_from_ne_true}
-use Rattle.std.proofs.lemmas.List.Recursion.{is_count_by}
 use Rattle.dots_settings.specs.declared.limits.Limits.{Limits}
 use Rattle.dots_settings.specs.Settings.{SettingsValue}
 use Rattle.dots_history.specs.declared.entry.Entry.{Entry}
@@ -13,7 +12,7 @@ use Rattle.dots_history.specs.declared.change.Change.{Change}
 use Rattle.dots_history.specs.declared.change.Change.TheVariants as change
 use Rattle.dots_history.specs.declared.status.Status.{Status}
 use Rattle.dots_history.specs.declared.status.Status.TheVariants.{Ended, Open, Withdrawn}
-use Rattle.dots_history.specs.Entries.{same_client, put_of, ends, withdraws, replaces, is_loss, option_any}
+use Rattle.dots_history.specs.Entries.{same_client, put_of, ends, withdraws, replaces, is_loss}
 use Rattle.dots_history.specs.Histories.{Mitigation, live, step, status, tally, mitigations}
 use Rattle.dots_history.specs.Keeping.{moved}
 use Rattle.dots_laws.specs.Views.{mitigations_with, mitigations_of}
@@ -26,9 +25,9 @@ use Rattle.conflict_rules.specs.Live.{is_of, stands_for, would_end}
 use Rattle.conflict_rules.specs.ByMid.{has_mid}
 use Rattle.conflict_rules.specs.ByOverlap.{rivals, staying, own_staying}
 use Rattle.conflict_rules.proofs.Ending.{ended}
+use Rattle.conflict_rules.specs.Lives.{live_of, lives_of}
 use Rattle.live_mitigations.specs.LiveValues.{puts}
-use Rattle.live_mitigations.specs.Judging.{put_or_nothing, live_of, lives_of}
-use Rattle.live_mitigations.proofs.Rows.{puts_none}
+use Rattle.conflict_rules.proofs.Puts.{put_there, live_puts, counted}
 use Rattle.held_resources.proofs.Holdings.{turned_eq, turned_bytes}
 use Rattle.conflict_rules.specs.declared.judging.Judged.{Judged}
 use Rattle.conflict_rules.specs.Requests.{Request, ClientValue}
@@ -109,21 +108,10 @@ any_leads f g (x ∷ xs) leads is =
     ]
 
 -- ---- each live one is a mitigation
-pub put_there : (c : Change) → option_any (λ (put : Put). true) (put_of c) ≡ true → c ≡ change.Put (put_or_nothing (put_of c))
-put_there (change.Put put) is = refl
-put_there _ is = absurd (false≢true is)
-
 if_alive : (b : Bool) (m : Mitigation) (rest : List Mitigation) → (b ≡ true → puts m.put ≡ true) → list_all (λ (x : Mitigation). puts x.put) rest ≡ true
     → list_all (λ (x : Mitigation). puts x.put) (option_to_list (cond b (Some m) None) ++ rest) ≡ true
 if_alive true m rest leads all = and_from (puts m.put) (list_all (λ (x : Mitigation). puts x.put) rest) (leads refl) all
 if_alive false m rest leads all = all
-
-pub live_puts : (t : ℕ) (e : Entry) (s : Status) → live t e s ≡ true → puts e ≡ true
-live_puts t e s alive =
-    elim (cases_Bool (puts e)) [
-      | inl is ↦ is
-      | inr none ↦ absurd (both_ways (live t e s) (never_live t e s (puts_none e none)) alive)
-    ]
 
 all_put : (t : ℕ) (entries : List Entry) → list_all (λ (m : Mitigation). puts m.put) (mitigations t entries) ≡ true
 all_put t [] = refl
@@ -180,13 +168,6 @@ any_lives test q domain (m ∷ ms) leads all is =
     (λ out found known. or_right (q m) rest (any_lives test q domain ms leads parts.1 found))
     is
     (cases_Bool (m.put.domain == domain))
-
-one_first : (b : Bool) (n : ℕ) → cond b 1 0 + n ≡ cond b (1 + n) n
-one_first true n = refl
-one_first false n = omega arith
-
-pub counted : {A : Type 0} (test : A → Bool) (xs : List A) → tally test xs ≡ count_by test xs
-counted test xs = is_count_by (tally test) test refl (λ x ys. one_first (test x) (tally test ys)) xs
 
 -- ---- what a put ends
 bracketed : (a b c : Bool) → ((a && b) && c) ≡ (a && (b && c))

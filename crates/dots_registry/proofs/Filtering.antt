@@ -17,10 +17,10 @@ use Rattle.dots_history.specs.Histories.{Mitigation, mitigations, held}
 use Rattle.dots_history.specs.Rows.{acl_of}
 use Rattle.dots_laws.specs.Fits as laws
 use Rattle.dots_laws.specs.Tables.{client_of}
-use Rattle.live_mitigations.specs.LiveValues.{LiveValue, SameButRows, rows_for, puts, is_inside}
+use Rattle.live_mitigations.specs.LiveValues.{LiveValue, SameButRows, rows_for, is_inside, puts}
 use Rattle.live_mitigations.specs.LiveValues as lives
 use Rattle.live_mitigations.proofs.LiveValues.{within_inside}
-use Rattle.held_resources.specs.Held.{acls_of}
+use Rattle.dots_laws.specs.Held.{acls_of}
 use Rattle.dots_laws.specs.Capacities.{loses_as}
 use Rattle.held_resources.specs.Tables.{Tables, is_placed, is_known, sizes_of, tables_with, lost_in}
 use Rattle.held_resources.specs.Tables as things

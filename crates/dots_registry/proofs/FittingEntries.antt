@@ -22,12 +22,12 @@ use Rattle.held_resources.specs.Tables.{rooms_of}
 use Rattle.held_resources.specs.Accepting.{accepts, keeps_rooms}
 use Rattle.held_resources.proofs.Lawful.{accepts_own}
 use Rattle.live_mitigations.specs.LiveValues.{has_live_room}
-use Rattle.live_mitigations.specs.Judging.{lives_of}
+use Rattle.conflict_rules.specs.Lives.{lives_of}
 use Rattle.conflict_rules.specs.declared.judging.Judged.{Judged}
 use Rattle.conflict_rules.specs.Requests.{Request}
 use Rattle.dots_registry.specs.RegistryValues.{RegistryValue, IsOf, Represents, time_of}
 use Rattle.dots_registry.specs.Fitting.{fits_now}
-use Rattle.dots_registry.specs.Judging.{client_in, judge_request}
+use Rattle.conflict_rules.specs.ByHistory.{client_in, judge_request}
 use Rattle.dots_registry.proofs.Conditions.{fits_possible}
 use Rattle.dots_registry.specs.Limits.{ClientsKeepLimits}
 use Rattle.dots_registry.proofs.Granted.{granted_by}

@@ -24,12 +24,12 @@ use Rattle.dots_laws.specs.Calm.{may_act, may_configure, is_client_of, all_insid
 use Rattle.dots_laws.specs.Tables.{Client, is_of}
 use Rattle.conflict_rules.specs.declared.live.Live.{Live}
 use Rattle.conflict_rules.specs.ByMid.{has_mid}
-use Rattle.live_mitigations.specs.Judging.{put_or_nothing, live_of, lives_of}
-use Rattle.held_resources.specs.Held.{alias_of, aliases_of}
+use Rattle.conflict_rules.specs.Lives.{put_or_nothing, live_of, lives_of}
+use Rattle.dots_laws.specs.Held.{alias_of, aliases_of}
 use Rattle.conflict_rules.specs.declared.judging.Judged.{Judged}
 use Rattle.conflict_rules.specs.Requests.{Request, ClientValue}
 use Rattle.conflict_rules.specs.Targets.{prefixes_asked, target_of, own_target, alias_named, alias_target, targets_of}
-use Rattle.dots_registry.specs.Judging.{client_in, judge_request}
+use Rattle.conflict_rules.specs.ByHistory.{client_in, judge_request}
 use Rattle.dots_registry.proofs.Lists.{found_passes, held_pass, lives_pass, written_pass}
 use Rattle.dots_registry.proofs.Granted.{IsGranted, refreshes, begins, granted_by}
 

@@ -6,11 +6,6 @@ pub mod Inside
 pub mod Bounded
 pub mod Counted
 pub mod FittingEntries
-pub mod Alone
-pub mod Places
-pub mod HeldPlaces
-pub mod Rules
-pub mod JudgedByPlaces
 pub mod OnePeer
 pub mod CalmLimits
 pub mod Rings

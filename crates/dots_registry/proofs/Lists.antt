@@ -11,9 +11,9 @@ use Rattle.dots_history.specs.Histories.{Mitigation, live, status, stays, mitiga
 use Rattle.dots_laws.specs.Tables.{Client, is_of}
 use Rattle.dots_laws.specs.Views.{mitigations_of}
 use Rattle.conflict_rules.specs.declared.live.Live.{Live}
-use Rattle.live_mitigations.specs.Judging.{live_of, lives_of}
-use Rattle.held_resources.specs.Held.{written}
-use Rattle.held_resources.proofs.Written.{some_of_both}
+use Rattle.conflict_rules.specs.Lives.{live_of, lives_of}
+use Rattle.dots_laws.specs.Held.{written}
+use Rattle.dots_laws.proofs.Written.{some_of_both}
 
 -- ---- what is found
 pub found_passes : {A : Type 0} (test p : A → Bool) (xs : List A) (x : A) → find test xs ≡ Some x → list_all p xs ≡ true → p x ≡ true

@@ -15,15 +15,15 @@ use Rattle.dots_laws.specs.Tables.{Client}
 use Rattle.dots_laws.specs.Views.{mitigations_of}
 use Rattle.conflict_rules.specs.ByMid.{has_mid}
 use Rattle.conflict_rules.specs.ByMid as by_mid
-use Rattle.live_mitigations.specs.Judging.{live_of, lives_of}
-use Rattle.held_resources.specs.Held.{is_of_another}
+use Rattle.conflict_rules.specs.Lives.{live_of, lives_of}
+use Rattle.dots_laws.specs.Held.{is_of_another}
 use Rattle.held_resources.proofs.Holdings.{turned_eq}
 use Rattle.conflict_rules.specs.declared.fault.PutFault.{PutFault}
 use Rattle.conflict_rules.specs.declared.fault.PutFault.TheVariants as faults
 use Rattle.conflict_rules.specs.declared.judging.Judged.{Judged}
 use Rattle.conflict_rules.specs.Requests.{Request}
 use Rattle.conflict_rules.specs.Judging.{judge_known}
-use Rattle.dots_registry.specs.Judging.{client_in, collides, judge_request}
+use Rattle.conflict_rules.specs.ByHistory.{client_in, collides, judge_request}
 
 -- ---- one peer
 

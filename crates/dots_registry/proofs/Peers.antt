@@ -9,8 +9,8 @@ use Rattle.dots_history.specs.Entries.{same_client}
 use Rattle.dots_history.specs.Histories.{Mitigation, live, status, mitigations}
 use Rattle.dots_laws.specs.Views.{mitigations_of}
 use Rattle.conflict_rules.specs.ByMid.{collides}
-use Rattle.live_mitigations.specs.LiveValues.{puts, is_inside}
-use Rattle.live_mitigations.specs.Judging.{live_of, lives_of}
+use Rattle.conflict_rules.specs.Lives.{live_of, lives_of}
+use Rattle.live_mitigations.specs.LiveValues.{is_inside, puts}
 use Rattle.dots_registry.specs.RegistryValues.{RegistryValue, Represents, time_of}
 use Rattle.dots_registry.specs.Fitting.{has_peer}
 use Rattle.dots_registry.proofs.Conditions.{never_live, inside_or_quiet, out_of_client}

@@ -4,9 +4,9 @@ use Rattle.std.specs.Prelude.{bytes_eq, nat_lt, slice_get}
 use Rattle.std.proofs.lemmas.Bool.{cond-true, cond-false, cond_both, lt-ltb, le-ltb}
 use Rattle.dots_history.specs.Histories.{Mitigation}
 use Rattle.live_mitigations.specs.LiveValues.{rows_for}
-use Rattle.live_mitigations.specs.LiveViews.{LiveView, live_view, of_cuid}
+use Rattle.conflict_rules.specs.LiveViews.{LiveView, live_view, of_cuid}
 use Rattle.held_resources.specs.Tables.{lost_in}
-use Rattle.dots_registry.specs.Statuses.{view_with}
+use Rattle.conflict_rules.specs.Statuses.{view_with}
 use Rattle.dots_registry.specs.RegistryValues.{RegistryValue, time_of, domains_of}
 use Rattle.dots_registry.specs.ObserverViews.{seen, is_wanted, seen_of, views_among, seen_among, views_of}
 

@@ -1,9 +1,7 @@
 pub mod Limits
-pub mod Judgements
 pub mod RegistryValues
 pub mod Kept
 pub mod Fitting
 pub mod Judging
-pub mod Statuses
 pub mod ObserverViews
 pub mod Filed

@@ -2,10 +2,10 @@
 use Rattle.std.specs.Prelude.{ℕ, Bool, true, ◌==◌, nat_lt, if◌then◌else◌, List, [], map, filter, take, Option, Some, None}
 use Rattle.dots_history.specs.Histories.{Mitigation}
 use Rattle.live_mitigations.specs.LiveValues.{rows_for}
-use Rattle.live_mitigations.specs.LiveViews.{LiveView, live_views_of}
+use Rattle.conflict_rules.specs.LiveViews.{LiveView, live_views_of}
 use Rattle.held_resources.specs.Tables.{lost_in}
 use Rattle.dots_registry.specs.RegistryValues.{RegistryValue, time_of, domains_of}
-use Rattle.dots_registry.specs.Statuses.{view_with}
+use Rattle.conflict_rules.specs.Statuses.{view_with}
 
 -- the mid and the status
 abbrev pub seen : LiveView → ℕ × ℕ

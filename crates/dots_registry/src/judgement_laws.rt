@@ -18,16 +18,16 @@ ghost use Rattle.dots_laws.specs.Calm.{may_act, is_client_of, all_inside, name_i
 ghost use Rattle.dots_laws.specs.Fits.{fits};
 ghost use Rattle.dots_laws.specs.Tables.{Client};
 ghost use Rattle.conflict_rules.specs.ByMid.{has_mid};
-ghost use Rattle.live_mitigations.specs.Judging.{lives_of};
+ghost use Rattle.conflict_rules.specs.Lives.{lives_of};
 ghost use Rattle.conflict_rules.specs.declared.fault.PutFault.{PutFault};
 ghost use Rattle.conflict_rules.specs.declared.judging.Judged.{Judged};
 ghost use Rattle.conflict_rules.specs.Requests.{Request};
 ghost use Rattle.dots_registry.specs.RegistryValues.{RegistryValue, Represents, IsOf, time_of};
 ghost use Rattle.dots_registry.specs.Fitting.{fits_now};
-ghost use Rattle.dots_registry.specs.Judging.{collides, judge_request};
-ghost use Rattle.dots_registry.specs.Statuses.{views_in};
+ghost use Rattle.conflict_rules.specs.ByHistory.{collides, judge_request};
+ghost use Rattle.conflict_rules.specs.Statuses.{views_in};
 ghost use Rattle.dots_registry.specs.Limits.{ClientsKeepLimits};
-ghost use Rattle.dots_registry.specs.Judgements.{IsTaken, HasMid, IsJudged};
+ghost use Rattle.conflict_rules.specs.Judgements.{IsTaken, HasMid, IsJudged};
 
 /// The entry of what is granted is the settings' own, where the peer may act for the domain, what it asked for lies inside the
 /// domain, and it filters at once or is asked for by a client of the domain; it is within bounds, where the entries and what was asked for are; and it fits the history at the registry's

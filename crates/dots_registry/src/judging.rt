@@ -5,7 +5,8 @@ ghost use Rattle.lifetime_clock.specs.Lifetime.{IsLifetime};
 ghost use Rattle.dots_history.specs.declared.entry.Entry.{Entry};
 ghost use Rattle.conflict_rules.specs.Results.{Gives};
 ghost use Rattle.dots_registry.specs.RegistryValues.{Represents, time_of, domains_of};
-ghost use Rattle.dots_registry.specs.Judging.{judge_request, asked_by};
+ghost use Rattle.conflict_rules.specs.ByHistory.{judge_request};
+ghost use Rattle.dots_registry.specs.Judging.{asked_by};
 
 use crate::registry::Registry;
 use conflict_rules::{Client, Judged, PutFault, PutRequest, judge_put};

@@ -6,11 +6,12 @@ ghost use Rattle.dots_history.specs.declared.entry.Entry.{Entry};
 ghost use Rattle.dots_history.specs.Histories.{mitigations, held, remembered};
 ghost use Rattle.dots_history.specs.Rows.{is_lost_in};
 ghost use Rattle.dots_laws.specs.HistoryReading.{is_mitigated, is_waiting};
-ghost use Rattle.held_resources.specs.Held.{aliases_of, acls_of, alias_named, acl_named, is_registered, registrant, is_of_another, config_of, is_lost_of, number_of, reached};
+ghost use Rattle.dots_laws.specs.Held.{aliases_of, acls_of, alias_named, acl_named, is_registered, registrant, is_of_another, config_of, is_lost_of};
+ghost use Rattle.held_resources.specs.Numbers.{number_of, reached};
 ghost use Rattle.held_resources.specs.Tables.{most_of, config_now};
 ghost use Rattle.dots_registry.specs.RegistryValues.{Represents, time_of, domains_of, number_remembered};
-ghost use Rattle.dots_registry.specs.Judging.{collides};
-ghost use Rattle.dots_registry.specs.Statuses.{views_in};
+ghost use Rattle.conflict_rules.specs.ByHistory.{collides};
+ghost use Rattle.conflict_rules.specs.Statuses.{views_in};
 
 use crate::registry::Registry;
 use crate::statuses::StatusViews;

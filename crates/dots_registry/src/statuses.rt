@@ -2,7 +2,7 @@
 
 ghost use Rattle.std.specs.Prelude.{◌≡◌, map};
 ghost use Rattle.held_resources.specs.Tables.{lost_in};
-ghost use Rattle.dots_registry.specs.Statuses.{view_with, status_by};
+ghost use Rattle.conflict_rules.specs.Statuses.{view_with, status_by};
 
 use held_resources::HeldResources;
 use live_mitigations::{MitigationRow, Mitigations};
@@ -26,8 +26,8 @@ pub struct StatusViews<'a> {
 impl<'a> Model for StatusViews<'a> {
     ghost use Rattle.std.specs.Prelude.{List, map};
     ghost use Rattle.held_resources.specs.Tables.{lost_in};
-    ghost use Rattle.live_mitigations.specs.LiveViews.{LiveView};
-    ghost use Rattle.dots_registry.specs.Statuses.{view_with};
+    ghost use Rattle.conflict_rules.specs.LiveViews.{LiveView};
+    ghost use Rattle.conflict_rules.specs.Statuses.{view_with};
 
     ghost Value = { List LiveView };
 

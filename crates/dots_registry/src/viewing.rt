@@ -3,10 +3,10 @@
 ghost use Rattle.std.specs.Prelude.{◌≡◌, ◌≤◌, ℕ, Bool, ◌&&◌, bytes_eq, ◌<◌, List, length, slice_get};
 ghost use Rattle.dots_history.specs.declared.entry.Entry.{Entry};
 ghost use Rattle.held_resources.specs.Tables.{lost_in};
-ghost use Rattle.live_mitigations.specs.LiveViews.{live_view, status_number};
+ghost use Rattle.conflict_rules.specs.LiveViews.{live_view, status_number};
 ghost use Rattle.dots_registry.specs.RegistryValues.{Represents, time_of, domains_of};
 ghost use Rattle.dots_registry.specs.ObserverViews.{seen, seen_of, views_among, seen_among, is_wanted, views_of};
-ghost use Rattle.dots_registry.specs.Statuses.{view_with, views_in};
+ghost use Rattle.conflict_rules.specs.Statuses.{view_with, views_in};
 
 use crate::registry::Registry;
 use crate::statuses::status_by;

@@ -14,9 +14,9 @@ use Rattle.dots_history.proofs.Remembering.{or_none}
 use Rattle.dots_laws.specs.Capacities.{loses_as}
 use Rattle.dots_laws.specs.Views.{held_with}
 use Rattle.held_resources.specs.declared.sessions.Session.{Session}
-use Rattle.held_resources.specs.Held.{config_set, config_of}
+use Rattle.dots_laws.specs.Held.{config_set, config_of}
 use Rattle.held_resources.specs.Tables.{Sizes, configured, session_with, session_of, peer_of, is_placed, is_known, config_in}
-use Rattle.held_resources.proofs.Written.{some_of_both, or_no, not_resumed}
+use Rattle.dots_laws.proofs.Written.{some_of_both, or_no, not_resumed}
 use Rattle.held_resources.proofs.Holdings.{turned_eq}
 
 set_parts : (c later : Change) (s : ℕ × Config) → config_set c ≡ Some s

@@ -24,12 +24,12 @@ use Rattle.dots_laws.proofs.Single.{of_itself, is_of_client, client_is_of}
 use Rattle.held_resources.specs.declared.rooms.Rooms.{Rooms}
 use Rattle.held_resources.specs.declared.sessions.Session.{Session}
 use Rattle.held_resources.specs.declared.signals.Signal.{Signal}
-use Rattle.held_resources.specs.Held.{aliases_of, acls_of, registers, is_registered, registrant, config_of}
+use Rattle.dots_laws.specs.Held.{aliases_of, acls_of, registers, is_registered, registrant, config_of}
 use Rattle.dots_laws.specs.Filed.{Filed}
 use Rattle.held_resources.specs.Rows.{HeldRows, rows_more}
 use Rattle.held_resources.specs.Tables.{SameButSlots, Sizes, Tables, Clients, Holding, Have, Represents, KeepsRoom, is_placed, is_known, holding_of, holdings, clients_of, clients_with, list_with, has_cuid, aliases_with, acls_with, update, tables_with, session_with, session_of, no_session, peer_of, no_clients, rooms_of, sizes_of, client_at, in_clients, registrant_in, aliases_in, acls_in, number_in, config_in, own_of, no_loss, signal_with, signal_of, lost_in}
 use Rattle.held_resources.specs.Accepting.{keeps_rooms, keeps_room, takes, Takes, rightly, takes_in, accepts_by, accepts}
-use Rattle.held_resources.proofs.Written.{other_way, own_aliases, own_acls, number_of_aliases, number_of_acls, no_aliases, no_acls}
+use Rattle.dots_laws.proofs.Written.{other_way, own_aliases, own_acls, number_of_aliases, number_of_acls, no_aliases, no_acls}
 use Rattle.held_resources.proofs.Holdings.{IsFresh, length_holdings, own_holdings, others_holdings, any_is, still_some, find_client, any_client, if_registered, registered_cases, not_registered}
 use Rattle.held_resources.proofs.Configs.{sessions_with, no_config, find_session}
 use Rattle.held_resources.proofs.Losses.{signals_with, find_lost}

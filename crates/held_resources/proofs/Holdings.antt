@@ -2,23 +2,23 @@
 use Rattle.std.proofs.Common.{◌≡◌, ℕ, ◌+◌, Bool, true, false, cond, not, ◌&&◌, ◌||◌, List, [], ◌∷◌, ◌++◌, map, filter, length, Option, Some, None, inl, inr, refl, sym, ap, ◌∙◌, append-nil, arith}
 use Rattle.std.specs.Prelude.{option_map, is_some, bytes_eq, ◌==◌}
 use Rattle.std.specs.List.{list_any, find}
-use Rattle.std.proofs.lemmas.Bool.{false≢true, both_ways, cond_both, cond-true, cond-false, cases_Bool, and_parts, and_left, and_right, and_from, or_left, or_parts, or_from, eqb-true, eq-eqb, false_from_ne_true}
+use Rattle.std.proofs.lemmas.Bool.{false≢true, both_ways, cond_both, cond-true, cond-false, cases_Bool, and_parts, and_left, and_right, and_from, or_left, or_parts, eqb-true, eq-eqb, false_from_ne_true}
 use Rattle.std.proofs.lemmas.Slice.Eq.{bytes_eq-Decides}
 use Rattle.acl_lists.specs.declared.alias.Alias.{Alias}
 use Rattle.acl_lists.specs.declared.acl.Acl.{Acl}
 use Rattle.dots_history.specs.declared.entry.Entry.{Entry}
 use Rattle.dots_history.specs.declared.change.Change.{Change}
 use Rattle.dots_history.specs.declared.change.Change.TheVariants as change
-use Rattle.dots_history.specs.Entries.{same_client, is_held, undoes, undoes_of_client, undoes_of_peer, is_deregister, reconfigures, resumes, is_lost}
+use Rattle.dots_history.specs.Entries.{is_held, undoes, is_deregister}
 use Rattle.dots_history.specs.Histories.{tally}
 use Rattle.dots_laws.specs.Capacities.{is_registration}
 use Rattle.dots_laws.specs.Tables.{Client, client_of, is_of}
 use Rattle.dots_laws.specs.Views.{held_with}
-use Rattle.dots_laws.proofs.Single.{of_itself, is_of_client, client_is_of}
+use Rattle.dots_laws.proofs.Single.{is_of_client, client_is_of}
 use Rattle.held_resources.specs.declared.rooms.Rooms.{Rooms}
-use Rattle.held_resources.specs.Held.{aliases_of, acls_of, registers, is_registered}
+use Rattle.dots_laws.specs.Held.{aliases_of, acls_of, registers, is_registered}
 use Rattle.held_resources.specs.Tables.{Holding, no_holding, holding_of, holding_with, aliases_with, holdings, has_cuid, changed, list_with}
-use Rattle.held_resources.proofs.Written.{own_aliases, other_aliases, own_acls, other_acls, or_no, not_resumed}
+use Rattle.dots_laws.proofs.Written.{own_aliases, other_aliases, own_acls, other_acls, reg_undone}
 
 -- ---- tests
 pub turned_eq : (a b : ℕ) → (a == b) ≡ (b == a)
@@ -53,33 +53,6 @@ by_domain domain x e in_x out_e =
     (false_from_ne_true
     (x.domain == e.domain)
     (λ is. both_ways (e.domain == domain) out_e (eq-eqb e.domain domain (sym (eqb-true x.domain e.domain is) ∙ eqb-true x.domain domain in_x))))
-
-reg_parts : (c later : Change) → is_registration c ≡ true → (undoes_of_client c later ≡ is_deregister later) × (undoes_of_peer c later ≡ false) × (is_lost c ≡ false)
-unfolding is_registration undoes_of_client undoes_of_peer is_lost
-reg_parts change.Register later is = (refl, refl, refl)
-reg_parts _ later is = absurd (false≢true is)
-
-turned_and : (b c : Bool) → (b && c) ≡ (c && b)
-turned_and true true = refl
-turned_and true false = refl
-turned_and false true = refl
-turned_and false false = refl
-
-pub reg_undone : (x e : Entry) → is_registration x.change ≡ true → undoes x e ≡ (is_deregister e.change && is_of (client_of x) e)
-unfolding undoes reconfigures
-reg_undone x e is =
-    let parts = reg_parts x.change e.change is in
-    or_no
-    (same_client x e && undoes_of_client x.change e.change)
-    (((x.peer == e.peer) && undoes_of_peer x.change e.change) || resumes x e)
-    (or_from
-    ((x.peer == e.peer) && undoes_of_peer x.change e.change)
-    (resumes x e)
-    (and_right (x.peer == e.peer) (undoes_of_peer x.change e.change) parts.1)
-    (not_resumed x e parts.2))
-    ∙ ap (λ b. b && undoes_of_client x.change e.change) (of_itself x e)
-    ∙ ap (λ b. is_of (client_of x) e && b) parts.0
-    ∙ turned_and (is_of (client_of x) e) (is_deregister e.change)
 
 -- ---- what a client holds
 abbrev holding_by : Rooms → ℕ → List ℕ → List Alias → List Acl → Holding

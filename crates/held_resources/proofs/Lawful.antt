@@ -22,10 +22,10 @@ use Rattle.dots_laws.specs.Tables.{Client, is_of}
 use Rattle.dots_laws.specs.Views.{held_with}
 use Rattle.dots_laws.proofs.BySettings.{loser_in}
 use Rattle.dots_laws.proofs.GoingOn.{held_push}
-use Rattle.held_resources.specs.Held.{aliases_of, acls_of, is_registered, of_client, written}
+use Rattle.dots_laws.specs.Held.{aliases_of, acls_of, is_registered, of_client, written}
 use Rattle.held_resources.specs.Tables.{Have, Represents, Tables, sizes_of, is_placed, is_known}
 use Rattle.held_resources.specs.Accepting.{accepts, keeps_rooms}
-use Rattle.held_resources.proofs.Written.{written_alone, with_other, other_aliases, other_acls}
+use Rattle.dots_laws.proofs.Written.{written_alone, with_other, other_aliases, other_acls}
 use Rattle.held_resources.proofs.Holdings.{turned_eq}
 
 -- ---- registrations

@@ -1,4 +1,3 @@
-pub mod Written
 pub mod Holdings
 pub mod Configs
 pub mod Losses

@@ -14,9 +14,9 @@ use Rattle.dots_laws.specs.Capacities.{loses_as}
 use Rattle.dots_laws.specs.Views.{held_with}
 use Rattle.dots_laws.proofs.GoingOn.{held_push}
 use Rattle.held_resources.specs.declared.signals.Signal.{Signal}
-use Rattle.held_resources.specs.Held.{of_peer}
+use Rattle.dots_laws.specs.Held.{of_peer}
 use Rattle.held_resources.specs.Tables.{Sizes, own_of, lost_after, signal_with, signal_of, is_placed, is_known}
-use Rattle.held_resources.proofs.Written.{or_no}
+use Rattle.dots_laws.proofs.Written.{or_no}
 use Rattle.held_resources.proofs.Holdings.{turned_eq}
 
 -- ---- what undoes a loss

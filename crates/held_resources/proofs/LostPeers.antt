@@ -8,7 +8,7 @@ use Rattle.dots_history.specs.Entries.{is_lost, is_loss}
 use Rattle.dots_history.specs.Rows.{loses, is_lost_in}
 use Rattle.dots_laws.specs.Capacities.{loses_as}
 use Rattle.held_resources.specs.declared.signals.Signal.{Signal}
-use Rattle.held_resources.specs.Held.{is_lost_of}
+use Rattle.dots_laws.specs.Held.{is_lost_of}
 use Rattle.held_resources.specs.Tables.{Sizes, Tables, Have, is_known, is_placed, signal_of}
 use Rattle.held_resources.proofs.Losses.{lost_loss}
 

@@ -1,5 +1,5 @@
 pub mod Rows
 pub mod Sizes
-pub mod Held
+pub mod Numbers
 pub mod Tables
 pub mod Accepting

@@ -24,7 +24,7 @@ use Rattle.held_resources.specs.declared.rooms.Rooms.{Rooms}
 use Rattle.held_resources.specs.declared.sessions.Session.{Session}
 use Rattle.held_resources.specs.declared.signals.Signal.{Signal}
 use Rattle.held_resources.specs.Rows.{HeldRows, rows_more, rows_moved}
-use Rattle.held_resources.specs.Held.{alias_of, aliases_of, acls_of, config_of}
+use Rattle.dots_laws.specs.Held.{alias_of, aliases_of, acls_of, config_of}
 
 -- How many domains there are, how much each of them and its clients may have, which peers may have a session
 -- configuration, and which of them are clients, each with its domain: their signal may be lost.

@@ -12,7 +12,7 @@ ghost use Rattle.dots_laws.specs.Filed.{Filed, entry_of, slot_of, refiled};
 ghost use Rattle.dots_laws.specs.KeptPlaces.{at_places, held_places};
 ghost use Rattle.dots_laws.specs.Fits.{fits, registers_rightly, is_of_mitigations};
 ghost use Rattle.dots_laws.specs.Tables.{Client, is_of};
-ghost use Rattle.held_resources.specs.Held.{aliases_of, acls_of, is_registered, of_client, of_peer};
+ghost use Rattle.dots_laws.specs.Held.{aliases_of, acls_of, is_registered, of_client, of_peer};
 ghost use Rattle.held_resources.specs.Tables.{Tables, Represents, SameButSlots, sizes_of, lost_after, lost_in};
 ghost use Rattle.held_resources.specs.Rows.{rows_of, rows_with, slots_in, renumbered};
 ghost use Rattle.held_resources.specs.Accepting.{accepts, accepts_by, keeps_rooms};

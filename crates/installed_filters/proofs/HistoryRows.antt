@@ -35,7 +35,7 @@ use Rattle.live_mitigations.specs.LiveValues.{LiveValue, SameButRows, rows_for, 
 use Rattle.live_mitigations.specs.LiveValues as lives
 use Rattle.live_mitigations.proofs.Room.{rows_are_live, of_domain_bare}
 use Rattle.live_mitigations.proofs.Rows.{puts_none}
-use Rattle.held_resources.specs.Held.{acls_of}
+use Rattle.dots_laws.specs.Held.{acls_of}
 use Rattle.installed_filters.specs.Filters.{FiltersValue, with_rows, rows_with, own_rows, is_row_of, scrubs_without, woken_row, lives_at, is_over, lives_at_once, stays_beside, works_by, is_working, is_waiting_for, works_at, works_at_once, works_beside, some_of, settled_row, acl_switched, activated_row, acls_by, filters_at, filters_put, filters_lost, filters_written}
 use Rattle.installed_filters.specs.HistoryRows.{Represents}
 use Rattle.installed_filters.proofs.Sieving.{filter_by, filter_twice, filter_all, map_by, all_filter, all_in}

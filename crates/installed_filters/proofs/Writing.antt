@@ -17,8 +17,8 @@ use Rattle.dots_laws.specs.Tables.{Client, client_of, is_of}
 use Rattle.dots_laws.specs.Views.{held_with}
 use Rattle.dots_laws.proofs.Members.{In, any_of}
 use Rattle.dots_laws.proofs.Single.{of_itself}
-use Rattle.held_resources.specs.Held.{acls_of, written}
-use Rattle.held_resources.proofs.Written.{other_way}
+use Rattle.dots_laws.specs.Held.{acls_of, written}
+use Rattle.dots_laws.proofs.Written.{other_way}
 use Rattle.installed_filters.specs.Filters.{acl_row_by, is_named_row, acls_by}
 use Rattle.installed_filters.proofs.Sieving.{filter_all}
 use Rattle.installed_filters.proofs.Waking.{acls_by_client}

@@ -15,8 +15,8 @@ use Rattle.dots_laws.proofs.Apart.{apart}
 use Rattle.dots_laws.proofs.Bare.{bare_mitigations}
 use Rattle.live_mitigations.specs.Rows.{LiveTable, rows_or_none, of_entry, is_left, lives_at_first}
 use Rattle.live_mitigations.specs.LiveValues.{LiveValue, AreTables, rows_for, Represents, keeps_limits, has_live_room}
-use Rattle.live_mitigations.specs.Judging.{live_of, lives_of}
-use Rattle.live_mitigations.specs.LiveViews.{live_view, of_cuid, live_views_of, live_views_in}
+use Rattle.conflict_rules.specs.Lives.{live_of, lives_of}
+use Rattle.conflict_rules.specs.LiveViews.{live_view, of_cuid, live_views_of, live_views_in}
 use Rattle.live_mitigations.proofs.Rows.{grown_rows}
 use Rattle.live_mitigations.proofs.LiveValues.{own_with}
 

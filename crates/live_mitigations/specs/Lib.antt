@@ -2,6 +2,5 @@ pub mod Ends
 pub mod Slots
 pub mod Rows
 pub mod LiveValues
-pub mod Judging
 pub mod LiveViews
 pub mod Numbers

@@ -6,8 +6,8 @@ ghost use Rattle.dots_history.specs.declared.entry.Entry.{Entry};
 ghost use Rattle.dots_history.specs.Histories.{mitigations};
 ghost use Rattle.conflict_rules.specs.ByMid.{collides};
 ghost use Rattle.live_mitigations.specs.LiveValues.{Represents};
-ghost use Rattle.live_mitigations.specs.Judging.{lives_of};
-ghost use Rattle.live_mitigations.specs.LiveViews.{live_views_in};
+ghost use Rattle.conflict_rules.specs.Lives.{lives_of};
+ghost use Rattle.conflict_rules.specs.LiveViews.{live_views_in};
 
 use crate::live::LiveMitigations;
 use crate::reading::Mitigations;

@@ -2,7 +2,7 @@
 //!
 //! [`LiveMitigations`] represents a history at a time (`specs/LiveValues`): of each domain it keeps what the entries of that
 //! domain come to, and no other entries. The contract of each call is said for every history that it represents. `Ends`
-//! says at which second a mitigation is over, `Judging` and `LiveViews` what is read; `Rows` and `LiveValues` have the tables.
+//! says at which second a mitigation is over, `Lives` and `LiveViews` of `conflict_rules` what is read; `Rows` and `LiveValues` have the tables.
 //! Only [`LiveMitigations::new`] takes memory.
 //!
 //! Who keeps more by the live mitigations, as rows of filters, learns of each that goes before it goes:

@@ -1,7 +1,7 @@
 //! The live mitigations of a client, one after the other.
 
 ghost use Rattle.std.specs.Prelude.{◌≡◌, ◌∷◌, [], IfSome, IfNone};
-ghost use Rattle.live_mitigations.specs.LiveViews.{of_cuid, live_views_of};
+ghost use Rattle.conflict_rules.specs.LiveViews.{of_cuid, live_views_of};
 
 use crate::row::Row;
 use dots_history::Put;
@@ -29,7 +29,7 @@ pub struct Mitigations<'a> {
 
 impl<'a> Model for Mitigations<'a> {
     ghost use Rattle.std.specs.Prelude.{List};
-    ghost use Rattle.live_mitigations.specs.LiveViews.{LiveView, live_views_of};
+    ghost use Rattle.conflict_rules.specs.LiveViews.{LiveView, live_views_of};
 
     ghost Value = { List LiveView };
 

@@ -10,8 +10,8 @@ ghost use Rattle.dots_history.specs.declared.change.Change.TheVariants as change
 ghost use Rattle.dots_laws.specs.Tables.{bare, end_of_grant};
 ghost use Rattle.live_mitigations.specs.Ends.{never, second_of, end_second};
 ghost use Rattle.live_mitigations.specs.Rows.{is_left};
-ghost use Rattle.live_mitigations.specs.Judging.{put_or_nothing};
-ghost use Rattle.live_mitigations.specs.LiveViews.{fitted, status_number};
+ghost use Rattle.conflict_rules.specs.Lives.{put_or_nothing};
+ghost use Rattle.conflict_rules.specs.LiveViews.{fitted, status_number};
 
 use conflict_rules::Mitigates;
 use dots_history::{Change, Entry, Put, Status, is_granted_at, overlaps, put_of, withdrawn_mid};
@@ -59,7 +59,7 @@ impl Model for Row {
 }
 
 impl Mitigates for Row {
-    ghost use Rattle.live_mitigations.specs.Judging.{live_of};
+    ghost use Rattle.conflict_rules.specs.Lives.{live_of};
 
     ghost live = { live_of };
 

@@ -3,3 +3,5 @@ pub mod DiskEntries
 pub mod Refused
 pub mod Left
 pub mod FaultText
+pub mod Kept
+pub mod Untaken

@@ -6,7 +6,8 @@ use Rattle.std.proofs.lemmas.Iterator.Consumers.{YieldsList-so_far, YieldsList-t
 use Rattle.std.specs.List.{AllByRecursion}
 use Rattle.dots_history.specs.declared.entry.Entry.{Entry}
 use Rattle.slot_journal.specs.DiskEntries.{HasRecord}
-use Rattle.dots_ledger.specs.Beginning.{HasTaken, IsApart}
+use Rattle.dots_ledger.specs.Beginning.{HasTaken}
+use Rattle.slot_journal.specs.Untaken.{IsApart}
 use Rattle.dots_ledger.proofs.Recovering.{same_items, is_apart}
 use Rattle.dots_ledger.proofs.taking.take_all.Goals as goal
 

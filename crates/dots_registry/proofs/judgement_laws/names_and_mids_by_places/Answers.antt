@@ -1,4 +1,4 @@
-use Rattle.dots_registry.proofs.Rules.{collides_taken, taken_collides, mid_stands, there_mid, one_of_mid}
+use Rattle.conflict_rules.proofs.Rules.{collides_taken, taken_collides, mid_stands, there_mid, one_of_mid}
 use Rattle.dots_registry.proofs.judgement_laws.names_and_mids_by_places.Goals as goal
 
 pub returns : goal.returns

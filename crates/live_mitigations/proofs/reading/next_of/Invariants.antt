@@ -1,6 +1,6 @@
 -- those of the rest are those of all
 use Rattle.std.proofs.Common.{◌≡◌, drop}
-use Rattle.live_mitigations.specs.LiveViews.{of_cuid}
+use Rattle.conflict_rules.specs.LiveViews.{of_cuid}
 use Rattle.live_mitigations.proofs.reading.next_of.Given as goal
 
 abbrev pub invariant-loop-at : goal.invariant-loop-at

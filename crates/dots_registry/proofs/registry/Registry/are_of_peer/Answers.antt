@@ -1,6 +1,6 @@
 use Rattle.std.proofs.Common.{ℕ, List, sym, ap, subst, ◌∙◌, arith}
 use Rattle.conflict_rules.specs.ByMid.{collides}
-use Rattle.live_mitigations.specs.Judging.{lives_of}
+use Rattle.conflict_rules.specs.Lives.{lives_of}
 use Rattle.dots_registry.specs.RegistryValues.{RegistryValue, Represents}
 use Rattle.dots_registry.proofs.RegistryValues.{joined}
 use Rattle.dots_registry.proofs.Peers.{peers_inside, peers_outside}

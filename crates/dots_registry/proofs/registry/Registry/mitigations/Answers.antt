@@ -1,8 +1,8 @@
 use Rattle.std.proofs.Common.{map, sym, ap, ◌∙◌, subst}
-use Rattle.live_mitigations.specs.LiveViews.{live_views_in}
+use Rattle.conflict_rules.specs.LiveViews.{live_views_in}
 use Rattle.held_resources.specs.Tables.{lost_in}
 use Rattle.dots_registry.specs.RegistryValues.{RegistryValue, Represents, time_of}
-use Rattle.dots_registry.specs.Statuses.{view_with, views_in}
+use Rattle.conflict_rules.specs.Statuses.{view_with, views_in}
 use Rattle.dots_registry.proofs.RegistryValues.{joined}
 use Rattle.dots_registry.proofs.ViewRows.{views_so}
 use Rattle.dots_registry.proofs.registry.Registry.mitigations.Goals as goal

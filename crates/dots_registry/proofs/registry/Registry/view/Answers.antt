@@ -1,12 +1,12 @@
 use Rattle.std.proofs.Common.{◌≡◌, ℕ, Bool, List, Option, map, ap, ◌∙◌, sym, subst, arith}
 use Rattle.std.specs.Prelude.{slice_get}
 use Rattle.dots_history.specs.Histories.{Mitigation}
-use Rattle.live_mitigations.specs.LiveViews.{LiveView, live_views_of, live_views_in}
+use Rattle.conflict_rules.specs.LiveViews.{LiveView, live_views_of, live_views_in}
 use Rattle.live_mitigations.proofs.Room.{views_are}
 use Rattle.dots_registry.specs.RegistryValues.{RegistryValue, Represents, time_of, domains_of}
 use Rattle.dots_registry.specs.ObserverViews.{seen_of}
 use Rattle.held_resources.specs.Tables.{lost_in}
-use Rattle.dots_registry.specs.Statuses.{view_with, views_in}
+use Rattle.conflict_rules.specs.Statuses.{view_with, views_in}
 use Rattle.dots_registry.proofs.RegistryValues.{joined}
 use Rattle.dots_registry.proofs.ViewRows.{views_so}
 use Rattle.dots_registry.proofs.Seeing.{few_views}

@@ -5,7 +5,7 @@ use Rattle.dots_registry.specs.Filed.{RepresentsFiled}
 use Rattle.held_resources.specs.Rows.{HeldRows}
 use Rattle.dots_registry.proofs.Filed.{name_here, room_here, rows_here, filed_more, room_more}
 use Rattle.dots_history.specs.Histories.{held}
-use Rattle.held_resources.specs.Held.{acls_of}
+use Rattle.dots_laws.specs.Held.{acls_of}
 use Rattle.installed_filters.specs.Filters.{FiltersValue}
 use Rattle.dots_registry.proofs.Filtering.{write_fits, write_filtered}
 use Rattle.dots_registry.proofs.Rings.{made_pairs}

@@ -2,7 +2,7 @@ use Rattle.std.proofs.Common.{ap, ◌∙◌, map, List}
 use Rattle.dots_history.specs.Histories.{Mitigation}
 use Rattle.conflict_rules.specs.declared.live.Live.{Live}
 use Rattle.conflict_rules.specs.ByMid.{collides}
-use Rattle.live_mitigations.specs.Judging.{live_of}
+use Rattle.conflict_rules.specs.Lives.{live_of}
 use Rattle.live_mitigations.proofs.Room.{lives_are}
 use Rattle.live_mitigations.proofs.live.LiveMitigations.collides.Goals as goal
 

@@ -1,5 +1,5 @@
 use Rattle.std.proofs.Common.{ap, ◌∙◌, ℕ}
-use Rattle.live_mitigations.specs.LiveViews.{live_views_of}
+use Rattle.conflict_rules.specs.LiveViews.{live_views_of}
 use Rattle.live_mitigations.proofs.Room.{views_are}
 use Rattle.live_mitigations.proofs.live.LiveMitigations.mitigations.Goals as goal
 

@@ -21,19 +21,19 @@ use Rattle.conflict_rules.specs.Asking.{would_refresh}
 use Rattle.conflict_rules.specs.Wanted.{wanted}
 use Rattle.conflict_rules.specs.ByMid.{has_mid}
 use Rattle.conflict_rules.specs.ByOverlap.{highest_mid, is_contested, resolved, meets_another, meeting, staying, own_staying, judge_room, judge_others, judge_by}
-use Rattle.live_mitigations.specs.Judging.{lives_of}
-use Rattle.held_resources.specs.Held.{aliases_of}
+use Rattle.conflict_rules.specs.Lives.{lives_of}
+use Rattle.dots_laws.specs.Held.{aliases_of}
 use Rattle.conflict_rules.specs.declared.fault.PutFault.{PutFault}
 use Rattle.conflict_rules.specs.declared.fault.PutFault.TheVariants as faults
 use Rattle.conflict_rules.specs.declared.judging.Judged.{Judged}
 use Rattle.conflict_rules.specs.Requests.{Request}
 use Rattle.conflict_rules.specs.Targets.{is_unknown, targets_of}
 use Rattle.conflict_rules.specs.Judging.{refreshed, begun, fault_of, unless, judge_targets, judge_standing, judge_known}
-use Rattle.dots_registry.specs.Judging.{collides, judge_request}
-use Rattle.dots_registry.specs.Judgements.{IsTaken, HasMid, AreTargets, Meets, Those, Stays, StaysOwn, IsNew, IsHighest, IsFree, IsJudged, collision, refreshes, changes, unknown, too_many, higher, other, client_full, domain_full, begins}
-use Rattle.dots_registry.proofs.Places.{one_number}
-use Rattle.dots_registry.proofs.HeldPlaces.{unknown_there, there_unknown, are_targets, targets_are}
-use Rattle.dots_registry.proofs.Rules.{found_some, collides_taken, taken_collides, mid_there, there_mid, one_of_mid, in_higher, higher_in, higher_mids, those_meet, meet_those, number_staying, number_own, greatest_in, greatest_none, in_greatest, contested_by, none_pass, some_pass}
+use Rattle.conflict_rules.specs.ByHistory.{collides, judge_request}
+use Rattle.conflict_rules.specs.Judgements.{IsTaken, HasMid, AreTargets, Meets, Those, Stays, StaysOwn, IsNew, IsHighest, IsFree, IsJudged, collision, refreshes, changes, unknown, too_many, higher, other, client_full, domain_full, begins}
+use Rattle.conflict_rules.proofs.LivePlaces.{one_number}
+use Rattle.conflict_rules.proofs.HeldPlaces.{unknown_there, there_unknown, are_targets, targets_are}
+use Rattle.conflict_rules.proofs.Rules.{found_some, collides_taken, taken_collides, mid_there, there_mid, one_of_mid, in_higher, higher_in, higher_mids, those_meet, meet_those, number_staying, number_own, greatest_in, greatest_none, in_greatest, contested_by, none_pass, some_pass}
 
 module _ (settings : SettingsValue) (t : ℕ) (entries : List Entry) (domain : ℕ) (request : Request) where
   abbrev client : Client

@@ -1,5 +1,5 @@
 -- What a history leaves held of a client and of a peer, in what it leaves held at all.
-use Rattle.std.specs.Prelude.{ℕ, Bool, ◌&&◌, ◌==◌, nat_lt, bytes_eq, if◌then◌else◌, List, [], ◌∷◌, ◌++◌, filter, Option, Some, None, option_to_list, option_map, not}
+use Rattle.std.specs.Prelude.{ℕ, Bool, ◌&&◌, ◌==◌, bytes_eq, if◌then◌else◌, List, [], ◌∷◌, ◌++◌, filter, Option, Some, None, option_to_list, option_map, not}
 use Rattle.std.specs.List.{list_any, find}
 use Rattle.acl_lists.specs.declared.alias.Alias.{Alias}
 use Rattle.acl_lists.specs.declared.acl.Acl.{Acl}
@@ -8,12 +8,10 @@ use Rattle.dots_history.specs.declared.entry.Entry.{Entry}
 use Rattle.dots_history.specs.declared.change.Change.{Change}
 use Rattle.dots_history.specs.declared.change.Change.TheVariants as change
 use Rattle.dots_history.specs.Entries.{is_lost, option_any}
-use Rattle.dots_history.specs.Histories.{tally, or_else}
+use Rattle.dots_history.specs.Histories.{or_else}
 use Rattle.dots_history.specs.Rows.{acl_of}
-use Rattle.dots_laws.specs.Capacities.{is_registration, is_alias, is_list, loses_as}
+use Rattle.dots_laws.specs.Capacities.{is_registration, loses_as}
 use Rattle.dots_laws.specs.Tables.{Client, is_of}
-use Rattle.held_resources.specs.declared.kind.RoomKind.{RoomKind}
-use Rattle.held_resources.specs.declared.kind.RoomKind.TheVariants as kind
 
 -- the alias that a change writes
 abbrev pub alias_of : Change → Option Alias
@@ -68,16 +66,6 @@ config_of peer (e ∷ es) = or_else (if e.peer == peer then config_set e.change 
 -- the signal of the peer is lost, in whichever domain
 abbrev pub is_lost_of : List Entry → ℕ → Bool
 is_lost_of held_now peer = list_any (λ e. is_lost e.change && (e.peer == peer)) held_now
-
--- how many registered clients the client's domain has, and how many aliases and access lists the client
-abbrev pub number_of : RoomKind → Client → List Entry → ℕ
-number_of kind.Client client held_now = tally (λ e. is_registration e.change && (e.domain == client.domain)) held_now
-number_of kind.Alias client held_now = tally (λ e. is_alias e.change && is_of client e) held_now
-number_of kind.Acl client held_now = tally (λ e. is_list e.change && is_of client e) held_now
-
--- the number that there may be of a kind, where it is reached
-abbrev pub reached : ℕ → ℕ → Option ℕ
-reached most number = if nat_lt number most then None else Some most
 
 -- the entries of a client alone
 abbrev pub of_client : Client → List Entry → List Entry

@@ -20,12 +20,12 @@ use Rattle.conflict_rules.specs.ByMid as by_mid
 use Rattle.conflict_rules.specs.ByMid.{has_mid}
 use Rattle.conflict_rules.specs.ByOverlap.{rivals, is_higher, is_contested, resolved, meets_another, bits, staying, own_staying}
 use Rattle.conflict_rules.proofs.Contesting.{contested_marked}
-use Rattle.live_mitigations.specs.Judging.{lives_of, put_or_nothing}
-use Rattle.held_resources.specs.Held.{registers, is_of_another}
-use Rattle.dots_registry.specs.Judging.{collides}
-use Rattle.dots_registry.specs.Judgements.{StandsIn, IsTaken, by_mitigation, by_registration, HasMid, IsHigher, Meets, Those, Stays, StaysOwn, Number}
-use Rattle.dots_registry.proofs.Places.{At, PassesAt, seen_at, in_found, in_any, seen_there, there_seen, lives_at, at_lives, same_put, standing_at, stands_at, lives_of_standing, number_by, number_passing}
-use Rattle.dots_registry.proofs.HeldPlaces.{registered_found, found_registered}
+use Rattle.conflict_rules.specs.Lives.{lives_of, put_or_nothing}
+use Rattle.dots_laws.specs.Held.{registers, is_of_another}
+use Rattle.conflict_rules.specs.ByHistory.{collides}
+use Rattle.conflict_rules.specs.Judgements.{StandsIn, IsTaken, by_mitigation, by_registration, HasMid, IsHigher, Meets, Those, Stays, StaysOwn, Number}
+use Rattle.conflict_rules.proofs.LivePlaces.{At, PassesAt, seen_at, in_found, in_any, seen_there, there_seen, lives_at, at_lives, same_put, standing_at, stands_at, lives_of_standing, number_by, number_passing}
+use Rattle.conflict_rules.proofs.HeldPlaces.{registered_found, found_registered}
 
 -- ---- small steps
 not_is : (b : Bool) → not b ≡ true → b ≡ false

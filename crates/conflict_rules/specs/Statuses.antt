@@ -3,7 +3,7 @@ use Rattle.std.specs.Prelude.{ℕ, Bool, not, ◌&&◌, ◌||◌, ◌==◌, if�
 use Rattle.dots_history.specs.declared.entry.Entry.{Entry}
 use Rattle.dots_history.specs.Histories.{held}
 use Rattle.dots_history.specs.Rows.{is_lost_in}
-use Rattle.live_mitigations.specs.LiveViews.{LiveView, live_views_in}
+use Rattle.conflict_rules.specs.LiveViews.{LiveView, live_views_in}
 
 -- 2 where it stands and filters, 8 where it stands and waits for a lost signal, and 5 where it is terminating (RFC 9132, section
 -- 4.4.2)

@@ -18,9 +18,9 @@ use Rattle.dots_history.proofs.PlaceLaws.{live_at_place, place_is_live, to_after
 use Rattle.dots_laws.specs.Views.{mitigations_of}
 use Rattle.dots_laws.proofs.Members.{In}
 use Rattle.conflict_rules.specs.declared.live.Live.{Live as LiveView}
-use Rattle.live_mitigations.specs.Judging.{put_or_nothing, live_of, lives_of}
-use Rattle.dots_registry.specs.Judgements.{LivesIn, StandsIn, Number}
-use Rattle.dots_registry.proofs.Counted.{put_there, live_puts, counted}
+use Rattle.conflict_rules.specs.Lives.{put_or_nothing, live_of, lives_of}
+use Rattle.conflict_rules.specs.Judgements.{LivesIn, StandsIn, Number}
+use Rattle.conflict_rules.proofs.Puts.{put_there, live_puts, counted}
 
 -- ---- what is in a list
 pub in_found : {A : Type 0} (test : A → Bool) (xs : List A) (x : A) → find test xs ≡ Some x → In x xs × (test x ≡ true)

@@ -16,16 +16,14 @@ use Rattle.dots_laws.proofs.Apart.{apart}
 use Rattle.dots_laws.proofs.Isolating.{lost_alone}
 use Rattle.dots_laws.proofs.Single.{is_of_client}
 use Rattle.conflict_rules.specs.ByMid as by_mid
-use Rattle.live_mitigations.specs.Judging.{live_of, lives_of}
-use Rattle.live_mitigations.specs.LiveViews.{live_views_of, live_views_in}
-use Rattle.held_resources.specs.Held.{aliases_of, registers, registrant, of_client}
-use Rattle.held_resources.proofs.Holdings.{reg_undone}
-use Rattle.held_resources.proofs.Written.{aliases_alone}
+use Rattle.conflict_rules.specs.Lives.{live_of, lives_of}
+use Rattle.conflict_rules.specs.LiveViews.{LiveView, live_views_of, live_views_in}
+use Rattle.dots_laws.specs.Held.{aliases_of, registers, registrant, of_client}
+use Rattle.dots_laws.proofs.Written.{reg_undone, aliases_alone}
 use Rattle.conflict_rules.specs.Requests.{Request, ClientValue}
 use Rattle.conflict_rules.specs.Judging.{judge_put}
-use Rattle.dots_registry.specs.Judging.{collides, judge_request}
-use Rattle.dots_registry.specs.Statuses.{view_with, views_in}
-use Rattle.dots_registry.proofs.ViewRows.{views_by}
+use Rattle.conflict_rules.specs.ByHistory.{collides, judge_request}
+use Rattle.conflict_rules.specs.Statuses.{status_by, view_with, views_in}
 
 -- ---- the live mitigations
 same_mitigations : (domain t : ℕ) (one other : List Entry) → alone domain one ≡ alone domain other
@@ -162,6 +160,20 @@ same_lost : (domain peer : ℕ) (one other : List Entry) → alone domain one �
     → is_lost_in (held one) peer domain ≡ is_lost_in (held other) peer domain
 same_lost domain peer one other same =
     sym (lost_alone domain peer one) ∙ ap (λ es. is_lost_in (held es) peer domain) same ∙ lost_alone domain peer other
+
+-- whether a mitigation of the domain filters depends on the signals in the domain alone
+pub views_by : (lost other : ℕ → ℕ → Bool) (domain : ℕ) (views : List LiveView) → ((peer : ℕ) → lost peer domain ≡ other peer domain)
+    → map (view_with lost domain) views ≡ map (view_with other domain) views
+views_by lost other domain [] same = refl
+views_by lost other domain (view ∷ views) same =
+    ap (λ b. record {
+      put = view.put;
+      peer = view.peer;
+      left = view.left;
+      status = status_by (view.put.trigger || b) view.status;
+    }
+    ∷ map (view_with lost domain) views) (same view.peer)
+    ∙ ap (λ rest. view_with other domain view ∷ rest) (views_by lost other domain views same)
 
 pub views_apart : (t : ℕ) (one other : List Entry) (domain : ℕ) (cuid : List ℕ) → alone domain one ≡ alone domain other
     → views_in domain cuid t one ≡ views_in domain cuid t other

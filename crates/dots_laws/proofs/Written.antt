@@ -10,14 +10,14 @@ use Rattle.acl_lists.specs.declared.acl.Acl.{Acl}
 use Rattle.dots_history.specs.declared.entry.Entry.{Entry}
 use Rattle.dots_history.specs.declared.change.Change.{Change}
 use Rattle.dots_history.specs.declared.change.Change.TheVariants as change
-use Rattle.dots_history.specs.Entries.{same_client, is_held, undoes, undoes_of_client, undoes_of_peer, undoes_alias, undoes_acl, undoes_loss, reconfigures, resumes, is_lost, is_loss}
+use Rattle.dots_history.specs.Entries.{same_client, is_held, undoes, undoes_of_client, undoes_of_peer, is_deregister, undoes_alias, undoes_acl, undoes_loss, reconfigures, resumes, is_lost, is_loss}
 use Rattle.dots_history.specs.Histories.{tally, stays, held}
 use Rattle.dots_history.specs.Rows.{acl_of}
 use Rattle.dots_laws.specs.Capacities.{is_registration, is_alias, is_list, has_client}
 use Rattle.dots_laws.specs.Tables.{Client, client_of, is_of}
 use Rattle.dots_laws.specs.Views.{held_with}
 use Rattle.dots_laws.proofs.Single.{of_itself, is_of_client, client_is_of}
-use Rattle.held_resources.specs.Held.{alias_of, written, aliases_of, acls_of, is_registered, of_client}
+use Rattle.dots_laws.specs.Held.{alias_of, written, aliases_of, acls_of, is_registered, of_client}
 
 -- ---- clients
 turned : (a b : Entry) → same_client a b ≡ true → same_client b a ≡ true
@@ -279,7 +279,7 @@ module _ {A : Type 0} (pick : Change → Option A) (undone : A → Change → Bo
           written pick client (option_to_list (cond (is_held x.change && not b) (Some x) None)) ++ written pick client (held (of_client client later)))
           (same_undone client x a later is some)
 
--- ---- aliases, access lists and registrations
+-- ---- aliases and access lists
 alias_agrees : (c : Change) (a : Alias) (later : Change) → alias_of c ≡ Some a
     → (undoes_of_client c later ≡ undoes_alias a.name later) × (undoes_of_peer c later ≡ false) × (is_lost c ≡ false)
 unfolding undoes_of_client undoes_of_peer is_lost
@@ -359,3 +359,31 @@ aliases_alone client entries = written_alone alias_of alias_undone alias_agrees 
 
 pub acls_alone : (client : Client) (entries : List Entry) → acls_of client (held (of_client client entries)) ≡ acls_of client (held entries)
 acls_alone client entries = written_alone acl_of acl_undone acl_agrees acl_held client entries
+
+-- ---- registrations
+reg_parts : (c later : Change) → is_registration c ≡ true → (undoes_of_client c later ≡ is_deregister later) × (undoes_of_peer c later ≡ false) × (is_lost c ≡ false)
+unfolding is_registration undoes_of_client undoes_of_peer is_lost
+reg_parts change.Register later is = (refl, refl, refl)
+reg_parts _ later is = absurd (false≢true is)
+
+turned_and : (b c : Bool) → (b && c) ≡ (c && b)
+turned_and true true = refl
+turned_and true false = refl
+turned_and false true = refl
+turned_and false false = refl
+
+pub reg_undone : (x e : Entry) → is_registration x.change ≡ true → undoes x e ≡ (is_deregister e.change && is_of (client_of x) e)
+unfolding undoes reconfigures
+reg_undone x e is =
+    let parts = reg_parts x.change e.change is in
+    or_no
+    (same_client x e && undoes_of_client x.change e.change)
+    (((x.peer == e.peer) && undoes_of_peer x.change e.change) || resumes x e)
+    (or_from
+    ((x.peer == e.peer) && undoes_of_peer x.change e.change)
+    (resumes x e)
+    (and_right (x.peer == e.peer) (undoes_of_peer x.change e.change) parts.1)
+    (not_resumed x e parts.2))
+    ∙ ap (λ b. b && undoes_of_client x.change e.change) (of_itself x e)
+    ∙ ap (λ b. is_of (client_of x) e && b) parts.0
+    ∙ turned_and (is_of (client_of x) e) (is_deregister e.change)
