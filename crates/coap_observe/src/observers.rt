@@ -1,4 +1,4 @@
-ghost use Rattle.std.specs.Prelude.{◌≡◌, ◌<◌, ◌≤◌, ◌&&◌, ◌==◌, true, nat_le, if◌then◌else◌, [], Some, None, IfOk, length, option_map, MatchOption};
+ghost use Rattle.std.specs.Prelude.{◌≡◌, ◌+◌, ◌^◌, ◌<◌, ◌≤◌, ◌&&◌, ◌==◌, true, nat_le, if◌then◌else◌, [], Some, None, IfOk, IfSome, length, option_map, unwrap_or, MatchOption};
 ghost use Rattle.std.specs.List.{find, list_any};
 ghost use Rattle.dots_history.specs.Entries.{option_any};
 ghost use Rattle.dots_history.specs.Histories.{tally};
@@ -108,6 +108,16 @@ impl Observers {
         None
     }
 
+    /// The number that [`Observers::register`] answers for this observer; None exactly where there is no room for it. Nothing changes.
+    pub fn number(&self, observer: &Observer) -> Option<u32>
+        ensures { result ≡ (if has_room self.now.room observer.now self.now.observed then Some (number_for observer.now self.now.observed) else None) }
+    {
+        if has_room(&self.roll, &self.chains, self.room, observer) {
+            return Some(number_for(&self.roll, &self.chains, observer));
+        }
+        None
+    }
+
     /// Takes the observer of this peer and token away, where there is one.
     pub fn deregister(&mut self, peer: u32, token: &[u8])
         ensures { self.new ≡ record self.old { observed = deregistered peer token.now self.old.observed } }
@@ -126,8 +136,10 @@ impl Observers {
     /// The first observer at the place `from` or behind it that is due: what there is to see isn't what it was told last.
     /// Nothing changes.
     pub fn next_due<V: Views>(&self, views: &V, from: usize) -> Option<Notice<'_>>
-        ensures { MatchOption result (NoneIsDue (V.lists views.now) from (length self.now.observed) self.now.observed)
+        ensures next { MatchOption result (NoneIsDue (V.lists views.now) from (length self.now.observed) self.now.observed)
             (λ notice. IsNextDue (V.lists views.now) from self.now.observed notice.place notice.observer.now notice.number notice.gone) }
+        // The place behind it is one, too.
+        ensures few { IfSome result (λ notice. notice.place + 1 < 2 ^ 64) }
     {
         next_due(&self.roll, views, from)
     }
@@ -170,6 +182,26 @@ fn is_domain_at(roll: &Roll, key: usize, domain: u16) -> bool
     match roll.get(key) {
         Some(one) => one.observer().domain == domain,
         None => false,
+    }
+}
+
+/// The number of the next message to an observer.
+fn number_for(roll: &Roll, chains: &Chains, observer: &Observer) -> u32
+    requires { AreChained chains.now.chains roll.now.rows }
+    ensures { result ≡ number_for observer.now (observed_of roll.now.rows) }
+{
+    match token_key(roll, chains, observer.peer, observer.token.bytes()) {
+        Some(key) => number_at(roll, key),
+        None => 1,
+    }
+}
+
+fn number_at(roll: &Roll, key: usize) -> u32
+    ensures { result ≡ unwrap_or (option_map (λ o. o.number) (one_at key roll.now.rows)) 1 }
+{
+    match roll.get(key) {
+        Some(one) => one.number(),
+        None => 1,
     }
 }
 
@@ -341,8 +373,9 @@ fn retain_other_ids(roll: &mut Roll, chains: &mut Chains, peer: u32, id: u16)
 
 fn next_due<'a, V: Views>(roll: &'a Roll, views: &V, from: usize) -> Option<Notice<'a>>
     requires { Distinct (keys_of roll.now.rows) }
-    ensures { MatchOption result (NoneIsDue (V.lists views.now) from (length (observed_of roll.now.rows)) (observed_of roll.now.rows))
+    ensures next { MatchOption result (NoneIsDue (V.lists views.now) from (length (observed_of roll.now.rows)) (observed_of roll.now.rows))
         (λ notice. IsNextDue (V.lists views.now) from (observed_of roll.now.rows) notice.place notice.observer.now notice.number notice.gone) }
+    ensures few { IfSome result (λ notice. notice.place + 1 < 2 ^ 64) }
 {
     let mut key = roll.start();
     for place in 0..roll.len() {

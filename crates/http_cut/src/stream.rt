@@ -106,4 +106,13 @@ impl Stream {
         self.place = Place::Blank.behind(self.bytes.as_slice());
         self.needed = None;
     }
+
+    /// Drops all bytes, those of a connection that is gone. Takes no memory.
+    pub fn clear(&mut self)
+        ensures { self.new ≡ [] }
+    {
+        self.bytes.clear();
+        self.place = Place::Blank;
+        self.needed = None;
+    }
 }

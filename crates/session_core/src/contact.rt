@@ -171,6 +171,13 @@ impl PeerContact {
         self.contact.is_some()
     }
 
+    /// The Message ID of the next message that begins here, where a session has begun.
+    pub(crate) fn next_number(&self) -> Option<u16>
+        ensures { result ≡ number_in self.now }
+    {
+        Some(self.contact?.number)
+    }
+
     /// The Message ID of the next message that begins here; the one behind it is the next then.
     pub(crate) fn take_number(&mut self) -> u16
         requires { is_some (number_in self.old) ≡ true }

@@ -69,6 +69,16 @@ impl Sessions {
         }
     }
 
+    /// The Message ID of the next message that begins here, to this peer; None exactly where no session with it has begun. Nothing changes.
+    pub fn next_number(&self, peer: u32) -> Option<u16>
+        ensures { result ≡ number_of peer self.now }
+    {
+        match self.place(peer) {
+            Some(at) => self.rows[at].next_number(),
+            None => None,
+        }
+    }
+
     /// A message of this peer, which the settings have, is heard at the time `now`, in seconds. A session begins where there is none.
     pub fn heard(&mut self, peer: u32, now: u64)
         requires { list_any (is_of peer) self.old ≡ true }

@@ -42,6 +42,8 @@ mod head_rows;
 #[cfg(test)]
 mod json_rows;
 #[cfg(test)]
+mod line_rows;
+#[cfg(test)]
 mod list_rows;
 #[cfg(test)]
 mod path_rows;

@@ -28,8 +28,8 @@ loop-place-preserved g c =
       key = c.behind-key.ensures ∙ ap (λ k. get_or (c.args.roll.now.room ∷ keys_of rows) k 0) (sym (add-one place));
     }
 
-pub returns-then-is_next : goal.returns-then-is_next
-returns-then-is_next g c =
+pub returns-then-is_next-clause-next : goal.returns-then-is_next-clause-next
+returns-then-is_next-clause-next g c =
     let lists = g.V.Views.lists c.args.views.now in
     let rows = c.args.roll.now.rows in
     let place = c.loop-place.place in

@@ -1,0 +1,5 @@
+pub mod Sends
+pub mod Ordering
+pub mod Fixing
+pub mod Ticking
+pub mod Parting

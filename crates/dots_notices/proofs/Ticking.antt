@@ -1,0 +1,69 @@
+-- A tick, one call after the other.
+use Rattle.std.proofs.Common.{◌≡◌, ℕ, List, [], ◌∷◌, ◌++◌, map, refl, sym, subst, append_assoc, append-nil}
+use Rattle.std.specs.Prelude.{Option, true, false}
+use Rattle.std.proofs.lemmas.List.{map-append}
+use Rattle.dots_host.specs.declared.out.OwnedOut.TheVariants as owned
+use Rattle.dots_host.specs.Acts.{Timed}
+use Rattle.dots_host.specs.Runs.{Added}
+use Rattle.cbor_profile.specs.Head.{head, information, following}
+use Rattle.session_core.specs.declared.contact.Beat.{Beat}
+use Rattle.session_core.specs.declared.contact.PeerContact.{PeerContact}
+use Rattle.session_core.specs.Beating.{Beating, IsNextLost, NoneLost, IsNextBeat, NoneBeats}
+use Rattle.session_core.specs.Spacing.{LosesAll, BeatsAll}
+use Rattle.session_core.proofs.Ticking.{ticked}
+use Rattle.dots_notices.specs.Notifying.{SentTo}
+use Rattle.dots_notices.specs.Beats.{beat_with, beat_bytes, beat_sent, beats, after_beats}
+use Rattle.dots_notices.proofs.Sends.{sent_then}
+
+-- these were lost so far, whatever is lost behind them
+abbrev pub LostTo : Beating → ℕ → List PeerContact → List ℕ → List PeerContact → Type 0
+LostTo by now old lost mid = (rest : List ℕ) (new : List PeerContact) → LosesAll by now mid rest new → LosesAll by now old (lost ++ rest) new
+
+pub lost_more : (by : Beating) (now : ℕ) (old mid new : List PeerContact) (lost : List ℕ) (peer : ℕ) → LostTo by now old lost mid → IsNextLost by now mid new peer
+    → LostTo by now old (lost ++ peer ∷ []) new
+lost_more by now old mid new lost peer so next rest end left =
+    subst (λ xs. LosesAll by now old xs end) (sym (append_assoc lost (peer ∷ []) rest)) (so (peer ∷ rest) end (new, next, left))
+
+pub lost_last : (by : Beating) (now : ℕ) (old mid new : List PeerContact) (lost : List ℕ) → LostTo by now old lost mid → NoneLost by now mid new → LosesAll by now old lost new
+lost_last by now old mid new lost so none = subst (λ xs. LosesAll by now old xs new) (append-nil lost) (so [] new none)
+
+-- these heartbeats were due so far
+abbrev pub DueTo : Beating → ℕ → List PeerContact → List Beat → List PeerContact → Type 0
+DueTo by now old given mid = (rest : List Beat) (new : List PeerContact) → BeatsAll by now mid rest new → BeatsAll by now old (given ++ rest) new
+
+pub due_more : (by : Beating) (now : ℕ) (old mid new : List PeerContact) (given : List Beat) (beat : Beat) → DueTo by now old given mid → IsNextBeat by now mid new beat
+    → DueTo by now old (given ++ beat ∷ []) new
+due_more by now old mid new given beat so next rest end left =
+    subst (λ xs. BeatsAll by now old xs end) (sym (append_assoc given (beat ∷ []) rest)) (so (beat ∷ rest) end (new, next, left))
+
+pub due_last : (by : Beating) (now : ℕ) (old mid new : List PeerContact) (given : List Beat) → DueTo by now old given mid → NoneBeats by now mid new → BeatsAll by now old given new
+due_last by now old mid new given so none = subst (λ xs. BeatsAll by now old xs new) (append-nil given) (so [] new none)
+
+-- and sent
+pub sent_more : (a b c : Option (List Timed)) (first mid last : ℕ) (given : List Beat) (beat : Beat) → Added a b (SentTo first mid (map beat_sent given))
+    → Added b c (SentTo mid last (beat_sent beat ∷ [])) → Added a c (SentTo first last (map beat_sent (given ++ beat ∷ [])))
+sent_more a b c first mid last given beat before one =
+    subst (λ sends. Added a c (SentTo first last sends)) (sym (map-append beat_sent given (beat ∷ [])))
+    (sent_then a b c first mid last (map beat_sent given) (beat_sent beat ∷ []) before one)
+
+pub all_sent : (by : Beating) (now : ℕ) (a b : Option (List Timed)) (first last : ℕ) (old mid new : List PeerContact) (lost : List ℕ) (given : List Beat)
+    → LosesAll by now old lost mid → BeatsAll by now mid given new → Added a b (SentTo first last (map beat_sent given))
+    → Added a b (SentTo first last (beats by now old)) × (new ≡ after_beats by now old)
+all_sent by now a b first last old mid new lost given loses due sent =
+    let all = ticked by now lost given old new (mid, loses, due) in
+    (subst (λ bs. Added a b (SentTo first last (map beat_sent bs))) all.1 sent, all.2)
+
+-- the same bytes
+pub sent_as : (a b : Option (List Timed)) (first last peer : ℕ) (bytes same : List ℕ) → bytes ≡ same → Added a b (SentTo first last (owned.To peer bytes ∷ []))
+    → Added a b (SentTo first last (owned.To peer same ∷ []))
+sent_as a b first last peer bytes same is sent = subst (λ bs. Added a b (SentTo first last (owned.To peer bs ∷ []))) is sent
+
+-- ---- the bodies, byte by byte
+
+pub heard_bytes : (id : ℕ) → beat_with id (0xa1 ∷ 0x18 ∷ 0x31 ∷ 0xa1 ∷ 0x18 ∷ 0x33 ∷ 0xf5 ∷ []) ≡ beat_bytes id true
+unfolding head information following
+heard_bytes id = refl
+
+pub unheard_bytes : (id : ℕ) → beat_with id (0xa1 ∷ 0x18 ∷ 0x31 ∷ 0xa1 ∷ 0x18 ∷ 0x33 ∷ 0xf4 ∷ []) ≡ beat_bytes id false
+unfolding head information following
+unheard_bytes id = refl

@@ -1,0 +1,10 @@
+use Rattle.dots_notices.proofs.Parting.{apart_entered, apart_filtered, apart_notified}
+use Rattle.dots_notices.proofs.laws.observers_stay_apart.Goals as goal
+
+pub returns : goal.returns
+returns c = record {
+  registered = apart_entered;
+  gone = λ peer token old. apart_filtered _ old;
+  reset = λ peer id old. apart_filtered _ old;
+  told = apart_notified;
+}

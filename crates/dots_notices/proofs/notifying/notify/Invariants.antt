@@ -1,0 +1,23 @@
+use Rattle.std.proofs.Common.{◌≡◌, List, length, ◌-◌}
+use Rattle.dots_host.specs.Runs.{Added}
+use Rattle.dots_host.specs.declared.out.OwnedOut.{OwnedOut}
+use Rattle.dots_disk.specs.Becoming.{KeepsMedia}
+use Rattle.dots_notices.specs.Notifying.{SentTo}
+use Rattle.dots_notices.proofs.Ordering.{Far}
+use Rattle.dots_notices.proofs.notifying.notify.Given as goal
+
+abbrev pub invariant-loop-due : goal.invariant-loop-due
+invariant-loop-due g l = record {
+  told : (sends : List OwnedOut) × Far (g.S.Views.lists l.shows) (g.S.Shows.bodies l.shows) l.fn.watch.observers.observed l.fn.watch.sessions l.from l.watch.observers.observed l.watch.sessions sends
+      × Added (g.H.Wire.acts l.fn.host) (g.H.Wire.acts l.host) (SentTo (g.H.Wire.moment l.fn.host) (g.H.Wire.moment l.host) sends);
+  room : l.watch.observers.room ≡ l.fn.watch.observers.room;
+  pairs : l.watch.observers.pairs ≡ l.fn.watch.observers.pairs;
+  media : KeepsMedia (g.H.Disk.media l.fn.host) (g.H.Disk.media l.host);
+  extent : g.H.Disk.extent l.host ≡ g.H.Disk.extent l.fn.host;
+  disk : g.H.Disk.faults l.host ≡ g.H.Disk.faults l.fn.host;
+  wire : g.H.Wire.faults l.host ≡ g.H.Wire.faults l.fn.host;
+  leads : g.H.Wire.leads l.fn.host l.host;
+}
+
+abbrev pub decreases-loop-due : goal.decreases-loop-due
+decreases-loop-due g l = length l.watch.observers.observed - l.from

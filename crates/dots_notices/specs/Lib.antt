@@ -1,0 +1,3 @@
+pub mod Beats
+pub mod Notices
+pub mod Notifying

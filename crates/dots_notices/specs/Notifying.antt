@@ -1,0 +1,72 @@
+-- What the notifications after an event make of the observers, and of the Message IDs of their peers.
+use Rattle.std.specs.Prelude.{◌≡◌, ◌⊎◌, ℕ, ◌+◌, Bool, true, if◌then◌else◌, List, [], ◌∷◌, ◌++◌, length, Option, Some, MatchOption, ⊤}
+use Rattle.dots_history.specs.Histories.{is_nil}
+use Rattle.dots_host.specs.declared.out.OwnedOut.{OwnedOut}
+use Rattle.dots_host.specs.declared.out.OwnedOut.TheVariants as owned
+use Rattle.dots_host.specs.Acts.{Timed}
+use Rattle.dots_host.specs.Runs.{Gives}
+use Rattle.coap_exchange.specs.Firsts.{replace_at}
+use Rattle.coap_observe.specs.declared.observer.Observer.{Observer}
+use Rattle.coap_observe.specs.Seen.{Lists, list_for}
+use Rattle.coap_observe.specs.Observed.{ObservedValue, is_due}
+use Rattle.coap_observe.specs.Observing.{after_notice}
+use Rattle.session_core.specs.declared.contact.PeerContact.{PeerContact}
+use Rattle.session_core.specs.Contacts.{number_of, numbered}
+use Rattle.dots_notices.specs.Notices.{content_notice, gone_notice}
+
+-- the body of a reply to the GET that registered an observer, while something is left to see
+abbrev pub Bodies : Type 0
+Bodies = Observer → List ℕ
+
+-- nothing is left to see
+abbrev pub is_gone : Lists → ObservedValue → Bool
+is_gone lists o = is_nil (list_for lists o.observer)
+
+-- the notification with this Message ID
+abbrev pub notice_bytes : Lists → Bodies → ℕ → ObservedValue → List ℕ
+notice_bytes lists bodies id o =
+    if is_gone lists o then gone_notice id o.observer.token else content_notice id o.observer.token o.number (bodies o.observer)
+
+abbrev pub notice : Lists → Bodies → ℕ → ObservedValue → OwnedOut
+notice lists bodies id o = owned.To o.observer.peer (notice_bytes lists bodies id o)
+
+-- In the order of registration each observer that is due is told, with the next Message ID of its peer; or it stays as it was, where it
+-- isn't due, for want of memory, or since its peer wasn't heard.
+abbrev pub Notifies : Lists → Bodies → List ObservedValue → List PeerContact → List OwnedOut → List ObservedValue → List PeerContact → Type 0
+Notifies lists bodies [] contacts sends new left = (sends ≡ []) × (new ≡ []) × (left ≡ contacts)
+Notifies lists bodies (o ∷ os) contacts sends new left =
+    ((rest : List ObservedValue) × (new ≡ o ∷ rest) × Notifies lists bodies os contacts sends rest left)
+    ⊎ ((id : ℕ) × (later : List OwnedOut) × (rest : List ObservedValue) × (is_due lists o ≡ true) × (number_of o.observer.peer contacts ≡ Some id)
+    × (sends ≡ notice lists bodies id o ∷ later) × (new ≡ after_notice lists id o ++ rest)
+    × Notifies lists bodies os (numbered o.observer.peer contacts) later rest left)
+
+-- these sends were made, in order, each a moment after the one before, from the one moment up to the other
+abbrev pub SentTo : ℕ → ℕ → List OwnedOut → List Timed → Type 0
+SentTo first last sends acts = Gives first sends acts × (last ≡ first + length sends)
+
+-- ---- no two observe under one token
+
+abbrev pub Unlike : ObservedValue → List ObservedValue → Type 0
+Unlike o [] = ⊤
+Unlike o (x ∷ xs) = ((x.observer.peer ≡ o.observer.peer) × (x.observer.token ≡ o.observer.token) → ⊥) × Unlike o xs
+
+abbrev pub Apart : List ObservedValue → Type 0
+Apart [] = ⊤
+Apart (o ∷ os) = Unlike o os × Apart os
+
+-- ---- one notification
+
+-- the bytes of a notification to this observer, where they could be made
+pub record IsMade (lists : Lists) (bodies : Bodies) (contacts : List PeerContact) (one : ObservedValue)
+    (peer : ℕ) (gone : Bool) (made : Option (List ℕ)) : Type 0 where
+  pub peer_is : peer ≡ one.observer.peer
+  pub gone_is : gone ≡ is_gone lists one
+  pub bytes : MatchOption made ⊤ (λ bytes. (id : ℕ) × (number_of one.observer.peer contacts ≡ Some id) × (bytes ≡ notice_bytes lists bodies id one))
+
+-- the one at a place was told or not, and the next one is looked for from a place on
+pub data OneNotified (lists : Lists) (bodies : Bodies) (rows : List ObservedValue) (contacts : List PeerContact) (place : ℕ) (one : ObservedValue)
+    (sends : List OwnedOut) (new : List ObservedValue) (left : List PeerContact) (next : ℕ) : Type 0 where
+  missing : sends ≡ [] → new ≡ rows → left ≡ contacts → next ≡ place + 1 → OneNotified lists bodies rows contacts place one sends new left next
+  sent : (id : ℕ) → number_of one.observer.peer contacts ≡ Some id → sends ≡ notice lists bodies id one ∷ [] → new ≡ replace_at place (after_notice lists id) rows
+      → left ≡ numbered one.observer.peer contacts → next ≡ (if is_gone lists one then place else place + 1)
+      → OneNotified lists bodies rows contacts place one sends new left next

@@ -1,0 +1,131 @@
+//! Notifications after an event.
+
+ghost use Rattle.std.specs.Prelude.{◌≡◌, ◌+◌, ◌^◌, ◌<◌, ◌≤◌, true, if◌then◌else◌, List, length, slice_get, Some, IfOk, IfSome};
+ghost use Rattle.dots_host.specs.Runs.{Added};
+ghost use Rattle.dots_host.specs.declared.out.OwnedOut.{OwnedOut};
+ghost use Rattle.dots_disk.specs.Becoming.{KeepsMedia};
+ghost use Rattle.coap_observe.specs.Observed.{ObservedValue, is_due};
+ghost use Rattle.dots_notices.specs.Notices.{content_notice, gone_notice};
+ghost use Rattle.dots_notices.specs.Notifying.{Notifies, SentTo, IsMade, OneNotified};
+
+use crate::notices::{content_notice, gone_notice};
+use crate::sending::send_to;
+use crate::shows::Shows;
+use crate::watch::Watch;
+use coap_observe::Notice;
+use dots_disk::Host;
+use dots_lists::{Bytes, NoMemory};
+use std::alloc::Global;
+
+/// A notification that is due.
+#[derive(Drop)]
+struct Due {
+    /// The place of the observer in the order of registration.
+    place: usize,
+    peer: u32,
+    /// Whether nothing is left to see.
+    gone: bool,
+    /// What is sent; None where there is no memory for it, or the peer wasn't heard.
+    bytes: Option<Bytes>,
+}
+
+/// Tells each observer that is due what there is to see now, in the order of registration (RFC 7641, section 4.2; RFC 9132, section
+/// 4.4.2.1). One for whose notification there is no memory is passed over, and stays due. Whether a notification left makes no difference.
+pub fn notify<H: Host, S: Shows>(host: &mut H, alloc: Global, watch: &mut Watch, shows: &S)
+    ensures told { (sends : List OwnedOut)
+        × Notifies (S.Views.lists shows.now) (S.bodies shows.now) watch.old.observers.observed watch.old.sessions sends watch.new.observers.observed watch.new.sessions
+        × Added (H.acts host.old) (H.acts host.new) (SentTo (H.moment host.old) (H.moment host.new) sends) }
+    ensures room { watch.new.observers.room ≡ watch.old.observers.room }
+    ensures pairs { watch.new.observers.pairs ≡ watch.old.observers.pairs }
+    ensures media { KeepsMedia (H.media host.old) (H.media host.new) }
+    ensures extent { H.extent host.new ≡ H.extent host.old }
+    ensures disk { H.Disk.faults host.new ≡ H.Disk.faults host.old }
+    ensures wire { H.Wire.faults host.new ≡ H.Wire.faults host.old }
+    ensures leads { H.leads host.old host.new }
+{
+    let mut from = 0;
+    while let Some(due) = next_notice(alloc, watch, shows, from) {
+        from = notify_one(host, watch, shows, due);
+    }
+}
+
+/// The first notification, from the place on, that is due.
+fn next_notice<S: Shows>(alloc: Global, watch: &Watch, shows: &S, from: usize) -> Option<Due>
+    ensures next { IfSome result (λ due. (one : ObservedValue) × (slice_get watch.now.observers.observed due.place ≡ Some one)
+        × (due.place < length watch.now.observers.observed) × (from ≤ due.place) × (is_due (S.Views.lists shows.now) one ≡ true)
+        × IsMade (S.Views.lists shows.now) (S.bodies shows.now) watch.now.sessions one due.peer due.gone due.bytes) }
+    ensures few { IfSome result (λ due. due.place + 1 < 2 ^ 64) }
+{
+    let notice = watch.observers.next_due(shows, from)?;
+    let peer = notice.observer.peer;
+    let bytes = match watch.sessions.next_number(peer) {
+        Some(id) => bytes_of(alloc, shows, &notice, id).ok(),
+        None => None,
+    };
+    Some(Due {
+        place: notice.place,
+        peer,
+        gone: notice.gone,
+        bytes,
+    })
+}
+
+/// The bytes of a notification with this Message ID.
+fn bytes_of<S: Shows>(
+    alloc: Global,
+    shows: &S,
+    notice: &Notice<'_>,
+    id: u16,
+) -> Result<Bytes, NoMemory>
+    ensures { IfOk result (λ bytes. bytes ≡ (if notice.now.gone then gone_notice id notice.now.observer.now.token
+        else content_notice id notice.now.observer.now.token notice.now.number (S.bodies shows.now notice.now.observer.now))) }
+{
+    if notice.gone {
+        return gone_notice(alloc, id, &notice.observer.token);
+    }
+    let body = shows.body(alloc, notice.observer)?;
+    content_notice(
+        alloc,
+        id,
+        &notice.observer.token,
+        notice.number,
+        body.items(),
+    )
+}
+
+/// Tells the observer at the place, where its notification could be made, and answers from which place on the next one is looked for.
+fn notify_one<H: Host, S: Shows>(host: &mut H, watch: &mut Watch, shows: &S, due: Due) -> usize
+    requires within { due.place < length watch.old.observers.observed }
+    requires few { due.place + 1 < 2 ^ 64 }
+    requires made { (one : ObservedValue) → slice_get watch.old.observers.observed due.place ≡ Some one
+        → IsMade (S.Views.lists shows.now) (S.bodies shows.now) watch.old.sessions one due.peer due.gone due.bytes }
+    ensures told { (one : ObservedValue) → slice_get watch.old.observers.observed due.place ≡ Some one → (sends : List OwnedOut)
+        × OneNotified (S.Views.lists shows.now) (S.bodies shows.now) watch.old.observers.observed watch.old.sessions due.place one sends watch.new.observers.observed watch.new.sessions result
+        × Added (H.acts host.old) (H.acts host.new) (SentTo (H.moment host.old) (H.moment host.new) sends) }
+    ensures room { watch.new.observers.room ≡ watch.old.observers.room }
+    ensures pairs { watch.new.observers.pairs ≡ watch.old.observers.pairs }
+    ensures media { KeepsMedia (H.media host.old) (H.media host.new) }
+    ensures extent { H.extent host.new ≡ H.extent host.old }
+    ensures disk { H.Disk.faults host.new ≡ H.Disk.faults host.old }
+    ensures wire { H.Wire.faults host.new ≡ H.Wire.faults host.old }
+    ensures leads { H.leads host.old host.new }
+{
+    let Due {
+        place,
+        peer,
+        gone,
+        bytes,
+    } = due;
+    match bytes {
+        Some(bytes) => {
+            let id = watch.sessions.number(peer);
+            send_to(host, peer, bytes.items());
+            watch.observers.notified(shows, place, id);
+            if gone {
+                return place;
+            }
+            return place + 1;
+        }
+        None => return place + 1,
+    }
+}

@@ -1,0 +1,102 @@
+-- The open connections of a server: a row for each client peer, in the order of the settings, with at most two lines in each.
+use Rattle.std.specs.Prelude.{ℕ, Bool, ◌==◌, not, nat_lt, if◌then◌else◌, List, [], ◌∷◌, ◌++◌, length, map, filter, find, flat_map, Option, Some, None, Result, Ok, Err}
+use Rattle.dots_settings.specs.declared.peer.PeerRow.{PeerRow}
+use Rattle.dots_settings.specs.declared.peer.Role.{Role}
+use Rattle.dots_settings.specs.declared.peer.Role.TheVariants as role
+use Rattle.stream_table.specs.declared.refused.Refused.{Refused}
+use Rattle.stream_table.specs.declared.refused.Refused.TheVariants.{Stranger, Third}
+
+-- an open connection by its number, and the bytes of it that came and aren't answered yet
+pub record Line : Type 0 where
+  pub conn : ℕ
+  pub held : List ℕ
+
+-- a client peer with its connections, in the order in which they were opened
+pub record PeerLines : Type 0 where
+  pub peer : ℕ
+  pub lines : List Line
+
+abbrev pub is_number : ℕ → Line → Bool
+is_number conn line = line.conn == conn
+
+abbrev pub is_of : ℕ → PeerLines → Bool
+is_of peer row = row.peer == peer
+
+-- all connections
+abbrev pub lines_of : PeerLines → List Line
+lines_of row = row.lines
+
+abbrev pub all_lines : List PeerLines → List Line
+all_lines rows = flat_map lines_of rows
+
+-- the connection of this number
+abbrev pub line_of : ℕ → List PeerLines → Option Line
+line_of conn rows = find (is_number conn) (all_lines rows)
+
+-- ---- at the start
+
+-- a client has a row, and a gateway has none
+abbrev pub no_lines_as : ℕ → Role → List PeerLines
+no_lines_as peer (role.Client domain) = record { peer = peer; lines = [] } ∷ []
+no_lines_as peer role.Gateway = []
+no_lines_as peer role.Stranger = []
+
+abbrev pub no_lines : PeerRow → List PeerLines
+no_lines row = no_lines_as row.peer row.role
+
+-- nothing is open
+abbrev pub row_emptied : PeerLines → PeerLines
+row_emptied row = record { peer = row.peer; lines = [] }
+
+abbrev pub emptied : List PeerLines → List PeerLines
+emptied rows = map row_emptied rows
+
+-- ---- a connection that is closed: no row has its number any more
+
+abbrev pub others : ℕ → List Line → List Line
+others conn lines = filter (λ line. not (is_number conn line)) lines
+
+abbrev pub row_forgotten : ℕ → PeerLines → PeerLines
+row_forgotten conn row = record { peer = row.peer; lines = others conn row.lines }
+
+abbrev pub forgotten : ℕ → List PeerLines → List PeerLines
+forgotten conn rows = map (row_forgotten conn) rows
+
+-- ---- a connection that is opened
+
+-- fewer than two connections of the peer are open
+abbrev pub has_room : PeerLines → Bool
+has_room row = nat_lt (length row.lines) 2
+
+abbrev pub row_opened : ℕ → PeerLines → PeerLines
+row_opened conn row =
+    if has_room row then record { peer = row.peer; lines = row.lines ++ record { conn = conn; held = [] } ∷ [] } else row
+
+-- the row of this peer becomes another, and the others are as they were
+abbrev pub with_row : ℕ → (PeerLines → PeerLines) → List PeerLines → List PeerLines
+with_row peer becomes [] = []
+with_row peer becomes (row ∷ rows) = if is_of peer row then becomes row ∷ rows else row ∷ with_row peer becomes rows
+
+-- its number is forgotten in all rows before, and it is put behind the others of its peer where there is room
+abbrev pub opened : ℕ → ℕ → List PeerLines → List PeerLines
+opened peer conn rows = with_row peer (row_opened conn) (forgotten conn rows)
+
+-- whether it is taken: the peer has a row in which there is room
+abbrev pub taken_in : Option PeerLines → Result Unit Refused
+taken_in None = Err Stranger
+taken_in (Some row) = if has_room row then Ok tt else Err Third
+
+abbrev pub opening : ℕ → ℕ → List PeerLines → Result Unit Refused
+opening peer conn rows = taken_in (find (is_of peer) (forgotten conn rows))
+
+-- ---- bytes that come or are answered
+
+abbrev pub line_holding : ℕ → (List ℕ → List ℕ) → Line → Line
+line_holding conn becomes line = if is_number conn line then record { conn = line.conn; held = becomes line.held } else line
+
+abbrev pub row_holding : ℕ → (List ℕ → List ℕ) → PeerLines → PeerLines
+row_holding conn becomes row = record { peer = row.peer; lines = map (line_holding conn becomes) row.lines }
+
+-- what is held of the connection of this number becomes other bytes, and all else is as it was
+abbrev pub holding : ℕ → (List ℕ → List ℕ) → List PeerLines → List PeerLines
+holding conn becomes rows = map (row_holding conn becomes) rows
