@@ -1,6 +1,11 @@
 -- What contracts see of a host of real sockets and a real file.
-use Rattle.std.specs.Prelude.{◌≡◌, ℕ, ◌-◌, Bool, List, Option, Some, None}
+use Rattle.std.specs.Prelude.{◌≡◌, ℕ, ◌-◌, Bool, List, [], ◌∷◌, ◌++◌, Option, Some, None}
 use Rattle.plain_text.specs.Lines.{lines_of}
+use Rattle.dots_host.specs.declared.act.Act.{Act}
+use Rattle.dots_host.specs.Acts.{Timed, wire_acts}
+use Rattle.dots_host.specs.Runs.{Added}
+use Rattle.dots_disk.specs.Stored.{AreOfDisk}
+use Rattle.dots_edge.specs.Restarts.{AreNoRestarts}
 use Rattle.dots_edge.specs.declared.seconds.Begun.{Begun}
 use Rattle.host_file.specs.HostLine.{LineValue}
 use Rattle.host_file.specs.HostFile.{Stand}
@@ -8,7 +13,7 @@ use Rattle.host_file.specs.Found.{events_in, reserve_in, has_journal}
 
 -- Whether it is open: a host whose file has a fault, or whose sockets or journal can't be opened, isn't. Whether it has a journal, and
 -- whether that was seen to be gone from its path; how many events are still to come and how many bytes are reserved, where that is said; what the clocks read first, the last time beside an event, and at how many ticks
--- the wall clock was away from it; and how often wire and disk failed.
+-- the wall clock was away from it; how often wire and disk failed; and the calls of the host so far.
 pub record Edge : Type 0 where
   pub opened : Bool
   pub journaled : Bool
@@ -20,15 +25,30 @@ pub record Edge : Type 0 where
   pub strayed : ℕ
   pub wire : ℕ
   pub disk : ℕ
+  pub calls : List Act
+
+-- the acts of the wire among the calls, which it always tells
+abbrev pub acts_told : Edge → Option (List Timed)
+acts_told host = Some (wire_acts 0 host.calls)
+
+-- one call more, and nothing else changed
+abbrev pub with_call : Edge → Act → Edge
+with_call host call = record host { calls = host.calls ++ call ∷ [] }
+
+-- the acts grew from the one state to the other, and none of those that came is a restart
+abbrev pub NeverRestarts : Edge → Edge → Type 0
+NeverRestarts old new = Added (acts_told old) (acts_told new) AreNoRestarts
 
 -- one event fewer is to come
 abbrev pub one_fewer : Option ℕ → Option ℕ
 one_fewer None = None
 one_fewer (Some left) = Some (left - 1)
 
--- a call of the disk changes the count of the disk's faults alone
+-- calls of the disk change the count of the disk's faults alone, and are added to the calls of the host
 pub record KeepsWire (old new : Edge) : Type 0 where
-  pub kept : new ≡ record old { disk = new.disk }
+  pub more : List Act
+  pub kept : new ≡ record old { disk = new.disk; calls = old.calls ++ more }
+  pub of_disk : AreOfDisk more
 
 -- a call of the wire keeps the count of the disk's faults, and how many bytes it has
 pub record KeepsDisk (old new : Edge) : Type 0 where

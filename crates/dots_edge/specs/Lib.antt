@@ -6,5 +6,6 @@ pub mod Peers
 pub mod Ways
 pub mod Drained
 pub mod JournalFile
+pub mod Restarts
 pub mod Edge
 pub mod EdgeLaws

@@ -1,6 +1,7 @@
 ghost use Rattle.std.specs.Prelude.{◌≡◌, ◌==◌, ◌<◌, ◌+◌, ◌-◌, ◌%◌, length, IfSome};
 ghost use Rattle.dots_host.specs.Acts.{IsWithin, OnFailed};
 ghost use Rattle.dots_host.specs.declared.TheConstants.{MAX_EVENT_BYTES};
+ghost use Rattle.dots_edge.specs.Restarts.{OnRestart};
 ghost use Rattle.dots_edge.specs.Events.{IsPiece};
 
 use crate::connection::{Connection, Piece};
@@ -88,6 +89,7 @@ impl Connections {
         requires { length into.old ≡ MAX_EVENT_BYTES }
         ensures within { IfSome result (λ what. IsWithin what MAX_EVENT_BYTES) }
         ensures event { IfSome result (λ what. OnFailed what ⊥) }
+        ensures restart { IfSome result (λ what. OnRestart what ⊥) }
     {
         for _ in 0..MAX_CONNECTIONS {
             if self.looks == 0 {
@@ -119,6 +121,7 @@ impl Connections {
         requires room { length into.old ≡ MAX_EVENT_BYTES }
         ensures within { IfSome result (λ what. IsWithin what MAX_EVENT_BYTES) }
         ensures event { IfSome result (λ what. OnFailed what ⊥) }
+        ensures restart { IfSome result (λ what. OnRestart what ⊥) }
     {
         let conn = place as u32;
         match self.read(place, into, now) {

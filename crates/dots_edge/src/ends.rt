@@ -3,6 +3,7 @@
 ghost use Rattle.std.specs.Prelude.{◌≡◌, length, true, false, IfOk, IfSome};
 ghost use Rattle.dots_host.specs.Acts.{IsWithin, OnFailed};
 ghost use Rattle.dots_host.specs.declared.TheConstants.{MAX_EVENT_BYTES};
+ghost use Rattle.dots_edge.specs.Restarts.{OnRestart};
 ghost use Rattle.dots_edge.specs.Drained.{IsDrained, tried_again};
 
 use crate::connections::Connections;
@@ -122,6 +123,7 @@ impl Ends {
         requires { length into.old ≡ MAX_EVENT_BYTES }
         ensures within { IfOk result (λ what. IsWithin what MAX_EVENT_BYTES) }
         ensures event { IfOk result (λ what. OnFailed what ⊥) }
+        ensures restart { IfOk result (λ what. OnRestart what ⊥) }
     {
         for _ in 0..u64::MAX {
             self.time = rt.monotonic()?;
@@ -140,6 +142,7 @@ impl Ends {
         requires { length into.old ≡ MAX_EVENT_BYTES }
         ensures within { IfOk result (λ found. IfSome found (λ what. IsWithin what MAX_EVENT_BYTES)) }
         ensures event { IfOk result (λ found. IfSome found (λ what. OnFailed what ⊥)) }
+        ensures restart { IfOk result (λ found. IfSome found (λ what. OnRestart what ⊥)) }
     {
         if self.ticks.is_due(self.time) {
             self.tick();
@@ -214,6 +217,7 @@ impl Ends {
         requires { length into.old ≡ MAX_EVENT_BYTES }
         ensures within { IfOk result (λ found. IfSome found (λ what. IsWithin what MAX_EVENT_BYTES)) }
         ensures event { IfOk result (λ found. IfSome found (λ what. OnFailed what ⊥)) }
+        ensures restart { IfOk result (λ found. IfSome found (λ what. OnRestart what ⊥)) }
     {
         if !self.waiting.datagrams {
             return Ok(None);
@@ -240,6 +244,7 @@ impl Ends {
         requires { length into.old ≡ MAX_EVENT_BYTES }
         ensures within { IfSome result (λ what. IsWithin what MAX_EVENT_BYTES) }
         ensures event { IfSome result (λ what. OnFailed what ⊥) }
+        ensures restart { IfSome result (λ what. OnRestart what ⊥) }
     {
         self.opens_first = !self.opens_first;
         if self.opens_first {
@@ -258,6 +263,7 @@ impl Ends {
     fn next_opened(&mut self) -> Option<What>
         ensures within { IfSome result (λ what. IsWithin what MAX_EVENT_BYTES) }
         ensures event { IfSome result (λ what. OnFailed what ⊥) }
+        ensures restart { IfSome result (λ what. OnRestart what ⊥) }
     {
         if !self.may_accept() {
             return None;

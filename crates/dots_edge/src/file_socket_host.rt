@@ -1,8 +1,10 @@
-ghost use Rattle.std.specs.Prelude.{◌≡◌, ◌+◌, ◌≤◌, ◌<◌, ◌^◌, ◌⊎◌, List, map, length, true, false, None, Some, is_some, IfOk, OnOk, OnErr, IfSome, ⊤};
+ghost use Rattle.std.specs.Prelude.{◌≡◌, ◌+◌, ◌≤◌, ◌<◌, ◌^◌, ◌⊎◌, List, [], ◌∷◌, ◌++◌, map, length, true, false, None, Some, is_some, is_ok, IfOk, OnOk, OnErr, IfSome, ⊤};
 ghost use Rattle.dots_host.specs.Causes.{Rose, HasCause};
-ghost use Rattle.dots_host.specs.Acts.{IsWithin, OnFailed, OnEvent};
+ghost use Rattle.dots_host.specs.declared.act.Act.TheVariants as act;
+ghost use Rattle.dots_host.specs.Acts.{IsWithin, OnFailed, OnEvent, Adds, event_of, owned_of, is_done, taken, given, wire_acts};
 ghost use Rattle.dots_host.specs.declared.TheConstants.{MAX_EVENT_BYTES};
-ghost use Rattle.dots_edge.specs.Edge.{one_fewer, KeepsWire, KeepsDisk, IsAsSaid};
+ghost use Rattle.dots_edge.specs.Restarts.{OnRestart};
+ghost use Rattle.dots_edge.specs.Edge.{acts_told, with_call, one_fewer, NeverRestarts, KeepsWire, KeepsDisk, IsAsSaid};
 ghost use Rattle.plain_text.specs.Lines.{lines_of};
 ghost use Rattle.host_file.specs.HostLine.{LineValue, line_value};
 ghost use Rattle.host_file.specs.HostFile.{Stand};
@@ -11,12 +13,13 @@ ghost use Rattle.dots_edge.specs.JournalFile.{is_lost, room_of};
 ghost use Rattle.host_file.specs.Found.{events_in, reserve_in, has_journal};
 ghost use Rattle.std.proofs.Common.{ap, refl};
 ghost use Rattle.dots_edge.specs.EdgeLaws.{keeps_wire_same, keeps_wire_then, keeps_disk_same, keeps_disk_then};
+ghost use Rattle.dots_edge.specs.EdgeLaws.{never_restarts_same, never_restarts_then, keeps_acts_told, disk_restarts_none};
 
 use crate::ends::{Ends, Rooms};
 use crate::journal::{Journal, room_of};
 use crate::seconds::Seconds;
 use crate::sockets::{SocketRoom, Sockets};
-use dots_disk::{Disk, Host};
+use dots_disk::{Call, CallLog, Disk, Host};
 use dots_host::{Failed, Got, NoMemory, Out, Sent, What, Wire};
 use host_file::{HostFault, HostLine, events_in, journal_in, read_host_file, reserve_in};
 use std::alloc::Global;
@@ -28,7 +31,9 @@ use std::time::Clock;
 
 /// A host of real sockets, a real journal file and the clock.
 ///
-/// It tells nothing of what it hands in and of what its file holds: what a file, a socket or a clock does isn't proved.
+/// It tells its acts: which events it handed in, with their bytes and times, and which sends it was handed, each done or lost. They stand
+/// in a log that exists in proofs alone. What comes when, and what the file holds, it doesn't tell: what a socket, a file or a clock does
+/// isn't proved.
 #[derive(Drop)]
 pub struct FileSocketHost<R> {
     rt: R,
@@ -40,6 +45,7 @@ pub struct FileSocketHost<R> {
     reserve: Option<u64>,
     wire_faults: u64,
     disk_faults: u64,
+    log: CallLog,
 }
 
 /// What a host file names, once it is open.
@@ -60,7 +66,7 @@ impl<R> Model for FileSocketHost<R> {
 
     ghost Value = { Edge };
 
-    ghost view = { λ host. record { opened = is_some host.ends; journaled = is_some host.journal; lost = is_lost host.journal; left = host.left; reserve = host.reserve; begun = host.seconds.begun; last = host.seconds.last; strayed = host.seconds.strayed; wire = host.wire_faults; disk = host.disk_faults } };
+    ghost view = { λ host. record { opened = is_some host.ends; journaled = is_some host.journal; lost = is_lost host.journal; left = host.left; reserve = host.reserve; begun = host.seconds.begun; last = host.seconds.last; strayed = host.seconds.strayed; wire = host.wire_faults; disk = host.disk_faults; calls = host.log.acts } };
 }
 
 impl<R: Files<File = File> + Net + Clock + Drop> FileSocketHost<R> {
@@ -73,6 +79,8 @@ impl<R: Files<File = File> + Net + Clock + Drop> FileSocketHost<R> {
         ensures shut { IfOk result (λ host. host.opened ≡ false → host.journaled ≡ false) }
         ensures faults { IfOk result (λ host. (host.wire ≡ 0) × (host.disk ≡ 0)) }
         ensures lost { IfOk result (λ host. host.lost ≡ false) }
+        // No call of it was made yet.
+        ensures calls { IfOk result (λ host. host.calls ≡ []) }
     {
         match open_said(alloc, &rt, text) {
             Ok(opened) => Ok(FileSocketHost::of(rt, opened)),
@@ -87,6 +95,7 @@ impl<R: Files<File = File> + Net + Clock + Drop> FileSocketHost<R> {
         ensures left { (result.left ≡ opened.left) × (result.reserve ≡ opened.reserve) }
         ensures lost { result.lost ≡ is_lost opened.journal }
         ensures faults { (result.wire ≡ 0) × (result.disk ≡ 0) }
+        ensures calls { result.calls ≡ [] }
     {
         let Opened {
             ends,
@@ -103,6 +112,7 @@ impl<R: Files<File = File> + Net + Clock + Drop> FileSocketHost<R> {
             reserve,
             wire_faults: 0,
             disk_faults: 0,
+            log: CallLog::new(),
         }
     }
 
@@ -246,6 +256,7 @@ fn next_event<R: Clock>(
     requires { length into.old ≡ MAX_EVENT_BYTES }
     ensures within { IfSome result (λ what. IsWithin what MAX_EVENT_BYTES) }
     ensures event { IfSome result (λ what. OnFailed what ⊥) }
+    ensures restart { IfSome result (λ what. OnRestart what ⊥) }
     ensures opened { is_some ends.new ≡ is_some ends.old }
     ensures shut { is_some ends.old ≡ false → result ≡ None }
     ensures ends { is_some ends.old ≡ true → left.old ≡ Some 0 → result ≡ Some What.End }
@@ -265,6 +276,39 @@ fn next_event<R: Clock>(
         }
         Err(_) => None,
     }
+}
+
+/// Sends, where the sockets are open.
+fn send_by(ends: &mut Option<Ends>, out: &Out) -> Sent
+    ensures closed { is_some ends.old ≡ false → result ≡ Sent.Lost }
+    ensures opened { is_some ends.new ≡ is_some ends.old }
+{
+    match ends {
+        Some(ends) => ends.send(out),
+        None => Sent::Lost,
+    }
+}
+
+/// Takes down that an event was handed in, its bytes at the front of the room.
+fn note_taken(log: &mut CallLog, got: Got, room: &[u8])
+    ensures call { log.new.acts ≡ log.old.acts ++ act.Took (event_of got.what room.now) got.at ∷ [] }
+    ensures adds { Adds (Some (wire_acts 0 log.old.acts)) (length log.old.acts)
+        (Some (wire_acts 0 log.new.acts)) (length log.new.acts) (taken got room.now) }
+{
+    *log = log.after(&Call::Took {
+        what: got.what,
+        room,
+        at: got.at,
+    });
+}
+
+/// Takes down a send, and whether it was done.
+fn note_given(log: &mut CallLog, out: &Out, sent: Sent)
+    ensures call { log.new.acts ≡ log.old.acts ++ act.Gave (owned_of out.now) (is_done sent) ∷ [] }
+    ensures adds { Adds (Some (wire_acts 0 log.old.acts)) (length log.old.acts)
+        (Some (wire_acts 0 log.new.acts)) (length log.new.acts) (given out.now sent) }
+{
+    *log = log.after(&Call::Gave { out: *out, sent });
 }
 
 /// Looks whether the path of the journal still leads to its file.
@@ -324,7 +368,7 @@ fn is_synced(journal: &Option<Journal>) -> bool
 
 /// Counts a fault where a call wasn't done.
 fn settle(faults: &mut u64, done: bool) -> Result<(), Failed>
-    ensures told { OnOk result (done ≡ true) }
+    ensures told { is_ok result ≡ done }
     ensures cause { HasCause faults.old faults.new result }
 {
     if done {
@@ -342,9 +386,9 @@ fn one_fewer(left: Option<u64>) -> Option<u64>
 }
 
 impl<R: Files<File = File> + Net + Clock + Drop> Wire for FileSocketHost<R> {
-    ghost acts = { λ _. None };
+    ghost acts = { acts_told };
 
-    ghost moment = { λ _. 0 };
+    ghost moment = { λ host. length host.calls };
 
     ghost faults = { λ host. host.wire };
 
@@ -354,22 +398,27 @@ impl<R: Files<File = File> + Net + Clock + Drop> Wire for FileSocketHost<R> {
 
     ghost beside_then = { keeps_disk_then };
 
-    ghost leads = { λ _ _. Unit {0} };
+    // What it hands in is no restart.
+    ghost leads = { NeverRestarts };
 
-    ghost leads_same = { λ _. tt };
+    ghost leads_same = { never_restarts_same };
 
-    ghost leads_then = { λ _ _ _ _ _. tt };
+    ghost leads_then = { never_restarts_then };
 
     fn next(&mut self, into: &mut [u8]) -> Got
         requires { length into.old ≡ MAX_EVENT_BYTES }
         ensures at { result.at < 2 ^ 48 }
         ensures within { IsWithin result.what MAX_EVENT_BYTES }
-        ensures acts { ⊤ }
+        ensures acts { Adds (acts_told self.old) (length self.old.calls)
+            (acts_told self.new) (length self.new.calls) (taken result into.new) }
         ensures later { self.old.wire ≤ self.new.wire }
         ensures cause { OnFailed result.what (Rose self.old.wire self.new.wire) }
         ensures beside { KeepsDisk self.old self.new }
-        ensures leads { Unit {0} }
+        ensures leads { NeverRestarts self.old self.new }
 
+        // The call is added to its log, with the event, its bytes and its time. It never hands in a restart.
+        ensures call { self.new.calls ≡ self.old.calls ++ act.Took (event_of result.what into.new) result.at ∷ [] }
+        ensures restart { OnRestart result.what ⊥ }
         // A host that isn't open fails, and one to which no event is to come any more ends.
         ensures shut { self.old.opened ≡ false → result.what ≡ What.Failed }
         ensures ends { self.old.opened ≡ true → self.old.left ≡ Some 0 → result.what ≡ What.End }
@@ -393,36 +442,39 @@ impl<R: Files<File = File> + Net + Clock + Drop> Wire for FileSocketHost<R> {
             Some(What::Tick) => {
                 self.seconds.compare(&self.rt);
                 look_at(&mut self.journal, &self.rt);
-                Got {
-                    what: What::Tick,
-                    at,
-                }
+                let what = What::Tick;
+                note_taken(&mut self.log, Got { what, at }, into);
+                Got { what, at }
             }
-            Some(what) => Got { what, at },
+            Some(what) => {
+                note_taken(&mut self.log, Got { what, at }, into);
+                Got { what, at }
+            }
             None => {
                 self.wire_faults = self.wire_faults.saturating_add(1);
-                Got {
-                    what: What::Failed,
-                    at,
-                }
+                let what = What::Failed;
+                note_taken(&mut self.log, Got { what, at }, into);
+                Got { what, at }
             }
         }
     }
 
+    /// Done is a send of which the system took all bytes.
     fn send(&mut self, out: &Out) -> Sent
-        ensures acts { ⊤ }
+        ensures acts { Adds (acts_told self.old) (length self.old.calls)
+            (acts_told self.new) (length self.new.calls) (given out.now result) }
         ensures faults { self.new.wire ≡ self.old.wire }
         ensures beside { KeepsDisk self.old self.new }
-        ensures leads { Unit {0} }
+        ensures leads { NeverRestarts self.old self.new }
 
         // A host that isn't open loses each send.
         ensures closed { self.old.opened ≡ false → result ≡ Sent.Lost }
-        ensures kept { self.new ≡ self.old }
+        // The send is added to its log, done or lost, and nothing else changes.
+        ensures kept { self.new ≡ with_call self.old (act.Gave (owned_of out.now) (is_done result)) }
     {
-        match &mut self.ends {
-            Some(ends) => ends.send(out),
-            None => Sent::Lost,
-        }
+        let sent = send_by(&mut self.ends, out);
+        note_given(&mut self.log, out, sent);
+        sent
     }
 }
 
@@ -454,12 +506,15 @@ impl<R: Files<File = File> + Net + Clock + Drop> Disk for FileSocketHost<R> {
         ensures cause { HasCause self.old.disk self.new.disk result }
         ensures beside { KeepsWire self.old self.new }
 
+        // The call is added to its log.
+        ensures call { self.new.calls ≡ self.old.calls ++ act.Read (is_ok result) ∷ [] }
         // Without a journal it fails.
         ensures no_journal { self.old.journaled ≡ false → OnOk result ⊥ }
         // Nor does it go well once another file, or none, stood at the path of the journal.
         ensures lost { self.old.lost ≡ true → OnOk result ⊥ }
     {
         let done = is_read(&self.journal, at, into);
+        self.log = self.log.after(&Call::Read { ok: done });
         settle(&mut self.disk_faults, done)
     }
 
@@ -471,13 +526,16 @@ impl<R: Files<File = File> + Net + Clock + Drop> Disk for FileSocketHost<R> {
         ensures cause { HasCause self.old.disk self.new.disk result }
         ensures beside { KeepsWire self.old self.new }
 
+        // The call is added to its log.
+        ensures call { self.new.calls ≡ self.old.calls ++ act.Wrote at bytes.now (is_ok result) ∷ [] }
         // Without a journal it fails.
         ensures no_journal { self.old.journaled ≡ false → OnOk result ⊥ }
         // Nor does it go well once another file, or none, stood at the path of the journal.
         ensures lost { self.old.lost ≡ true → OnOk result ⊥ }
     {
-        let done = is_written(&mut self.journal, at, bytes);
-        settle(&mut self.disk_faults, done)
+        let ok = is_written(&mut self.journal, at, bytes);
+        self.log = self.log.after(&Call::Wrote { at, bytes, ok });
+        settle(&mut self.disk_faults, ok)
     }
 
     fn sync(&mut self) -> Result<(), Failed>
@@ -487,12 +545,15 @@ impl<R: Files<File = File> + Net + Clock + Drop> Disk for FileSocketHost<R> {
         ensures cause { HasCause self.old.disk self.new.disk result }
         ensures beside { KeepsWire self.old self.new }
 
+        // The call is added to its log.
+        ensures call { self.new.calls ≡ self.old.calls ++ act.Synced (is_ok result) ∷ [] }
         // Without a journal it fails.
         ensures no_journal { self.old.journaled ≡ false → OnOk result ⊥ }
         // Nor does it go well once another file, or none, stood at the path of the journal.
         ensures lost { self.old.lost ≡ true → OnOk result ⊥ }
     {
         let done = is_synced(&self.journal);
+        self.log = self.log.after(&Call::Synced { ok: done });
         settle(&mut self.disk_faults, done)
     }
 }
@@ -500,7 +561,7 @@ impl<R: Files<File = File> + Net + Clock + Drop> Disk for FileSocketHost<R> {
 impl<R: Files<File = File> + Net + Clock + Drop> Host for FileSocketHost<R> {
     ghost one_moment = { λ _. tt };
 
-    ghost disk_keeps = { λ _ _ keeps. (tt, ap (λ host. host.wire) keeps.kept, tt) };
+    ghost disk_keeps = { λ old new keeps. (keeps_acts_told old new keeps, ap (λ host. host.wire) keeps.kept, disk_restarts_none old new keeps) };
 
     ghost wire_keeps = { λ _ _ keeps. (tt, ap room_of keeps.reserve, keeps.disk) };
 }
