@@ -9,15 +9,15 @@ use Rattle.dots_host.proofs.RunLemmas.{outs_back}
 use Rattle.dots_settings.specs.Settings.{SettingsValue}
 use Rattle.dots_settings.specs.Lookups.{role_of}
 use Rattle.dots_history.specs.declared.entry.Entry.{Entry}
-use Rattle.dots_machine.specs.declared.verdict.Verdict.{Verdict}
+use Rattle.dots_machine.specs.Verdict.{Verdict}
 use Rattle.dots_machine.specs.declared.verdict.Verdict.TheVariants as verdict
 use Rattle.dots_machine.specs.Domains.{is_gateway}
 use Rattle.dots_machine.specs.Machine.{State, later, LacksMemory, Decides, by_silence, by_rules, for_want_of_memory, after, Answers, Step}
 use Rattle.dots_machine.specs.Answering.{AreBytes, IsHandedIn, SaysUnavailable, IsUnavailable}
-use Rattle.dots_machine.specs.Turns.{Turn, IsTurn, EachTurn, turns_of}
+use Rattle.dots_machine.specs.Handlings.{Handling, IsHandling, EachHandling, handlings_of}
 use Rattle.dots_machine.specs.Adding.{AcceptsDatagram, Accepts, AddsExactly}
 use Rattle.dots_machine.proofs.OneAnswer.{one_verdict, says}
-use Rattle.dots_machine.proofs.Turns.{by_turns, each_weaker}
+use Rattle.dots_machine.proofs.Handlings.{by_handlings, each_weaker}
 
 module _ (settings : SettingsValue) (old : State) (peer : ℕ) (datagram : List ℕ) where
   abbrev Adds : State → Type 0
@@ -77,14 +77,14 @@ module _ (settings : SettingsValue) (old : State) (at : ℕ) (new : State) where
   accepted_by event.Tick owed step are entry accepts = absurd accepts
   accepted_by event.Restart owed step are entry accepts = absurd accepts
 
-pub turn_adds : (settings : SettingsValue) (old : State) (turn : Turn) (new : State) → IsTurn settings old turn new → AddsExactly settings old turn new
-turn_adds settings old turn new is = record {
-  turns = is;
-  added = added_by settings old turn.at new turn.what is.owed is.step;
-  accepted = accepted_by settings old turn.at new turn.what is.owed is.step;
+pub handling_adds : (settings : SettingsValue) (old : State) (handling : Handling) (new : State) → IsHandling settings old handling new → AddsExactly settings old handling new
+handling_adds settings old handling new is = record {
+  handled = is;
+  added = added_by settings old handling.at new handling.what is.owed is.step;
+  accepted = accepted_by settings old handling.at new handling.what is.owed is.step;
 }
 
 pub run_adds : (settings : SettingsValue) (from : State) (acts : List Timed) (trace : List State) (new : State) → Trace (Step settings) (resting from) acts trace (resting new)
-    → EachTurn (AddsExactly settings) from (turns_of acts) new
+    → EachHandling (AddsExactly settings) from (handlings_of acts) new
 run_adds settings from acts trace new run =
-    each_weaker (IsTurn settings) (AddsExactly settings) (turn_adds settings) from (turns_of acts) new (by_turns settings (resting from) acts trace new run)
+    each_weaker (IsHandling settings) (AddsExactly settings) (handling_adds settings) from (handlings_of acts) new (by_handlings settings (resting from) acts trace new run)

@@ -16,23 +16,24 @@ use Rattle.dots_heads.specs.declared.request.Content.{Content}
 use Rattle.dots_keys.specs.declared.request.Request.{Request}
 use Rattle.dots_keys.specs.declared.request.Request.TheVariants as request
 use Rattle.dots_keys.specs.declared.request.MitigationBody.{MitigationBody}
-use Rattle.dots_registry.specs.Judging.{judge_request}
-use Rattle.dots_registry.proofs.Alone.{judged_apart, collides_apart, views_apart}
+use Rattle.conflict_rules.specs.Statuses.{views_in}
+use Rattle.conflict_rules.proofs.Alone.{judged_apart, collides_apart, views_apart}
 use Rattle.dots_machine.specs.declared.exchange.Exchange.{Exchange}
 use Rattle.dots_machine.specs.declared.received.Received.TheVariants as received
 use Rattle.dots_machine.specs.declared.client_request.ClientRequest.{ClientRequest}
 use Rattle.dots_machine.specs.declared.mitigation_request.MitigationRequest.{MitigationRequest}
-use Rattle.dots_machine.specs.declared.verdict.Verdict.{Verdict}
+use Rattle.dots_machine.specs.Verdict.{Verdict}
 use Rattle.dots_machine.specs.declared.verdict.Verdict.TheVariants as verdict
 use Rattle.dots_machine.specs.Domains.{domain_for, session_domain}
 use Rattle.dots_machine.specs.Targets.{scope_fault}
 use Rattle.dots_machine.specs.Replies.{not_implemented}
-use Rattle.dots_machine.specs.MessageRepeats.{Sent, sent_for}
-use Rattle.dots_machine.specs.Mitigations.{sent_by, request_of, judged, lives}
-use Rattle.dots_machine.specs.Machine.{State, later, asks_for, DecidesRequest, Rules, Decides, by_silence, by_rules, for_want_of_memory, sends_of, after, Answers, Step}
-use Rattle.dots_machine.specs.Verdicts.{repeated, unless_repeated, unless_faulty, put_verdict, is_taken, stands_as, delete_by, delete_verdict, get_by, get_verdict, in_domain, with_mid, put_in, put_for, delete_in, delete_for, get_for, config_for, asked_verdict}
+use Rattle.dots_machine.specs.MessageRepeats.{Sent, sent_for, unless_repeated}
+use Rattle.dots_machine.specs.Mitigations.{sent_by, request_of, judged, unless_faulty, put_answer, is_taken, delete_by, delete_answer, get_by, get_answer, client_for}
+use Rattle.dots_machine.specs.Machine.{State, later, DecidesRequest, Rules, Decides, by_silence, by_rules, for_want_of_memory, sends_of, after, Answers, Step, facts_in}
 use Rattle.dots_machine.specs.Apart.{SameFor, domain_of, AsksFor, by_datagram, StaysApart, elsewhere, same_step, restarts}
-use Rattle.dots_machine.proofs.Verdicts.{request_valued, request_there}
+use Rattle.dots_machine.specs.Facts.{Facts, stands_as, facts_of}
+use Rattle.dots_machine.specs.Deciding.{in_domain, with_mid, put_in, put_for, delete_in, delete_for, get_for, config_for, answer_to, asks_for}
+use Rattle.dots_machine.proofs.Verdicts.{request_valued, request_there, ruled}
 use Rattle.dots_machine.proofs.Outcomes.{AcceptsWell, puts_accept, deletes_accept, gets_accept, configs_accept}
 
 module _ (settings : SettingsValue) where
@@ -69,56 +70,61 @@ module _ (settings : SettingsValue) where
     with_mid_same x None f g each = refl
     with_mid_same x (Some mid) f g each = each mid
 
+    abbrev known : State → Facts
+    known state = facts_in settings state
+
     -- the entry that is remembered is one of the domain
-    repeated_there : (sent : Sent) → sent.domain ≡ domain → repeated settings other.time one.history sent ≡ repeated settings other.time other.history sent
+    repeated_there : (sent : Sent) → sent.domain ≡ domain
+        → (facts_of settings other.time one.history).repeated sent ≡ (facts_of settings other.time other.history).repeated sent
     repeated_there sent here =
         sym (replies_alone settings.limits.remembered other.time sent.peer sent.domain sent.id one.history)
-        ∙ ap (λ es. repeated settings other.time es sent) (subst (λ d. alone d one.history ≡ alone d other.history) (sym here) same.entries)
+        ∙ ap (λ es. (facts_of settings other.time es).repeated sent) (subst (λ d. alone d one.history ≡ alone d other.history) (sym here) same.entries)
         ∙ replies_alone settings.limits.remembered other.time sent.peer sent.domain sent.id other.history
 
-    repeated_same : (sent : Sent) → sent.domain ≡ domain → repeated settings one.time one.history sent ≡ repeated settings other.time other.history sent
-    repeated_same sent here = ap (λ t. repeated settings t one.history sent) same.time ∙ repeated_there sent here
+    repeated_same : (sent : Sent) → sent.domain ≡ domain → (known one).repeated sent ≡ (known other).repeated sent
+    repeated_same sent here = ap (λ t. (facts_of settings t one.history).repeated sent) same.time ∙ repeated_there sent here
 
-    config_same : (peer : ℕ) (x : Exchange) → config_for settings one peer x domain ≡ config_for settings other peer x domain
+    config_same : (peer : ℕ) (x : Exchange) → config_for (facts_in settings one) peer x domain ≡ config_for (facts_in settings other) peer x domain
     config_same peer x = ap (λ o. unless_repeated o (verdict.Reply (not_implemented x))) (repeated_same (sent_for peer x domain) refl)
 
     module _ (from : ClientRequest) (here : from.domain ≡ domain) where
       own : alone from.domain one.history ≡ alone from.domain other.history
       own = subst (λ d. alone d one.history ≡ alone d other.history) (sym here) same.entries
 
-      put_same : (mid : ℕ) (body : MitigationBody) → put_in settings one from body mid ≡ put_in settings other from body mid
+      put_same : (mid : ℕ) (body : MitigationBody) → put_in settings (facts_in settings one) from body mid ≡ put_in settings (facts_in settings other) from body mid
       put_same mid body =
           let a : MitigationRequest = record { from = from; mid = mid; body = body } in
           let fault = scope_fault settings (prefixes_of settings from.domain) body.asked in
-          ap (λ t. put_verdict settings t one.history a) same.time
-          ∙ ap (λ o. unless_faulty from.exchange fault (unless_repeated o (judged other.time a (judge_request settings other.time one.history from.domain (request_of a)))))
+          ap (λ t. put_answer settings (facts_of settings t one.history) a) same.time
+          ∙ ap (λ o. unless_faulty from.exchange fault (unless_repeated o (judged other.time a ((facts_of settings other.time one.history).judged from.domain (request_of a)))))
           (repeated_there (sent_by from) here)
-          ∙ ap (λ r. unless_faulty from.exchange fault (unless_repeated (repeated settings other.time other.history (sent_by from)) (judged other.time a r)))
+          ∙ ap (λ r. unless_faulty from.exchange fault (unless_repeated ((known other).repeated (sent_by from)) (judged other.time a r)))
           (judged_apart settings other.time one.history other.history from.domain (request_of a) own)
 
-      taken_same : is_taken one.time one.history from ≡ is_taken other.time other.history from
+      taken_same : is_taken (known one) from ≡ is_taken (known other) from
       taken_same =
-          ap (λ t. is_taken t one.history from) same.time
+          ap (λ t. is_taken (facts_of settings t one.history) from) same.time
           ∙ collides_apart other.time one.history other.history from.peer (record { domain = from.domain; cuid = from.cuid }) own
 
-      lives_same : lives one.time one.history from ≡ lives other.time other.history from
-      lives_same = ap (λ t. lives t one.history from) same.time ∙ views_apart other.time one.history other.history from.domain from.cuid own
+      shown_same : (known one).views (client_for from) ≡ (known other).views (client_for from)
+      shown_same =
+          ap (λ t. views_in from.domain from.cuid t one.history) same.time ∙ views_apart other.time one.history other.history from.domain from.cuid own
 
-      delete_same : (mid : ℕ) → delete_verdict one.time one.history from mid ≡ delete_verdict other.time other.history from mid
+      delete_same : (mid : ℕ) → delete_answer (known one) from mid ≡ delete_answer (known other) from mid
       delete_same mid =
-          ap (λ b. delete_by one.time from mid b (list_any (stands_as mid) (lives one.time one.history from))) taken_same
-          ∙ ap (λ ms. delete_by one.time from mid (is_taken other.time other.history from) (list_any (stands_as mid) ms)) lives_same
-          ∙ ap (λ t. delete_by t from mid (is_taken other.time other.history from) (list_any (stands_as mid) (lives other.time other.history from))) same.time
+          ap (λ b. delete_by one.time from mid b (list_any (stands_as mid) ((known one).views (client_for from)))) taken_same
+          ∙ ap (λ ms. delete_by one.time from mid (is_taken (known other) from) (list_any (stands_as mid) ms)) shown_same
+          ∙ ap (λ t. delete_by t from mid (is_taken (known other) from) (list_any (stands_as mid) ((known other).views (client_for from)))) same.time
 
-      delete_in_same : (mid : ℕ) → delete_in settings one from mid ≡ delete_in settings other from mid
+      delete_in_same : (mid : ℕ) → delete_in (known one) from mid ≡ delete_in (known other) from mid
       delete_in_same mid =
-          ap (λ o. unless_repeated o (delete_verdict one.time one.history from mid)) (repeated_same (sent_by from) here)
-          ∙ ap (unless_repeated (repeated settings other.time other.history (sent_by from))) (delete_same mid)
+          ap (λ o. unless_repeated o (delete_answer (known one) from mid)) (repeated_same (sent_by from) here)
+          ∙ ap (unless_repeated ((known other).repeated (sent_by from))) (delete_same mid)
 
-      get_same : (mid : Option ℕ) (content : Content) → get_verdict one.time one.history from mid content ≡ get_verdict other.time other.history from mid content
+      get_same : (mid : Option ℕ) (content : Content) → get_answer (known one) from mid content ≡ get_answer (known other) from mid content
       get_same mid content =
-          ap (λ b. get_by from.exchange mid content b (lives one.time one.history from)) taken_same
-          ∙ ap (get_by from.exchange mid content (is_taken other.time other.history from)) lives_same
+          ap (λ b. get_by from.exchange mid content b ((known one).views (client_for from))) taken_same
+          ∙ ap (get_by from.exchange mid content (is_taken (known other) from)) shown_same
 
     -- ---- of two requests
 
@@ -139,26 +145,26 @@ module _ (settings : SettingsValue) where
             let apart : d ≢ domain = grind (arith, nat_tests, there) in
             inl (d, apart, is, untouched d (f d) apart (well d))
 
-    pub asked_apart : (peer : ℕ) (x : Exchange) (r : Request) → Elsewhere r peer (asked_verdict settings one peer x r) ⊎ (asked_verdict settings one peer x r ≡ asked_verdict settings other peer x r)
+    pub asked_apart : (peer : ℕ) (x : Exchange) (r : Request) → Elsewhere r peer (answer_to settings (facts_in settings one) peer x r) ⊎ (answer_to settings (facts_in settings one) peer x r ≡ answer_to settings (facts_in settings other) peer x r)
     asked_apart peer x (request.PutMitigation path body) =
         in_domain_apart peer x (request.PutMitigation path body) (domain_for settings (role_of settings peer) path.cdid)
-        (put_for settings one peer x path body) (put_for settings other peer x path body) refl (puts_accept settings one peer x path body)
+        (put_for settings (facts_in settings one) peer x path body) (put_for settings (facts_in settings other) peer x path body) refl (puts_accept settings (facts_in settings one) peer x path body)
         (with_mid_same x path.mid _ _ (λ mid. put_same (asks_for peer x path domain) refl mid body))
     asked_apart peer x (request.GetMitigation path content observe) =
         in_domain_apart peer x (request.GetMitigation path content observe) (domain_for settings (role_of settings peer) path.cdid)
-        (get_for one peer x path content) (get_for other peer x path content) refl (gets_accept settings one peer x path content)
+        (get_for (facts_in settings one) peer x path content) (get_for (facts_in settings other) peer x path content) refl (gets_accept settings (facts_in settings one) peer x path content)
         (get_same (asks_for peer x path domain) refl path.mid content)
     asked_apart peer x (request.DeleteMitigation path) =
         in_domain_apart peer x (request.DeleteMitigation path) (domain_for settings (role_of settings peer) path.cdid)
-        (delete_for settings one peer x path) (delete_for settings other peer x path) refl (deletes_accept settings one peer x path)
+        (delete_for (facts_in settings one) peer x path) (delete_for (facts_in settings other) peer x path) refl (deletes_accept settings (facts_in settings one) peer x path)
         (with_mid_same x path.mid _ _ (λ mid. delete_in_same (asks_for peer x path domain) refl mid))
     asked_apart peer x (request.PutConfig sid body) =
-        in_domain_apart peer x (request.PutConfig sid body) (session_domain (role_of settings peer)) (config_for settings one peer x) (config_for settings other peer x) refl
-        (configs_accept settings one peer x) (config_same peer x)
+        in_domain_apart peer x (request.PutConfig sid body) (session_domain (role_of settings peer)) (config_for (facts_in settings one) peer x) (config_for (facts_in settings other) peer x) refl
+        (configs_accept settings (facts_in settings one) peer x) (config_same peer x)
     asked_apart peer x (request.GetConfig sid) = inr refl
     asked_apart peer x (request.DeleteConfig sid) =
-        in_domain_apart peer x (request.DeleteConfig sid) (session_domain (role_of settings peer)) (config_for settings one peer x) (config_for settings other peer x) refl
-        (configs_accept settings one peer x) (config_same peer x)
+        in_domain_apart peer x (request.DeleteConfig sid) (session_domain (role_of settings peer)) (config_for (facts_in settings one) peer x) (config_for (facts_in settings other) peer x) refl
+        (configs_accept settings (facts_in settings one) peer x) (config_same peer x)
     asked_apart peer x (request.PutHeartbeat heard) = inr refl
 
     module _ (peer : ℕ) (datagram : List ℕ) (sends : List OwnedOut) (new : State) where
@@ -178,14 +184,16 @@ module _ (settings : SettingsValue) where
           by_decision : Decides settings one peer datagram a.0 → ForAnother ⊎ AlsoThere
           by_decision (by_silence n is) = inr (also_there a.0 a.2 a.3 (by_silence n is))
           by_decision (for_want_of_memory n lacks) = inr (also_there a.0 a.2 a.3 (for_want_of_memory n lacks))
-          by_decision (by_rules n (received.Dismissed d) got is) = inr (also_there a.0 a.2 a.3 (by_rules n (received.Dismissed d) got is))
-          by_decision (by_rules n (received.Refused x e) got is) = inr (also_there a.0 a.2 a.3 (by_rules n (received.Refused x e) got is))
+          by_decision (by_rules n (received.Dismissed d) got is) =
+              inr (also_there a.0 a.2 a.3 (by_rules n (received.Dismissed d) got (ruled settings other peer (received.Dismissed d) a.0 is.2)))
+          by_decision (by_rules n (received.Refused x e) got is) =
+              inr (also_there a.0 a.2 a.3 (by_rules n (received.Refused x e) got (ruled settings other peer (received.Refused x e) a.0 is.2)))
           by_decision (by_rules n (received.Asked x r) got is) = joined (asked_apart peer x r)
             where
-              there : asked_verdict settings one peer x r ≡ asked_verdict settings other peer x r → Rules settings other peer (received.Asked x r) a.0
+              there : answer_to settings (facts_in settings one) peer x r ≡ answer_to settings (facts_in settings other) peer x r → Rules settings other peer (received.Asked x r) a.0
               there alike = subst (DecidesRequest settings other peer x r) (sym (request_valued settings one peer x r a.0 is ∙ alike)) (request_there settings other peer x r)
 
-              joined : Elsewhere r peer (asked_verdict settings one peer x r) ⊎ (asked_verdict settings one peer x r ≡ asked_verdict settings other peer x r) → ForAnother ⊎ AlsoThere
+              joined : Elsewhere r peer (answer_to settings (facts_in settings one) peer x r) ⊎ (answer_to settings (facts_in settings one) peer x r ≡ answer_to settings (facts_in settings other) peer x r) → ForAnother ⊎ AlsoThere
               joined (inl (another, there, found, none)) =
                   inl (another, there, by_datagram peer datagram x r refl got found, ap (λ state. alone domain state.history) (a.3 ∙ ap (λ v. after v one) (request_valued settings one peer x r a.0 is)) ∙ none)
               joined (inr alike) = inr (also_there a.0 a.2 a.3 (by_rules n (received.Asked x r) got (there alike)))

@@ -22,20 +22,20 @@ use Rattle.dots_machine.specs.declared.dismissal.Dismissal.{Dismissal}
 use Rattle.dots_machine.specs.declared.dismissal.Dismissal.TheVariants as dismissal
 use Rattle.dots_machine.specs.declared.received.Received.{Received}
 use Rattle.dots_machine.specs.declared.received.Received.TheVariants as received
-use Rattle.dots_machine.specs.declared.verdict.Verdict.{Verdict}
+use Rattle.dots_machine.specs.Verdict.{Verdict}
 use Rattle.dots_machine.specs.declared.verdict.Verdict.TheVariants as verdict
 use Rattle.dots_machine.specs.Domains.{is_gateway, domain_for, session_domain}
 use Rattle.dots_machine.specs.Requests.{IsReceived}
-use Rattle.dots_machine.specs.Machine.{State, later, is_stranger, DecidesRequest, Rules, dismissal_verdict, reject_verdict, Decides, by_silence, by_rules, for_want_of_memory, sends_of, after, Step}
-use Rattle.dots_machine.specs.Verdicts.{in_domain, put_for, delete_for, get_for, config_for, asked_verdict}
+use Rattle.dots_machine.specs.Machine.{State, afresh, later, is_stranger, DecidesRequest, Rules, dismissal_verdict, reject_verdict, Decides, by_silence, by_rules, for_want_of_memory, sends_of, after, Step, facts_in}
 use Rattle.dots_machine.specs.Apart.{SameFor, domain_of, AsksFor, by_datagram}
-use Rattle.dots_machine.specs.Turns.{Turn, IsTurn, EachTurn, turns_of}
+use Rattle.dots_machine.specs.Handlings.{Handling, IsHandling, EachHandling, handlings_of}
 use Rattle.dots_machine.specs.Isolation.{TakenUp, TakesUp, PassesBy, none_came, was_refused, lacked_memory, entries_of, Make, IsIsolated}
+use Rattle.dots_machine.specs.Deciding.{in_domain, put_for, delete_for, get_for, config_for, answer_to}
 use Rattle.dots_machine.proofs.OneRequest.{Same, one, first_refused, second_refused, same_received}
 use Rattle.dots_machine.proofs.Outcomes.{AcceptsWell, IsRefusal, reject_refuses, puts_accept, deletes_accept, gets_accept, configs_accept, request_accepts}
 use Rattle.dots_machine.proofs.Verdicts.{request_valued, request_there}
 use Rattle.dots_machine.proofs.Apart.{untouched, Elsewhere, asked_apart}
-use Rattle.dots_machine.proofs.Turns.{by_turns}
+use Rattle.dots_machine.proofs.Handlings.{by_handlings}
 
 -- ---- small steps
 some_same : {X : Type 0} (x y : X) → Some x ≡ Some y → x ≡ y
@@ -84,26 +84,26 @@ dismissal_adds_nothing : (d : Dismissal) (state : State) → after (dismissal_ve
 dismissal_adds_nothing dismissal.Ignored state = refl
 dismissal_adds_nothing (dismissal.Reset id) state = refl
 
-module _ (settings : SettingsValue) (domain : ℕ) (old : State) (turn : Turn) (new : State) where
+module _ (settings : SettingsValue) (domain : ℕ) (old : State) (handling : Handling) (new : State) where
   abbrev now : State
-  now = later old turn.at
+  now = later old handling.at
 
   -- the state that has the domain's entries alone
   abbrev own : State
-  own = record { history = alone domain old.history; time = new.time }
+  own = afresh settings (alone domain old.history) new.time
 
   -- a request for the domain was taken up, and its verdict goes by the domain's entries alone
   abbrev Taken : Type 0
   Taken =
-      (taken : TakenUp) × TakesUp settings domain turn new taken × (decided : Verdict)
-      × DecidesRequest settings (record { history = alone domain old.history; time = taken.time }) taken.peer taken.exchange taken.request decided
+      (taken : TakenUp) × TakesUp settings domain handling new taken × (decided : Verdict)
+      × DecidesRequest settings (afresh settings (alone domain old.history) taken.time) taken.peer taken.exchange taken.request decided
       × (taken.sends ≡ sends_of decided taken.peer)
       × (alone domain new.history ≡ alone domain old.history ++ entries_of decided)
 
   abbrev Passed : Type 0
-  Passed = PassesBy settings domain turn × (alone domain new.history ≡ alone domain old.history)
+  Passed = PassesBy settings domain handling × (alone domain new.history ≡ alone domain old.history)
 
-  module _ (peer : ℕ) (datagram : List ℕ) (came : turn.what ≡ event.Datagram peer datagram) where
+  module _ (peer : ℕ) (datagram : List ℕ) (came : handling.what ≡ event.Datagram peer datagram) where
     abbrev who : Role
     who = role_of settings peer
 
@@ -127,8 +127,8 @@ module _ (settings : SettingsValue) (domain : ℕ) (old : State) (turn : Turn) (
           subst (λ p. domain_of settings (role_of settings p) r ≡ Some domain) same.0 found,
         )
 
-    none_by : (Asks → ⊥) → PassesBy settings domain turn
-    none_by never = none_came (λ asks. never (asks_here turn.what came asks))
+    none_by : (Asks → ⊥) → PassesBy settings domain handling
+    none_by never = none_came (λ asks. never (asks_here handling.what came asks))
 
     -- whether a request is for the domain
     is_asked : (r : Request) → IsAsked r ⊎ (IsAsked r → ⊥)
@@ -142,7 +142,7 @@ module _ (settings : SettingsValue) (domain : ℕ) (old : State) (turn : Turn) (
             by_test true here = let same : d ≡ domain = grind (arith, nat_tests, here) in inl (at ∙ ap Some same)
             by_test false out = inr (λ asked. let same : d ≡ domain = some_same d domain (sym at ∙ asked) in both_ways (d == domain) out (grind (arith, nat_tests, same)))
 
-    module _ (sends : List OwnedOut) (sent : sends ≡ turn.sends) (decided : Verdict) (told : sends ≡ sends_of decided peer) (is_after : new ≡ after decided now) where
+    module _ (sends : List OwnedOut) (sent : sends ≡ handling.sends) (decided : Verdict) (told : sends ≡ sends_of decided peer) (is_after : new ≡ after decided now) where
       unchanged : after decided now ≡ now → alone domain new.history ≡ alone domain old.history
       unchanged same = ap (λ (state : State). alone domain state.history) (is_after ∙ same)
 
@@ -151,7 +151,7 @@ module _ (settings : SettingsValue) (domain : ℕ) (old : State) (turn : Turn) (
       Left v = alone domain (after v now).history ≡ alone domain old.history
 
       -- not for the domain
-      not_taken : (x : Exchange) (r : Request) → (IsAsked r → ⊥) → decided ≡ asked_verdict settings now peer x r → alone domain new.history ≡ alone domain old.history
+      not_taken : (x : Exchange) (r : Request) → (IsAsked r → ⊥) → decided ≡ answer_to settings (facts_in settings now) peer x r → alone domain new.history ≡ alone domain old.history
       not_taken x r never is = ap (λ (state : State). alone domain state.history) (is_after ∙ ap (λ v. after v now) is) ∙ left r never
         where
           same_now : SameFor domain now now
@@ -161,16 +161,16 @@ module _ (settings : SettingsValue) (domain : ℕ) (old : State) (turn : Turn) (
           in_domain_left None f well out = refl
           in_domain_left (Some d) f well out = untouched settings domain now now same_now d (f d) (λ same. out (ap Some same)) (well d)
 
-          left : (r : Request) → (IsAsked r → ⊥) → Left (asked_verdict settings now peer x r)
+          left : (r : Request) → (IsAsked r → ⊥) → Left (answer_to settings (facts_in settings now) peer x r)
           left (request.PutMitigation path body) never =
-              in_domain_left (domain_for settings who path.cdid) (put_for settings now peer x path body) (puts_accept settings now peer x path body) never
+              in_domain_left (domain_for settings who path.cdid) (put_for settings (facts_in settings now) peer x path body) (puts_accept settings (facts_in settings now) peer x path body) never
           left (request.GetMitigation path content observe) never =
-              in_domain_left (domain_for settings who path.cdid) (get_for now peer x path content) (gets_accept settings now peer x path content) never
+              in_domain_left (domain_for settings who path.cdid) (get_for (facts_in settings now) peer x path content) (gets_accept settings (facts_in settings now) peer x path content) never
           left (request.DeleteMitigation path) never =
-              in_domain_left (domain_for settings who path.cdid) (delete_for settings now peer x path) (deletes_accept settings now peer x path) never
-          left (request.PutConfig sid body) never = in_domain_left (session_domain who) (config_for settings now peer x) (configs_accept settings now peer x) never
+              in_domain_left (domain_for settings who path.cdid) (delete_for (facts_in settings now) peer x path) (deletes_accept settings (facts_in settings now) peer x path) never
+          left (request.PutConfig sid body) never = in_domain_left (session_domain who) (config_for (facts_in settings now) peer x) (configs_accept settings (facts_in settings now) peer x) never
           left (request.GetConfig sid) never = refl
-          left (request.DeleteConfig sid) never = in_domain_left (session_domain who) (config_for settings now peer x) (configs_accept settings now peer x) never
+          left (request.DeleteConfig sid) never = in_domain_left (session_domain who) (config_for (facts_in settings now) peer x) (configs_accept settings (facts_in settings now) peer x) never
           left (request.PutHeartbeat heard) never = refl
 
       time_kept : (v : Verdict) → (after v now).time ≡ now.time
@@ -180,9 +180,9 @@ module _ (settings : SettingsValue) (domain : ℕ) (old : State) (turn : Turn) (
       time_kept (verdict.Accept reply entry) = refl
 
       -- for the domain
-      taken_up : (x : Exchange) (r : Request) → IsReceived datagram (is_gateway who) (received.Asked x r) → IsAsked r → decided ≡ asked_verdict settings now peer x r → Taken
+      taken_up : (x : Exchange) (r : Request) → IsReceived datagram (is_gateway who) (received.Asked x r) → IsAsked r → decided ≡ answer_to settings (facts_in settings now) peer x r → Taken
       taken_up x r got asked is = (
-        record { time = new.time; peer = peer; exchange = x; request = r; sends = turn.sends },
+        record { time = new.time; peer = peer; exchange = x; request = r; sends = handling.sends },
         record { datagram = datagram; came = came; is_received = got; for_domain = asked; time_is = refl; sends_are = refl },
         decided,
         subst (DecidesRequest settings own peer x r) (sym (is ∙ alike)) (request_there settings own peer x r),
@@ -193,16 +193,16 @@ module _ (settings : SettingsValue) (domain : ℕ) (old : State) (turn : Turn) (
           same : SameFor domain now own
           same = record { time = sym (ap (λ (state : State). state.time) is_after ∙ time_kept decided); entries = alone_twice domain old.history }
 
-          alike : asked_verdict settings now peer x r ≡ asked_verdict settings own peer x r
+          alike : answer_to settings (facts_in settings now) peer x r ≡ answer_to settings (facts_in settings own) peer x r
           alike = by_apart (asked_apart settings domain now own same peer x r)
             where
-              by_apart : Elsewhere settings domain now own same r peer (asked_verdict settings now peer x r) ⊎ (asked_verdict settings now peer x r ≡ asked_verdict settings own peer x r)
-                  → asked_verdict settings now peer x r ≡ asked_verdict settings own peer x r
+              by_apart : Elsewhere settings domain now own same r peer (answer_to settings (facts_in settings now) peer x r) ⊎ (answer_to settings (facts_in settings now) peer x r ≡ answer_to settings (facts_in settings own) peer x r)
+                  → answer_to settings (facts_in settings now) peer x r ≡ answer_to settings (facts_in settings own) peer x r
               by_apart (inl (another, apart, at, none)) = absurd (apart (some_same another domain (sym at ∙ asked)))
               by_apart (inr same) = same
 
-          well_so : decided ≡ asked_verdict settings now peer x r → AcceptsWell domain decided
-          well_so is = subst (AcceptsWell domain) (sym is) (request_accepts settings now peer x r domain asked)
+          well_so : decided ≡ answer_to settings (facts_in settings now) peer x r → AcceptsWell domain decided
+          well_so is = subst (AcceptsWell domain) (sym is) (request_accepts settings (facts_in settings now) peer x r domain asked)
 
           added : (v : Verdict) → AcceptsWell domain v → alone domain (after v now).history ≡ alone domain old.history ++ entries_of v
           added verdict.Silent well = sym (append-nil (alone domain old.history))
@@ -213,7 +213,7 @@ module _ (settings : SettingsValue) (domain : ℕ) (old : State) (turn : Turn) (
               ∙ ap (λ es. alone domain old.history ++ es) (cond-true (entry.domain == domain) (entry ∷ []) [] (grind (arith, nat_tests, well.1)))
 
       -- ---- what was received
-      never_asked : (got : Received) → ((x : Exchange) (r : Request) → IsAsked r → Same got (received.Asked x r) → ⊥) → IsReceived datagram (is_gateway who) got → PassesBy settings domain turn
+      never_asked : (got : Received) → ((x : Exchange) (r : Request) → IsAsked r → Same got (received.Asked x r) → ⊥) → IsReceived datagram (is_gateway who) got → PassesBy settings domain handling
       never_asked got out is = none_by (λ asks. out asks.0 asks.1 asks.3 (same_received datagram (is_gateway who) got (received.Asked asks.0 asks.1) is asks.2))
 
       dismissed_never : (d : Dismissal) (x : Exchange) (r : Request) → IsAsked r → Same (received.Dismissed d) (received.Asked x r) → ⊥
@@ -231,12 +231,12 @@ module _ (settings : SettingsValue) (domain : ℕ) (old : State) (turn : Turn) (
 
       by_received : (got : Received) → IsReceived datagram (is_gateway who) got → Rules settings now peer got decided → Taken ⊎ Passed
       by_received (received.Dismissed d) got is =
-          inr (never_asked (received.Dismissed d) (dismissed_never d) got, unchanged (ap (λ v. after v now) is ∙ dismissal_adds_nothing d now))
+          inr (never_asked (received.Dismissed d) (dismissed_never d) got, unchanged (ap (λ v. after v now) is.2 ∙ dismissal_adds_nothing d now))
       by_received (received.Refused x e) got is =
-          inr (was_refused peer datagram x e came got, unchanged (ap (λ v. after v now) is ∙ refusal_adds_nothing (reject_verdict x e) now (reject_refuses x e)))
+          inr (was_refused peer datagram x e came got, unchanged (ap (λ v. after v now) is.2 ∙ refusal_adds_nothing (reject_verdict x e) now (reject_refuses x e)))
       by_received (received.Asked x r) got is = by_asked (is_asked r)
         where
-          valued : decided ≡ asked_verdict settings now peer x r
+          valued : decided ≡ answer_to settings (facts_in settings now) peer x r
           valued = request_valued settings now peer x r decided is
 
           by_asked : IsAsked r ⊎ (IsAsked r → ⊥) → Taken ⊎ Passed
@@ -251,13 +251,13 @@ module _ (settings : SettingsValue) (domain : ℕ) (old : State) (turn : Turn) (
       by_decision (by_rules n got received rules) = by_received got received rules
 
   -- nothing was asked
-  nothing_asked : (what : Event) → turn.what ≡ what → ((peer : ℕ) (datagram : List ℕ) → what ≡ event.Datagram peer datagram → ⊥) → new.history ≡ old.history → Taken ⊎ Passed
+  nothing_asked : (what : Event) → handling.what ≡ what → ((peer : ℕ) (datagram : List ℕ) → what ≡ event.Datagram peer datagram → ⊥) → new.history ≡ old.history → Taken ⊎ Passed
   nothing_asked what is never same = inr (none_came out, ap (alone domain) same)
     where
-      out : AsksFor settings domain turn.what → ⊥
+      out : AsksFor settings domain handling.what → ⊥
       out (by_datagram p bytes x r e got found) = never p bytes (sym is ∙ e)
 
-  by_event : (what : Event) (owed : List (State × OwnedOut)) → turn.what ≡ what → outs_of owed ≡ turn.sends → Step settings old what turn.at owed new → Taken ⊎ Passed
+  by_event : (what : Event) (owed : List (State × OwnedOut)) → handling.what ≡ what → outs_of owed ≡ handling.sends → Step settings old what handling.at owed new → Taken ⊎ Passed
   by_event (event.Datagram peer datagram) owed is sent step =
       let a = step.2 in
       by_decision peer datagram is step.0 (sym (ap outs_of step.1 ∙ outs_back new step.0) ∙ sent) a.0 a.2 a.3 a.1
@@ -269,28 +269,28 @@ module _ (settings : SettingsValue) (domain : ℕ) (old : State) (turn : Turn) (
   by_event event.Tick owed is sent step = nothing_asked event.Tick is (λ p d e. cc e) (ap (λ (state : State). state.history) step.1)
   by_event event.Restart owed is sent step = nothing_asked event.Restart is (λ p d e. cc e) (ap (λ (state : State). state.history) step.1)
 
-  pub one_turn_isolated : IsTurn settings old turn new → Taken ⊎ Passed
-  one_turn_isolated is = by_event turn.what is.owed refl is.sent is.step
+  pub one_handling_isolated : IsHandling settings old handling new → Taken ⊎ Passed
+  one_handling_isolated is = by_event handling.what is.owed refl is.sent is.step
 
 module _ (settings : SettingsValue) (domain : ℕ) where
-  isolated_then : (old : State) (turn : Turn) (between : State) (turns : List Turn) (new : State) → IsTurn settings old turn between → IsIsolated settings between turns new domain
-      → Taken settings domain old turn between ⊎ Passed settings domain old turn between → IsIsolated settings old (turn ∷ turns) new domain
-  isolated_then old turn between turns new is rest (inl (taken, takes, decided, decides, told, entries)) = record {
+  isolated_then : (old : State) (handling : Handling) (between : State) (handlings : List Handling) (new : State) → IsHandling settings old handling between → IsIsolated settings between handlings new domain
+      → Taken settings domain old handling between ⊎ Passed settings domain old handling between → IsIsolated settings old (handling ∷ handlings) new domain
+  isolated_then old handling between handlings new is rest (inl (taken, takes, decided, decides, told, entries)) = record {
     requests = taken ∷ rest.requests;
     are = (between, is, inl (taken, rest.requests, refl, takes, rest.are));
     make = (decided, decides, told, subst (λ es. Make settings es rest.requests (alone domain new.history)) entries rest.make);
   }
-  isolated_then old turn between turns new is rest (inr (passes, entries)) = record {
+  isolated_then old handling between handlings new is rest (inr (passes, entries)) = record {
     requests = rest.requests;
     are = (between, is, inr (passes, rest.are));
     make = subst (λ es. Make settings es rest.requests (alone domain new.history)) entries rest.make;
   }
 
-  turns_isolated : (old : State) (turns : List Turn) (new : State) → EachTurn (IsTurn settings) old turns new → IsIsolated settings old turns new domain
-  turns_isolated old [] new is = record { requests = []; are = (refl, is); make = ap (λ (state : State). alone domain state.history) is }
-  turns_isolated old (turn ∷ turns) new each =
-      isolated_then old turn each.0 turns new each.1 (turns_isolated each.0 turns new each.2) (one_turn_isolated settings domain old turn each.0 each.1)
+  handlings_isolated : (old : State) (handlings : List Handling) (new : State) → EachHandling (IsHandling settings) old handlings new → IsIsolated settings old handlings new domain
+  handlings_isolated old [] new is = record { requests = []; are = (refl, is); make = ap (λ (state : State). alone domain state.history) is }
+  handlings_isolated old (handling ∷ handlings) new each =
+      isolated_then old handling each.0 handlings new each.1 (handlings_isolated each.0 handlings new each.2) (one_handling_isolated settings domain old handling each.0 each.1)
 
 pub run_isolated : (settings : SettingsValue) (domain : ℕ) (from : State) (acts : List Timed) (trace : List State) (new : State) → Trace (Step settings) (resting from) acts trace (resting new)
-    → IsIsolated settings from (turns_of acts) new domain
-run_isolated settings domain from acts trace new run = turns_isolated settings domain from (turns_of acts) new (by_turns settings (resting from) acts trace new run)
+    → IsIsolated settings from (handlings_of acts) new domain
+run_isolated settings domain from acts trace new run = handlings_isolated settings domain from (handlings_of acts) new (by_handlings settings (resting from) acts trace new run)

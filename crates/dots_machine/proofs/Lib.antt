@@ -6,7 +6,7 @@ pub mod OneState
 pub mod RepeatAnswers
 pub mod Outcomes
 pub mod Verdicts
-pub mod Turns
+pub mod Handlings
 pub mod Adding
 pub mod Isolation
 pub mod Meeting

@@ -16,7 +16,7 @@ use Rattle.dots_history.specs.Entries.{same_client, some_prefix, targets_meet, s
 use Rattle.dots_laws.proofs.Members.{In, any_of}
 use Rattle.conflict_rules.specs.Asking.{same_prefix, same_ports, all_among, same_set, asks_the_same, would_refresh}
 use Rattle.conflict_rules.specs.ByOverlap.{resolved, rivals}
-use Rattle.dots_registry.proofs.Places.{in_any}
+use Rattle.conflict_rules.proofs.LivePlaces.{in_any}
 
 -- ---- tests over two lists
 or_middle : (a b c d : Bool) → (a || b) || (c || d) ≡ (a || c) || (b || d)

@@ -12,13 +12,12 @@ use Rattle.coap_message.specs.Message.{CoapMessage, header, options_bytes, paylo
 use Rattle.dots_keys.proofs.OneMeaning.{OneReading}
 use Rattle.dots_settings.specs.Settings.{SettingsValue}
 use Rattle.dots_machine.specs.declared.received.Received.{Received}
-use Rattle.dots_machine.specs.declared.verdict.Verdict.{Verdict}
+use Rattle.dots_machine.specs.Verdict.{Verdict}
 use Rattle.dots_settings.specs.Lookups.{role_of}
 use Rattle.dots_machine.specs.Domains.{is_gateway}
 use Rattle.dots_machine.specs.Requests.{IsReceived}
-use Rattle.dots_machine.specs.Machine.{State, later, restarted, is_stranger, LacksMemory, Decides, by_silence, by_rules, for_want_of_memory, sends_of, after, Answers, Step}
+use Rattle.dots_machine.specs.Machine.{State, later, restarted, is_stranger, LacksMemory, Decides, by_silence, by_rules, for_want_of_memory, sends_of, after, Answers, Step, facts_in, rules_say}
 use Rattle.dots_machine.specs.Answering.{AreBytes, IsHandedIn, SaysUnavailable, IsUnavailable}
-use Rattle.dots_machine.specs.Verdicts.{verdict_on}
 use Rattle.dots_machine.proofs.OneRequest.{one_received}
 use Rattle.dots_machine.proofs.Verdicts.{valued}
 
@@ -71,7 +70,7 @@ module _ (settings : SettingsValue) (state : State) (peer : ℕ) (datagram : Lis
   one_verdict v w (by_silence n is) (by_rules m got received at) = absurd (true_false (is_stranger (role_of settings peer)) n m)
   one_verdict v w (by_rules n got received is) (by_silence m at) = absurd (true_false (is_stranger (role_of settings peer)) m n)
   one_verdict v w (by_rules n got received is) (by_rules m other also at) =
-      inl (valued settings state peer got v is ∙ ap (verdict_on settings state peer) (one_thing got other received also)
+      inl (valued settings state peer got v is ∙ ap (rules_say settings (facts_in settings state) peer) (one_thing got other received also)
       ∙ sym (valued settings state peer other w at))
 
   pub says : (v : Verdict) (sends : List OwnedOut) → sends ≡ sends_of v peer → LacksMemory datagram gateway v → SaysUnavailable peer datagram sends
@@ -108,4 +107,4 @@ one_answer settings old (event.Opened c p) at owed others new last are a b = res
 one_answer settings old (event.Piece c p) at owed others new last are a b = rests owed others new last (later old at) a b
 one_answer settings old (event.Closed c) at owed others new last are a b = rests owed others new last (later old at) a b
 one_answer settings old event.Tick at owed others new last are a b = rests owed others new last (later old at) a b
-one_answer settings old event.Restart at owed others new last are a b = rests owed others new last (restarted old at) a b
+one_answer settings old event.Restart at owed others new last are a b = rests owed others new last (restarted settings old at) a b

@@ -10,13 +10,12 @@ use Rattle.dots_host.specs.Runs.{resting, outs_of, Trace}
 use Rattle.dots_host.proofs.RunLemmas.{one_run, one_turn}
 use Rattle.dots_settings.specs.Settings.{SettingsValue}
 use Rattle.dots_settings.specs.Lookups.{role_of}
-use Rattle.dots_machine.specs.declared.verdict.Verdict.{Verdict}
+use Rattle.dots_machine.specs.Verdict.{Verdict}
 use Rattle.dots_machine.specs.declared.verdict.Verdict.TheVariants as verdict
 use Rattle.dots_machine.specs.Domains.{is_gateway}
 use Rattle.dots_machine.specs.Exchanges.{exchange_in}
 use Rattle.dots_machine.specs.Replies.{unavailable}
-use Rattle.dots_machine.specs.Machine.{State, later, Decides, by_silence, by_rules, for_want_of_memory, sends_of, after, Answers, Step}
-use Rattle.dots_machine.specs.Verdicts.{verdict_on}
+use Rattle.dots_machine.specs.Machine.{State, later, Decides, by_silence, by_rules, for_want_of_memory, sends_of, after, Answers, Step, facts_in, rules_say}
 use Rattle.dots_machine.proofs.Verdicts.{valued}
 use Rattle.dots_machine.proofs.OneRequest.{Same, one, first_refused, second_refused, same_received}
 use Rattle.dots_machine.proofs.Outcomes.{code_of, is_success, IsAccept, IsRefusal, SucceedsWell, reject_refuses, succeeds}
@@ -46,9 +45,9 @@ module _ (settings : SettingsValue) (state : State) (peer : ℕ) (datagram : Lis
   accepts_well : (v : Verdict) → Decides settings state peer datagram v → IsAccept v → SendsSuccess (sends_of v peer)
   accepts_well v (by_silence n is) a = absurd (subst IsAccept is a)
   accepts_well v (for_want_of_memory n lacks) a = absurd (subst IsAccept lacks.answer a)
-  accepts_well v (by_rules n got received is) a = told v a (subst (SucceedsWell settings state) (sym (valued settings state peer got v is)) (succeeds settings state peer got))
+  accepts_well v (by_rules n got received is) a = told v a (subst (SucceedsWell settings (facts_in settings state)) (sym (valued settings state peer got v is)) (succeeds settings (facts_in settings state) peer got))
     where
-      told : (v : Verdict) → IsAccept v → SucceedsWell settings state v → SendsSuccess (sends_of v peer)
+      told : (v : Verdict) → IsAccept v → SucceedsWell settings (facts_in settings state) v → SendsSuccess (sends_of v peer)
       told (verdict.Accept reply entry) a well = well
       told verdict.Silent a well = absurd a
       told (verdict.Reply reply) a well = absurd a
@@ -64,18 +63,18 @@ module _ (settings : SettingsValue) (state : State) (peer : ℕ) (datagram : Lis
       absurd (refusal_sends (verdict.Reply (unavailable (exchange_in lacks.message))) peer refl (subst (λ w. SendsSuccess (sends_of w peer)) lacks.answer (subst SendsSuccess same (accepts_well v (by_rules n got received is) a))))
   one_accept v w (by_rules n got received is) (by_rules m other also at) same a = both (same_received datagram gateway got other received also)
     where
-      first : v ≡ verdict_on settings state peer got
+      first : v ≡ rules_say settings (facts_in settings state) peer got
       first = valued settings state peer got v is
 
-      second : w ≡ verdict_on settings state peer other
+      second : w ≡ rules_say settings (facts_in settings state) peer other
       second = valued settings state peer other w at
 
       both : Same got other → v ≡ w
-      both (one eq) = first ∙ ap (verdict_on settings state peer) eq ∙ sym second
+      both (one eq) = first ∙ ap (rules_say settings (facts_in settings state) peer) eq ∙ sym second
       both (first_refused message e refused) =
-          absurd (refusal_is_no_accept v (subst IsRefusal (sym (first ∙ ap (verdict_on settings state peer) refused)) (reject_refuses _ e)) a)
+          absurd (refusal_is_no_accept v (subst IsRefusal (sym (first ∙ ap (rules_say settings (facts_in settings state) peer) refused)) (reject_refuses _ e)) a)
       both (second_refused message e refused) =
-          absurd (refusal_sends w peer (subst IsRefusal (sym (second ∙ ap (verdict_on settings state peer) refused)) (reject_refuses _ e)) (subst SendsSuccess same (accepts_well v (by_rules n got received is) a)))
+          absurd (refusal_sends w peer (subst IsRefusal (sym (second ∙ ap (rules_say settings (facts_in settings state) peer) refused)) (reject_refuses _ e)) (subst SendsSuccess same (accepts_well v (by_rules n got received is) a)))
 
   -- what changes nothing leaves the state
   by_verdicts : (v w : Verdict) → Decides settings state peer datagram v → Decides settings state peer datagram w → sends_of v peer ≡ sends_of w peer → after v state ≡ after w state

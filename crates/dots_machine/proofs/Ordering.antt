@@ -1,5 +1,5 @@
 -- A run keeps the mitigations that stand apart.
-use Rattle.std.proofs.Common.{◌≡◌, ◌⊎◌, inl, inr, ℕ, List, [], ◌∷◌, ◌++◌, Option, Some, None, Result, Ok, Err, refl, sym, ◌∙◌, subst, arith}
+use Rattle.std.proofs.Common.{◌≡◌, ◌⊎◌, inl, inr, ℕ, Bool, true, false, List, [], ◌∷◌, ◌++◌, Option, Some, None, Result, Ok, Err, refl, sym, ◌∙◌, subst, arith}
 use Rattle.std.proofs.lemmas.Option.{none-some}
 use Rattle.coap_message.specs.declared.kind.Kind.{Kind}
 use Rattle.coap_message.specs.declared.kind.Kind.TheVariants.{Con, Non, Ack, Rst}
@@ -20,11 +20,11 @@ use Rattle.dots_heads.specs.declared.reject.Reject.TheVariants as reject
 use Rattle.dots_heads.specs.declared.request.Content.{Content}
 use Rattle.dots_keys.specs.declared.request.Request.{Request}
 use Rattle.dots_keys.specs.declared.request.Request.TheVariants as request
-use Rattle.live_mitigations.specs.LiveViews.{LiveView}
+use Rattle.conflict_rules.specs.LiveViews.{LiveView}
 use Rattle.conflict_rules.specs.declared.fault.PutFault.{PutFault}
 use Rattle.conflict_rules.specs.declared.fault.PutFault.TheVariants as faults
 use Rattle.conflict_rules.specs.declared.judging.Judged.{Judged}
-use Rattle.dots_registry.specs.Judgements.{IsJudged}
+use Rattle.conflict_rules.specs.Judgements.{IsJudged}
 use Rattle.dots_machine.specs.declared.target.TargetFault.{TargetFault}
 use Rattle.dots_machine.specs.declared.exchange.Exchange.{Exchange}
 use Rattle.dots_machine.specs.declared.dismissal.Dismissal.{Dismissal}
@@ -33,18 +33,21 @@ use Rattle.dots_machine.specs.declared.received.Received.{Received}
 use Rattle.dots_machine.specs.declared.received.Received.TheVariants as received
 use Rattle.dots_machine.specs.declared.client_request.ClientRequest.{ClientRequest}
 use Rattle.dots_machine.specs.declared.mitigation_request.MitigationRequest.{MitigationRequest}
-use Rattle.dots_machine.specs.declared.verdict.Verdict.{Verdict}
+use Rattle.dots_machine.specs.Verdict.{Verdict}
 use Rattle.dots_machine.specs.declared.verdict.Verdict.TheVariants as verdict
 use Rattle.dots_machine.specs.Domains.{domain_for, session_domain}
 use Rattle.dots_machine.specs.Targets.{scope_fault}
 use Rattle.dots_machine.specs.Replies.{not_implemented}
-use Rattle.dots_machine.specs.MessageRepeats.{Sent, sent_for, UnlessRepeated, repeats, is_new}
-use Rattle.dots_machine.specs.Mitigations.{entry_of, sent_by, request_of, refusal, judged, UnlessFaulty, client_for, ByRules, DecidesPut, DecidesDelete, name_taken, withdraws, gone, get_reply, DecidesGet, name_in_use, replies}
-use Rattle.dots_machine.specs.Machine.{State, later, restarted, with_entry, asks_for, InDomain, WithMid, PutIn, PutFor, DeleteIn, DeleteFor, GetFor, ConfigFor, DecidesRequest, option_verdict, reject_verdict, dismissal_verdict, Rules, Decides, by_silence, by_rules, for_want_of_memory, after, Step}
+use Rattle.dots_machine.specs.MessageRepeats.{sent_for, unless_repeated}
+use Rattle.dots_machine.specs.Mitigations.{entry_of, sent_by, request_of, refusal, judged, client_for, get_reply, unless_faulty, put_answer, is_taken, delete_by, delete_answer, get_by, get_answer}
+use Rattle.dots_machine.specs.Machine.{State, afresh, later, restarted, with_entry, option_verdict, reject_verdict, dismissal_verdict, Decides, by_silence, by_rules, for_want_of_memory, after, Step, facts_in, rules_say}
 use Rattle.dots_machine.specs.Orderly.{ShareNone, HigherStays, IsOrderly}
-use Rattle.dots_machine.specs.Turns.{Turn, IsTurn, EachTurn, turns_of}
+use Rattle.dots_machine.specs.Handlings.{Handling, IsHandling, EachHandling, handlings_of}
+use Rattle.dots_machine.specs.Facts.{Facts}
+use Rattle.dots_machine.specs.Deciding.{in_domain, with_mid, put_in, put_for, delete_in, delete_for, get_for, config_for, answer_to, asks_for}
+use Rattle.dots_machine.proofs.Verdicts.{are_facts, valued}
 use Rattle.dots_machine.proofs.Orderly.{share_later, share_without, share_with, higher_more, higher_with}
-use Rattle.dots_machine.proofs.Turns.{by_turns}
+use Rattle.dots_machine.proofs.Handlings.{by_handlings}
 
 module _ (settings : SettingsValue) (state : State) where
   -- a mitigation was granted by the rules, or one was withdrawn
@@ -71,67 +74,75 @@ module _ (settings : SettingsValue) (state : State) where
   of_refusal x mid (faults.Capacity which number) = tt
   of_refusal x mid faults.NoMemory = tt
 
+  abbrev known : Facts
+  known = facts_in settings state
+
   of_judged : (a : MitigationRequest) (r : Result Judged PutFault) → IsJudged settings state.time state.history (client_for a.from) (request_of a) r → AcceptsAs (judged state.time a r)
   of_judged a (Ok given) is = inl (a, given, _, is, refl)
   of_judged a (Err fault) is = of_refusal a.from.exchange a.mid fault
 
-  of_repeat : (sent : Sent) (P : Verdict → Type 0) (v : Verdict) → (P v → AcceptsAs v) → UnlessRepeated settings state.time state.history sent P v → AcceptsAs v
-  of_repeat sent P v otherwise (repeats entry is same) = subst AcceptsAs (sym same) tt
-  of_repeat sent P v otherwise (is_new never p) = otherwise p
+  of_repeat : (entry : Option Entry) (v : Verdict) → AcceptsAs v → AcceptsAs (unless_repeated entry v)
+  of_repeat (Some entry) v otherwise = tt
+  of_repeat None v otherwise = otherwise
 
-  of_put : (a : MitigationRequest) (v : Verdict) → DecidesPut settings state.time state.history a v → AcceptsAs v
-  of_put a v is = by_fault (scope_fault settings (prefixes_of settings a.from.domain) a.body.asked) is
+  of_fault : (x : Exchange) (fault : Option TargetFault) (v : Verdict) → AcceptsAs v → AcceptsAs (unless_faulty x fault v)
+  of_fault x (Some fault) v otherwise = tt
+  of_fault x None v otherwise = otherwise
+
+  of_put : (a : MitigationRequest) → AcceptsAs (put_answer settings known a)
+  of_put a =
+      of_fault a.from.exchange (scope_fault settings (prefixes_of settings a.from.domain) a.body.asked) _
+      (of_repeat (known.repeated (sent_by a.from)) _
+      (of_judged a (known.judged a.from.domain (request_of a)) ((are_facts settings state.time state.history).judged a.from.domain (request_of a))))
+
+  of_delete : (from : ClientRequest) (mid : ℕ) → AcceptsAs (delete_answer known from mid)
+  of_delete from mid = by_test (is_taken known from) (known.stands (client_for from) mid)
     where
-      by_rules_alone : ByRules settings state.time state.history a v → AcceptsAs v
-      by_rules_alone by = subst AcceptsAs (sym by.2) (of_judged a by.0 by.1)
-
-      by_fault : (fault : Option TargetFault)
-          → UnlessFaulty a.from.exchange fault (UnlessRepeated settings state.time state.history (sent_by a.from) (ByRules settings state.time state.history a)) v → AcceptsAs v
-      by_fault (Some fault) is = subst AcceptsAs (sym is) tt
-      by_fault None by = of_repeat (sent_by a.from) (ByRules settings state.time state.history a) v by_rules_alone by
-
-  of_delete : (from : ClientRequest) (mid : ℕ) (v : Verdict) → DecidesDelete state.time state.history from mid v → AcceptsAs v
-  of_delete from mid v (name_taken in_use is) = subst AcceptsAs (sym is) tt
-  of_delete from mid v (withdraws put free has is) = subst AcceptsAs (sym is) (inr (from, mid, _, refl))
-  of_delete from mid v (gone free none is) = subst AcceptsAs (sym is) tt
+      by_test : (taken stands : Bool) → AcceptsAs (delete_by state.time from mid taken stands)
+      by_test true stands = tt
+      by_test false true = inr (from, mid, _, refl)
+      by_test false false = tt
 
   of_tell : (x : Exchange) (content : Content) (ms : List LiveView) → AcceptsAs (get_reply x content ms)
   of_tell x content [] = tt
   of_tell x content (m ∷ ms) = tt
 
-  of_get : (from : ClientRequest) (mid : Option ℕ) (content : Content) (v : Verdict) → DecidesGet state.time state.history from mid content v → AcceptsAs v
-  of_get from mid content v (name_in_use in_use is) = subst AcceptsAs (sym is) tt
-  of_get from mid content v (replies free is) = subst AcceptsAs (sym is) (of_tell from.exchange content _)
+  of_get : (from : ClientRequest) (mid : Option ℕ) (content : Content) → AcceptsAs (get_answer known from mid content)
+  of_get from mid content = by_test (is_taken known from)
+    where
+      by_test : (taken : Bool) → AcceptsAs (get_by from.exchange mid content taken (known.views (client_for from)))
+      by_test true = tt
+      by_test false = of_tell from.exchange content _
 
-  of_domain : (x : Exchange) (found : Option ℕ) (P : ℕ → Verdict → Type 0) (v : Verdict) → ((d : ℕ) → P d v → AcceptsAs v) → InDomain x found P v → AcceptsAs v
-  of_domain x None P v each is = subst AcceptsAs (sym is) tt
-  of_domain x (Some d) P v each is = each d is
+  of_domain : (x : Exchange) (found : Option ℕ) (f : ℕ → Verdict) → ((d : ℕ) → AcceptsAs (f d)) → AcceptsAs (in_domain x found f)
+  of_domain x None f each = tt
+  of_domain x (Some d) f each = each d
 
-  of_mid : (x : Exchange) (mid : Option ℕ) (P : ℕ → Verdict → Type 0) (v : Verdict) → ((m : ℕ) → P m v → AcceptsAs v) → WithMid x mid P v → AcceptsAs v
-  of_mid x None P v each is = subst AcceptsAs (sym is) tt
-  of_mid x (Some m) P v each is = each m is
+  of_mid : (x : Exchange) (mid : Option ℕ) (f : ℕ → Verdict) → ((m : ℕ) → AcceptsAs (f m)) → AcceptsAs (with_mid x mid f)
+  of_mid x None f each = tt
+  of_mid x (Some m) f each = each m
 
   module _ (peer : ℕ) where
-    of_config : (x : Exchange) (v : Verdict) → InDomain x (session_domain (role_of settings peer)) (ConfigFor settings state peer x) v → AcceptsAs v
-    of_config x v is =
-        of_domain x (session_domain (role_of settings peer)) (ConfigFor settings state peer x) v
-        (λ d. of_repeat (sent_for peer x d) (λ v. v ≡ verdict.Reply (not_implemented x)) v (λ same. subst AcceptsAs (sym same) tt)) is
+    of_config : (x : Exchange) → AcceptsAs (in_domain x (session_domain (role_of settings peer)) (config_for known peer x))
+    of_config x =
+        of_domain x (session_domain (role_of settings peer)) (config_for known peer x)
+        (λ d. of_repeat (known.repeated (sent_for peer x d)) (verdict.Reply (not_implemented x)) tt)
 
-    of_request : (x : Exchange) (r : Request) (v : Verdict) → DecidesRequest settings state peer x r v → AcceptsAs v
-    of_request x (request.PutMitigation path body) v is =
-        of_domain x (domain_for settings (role_of settings peer) path.cdid) (PutFor settings state peer x path body) v
-        (λ d. of_mid x path.mid (PutIn settings state (asks_for peer x path d) body) v (λ mid. of_put (record { from = asks_for peer x path d; mid = mid; body = body }) v)) is
-    of_request x (request.GetMitigation path content observe) v is =
-        of_domain x (domain_for settings (role_of settings peer) path.cdid) (GetFor state peer x path content) v (λ d. of_get (asks_for peer x path d) path.mid content v) is
-    of_request x (request.DeleteMitigation path) v is =
-        of_domain x (domain_for settings (role_of settings peer) path.cdid) (DeleteFor settings state peer x path) v
+    of_request : (x : Exchange) (r : Request) → AcceptsAs (answer_to settings known peer x r)
+    of_request x (request.PutMitigation path body) =
+        of_domain x (domain_for settings (role_of settings peer) path.cdid) (put_for settings known peer x path body)
+        (λ d. of_mid x path.mid (put_in settings known (asks_for peer x path d) body) (λ mid. of_put (record { from = asks_for peer x path d; mid = mid; body = body })))
+    of_request x (request.GetMitigation path content observe) =
+        of_domain x (domain_for settings (role_of settings peer) path.cdid) (get_for known peer x path content) (λ d. of_get (asks_for peer x path d) path.mid content)
+    of_request x (request.DeleteMitigation path) =
+        of_domain x (domain_for settings (role_of settings peer) path.cdid) (delete_for known peer x path)
         (λ d.
-        of_mid x path.mid (DeleteIn settings state (asks_for peer x path d)) v
-        (λ mid. of_repeat (sent_by (asks_for peer x path d)) (DecidesDelete state.time state.history (asks_for peer x path d) mid) v (of_delete (asks_for peer x path d) mid v))) is
-    of_request x (request.PutConfig sid body) v is = of_config x v is
-    of_request x (request.GetConfig sid) v is = subst AcceptsAs (sym is) tt
-    of_request x (request.DeleteConfig sid) v is = of_config x v is
-    of_request x (request.PutHeartbeat heard) v is = subst AcceptsAs (sym is) tt
+        of_mid x path.mid (delete_in known (asks_for peer x path d))
+        (λ mid. of_repeat (known.repeated (sent_by (asks_for peer x path d))) (delete_answer known (asks_for peer x path d) mid) (of_delete (asks_for peer x path d) mid)))
+    of_request x (request.PutConfig sid body) = of_config x
+    of_request x (request.GetConfig sid) = tt
+    of_request x (request.DeleteConfig sid) = of_config x
+    of_request x (request.PutHeartbeat heard) = tt
 
     of_option : (kind : Kind) (reply : List ℕ) → AcceptsAs (option_verdict kind reply)
     of_option Con reply = tt
@@ -155,15 +166,15 @@ module _ (settings : SettingsValue) (state : State) where
     of_dismissal dismissal.Ignored = tt
     of_dismissal (dismissal.Reset id) = tt
 
-    of_received : (got : Received) (v : Verdict) → Rules settings state peer got v → AcceptsAs v
-    of_received (received.Dismissed d) v is = subst AcceptsAs (sym is) (of_dismissal d)
-    of_received (received.Refused x e) v is = subst AcceptsAs (sym is) (of_reject x e)
-    of_received (received.Asked x r) v is = of_request x r v is
+    of_received : (got : Received) → AcceptsAs (rules_say settings known peer got)
+    of_received (received.Dismissed d) = of_dismissal d
+    of_received (received.Refused x e) = of_reject x e
+    of_received (received.Asked x r) = of_request x r
 
     accepts_as : (datagram : List ℕ) (v : Verdict) → Decides settings state peer datagram v → AcceptsAs v
     accepts_as datagram v (by_silence n is) = subst AcceptsAs (sym is) tt
     accepts_as datagram v (for_want_of_memory n lacks) = subst AcceptsAs (sym lacks.answer) tt
-    accepts_as datagram v (by_rules n got received rules) = of_received got v rules
+    accepts_as datagram v (by_rules n got received rules) = subst AcceptsAs (sym (valued settings state peer got v rules)) (of_received got)
 
   -- ---- what is accepted keeps them apart
   -- an entry of the state's time was added, and they share none then
@@ -204,8 +215,8 @@ module _ (settings : SettingsValue) (state : State) where
 later_orderly : (state : State) (at : ℕ) → IsOrderly state → IsOrderly (later state at)
 later_orderly state at orderly = record { timely = omega (arith, orderly.timely); share_none = orderly.share_none; higher_stays = orderly.higher_stays }
 
-restarted_orderly : (state : State) (at : ℕ) → IsOrderly state → IsOrderly (restarted state at)
-restarted_orderly state at orderly = record { timely = omega arith; share_none = orderly.share_none; higher_stays = orderly.higher_stays }
+restarted_orderly : (settings : SettingsValue) (state : State) (at : ℕ) → IsOrderly state → IsOrderly (restarted settings state at)
+restarted_orderly settings state at orderly = record { timely = omega arith; share_none = orderly.share_none; higher_stays = orderly.higher_stays }
 
 pub step_orderly : (settings : SettingsValue) (old : State) (event : Event) (at : ℕ) (owed : List (State × OwnedOut)) (new : State) → IsOrderly old → Step settings old event at owed new → IsOrderly new
 step_orderly settings old (event.Datagram peer datagram) at owed new orderly step =
@@ -217,18 +228,18 @@ step_orderly settings old (event.Opened c p) at owed new orderly step = subst Is
 step_orderly settings old (event.Piece c p) at owed new orderly step = subst IsOrderly (sym step.1) (later_orderly old at orderly)
 step_orderly settings old (event.Closed c) at owed new orderly step = subst IsOrderly (sym step.1) (later_orderly old at orderly)
 step_orderly settings old event.Tick at owed new orderly step = subst IsOrderly (sym step.1) (later_orderly old at orderly)
-step_orderly settings old event.Restart at owed new orderly step = subst IsOrderly (sym step.1) (restarted_orderly old at orderly)
+step_orderly settings old event.Restart at owed new orderly step = subst IsOrderly (sym step.1) (restarted_orderly settings old at orderly)
 
-turns_orderly : (settings : SettingsValue) (old : State) (turns : List Turn) (new : State) → IsOrderly old → EachTurn (IsTurn settings) old turns new → IsOrderly new
-turns_orderly settings old [] new orderly is = subst IsOrderly (sym is) orderly
-turns_orderly settings old (turn ∷ turns) new orderly each =
-    turns_orderly settings each.0 turns new (step_orderly settings old turn.what turn.at each.1.owed each.0 orderly each.1.step) each.2
+handlings_orderly : (settings : SettingsValue) (old : State) (handlings : List Handling) (new : State) → IsOrderly old → EachHandling (IsHandling settings) old handlings new → IsOrderly new
+handlings_orderly settings old [] new orderly is = subst IsOrderly (sym is) orderly
+handlings_orderly settings old (handling ∷ handlings) new orderly each =
+    handlings_orderly settings each.0 handlings new (step_orderly settings old handling.what handling.at each.1.owed each.0 orderly each.1.step) each.2
 
 pub run_orderly : (settings : SettingsValue) (from : State) (acts : List Timed) (trace : List State) (new : State) → IsOrderly from → Trace (Step settings) (resting from) acts trace (resting new) → IsOrderly new
-run_orderly settings from acts trace new orderly run = turns_orderly settings from (turns_of acts) new orderly (by_turns settings (resting from) acts trace new run)
+run_orderly settings from acts trace new orderly run = handlings_orderly settings from (handlings_of acts) new orderly (by_handlings settings (resting from) acts trace new run)
 
-pub begun_orderly : (t : ℕ) → IsOrderly (record { history = []; time = t })
-begun_orderly t = record {
+pub begun_orderly : (settings : SettingsValue) (t : ℕ) → IsOrderly (afresh settings [] t)
+begun_orderly settings t = record {
   timely = omega arith;
   share_none = λ u less domain i j a b one put apart sa sb alike. absurd (none-some a sa.stands.there);
   higher_stays = λ domain i j a b one put less found puts st ended. absurd (none-some b found);

@@ -16,13 +16,13 @@ use Rattle.dots_laws.proofs.Lasting.{runs_no_more}
 use Rattle.dots_laws.proofs.Members.{In}
 use Rattle.conflict_rules.specs.ByOverlap.{resolved, rivals}
 use Rattle.conflict_rules.specs.Wanted.{wanted}
-use Rattle.live_mitigations.specs.Judging.{put_or_nothing}
+use Rattle.conflict_rules.specs.Lives.{put_or_nothing}
 use Rattle.conflict_rules.specs.declared.fault.PutFault.{PutFault}
 use Rattle.conflict_rules.specs.declared.judging.Judged.{Judged}
 use Rattle.conflict_rules.specs.Requests.{Request}
 use Rattle.conflict_rules.specs.Judging.{refreshed, begun}
-use Rattle.dots_registry.specs.Judgements.{StandsIn, Meets, Those, IsJudged, collision, refreshes, changes, unknown, too_many, higher, other, client_full, domain_full, begins}
-use Rattle.dots_registry.proofs.Places.{in_any}
+use Rattle.conflict_rules.specs.Judgements.{StandsIn, Meets, Those, IsJudged, collision, refreshes, changes, unknown, too_many, higher, other, client_full, domain_full, begins}
+use Rattle.conflict_rules.proofs.LivePlaces.{in_any}
 use Rattle.dots_machine.specs.Orderly.{ShareNone, HigherStays}
 use Rattle.dots_machine.proofs.Meeting.{some_resolved, meet_sym, meet_by, same_targets, apart_by_overlap, apart_by_rivals, rivals_sym, rivals_again, same_rivals, ends_so, unended_so}
 

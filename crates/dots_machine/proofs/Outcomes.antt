@@ -1,6 +1,5 @@
 -- Of what is accepted the client is told with a success, 2.01, 2.02 or 2.04; of what is refused, or can't be served, never.
 use Rattle.std.proofs.Common.{◌≡◌, ℕ, ◌==◌, Bool, true, false, ◌||◌, List, [], ◌∷◌, Option, Some, None, Result, Ok, Err, refl, sym, subst}
-use Rattle.std.specs.List.{list_any}
 use Rattle.coap_message.specs.declared.kind.Kind.{Kind}
 use Rattle.coap_message.specs.declared.kind.Kind.TheVariants.{Con, Non, Ack, Rst}
 use Rattle.dots_settings.specs.Settings.{SettingsValue}
@@ -13,11 +12,10 @@ use Rattle.dots_heads.specs.declared.request.MitigationPath.{MitigationPath}
 use Rattle.dots_keys.specs.declared.request.Request.{Request}
 use Rattle.dots_keys.specs.declared.request.Request.TheVariants as request
 use Rattle.dots_keys.specs.declared.request.MitigationBody.{MitigationBody}
-use Rattle.live_mitigations.specs.LiveViews.{LiveView}
+use Rattle.conflict_rules.specs.LiveViews.{LiveView}
 use Rattle.conflict_rules.specs.declared.fault.PutFault.{PutFault}
 use Rattle.conflict_rules.specs.declared.fault.PutFault.TheVariants as faults
 use Rattle.conflict_rules.specs.declared.judging.Judged.{Judged}
-use Rattle.dots_registry.specs.Judging.{judge_request}
 use Rattle.dots_machine.specs.declared.target.TargetFault.{TargetFault}
 use Rattle.dots_machine.specs.declared.exchange.Exchange.{Exchange}
 use Rattle.dots_machine.specs.declared.dismissal.Dismissal.{Dismissal}
@@ -26,16 +24,17 @@ use Rattle.dots_machine.specs.declared.received.Received.{Received}
 use Rattle.dots_machine.specs.declared.received.Received.TheVariants as received
 use Rattle.dots_machine.specs.declared.client_request.ClientRequest.{ClientRequest}
 use Rattle.dots_machine.specs.declared.mitigation_request.MitigationRequest.{MitigationRequest}
-use Rattle.dots_machine.specs.declared.verdict.Verdict.{Verdict}
+use Rattle.dots_machine.specs.Verdict.{Verdict}
 use Rattle.dots_machine.specs.declared.verdict.Verdict.TheVariants as verdict
 use Rattle.dots_machine.specs.Domains.{domain_for, session_domain}
 use Rattle.dots_machine.specs.Targets.{scope_fault}
 use Rattle.dots_machine.specs.Replies.{grant_code, rejection, not_implemented}
-use Rattle.dots_machine.specs.MessageRepeats.{sent_for}
-use Rattle.dots_machine.specs.Mitigations.{sent_by, request_of, refusal, judged, lives, get_reply}
-use Rattle.dots_machine.specs.Machine.{State, asks_for, option_verdict, reject_verdict, dismissal_verdict}
+use Rattle.dots_machine.specs.MessageRepeats.{sent_for, unless_repeated}
+use Rattle.dots_machine.specs.Mitigations.{sent_by, request_of, refusal, judged, get_reply, unless_faulty, put_answer, is_taken, delete_by, delete_answer, get_by, get_answer, client_for}
+use Rattle.dots_machine.specs.Machine.{option_verdict, reject_verdict, dismissal_verdict, rules_say}
 use Rattle.dots_machine.specs.Apart.{domain_of}
-use Rattle.dots_machine.specs.Verdicts.{repeated, unless_repeated, unless_faulty, put_verdict, is_taken, stands_as, delete_by, delete_verdict, get_by, get_verdict, in_domain, with_mid, put_in, put_for, delete_in, delete_for, get_for, config_for, asked_verdict, verdict_on}
+use Rattle.dots_machine.specs.Facts.{Facts}
+use Rattle.dots_machine.specs.Deciding.{in_domain, with_mid, put_in, put_for, delete_in, delete_for, get_for, config_for, answer_to, asks_for}
 
 abbrev pub code_of : List ℕ → ℕ
 code_of (first ∷ code ∷ bytes) = code
@@ -92,8 +91,8 @@ grant_succeeds : (refreshed : Bool) → is_success (grant_code refreshed) ≡ tr
 grant_succeeds true = refl
 grant_succeeds false = refl
 
-module _ (settings : SettingsValue) (state : State) where
-  judged_accepts : (a : MitigationRequest) (r : Result Judged PutFault) → AcceptsWell a.from.domain (judged state.time a r)
+module _ (settings : SettingsValue) (facts : Facts) where
+  judged_accepts : (a : MitigationRequest) (r : Result Judged PutFault) → AcceptsWell a.from.domain (judged facts.time a r)
   judged_accepts a (Ok j) = (grant_succeeds j.refreshed, refl)
   judged_accepts a (Err fault) = refusal_accepts a.from.exchange a.mid a.from.domain fault
 
@@ -106,16 +105,16 @@ module _ (settings : SettingsValue) (state : State) where
   unless_accepts x domain (Some fault) v well = tt
   unless_accepts x domain None v well = well
 
-  put_accepts : (a : MitigationRequest) → AcceptsWell a.from.domain (put_verdict settings state.time state.history a)
+  put_accepts : (a : MitigationRequest) → AcceptsWell a.from.domain (put_answer settings facts a)
   put_accepts a =
       unless_accepts a.from.exchange a.from.domain (scope_fault settings (prefixes_of settings a.from.domain) a.body.asked) _
-      (repeat_accepts a.from.domain (repeated settings state.time state.history (sent_by a.from)) _
-      (judged_accepts a (judge_request settings state.time state.history a.from.domain (request_of a))))
+      (repeat_accepts a.from.domain (facts.repeated (sent_by a.from)) _
+      (judged_accepts a (facts.judged a.from.domain (request_of a))))
 
-  delete_accepts : (from : ClientRequest) (mid : ℕ) → AcceptsWell from.domain (delete_verdict state.time state.history from mid)
-  delete_accepts from mid = by_test (is_taken state.time state.history from) (list_any (stands_as mid) (lives state.time state.history from))
+  delete_accepts : (from : ClientRequest) (mid : ℕ) → AcceptsWell from.domain (delete_answer facts from mid)
+  delete_accepts from mid = by_test (is_taken facts from) (facts.stands (client_for from) mid)
     where
-      by_test : (taken stands : Bool) → AcceptsWell from.domain (delete_by state.time from mid taken stands)
+      by_test : (taken stands : Bool) → AcceptsWell from.domain (delete_by facts.time from mid taken stands)
       by_test true stands = tt
       by_test false true = (refl, refl)
       by_test false false = tt
@@ -124,10 +123,10 @@ module _ (settings : SettingsValue) (state : State) where
   tell_accepts x domain content [] = tt
   tell_accepts x domain content (m ∷ ms) = tt
 
-  get_accepts : (from : ClientRequest) (mid : Option ℕ) (content : Content) → AcceptsWell from.domain (get_verdict state.time state.history from mid content)
-  get_accepts from mid content = by_test (is_taken state.time state.history from)
+  get_accepts : (from : ClientRequest) (mid : Option ℕ) (content : Content) → AcceptsWell from.domain (get_answer facts from mid content)
+  get_accepts from mid content = by_test (is_taken facts from)
     where
-      by_test : (taken : Bool) → AcceptsWell from.domain (get_by from.exchange mid content taken (lives state.time state.history from))
+      by_test : (taken : Bool) → AcceptsWell from.domain (get_by from.exchange mid content taken (facts.views (client_for from)))
       by_test true = tt
       by_test false = tell_accepts from.exchange from.domain content _
 
@@ -136,42 +135,42 @@ module _ (settings : SettingsValue) (state : State) where
   with_mid_accepts x domain (Some mid) f each = each mid
 
   module _ (peer : ℕ) (x : Exchange) where
-    pub puts_accept : (path : MitigationPath) (body : MitigationBody) (domain : ℕ) → AcceptsWell domain (put_for settings state peer x path body domain)
+    pub puts_accept : (path : MitigationPath) (body : MitigationBody) (domain : ℕ) → AcceptsWell domain (put_for settings facts peer x path body domain)
     puts_accept path body domain =
-        with_mid_accepts x domain path.mid (put_in settings state (asks_for peer x path domain) body)
+        with_mid_accepts x domain path.mid (put_in settings facts (asks_for peer x path domain) body)
         (λ mid. put_accepts (record { from = asks_for peer x path domain; mid = mid; body = body }))
 
-    pub deletes_accept : (path : MitigationPath) (domain : ℕ) → AcceptsWell domain (delete_for settings state peer x path domain)
+    pub deletes_accept : (path : MitigationPath) (domain : ℕ) → AcceptsWell domain (delete_for facts peer x path domain)
     deletes_accept path domain =
-        with_mid_accepts x domain path.mid (delete_in settings state (asks_for peer x path domain))
+        with_mid_accepts x domain path.mid (delete_in facts (asks_for peer x path domain))
         (λ mid.
-        repeat_accepts domain (repeated settings state.time state.history (sent_by (asks_for peer x path domain))) _
+        repeat_accepts domain (facts.repeated (sent_by (asks_for peer x path domain))) _
         (delete_accepts (asks_for peer x path domain) mid))
 
-    pub gets_accept : (path : MitigationPath) (content : Content) (domain : ℕ) → AcceptsWell domain (get_for state peer x path content domain)
+    pub gets_accept : (path : MitigationPath) (content : Content) (domain : ℕ) → AcceptsWell domain (get_for facts peer x path content domain)
     gets_accept path content domain = get_accepts (asks_for peer x path domain) path.mid content
 
-    pub configs_accept : (domain : ℕ) → AcceptsWell domain (config_for settings state peer x domain)
+    pub configs_accept : (domain : ℕ) → AcceptsWell domain (config_for facts peer x domain)
     configs_accept domain =
-        repeat_accepts domain (repeated settings state.time state.history (sent_for peer x domain)) (verdict.Reply (not_implemented x)) tt
+        repeat_accepts domain (facts.repeated (sent_for peer x domain)) (verdict.Reply (not_implemented x)) tt
 
   -- on a request for a domain
   in_domain_accepts : (x : Exchange) (found : Option ℕ) (domain : ℕ) (f : ℕ → Verdict) → ((d : ℕ) → AcceptsWell d (f d)) → found ≡ Some domain → AcceptsWell domain (in_domain x found f)
   in_domain_accepts x found domain f each is = subst (λ found. AcceptsWell domain (in_domain x found f)) (sym is) (each domain)
 
   pub request_accepts : (peer : ℕ) (x : Exchange) (r : Request) (domain : ℕ) → domain_of settings (role_of settings peer) r ≡ Some domain
-      → AcceptsWell domain (asked_verdict settings state peer x r)
+      → AcceptsWell domain (answer_to settings facts peer x r)
   request_accepts peer x (request.PutMitigation path body) domain found =
-      in_domain_accepts x (domain_for settings (role_of settings peer) path.cdid) domain (put_for settings state peer x path body) (puts_accept peer x path body) found
+      in_domain_accepts x (domain_for settings (role_of settings peer) path.cdid) domain (put_for settings facts peer x path body) (puts_accept peer x path body) found
   request_accepts peer x (request.GetMitigation path content observe) domain found =
-      in_domain_accepts x (domain_for settings (role_of settings peer) path.cdid) domain (get_for state peer x path content) (gets_accept peer x path content) found
+      in_domain_accepts x (domain_for settings (role_of settings peer) path.cdid) domain (get_for facts peer x path content) (gets_accept peer x path content) found
   request_accepts peer x (request.DeleteMitigation path) domain found =
-      in_domain_accepts x (domain_for settings (role_of settings peer) path.cdid) domain (delete_for settings state peer x path) (deletes_accept peer x path) found
+      in_domain_accepts x (domain_for settings (role_of settings peer) path.cdid) domain (delete_for facts peer x path) (deletes_accept peer x path) found
   request_accepts peer x (request.PutConfig sid body) domain found =
-      in_domain_accepts x (session_domain (role_of settings peer)) domain (config_for settings state peer x) (configs_accept peer x) found
+      in_domain_accepts x (session_domain (role_of settings peer)) domain (config_for facts peer x) (configs_accept peer x) found
   request_accepts peer x (request.GetConfig sid) domain found = tt
   request_accepts peer x (request.DeleteConfig sid) domain found =
-      in_domain_accepts x (session_domain (role_of settings peer)) domain (config_for settings state peer x) (configs_accept peer x) found
+      in_domain_accepts x (session_domain (role_of settings peer)) domain (config_for facts peer x) (configs_accept peer x) found
   request_accepts peer x (request.PutHeartbeat heard) domain found = tt
 
   -- where it accepts it tells a success
@@ -189,7 +188,7 @@ module _ (settings : SettingsValue) (state : State) where
   in_domain_succeeds x None f each = tt
   in_domain_succeeds x (Some d) f each = of_domain d (f d) (each d)
 
-  asked_succeeds : (peer : ℕ) (x : Exchange) (r : Request) → SucceedsWell (asked_verdict settings state peer x r)
+  asked_succeeds : (peer : ℕ) (x : Exchange) (r : Request) → SucceedsWell (answer_to settings facts peer x r)
   asked_succeeds peer x (request.PutMitigation path body) = in_domain_succeeds x (domain_for settings (role_of settings peer) path.cdid) _ (puts_accept peer x path body)
   asked_succeeds peer x (request.GetMitigation path content observe) = in_domain_succeeds x (domain_for settings (role_of settings peer) path.cdid) _ (gets_accept peer x path content)
   asked_succeeds peer x (request.DeleteMitigation path) = in_domain_succeeds x (domain_for settings (role_of settings peer) path.cdid) _ (deletes_accept peer x path)
@@ -208,7 +207,7 @@ module _ (settings : SettingsValue) (state : State) where
   dismissal_succeeds dismissal.Ignored = tt
   dismissal_succeeds (dismissal.Reset id) = tt
 
-  pub succeeds : (peer : ℕ) (got : Received) → SucceedsWell (verdict_on settings state peer got)
+  pub succeeds : (peer : ℕ) (got : Received) → SucceedsWell (rules_say settings facts peer got)
   succeeds peer (received.Dismissed d) = dismissal_succeeds d
   succeeds peer (received.Refused x e) = refusal_succeeds (reject_verdict x e) (reject_refuses x e)
   succeeds peer (received.Asked x r) = asked_succeeds peer x r

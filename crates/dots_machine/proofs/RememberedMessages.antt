@@ -19,24 +19,24 @@ use Rattle.dots_heads.specs.declared.request.MitigationPath.{MitigationPath}
 use Rattle.dots_keys.specs.declared.request.Request.{Request}
 use Rattle.dots_keys.specs.declared.request.Request.TheVariants as request
 use Rattle.dots_keys.specs.declared.request.MitigationBody.{MitigationBody}
-use Rattle.live_mitigations.specs.LiveViews.{LiveView}
+use Rattle.conflict_rules.specs.LiveViews.{LiveView}
 use Rattle.conflict_rules.specs.declared.fault.PutFault.{PutFault}
 use Rattle.conflict_rules.specs.declared.fault.PutFault.TheVariants as faults
 use Rattle.conflict_rules.specs.declared.judging.Judged.{Judged}
-use Rattle.dots_registry.specs.Judging.{judge_request}
 use Rattle.dots_machine.specs.declared.target.TargetFault.{TargetFault}
 use Rattle.dots_machine.specs.declared.exchange.Exchange.{Exchange}
 use Rattle.dots_machine.specs.declared.client_request.ClientRequest.{ClientRequest}
-use Rattle.dots_machine.specs.declared.verdict.Verdict.{Verdict}
+use Rattle.dots_machine.specs.Verdict.{Verdict}
 use Rattle.dots_machine.specs.declared.verdict.Verdict.TheVariants as verdict
 use Rattle.dots_machine.specs.Domains.{domain_for, session_domain}
 use Rattle.dots_machine.specs.Targets.{scope_fault}
-use Rattle.dots_machine.specs.MessageRepeats.{sent_for, IsRepeatOf}
+use Rattle.dots_machine.specs.MessageRepeats.{sent_for, IsRepeatOf, unless_repeated}
 use Rattle.dots_machine.specs.RepeatRule.{heard_for}
-use Rattle.dots_machine.specs.Mitigations.{key_of, entry_of, sent_by, request_of, refusal, judged, lives, get_reply}
-use Rattle.dots_machine.specs.Machine.{State, asks_for, DecidesRequest}
+use Rattle.dots_machine.specs.Mitigations.{key_of, entry_of, sent_by, request_of, refusal, judged, get_reply, unless_faulty, is_taken, delete_by, get_by, client_for}
+use Rattle.dots_machine.specs.Machine.{State, DecidesRequest, facts_in}
 use Rattle.dots_machine.specs.Apart.{domain_of}
-use Rattle.dots_machine.specs.Verdicts.{repeated, unless_repeated, unless_faulty, is_taken, stands_as, delete_by, get_by, in_domain, with_mid, put_in, put_for, delete_in, delete_for, get_for, config_for, asked_verdict}
+use Rattle.dots_machine.specs.Facts.{Facts}
+use Rattle.dots_machine.specs.Deciding.{in_domain, with_mid, put_in, put_for, delete_in, delete_for, get_for, config_for, answer_to, asks_for}
 use Rattle.dots_machine.proofs.Verdicts.{request_valued}
 
 -- ---- an entry whose message may be repeated
@@ -110,9 +110,9 @@ entry_is_repeated n t time peer x domain reply before entry later keeps early fe
 }
 
 -- ---- what is accepted is kept so
-module _ (settings : SettingsValue) (state : State) (peer : ℕ) (x : Exchange) where
+module _ (settings : SettingsValue) (facts : Facts) (peer : ℕ) (x : Exchange) where
   abbrev KeepsFor : ℕ → Verdict → Type 0
-  KeepsFor domain (verdict.Accept reply entry) = Keeps state.time peer x domain reply entry
+  KeepsFor domain (verdict.Accept reply entry) = Keeps facts.time peer x domain reply entry
   KeepsFor domain _ = Unit {0}
 
   refusal_keeps : (domain mid : ℕ) (fault : PutFault) → KeepsFor domain (refusal x mid fault)
@@ -145,46 +145,46 @@ module _ (settings : SettingsValue) (state : State) (peer : ℕ) (x : Exchange) 
     abbrev from : ClientRequest
     from = asks_for peer x path domain
 
-    entry_keeps : (reply : List ℕ) (made : Change) → is_signal made ≡ true → Keeps state.time peer x domain reply (entry_of state.time from reply made)
-    entry_keeps reply made is = record { time_is = refl; of_both = signal_of peer domain (entry_of state.time from reply made) is refl refl; key_is = refl; reply_is = refl }
+    entry_keeps : (reply : List ℕ) (made : Change) → is_signal made ≡ true → Keeps facts.time peer x domain reply (entry_of facts.time from reply made)
+    entry_keeps reply made is = record { time_is = refl; of_both = signal_of peer domain (entry_of facts.time from reply made) is refl refl; key_is = refl; reply_is = refl }
 
-    judged_keeps : (body : MitigationBody) (mid : ℕ) (r : Result Judged PutFault) → KeepsFor domain (judged state.time (record { from = from; mid = mid; body = body }) r)
+    judged_keeps : (body : MitigationBody) (mid : ℕ) (r : Result Judged PutFault) → KeepsFor domain (judged facts.time (record { from = from; mid = mid; body = body }) r)
     judged_keeps body mid (Ok j) = entry_keeps _ (change.Put j.put) (put_is_signal j.put)
     judged_keeps body mid (Err fault) = refusal_keeps domain mid fault
 
-    put_keeps : (body : MitigationBody) → KeepsFor domain (put_for settings state peer x path body domain)
+    put_keeps : (body : MitigationBody) → KeepsFor domain (put_for settings facts peer x path body domain)
     put_keeps body =
-        with_mid_keeps domain path.mid (put_in settings state from body)
+        with_mid_keeps domain path.mid (put_in settings facts from body)
         (λ mid.
         unless_keeps domain (scope_fault settings (prefixes_of settings domain) body.asked) _
-        (repeat_keeps domain (repeated settings state.time state.history (sent_by from)) _
-        (judged_keeps body mid (judge_request settings state.time state.history domain (request_of (record { from = from; mid = mid; body = body }))))))
+        (repeat_keeps domain (facts.repeated (sent_by from)) _
+        (judged_keeps body mid (facts.judged domain (request_of (record { from = from; mid = mid; body = body }))))))
 
-    delete_keeps : KeepsFor domain (delete_for settings state peer x path domain)
+    delete_keeps : KeepsFor domain (delete_for facts peer x path domain)
     delete_keeps =
-        with_mid_keeps domain path.mid (delete_in settings state from)
+        with_mid_keeps domain path.mid (delete_in facts from)
         (λ mid.
-        repeat_keeps domain (repeated settings state.time state.history (sent_by from)) _
-        (by_test mid (is_taken state.time state.history from) (list_any (stands_as mid) (lives state.time state.history from))))
+        repeat_keeps domain (facts.repeated (sent_by from)) _
+        (by_test mid (is_taken facts from) (facts.stands (client_for from) mid)))
       where
-        by_test : (mid : ℕ) (taken stands : Bool) → KeepsFor domain (delete_by state.time from mid taken stands)
+        by_test : (mid : ℕ) (taken stands : Bool) → KeepsFor domain (delete_by facts.time from mid taken stands)
         by_test mid true stands = tt
         by_test mid false true = entry_keeps _ (change.Withdraw mid) (withdrawal_is_signal mid)
         by_test mid false false = tt
 
-    get_keeps : (content : Content) → KeepsFor domain (get_for state peer x path content domain)
-    get_keeps content = by_test (is_taken state.time state.history from)
+    get_keeps : (content : Content) → KeepsFor domain (get_for facts peer x path content domain)
+    get_keeps content = by_test (is_taken facts from)
       where
-        by_test : (taken : Bool) → KeepsFor domain (get_by x path.mid content taken (lives state.time state.history from))
+        by_test : (taken : Bool) → KeepsFor domain (get_by x path.mid content taken (facts.views (client_for from)))
         by_test true = tt
         by_test false = tell_keeps domain content _
 
-  config_keeps : (domain : ℕ) → KeepsFor domain (config_for settings state peer x domain)
-  config_keeps domain = repeat_keeps domain (repeated settings state.time state.history (sent_for peer x domain)) _ tt
+  config_keeps : (domain : ℕ) → KeepsFor domain (config_for facts peer x domain)
+  config_keeps domain = repeat_keeps domain (facts.repeated (sent_for peer x domain)) _ tt
 
   -- for the domain of the request
   abbrev KeepsFound : Option ℕ → Verdict → Type 0
-  KeepsFound found (verdict.Accept reply entry) = (domain : ℕ) × (found ≡ Some domain) × Keeps state.time peer x domain reply entry
+  KeepsFound found (verdict.Accept reply entry) = (domain : ℕ) × (found ≡ Some domain) × Keeps facts.time peer x domain reply entry
   KeepsFound found _ = Unit {0}
 
   of_domain : (domain : ℕ) (v : Verdict) → KeepsFor domain v → KeepsFound (Some domain) v
@@ -197,7 +197,7 @@ module _ (settings : SettingsValue) (state : State) (peer : ℕ) (x : Exchange) 
   in_domain_keeps None f each = tt
   in_domain_keeps (Some d) f each = of_domain d (f d) (each d)
 
-  asked_keeps : (r : Request) → KeepsFound (domain_of settings (role_of settings peer) r) (asked_verdict settings state peer x r)
+  asked_keeps : (r : Request) → KeepsFound (domain_of settings (role_of settings peer) r) (answer_to settings facts peer x r)
   asked_keeps (request.PutMitigation path body) = in_domain_keeps (domain_for settings (role_of settings peer) path.cdid) _ (λ d. put_keeps path d body)
   asked_keeps (request.GetMitigation path content observe) = in_domain_keeps (domain_for settings (role_of settings peer) path.cdid) _ (λ d. get_keeps path d content)
   asked_keeps (request.DeleteMitigation path) = in_domain_keeps (domain_for settings (role_of settings peer) path.cdid) _ (λ d. delete_keeps path d)
@@ -206,10 +206,14 @@ module _ (settings : SettingsValue) (state : State) (peer : ℕ) (x : Exchange) 
   asked_keeps (request.DeleteConfig sid) = in_domain_keeps (session_domain (role_of settings peer)) _ config_keeps
   asked_keeps (request.PutHeartbeat heard) = tt
 
-  pub accepted_keeps : (r : Request) (reply : List ℕ) (entry : Entry) → DecidesRequest settings state peer x r (verdict.Accept reply entry)
-      → (domain : ℕ) × (domain_of settings (role_of settings peer) r ≡ Some domain) × Keeps state.time peer x domain reply entry
-  accepted_keeps r reply entry decides =
-      subst (KeepsFound (domain_of settings (role_of settings peer) r)) (sym (request_valued settings state peer x r (verdict.Accept reply entry) decides)) (asked_keeps r)
+pub accepted_keeps : (settings : SettingsValue) (state : State) (peer : ℕ) (x : Exchange) (r : Request) (reply : List ℕ) (entry : Entry)
+    → DecidesRequest settings state peer x r (verdict.Accept reply entry)
+    → (domain : ℕ) × (domain_of settings (role_of settings peer) r ≡ Some domain) × Keeps state.time peer x domain reply entry
+accepted_keeps settings state peer x r reply entry decides =
+    subst
+    (KeepsFound settings (facts_in settings state) peer x (domain_of settings (role_of settings peer) r))
+    (sym (request_valued settings state peer x r (verdict.Accept reply entry) decides))
+    (asked_keeps settings (facts_in settings state) peer x r)
 
 -- the entry of an accepted message is the one that its repeats are answered by
 pub accepted_is_repeated : (settings : SettingsValue) (state : State) (peer : ℕ) (x : Exchange) (r : Request) (reply : List ℕ) (entry : Entry)

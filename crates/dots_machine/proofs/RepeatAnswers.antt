@@ -1,5 +1,5 @@
 -- A repeat of an accepted message is answered as the message was, and adds nothing.
-use Rattle.std.proofs.Common.{◌≡◌, ◌⊎◌, inl, inr, ℕ, false, List, [], ◌∷◌, Some, sym, ap, ◌∙◌, subst}
+use Rattle.std.proofs.Common.{◌≡◌, ◌⊎◌, inl, inr, ℕ, false, List, [], ◌∷◌, Option, Some, None, sym, ap, ◌∙◌, subst}
 use Rattle.std.proofs.lemmas.Bool.{both_ways}
 use Rattle.dots_host.specs.declared.event.Event.TheVariants as event
 use Rattle.dots_host.specs.declared.out.OwnedOut.{OwnedOut}
@@ -16,53 +16,62 @@ use Rattle.dots_machine.specs.declared.exchange.Exchange.{Exchange}
 use Rattle.dots_machine.specs.declared.received.Received.TheVariants as received
 use Rattle.dots_machine.specs.declared.client_request.ClientRequest.{ClientRequest}
 use Rattle.dots_machine.specs.declared.mitigation_request.MitigationRequest.{MitigationRequest}
-use Rattle.dots_machine.specs.declared.verdict.Verdict.{Verdict}
+use Rattle.dots_machine.specs.Verdict.{Verdict}
 use Rattle.dots_machine.specs.declared.verdict.Verdict.TheVariants as verdict
 use Rattle.dots_machine.specs.Domains.{is_gateway, session_domain}
 use Rattle.dots_machine.specs.Replies.{not_implemented}
 use Rattle.dots_machine.specs.Requests.{IsReceived}
-use Rattle.dots_machine.specs.MessageRepeats.{sent_for, IsRepeatOf, UnlessRepeated, repeats, is_new}
-use Rattle.dots_machine.specs.Mitigations.{UnlessFaulty, ByRules, DecidesDelete}
-use Rattle.dots_machine.specs.Machine.{State, later, is_stranger, asks_for, InDomain, WithMid, PutIn, PutFor, DeleteIn, DeleteFor, ConfigFor, DecidesRequest, Rules, Decides, by_silence, by_rules, for_want_of_memory, sends_of, after, Answers, Step}
+use Rattle.dots_machine.specs.MessageRepeats.{Repeats, unless_repeated, sent_for, IsRepeatOf}
+use Rattle.dots_machine.specs.Mitigations.{request_of, judged, unless_faulty, delete_answer}
+use Rattle.dots_machine.specs.Machine.{State, later, is_stranger, DecidesRequest, Rules, Decides, by_silence, by_rules, for_want_of_memory, sends_of, after, Answers, Step}
 use Rattle.dots_machine.specs.Answering.{AreBytes, IsUnavailable}
 use Rattle.dots_machine.specs.RepeatRule.{AsksToChange}
-use Rattle.dots_machine.specs.Turns.{Turn, IsTurn, EachTurn, turns_of}
+use Rattle.dots_machine.specs.Handlings.{Handling, IsHandling, EachHandling, handlings_of}
 use Rattle.dots_machine.specs.RepeatAnswers.{AnswersRepeats}
+use Rattle.dots_machine.specs.Facts.{Facts, AreFacts}
+use Rattle.dots_machine.specs.Deciding.{in_domain, with_mid, put_in, put_for, delete_in, delete_for, config_for, answer_to, asks_for}
 use Rattle.dots_machine.proofs.MessageRepeats.{one_repeated}
 use Rattle.dots_machine.proofs.OneAnswer.{one_thing, says}
-use Rattle.dots_machine.proofs.Turns.{by_turns, each_weaker}
+use Rattle.dots_machine.proofs.Handlings.{by_handlings, each_weaker}
 
 module _ (settings : SettingsValue) (state : State) (peer : ℕ) (x : Exchange) (domain : ℕ) (entry : Entry)
     (is : IsRepeatOf settings.limits.remembered state.time state.history (sent_for peer x domain) entry) (v : Verdict) where
   abbrev Repeated : Type 0
   Repeated = v ≡ verdict.Reply entry.reply
 
-  repeat_is : (P : Verdict → Type 0) → UnlessRepeated settings state.time state.history (sent_for peer x domain) P v → Repeated
-  repeat_is P (repeats other also same) =
-      same ∙ ap (λ (e : Entry). verdict.Reply e.reply) (one_repeated settings.limits.remembered state.time (sent_for peer x domain) state.history other entry also is)
-  repeat_is P (is_new never otherwise) = absurd (never entry is)
+  module _ (facts : Facts) (are : AreFacts settings state.time state.history facts) where
+    repeat_is : (otherwise : Verdict) → unless_repeated (facts.repeated (sent_for peer x domain)) otherwise ≡ verdict.Reply entry.reply
+    repeat_is otherwise = by_found (facts.repeated (sent_for peer x domain)) (are.repeated (sent_for peer x domain))
+      where
+        by_found : (o : Option Entry) → Repeats settings.limits.remembered state.time state.history (sent_for peer x domain) o → unless_repeated o otherwise ≡ verdict.Reply entry.reply
+        by_found (Some other) also =
+            ap (λ (e : Entry). verdict.Reply e.reply) (one_repeated settings.limits.remembered state.time (sent_for peer x domain) state.history other entry also is)
+        by_found None never = absurd (never entry is)
 
-  config_repeated : session_domain (role_of settings peer) ≡ Some domain → InDomain x (session_domain (role_of settings peer)) (ConfigFor settings state peer x) v → Repeated
-  config_repeated found decides =
-      repeat_is (λ v. v ≡ verdict.Reply (not_implemented x)) (subst (λ o. InDomain x o (ConfigFor settings state peer x) v) found decides)
+    config_repeated : session_domain (role_of settings peer) ≡ Some domain
+        → in_domain x (session_domain (role_of settings peer)) (config_for facts peer x) ≡ verdict.Reply entry.reply
+    config_repeated found = ap (λ o. in_domain x o (config_for facts peer x)) found ∙ repeat_is (verdict.Reply (not_implemented x))
+
+    answer_repeated : (r : Request) → AsksToChange settings (role_of settings peer) domain r → answer_to settings facts peer x r ≡ verdict.Reply entry.reply
+    answer_repeated (request.PutMitigation path body) (found, (mid, has), clear) =
+        let from : ClientRequest = asks_for peer x path domain in
+        let asked : MitigationRequest = record { from = from; mid = mid; body = body } in
+        let decided : Verdict = judged facts.time asked (facts.judged domain (request_of asked)) in
+        ap (λ o. in_domain x o (put_for settings facts peer x path body)) found
+        ∙ ap (λ o. with_mid x o (put_in settings facts from body)) has
+        ∙ ap (λ fault. unless_faulty x fault (unless_repeated (facts.repeated (sent_for peer x domain)) decided)) clear
+        ∙ repeat_is decided
+    answer_repeated (request.DeleteMitigation path) (found, (mid, has)) =
+        let from : ClientRequest = asks_for peer x path domain in
+        ap (λ o. in_domain x o (delete_for facts peer x path)) found ∙ ap (λ o. with_mid x o (delete_in facts from)) has ∙ repeat_is (delete_answer facts from mid)
+    answer_repeated (request.PutConfig sid body) found = config_repeated found
+    answer_repeated (request.DeleteConfig sid) found = config_repeated found
+    answer_repeated (request.GetMitigation path content observe) none = absurd none
+    answer_repeated (request.GetConfig sid) none = absurd none
+    answer_repeated (request.PutHeartbeat heard) none = absurd none
 
   pub request_repeated : (r : Request) → AsksToChange settings (role_of settings peer) domain r → DecidesRequest settings state peer x r v → Repeated
-  request_repeated (request.PutMitigation path body) (found, (mid, has), clear) decides =
-      let from : ClientRequest = asks_for peer x path domain in
-      let asked : MitigationRequest = record { from = from; mid = mid; body = body } in
-      let here : PutFor settings state peer x path body domain v = subst (λ o. InDomain x o (PutFor settings state peer x path body) v) found decides in
-      let told : PutIn settings state from body mid v = subst (λ o. WithMid x o (PutIn settings state from body) v) has here in
-      repeat_is (ByRules settings state.time state.history asked)
-      (subst (λ fault. UnlessFaulty x fault (UnlessRepeated settings state.time state.history (sent_for peer x domain) (ByRules settings state.time state.history asked)) v) clear told)
-  request_repeated (request.DeleteMitigation path) (found, (mid, has)) decides =
-      let from : ClientRequest = asks_for peer x path domain in
-      let here : DeleteFor settings state peer x path domain v = subst (λ o. InDomain x o (DeleteFor settings state peer x path) v) found decides in
-      repeat_is (DecidesDelete state.time state.history from mid) (subst (λ o. WithMid x o (DeleteIn settings state from) v) has here)
-  request_repeated (request.PutConfig sid body) found decides = config_repeated found decides
-  request_repeated (request.DeleteConfig sid) found decides = config_repeated found decides
-  request_repeated (request.GetMitigation path content observe) none decides = absurd none
-  request_repeated (request.GetConfig sid) none decides = absurd none
-  request_repeated (request.PutHeartbeat heard) none decides = absurd none
+  request_repeated r asks decides = decides.2 ∙ answer_repeated decides.0 decides.1 r asks
 
 module _ (settings : SettingsValue) (old : State) (peer : ℕ) (datagram : List ℕ) (at : ℕ) (owed : List (State × OwnedOut)) (new : State) where
   abbrev Says : List ℕ → Type 0
@@ -90,16 +99,16 @@ module _ (settings : SettingsValue) (old : State) (peer : ℕ) (datagram : List 
           inl (told (request_repeated settings (later old at) peer x domain entry is a.0 r asks
           (subst (λ got. Rules settings (later old at) peer got a.0) (one_thing settings (later old at) peer datagram are other (received.Asked x r) also got) rules)))
 
-pub turn_repeats : (settings : SettingsValue) (old : State) (turn : Turn) (new : State) → IsTurn settings old turn new → AnswersRepeats settings old turn new
-turn_repeats settings old turn new is = record {
-  turns = is;
+pub handling_repeats : (settings : SettingsValue) (old : State) (handling : Handling) (new : State) → IsHandling settings old handling new → AnswersRepeats settings old handling new
+handling_repeats settings old handling new is = record {
+  handled = is;
   repeated = λ peer datagram x r domain entry what are known got asks repeats.
-      subst (λ w. ((turn.sends ≡ owned.To peer entry.reply ∷ []) × (new ≡ later old turn.at)) ⊎ IsUnavailable w is.owed) (sym what)
-      (subst (λ sends. ((sends ≡ owned.To peer entry.reply ∷ []) × (new ≡ later old turn.at)) ⊎ IsUnavailable (event.Datagram peer datagram) is.owed) is.sent
-      (step_repeated settings old peer datagram turn.at is.owed new x r domain entry are known got asks repeats (subst (λ w. Step settings old w turn.at is.owed new) what is.step)));
+      subst (λ w. ((handling.sends ≡ owned.To peer entry.reply ∷ []) × (new ≡ later old handling.at)) ⊎ IsUnavailable w is.owed) (sym what)
+      (subst (λ sends. ((sends ≡ owned.To peer entry.reply ∷ []) × (new ≡ later old handling.at)) ⊎ IsUnavailable (event.Datagram peer datagram) is.owed) is.sent
+      (step_repeated settings old peer datagram handling.at is.owed new x r domain entry are known got asks repeats (subst (λ w. Step settings old w handling.at is.owed new) what is.step)));
 }
 
 pub run_repeats : (settings : SettingsValue) (from : State) (acts : List Timed) (trace : List State) (new : State) → Trace (Step settings) (resting from) acts trace (resting new)
-    → EachTurn (AnswersRepeats settings) from (turns_of acts) new
+    → EachHandling (AnswersRepeats settings) from (handlings_of acts) new
 run_repeats settings from acts trace new run =
-    each_weaker (IsTurn settings) (AnswersRepeats settings) (turn_repeats settings) from (turns_of acts) new (by_turns settings (resting from) acts trace new run)
+    each_weaker (IsHandling settings) (AnswersRepeats settings) (handling_repeats settings) from (handlings_of acts) new (by_handlings settings (resting from) acts trace new run)

@@ -1,5 +1,5 @@
 -- What a crash leaves, one part of a run after the other.
-use Rattle.std.proofs.Common.{◌≡◌, ℕ, ◌+◌, ◌<◌, ◌≤◌, ◌⊎◌, inl, inr, Bool, true, false, zero, suc, if◌then◌else◌, max, List, [], ◌∷◌, ◌++◌, length, take, map, Option, Some, None, refl, sym, ap, ◌∙◌, subst, arith, append_assoc, append-nil, length-append, le_refl}
+use Rattle.std.proofs.Common.{◌≡◌, ℕ, ◌+◌, ◌<◌, ◌≤◌, ◌⊎◌, inl, inr, Bool, true, false, zero, suc, if◌then◌else◌, max, List, [], ◌∷◌, ◌++◌, length, take, Option, Some, None, refl, sym, ap, ◌∙◌, subst, arith, append_assoc, append-nil, length-append, le_refl}
 use Rattle.std.specs.Prelude.{nat_lt}
 use Rattle.std.proofs.Math.Path.{fun_ext}
 use Rattle.std.proofs.lemmas.Bool.Decides.{nat_tests}
@@ -7,7 +7,8 @@ use Rattle.dots_host.specs.declared.event.Event.{Event}
 use Rattle.dots_host.specs.declared.event.Event.TheVariants as event
 use Rattle.dots_host.specs.declared.out.OwnedOut.{OwnedOut}
 use Rattle.dots_host.specs.Acts.{WireAct, took, gave, Timed}
-use Rattle.dots_host.specs.Runs.{Owing, Trace, each_telling, IsSend, outs_of, Gives}
+use Rattle.dots_host.specs.Runs.{Owing, resting, Trace, each_telling, IsSend, outs_of, Gives}
+use Rattle.dots_host.proofs.RunLemmas.{outs_back}
 use Rattle.dots_disk.specs.Media.{Medium, Media, IsImage, all_media}
 use Rattle.dots_disk.specs.Becoming.{EachMedium, KeepsMedia, Leaves, RestsWith}
 use Rattle.slot_store.proofs.Steps.{image_at_rest}
@@ -16,11 +17,14 @@ use Rattle.dots_history.specs.declared.entry.Entry.{Entry}
 use Rattle.dots_history.specs.Histories.{Within}
 use Rattle.dots_laws.specs.Fits.{last_or, last_time}
 use Rattle.dots_laws.proofs.Composing.{kept_later}
-use Rattle.dots_ledger.specs.Crashes.{HoldsKept}
-use Rattle.dots_machine.specs.declared.verdict.Verdict.{Verdict}
+use Rattle.slot_journal.specs.Kept.{HoldsKept}
+use Rattle.dots_machine.specs.Verdict.{Verdict}
 use Rattle.dots_machine.specs.declared.verdict.Verdict.TheVariants as verdict
+use Rattle.dots_machine.specs.declared.ending.Stop.{Stop}
+use Rattle.dots_machine.specs.declared.ending.Stop.TheVariants as stop
+use Rattle.dots_machine.specs.Endings.{Stops, EndsBehind, Ran}
 use Rattle.dots_machine.specs.Machine.{State, later, after, Step}
-use Rattle.dots_machine.specs.Surviving.{Story, entries_shown, shown, time_shown, time_at, past_of, NoneBefore, MeansAt, EachFrom, LeavesAt}
+use Rattle.dots_machine.specs.Surviving.{Story, told_by, entries_shown, shown, time_shown, time_at, past_of, NoneBefore, MeansAt, EachFrom, LeavesAt}
 
 -- ---- runs with all that they tell
 
@@ -43,6 +47,29 @@ module _ (settings : SettingsValue) where
   story_trace old new [] (told ∷ trace) s = absurd s
   story_trace old new (timed ∷ acts) [] s = absurd s
   story_trace old new (timed ∷ acts) (told ∷ trace) s = (s.0, s.1, story_trace s.0 new acts trace s.3)
+
+-- a run that ends with whole events is one, by each ending but where the disk failed
+pub ran_whole : (settings : SettingsValue) (start last : State) (how : Stop) (acts : List Timed) (trace : List State) → EndsBehind how settings last [] (resting last) [] → Story settings (resting start) acts trace (resting last) → Stops how acts
+    → Ran settings start trace (resting last) how acts
+ran_whole settings start last how acts trace ends story stops = record {
+  whole = acts;
+  behind = [];
+  acts_are = sym (append-nil acts);
+  told = trace;
+  told_behind = [];
+  trace_is = sym (append-nil trace);
+  state = last;
+  run = story;
+  ends = ends;
+  stops = stops;
+}
+
+-- and where the events ended, all acts are those of whole events
+pub ended_story : (settings : SettingsValue) (start : State) (end : Owing State) (acts : List Timed) (trace : List State) → Ran settings start trace end stop.Ended acts → Story settings (resting start) acts trace end
+ended_story settings start end acts trace ran =
+    subst (λ e. Story settings (resting start) acts trace e) (sym ran.ends.2)
+    (subst (λ xs. Story settings (resting start) xs trace (resting ran.state)) (sym (ran.acts_are ∙ ap (λ xs. ran.whole ++ xs) ran.ends.0 ∙ append-nil ran.whole))
+    (subst (λ ts. Story settings (resting start) ran.whole ts (resting ran.state)) (sym (ran.trace_is ∙ ap (λ ts. ran.told ++ ts) ran.ends.1 ∙ append-nil ran.told)) ran.run))
 
 -- ---- before and after a moment
 
@@ -94,10 +121,6 @@ time_late m (timed ∷ acts) (told ∷ trace) t late =
 
 -- ---- sends
 
--- the states that sends tell
-abbrev pub told_by : List (State × OwnedOut) → List State
-told_by owed = map (λ send. send.0) owed
-
 -- none of the sends tells more entries
 abbrev pub TellFew : ℕ → List (State × OwnedOut) → Type 0
 TellFew most [] = Unit {0}
@@ -128,6 +151,12 @@ time_sends m moment (send ∷ owed) [] t g = absurd g
 time_sends m moment (send ∷ owed) (timed ∷ acts) t g =
     ap (λ u. time_at m acts (told_by owed) u) (no_time_told timed.act send.1 send.0 (nat_lt timed.moment m) t g.1) ∙ time_sends m (moment + 1) owed acts t g.2
 
+gives_length : (m : ℕ) (owed : List (State × OwnedOut)) (acts : List Timed) → Gives m (outs_of owed) acts → length acts ≡ length (told_by owed)
+gives_length m [] [] g = refl
+gives_length m [] (timed ∷ acts) g = absurd g
+gives_length m (send ∷ owed) [] g = absurd g
+gives_length m (send ∷ owed) (timed ∷ acts) g = let same = gives_length (m + 1) owed acts g.2 in omega (arith, same)
+
 -- ---- a step
 
 tell_each : (new : State) (outs : List OwnedOut) → TellFew (length new.history) (each_telling new outs)
@@ -154,7 +183,7 @@ Grows old new = (extra : List Entry) × (new.history ≡ old.history ++ extra)
 same_grows : (old new : State) → new.history ≡ old.history → Grows old new
 same_grows old new is = ([], is ∙ sym (append-nil old.history))
 
-verdict_grows : (v : Verdict) (state : State) → Grows state (after v state)
+pub verdict_grows : (v : Verdict) (state : State) → Grows state (after v state)
 verdict_grows verdict.Silent state = same_grows state state refl
 verdict_grows (verdict.Reply reply) state = same_grows state state refl
 verdict_grows (verdict.LongReply reply) state = same_grows state state refl
@@ -276,12 +305,12 @@ rests_still None new R rests keeps = absurd rests
 rests_still (Some old) None R rests keeps = absurd keeps
 rests_still (Some old) (Some new) R rests keeps = (ap (λ (medium : Medium). medium.pending) keeps.3 ∙ rests.0, subst (λ (medium : Medium). R medium.seen) (sym keeps.3) rests.1)
 
-keeps_past : (old new : Option Media) (Any : (ℕ → ℕ) → Type 0) → RestsWith old Any → KeepsMedia old new → past_of old ≤ past_of new
+pub keeps_past : (old new : Option Media) (Any : (ℕ → ℕ) → Type 0) → RestsWith old Any → KeepsMedia old new → past_of old ≤ past_of new
 keeps_past None new Any rests keeps = absurd rests
 keeps_past (Some old) None Any rests keeps = absurd keeps
 keeps_past (Some old) (Some new) Any rests keeps = let count = many old new keeps.0 keeps.1 in omega (arith, count)
 
-leaves_past : (old new : Option Media) (Any R : (ℕ → ℕ) → Type 0) → RestsWith old Any → Leaves old new R → past_of old ≤ past_of new
+pub leaves_past : (old new : Option Media) (Any R : (ℕ → ℕ) → Type 0) → RestsWith old Any → Leaves old new R → past_of old ≤ past_of new
 leaves_past None new Any R rests leaves = absurd rests
 leaves_past (Some old) None Any R rests leaves = absurd leaves
 leaves_past (Some old) (Some new) Any R rests leaves = let count = many old new leaves.0 leaves.1 in omega (arith, count)
@@ -330,97 +359,181 @@ module _ (settings : SettingsValue) (start : State) where
         (subst (λ es. HoldsFrom (time_at m acts trace start.time) es image) (sym (take_front stands.count history extra stands.within)) stands.holds);
   }
 
-  -- the moments of the turn: behind the event, the sends say what was told
-  module _ (acts : List Timed) (trace : List State) (same : length acts ≡ length trace) (moment at : ℕ) (what : Event) (new : State) (more : List Timed) (owed : List (State × OwnedOut)) where
+  -- how a run stands in the middle of an event, with this history and time: it survived so far
+  pub record IsAt (history : List Entry) (time : ℕ) (first media : Option Media) (acts : List Timed) (trace : List State) : Type 0 where
+    pub same : length acts ≡ length trace
+    pub bounded : (m : ℕ) → shown m acts trace first_entries ≤ length history
+    pub timed : (m : ℕ) → past_of media < m → time_at m acts trace start.time ≡ time
+    pub survives : LeavesAt first media (MeansAt settings start acts trace history)
+
+  -- ---- an event is taken, and moves the time
+
+  module _ (acts : List Timed) (trace : List State) (history : List Entry) (first a b : Option Media) (moment at : ℕ) (what : Event) (new : State)
+      (same : length acts ≡ length trace) (bounded : (m : ℕ) → shown m acts trace first_entries ≤ length history) (here : past_of a ≡ moment)
+      (leaves : LeavesAt first a (MeansAt settings start acts trace history)) (rests : RestsWith a (HoldsFrom new.time history)) (keeps : KeepsMedia a b) where
     abbrev event_taken : Timed
     event_taken = record { moment = moment; act = took what at }
 
-    shown_here : (m : ℕ) → shown m (acts ++ event_taken ∷ more) (trace ++ new ∷ told_by owed) first_entries ≡ shown m more (told_by owed) (shown m acts trace first_entries)
-    shown_here m =
-        shown_then m acts (event_taken ∷ more) trace (new ∷ told_by owed) first_entries same
-        ∙ ap (λ n. shown m more (told_by owed) n) (either_way (nat_lt moment m) (shown m acts trace first_entries))
+    abbrev Taken : ℕ → (ℕ → ℕ) → Type 0
+    Taken m image = MeansAt settings start (acts ++ event_taken ∷ []) (trace ++ new ∷ []) history m image
 
-    time_here : (m next : ℕ) → moment < m → Gives next (outs_of owed) more → time_at m (acts ++ event_taken ∷ more) (trace ++ new ∷ told_by owed) start.time ≡ new.time
-    time_here m next less gives =
-        time_then m acts (event_taken ∷ more) trace (new ∷ told_by owed) start.time same
-        ∙ ap (λ b. time_at m more (told_by owed) (if b then new.time else time_at m acts trace start.time)) (earlier moment m less)
-        ∙ time_sends m next owed more new.time gives
+    shown_taken : (m : ℕ) → shown m (acts ++ event_taken ∷ []) (trace ++ new ∷ []) first_entries ≡ shown m acts trace first_entries
+    shown_taken m = shown_then m acts (event_taken ∷ []) trace (new ∷ []) first_entries same ∙ either_way (nat_lt moment m) (shown m acts trace first_entries)
 
-    newer : (m next : ℕ) (image : ℕ → ℕ) (count : ℕ) → moment < m → Gives next (outs_of owed) more → count ≤ length new.history
-        → shown m more (told_by owed) (shown m acts trace first_entries) ≤ count → HoldsFrom new.time (take count new.history) image
-        → MeansAt settings start (acts ++ event_taken ∷ more) (trace ++ new ∷ told_by owed) new.history m image
-    newer m next image count less gives within told holds = record {
-      count = count;
-      within = within;
-      has_shown = subst (λ n. n ≤ count) (sym (shown_here m)) told;
-      holds = subst (λ t. HoldsFrom t (take count new.history) image) (sym (time_here m next less gives)) holds;
+    time_taken : (m : ℕ) → moment < m → time_at m (acts ++ event_taken ∷ []) (trace ++ new ∷ []) start.time ≡ new.time
+    time_taken m less =
+        time_then m acts (event_taken ∷ []) trace (new ∷ []) start.time same
+        ∙ ap (λ b. if b then new.time else time_at m acts trace start.time) (earlier moment m less)
+
+    a_to_b : past_of a ≤ past_of b
+    a_to_b = keeps_past a b (HoldsFrom new.time history) rests keeps
+
+    before_taken : LeavesAt first a Taken
+    before_taken =
+        leaves_at_so first a (MeansAt settings start acts trace history) Taken (λ k under image stands.
+        subst (λ es. MeansAt settings start (acts ++ event_taken ∷ []) (trace ++ new ∷ []) es k image) (append-nil history)
+        (older acts (event_taken ∷ []) trace (new ∷ []) history [] k image same (omega (arith, under, here), tt) stands)) leaves
+
+    still_held : (k : ℕ) → past_of a < k → k ≤ past_of b → (image : ℕ → ℕ) → HoldsFrom new.time history image → Taken k image
+    still_held k low high image holds = record {
+      count = length history;
+      within = le_refl (length history);
+      has_shown = subst (λ n. n ≤ length history) (sym (shown_taken k)) (bounded k);
+      holds = subst (λ t. HoldsFrom t (take (length history) history) image) (sym (time_taken k (omega (arith, low, here))))
+          (subst (λ es. HoldsFrom new.time es image) (sym (take_all history)) holds);
     }
 
-    module _ (old : State) (grown : (extra : List Entry) × (new.history ≡ old.history ++ extra)) (few : TellFew (length new.history) owed)
-        (bounded : (m : ℕ) → shown m acts trace first_entries ≤ length old.history) where
-      abbrev Whole : ℕ → (ℕ → ℕ) → Type 0
-      Whole m image = MeansAt settings start (acts ++ event_taken ∷ more) (trace ++ new ∷ told_by owed) new.history m image
+    pub event_on : IsAt history new.time first b (acts ++ event_taken ∷ []) (trace ++ new ∷ [])
+    event_on = record {
+      same =
+          let l = length-append acts (event_taken ∷ []) in
+          let t = length-append trace (new ∷ []) in
+          omega (arith, l, t, same);
+      bounded = λ m. subst (λ n. n ≤ length history) (sym (shown_taken m)) (bounded m);
+      timed = λ m less. time_taken m (let p = a_to_b in omega (arith, less, p, here));
+      survives = leaves_at_then Taken first a b before_taken
+          (leaves_there Taken a b (HoldsFrom new.time history) (HoldsFrom new.time history) rests still_held (rests_on a b (HoldsFrom new.time history) rests keeps));
+    }
 
-      grown_length : length old.history ≤ length new.history
-      grown_length = let is = ap length grown.1 ∙ length-append old.history grown.0 in omega (arith, is)
+  -- ---- a turn of the event
 
-      before_front : take (length old.history) new.history ≡ old.history
-      before_front = ap (take (length old.history)) grown.1 ∙ take_front (length old.history) old.history grown.0 (le_refl (length old.history)) ∙ take_all old.history
+  module _ (history extra : List Entry) (new : State) (time : ℕ) (first a c : Option Media) (acts more : List Timed) (trace : List State) (outs : List OwnedOut) (moment : ℕ)
+      (grows : new.history ≡ history ++ extra) (late : past_of c ≤ moment) (gave_them : Gives moment outs more)
+      (here : IsAt history time first a acts trace) (rests : RestsWith a (HoldsFrom time history))
+      (writes : Leaves a c (λ image. HoldsFrom time history image ⊎ HoldsFrom time new.history image)) where
+    abbrev owed : List (State × OwnedOut)
+    owed = each_telling new outs
 
-      -- before the first send the disk has the old entries or the new ones
-      unsent : (m next : ℕ) (image : ℕ → ℕ) → moment < m → m ≤ next → Gives next (outs_of owed) more → HoldsFrom new.time old.history image ⊎ HoldsFrom new.time new.history image → Whole m image
-      unsent m next image less le gives (inl holds) =
-          newer m next image (length old.history) less gives grown_length
-          (subst (λ n. n ≤ length old.history) (sym (shown_late m more (told_by owed) (shown m acts trace first_entries) (gives_late m next (outs_of owed) more le gives))) (bounded m))
-          (subst (λ es. HoldsFrom new.time es image) (sym before_front) holds)
-      unsent m next image less le gives (inr holds) =
-          let told = bounded m in
-          let longer = grown_length in
-          newer m next image (length new.history) less gives (le_refl (length new.history))
-          (subst (λ n. n ≤ length new.history) (sym (shown_late m more (told_by owed) (shown m acts trace first_entries) (gives_late m next (outs_of owed) more le gives))) (omega (arith, told, longer)))
-          (subst (λ es. HoldsFrom new.time es image) (sym (take_all new.history)) holds)
+    abbrev Before : (ℕ → ℕ) → Type 0
+    Before = HoldsFrom time history
 
-      -- and then the new ones alone
-      sent : (m next : ℕ) (image : ℕ → ℕ) → moment < m → Gives next (outs_of owed) more → HoldsFrom new.time new.history image → Whole m image
-      sent m next image less gives holds =
-          let told = bounded m in
-          let longer = grown_length in
-          newer m next image (length new.history) less gives (le_refl (length new.history))
-          (shown_sends m next owed more (shown m acts trace first_entries) (length new.history) gives (omega (arith, told, longer)) few)
-          (subst (λ es. HoldsFrom new.time es image) (sym (take_all new.history)) holds)
+    abbrev After : (ℕ → ℕ) → Type 0
+    After = HoldsFrom time new.history
 
-      pub bounded_still : (next : ℕ) → Gives next (outs_of owed) more → (m : ℕ) → shown m (acts ++ event_taken ∷ more) (trace ++ new ∷ told_by owed) first_entries ≤ length new.history
-      bounded_still next gives m =
-          let told = bounded m in
-          let longer = grown_length in
-          subst (λ n. n ≤ length new.history) (sym (shown_here m)) (shown_sends m next owed more (shown m acts trace first_entries) (length new.history) gives (omega (arith, told, longer)) few)
+    abbrev Either : (ℕ → ℕ) → Type 0
+    Either image = HoldsFrom time history image ⊎ HoldsFrom time new.history image
 
-      -- the event is taken, and then it is written
-      pub survives_writing : (first a b c : Option Media) (next : ℕ) → past_of a ≡ moment → past_of c ≤ next → Gives next (outs_of owed) more
-          → LeavesAt first a (MeansAt settings start acts trace old.history) → RestsWith a (HoldsFrom new.time old.history) → KeepsMedia a b
-          → Leaves b c (λ image. HoldsFrom new.time old.history image ⊎ HoldsFrom new.time new.history image) → LeavesAt first c Whole
-      survives_writing first a b c next here le gives leaves rests keeps writes =
-          let Before : (ℕ → ℕ) → Type 0 = λ image. HoldsFrom new.time old.history image in
-          let Either : (ℕ → ℕ) → Type 0 = λ image. HoldsFrom new.time old.history image ⊎ HoldsFrom new.time new.history image in
-          let rests_b = rests_still a b Before rests keeps in
-          let later_b = keeps_past a b Before rests keeps in
-          let later_c = leaves_past b c Before Either rests_b writes in
-          let front : LeavesAt first a Whole = leaves_at_so first a (MeansAt settings start acts trace old.history) Whole (λ k under image stands.
-          subst (λ es. MeansAt settings start (acts ++ event_taken ∷ more) (trace ++ new ∷ told_by owed) es k image) (sym grown.1)
-          (older acts (event_taken ∷ more) trace (new ∷ told_by owed) old.history grown.0 k image same
-          (omega (arith, under, here), gives_late k next (outs_of owed) more (omega (arith, under, later_b, later_c, le)) gives) stands)) leaves in
-          let taken : LeavesAt a b Whole = leaves_there Whole a b Before Before rests (λ k low high image holds.
-          unsent k next image (omega (arith, low, here)) (omega (arith, high, later_c, le)) gives (inl holds)) (rests_on a b Before rests keeps) in
-          let written : LeavesAt b c Whole = leaves_there Whole b c Before Either rests_b (λ k low high image holds.
-          unsent k next image (omega (arith, low, later_b, here)) (omega (arith, high, le)) gives holds) writes in
-          leaves_at_then Whole first b c (leaves_at_then Whole first a b front taken) written
+    abbrev Whole : ℕ → (ℕ → ℕ) → Type 0
+    Whole m image = MeansAt settings start (acts ++ more) (trace ++ told_by owed) new.history m image
 
-      -- and then all is sent
-      pub survives_sending : (first c d : Option Media) (next : ℕ) → moment ≤ past_of c → Gives next (outs_of owed) more → LeavesAt first c Whole
-          → RestsWith c (HoldsFrom new.time new.history) → KeepsMedia c d → LeavesAt first d Whole
-      survives_sending first c d next here gives leaves rests keeps =
-          let After : (ℕ → ℕ) → Type 0 = λ image. HoldsFrom new.time new.history image in
-          leaves_at_then Whole first c d leaves (leaves_there Whole c d After After rests (λ k low high image holds. sent k next image (omega (arith, low, here)) gives holds) (rests_on c d After rests keeps))
+    gives : Gives moment (outs_of owed) more
+    gives = subst (λ xs. Gives moment xs more) (sym (outs_back new outs)) gave_them
+
+    longer : length history ≤ length new.history
+    longer = let is = ap length grows ∙ length-append history extra in omega (arith, is)
+
+    front_is : take (length history) new.history ≡ history
+    front_is = ap (take (length history)) grows ∙ take_front (length history) history extra (le_refl (length history)) ∙ take_all history
+
+    a_to_c : past_of a ≤ past_of c
+    a_to_c = leaves_past a c Before Either rests writes
+
+    shown_on : (m : ℕ) → shown m (acts ++ more) (trace ++ told_by owed) first_entries ≡ shown m more (told_by owed) (shown m acts trace first_entries)
+    shown_on m = shown_then m acts more trace (told_by owed) first_entries here.same
+
+    time_on : (m : ℕ) → past_of a < m → time_at m (acts ++ more) (trace ++ told_by owed) start.time ≡ time
+    time_on m less =
+        time_then m acts more trace (told_by owed) start.time here.same
+        ∙ time_sends m moment owed more (time_at m acts trace start.time) gives ∙ here.timed m less
+
+    none_shown : (m : ℕ) → m ≤ moment → shown m more (told_by owed) (shown m acts trace first_entries) ≡ shown m acts trace first_entries
+    none_shown m le = shown_late m more (told_by owed) (shown m acts trace first_entries) (gives_late m moment (outs_of owed) more le gives)
+
+    -- at a moment of the turn, with so many entries on the disk
+    with_count : (m count : ℕ) (image : ℕ → ℕ) → past_of a < m → count ≤ length new.history → shown m more (told_by owed) (shown m acts trace first_entries) ≤ count
+        → HoldsFrom time (take count new.history) image → Whole m image
+    with_count m count image less within told holds = record {
+      count = count;
+      within = within;
+      has_shown = subst (λ n. n ≤ count) (sym (shown_on m)) told;
+      holds = subst (λ t. HoldsFrom t (take count new.history) image) (sym (time_on m less)) holds;
+    }
+
+    -- before the first send the disk has the old entries or the new ones
+    unsent : (m : ℕ) (image : ℕ → ℕ) → past_of a < m → m ≤ moment → Either image → Whole m image
+    unsent m image less le (inl holds) =
+        with_count m (length history) image less longer
+        (subst (λ n. n ≤ length history) (sym (none_shown m le)) (here.bounded m))
+        (subst (λ es. HoldsFrom time es image) (sym front_is) holds)
+    unsent m image less le (inr holds) =
+        let told = here.bounded m in
+        let more_there = longer in
+        with_count m (length new.history) image less (le_refl (length new.history))
+        (subst (λ n. n ≤ length new.history) (sym (none_shown m le)) (omega (arith, told, more_there)))
+        (subst (λ es. HoldsFrom time es image) (sym (take_all new.history)) holds)
+
+    few_shown : (m : ℕ) → shown m more (told_by owed) (shown m acts trace first_entries) ≤ length new.history
+    few_shown m =
+        let told = here.bounded m in
+        let more_there = longer in
+        shown_sends m moment owed more (shown m acts trace first_entries) (length new.history) gives (omega (arith, told, more_there)) (tell_each new outs)
+
+    -- and then the new ones alone
+    sent : (m : ℕ) (image : ℕ → ℕ) → past_of a < m → After image → Whole m image
+    sent m image less holds =
+        with_count m (length new.history) image less (le_refl (length new.history)) (few_shown m)
+        (subst (λ es. HoldsFrom time es image) (sym (take_all new.history)) holds)
+
+    -- it was written
+    written : LeavesAt first c Whole
+    written =
+        leaves_at_then Whole first a c
+        (leaves_at_so first a (MeansAt settings start acts trace history) Whole (λ k under image stands.
+        subst (λ es. MeansAt settings start (acts ++ more) (trace ++ told_by owed) es k image) (sym grows)
+        (older acts more trace (told_by owed) history extra k image here.same
+        (gives_late k moment (outs_of owed) more (let p = a_to_c in omega (arith, under, p, late)) gives) stands)) here.survives)
+        (leaves_there Whole a c Before Either rests (λ k low high image holds. unsent k image low (omega (arith, high, late)) holds) writes)
+
+    same_on : length (acts ++ more) ≡ length (trace ++ told_by owed)
+    same_on =
+        let l = length-append acts more in
+        let t = length-append trace (told_by owed) in
+        let s = here.same in
+        let g = gives_length moment owed more gives in
+        omega (arith, l, t, s, g)
+
+    -- and then it was sent
+    pub turn_on : (d : Option Media) → RestsWith c After → KeepsMedia c d → IsAt new.history time first d (acts ++ more) (trace ++ told_by owed)
+    turn_on d rests_c sends =
+        let p = a_to_c in
+        let q = keeps_past c d After rests_c sends in
+        record {
+          same = same_on;
+          bounded = λ m. subst (λ n. n ≤ length new.history) (sym (shown_on m)) (few_shown m);
+          timed = λ m less. time_on m (omega (arith, less, p, q));
+          survives = leaves_at_then Whole first c d written
+              (leaves_there Whole c d After After rests_c (λ k low high image holds. sent k image (omega (arith, low, p)) holds) (rests_on c d After rests_c sends));
+        }
+
+  -- a turn that was being written when the disk failed: nothing of it was sent
+  pub broken_on : (history extra : List Entry) (new : State) (time : ℕ) (first a c : Option Media) (acts : List Timed) (trace : List State) → new.history ≡ history ++ extra
+      → IsAt history time first a acts trace → RestsWith a (HoldsFrom time history)
+      → Leaves a c (λ image. HoldsFrom time history image ⊎ HoldsFrom time new.history image)
+      → LeavesAt first c (MeansAt settings start acts trace new.history)
+  broken_on history extra new time first a c acts trace grows here rests writes =
+      subst (λ xs. LeavesAt first c (MeansAt settings start xs trace new.history)) (append-nil acts)
+      (subst (λ ts. LeavesAt first c (MeansAt settings start (acts ++ []) ts new.history)) (append-nil trace)
+      (written history extra new time first a c acts [] trace [] (past_of c) grows (le_refl (past_of c)) tt here rests writes))
 
 -- ---- the opening, before the first event
 

@@ -1,8 +1,8 @@
--- The rules give one verdict: the value that a registry's readers come to.
-use Rattle.std.proofs.Common.{◌≡◌, ℕ, Bool, true, false, ◌&&◌, ◌||◌, ◌==◌, List, [], ◌∷◌, map, Option, Some, None, Result, refl, sym, ap, ◌∙◌, subst}
+-- There are facts, and whatever facts are taken, the rules say the same.
+use Rattle.std.proofs.Common.{◌≡◌, ℕ, Bool, true, false, ◌&&◌, ◌||◌, ◌==◌, List, [], ◌∷◌, map, Option, Some, None, refl, sym, ap, ◌∙◌}
 use Rattle.std.specs.Prelude.{bytes_eq}
 use Rattle.std.specs.List.{list_any}
-use Rattle.std.proofs.lemmas.Bool.{both_ways, cond_both, false_from_ne_true}
+use Rattle.std.proofs.lemmas.Bool.{false≢true, cond_both, false_from_ne_true}
 use Rattle.dots_settings.specs.Settings.{SettingsValue}
 use Rattle.dots_settings.specs.Lookups.{role_of, prefixes_of}
 use Rattle.dots_history.specs.declared.entry.Entry.{Entry}
@@ -12,38 +12,35 @@ use Rattle.dots_history.specs.declared.status.Status.TheVariants.{Ended, Open, W
 use Rattle.dots_history.specs.Histories.{Mitigation, mitigations, held}
 use Rattle.dots_history.specs.Rows.{is_lost_in}
 use Rattle.dots_history.specs.Keeping.{is_open}
+use Rattle.dots_laws.specs.Tables.{Client}
 use Rattle.dots_laws.specs.Views.{mitigations_of}
 use Rattle.dots_heads.specs.declared.request.Content.{Content}
-use Rattle.dots_heads.specs.declared.request.MitigationPath.{MitigationPath}
 use Rattle.dots_keys.specs.declared.request.Request.{Request}
 use Rattle.dots_keys.specs.declared.request.Request.TheVariants as request
-use Rattle.dots_keys.specs.declared.request.MitigationBody.{MitigationBody}
 use Rattle.conflict_rules.specs.ByMid.{has_mid}
-use Rattle.live_mitigations.specs.Judging.{live_of, put_or_nothing}
-use Rattle.live_mitigations.specs.LiveViews.{status_number, live_view, of_cuid, live_views_of}
+use Rattle.conflict_rules.specs.Lives.{live_of, put_or_nothing}
+use Rattle.conflict_rules.specs.LiveViews.{status_number, live_view, of_cuid, live_views_of}
 use Rattle.dots_history.specs.Entries.{put_of}
-use Rattle.conflict_rules.specs.declared.fault.PutFault.{PutFault}
-use Rattle.conflict_rules.specs.declared.judging.Judged.{Judged}
-use Rattle.dots_registry.specs.Judging.{judge_request}
-use Rattle.dots_registry.specs.Judgements.{HasMid}
-use Rattle.dots_registry.specs.Statuses.{status_by, works_for, view_with, is_standing}
-use Rattle.dots_registry.proofs.Rules.{collides_taken, taken_collides, mid_stands, there_mid}
-use Rattle.dots_registry.proofs.JudgedByPlaces.{judged_by_places, places_judge}
-use Rattle.dots_machine.specs.declared.target.TargetFault.{TargetFault}
+use Rattle.conflict_rules.specs.Requests.{Request as Wish}
+use Rattle.conflict_rules.specs.Judgements.{IsTaken, HasMid}
+use Rattle.conflict_rules.specs.Statuses.{status_by, works_for, view_with, is_standing}
+use Rattle.conflict_rules.proofs.Rules.{collides_taken, taken_collides, mid_stands, there_mid}
+use Rattle.conflict_rules.proofs.JudgedByPlaces.{judged_by_places, places_judge}
 use Rattle.dots_machine.specs.declared.exchange.Exchange.{Exchange}
 use Rattle.dots_machine.specs.declared.received.Received.{Received}
 use Rattle.dots_machine.specs.declared.received.Received.TheVariants as received
 use Rattle.dots_machine.specs.declared.client_request.ClientRequest.{ClientRequest}
 use Rattle.dots_machine.specs.declared.mitigation_request.MitigationRequest.{MitigationRequest}
-use Rattle.dots_machine.specs.declared.verdict.Verdict.{Verdict}
+use Rattle.dots_machine.specs.Verdict.{Verdict}
 use Rattle.dots_machine.specs.declared.verdict.Verdict.TheVariants as verdict
 use Rattle.dots_machine.specs.Domains.{domain_for, session_domain}
 use Rattle.dots_machine.specs.Targets.{scope_fault}
 use Rattle.dots_machine.specs.Replies.{not_implemented}
-use Rattle.dots_machine.specs.MessageRepeats.{Sent, sent_for, UnlessRepeated, repeats, is_new}
-use Rattle.dots_machine.specs.Mitigations.{sent_by, request_of, judged, client_for, UnlessFaulty, ByRules, DecidesPut, IsInUse, DecidesDelete, name_taken, withdraws, gone, lives, DecidesGet, name_in_use, replies}
-use Rattle.dots_machine.specs.Machine.{State, asks_for, InDomain, WithMid, PutIn, PutFor, DeleteIn, DeleteFor, GetFor, ConfigFor, DecidesRequest, Rules}
-use Rattle.dots_machine.specs.Verdicts.{repeated, unless_repeated, unless_faulty, put_verdict, is_taken, stands_as, delete_by, delete_verdict, get_by, get_verdict, in_domain, with_mid, put_in, put_for, delete_in, delete_for, get_for, config_for, asked_verdict, verdict_on}
+use Rattle.dots_machine.specs.MessageRepeats.{Sent, sent_for, Repeats, unless_repeated}
+use Rattle.dots_machine.specs.Facts.{Facts, IsTestOf, AreFacts, stands_as, facts_of}
+use Rattle.dots_machine.specs.Mitigations.{sent_by, request_of, judged, unless_faulty, put_answer, client_for, delete_by, delete_answer, get_by, get_answer}
+use Rattle.dots_machine.specs.Deciding.{in_domain, asks_for, with_mid, put_in, put_for, delete_in, delete_for, get_for, config_for, answer_to}
+use Rattle.dots_machine.specs.Machine.{State, facts_in, DecidesRequest, rules_say, Rules}
 use Rattle.dots_machine.proofs.MessageRepeats.{is_repeated, is_remembered, none_remembered, never_repeated}
 
 -- ---- what stands, as it is shown and as the rules see it
@@ -85,216 +82,134 @@ module _ (lost : ℕ → ℕ → Bool) (domain t : ℕ) (cuid : List ℕ) (mid :
       ∙ ap (λ b. ((is_open m.status && own) && of_mid) || b) go)
       (λ out. go ∙ sym (ap (λ b. b || rest) (other_one (is_open m.status) own of_mid out)))
 
--- ---- on requests of a client
-module _ (time : ℕ) (history : List Entry) (from : ClientRequest) where
-  taken_true : IsInUse time history from → is_taken time history from ≡ true
-  taken_true in_use = taken_collides time history (client_for from) from.peer in_use
+-- ---- the facts that a registry reads
+is_test : (b : Bool) (P : Type 0) → (b ≡ true → P) → (P → b ≡ true) → IsTestOf b P
+is_test true P to from = to refl
+is_test false P to from = λ p. false≢true (from p)
 
-  taken_so : is_taken time history from ≡ true → IsInUse time history from
-  taken_so is = collides_taken time history (client_for from) from.peer is
+-- another test of the same has the same value
+tested : (b test : Bool) (P : Type 0) → IsTestOf b P → (test ≡ true → P) → (P → test ≡ true) → b ≡ test
+tested true test P is to from = sym (from is)
+tested false test P is to from = sym (false_from_ne_true test (λ yes. is (to yes)))
 
-  taken_false : (IsInUse time history from → ⊥) → is_taken time history from ≡ false
-  taken_false free = false_from_ne_true (is_taken time history from) (λ is. free (taken_so is))
+module _ (settings : SettingsValue) (t : ℕ) (history : List Entry) where
+  abbrev read : Facts
+  read = facts_of settings t history
 
-  free_so : is_taken time history from ≡ false → IsInUse time history from → ⊥
-  free_so is in_use = both_ways (is_taken time history from) is (taken_true in_use)
-
-  module _ (mid : ℕ) where
-    abbrev some_stands : Bool
-    some_stands = list_any (stands_as mid) (lives time history from)
-
-    as_rules : some_stands ≡ list_any (has_mid from.cuid mid) (map live_of (mitigations_of from.domain (mitigations time history)))
-    as_rules = same_standing (is_lost_in (held history)) from.domain time from.cuid mid (mitigations_of from.domain (mitigations time history))
-
-    stands_true : (put : Put) → HasMid time history (client_for from) mid put → some_stands ≡ true
-    stands_true put has = as_rules ∙ there_mid time history (client_for from) mid put has
-
-    stands_so : some_stands ≡ true → (put : Put) × HasMid time history (client_for from) mid put
-    stands_so is = mid_stands time history (client_for from) mid (sym as_rules ∙ is)
-
-    stands_false : ((put : Put) → HasMid time history (client_for from) mid put → ⊥) → some_stands ≡ false
-    stands_false none = false_from_ne_true some_stands (λ is. let one = stands_so is in none one.0 one.1)
-
-    delete_valued : (v : Verdict) → DecidesDelete time history from mid v → v ≡ delete_verdict time history from mid
-    delete_valued v (name_taken in_use is) = is ∙ sym (ap (λ b. delete_by time from mid b some_stands) (taken_true in_use))
-    delete_valued v (withdraws put free has is) =
-        is ∙ sym (ap (λ b. delete_by time from mid b some_stands) (taken_false free) ∙ ap (delete_by time from mid false) (stands_true put has))
-    delete_valued v (gone free none is) =
-        is ∙ sym (ap (λ b. delete_by time from mid b some_stands) (taken_false free) ∙ ap (delete_by time from mid false) (stands_false none))
-
-    delete_there : DecidesDelete time history from mid (delete_verdict time history from mid)
-    delete_there = by_test (is_taken time history from) some_stands refl refl
-      where
-        by_test : (in_use stands : Bool) → is_taken time history from ≡ in_use → some_stands ≡ stands → DecidesDelete time history from mid (delete_by time from mid in_use stands)
-        by_test true stands is also = name_taken (taken_so is) refl
-        by_test false true is also = let one = stands_so also in withdraws one.0 (free_so is) one.1 refl
-        by_test false false is also = gone (free_so is) (λ put has. both_ways some_stands also (stands_true put has)) refl
-
-  module _ (mid : Option ℕ) (content : Content) where
-    get_valued : (v : Verdict) → DecidesGet time history from mid content v → v ≡ get_verdict time history from mid content
-    get_valued v (name_in_use in_use is) = is ∙ sym (ap (λ b. get_by from.exchange mid content b (lives time history from)) (taken_true in_use))
-    get_valued v (replies free is) = is ∙ sym (ap (λ b. get_by from.exchange mid content b (lives time history from)) (taken_false free))
-
-    get_there : DecidesGet time history from mid content (get_verdict time history from mid content)
-    get_there = by_test (is_taken time history from) refl
-      where
-        by_test : (in_use : Bool) → is_taken time history from ≡ in_use → DecidesGet time history from mid content (get_by from.exchange mid content in_use (lives time history from))
-        by_test true is = name_in_use (taken_so is) refl
-        by_test false is = replies (free_so is) refl
-
--- ---- on a message that may be a repeat
-module _ (settings : SettingsValue) (t : ℕ) (history : List Entry) (sent : Sent) (P : Verdict → Type 0) (w : Verdict) where
-  repeat_valued : (v : Verdict) → (P v → v ≡ w) → UnlessRepeated settings t history sent P v → v ≡ unless_repeated (repeated settings t history sent) w
-  repeat_valued v valued (repeats entry is same) =
-      same ∙ sym (ap (λ o. unless_repeated o w) (is_remembered settings.limits.remembered t sent history entry is))
-  repeat_valued v valued (is_new never p) =
-      valued p ∙ sym (ap (λ o. unless_repeated o w) (none_remembered settings.limits.remembered t sent history never))
-
-  repeat_there : P w → UnlessRepeated settings t history sent P (unless_repeated (repeated settings t history sent) w)
-  repeat_there p = by_found (repeated settings t history sent) refl
+  repeats_read : (sent : Sent) → Repeats settings.limits.remembered t history sent (read.repeated sent)
+  repeats_read sent = by_found (read.repeated sent) refl
     where
-      by_found : (o : Option Entry) → repeated settings t history sent ≡ o → UnlessRepeated settings t history sent P (unless_repeated o w)
-      by_found (Some entry) at = repeats entry (is_repeated settings.limits.remembered t sent history entry at) refl
-      by_found None at = is_new (never_repeated settings.limits.remembered t sent history at) p
+      by_found : (o : Option Entry) → read.repeated sent ≡ o → Repeats settings.limits.remembered t history sent o
+      by_found (Some entry) at = is_repeated settings.limits.remembered t sent history entry at
+      by_found None at = never_repeated settings.limits.remembered t sent history at
 
--- ---- on a request for a mitigation
-unless_valued : (x : Exchange) (fault : Option TargetFault) (P : Verdict → Type 0) (w v : Verdict) → (P v → v ≡ w) → UnlessFaulty x fault P v → v ≡ unless_faulty x fault w
-unless_valued x (Some fault) P w v valued is = is
-unless_valued x None P w v valued is = valued is
+  module _ (client : Client) (mid : ℕ) where
+    as_rules : read.stands client mid ≡ list_any (has_mid client.cuid mid) (map live_of (mitigations_of client.domain (mitigations t history)))
+    as_rules = same_standing (is_lost_in (held history)) client.domain t client.cuid mid (mitigations_of client.domain (mitigations t history))
 
-unless_there : (x : Exchange) (fault : Option TargetFault) (P : Verdict → Type 0) (w : Verdict) → P w → UnlessFaulty x fault P (unless_faulty x fault w)
-unless_there x (Some fault) P w p = refl
-unless_there x None P w p = p
+    stands_so : read.stands client mid ≡ true → (put : Put) × HasMid t history client mid put
+    stands_so is = mid_stands t history client mid (sym as_rules ∙ is)
 
-module _ (settings : SettingsValue) (time : ℕ) (history : List Entry) (a : MitigationRequest) where
-  abbrev result : Result Judged PutFault
-  result = judge_request settings time history a.from.domain (request_of a)
+    stands_true : (put : Put) × HasMid t history client mid put → read.stands client mid ≡ true
+    stands_true has = as_rules ∙ there_mid t history client mid has.0 has.1
 
-  abbrev fault_there : Option TargetFault
-  fault_there = scope_fault settings (prefixes_of settings a.from.domain) a.body.asked
+  pub are_facts : AreFacts settings t history read
+  are_facts = record {
+    time = refl;
+    repeated = repeats_read;
+    judged = λ domain request. judged_by_places settings t history domain request (read.judged domain request) refl;
+    taken = λ client peer. is_test (read.taken client peer) (IsTaken t history client peer) (collides_taken t history client peer) (taken_collides t history client peer);
+    stands = λ client mid. is_test (read.stands client mid) ((put : Put) × HasMid t history client mid put) (stands_so client mid) (stands_true client mid);
+    views = λ client. refl;
+  }
 
-  rules_valued : (v : Verdict) → ByRules settings time history a v → v ≡ judged time a result
-  rules_valued v by = by.2 ∙ ap (judged time a) (sym (places_judge settings time history a.from.domain (request_of a) by.0 by.1))
+  -- ---- and any others are the same
+  module _ (facts : Facts) (are : AreFacts settings t history facts) where
+    repeated_is : (sent : Sent) → facts.repeated sent ≡ read.repeated sent
+    repeated_is sent = by_found (facts.repeated sent) (are.repeated sent)
+      where
+        by_found : (o : Option Entry) → Repeats settings.limits.remembered t history sent o → o ≡ read.repeated sent
+        by_found (Some entry) is = sym (is_remembered settings.limits.remembered t sent history entry is)
+        by_found None never = sym (none_remembered settings.limits.remembered t sent history never)
 
-  abbrev Unrepeated : Verdict → Type 0
-  Unrepeated v = UnlessRepeated settings time history (sent_by a.from) (ByRules settings time history a) v
+    judged_is : (domain : ℕ) (wish : Wish) → facts.judged domain wish ≡ read.judged domain wish
+    judged_is domain wish = sym (places_judge settings t history domain wish (facts.judged domain wish) (are.judged domain wish))
 
-  abbrev by_judgement : Verdict
-  by_judgement = unless_repeated (repeated settings time history (sent_by a.from)) (judged time a result)
+    taken_is : (client : Client) (peer : ℕ) → facts.taken client peer ≡ read.taken client peer
+    taken_is client peer =
+        tested (facts.taken client peer) (read.taken client peer) (IsTaken t history client peer) (are.taken client peer)
+        (collides_taken t history client peer) (taken_collides t history client peer)
 
-  put_valued : (v : Verdict) → DecidesPut settings time history a v → v ≡ put_verdict settings time history a
-  put_valued v is =
-      unless_valued a.from.exchange fault_there Unrepeated by_judgement v
-      (repeat_valued settings time history (sent_by a.from) (ByRules settings time history a) (judged time a result) v (rules_valued v)) is
+    stands_is : (client : Client) (mid : ℕ) → facts.stands client mid ≡ read.stands client mid
+    stands_is client mid =
+        tested (facts.stands client mid) (read.stands client mid) ((put : Put) × HasMid t history client mid put) (are.stands client mid)
+        (stands_so client mid) (stands_true client mid)
 
-  put_there : DecidesPut settings time history a (put_verdict settings time history a)
-  put_there =
-      unless_there a.from.exchange fault_there Unrepeated by_judgement
-      (repeat_there settings time history (sent_by a.from) (ByRules settings time history a) (judged time a result)
-      (result, judged_by_places settings time history a.from.domain (request_of a) result refl, refl))
+    in_domain_is : (x : Exchange) (found : Option ℕ) (f g : ℕ → Verdict) → ((d : ℕ) → f d ≡ g d) → in_domain x found f ≡ in_domain x found g
+    in_domain_is x None f g each = refl
+    in_domain_is x (Some d) f g each = each d
 
--- ---- on what was received
-in_domain_valued : (x : Exchange) (found : Option ℕ) (P : ℕ → Verdict → Type 0) (f : ℕ → Verdict) (v : Verdict) → ((d : ℕ) → P d v → v ≡ f d) → InDomain x found P v → v ≡ in_domain x found f
-in_domain_valued x None P f v valued is = is
-in_domain_valued x (Some d) P f v valued is = valued d is
+    with_mid_is : (x : Exchange) (mid : Option ℕ) (f g : ℕ → Verdict) → ((m : ℕ) → f m ≡ g m) → with_mid x mid f ≡ with_mid x mid g
+    with_mid_is x None f g each = refl
+    with_mid_is x (Some m) f g each = each m
 
-in_domain_there : (x : Exchange) (found : Option ℕ) (P : ℕ → Verdict → Type 0) (f : ℕ → Verdict) → ((d : ℕ) → P d (f d)) → InDomain x found P (in_domain x found f)
-in_domain_there x None P f each = refl
-in_domain_there x (Some d) P f each = each d
+    put_is : (a : MitigationRequest) → put_answer settings facts a ≡ put_answer settings read a
+    put_is a =
+        let fault = scope_fault settings (prefixes_of settings a.from.domain) a.body.asked in
+        ap (λ o. unless_faulty a.from.exchange fault (unless_repeated o (judged facts.time a (facts.judged a.from.domain (request_of a))))) (repeated_is (sent_by a.from))
+        ∙ ap (λ n. unless_faulty a.from.exchange fault (unless_repeated (read.repeated (sent_by a.from)) (judged n a (facts.judged a.from.domain (request_of a))))) are.time
+        ∙ ap (λ r. unless_faulty a.from.exchange fault (unless_repeated (read.repeated (sent_by a.from)) (judged t a r))) (judged_is a.from.domain (request_of a))
 
-with_mid_valued : (x : Exchange) (mid : Option ℕ) (P : ℕ → Verdict → Type 0) (f : ℕ → Verdict) (v : Verdict) → ((m : ℕ) → P m v → v ≡ f m) → WithMid x mid P v → v ≡ with_mid x mid f
-with_mid_valued x None P f v valued is = is
-with_mid_valued x (Some m) P f v valued is = valued m is
+    delete_is : (from : ClientRequest) (mid : ℕ) → delete_in facts from mid ≡ delete_in read from mid
+    delete_is from mid =
+        ap (λ o. unless_repeated o (delete_answer facts from mid)) (repeated_is (sent_by from))
+        ∙ ap (λ n. unless_repeated (read.repeated (sent_by from)) (delete_by n from mid (facts.taken (client_for from) from.peer) (facts.stands (client_for from) mid))) are.time
+        ∙ ap (λ b. unless_repeated (read.repeated (sent_by from)) (delete_by t from mid b (facts.stands (client_for from) mid))) (taken_is (client_for from) from.peer)
+        ∙ ap (λ b. unless_repeated (read.repeated (sent_by from)) (delete_by t from mid (read.taken (client_for from) from.peer) b)) (stands_is (client_for from) mid)
 
-with_mid_there : (x : Exchange) (mid : Option ℕ) (P : ℕ → Verdict → Type 0) (f : ℕ → Verdict) → ((m : ℕ) → P m (f m)) → WithMid x mid P (with_mid x mid f)
-with_mid_there x None P f each = refl
-with_mid_there x (Some m) P f each = each m
+    get_is : (from : ClientRequest) (mid : Option ℕ) (content : Content) → get_answer facts from mid content ≡ get_answer read from mid content
+    get_is from mid content =
+        ap (λ b. get_by from.exchange mid content b (facts.views (client_for from))) (taken_is (client_for from) from.peer)
+        ∙ ap (get_by from.exchange mid content (read.taken (client_for from) from.peer)) (are.views (client_for from))
 
+    module _ (peer : ℕ) (x : Exchange) where
+      config_is : in_domain x (session_domain (role_of settings peer)) (config_for facts peer x) ≡ in_domain x (session_domain (role_of settings peer)) (config_for read peer x)
+      config_is =
+          in_domain_is x (session_domain (role_of settings peer)) (config_for facts peer x) (config_for read peer x)
+          (λ d. ap (λ o. unless_repeated o (verdict.Reply (not_implemented x))) (repeated_is (sent_for peer x d)))
+
+      answer_is : (r : Request) → answer_to settings facts peer x r ≡ answer_to settings read peer x r
+      answer_is (request.PutMitigation path body) =
+          in_domain_is x (domain_for settings (role_of settings peer) path.cdid) (put_for settings facts peer x path body) (put_for settings read peer x path body)
+          (λ d.
+          with_mid_is x path.mid (put_in settings facts (asks_for peer x path d) body) (put_in settings read (asks_for peer x path d) body)
+          (λ m. put_is (record { from = asks_for peer x path d; mid = m; body = body })))
+      answer_is (request.GetMitigation path content observe) =
+          in_domain_is x (domain_for settings (role_of settings peer) path.cdid) (get_for facts peer x path content) (get_for read peer x path content)
+          (λ d. get_is (asks_for peer x path d) path.mid content)
+      answer_is (request.DeleteMitigation path) =
+          in_domain_is x (domain_for settings (role_of settings peer) path.cdid) (delete_for facts peer x path) (delete_for read peer x path)
+          (λ d. with_mid_is x path.mid (delete_in facts (asks_for peer x path d)) (delete_in read (asks_for peer x path d)) (delete_is (asks_for peer x path d)))
+      answer_is (request.PutConfig sid body) = config_is
+      answer_is (request.GetConfig sid) = refl
+      answer_is (request.DeleteConfig sid) = config_is
+      answer_is (request.PutHeartbeat heard) = refl
+
+    say_is : (peer : ℕ) (got : Received) → rules_say settings facts peer got ≡ rules_say settings read peer got
+    say_is peer (received.Dismissed d) = refl
+    say_is peer (received.Refused x e) = refl
+    say_is peer (received.Asked x r) = answer_is peer x r
+
+-- ---- what is decided in a state
 module _ (settings : SettingsValue) (state : State) (peer : ℕ) where
-  module _ (x : Exchange) (path : MitigationPath) (d : ℕ) where
-    abbrev asking : ClientRequest
-    asking = asks_for peer x path d
+  pub request_valued : (x : Exchange) (r : Request) (v : Verdict) → DecidesRequest settings state peer x r v → v ≡ answer_to settings (facts_in settings state) peer x r
+  request_valued x r v is = is.2 ∙ answer_is settings state.time state.history is.0 is.1 peer x r
 
-    abbrev asked_with : MitigationBody → ℕ → MitigationRequest
-    asked_with body mid = record { from = asking; mid = mid; body = body }
+  pub request_there : (x : Exchange) (r : Request) → DecidesRequest settings state peer x r (answer_to settings (facts_in settings state) peer x r)
+  request_there x r = (facts_in settings state, are_facts settings state.time state.history, refl)
 
-    put_for_valued : (body : MitigationBody) (v : Verdict) → PutFor settings state peer x path body d v → v ≡ put_for settings state peer x path body d
-    put_for_valued body v is =
-        with_mid_valued x path.mid (PutIn settings state asking body) (put_in settings state asking body) v
-        (λ mid. put_valued settings state.time state.history (asked_with body mid) v) is
+  pub valued : (got : Received) (v : Verdict) → Rules settings state peer got v → v ≡ rules_say settings (facts_in settings state) peer got
+  valued got v is = is.2 ∙ say_is settings state.time state.history is.0 is.1 peer got
 
-    put_for_there : (body : MitigationBody) → PutFor settings state peer x path body d (put_for settings state peer x path body d)
-    put_for_there body =
-        with_mid_there x path.mid (PutIn settings state asking body) (put_in settings state asking body)
-        (λ mid. put_there settings state.time state.history (asked_with body mid))
-
-    delete_for_valued : (v : Verdict) → DeleteFor settings state peer x path d v → v ≡ delete_for settings state peer x path d
-    delete_for_valued v is =
-        with_mid_valued x path.mid (DeleteIn settings state asking) (delete_in settings state asking) v
-        (λ mid.
-        repeat_valued settings state.time state.history (sent_by asking) (DecidesDelete state.time state.history asking mid) (delete_verdict state.time state.history asking mid) v
-        (delete_valued state.time state.history asking mid v)) is
-
-    delete_for_there : DeleteFor settings state peer x path d (delete_for settings state peer x path d)
-    delete_for_there =
-        with_mid_there x path.mid (DeleteIn settings state asking) (delete_in settings state asking)
-        (λ mid.
-        repeat_there settings state.time state.history (sent_by asking) (DecidesDelete state.time state.history asking mid) (delete_verdict state.time state.history asking mid)
-        (delete_there state.time state.history asking mid))
-
-  abbrev unserved : Exchange → Verdict → Type 0
-  unserved x v = v ≡ verdict.Reply (not_implemented x)
-
-  config_valued : (x : Exchange) (v : Verdict) → InDomain x (session_domain (role_of settings peer)) (ConfigFor settings state peer x) v
-      → v ≡ in_domain x (session_domain (role_of settings peer)) (config_for settings state peer x)
-  config_valued x v is =
-      in_domain_valued x (session_domain (role_of settings peer)) (ConfigFor settings state peer x) (config_for settings state peer x) v
-      (λ d. repeat_valued settings state.time state.history (sent_for peer x d) (unserved x) (verdict.Reply (not_implemented x)) v (λ same. same)) is
-
-  config_there : (x : Exchange)
-      → InDomain x (session_domain (role_of settings peer)) (ConfigFor settings state peer x) (in_domain x (session_domain (role_of settings peer)) (config_for settings state peer x))
-  config_there x =
-      in_domain_there x (session_domain (role_of settings peer)) (ConfigFor settings state peer x) (config_for settings state peer x)
-      (λ d. repeat_there settings state.time state.history (sent_for peer x d) (unserved x) (verdict.Reply (not_implemented x)) refl)
-
-  abbrev found : MitigationPath → Option ℕ
-  found path = domain_for settings (role_of settings peer) path.cdid
-
-  pub request_valued : (x : Exchange) (r : Request) (v : Verdict) → DecidesRequest settings state peer x r v → v ≡ asked_verdict settings state peer x r
-  request_valued x (request.PutMitigation path body) v is =
-      in_domain_valued x (found path) (PutFor settings state peer x path body) (put_for settings state peer x path body) v (λ d. put_for_valued x path d body v) is
-  request_valued x (request.GetMitigation path content observe) v is =
-      in_domain_valued x (found path) (GetFor state peer x path content) (get_for state peer x path content) v
-      (λ d. get_valued state.time state.history (asking x path d) path.mid content v) is
-  request_valued x (request.DeleteMitigation path) v is =
-      in_domain_valued x (found path) (DeleteFor settings state peer x path) (delete_for settings state peer x path) v (λ d. delete_for_valued x path d v) is
-  request_valued x (request.PutConfig sid body) v is = config_valued x v is
-  request_valued x (request.GetConfig sid) v is = is
-  request_valued x (request.DeleteConfig sid) v is = config_valued x v is
-  request_valued x (request.PutHeartbeat heard) v is = is
-
-  pub request_there : (x : Exchange) (r : Request) → DecidesRequest settings state peer x r (asked_verdict settings state peer x r)
-  request_there x (request.PutMitigation path body) =
-      in_domain_there x (found path) (PutFor settings state peer x path body) (put_for settings state peer x path body) (λ d. put_for_there x path d body)
-  request_there x (request.GetMitigation path content observe) =
-      in_domain_there x (found path) (GetFor state peer x path content) (get_for state peer x path content)
-      (λ d. get_there state.time state.history (asking x path d) path.mid content)
-  request_there x (request.DeleteMitigation path) =
-      in_domain_there x (found path) (DeleteFor settings state peer x path) (delete_for settings state peer x path) (λ d. delete_for_there x path d)
-  request_there x (request.PutConfig sid body) = config_there x
-  request_there x (request.GetConfig sid) = refl
-  request_there x (request.DeleteConfig sid) = config_there x
-  request_there x (request.PutHeartbeat heard) = refl
-
-  pub valued : (got : Received) (v : Verdict) → Rules settings state peer got v → v ≡ verdict_on settings state peer got
-  valued (received.Dismissed d) v is = is
-  valued (received.Refused x e) v is = is
-  valued (received.Asked x r) v is = request_valued x r v is
-
-  pub there : (got : Received) → Rules settings state peer got (verdict_on settings state peer got)
-  there (received.Dismissed d) = refl
-  there (received.Refused x e) = refl
-  there (received.Asked x r) = request_there x r
-
-  pub ruled : (got : Received) (v : Verdict) → v ≡ verdict_on settings state peer got → Rules settings state peer got v
-  ruled got v is = subst (Rules settings state peer got) (sym is) (there got)
+  pub ruled : (got : Received) (v : Verdict) → v ≡ rules_say settings (facts_in settings state) peer got → Rules settings state peer got v
+  ruled got v is = (facts_in settings state, are_facts settings state.time state.history, is)

@@ -11,7 +11,7 @@ use Rattle.dots_machine.specs.Domains.{is_gateway}
 use Rattle.dots_machine.specs.Requests.{IsReceived}
 use Rattle.dots_machine.specs.Machine.{State, later, is_stranger, Rules}
 use Rattle.dots_machine.specs.Answering.{IsHandedIn, IsUnavailable}
-use Rattle.dots_machine.specs.Turns.{Turn, IsTurn}
+use Rattle.dots_machine.specs.Handlings.{Handling, IsHandling}
 
 -- What a peer sent is no stranger's, and the rules accept it with this entry.
 pub record AcceptsDatagram (settings : SettingsValue) (state : State) (peer : ℕ) (datagram : List ℕ) (entry : Entry) : Type 0 where
@@ -25,10 +25,10 @@ abbrev pub Accepts : SettingsValue → State → Event → Entry → Type 0
 Accepts settings state (event.Datagram peer datagram) entry = AcceptsDatagram settings state peer datagram entry
 Accepts settings state _ entry = ⊥
 
--- A turn adds at most one entry to the history, and exactly where the rules accept what came, at its time, with that entry; or 5.00 was
+-- A handling adds at most one entry to the history, and exactly where the rules accept what came, at its time, with that entry; or 5.00 was
 -- answered, for want of memory.
-pub record AddsExactly (settings : SettingsValue) (old : State) (turn : Turn) (new : State) : Type 0 where
-  pub turns : IsTurn settings old turn new
-  pub added : (new.history ≡ old.history) ⊎ ((entry : Entry) × (new.history ≡ old.history ++ entry ∷ []) × Accepts settings (later old turn.at) turn.what entry)
-  pub accepted : IsHandedIn turn.what → (entry : Entry) → Accepts settings (later old turn.at) turn.what entry
-      → (new.history ≡ old.history ++ entry ∷ []) ⊎ IsUnavailable turn.what turns.owed
+pub record AddsExactly (settings : SettingsValue) (old : State) (handling : Handling) (new : State) : Type 0 where
+  pub handled : IsHandling settings old handling new
+  pub added : (new.history ≡ old.history) ⊎ ((entry : Entry) × (new.history ≡ old.history ++ entry ∷ []) × Accepts settings (later old handling.at) handling.what entry)
+  pub accepted : IsHandedIn handling.what → (entry : Entry) → Accepts settings (later old handling.at) handling.what entry
+      → (new.history ≡ old.history ++ entry ∷ []) ⊎ IsUnavailable handling.what handled.owed

@@ -1,9 +1,10 @@
 -- How a run ends, with which status, and what it has done then.
-use Rattle.std.specs.Prelude.{◌≡◌, ◌≢◌, ℕ, ◌≤◌, ◌^◌, List, [], ◌++◌, Bool, true, false, codes, decimal, IfSome, Option, Some, ◌⊎◌, ⊤}
+use Rattle.std.specs.Prelude.{◌≡◌, ◌≢◌, ℕ, ◌≤◌, ◌^◌, List, [], ◌∷◌, ◌++◌, Bool, true, false, codes, decimal, IfSome, Option, Some, ◌⊎◌, ⊤}
 use Rattle.std.specs.Io.KnownBytes.{Appends}
+use Rattle.dots_host.specs.declared.event.Event.{Event}
 use Rattle.dots_host.specs.declared.event.Event.TheVariants as event
-use Rattle.dots_host.specs.Acts.{Timed}
-use Rattle.dots_host.specs.Runs.{Owing, resting, Added, GoOn, EndsBy, events_in}
+use Rattle.dots_host.specs.Acts.{WireAct, took, Timed}
+use Rattle.dots_host.specs.Runs.{Owing, resting, Turn, owed_in, each_telling, outs_of, Added, GoOn, EndsBy, events_in}
 use Rattle.dots_host.specs.Writing.{AppendsBeginning, Writes}
 use Rattle.dots_settings.specs.declared.fault.SettingsFault.{SettingsFault}
 use Rattle.dots_settings.specs.Settings.{SettingsValue}
@@ -21,7 +22,7 @@ use Rattle.slot_journal.specs.declared.fault.JournalFault.TheVariants as faults
 use Rattle.slot_journal.specs.DiskEntries.{Holds}
 use Rattle.dots_history.specs.declared.entry.Entry.{Entry}
 use Rattle.dots_laws.specs.Fits.{is_calm}
-use Rattle.dots_ledger.specs.Beginning.{RefusesLedger, IsFailure}
+use Rattle.slot_journal.specs.Untaken.{RefusesLedger, IsFailure}
 use Rattle.hex.specs.Hex.{encode_lower}
 use Rattle.plain_text.specs.HexText.{IsHex}
 use Rattle.coap_message.specs.Message.{CoapMessage, IsMessage, spelling}
@@ -34,13 +35,13 @@ use Rattle.dots_machine.specs.declared.ending.Printing.TheVariants as printings
 use Rattle.dots_machine.specs.declared.ending.Stop.{Stop}
 use Rattle.dots_machine.specs.declared.ending.Stop.TheVariants as stop
 use Rattle.dots_machine.specs.Commands.{is_served, is_show, is_command, second_of}
-use Rattle.dots_machine.specs.Machine.{State, begun_from}
-use Rattle.dots_machine.specs.Turns.{Turn, EachTurn, turns_of}
+use Rattle.dots_machine.specs.Machine.{State, begun_from, StepInto}
+use Rattle.dots_machine.specs.Handlings.{AreSends, Handling, EachHandling, handlings_of}
 use Rattle.dots_machine.specs.Adding.{AddsExactly}
 use Rattle.dots_machine.specs.RepeatAnswers.{AnswersRepeats}
 use Rattle.dots_machine.specs.Isolation.{IsIsolated}
 use Rattle.dots_machine.specs.Orderly.{IsOrderly}
-use Rattle.dots_machine.specs.Surviving.{Story, Survives}
+use Rattle.dots_machine.specs.Surviving.{Story, told_by, Survives}
 use Rattle.dots_machine.specs.Outside.{Outside, SourceFailed, WireFailed, DiskFailed, ReportFailed}
 use Rattle.dots_machine.specs.Report.{report_of, Contained}
 
@@ -96,17 +97,46 @@ Stops stop.TooMany acts = GoOn acts × (events_in acts ≡ 2 ^ 40)
 Stops stop.DiskFailed acts = GoOn acts
 Stops (stop.Unrecovered fault) acts = EndsBy event.Restart acts
 
--- The acts are a run of the machine with these settings from a state on, which tells this trace, owes this in the end, and stops so.
+-- The acts are those of an event in the middle of which the disk failed: it was taken, and the sends of the turns that were carried out were
+-- given. What the turn owes that was being written was not.
+pub record BreaksOff (settings : SettingsValue) (state : State) (trace : List State) (end : Owing State) (acts : List Timed) : Type 0 where
+  pub moment : ℕ
+  pub came : Event
+  pub at : ℕ
+  pub turns : List (Turn State)
+  pub last : Turn State
+  pub into : StepInto settings state came at turns last
+  pub given : List Timed
+  pub acts_are : acts ≡ (record { moment = moment; act = took came at }) ∷ given
+  pub sent : AreSends (outs_of (owed_in turns)) given
+  pub trace_is : trace ≡ last.left ∷ told_by (owed_in turns)
+  pub end_is : end ≡ record { last = last.left; owed = each_telling last.left last.sends }
+
+-- what comes behind the whole events, by how they stop: one in which the disk failed, or nothing
+abbrev pub EndsBehind : Stop → SettingsValue → State → List State → Owing State → List Timed → Type 0
+EndsBehind stop.DiskFailed settings state trace end acts = BreaksOff settings state trace end acts
+EndsBehind _ settings state trace end acts = (acts ≡ []) × (trace ≡ []) × (end ≡ resting state)
+
+-- The acts stop so. Those of the whole events are a run of the machine with these settings from a state on. Behind them may come those of the
+-- event in which the disk failed. They tell this trace, and this is owed in the end.
 pub record Ran (settings : SettingsValue) (start : State) (trace : List State) (end : Owing State) (how : Stop) (acts : List Timed) : Type 0 where
-  pub run : Story settings (resting start) acts trace end
+  pub whole : List Timed
+  pub behind : List Timed
+  pub acts_are : acts ≡ whole ++ behind
+  pub told : List State
+  pub told_behind : List State
+  pub trace_is : trace ≡ told ++ told_behind
+  pub state : State
+  pub run : Story settings (resting start) whole told (resting state)
+  pub ends : EndsBehind how settings state told_behind end behind
   pub stops : Stops how acts
 
--- What holds of a run from the one state to the other, by its turns: each adds an entry exactly where the rules accept what came; each answers a
+-- What holds of a run from the one state to the other, by what becomes of its events: each adds an entry exactly where the rules accept what came; each answers a
 -- repeat as the message was answered; each domain is isolated; and the mitigations that stand in the end stand apart, where they did at the start.
-pub record KeepsLaws (settings : SettingsValue) (start : State) (turns : List Turn) (end : State) : Type 0 where
-  pub adding : EachTurn (AddsExactly settings) start turns end
-  pub repeating : EachTurn (AnswersRepeats settings) start turns end
-  pub isolated : (domain : ℕ) → IsIsolated settings start turns end domain
+pub record KeepsLaws (settings : SettingsValue) (start : State) (handlings : List Handling) (end : State) : Type 0 where
+  pub adding : EachHandling (AddsExactly settings) start handlings end
+  pub repeating : EachHandling (AnswersRepeats settings) start handlings end
+  pub isolated : (domain : ℕ) → IsIsolated settings start handlings end domain
   pub orderly : IsOrderly start → IsOrderly end
 
 -- whether the disk failed in the middle of an event, which may then owe sends
@@ -114,37 +144,58 @@ abbrev pub IsSettled : Stop → Owing State → Type 0
 IsSettled stop.DiskFailed end = ⊤
 IsSettled _ end = end.owed ≡ []
 
+-- a restart is among the acts
+abbrev pub IsRestart : WireAct → Type 0
+IsRestart (took event.Restart at) = ⊤
+IsRestart _ = ⊥
+
+abbrev pub AnyRestart : List Timed → Type 0
+AnyRestart [] = ⊥
+AnyRestart (timed ∷ acts) = IsRestart timed.act ⊎ AnyRestart acts
+
+-- The acts are told, and no restart was added to them.
+abbrev pub NeverRestarts : Option (List Timed) → Option (List Timed) → Type 0
+NeverRestarts (Some old) (Some new) = (more : List Timed) × (new ≡ old ++ more) × ¬ (AnyRestart more)
+NeverRestarts _ _ = ⊥
+
+-- A run is known from what its disk held. Where the disk isn't told, it is known from its acts, if no restart is among them: what a server recovers
+-- at a restart is what the disk has.
+pub data IsKnown (before now : Outside) : Type 0 where
+  by_disk : (seen : ℕ → ℕ) → Sees before.media seen → IsKnown before now
+  by_acts : NeverRestarts before.acts now.acts → IsKnown before now
+
 -- a restart found what had been left: where it didn't, that was for want of memory or for a failure of the disk
 abbrev pub IsFound : Stop → Type 0
 IsFound (stop.Unrecovered fault) = IsFailure fault
 IsFound _ = ⊤
 
 -- What is said of the acts of a server with these settings that began from a state: they are a run of the machine, which owes nothing in the
--- end, but where the disk failed in the middle of an event; it keeps the laws; and where nothing was pending on the disk at the start, a
--- crash at any moment leaves a disk that means a front of the history, with all that was told before.
+-- end, but where the disk failed in the middle of an event; its whole events keep the laws, however it ends; and where nothing was pending on
+-- the disk at the start, a crash at any moment leaves a disk that means a front of the history, with all that was told before.
 pub record HasRun (settings : SettingsValue) (start : State) (how : Stop) (before now : Outside) (trace : List State) (end : Owing State) (acts : List Timed) : Type 0 where
   pub ran : Ran settings start trace end how acts
-  pub laws : end.owed ≡ [] → KeepsLaws settings start (turns_of acts) end.last
+  pub laws : KeepsLaws settings start (handlings_of ran.whole) ran.state
   pub survives : (seen : ℕ → ℕ) → RestsWith before.media (Is seen) → Survives settings start before.media now.media acts trace end.last.history
 
--- A run from what the disk held, where the disk is told: the acts are a run of the machine from there; at a restart the disk isn't refused; each
+-- A run from these entries: the acts are a run of the machine from there; at a restart the disk isn't refused; each
 -- filter of the last state lies inside the domain of the request that made it; and it wrote of this state what it says.
 pub record RunsFrom (settings : SettingsValue) (held : List Entry) (how : Stop) (before now : Outside) (wrote : State → Type 0) : Type 0 where
   pub end : Owing State
   pub settled : IsSettled how end
   pub found : IsFound how
   pub trace : List State
-  pub has_run : Added before.acts now.acts (HasRun settings (begun_from held) how before now trace end)
+  pub has_run : Added before.acts now.acts (HasRun settings (begun_from settings held) how before now trace end)
   pub contained : Contained settings end.last
   pub reports : wrote end.last
 
 -- A server with these settings has served: it recovered calm entries, which are what the disk held, where it is told; and then its acts are a
--- run from them. For every host it wrote of some state what it says, and each filter of that state lies inside the domain of its request.
+-- run from them, where the disk is told, or where the acts are and none is a restart. For every host it wrote of some state what it says, and
+-- each filter of that state lies inside the domain of its request.
 pub record Serves (settings : SettingsValue) (how : Stop) (before now : Outside) (wrote : State → Type 0) : Type 0 where
   pub held : List Entry
   pub calm : is_calm settings held ≡ true
   pub was_held : (seen : ℕ → ℕ) → Sees before.media seen → Holds settings seen held
-  pub runs_from : (seen : ℕ → ℕ) → Sees before.media seen → RunsFrom settings held how before now wrote
+  pub runs_from : IsKnown before now → RunsFrom settings held how before now wrote
   pub any : (state : State) × Contained settings state × wrote state
 
 -- where a disk is refused for what it holds its line is written, the whole of it or, where the sink failed, a beginning; and nothing where the

@@ -1,10 +1,10 @@
 -- The machine: its state, what it decides on a datagram, and a step.
-use Rattle.std.specs.Prelude.{◌≡◌, ℕ, Bool, true, false, max, List, [], ◌∷◌, ◌++◌, Option, Some, None, IsOk}
+use Rattle.std.specs.Prelude.{◌≡◌, ℕ, Bool, true, false, max, List, [], ◌∷◌, ◌++◌, map, flat_map, None, IsOk}
 use Rattle.dots_host.specs.declared.event.Event.{Event}
 use Rattle.dots_host.specs.declared.event.Event.TheVariants as event
 use Rattle.dots_host.specs.declared.out.OwnedOut.{OwnedOut}
 use Rattle.dots_host.specs.declared.out.OwnedOut.TheVariants as owned
-use Rattle.dots_host.specs.Runs.{in_one_turn}
+use Rattle.dots_host.specs.Runs.{Turn, in_one_turn}
 use Rattle.coap_message.specs.declared.kind.Kind.{Kind}
 use Rattle.coap_message.specs.declared.kind.Kind.TheVariants.{Con}
 use Rattle.coap_message.specs.Message.{CoapMessage, IsMessage, spelling}
@@ -14,101 +14,70 @@ use Rattle.dots_settings.specs.Settings.{SettingsValue}
 use Rattle.dots_settings.specs.Lookups.{role_of}
 use Rattle.dots_history.specs.declared.entry.Entry.{Entry}
 use Rattle.dots_laws.specs.Fits.{last_time}
+use Rattle.coap_observe.specs.Observed.{ObservedValue}
+use Rattle.session_core.specs.declared.contact.PeerContact.{PeerContact}
+use Rattle.session_core.specs.Contacts.{unheard}
+use Rattle.stream_table.specs.Lines.{PeerLines, no_lines}
 use Rattle.dots_heads.specs.declared.reject.Reject.{Reject}
 use Rattle.dots_heads.specs.declared.reject.Reject.TheVariants as reject
-use Rattle.dots_heads.specs.declared.request.Content.{Content}
-use Rattle.dots_heads.specs.declared.request.MitigationPath.{MitigationPath}
 use Rattle.dots_heads.specs.Heads.{head_of}
 use Rattle.dots_keys.specs.declared.request.Request.{Request}
-use Rattle.dots_keys.specs.declared.request.Request.TheVariants as request
-use Rattle.dots_keys.specs.declared.request.MitigationBody.{MitigationBody}
 use Rattle.dots_machine.specs.declared.exchange.Exchange.{Exchange}
 use Rattle.dots_machine.specs.declared.dismissal.Dismissal.{Dismissal}
 use Rattle.dots_machine.specs.declared.dismissal.Dismissal.TheVariants as dismissal
 use Rattle.dots_machine.specs.declared.received.Received.{Received}
 use Rattle.dots_machine.specs.declared.received.Received.TheVariants as received
-use Rattle.dots_machine.specs.declared.client_request.ClientRequest.{ClientRequest}
-use Rattle.dots_machine.specs.declared.verdict.Verdict.{Verdict}
+use Rattle.dots_machine.specs.Verdict.{Verdict}
 use Rattle.dots_machine.specs.declared.verdict.Verdict.TheVariants as verdict
-use Rattle.dots_machine.specs.Domains.{is_gateway, domain_for, session_domain}
+use Rattle.dots_machine.specs.Domains.{is_gateway}
 use Rattle.dots_machine.specs.Exchanges.{exchange_in, dismissed}
 use Rattle.dots_machine.specs.Requests.{IsReceived}
-use Rattle.dots_machine.specs.Replies.{not_implemented, unavailable, reset_message, rejection, bad_parameter}
-use Rattle.dots_machine.specs.MessageRepeats.{sent_for, UnlessRepeated}
-use Rattle.dots_machine.specs.Mitigations.{sent_by, DecidesPut, DecidesDelete, DecidesGet}
+use Rattle.dots_machine.specs.Replies.{unavailable, reset_message, rejection}
+use Rattle.dots_machine.specs.Facts.{Facts, AreFacts, facts_of}
+use Rattle.dots_machine.specs.Deciding.{answer_to}
 
--- the history, and the time of the last event
+-- The history, and the time of the last event. In memory alone: the connections of each client's peer with the bytes that they hold, the
+-- observers in the order of their registration, and for each peer when it was heard.
 pub record State : Type 0 where
   pub history : List Entry
   pub time : ℕ
+  pub lines : List PeerLines
+  pub observers : List ObservedValue
+  pub contacts : List PeerContact
+
+-- nothing but the history and a time: no connection is open, nobody observes, and no peer was heard
+abbrev pub afresh : SettingsValue → List Entry → ℕ → State
+afresh settings history time = record {
+  history = history;
+  time = time;
+  lines = flat_map no_lines settings.peers;
+  observers = [];
+  contacts = map unheard settings.peers;
+}
 
 -- what the disk held was accepted before, and it is the time of the last entry, or 0 where there is none
-abbrev pub begun_from : List Entry → State
-begun_from entries = record { history = entries; time = last_time entries }
+abbrev pub begun_from : SettingsValue → List Entry → State
+begun_from settings entries = afresh settings entries (last_time entries)
 
 -- Within a run the time doesn't fall: it is the greater of the time handed in and the time before.
 abbrev pub later : State → ℕ → State
 later state at = record state { time = max at state.time }
 
--- The machine restarts: what was accepted stays, and the time is the greater of the time handed in and that of the last entry.
-abbrev pub restarted : State → ℕ → State
-restarted state at = record state { time = max at (last_time state.history) }
+-- The machine restarts: what was accepted stays and no more, and the time is the greater of the time handed in and that of the last entry.
+abbrev pub restarted : SettingsValue → State → ℕ → State
+restarted settings state at = afresh settings state.history (max at (last_time state.history))
 
 abbrev pub with_entry : State → Entry → State
 with_entry state entry = record state { history = state.history ++ entry ∷ [] }
 
--- for a domain that there is, or a parameter is wrong
-abbrev pub InDomain : Exchange → Option ℕ → (ℕ → Verdict → Type 0) → Verdict → Type 0
-InDomain exchange None Decided decided = decided ≡ verdict.Reply (bad_parameter exchange)
-InDomain exchange (Some domain) Decided decided = Decided domain decided
+-- what is known in a state
+abbrev pub facts_in : SettingsValue → State → Facts
+facts_in settings state = facts_of settings state.time state.history
 
--- who asks, for which domain, with the path of the request
-abbrev pub asks_for : ℕ → Exchange → MitigationPath → ℕ → ClientRequest
-asks_for peer exchange path domain = record { peer = peer; domain = domain; exchange = exchange; cuid = path.cuid }
-
--- with a mid, or a parameter is missing
-abbrev pub WithMid : Exchange → Option ℕ → (ℕ → Verdict → Type 0) → Verdict → Type 0
-WithMid exchange None Decided decided = decided ≡ verdict.Reply (bad_parameter exchange)
-WithMid exchange (Some mid) Decided decided = Decided mid decided
-
-abbrev pub PutIn : SettingsValue → State → ClientRequest → MitigationBody → ℕ → Verdict → Type 0
-PutIn settings state from body mid decided = DecidesPut settings state.time state.history (record { from = from; mid = mid; body = body }) decided
-
--- what is asked of the mitigations of a client in a domain
-abbrev pub PutFor : SettingsValue → State → ℕ → Exchange → MitigationPath → MitigationBody → ℕ → Verdict → Type 0
-PutFor settings state peer exchange path body domain decided =
-    WithMid exchange path.mid (PutIn settings state (asks_for peer exchange path domain) body) decided
-
-abbrev pub DeleteIn : SettingsValue → State → ClientRequest → ℕ → Verdict → Type 0
-DeleteIn settings state from mid decided =
-    UnlessRepeated settings state.time state.history (sent_by from) (DecidesDelete state.time state.history from mid) decided
-
-abbrev pub DeleteFor : SettingsValue → State → ℕ → Exchange → MitigationPath → ℕ → Verdict → Type 0
-DeleteFor settings state peer exchange path domain decided =
-    WithMid exchange path.mid (DeleteIn settings state (asks_for peer exchange path domain)) decided
-
-abbrev pub GetFor : State → ℕ → Exchange → MitigationPath → Content → ℕ → Verdict → Type 0
-GetFor state peer exchange path content domain decided =
-    DecidesGet state.time state.history (asks_for peer exchange path domain) path.mid content decided
-
--- what is asked of the configuration of a session, for the domain in which the peer has it
-abbrev pub ConfigFor : SettingsValue → State → ℕ → Exchange → ℕ → Verdict → Type 0
-ConfigFor settings state peer exchange domain decided =
-    UnlessRepeated settings state.time state.history (sent_for peer exchange domain) (λ v. v ≡ verdict.Reply (not_implemented exchange)) decided
-
--- what is decided on a request
+-- what is decided on a request, by what is known of the history at the time
 abbrev pub DecidesRequest : SettingsValue → State → ℕ → Exchange → Request → Verdict → Type 0
-DecidesRequest settings state peer exchange (request.PutMitigation path body) decided =
-    InDomain exchange (domain_for settings (role_of settings peer) path.cdid) (PutFor settings state peer exchange path body) decided
-DecidesRequest settings state peer exchange (request.GetMitigation path content observe) decided =
-    InDomain exchange (domain_for settings (role_of settings peer) path.cdid) (GetFor state peer exchange path content) decided
-DecidesRequest settings state peer exchange (request.DeleteMitigation path) decided =
-    InDomain exchange (domain_for settings (role_of settings peer) path.cdid) (DeleteFor settings state peer exchange path) decided
-DecidesRequest settings state peer exchange (request.PutConfig sid body) decided =
-    InDomain exchange (session_domain (role_of settings peer)) (ConfigFor settings state peer exchange) decided
-DecidesRequest settings state peer exchange (request.DeleteConfig sid) decided =
-    InDomain exchange (session_domain (role_of settings peer)) (ConfigFor settings state peer exchange) decided
-DecidesRequest settings state peer exchange _ decided = decided ≡ verdict.Reply (not_implemented exchange)
+DecidesRequest settings state peer exchange asked decided =
+    (facts : Facts) × AreFacts settings state.time state.history facts × (decided ≡ answer_to settings facts peer exchange asked)
 
 -- A message with a critical option that isn't recognised is answered where it is confirmable (RFC 7252, section 5.4.1); any other
 -- that is refused is answered.
@@ -124,11 +93,15 @@ abbrev pub dismissal_verdict : Dismissal → Verdict
 dismissal_verdict dismissal.Ignored = verdict.Silent
 dismissal_verdict (dismissal.Reset id) = verdict.Reply (reset_message id)
 
--- what the rules say of what a client or a gateway sent
+-- what the rules say of what a client or a gateway sent, by what is known
+abbrev pub rules_say : SettingsValue → Facts → ℕ → Received → Verdict
+rules_say settings facts peer (received.Dismissed answered) = dismissal_verdict answered
+rules_say settings facts peer (received.Refused exchange reject) = reject_verdict exchange reject
+rules_say settings facts peer (received.Asked exchange request) = answer_to settings facts peer exchange request
+
 abbrev pub Rules : SettingsValue → State → ℕ → Received → Verdict → Type 0
-Rules settings state peer (received.Dismissed answer) decided = decided ≡ dismissal_verdict answer
-Rules settings state peer (received.Refused exchange reject) decided = decided ≡ reject_verdict exchange reject
-Rules settings state peer (received.Asked exchange request) decided = DecidesRequest settings state peer exchange request decided
+Rules settings state peer got decided =
+    (facts : Facts) × AreFacts settings state.time state.history facts × (decided ≡ rules_say settings facts peer got)
 
 abbrev pub is_stranger : Role → Bool
 is_stranger role.Stranger = true
@@ -174,5 +147,13 @@ abbrev pub Step : SettingsValue → State → Event → ℕ → List (State × O
 Step settings old (event.Datagram peer datagram) at owed new = in_one_turn (λ sends. Answers settings (later old at) peer datagram sends new) owed new
 Step settings old event.End at owed new = (owed ≡ []) × (new ≡ old)
 Step settings old event.Failed at owed new = (owed ≡ []) × (new ≡ old)
-Step settings old event.Restart at owed new = (owed ≡ []) × (new ≡ restarted old at)
+Step settings old event.Restart at owed new = (owed ≡ []) × (new ≡ restarted settings old at)
 Step settings old _ at owed new = (owed ≡ []) × (new ≡ later old at)
+
+-- In the middle of an event the disk failed. These turns of the event were carried out, and the one after them was being written, which has an
+-- entry. What comes behind it in the event isn't taken up. An event that writes nothing can't be cut so.
+abbrev pub StepInto : SettingsValue → State → Event → ℕ → List (Turn State) → Turn State → Type 0
+StepInto settings old (event.Datagram peer datagram) at turns last =
+    (turns ≡ []) × (reply : List ℕ) × (entry : Entry) × Decides settings (later old at) peer datagram (verdict.Accept reply entry)
+    × (last ≡ (record { sends = owned.To peer reply ∷ []; left = with_entry (later old at) entry }))
+StepInto settings old _ at turns last = ⊥

@@ -1,11 +1,10 @@
 -- Which messages are repeats of one that was accepted, and what they are answered (RFC 7252, section 4.5).
-use Rattle.std.specs.Prelude.{◌≡◌, ℕ, suc, ◌<◌, true, false, List, drop, slice_get, Some}
-use Rattle.dots_settings.specs.Settings.{SettingsValue}
+use Rattle.std.specs.Prelude.{◌≡◌, ℕ, suc, ◌<◌, true, false, List, drop, slice_get, Option, Some, None}
 use Rattle.dots_history.specs.declared.entry.Entry.{Entry}
 use Rattle.dots_history.specs.Entries.{signals, may_repeat}
 use Rattle.dots_history.specs.Histories.{tally}
 use Rattle.dots_machine.specs.declared.exchange.Exchange.{Exchange}
-use Rattle.dots_machine.specs.declared.verdict.Verdict.{Verdict}
+use Rattle.dots_machine.specs.Verdict.{Verdict}
 use Rattle.dots_machine.specs.declared.verdict.Verdict.TheVariants as verdict
 
 -- Who sent a message for which domain, and its Message ID: by these a repeat is known.
@@ -30,9 +29,12 @@ pub record IsRepeatOf (n t : ℕ) (history : List Entry) (sent : Sent) (entry : 
       (j : ℕ) (later : Entry) → place < j → slice_get history j ≡ Some later → signals sent.peer sent.domain later ≡ true
       → may_repeat t sent.id later.time later.key ≡ false
 
+-- what the message repeats: the message of this entry, or none
+abbrev pub Repeats : ℕ → ℕ → List Entry → Sent → Option Entry → Type 0
+Repeats n t history sent (Some entry) = IsRepeatOf n t history sent entry
+Repeats n t history sent None = (entry : Entry) → ¬ (IsRepeatOf n t history sent entry)
+
 -- A repeat is answered as the message was, and nothing else is looked at; any other message is decided on.
-pub data UnlessRepeated (settings : SettingsValue) (t : ℕ) (history : List Entry) (sent : Sent) (Otherwise : Verdict → Type 0) (decided : Verdict) : Type 0 where
-  repeats : (entry : Entry) → IsRepeatOf settings.limits.remembered t history sent entry → decided ≡ verdict.Reply entry.reply
-      → UnlessRepeated settings t history sent Otherwise decided
-  is_new : ((entry : Entry) → ¬ (IsRepeatOf settings.limits.remembered t history sent entry)) → Otherwise decided
-      → UnlessRepeated settings t history sent Otherwise decided
+abbrev pub unless_repeated : Option Entry → Verdict → Verdict
+unless_repeated (Some entry) otherwise = verdict.Reply entry.reply
+unless_repeated None otherwise = otherwise

@@ -1,6 +1,5 @@
--- What is decided on a request of a client for its mitigations, by the places of the history's entries and the time (RFC 9132, section
--- 4.4).
-use Rattle.std.specs.Prelude.{◌≡◌, ℕ, Bool, true, ◌==◌, List, [], ◌∷◌, codes, filter, Option, Some, None, Result, Ok, Err}
+-- What is decided on a request of a client for its mitigations, by what is known (RFC 9132, section 4.4).
+use Rattle.std.specs.Prelude.{ℕ, Bool, true, false, ◌==◌, List, [], ◌∷◌, codes, filter, Option, Some, None, Result, Ok, Err}
 use Rattle.coap_message.specs.declared.kind.Kind.{Kind}
 use Rattle.coap_message.specs.declared.kind.Kind.TheVariants.{Con}
 use Rattle.dots_settings.specs.Settings.{SettingsValue}
@@ -10,25 +9,23 @@ use Rattle.dots_history.specs.declared.entry.MessageKey.{MessageKey}
 use Rattle.dots_history.specs.declared.entry.MessageKey.TheVariants as key
 use Rattle.dots_history.specs.declared.change.Change.{Change}
 use Rattle.dots_history.specs.declared.change.Change.TheVariants as change
-use Rattle.dots_history.specs.declared.put.Put.{Put}
 use Rattle.dots_laws.specs.Tables.{Client}
 use Rattle.dots_heads.specs.declared.request.Content.{Content}
-use Rattle.live_mitigations.specs.LiveViews.{LiveView}
+use Rattle.conflict_rules.specs.LiveViews.{LiveView}
 use Rattle.reply_bodies.specs.declared.conflict.ConflictCause.TheVariants as cause
 use Rattle.conflict_rules.specs.declared.fault.PutFault.{PutFault}
 use Rattle.conflict_rules.specs.declared.fault.PutFault.TheVariants as faults
 use Rattle.conflict_rules.specs.declared.judging.Judged.{Judged}
 use Rattle.conflict_rules.specs.Requests.{Request}
-use Rattle.dots_registry.specs.Judgements.{IsTaken, HasMid, IsJudged}
-use Rattle.dots_registry.specs.Statuses.{views_in}
 use Rattle.dots_machine.specs.declared.target.TargetFault.{TargetFault}
 use Rattle.dots_machine.specs.declared.exchange.Exchange.{Exchange}
 use Rattle.dots_machine.specs.declared.mitigation_request.MitigationRequest.{MitigationRequest}
 use Rattle.dots_machine.specs.declared.client_request.ClientRequest.{ClientRequest}
-use Rattle.dots_machine.specs.declared.verdict.Verdict.{Verdict}
+use Rattle.dots_machine.specs.Verdict.{Verdict}
 use Rattle.dots_machine.specs.declared.verdict.Verdict.TheVariants as verdict
 use Rattle.dots_machine.specs.Targets.{scope_fault}
-use Rattle.dots_machine.specs.MessageRepeats.{Sent, sent_for, UnlessRepeated}
+use Rattle.dots_machine.specs.MessageRepeats.{Sent, sent_for, unless_repeated}
+use Rattle.dots_machine.specs.Facts.{Facts}
 use Rattle.dots_machine.specs.Replies.{granting, conflicting, deleted, mitigations_reply, absent, bad_target, bad_request, at_capacity, unavailable}
 
 -- the message by which its repeats are known
@@ -80,48 +77,40 @@ judged time asked (Ok put) = grant time asked.from put
 judged time asked (Err fault) = refusal asked.from.exchange asked.mid fault
 
 -- one for what may not be asked for is refused before the rules are looked at
-abbrev pub UnlessFaulty : Exchange → Option TargetFault → (Verdict → Type 0) → Verdict → Type 0
-UnlessFaulty exchange (Some fault) Otherwise decided = decided ≡ verdict.Reply (bad_target exchange fault)
-UnlessFaulty exchange None Otherwise decided = Otherwise decided
+abbrev pub unless_faulty : Exchange → Option TargetFault → Verdict → Verdict
+unless_faulty exchange (Some fault) otherwise = verdict.Reply (bad_target exchange fault)
+unless_faulty exchange None otherwise = otherwise
+
+-- a repeat is answered, and on any other the first rule that applies is carried out
+abbrev pub put_answer : SettingsValue → Facts → MitigationRequest → Verdict
+put_answer settings facts asked =
+    unless_faulty asked.from.exchange (scope_fault settings (prefixes_of settings asked.from.domain) asked.body.asked)
+    (unless_repeated (facts.repeated (sent_by asked.from)) (judged facts.time asked (facts.judged asked.from.domain (request_of asked))))
+
+-- ---- a mitigation is withdrawn (section 4.4.4)
 
 -- the client that is asked for
 abbrev pub client_for : ClientRequest → Client
 client_for from = record { domain = from.domain; cuid = from.cuid }
 
--- the first rule that applies by the places of the entries, and what is done by it
-abbrev pub ByRules : SettingsValue → ℕ → List Entry → MitigationRequest → Verdict → Type 0
-ByRules settings time history asked decided =
-    (result : Result Judged PutFault) × IsJudged settings time history (client_for asked.from) (request_of asked) result × (decided ≡ judged time asked result)
-
-abbrev pub DecidesPut : SettingsValue → ℕ → List Entry → MitigationRequest → Verdict → Type 0
-DecidesPut settings time history asked decided =
-    UnlessFaulty asked.from.exchange (scope_fault settings (prefixes_of settings asked.from.domain) asked.body.asked)
-    (UnlessRepeated settings time history (sent_by asked.from) (ByRules settings time history asked)) decided
-
--- ---- a mitigation is withdrawn (section 4.4.4)
-
 -- the client's name is in use by another peer
-abbrev pub IsInUse : ℕ → List Entry → ClientRequest → Type 0
-IsInUse time history from = IsTaken time history (client_for from) from.peer
+abbrev pub is_taken : Facts → ClientRequest → Bool
+is_taken facts from = facts.taken (client_for from) from.peer
 
 abbrev pub withdrawal : ℕ → ClientRequest → ℕ → Verdict
 withdrawal time from mid =
     verdict.Accept (deleted from.exchange) (entry_of time from (deleted from.exchange) (change.Withdraw mid))
 
 -- The name is taken; or a mitigation of the mid stands, and is withdrawn; or none does: any other is gone already, or about to go.
-pub data DecidesDelete (time : ℕ) (history : List Entry) (from : ClientRequest) (mid : ℕ) (decided : Verdict) : Type 0 where
-  name_taken : IsInUse time history from → decided ≡ verdict.LongReply (conflicting from.exchange (Some mid) cause.Collision)
-      → DecidesDelete time history from mid decided
-  withdraws : (put : Put) → ¬ (IsInUse time history from) → HasMid time history (client_for from) mid put
-      → decided ≡ withdrawal time from mid → DecidesDelete time history from mid decided
-  gone : ¬ (IsInUse time history from) → ((put : Put) → ¬ (HasMid time history (client_for from) mid put))
-      → decided ≡ verdict.Reply (deleted from.exchange) → DecidesDelete time history from mid decided
+abbrev pub delete_by : ℕ → ClientRequest → ℕ → Bool → Bool → Verdict
+delete_by time from mid true stands = verdict.LongReply (conflicting from.exchange (Some mid) cause.Collision)
+delete_by time from mid false true = withdrawal time from mid
+delete_by time from mid false false = verdict.Reply (deleted from.exchange)
+
+abbrev pub delete_answer : Facts → ClientRequest → ℕ → Verdict
+delete_answer facts from mid = delete_by facts.time from mid (is_taken facts from) (facts.stands (client_for from) mid)
 
 -- ---- mitigations are read (section 4.4.2)
-
--- the client's live mitigations as they are shown, in order of their entries
-abbrev pub lives : ℕ → List Entry → ClientRequest → List LiveView
-lives time history from = views_in from.domain from.cuid time history
 
 -- any is wanted, or that of the one mid
 abbrev pub is_wanted : Option ℕ → LiveView → Bool
@@ -133,8 +122,9 @@ get_reply exchange content [] = verdict.Reply (absent exchange)
 get_reply exchange content (m ∷ ms) = verdict.LongReply (mitigations_reply exchange content (m ∷ ms))
 
 -- the name is taken; or the client's live mitigations are told, or the one of a mid
-pub data DecidesGet (time : ℕ) (history : List Entry) (from : ClientRequest) (mid : Option ℕ) (content : Content) (decided : Verdict) : Type 0 where
-  name_in_use : IsInUse time history from → decided ≡ verdict.LongReply (conflicting from.exchange mid cause.Collision)
-      → DecidesGet time history from mid content decided
-  replies : ¬ (IsInUse time history from) → decided ≡ get_reply from.exchange content (filter (is_wanted mid) (lives time history from))
-      → DecidesGet time history from mid content decided
+abbrev pub get_by : Exchange → Option ℕ → Content → Bool → List LiveView → Verdict
+get_by exchange mid content true ms = verdict.LongReply (conflicting exchange mid cause.Collision)
+get_by exchange mid content false ms = get_reply exchange content (filter (is_wanted mid) ms)
+
+abbrev pub get_answer : Facts → ClientRequest → Option ℕ → Content → Verdict
+get_answer facts from mid content = get_by from.exchange mid content (is_taken facts from) (facts.views (client_for from))

@@ -5,7 +5,7 @@ use Rattle.dots_history.specs.declared.put.Put.{Put}
 use Rattle.dots_history.specs.declared.change.Change.TheVariants as change
 use Rattle.dots_history.specs.Entries.{ends, targets_meet}
 use Rattle.dots_laws.specs.Fits.{last_time}
-use Rattle.dots_registry.specs.Judgements.{StandsIn}
+use Rattle.conflict_rules.specs.Judgements.{StandsIn}
 use Rattle.dots_machine.specs.Machine.{State}
 
 -- No two mitigations of a domain that stand at the time have an address in common, of whichever clients they are; but of one client

@@ -1,4 +1,4 @@
--- What a turn answers a repeat.
+-- What a handling answers a repeat.
 use Rattle.std.specs.Prelude.{◌≡◌, ◌⊎◌, ℕ, false, List, [], ◌∷◌}
 use Rattle.dots_host.specs.declared.event.Event.TheVariants as event
 use Rattle.dots_host.specs.declared.out.OwnedOut.TheVariants as owned
@@ -14,14 +14,14 @@ use Rattle.dots_machine.specs.Requests.{IsReceived}
 use Rattle.dots_machine.specs.MessageRepeats.{sent_for, IsRepeatOf}
 use Rattle.dots_machine.specs.RepeatRule.{AsksToChange}
 use Rattle.dots_machine.specs.Machine.{State, later, is_stranger}
-use Rattle.dots_machine.specs.Turns.{Turn, IsTurn}
+use Rattle.dots_machine.specs.Handlings.{Handling, IsHandling}
 
--- A turn for a repeat that asks for a change gives the bytes that answered the message, and adds nothing; or 5.00 is answered, for want of memory.
-pub record AnswersRepeats (settings : SettingsValue) (old : State) (turn : Turn) (new : State) : Type 0 where
-  pub turns : IsTurn settings old turn new
+-- A handling for a repeat that asks for a change gives the bytes that answered the message, and adds nothing; or 5.00 is answered, for want of memory.
+pub record AnswersRepeats (settings : SettingsValue) (old : State) (handling : Handling) (new : State) : Type 0 where
+  pub handled : IsHandling settings old handling new
   pub repeated :
-      (peer : ℕ) (datagram : List ℕ) (exchange : Exchange) (asked : Request) (domain : ℕ) (entry : Entry) → turn.what ≡ event.Datagram peer datagram
+      (peer : ℕ) (datagram : List ℕ) (exchange : Exchange) (asked : Request) (domain : ℕ) (entry : Entry) → handling.what ≡ event.Datagram peer datagram
       → AreBytes datagram → is_stranger (role_of settings peer) ≡ false
       → IsReceived datagram (is_gateway (role_of settings peer)) (received.Asked exchange asked) → AsksToChange settings (role_of settings peer) domain asked
-      → IsRepeatOf settings.limits.remembered (later old turn.at).time old.history (sent_for peer exchange domain) entry
-      → ((turn.sends ≡ owned.To peer entry.reply ∷ []) × (new ≡ later old turn.at)) ⊎ IsUnavailable turn.what turns.owed
+      → IsRepeatOf settings.limits.remembered (later old handling.at).time old.history (sent_for peer exchange domain) entry
+      → ((handling.sends ≡ owned.To peer entry.reply ∷ []) × (new ≡ later old handling.at)) ⊎ IsUnavailable handling.what handled.owed

@@ -18,7 +18,7 @@ use Rattle.reply_bodies.specs.declared.reply.Reply.TheVariants as reply
 use Rattle.reply_bodies.specs.Maps.{field, map_of, integer}
 use Rattle.reply_bodies.specs.Mitigations.{asked_fields, mitigations_with}
 use Rattle.reply_bodies.specs.Replies.{reply_tree}
-use Rattle.live_mitigations.specs.LiveViews.{LiveView}
+use Rattle.conflict_rules.specs.LiveViews.{LiveView}
 use Rattle.conflict_rules.specs.declared.judging.Judged.{Judged}
 use Rattle.dots_machine.specs.declared.target.TargetFault.{TargetFault}
 use Rattle.dots_machine.specs.declared.exchange.Exchange.{Exchange}

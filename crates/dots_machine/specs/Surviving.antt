@@ -1,11 +1,12 @@
 -- What a crash leaves on the disk, at each moment of a run.
-use Rattle.std.specs.Prelude.{◌≡◌, ℕ, ◌+◌, ◌≤◌, nat_lt, if◌then◌else◌, List, [], ◌∷◌, ◌++◌, length, take, Option, Some, None, ⊤}
+use Rattle.std.specs.Prelude.{◌≡◌, ℕ, ◌+◌, ◌≤◌, nat_lt, if◌then◌else◌, List, [], ◌∷◌, ◌++◌, length, take, map, Option, Some, None, ⊤}
+use Rattle.dots_host.specs.declared.out.OwnedOut.{OwnedOut}
 use Rattle.dots_host.specs.Acts.{WireAct, took, gave, Timed}
 use Rattle.dots_host.specs.Runs.{Owing, ToldStep}
 use Rattle.dots_disk.specs.Media.{Medium, Media, IsImage, all_media}
 use Rattle.dots_settings.specs.Settings.{SettingsValue}
 use Rattle.dots_history.specs.declared.entry.Entry.{Entry}
-use Rattle.dots_ledger.specs.Crashes.{HoldsKept}
+use Rattle.slot_journal.specs.Kept.{HoldsKept}
 use Rattle.dots_machine.specs.Machine.{State, Step}
 
 -- ---- a run with all that it tells
@@ -23,6 +24,10 @@ Story settings old (timed ∷ acts) (told ∷ trace) new =
     (between : Owing State) × ToldStep (Step settings) old timed.act told between × ShowsState timed.act told between × Story settings between acts trace new
 Story settings old [] (told ∷ trace) new = ⊥
 Story settings old (timed ∷ acts) [] new = ⊥
+
+-- the states that sends tell
+abbrev pub told_by : List (State × OwnedOut) → List State
+told_by owed = map (λ send. send.0) owed
 
 -- ---- what was told before a moment
 

@@ -28,17 +28,15 @@ ghost use Rattle.dots_machine.specs.Domains.{is_gateway};
 ghost use Rattle.dots_machine.specs.Requests.{IsReceived};
 ghost use Rattle.dots_machine.specs.MessageRepeats.{sent_for, IsRepeatOf};
 ghost use Rattle.dots_machine.specs.RepeatRule.{heard_for, AsksToChange};
-ghost use Rattle.dots_machine.specs.Machine.{State, later, is_stranger, DecidesRequest, Rules, Step};
-ghost use Rattle.dots_machine.specs.Verdicts.{verdict_on};
-ghost use Rattle.dots_machine.specs.Turns.{Turn, IsTurn, EachTurn, turns_of};
+ghost use Rattle.dots_machine.specs.Machine.{State, afresh, later, is_stranger, DecidesRequest, Step};
+ghost use Rattle.dots_machine.specs.Handlings.{Handling, IsHandling, EachHandling, handlings_of};
 ghost use Rattle.dots_machine.specs.Adding.{AddsExactly};
 ghost use Rattle.dots_machine.specs.RepeatAnswers.{AnswersRepeats};
 ghost use Rattle.dots_machine.specs.Isolation.{IsIsolated};
 ghost use Rattle.dots_machine.specs.Orderly.{IsOrderly};
 ghost use Rattle.dots_machine.specs.declared.exchange.Exchange.{Exchange};
-ghost use Rattle.dots_machine.specs.declared.received.Received.{Received};
 ghost use Rattle.dots_machine.specs.declared.received.Received.TheVariants as received;
-ghost use Rattle.dots_machine.specs.declared.verdict.Verdict.{Verdict};
+ghost use Rattle.dots_machine.specs.Verdict.{Verdict};
 ghost use Rattle.dots_machine.specs.declared.verdict.Verdict.TheVariants as verdict;
 
 /// A list of acts fixes one state: whatever was free to choose shows in the sends.
@@ -67,18 +65,10 @@ pub fn domains_stay_apart()
         → filter (λ row. row.domain == domain) (plain_rows one.time one.history) ≡ filter (λ row. row.domain == domain) (plain_rows other.time other.history) }
 {}
 
-/// What was received has one verdict: the rules, by the places of the entries, give the value that is reckoned with what a registry keeps,
-/// and no other.
-pub fn one_verdict()
-    ensures there { (settings : SettingsValue) (state : State) (peer : ℕ) (got : Received) → Rules settings state peer got (verdict_on settings state peer got) }
-    ensures one { (settings : SettingsValue) (state : State) (peer : ℕ) (got : Received) (decided : Verdict)
-        → Rules settings state peer got decided → decided ≡ verdict_on settings state peer got }
-{}
-
 /// A message that is accepted is repeated by each message of its peer for its domain with its Message ID, for 247 seconds if it was confirmable
 /// and for 145 if it wasn't, as long as fewer accepted ones of that peer and domain come after it than are remembered, and none of these
 /// with that Message ID. And a repeat, whatever it asks to change, is answered with the bytes that answered the message, by the rules, over
-/// each step and over each turn of a run, and nothing is added to the history; or 5.00 is answered, for want of memory.
+/// each step and over each handling of a run, and nothing is added to the history; or 5.00 is answered, for want of memory.
 pub fn repeats_are_answered()
     ensures accepted { (settings : SettingsValue) (state : State) (peer : ℕ) (exchange : Exchange) (asked : Request) (reply : List ℕ) (entry : Entry)
         → DecidesRequest settings state peer exchange asked (verdict.Accept reply entry)
@@ -98,28 +88,28 @@ pub fn repeats_are_answered()
         → Step settings old (event.Datagram peer datagram) at owed new
         → ((outs_of owed ≡ owned.To peer entry.reply ∷ []) × (new ≡ later old at)) ⊎ IsUnavailable (event.Datagram peer datagram) owed }
     ensures run { (settings : SettingsValue) (from : State) (acts : List Timed) (trace : List State) (new : State)
-        → Trace (Step settings) (resting from) acts trace (resting new) → EachTurn (AnswersRepeats settings) from (turns_of acts) new }
+        → Trace (Step settings) (resting from) acts trace (resting new) → EachHandling (AnswersRepeats settings) from (handlings_of acts) new }
 {}
 
 /// An entry is added to the history exactly where the rules accept what came, at its time, with that entry; or 5.00 was answered, for
-/// want of memory. It holds of each turn, and so of each turn of a run.
+/// want of memory. It holds of each handling, and so of each handling of a run.
 pub fn entries_are_accepted()
-    ensures turn { (settings : SettingsValue) (old : State) (turn : Turn) (new : State) → IsTurn settings old turn new → AddsExactly settings old turn new }
+    ensures handling { (settings : SettingsValue) (old : State) (handling : Handling) (new : State) → IsHandling settings old handling new → AddsExactly settings old handling new }
     ensures run { (settings : SettingsValue) (from : State) (acts : List Timed) (trace : List State) (new : State)
-        → Trace (Step settings) (resting from) acts trace (resting new) → EachTurn (AddsExactly settings) from (turns_of acts) new }
+        → Trace (Step settings) (resting from) acts trace (resting new) → EachHandling (AddsExactly settings) from (handlings_of acts) new }
 {}
 
 /// Over a whole run the entries of a domain are what its own requests make, each with the time that the whole run gave it, and each of these
 /// is answered by the domain's entries alone.
 pub fn domains_are_isolated()
     ensures { (settings : SettingsValue) (domain : ℕ) (from : State) (acts : List Timed) (trace : List State) (new : State)
-        → Trace (Step settings) (resting from) acts trace (resting new) → IsIsolated settings from (turns_of acts) new domain }
+        → Trace (Step settings) (resting from) acts trace (resting new) → IsIsolated settings from (handlings_of acts) new domain }
 {}
 
 /// No two mitigations of a domain that stand have an address in common, and of two of one client that overlap the one with the higher mid
 /// stands: so it is at the beginning, and so it stays over each step and each run.
 pub fn mitigations_stand_apart()
-    ensures begun { (t : ℕ) → IsOrderly (record { history = []; time = t }) }
+    ensures begun { (settings : SettingsValue) (t : ℕ) → IsOrderly (afresh settings [] t) }
     ensures step { (settings : SettingsValue) (old : State) (event : Event) (at : ℕ) (owed : List (State × OwnedOut)) (new : State)
         → IsOrderly old → Step settings old event at owed new → IsOrderly new }
     ensures run { (settings : SettingsValue) (from : State) (acts : List Timed) (trace : List State) (new : State)

@@ -2,13 +2,13 @@
 //! reported, what the words of the command line ask for, and how a run ends.
 //!
 //! The definitions are in `specs/`, one file for each: `Domains`, `Targets`, `Exchanges` (what is dismissed at once),
-//! `Requests` (what a datagram is), `Replies`, `MessageRepeats` (which messages are repeats, and what they are answered), `Mitigations` (what is
-//! decided on requests for them, by the places of the entries), `Machine` (the state, verdicts and a step), `RepeatRule` (which requests
-//! come to the rule on repeats), `Verdicts` (the same verdict as a value, by which a server is proved), `Apart` (how
-//! domains stay apart), `Turns` (a run by turns), `Adding` (when an entry is added), `Isolation` (what becomes of a domain over a run),
+//! `Requests` (what a datagram is), `Replies`, `MessageRepeats` (which messages are repeats, and what they are answered), `Facts` (what is
+//! known of a history, by the places of its entries), `Mitigations` (what is decided on requests for them by the facts), `Deciding` (and on
+//! any request), `Machine` (the state, verdicts and a step), `RepeatRule` (which requests come to the rule on repeats), `Apart` (how
+//! domains stay apart), `Handlings` (a run by what becomes of its events), `Adding` (when an entry is added), `Isolation` (what becomes of a domain over a run),
 //! `Orderly` (which mitigations stand beside each other), `Report`, `Commands`, `Outside` (what stood before and after) and `Endings`
 //! (statuses). A run of the machine over the acts of a host is that of `dots_host`. The words are those of RFC 7252, RFC 8949 and
-//! RFC 9132. The code here is the types that the definitions speak of, which scopes may be asked for, and the laws [`one_verdict`], [`one_state`], [`one_answer`],
+//! RFC 9132. The code here is the types that the definitions speak of, which scopes may be asked for, and the laws [`one_state`], [`one_answer`],
 //! [`domains_stay_apart`], [`repeats_are_answered`], [`entries_are_accepted`], [`domains_are_isolated`] and [`mitigations_stand_apart`]. Read [`Received`] and
 //! [`Verdict`] first.
 #![tactic(auto)]
@@ -31,7 +31,7 @@ pub use ending::{Ending, Printing, Stop};
 pub use exchange::Exchange;
 pub use law::{
     domains_are_isolated, domains_stay_apart, entries_are_accepted, mitigations_stand_apart,
-    one_answer, one_state, one_verdict, repeats_are_answered, runs_go_on,
+    one_answer, one_state, repeats_are_answered, runs_go_on,
 };
 pub use mitigation_request::MitigationRequest;
 pub use received::Received;

@@ -1,10 +1,9 @@
 use crate::short_message::ShortMessage;
 use dots_lists::Bytes;
-use installed_filters::Staged;
 
-/// What is decided on a datagram.
+/// What is decided on a datagram. An accepted entry is an `E`: the entry alone, or one beside which stands what it takes to carry it out.
 #[derive(Drop)]
-pub enum Verdict {
+pub enum Verdict<E> {
     /// Nothing is sent and nothing changes.
     Silent,
     /// A reply that changes nothing.
@@ -12,5 +11,5 @@ pub enum Verdict {
     /// The same, with a body of any length.
     LongReply(Bytes),
     /// An accepted change, and the reply that it carries.
-    Accept { reply: ShortMessage, entry: Staged },
+    Accept { reply: ShortMessage, entry: E },
 }

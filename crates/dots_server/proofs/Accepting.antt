@@ -16,7 +16,7 @@ use Rattle.dots_laws.specs.Tables.{Client}
 use Rattle.dots_keys.specs.Askable.{AreFew}
 use Rattle.conflict_rules.specs.declared.judging.Judged.{Judged}
 use Rattle.dots_registry.specs.RegistryValues.{time_of}
-use Rattle.dots_registry.specs.Judging.{judge_request}
+use Rattle.conflict_rules.specs.ByHistory.{judge_request}
 use Rattle.dots_registry.specs.Limits.{ClientsKeepLimits}
 use Rattle.dots_registry.proofs.Inside.{own_granted, own_withdrawal}
 use Rattle.dots_registry.proofs.Bounded.{bounded_granted, bounded_withdrawal}
@@ -25,9 +25,8 @@ use Rattle.dots_registry.proofs.OnePeer.{free_is_one_peer, granted_is_free}
 use Rattle.dots_machine.specs.declared.client_request.ClientRequest.{ClientRequest}
 use Rattle.dots_machine.specs.declared.mitigation_request.MitigationRequest.{MitigationRequest}
 use Rattle.dots_machine.specs.Targets.{scope_fault}
-use Rattle.dots_machine.specs.Mitigations.{request_of, client_for, entry_of}
-use Rattle.dots_machine.specs.Verdicts.{is_taken}
-use Rattle.dots_machine.specs.Machine.{State}
+use Rattle.dots_machine.specs.Mitigations.{request_of, client_for, entry_of, is_taken}
+use Rattle.dots_machine.specs.Machine.{State, facts_in}
 use Rattle.dots_server.specs.ServerValues.{ServerValue, Represents, IsAcceptable}
 use Rattle.dots_server.proofs.Insides.{lies_inside}
 
@@ -82,7 +81,7 @@ module _ (server : ServerValue) (asked : MitigationRequest) (judged : Judged) (r
 
 module _ (server : ServerValue) (from : ClientRequest) (mid : ℕ) (reply : List ℕ) (may : may_act server.settings (role_of server.settings from.peer) from.domain ≡ true)
     (named : is_name from.cuid ≡ true) (short : length reply ≤ 64)
-    (free : (settings : SettingsValue) (state : State) → Represents server settings state → is_taken state.time state.history from ≡ false) where
+    (free : (settings : SettingsValue) (state : State) → Represents server settings state → is_taken (facts_in settings state) from ≡ false) where
   abbrev entry_withdrawn : Entry
   entry_withdrawn = entry_of (time_of server.registry) from reply (change.Withdraw mid)
 

@@ -3,11 +3,11 @@ use Rattle.std.proofs.Common.{◌≡◌, ℕ, Option, Some, None, List, refl, sy
 use Rattle.dots_settings.specs.Settings.{SettingsValue}
 use Rattle.dots_settings.specs.Lookups.{role_of}
 use Rattle.dots_machine.specs.declared.exchange.Exchange.{Exchange}
-use Rattle.dots_machine.specs.declared.verdict.Verdict.{Verdict}
+use Rattle.dots_machine.specs.Verdict.{Verdict}
 use Rattle.dots_machine.specs.declared.verdict.Verdict.TheVariants as verdict
 use Rattle.dots_machine.specs.Domains.{domain_for}
 use Rattle.dots_machine.specs.Replies.{bad_parameter}
-use Rattle.dots_machine.specs.Verdicts.{in_domain}
+use Rattle.dots_machine.specs.Deciding.{in_domain}
 use Rattle.dots_server.specs.Asking.{role_with, IsOwn, domain_asked}
 
 by_role : (settings : SettingsValue) (own : Option ℕ) (cdid : Option (List ℕ)) → domain_for settings (role_with own) cdid ≡ domain_asked settings own cdid

@@ -22,7 +22,7 @@ use Rattle.slot_journal.specs.DiskEntries.{HasRecord, Holds, records_of}
 use Rattle.slot_journal.specs.DiskEntries as journal
 use Rattle.slot_journal.proofs.Writing.{holds}
 use Rattle.slot_journal.proofs.Crashing.{one_history}
-use Rattle.dots_ledger.specs.Beginning.{RefusesLedger, IsFailure}
+use Rattle.slot_journal.specs.Untaken.{RefusesLedger, IsFailure}
 use Rattle.dots_ledger.specs.LedgerValues.{LedgerValue}
 use Rattle.dots_ledger.specs.LedgerValues as ledger
 use Rattle.dots_ledger.proofs.Recovering.{fails_alone}
@@ -44,7 +44,7 @@ module _ (settings : SettingsValue) (at : ℕ) (tables : LedgerValue) (held : Li
   abbrev begun : ServerValue
   begun = record { settings = settings; registry = tables.registry; journal = tables.journal }
 
-  pub begun_kept : IsKept begun settings (restarted (begun_from held) at) held
+  pub begun_kept : IsKept begun settings (restarted settings (begun_from settings held) at) held
   begun_kept =
       let young = early_calm settings held represents.calm in record {
         represents = record {
@@ -65,7 +65,7 @@ module _ (settings : SettingsValue) (at : ℕ) (tables : LedgerValue) (held : Li
       }
 
   pub begun_lives : IsServing begun
-  begun_lives = record { state = restarted (begun_from held) at; entries = held; represents = begun_kept.represents }
+  begun_lives = record { state = restarted settings (begun_from settings held) at; entries = held; represents = begun_kept.represents }
 
 -- ---- a server begins anew
 
@@ -94,7 +94,7 @@ within_to low high more [] le within = omega (arith, le, within)
 within_to low high more (e ∷ later) le within = (within.0, within_to e.time high more later le within.1)
 
 -- what was kept on the disk is all that is needed of the history, whatever the time
-module _ (settings : SettingsValue) (at : ℕ) (old new : ServerValue) (state : State) (entries : List Entry) (kept : IsKept old settings state entries) (begun_anew : IsKept new settings (restarted (begun_from entries) at) entries) where
+module _ (settings : SettingsValue) (at : ℕ) (old new : ServerValue) (state : State) (entries : List Entry) (kept : IsKept old settings state entries) (begun_anew : IsKept new settings (restarted settings (begun_from settings entries) at) entries) where
   same_time : last_time entries ≡ last_time state.history
   same_time = same_last settings.limits.remembered (last_time state.history) entries state.history kept.rests
 
@@ -116,7 +116,7 @@ module _ (settings : SettingsValue) (at : ℕ) (old new : ServerValue) (state : 
   whole : ledger.Represents (ledger_of new) settings state.history entries
   whole = ledger_whole (ledger_of new) settings entries state.history begun_anew.represents.ledger kept_now kept.represents.represents.own within_now
 
-  pub restarted_kept : IsKept new settings (restarted state at) entries
+  pub restarted_kept : IsKept new settings (restarted settings state at) entries
   restarted_kept =
       let young = begun_anew.represents.represents.early in record {
         represents = record {
@@ -174,19 +174,19 @@ module _ (settings given : SettingsValue) (same : given ≡ settings) (old : Ser
       (represents_holds old.journal settings entries seen represents) kept.represents.ledger.calm size
 
   module _ (at : ℕ) (new : ServerValue) where
-    found_same : (held : List Entry) → IsKept new settings (restarted (begun_from held) at) held
+    found_same : (held : List Entry) → IsKept new settings (restarted settings (begun_from settings held) at) held
         → ((seen : ℕ → ℕ) → Sees media seen → Holds settings seen held × RestsWith media_new (journal.Represents new.journal settings held))
-        → IsKept new settings (restarted state at) entries × RestsWith media_new (journal.Represents new.journal settings entries)
+        → IsKept new settings (restarted settings state at) entries × RestsWith media_new (journal.Represents new.journal settings entries)
     found_same held begun found =
         let (seen, sees, is, represents) = seen_of media (journal.Represents old.journal settings entries) rests in
         let one = same_found settings media old.journal entries held rests (λ seen sees. (found seen sees).0) in (
-          restarted_kept settings at old new state entries kept (subst (λ es. IsKept new settings (restarted (begun_from es) at) es) one begun),
+          restarted_kept settings at old new state entries kept (subst (λ es. IsKept new settings (restarted settings (begun_from settings es) at) es) one begun),
           subst (λ es. RestsWith media_new (journal.Represents new.journal settings es)) one (found seen sees).1,
         )
 
-    pub restart_found : (held : List Entry) → IsKept new given (restarted (begun_from held) at) held
+    pub restart_found : (held : List Entry) → IsKept new given (restarted given (begun_from given held) at) held
         → ((seen : ℕ → ℕ) → Sees media seen → Holds given seen held × RestsWith media_new (journal.Represents new.journal given held))
-        → IsKept new settings (restarted state at) entries × RestsWith media_new (journal.Represents new.journal settings entries)
+        → IsKept new settings (restarted settings state at) entries × RestsWith media_new (journal.Represents new.journal settings entries)
     restart_found held begun found =
-        found_same held (subst (λ s. IsKept new s (restarted (begun_from held) at) held) same begun)
+        found_same held (subst (λ s. IsKept new s (restarted s (begun_from s held) at) held) same begun)
         (subst (λ s. (seen : ℕ → ℕ) → Sees media seen → Holds s seen held × RestsWith media_new (journal.Represents new.journal s held)) same found)

@@ -3,6 +3,7 @@ pub mod Puts
 pub mod ReportTexts
 mod Looping
 mod Turns
+mod Following
 mod Taking
 pub mod Acting
 pub mod Asked

@@ -4,7 +4,7 @@ use Rattle.cbor_profile.specs.Canon.{canon}
 use Rattle.cbor_profile.specs.Tree.{Tree}
 use Rattle.coap_message.specs.declared.codes.TheConstants.{CONTENT}
 use Rattle.dots_heads.specs.declared.request.Content.{Content}
-use Rattle.live_mitigations.specs.LiveViews.{LiveView}
+use Rattle.conflict_rules.specs.LiveViews.{LiveView}
 use Rattle.reply_bodies.specs.declared.scope.MitigationView.{MitigationView}
 use Rattle.reply_bodies.specs.Mitigations.{scope_of, mitigations_with}
 use Rattle.dots_machine.specs.declared.exchange.Exchange.{Exchange}

@@ -2,17 +2,15 @@
 use Rattle.std.proofs.Common.{◌≡◌, ℕ, Bool, false, List, Result, Ok, Err, inl, inr, refl, ap, ◌∙◌, subst}
 use Rattle.std.specs.Prelude.{IsOk}
 use Rattle.dots_heads.specs.declared.reject.Reject.{Reject}
-use Rattle.dots_heads.specs.declared.reject.Reject.TheVariants as reject
 use Rattle.dots_keys.specs.declared.request.Request.{Request}
 use Rattle.dots_heads.specs.Heads.{Head, head_of}
 use Rattle.dots_keys.specs.Meaning.{ReadsAs, Means}
 use Rattle.dots_settings.specs.Settings.{SettingsValue}
 use Rattle.dots_machine.specs.declared.exchange.Exchange.{Exchange}
 use Rattle.dots_machine.specs.declared.dismissal.Dismissal.{Dismissal}
-use Rattle.dots_machine.specs.declared.dismissal.Dismissal.TheVariants as dismissal
 use Rattle.dots_machine.specs.declared.received.Received.{Received}
 use Rattle.dots_machine.specs.declared.received.Received.TheVariants as received
-use Rattle.dots_machine.specs.declared.verdict.Verdict.{Verdict}
+use Rattle.dots_machine.specs.Verdict.{Verdict}
 use Rattle.dots_machine.specs.declared.verdict.Verdict.TheVariants as verdict
 use Rattle.dots_settings.specs.Lookups.{role_of}
 use Rattle.dots_machine.specs.Domains.{is_gateway}

@@ -1,13 +1,12 @@
 -- What one event comes to in a run.
-use Rattle.std.proofs.Common.{◌≢◌, ℕ, ◌≤◌, inl, List, [], ◌∷◌, ◌++◌, Option, Err, refl, ap, subst, arith}
+use Rattle.std.proofs.Common.{◌≡◌, ◌≢◌, ℕ, ◌≤◌, max, inl, List, [], ◌∷◌, Option, Err, refl, sym, ap, arith, append-nil}
 use Rattle.dots_host.specs.declared.event.Event.{Event}
 use Rattle.dots_host.specs.declared.event.Event.TheVariants as event
 use Rattle.dots_host.specs.declared.event.What.{What}
 use Rattle.dots_host.specs.declared.event.What.TheVariants as what_is
-use Rattle.dots_host.specs.declared.out.OwnedOut.{OwnedOut}
-use Rattle.dots_host.specs.Acts.{Timed, took}
+use Rattle.dots_host.specs.Acts.{Timed}
 use Rattle.dots_host.specs.Causes.{Rose}
-use Rattle.dots_host.specs.Runs.{Gives, IsNoEnd, GoOn}
+use Rattle.dots_host.specs.Runs.{Turn, Gives}
 use Rattle.dots_host.proofs.RunLemmas.{added_none}
 use Rattle.dots_disk.specs.Media.{Media}
 use Rattle.dots_disk.specs.Becoming.{Leaves, RestsWith, IsMoment}
@@ -22,74 +21,89 @@ use Rattle.slot_journal.specs.declared.fault.JournalFault.TheVariants as fault_i
 use Rattle.slot_journal.specs.Refused.{Caused}
 use Rattle.slot_journal.specs.DiskEntries.{Holds}
 use Rattle.slot_journal.specs.DiskEntries as journal
-use Rattle.dots_ledger.specs.Beginning.{IsFailure}
 use Rattle.dots_machine.specs.declared.ending.Stop.{Stop}
 use Rattle.dots_machine.specs.declared.ending.Stop.TheVariants as stop
-use Rattle.dots_machine.specs.Endings.{Stops, IsSettled}
-use Rattle.dots_machine.specs.Machine.{State, restarted, Step}
+use Rattle.dots_machine.specs.Machine.{State, restarted, StepInto}
 use Rattle.dots_server.specs.ServerValues.{ServerValue, IsKept}
-use Rattle.dots_server.specs.Turning.{IsServed, HoldsTurn}
+use Rattle.dots_server.specs.Turning.{IsServed, HoldsTurn, Broke}
 use Rattle.dots_server.proofs.Turning.{keeps_itself, added_behind}
 use Rattle.dots_server.specs.Running.{StopsFor}
-use Rattle.dots_server.specs.Taking.{IsTaken, MayStop, Took, StoppedAt}
-use Rattle.dots_server.proofs.Turns.{go_on_then}
+use Rattle.dots_server.specs.Taking.{stored_of, Took}
+use Rattle.dots_server.proofs.Looping.{kept_stored}
 
 module _ (settings : SettingsValue) (state : State) (at : ℕ) (old : ServerValue) (entries : List Entry) (kept : IsKept old settings state entries) where
   -- what the disk holds at a restart
-  restart_holds : (image : ℕ → ℕ) → Holds settings image entries → HoldsTurn settings state (restarted state at) image
+  restart_holds : (image : ℕ → ℕ) → Holds settings image entries → HoldsTurn settings state (restarted settings state at) image
   restart_holds image holds = inl (record {
     entries = entries;
     holds = holds;
     calm = kept.represents.ledger.calm;
-    kept = kept_later settings.limits.remembered (last_time state.history) (restarted state at).time entries state.history (omega arith) kept.rests;
+    kept = kept_later settings.limits.remembered (last_time state.history) (restarted settings state at).time entries state.history (omega arith) kept.rests;
   })
 
   module _ (media media_new : Option Media) (acts acts_new : Option (List Timed)) (silent : KeepsActs acts acts_new)
       (moments : RestsWith media (journal.Represents old.journal settings entries) → Leaves media media_new (λ image. Holds settings image entries)) where
-    restart_writes : RestsWith media (journal.Represents old.journal settings entries) → Leaves media media_new (HoldsTurn settings state (restarted state at))
-    restart_writes rests = leaves_as media media_new (λ image. Holds settings image entries) (HoldsTurn settings state (restarted state at)) restart_holds (moments rests)
+    restart_writes : RestsWith media (journal.Represents old.journal settings entries) → Leaves media media_new (HoldsTurn settings state (restarted settings state at))
+    restart_writes rests = leaves_as media media_new (λ image. Holds settings image entries) (HoldsTurn settings state (restarted settings state at)) restart_holds (moments rests)
 
-    -- the server began anew
-    pub restart_took : (now : ServerValue) (moment : ℕ) → IsMoment moment media_new → IsKept now settings (restarted state at) entries → RestsWith media_new (journal.Represents now.journal settings entries)
+    -- the server began anew, in a turn without sends
+    pub restart_took : (now : ServerValue) (moment : ℕ) → IsMoment moment media_new → IsKept now settings (restarted settings state at) entries → RestsWith media_new (journal.Represents now.journal settings entries)
         → Took settings state event.Restart at old now entries media media_new acts acts_new
     restart_took now moment here begun rests_new = record {
-      owed = [];
-      new = restarted state at;
+      turns = (record { sends = []; left = restarted settings state at }) ∷ [];
+      new = restarted settings state at;
       few = entries;
       step = (refl, refl);
       kept = begun;
-      turn = record {
-        between = media_new;
-        moment = moment;
-        is_moment = here;
-        gives = added_behind acts acts_new acts_new (Gives moment []) silent (added_none acts_new (Gives moment []) tt);
-        writes = restart_writes;
-        rests = λ rests. rests_new;
-        sends = keeps_itself media_new;
-      };
+      chained = (
+        stored_of now entries,
+        media_new,
+        acts_new,
+        refl,
+        ([], sym (append-nil state.history)),
+        kept_stored now settings (restarted settings state at) entries begun,
+        record {
+          between = media_new;
+          moment = moment;
+          is_moment = here;
+          gives = added_behind acts acts_new acts_new (Gives moment []) silent (added_none acts_new (Gives moment []) tt);
+          writes = restart_writes;
+          rests = λ rests. rests_new;
+          sends = keeps_itself media_new;
+        },
+        (refl, refl, refl),
+      );
+      left = refl;
     }
 
     -- it didn't
-    pub restart_stops : (fault : JournalFault) → IsFailure fault → StoppedAt settings state (stop.Unrecovered fault) event.Restart at old entries media media_new acts acts_new
-    restart_stops fault found = record {
-      owed = [];
-      new = restarted state at;
-      step = (refl, refl);
-      broke = record { silent = silent; writes = restart_writes; own = kept.represents.represents.own };
-      may = refl;
-      found = found;
-    }
+    pub restart_broke : Broke settings state (restarted settings state at) (journal.Represents old.journal settings entries) media media_new acts acts_new
+    restart_broke = record { silent = silent; writes = restart_writes; own = kept.represents.represents.own }
 
--- an event that isn't a restart is one that a server takes
-pub served_of : (what : What) → IsTaken what → what ≢ what_is.Restart → IsServed what
-served_of what_is.End taken other = absurd taken
-served_of what_is.Failed taken other = absurd taken
-served_of what_is.Restart taken other = absurd (other refl)
-served_of (what_is.Datagram from len) taken other = tt
-served_of (what_is.Opened c p) taken other = tt
-served_of (what_is.Piece c n) taken other = tt
-served_of (what_is.Closed c) taken other = tt
-served_of what_is.Tick taken other = tt
+-- an event at which a run goes on, but for a restart, is one that a server takes
+pub served_of : (what : What) → what ≢ what_is.End → what ≢ what_is.Failed → what ≢ what_is.Restart → IsServed what
+served_of what_is.End end failed other = absurd (end refl)
+served_of what_is.Failed end failed other = absurd (failed refl)
+served_of what_is.Restart end failed other = absurd (other refl)
+served_of (what_is.Datagram from len) end failed other = tt
+served_of (what_is.Opened c p) end failed other = tt
+served_of (what_is.Piece c n) end failed other = tt
+served_of (what_is.Closed c) end failed other = tt
+served_of what_is.Tick end failed other = tt
+
+-- the disk fails in the middle of an event no earlier than the last entry
+pub into_timely : (settings : SettingsValue) (old : State) (what : Event) (at : ℕ) (turns : List (Turn State)) (last : Turn State) → last_time old.history ≤ old.time → StepInto settings old what at turns last
+    → last_time old.history ≤ last.left.time
+into_timely settings old (event.Datagram peer datagram) at turns last timely into =
+    let is : last.left.time ≡ max at old.time = ap (λ (turn : Turn State). turn.left.time) into.4 in
+    omega (arith, timely, is)
+into_timely settings old event.End at turns last timely into = absurd into
+into_timely settings old event.Failed at turns last timely into = absurd into
+into_timely settings old (event.Opened c p) at turns last timely into = absurd into
+into_timely settings old (event.Piece c p) at turns last timely into = absurd into
+into_timely settings old (event.Closed c) at turns last timely into = absurd into
+into_timely settings old event.Tick at turns last timely into = absurd into
+into_timely settings old event.Restart at turns last timely into = absurd into
 
 -- a disk that isn't recovered failed, or the count of its faults stayed
 pub recover_stops : (A : Type 0) (fault : JournalFault) (wire : Type 0) (before now : ℕ) → Caused {A = A} before now (Err fault) → StopsFor (stop.Unrecovered fault) wire (Rose before now)
@@ -98,24 +112,6 @@ recover_stops A fault_is.NoMemory wire before now caused = tt
 recover_stops A (fault_is.NotOurs at) wire before now caused = tt
 recover_stops A (fault_is.SettingsChanged stored given) wire before now caused = tt
 recover_stops A (fault_is.TooSmall needed found) wire before now caused = tt
-
--- ---- how a run stops at an event
-
-pub stops_settled : (settings : SettingsValue) (state : State) (how : Stop) (what : Event) (at : ℕ) (owed : List (State × OwnedOut)) (new : State) → Step settings state what at owed new → MayStop how what
-    → IsSettled how (record { last = new; owed = owed })
-stops_settled settings state stop.DiskFailed what at owed new step may = tt
-stops_settled settings state (stop.Unrecovered fault) what at owed new step may = (subst (λ w. Step settings state w at owed new) may step).0
-stops_settled settings state stop.Ended what at owed new step may = absurd may
-stops_settled settings state stop.NextFailed what at owed new step may = absurd may
-stops_settled settings state stop.TooMany what at owed new step may = absurd may
-
-pub stops_at : (how : Stop) (what : Event) (at moment : ℕ) (front : List Timed) → IsNoEnd (took what at) → GoOn front → MayStop how what
-    → Stops how (front ++ (record { moment = moment; act = took what at }) ∷ [])
-stops_at stop.DiskFailed what at moment front one goes may = go_on_then front ((record { moment = moment; act = took what at }) ∷ []) goes (one, tt)
-stops_at (stop.Unrecovered fault) what at moment front one goes may = (front, record { moment = moment; act = took what at }, at, ap (λ w. took w at) may, refl, goes)
-stops_at stop.Ended what at moment front one goes may = absurd may
-stops_at stop.NextFailed what at moment front one goes may = absurd may
-stops_at stop.TooMany what at moment front one goes may = absurd may
 
 -- what failed later failed since
 pub stops_more : (how : Stop) (wire wire_more disk disk_more : Type 0) → (wire → wire_more) → (disk → disk_more) → StopsFor how wire disk → StopsFor how wire_more disk_more

@@ -10,8 +10,11 @@ use Rattle.dots_disk.specs.Beside.{KeepsActs}
 use Rattle.slot_store.proofs.Steps.{begins, leaves_as}
 use Rattle.dots_settings.specs.Settings.{SettingsValue}
 use Rattle.dots_history.specs.declared.entry.Entry.{Entry}
-use Rattle.dots_ledger.specs.Crashes.{HoldsKept, HoldsEither}
-use Rattle.dots_machine.specs.Machine.{State, later, with_entry}
+use Rattle.slot_journal.specs.Kept.{HoldsKept}
+use Rattle.dots_ledger.specs.Crashes.{HoldsEither}
+use Rattle.dots_machine.specs.Verdict.{Verdict}
+use Rattle.dots_machine.specs.declared.verdict.Verdict.TheVariants as verdict
+use Rattle.dots_machine.specs.Machine.{State, later, with_entry, Decides}
 use Rattle.dots_server.specs.Turning.{HoldsTurn, Turned, Broke}
 
 -- where nothing was written the disk is as it was, at each moment of none
@@ -45,6 +48,11 @@ module _ (settings : SettingsValue) (old new : State) (outs : List OwnedOut) (Be
 pub silent : (settings : SettingsValue) (old new : State) (Before : (ℕ → ℕ) → Type 0) (media : Option Media) (moment : ℕ) (acts : Option (List Timed)) → IsMoment moment media
     → Turned settings old new [] Before Before media media acts acts
 silent settings old new Before media moment acts at = unwritten settings old new [] Before media media moment acts acts at (added_none acts (Gives moment []) tt) (keeps_itself media)
+
+-- what is decided accepts this entry
+pub accepted_so : (settings : SettingsValue) (state : State) (peer : ℕ) (datagram : List ℕ) (decided : Verdict) (reply : List ℕ) (entry : Entry) → decided ≡ verdict.Accept reply entry
+    → Decides settings state peer datagram decided → Decides settings state peer datagram (verdict.Accept reply entry)
+accepted_so settings state peer datagram decided reply entry is decides = subst (λ v. Decides settings state peer datagram v) is decides
 
 -- what a ledger leaves while it accepts an entry at the time of the state
 pub accepting : (settings : SettingsValue) (n t : ℕ) (state : State) (entry : Entry) (old new : Option Media) → n ≡ settings.limits.remembered → t ≡ state.time → entry.time ≡ state.time

@@ -1,27 +1,45 @@
 -- A run that goes on by one event, and one that stops.
-use Rattle.std.proofs.Common.{◌≡◌, ◌≢◌, ℕ, ◌+◌, ◌≤◌, List, [], ◌∷◌, ◌++◌, length, Option, Some, None, refl, sym, ap, ◌∙◌, ◌^◌, subst, arith, le_refl, append-nil, append_assoc}
+use Rattle.std.proofs.Common.{◌≡◌, ◌≢◌, ℕ, ◌+◌, ◌≤◌, ◌⊎◌, List, [], ◌∷◌, ◌++◌, length, Option, Some, None, refl, sym, ap, ◌∙◌, ◌^◌, subst, arith, le_refl, append-nil, append_assoc}
 use Rattle.dots_host.specs.declared.event.Event.{Event}
+use Rattle.dots_host.specs.declared.event.Event.TheVariants as event
 use Rattle.dots_host.specs.declared.event.What.{What}
 use Rattle.dots_host.specs.declared.event.What.TheVariants as what_is
 use Rattle.dots_host.specs.declared.out.OwnedOut.{OwnedOut}
 use Rattle.dots_host.specs.Acts.{WireAct, took, gave, Timed, Adds, event_of}
-use Rattle.dots_host.specs.Runs.{Owing, resting, Added, IsSend, outs_of, Gives, IsNoEnd, GoOn, count_of, events_in}
-use Rattle.dots_host.proofs.RunLemmas.{added_weaker, added_then, added_by}
+use Rattle.dots_host.specs.Runs.{Owing, resting, Turn, owed_in, each_telling, Added, IsSend, outs_of, Gives, IsNoEnd, GoOn, count_of, events_in}
+use Rattle.dots_host.proofs.RunLemmas.{outs_back, added_none, added_weaker, added_then, added_by}
 use Rattle.dots_disk.specs.Media.{Media}
 use Rattle.dots_disk.specs.Becoming.{Leaves, RestsWith, KeepsMedia, IsMoment}
 use Rattle.dots_disk.specs.Beside.{KeepsActs}
+use Rattle.slot_store.proofs.Steps.{rests_as}
 use Rattle.dots_settings.specs.Settings.{SettingsValue}
 use Rattle.dots_history.specs.declared.entry.Entry.{Entry}
-use Rattle.dots_ledger.specs.Crashes.{HoldsKept}
+use Rattle.dots_laws.specs.Fits.{last_time}
+use Rattle.dots_laws.proofs.Composing.{kept_later}
+use Rattle.slot_journal.specs.Kept.{HoldsKept}
 use Rattle.dots_machine.specs.declared.ending.Stop.{Stop}
 use Rattle.dots_machine.specs.declared.ending.Stop.TheVariants as stop
-use Rattle.dots_machine.specs.Endings.{Stops, Ran}
-use Rattle.dots_machine.specs.Machine.{State, Step}
-use Rattle.dots_machine.specs.Surviving.{Story, past_of, NoneBefore, MeansAt, Survives}
-use Rattle.dots_machine.proofs.Surviving.{story_length, story_then, told_by, step_tells, step_grows, gives_late, none_then, leaves_at_none, leaves_at_past, later_past, survives_writing, survives_sending, bounded_still}
-use Rattle.dots_server.specs.Turning.{HoldsTurn, Turned}
+use Rattle.slot_journal.specs.declared.fault.JournalFault.{JournalFault}
+use Rattle.slot_journal.specs.DiskEntries as journal
+use Rattle.slot_journal.specs.Untaken.{IsFailure}
+use Rattle.dots_machine.specs.Endings.{Stops, EndsBehind, IsSettled, IsFound}
+use Rattle.dots_machine.specs.Machine.{State, restarted, Step, StepInto}
+use Rattle.dots_machine.specs.Handlings.{AreSends}
+use Rattle.dots_machine.specs.Surviving.{Story, told_by, past_of, NoneBefore, MeansAt}
+use Rattle.dots_machine.proofs.Surviving.{IsAt, ran_whole, story_length, story_then, gives_late, none_then, none_earlier, leaves_at_none, leaves_at_past, leaves_past, keeps_past, rests_still, event_on, turn_on, broken_on, step_timely}
+use Rattle.dots_server.specs.Turning.{Turned, Broke, Stored, LiesOn, IsStored, Grows, last_left, Chained}
+use Rattle.dots_server.proofs.Beginning.{represents_holds}
 use Rattle.dots_server.proofs.Turning.{none_added}
-use Rattle.dots_server.specs.Running.{RunsTo}
+use Rattle.dots_server.specs.Taking.{stored_of, Took, BrokeOff}
+use Rattle.dots_server.specs.ServerValues.{ServerValue, IsKept}
+use Rattle.dots_server.proofs.Looping.{kept_stored}
+use Rattle.dots_server.proofs.Taking.{into_timely}
+use Rattle.dots_server.specs.Running.{GoesOnTo, HasCome, Came}
+
+-- no sends, and no acts of them
+pub no_sends : (acts : List Timed) → AreSends [] acts → acts ≡ []
+no_sends [] none = refl
+no_sends (timed ∷ acts) none = absurd none
 
 pub go_on_then : (front back : List Timed) → GoOn front → GoOn back → GoOn (front ++ back)
 go_on_then [] back f b = b
@@ -31,25 +49,47 @@ events_then : (front back : List Timed) → events_in (front ++ back) ≡ events
 events_then [] back = omega arith
 events_then (timed ∷ front) back = omega (arith, events_then front back)
 
-sends_go_on : (moment : ℕ) (sends : List OwnedOut) (acts : List Timed) → Gives moment sends acts → GoOn acts
-sends_go_on moment [] [] g = tt
-sends_go_on moment [] (timed ∷ acts) g = absurd g
-sends_go_on moment (out ∷ sends) [] g = absurd g
-sends_go_on moment (out ∷ sends) (timed ∷ acts) g = (by_act timed.act g.1, sends_go_on (moment + 1) sends acts g.2)
+-- ---- sends
+
+are_sends : (moment : ℕ) (outs : List OwnedOut) (acts : List Timed) → Gives moment outs acts → AreSends outs acts
+are_sends moment [] [] g = tt
+are_sends moment [] (timed ∷ acts) g = absurd g
+are_sends moment (out ∷ outs) [] g = absurd g
+are_sends moment (out ∷ outs) (timed ∷ acts) g = (g.1, are_sends (moment + 1) outs acts g.2)
+
+sends_then : (outs later : List OwnedOut) (front back : List Timed) → AreSends outs front → AreSends later back → AreSends (outs ++ later) (front ++ back)
+sends_then [] later [] back a b = b
+sends_then [] later (timed ∷ front) back a b = absurd a
+sends_then (out ∷ outs) later [] back a b = absurd a
+sends_then (out ∷ outs) later (timed ∷ front) back a b = (a.0, sends_then outs later front back a.1 b)
+
+sends_go_on : (sends : List OwnedOut) (acts : List Timed) → AreSends sends acts → GoOn acts
+sends_go_on [] [] are = tt
+sends_go_on [] (timed ∷ acts) are = absurd are
+sends_go_on (out ∷ sends) [] are = absurd are
+sends_go_on (out ∷ sends) (timed ∷ acts) are = (by_act timed.act are.0, sends_go_on sends acts are.1)
   where
     by_act : (act : WireAct) → IsSend out act → IsNoEnd act
     by_act (took e at) s = absurd s
     by_act (gave o d) s = tt
 
-sends_count : (moment : ℕ) (sends : List OwnedOut) (acts : List Timed) → Gives moment sends acts → events_in acts ≡ 0
-sends_count moment [] [] g = refl
-sends_count moment [] (timed ∷ acts) g = absurd g
-sends_count moment (out ∷ sends) [] g = absurd g
-sends_count moment (out ∷ sends) (timed ∷ acts) g = omega (arith, by_act timed.act g.1, sends_count (moment + 1) sends acts g.2)
+sends_count : (sends : List OwnedOut) (acts : List Timed) → AreSends sends acts → events_in acts ≡ 0
+sends_count [] [] are = refl
+sends_count [] (timed ∷ acts) are = absurd are
+sends_count (out ∷ sends) [] are = absurd are
+sends_count (out ∷ sends) (timed ∷ acts) are = omega (arith, by_act timed.act are.0, sends_count sends acts are.1)
   where
     by_act : (act : WireAct) → IsSend out act → count_of act ≡ 0
     by_act (took e at) s = absurd s
     by_act (gave o d) s = refl
+
+outs_then : (xs ys : List (State × OwnedOut)) → outs_of (xs ++ ys) ≡ outs_of xs ++ outs_of ys
+outs_then [] ys = refl
+outs_then (x ∷ xs) ys = ap (λ zs. x.1 ∷ zs) (outs_then xs ys)
+
+told_then : (xs ys : List (State × OwnedOut)) → told_by (xs ++ ys) ≡ told_by xs ++ told_by ys
+told_then [] ys = refl
+told_then (x ∷ xs) ys = ap (λ zs. x.0 ∷ zs) (told_then xs ys)
 
 -- an event that is neither goes on
 pub no_end : (what : What) (room : List ℕ) (at : ℕ) → what ≢ what_is.End → what ≢ what_is.Failed → IsNoEnd (took (event_of what room) at)
@@ -67,6 +107,10 @@ moment_past : (moment : ℕ) (media : Option Media) (Any : (ℕ → ℕ) → Typ
 moment_past moment None Any rests is = absurd rests
 moment_past moment (Some media) Any rests is = is
 
+-- a history that grows, and grows again
+pub grows_then : (a b c : List Entry) → Grows a b → Grows b c → Grows a c
+grows_then a b c first second = (first.0 ++ second.0, second.1 ∙ ap (λ es. es ++ second.0) first.1 ∙ append_assoc a first.0 second.0)
+
 module _ (settings : SettingsValue) where
   abbrev owing : State → List (State × OwnedOut) → Owing State
   owing state owed = record { last = state; owed = owed }
@@ -77,12 +121,133 @@ module _ (settings : SettingsValue) where
   abbrev timed_at : ℕ → Event → ℕ → Timed
   timed_at moment what at = record { moment = moment; act = took what at }
 
+  -- ---- what lies on the disk
+
+  stored_holds : (time t : ℕ) (history : List Entry) (stored : Stored) (image : ℕ → ℕ) → IsStored settings time history stored.entries → last_time history ≤ t → LiesOn settings stored image → HoldsFrom t history image
+  stored_holds time t history stored image is le lies = record {
+    entries = stored.entries;
+    holds = represents_holds stored.journal settings stored.entries image lies;
+    calm = is.calm;
+    kept = kept_later settings.limits.remembered (last_time history) t stored.entries history le is.kept;
+  }
+
+  pub stored_rests : (time t : ℕ) (history : List Entry) (stored : Stored) (media : Option Media) → IsStored settings time history stored.entries → last_time history ≤ t
+      → RestsWith media (LiesOn settings stored) → RestsWith media (HoldsFrom t history)
+  stored_rests time t history stored media is le rests =
+      rests_as media (LiesOn settings stored) (HoldsFrom t history) (λ image lies. stored_holds time t history stored image is le lies) rests
+
+  -- ---- the turns of an event
+
+  module _ (start : State) (time : ℕ) (first : Option Media) where
+    -- what the acts of some turns do to a run in the middle of the event
+    pub record Carried (old : State) (turns : List (Turn State)) (stored : Stored) (media media_new : Option Media) (more : List Timed) : Type 0 where
+      pub sends : AreSends (outs_of (owed_in turns)) more
+      pub late : RestsWith media (LiesOn settings stored) → NoneBefore (past_of media) more
+      pub on : RestsWith media (LiesOn settings stored) → (acts : List Timed) (trace : List State) → IsAt settings start old.history time first media acts trace
+          → IsAt settings start (last_left old turns).history time first media_new (acts ++ more) (trace ++ told_by (owed_in turns))
+
+    none_carried : (old : State) (stored : Stored) (media : Option Media) → Carried old [] stored media media []
+    none_carried old stored media = record {
+      sends = tt;
+      late = λ rests. tt;
+      on = λ rests acts trace is.
+          subst (λ xs. IsAt settings start old.history time first media xs (trace ++ [])) (sym (append-nil acts))
+          (subst (λ ts. IsAt settings start old.history time first media acts ts) (sym (append-nil trace)) is);
+    }
+
+    module _ (old : State) (turn : Turn State) (stored between : Stored) (a there : Option Media) (xs ys : Option (List Timed))
+        (time_is : turn.left.time ≡ time) (grows : Grows old.history turn.left.history)
+        (is_old : IsStored settings time old.history stored.entries) (is_new : IsStored settings time turn.left.history between.entries)
+        (turned : Turned settings old turn.left turn.sends (LiesOn settings stored) (LiesOn settings between) a there xs ys) where
+      module _ (rests : RestsWith a (LiesOn settings stored)) where
+        rests_c : RestsWith turned.between (LiesOn settings between)
+        rests_c = turned.rests rests
+
+        rests_there : RestsWith there (LiesOn settings between)
+        rests_there = rests_still turned.between there (LiesOn settings between) rests_c turned.sends
+
+        moment_is : past_of turned.between ≡ turned.moment
+        moment_is = moment_past turned.moment turned.between (LiesOn settings between) rests_c turned.is_moment
+
+        writes : Leaves a turned.between (λ image. HoldsFrom time old.history image ⊎ HoldsFrom time turn.left.history image)
+        writes = subst (λ t. Leaves a turned.between (λ image. HoldsFrom t old.history image ⊎ HoldsFrom t turn.left.history image)) time_is (turned.writes rests)
+
+        before_written : past_of a ≤ past_of turned.between
+        before_written = leaves_past a turned.between (LiesOn settings stored) (λ image. HoldsFrom time old.history image ⊎ HoldsFrom time turn.left.history image) rests writes
+
+        before_there : past_of a ≤ past_of there
+        before_there =
+            let w = before_written in
+            let s = keeps_past turned.between there (LiesOn settings between) rests_c turned.sends in
+            omega (arith, w, s)
+
+      one_carried : (turns : List (Turn State)) (d : Option Media) (front back : List Timed) → Gives turned.moment turn.sends front → Carried turn.left turns between there d back
+          → Carried old (turn ∷ turns) stored a d (front ++ back)
+      one_carried turns d front back given rest = record {
+        sends =
+            subst (λ outs. AreSends outs (front ++ back))
+            (sym (outs_then (each_telling turn.left turn.sends) (owed_in turns) ∙ ap (λ outs. outs ++ outs_of (owed_in turns)) (outs_back turn.left turn.sends)))
+            (sends_then turn.sends (outs_of (owed_in turns)) front back (are_sends turned.moment turn.sends front given) rest.sends);
+        late = λ rests.
+            none_then (past_of a) front back
+            (gives_late (past_of a) turned.moment turn.sends front (let m = moment_is rests in let w = before_written rests in omega (arith, m, w)) given)
+            (none_earlier (past_of a) (past_of there) back (before_there rests) (rest.late (rests_there rests)));
+        on = λ rests acts trace is.
+            let here =
+            turn_on settings start old.history grows.0 turn.left time first a turned.between acts front trace turn.sends turned.moment grows.1 (let m = moment_is rests in omega (arith, m)) given is
+            (stored_rests time time old.history stored a is_old is_old.timely rests) (writes rests) there
+            (stored_rests time time turn.left.history between turned.between is_new is_new.timely (rests_c rests)) turned.sends in
+            subst (λ ts. IsAt settings start (last_left turn.left turns).history time first d (acts ++ (front ++ back)) ts)
+            (append_assoc trace (told_by (each_telling turn.left turn.sends)) (told_by (owed_in turns))
+            ∙ ap (λ ts. trace ++ ts) (sym (told_then (each_telling turn.left turn.sends) (owed_in turns))))
+            (subst (λ es. IsAt settings start (last_left turn.left turns).history time first d es ((trace ++ told_by (each_telling turn.left turn.sends)) ++ told_by (owed_in turns)))
+            (append_assoc acts front back)
+            (rest.on (rests_there rests) (acts ++ front) (trace ++ told_by (each_telling turn.left turn.sends)) here));
+      }
+
+    pub turns_carried : (old : State) (turns : List (Turn State)) (stored after : Stored) (a d : Option Media) (xs ys : Option (List Timed)) → IsStored settings time old.history stored.entries
+        → Chained settings time old stored turns after a d xs ys → Added xs ys (Carried old turns stored a d)
+    turns_carried old [] stored after a d xs ys is chained =
+        subst (λ m. Added xs ys (Carried old [] stored a m)) (sym chained.1)
+        (subst (λ zs. Added xs zs (Carried old [] stored a a)) (sym chained.2) (added_none xs (Carried old [] stored a a) (none_carried old stored a)))
+    turns_carried old (turn ∷ turns) stored after a d xs ys is chained =
+        let (between, there, told, time_is, grows, is_new, turned, rest) = chained in
+        added_then xs told ys (Gives turned.moment turn.sends) (Carried turn.left turns between there d) (Carried old (turn ∷ turns) stored a d) turned.gives
+        (turns_carried turn.left turns between after there d told ys is_new rest)
+        (λ front back g c. one_carried old turn stored between a there xs told time_is grows is is_new turned turns d front back g c)
+
+  -- ---- where the turns lead
+
+  pub chain_rests : (time : ℕ) (old : State) (turns : List (Turn State)) (stored after : Stored) (a d : Option Media) (xs ys : Option (List Timed)) → RestsWith a (LiesOn settings stored)
+      → Chained settings time old stored turns after a d xs ys → RestsWith d (LiesOn settings after)
+  chain_rests time old [] stored after a d xs ys rests chained =
+      subst (λ m. RestsWith m (LiesOn settings after)) (sym chained.1) (subst (λ (s : Stored). RestsWith a (LiesOn settings s)) (sym chained.0) rests)
+  chain_rests time old (turn ∷ turns) stored after a d xs ys rests chained =
+      let (between, there, told, time_is, grows, is_new, turned, rest) = chained in
+      chain_rests time turn.left turns between after there d told ys (rests_still turned.between there (LiesOn settings between) (turned.rests rests) turned.sends) rest
+
+  pub chain_stored : (time : ℕ) (old : State) (turns : List (Turn State)) (stored after : Stored) (a d : Option Media) (xs ys : Option (List Timed)) → IsStored settings time old.history stored.entries
+      → Chained settings time old stored turns after a d xs ys → IsStored settings time (last_left old turns).history after.entries
+  chain_stored time old [] stored after a d xs ys is chained = subst (λ (s : Stored). IsStored settings time old.history s.entries) (sym chained.0) is
+  chain_stored time old (turn ∷ turns) stored after a d xs ys is chained =
+      let (between, there, told, time_is, grows, is_new, turned, rest) = chained in
+      chain_stored time turn.left turns between after there d told ys is_new rest
+
+  pub chain_grows : (time : ℕ) (old : State) (turns : List (Turn State)) (stored after : Stored) (a d : Option Media) (xs ys : Option (List Timed))
+      → Chained settings time old stored turns after a d xs ys → Grows old.history (last_left old turns).history
+  chain_grows time old [] stored after a d xs ys chained = ([], sym (append-nil old.history))
+  chain_grows time old (turn ∷ turns) stored after a d xs ys chained =
+      let (between, there, told, time_is, grows, is_new, turned, rest) = chained in
+      grows_then old.history turn.left.history (last_left turn.left turns).history grows (chain_grows time turn.left turns between after there d told ys rest)
+
+  -- ---- stories
+
   -- the sends that are owed
-  sends_story : (state : State) (moment : ℕ) (owed : List (State × OwnedOut)) (acts : List Timed) → Gives moment (outs_of owed) acts → Story settings (owing state owed) acts (told_by owed) (resting state)
-  sends_story state moment [] [] g = refl
-  sends_story state moment [] (timed ∷ acts) g = absurd g
-  sends_story state moment (send ∷ owed) [] g = absurd g
-  sends_story state moment (send ∷ owed) (timed ∷ acts) g = told timed.act g.1 (sends_story state (moment + 1) owed acts g.2)
+  sends_story : (state : State) (owed : List (State × OwnedOut)) (acts : List Timed) → AreSends (outs_of owed) acts → Story settings (owing state owed) acts (told_by owed) (resting state)
+  sends_story state [] [] are = refl
+  sends_story state [] (timed ∷ acts) are = absurd are
+  sends_story state (send ∷ owed) [] are = absurd are
+  sends_story state (send ∷ owed) (timed ∷ acts) are = told timed.act are.0 (sends_story state owed acts are.1)
     where
       told : (act : WireAct) → IsSend send.1 act → Story settings (owing state owed) acts (told_by owed) (resting state)
           → Story settings (owing state (send ∷ owed)) ((record { moment = timed.moment; act = act }) ∷ acts) (send.0 ∷ told_by owed) (resting state)
@@ -90,109 +255,312 @@ module _ (settings : SettingsValue) where
       told (gave o d) s rest = (owing state owed, (ap (λ x. (send.0, x) ∷ owed) (sym s), refl), tt, rest)
 
   -- an event that is taken, and its sends
-  event_story : (old new : State) (moment next : ℕ) (what : Event) (at : ℕ) (owed : List (State × OwnedOut)) (acts : List Timed) → Step settings old what at owed new → Gives next (outs_of owed) acts
+  event_story : (old new : State) (moment : ℕ) (what : Event) (at : ℕ) (owed : List (State × OwnedOut)) (acts : List Timed) → Step settings old what at owed new → AreSends (outs_of owed) acts
       → Story settings (resting old) (timed_at moment what at ∷ acts) (new ∷ told_by owed) (resting new)
-  event_story old new moment next what at owed acts s g = (owing new owed, (refl, s), refl, sends_story new next owed acts g)
+  event_story old new moment what at owed acts s are = (owing new owed, (refl, s), refl, sends_story new owed acts are)
 
-  -- an event that is taken, whose sends are still owed
-  taken_story : (old new : State) (moment : ℕ) (what : Event) (at : ℕ) (owed : List (State × OwnedOut)) → Step settings old what at owed new
-      → Story settings (resting old) (timed_at moment what at ∷ []) (new ∷ []) (owing new owed)
-  taken_story old new moment what at owed s = (owing new owed, (refl, s), refl, refl)
+  -- ---- runs
 
-  pub begins : (state : State) (media : Option Media) (Any : (ℕ → ℕ) → Type 0) → RestsWith media Any → RunsTo settings state state 0 media media [] []
-  begins state media Any rests = record {
-    story = refl;
-    goes_on = tt;
-    count = refl;
-    later = tt;
-    bounded = λ m. le_refl (length state.history);
-    survives = leaves_at_none (MeansAt settings state [] [] state.history) media Any rests;
-  }
+  pub begins : (state : State) (media : Option Media) (Rests : Type 0) → (Rests → RestsWith media (λ image. Unit {0})) → GoesOnTo settings state state 0 media media Rests [] []
+  begins state media Rests told = (
+    record { story = refl; goes_on = tt; count = refl },
+    λ rests. record {
+      later = tt;
+      bounded = λ m. le_refl (length state.history);
+      survives = leaves_at_none (MeansAt settings state [] [] state.history) media (λ image. Unit {0}) (told rests);
+    },
+  )
 
-  module _ (from old new : State) (n moment at : ℕ) (what : Event) (owed : List (State × OwnedOut)) (trace : List State) (media a b : Option Media)
-      (step : Step settings old what at owed new) (here : IsMoment moment a) (rests : RestsWith a (HoldsFrom new.time old.history)) (keeps : KeepsMedia a b) where
-    pub grows_on : (extra : List Entry) × (old.history ≡ from.history ++ extra) → (extra : List Entry) × (new.history ≡ from.history ++ extra)
-    grows_on before =
-        let grown = step_grows settings old what at owed new step in
-        (before.0 ++ grown.0, grown.1 ∙ ap (λ es. es ++ grown.0) before.1 ∙ append_assoc from.history before.0 grown.0)
+  -- An event comes to a run. Where the disk rested at the start of the run, it rests now with what is stored.
+  module _ (from old : State) (n moment at : ℕ) (what : Event) (trace : List State) (media a b : Option Media) (stored : Stored) (Rests : Type 0)
+      (is : IsStored settings old.time old.history stored.entries) (here : IsMoment moment a) (rests : Rests → RestsWith a (LiesOn settings stored)) (keeps : KeepsMedia a b) where
+    abbrev event_taken : Timed
+    event_taken = timed_at moment what at
 
-    past_start : (first now : Option Media) (front : List Timed) → RunsTo settings from old n first now trace front → past_of first ≤ past_of now
-    past_start first now front lives = leaves_at_past first now (MeansAt settings from front trace old.history) lives.survives
+    abbrev SoFar : List Timed → Type 0
+    SoFar front = GoesOnTo settings from old n media a Rests trace front
 
-    -- one more turn of the loop
-    lives_then : (c d : Option Media) (next : ℕ) (front acts : List Timed) → IsNoEnd (took what at) → RunsTo settings from old n media a trace front → Gives next (outs_of owed) acts
-        → IsMoment next c → Leaves b c (HoldsTurn settings old new) → RestsWith c (HoldsFrom new.time new.history) → KeepsMedia c d
-        → RunsTo settings from new (n + 1) media d (trace ++ (new ∷ told_by owed)) (front ++ (timed_at moment what at ∷ acts))
-    lives_then c d next front acts goes lives g at_c writes rests_c sends =
-        let same = story_length settings (resting from) (resting old) front trace lives.story in
-        let count = lives.count in
-        let grown = step_grows settings old what at owed new step in
-        let few = step_tells settings old what at owed new step in
-        let past_a = moment_past moment a (HoldsFrom new.time old.history) rests here in
-        let past_c = moment_past next c (HoldsFrom new.time new.history) rests_c at_c in
-        let first = past_start media a front lives in
-        let later = later_past a b c (HoldsFrom new.time old.history) (HoldsTurn settings old new) rests keeps writes in
-        let written = survives_writing settings from front trace same moment at what new acts owed old grown few lives.bounded media a b c next past_a (omega (arith, past_c)) g lives.survives rests keeps writes in
-        record {
-          story = story_then settings (resting from) (resting old) (resting new) front _ trace (new ∷ told_by owed) lives.story (event_story old new moment next what at owed acts step g);
-          goes_on = go_on_then front _ lives.goes_on (goes, sends_go_on next (outs_of owed) acts g);
-          count = omega (arith, events_then front (timed_at moment what at ∷ acts), sends_count next (outs_of owed) acts g);
-          later = none_then (past_of media) front _ lives.later (omega (arith, first, past_a), gives_late (past_of media) next (outs_of owed) acts (omega (arith, first, past_c, later)) g);
-          bounded = bounded_still settings from front trace same moment at what new acts owed old grown few lives.bounded next g;
-          survives = survives_sending settings from front trace same moment at what new acts owed old grown few lives.bounded media c d next
-              (omega (arith, past_a, later)) g written rests_c sends;
-        }
+    module _ (r : Rests) where
+      here_past : past_of a ≡ moment
+      here_past = moment_past moment a (LiesOn settings stored) (rests r) here
 
-    pub turned : (d : Option Media) (Before After : (ℕ → ℕ) → Type 0) (now : ℕ) (xs ys zs ws : Option (List Timed)) → IsNoEnd (took what at) → Added xs ys (RunsTo settings from old n media a trace)
-        → Adds ys moment zs now (took what at) → (turn : Turned settings old new (outs_of owed) Before After b d zs ws) → RestsWith b Before
-        → (RestsWith turn.between After → RestsWith turn.between (HoldsFrom new.time new.history))
-        → Added xs ws (RunsTo settings from new (n + 1) media d (trace ++ (new ∷ told_by owed)))
-    turned d Before After now xs ys zs ws goes lives took_it turn rests_b holds =
-        let timed : Timed = timed_at moment what at in
-        let P : List Timed → Type 0 = λ more. more ≡ timed ∷ [] in
-        let Q : List Timed → Type 0 = λ more. (acts : List Timed) × (more ≡ timed ∷ acts) × Gives turn.moment (outs_of owed) acts in
-        let one = added_by ys zs moment now (took what at) P took_it refl in
-        let both = added_then ys zs ws P (Gives turn.moment (outs_of owed)) Q one turn.gives (λ front back f g. (back, ap (λ xs. xs ++ back) f, g)) in
-        added_then xs ys ws (RunsTo settings from old n media a trace) Q (RunsTo settings from new (n + 1) media d (trace ++ (new ∷ told_by owed))) lives both (λ front back f q.
-        subst (λ xs. RunsTo settings from new (n + 1) media d (trace ++ (new ∷ told_by owed)) (front ++ xs)) (sym q.1)
-        (lives_then turn.between d turn.moment front q.0 goes f q.2 turn.is_moment (turn.writes rests_b) (holds (turn.rests rests_b)) turn.sends))
+      rests_b : RestsWith b (LiesOn settings stored)
+      rests_b = rests_still a b (LiesOn settings stored) (rests r) keeps
 
-    -- the event is the last, and nothing was sent for it
-    ends_then : (c : Option Media) (how : Stop) (front : List Timed) → Stops how (front ++ (timed_at moment what at ∷ [])) → RunsTo settings from old n media a trace front
-        → Leaves b c (HoldsTurn settings old new)
-        → Ran settings from (trace ++ (new ∷ [])) (owing new owed) how (front ++ (timed_at moment what at ∷ [])) × NoneBefore (past_of media) (front ++ (timed_at moment what at ∷ [])) × Survives settings from media c (front ++ (timed_at moment what at ∷ [])) (trace ++ (new ∷ [])) new.history
-    ends_then c how front stops lives writes =
-        let same = story_length settings (resting from) (resting old) front trace lives.story in
-        let grown = step_grows settings old what at owed new step in
-        let past_a = moment_past moment a (HoldsFrom new.time old.history) rests here in
-        let first = past_start media a front lives in (
+      a_to_b : past_of a ≤ past_of b
+      a_to_b = keeps_past a b (LiesOn settings stored) (rests r) keeps
+
+    module _ (new : State) (late : last_time old.history ≤ new.time) where
+      -- it is taken
+      taken_here : (r : Rests) (front : List Timed) → SoFar front → IsAt settings from old.history new.time media b (front ++ event_taken ∷ []) (trace ++ new ∷ [])
+      taken_here r front lives =
+          let survived = lives.1 r in
+          event_on settings from front trace old.history media a b moment at what new (story_length settings (resting from) (resting old) front trace lives.0.story) survived.bounded (here_past r) survived.survives
+          (stored_rests old.time new.time old.history stored a is late (rests r)) keeps
+
+      behind_late : (r : Rests) (front more : List Timed) → SoFar front → NoneBefore (past_of b) more → NoneBefore (past_of media) (front ++ event_taken ∷ more)
+      behind_late r front more lives none =
+          let survived = lives.1 r in
+          let first = leaves_at_past media a (MeansAt settings from front trace old.history) survived.survives in
+          let p = here_past r in
+          let q = a_to_b r in
+          none_then (past_of media) front (event_taken ∷ more) survived.later (omega (arith, first, p), none_earlier (past_of media) (past_of b) more (omega (arith, first, q)) none)
+
+      -- the acts so far, and the event with its sends
+      abbrev with_more : List Timed → List Timed → List Timed
+      with_more front more = front ++ event_taken ∷ more
+
+      joined : (front more : List Timed) (told : List State) (history : List Entry) (c : Option Media) → IsAt settings from history new.time media c ((front ++ event_taken ∷ []) ++ more) ((trace ++ new ∷ []) ++ told)
+          → IsAt settings from history new.time media c (with_more front more) (trace ++ new ∷ told)
+      joined front more told history c is_at =
+          subst (λ ts. IsAt settings from history new.time media c (front ++ event_taken ∷ more) ts) (append_assoc trace (new ∷ []) told)
+          (subst (λ xs. IsAt settings from history new.time media c xs ((trace ++ new ∷ []) ++ told)) (append_assoc front (event_taken ∷ []) more) is_at)
+
+      abbrev one_taken : List Timed → Type 0
+      one_taken more = more ≡ event_taken ∷ []
+
+      -- its turns are carried out
+      module _ (turns : List (Turn State)) (after : Stored) (d : Option Media) (zs ws : Option (List Timed)) (chained : Chained settings new.time old stored turns after b d zs ws) where
+        abbrev Turning : List Timed → Type 0
+        Turning more = Carried from new.time media old turns stored b d more
+
+        is_now : IsStored settings new.time old.history stored.entries
+        is_now = record { calm = is.calm; kept = is.kept; timely = late }
+
+        carried : Added zs ws Turning
+        carried = turns_carried from new.time media old turns stored after b d zs ws is_now chained
+
+        event_on_acts : (xs ys : Option (List Timed)) (now : ℕ) (Q : List Timed → Type 0) → Added xs ys SoFar → Adds ys moment zs now (took what at)
+            → ((front more : List Timed) → SoFar front → Turning more → Q (with_more front more)) → Added xs ws Q
+        event_on_acts xs ys now Q lives took_it go =
+            let R : List Timed → Type 0 = λ more. (rest : List Timed) × (more ≡ event_taken ∷ rest) × Turning rest in
+            let one = added_by ys zs moment now (took what at) one_taken took_it refl in
+            let both = added_then ys zs ws one_taken Turning R one carried (λ front back f c. (back, ap (λ xs. xs ++ back) f, c)) in
+            added_then xs ys ws SoFar R Q lives both (λ front back f r. subst (λ xs. Q (front ++ xs)) (sym r.1) (go front r.0 f r.2))
+
+        -- how the run stands behind them
+        pub stands_behind : (r : Rests) (front more : List Timed) → SoFar front → Turning more
+            → IsAt settings from (last_left old turns).history new.time media d (with_more front more) (trace ++ new ∷ told_by (owed_in turns))
+        stands_behind r front more l c =
+            joined front more (told_by (owed_in turns)) (last_left old turns).history d (c.on (rests_b r) (front ++ event_taken ∷ []) (trace ++ new ∷ []) (taken_here r front l))
+
+        pub goes_behind : (front more : List Timed) → SoFar front → Turning more → IsNoEnd (took what at) → GoOn (with_more front more)
+        goes_behind front more l c goes = go_on_then front (event_taken ∷ more) l.0.goes_on (goes, sends_go_on (outs_of (owed_in turns)) more c.sends)
+
+        -- all of them, and the event is over
+        module _ (step : Step settings old what at (owed_in turns) new) (left : new.history ≡ (last_left old turns).history) where
+          story_behind : (front more : List Timed) → SoFar front → Turning more → Story settings (resting from) (with_more front more) (trace ++ new ∷ told_by (owed_in turns)) (resting new)
+          story_behind front more l c =
+              story_then settings (resting from) (resting old) (resting new) front (event_taken ∷ more) trace (new ∷ told_by (owed_in turns)) l.0.story (event_story old new moment what at (owed_in turns) more step c.sends)
+
+          stands_there : (r : Rests) (front more : List Timed) → SoFar front → Turning more → IsAt settings from new.history new.time media d (with_more front more) (trace ++ new ∷ told_by (owed_in turns))
+          stands_there r front more l c =
+              subst (λ es. IsAt settings from es new.time media d (with_more front more) (trace ++ new ∷ told_by (owed_in turns))) (sym left) (stands_behind r front more l c)
+
+          pub took_on : (xs ys : Option (List Timed)) (now : ℕ) → IsNoEnd (took what at) → Added xs ys SoFar → Adds ys moment zs now (took what at)
+              → Added xs ws (GoesOnTo settings from new (n + 1) media d Rests (trace ++ new ∷ told_by (owed_in turns)))
+          took_on xs ys now goes lives took_it =
+              event_on_acts xs ys now (GoesOnTo settings from new (n + 1) media d Rests (trace ++ new ∷ told_by (owed_in turns))) lives took_it (λ front more l c.
+              let count = l.0.count in (
+                record {
+                  story = story_behind front more l c;
+                  goes_on = goes_behind front more l c goes;
+                  count = omega (arith, count, events_then front (event_taken ∷ more), sends_count (outs_of (owed_in turns)) more c.sends);
+                },
+                λ r. record {
+                  later = behind_late r front more l (c.late (rests_b r));
+                  bounded = (stands_there r front more l c).bounded;
+                  survives = (stands_there r front more l c).survives;
+                },
+              ))
+
+          -- and the run ends with it
+          pub ended_on : (how : Stop) (xs ys : Option (List Timed)) (now : ℕ) → EndsBehind how settings new [] (resting new) []
+              → ((front more : List Timed) → GoOn front → AreSends (outs_of (owed_in turns)) more → Stops how (with_more front more)) → Added xs ys SoFar → Adds ys moment zs now (took what at)
+              → Added xs ws (HasCome settings from how media d Rests (trace ++ new ∷ told_by (owed_in turns)) (resting new))
+          ended_on how xs ys now ends says lives took_it =
+              event_on_acts xs ys now (HasCome settings from how media d Rests (trace ++ new ∷ told_by (owed_in turns)) (resting new)) lives took_it (λ front more l c. (
+                ran_whole settings from new how (with_more front more) (trace ++ new ∷ told_by (owed_in turns)) ends (story_behind front more l c) (says front more l.0.goes_on c.sends),
+                λ r. (behind_late r front more l (c.late (rests_b r)), (stands_there r front more l c).survives),
+              ))
+
+    -- the disk failed in the turn behind those that were carried out
+    pub broke_on : (turns : List (Turn State)) (last : Turn State) (after : Stored) (there c : Option Media) (xs ys zs ws vs : Option (List Timed)) (now : ℕ) (late : last_time old.history ≤ last.left.time)
+        → StepInto settings old what at turns last → Chained settings last.left.time old stored turns after b there zs ws → Grows (last_left old turns).history last.left.history
+        → Broke settings (last_left old turns) last.left (LiesOn settings after) there c ws vs → IsNoEnd (took what at) → Added xs ys SoFar → Adds ys moment zs now (took what at)
+        → Added xs vs (HasCome settings from stop.DiskFailed media c Rests (trace ++ last.left ∷ told_by (owed_in turns)) (owing last.left (each_telling last.left last.sends)))
+    broke_on turns last after there c xs ys zs ws vs now late into chained grows broke goes lives took_it =
+        let told : List State = trace ++ last.left ∷ told_by (owed_in turns) in
+        let Q : List Timed → Type 0 = HasCome settings from stop.DiskFailed media c Rests told (owing last.left (each_telling last.left last.sends)) in
+        let stored_there : IsStored settings last.left.time (last_left old turns).history after.entries =
+        chain_stored last.left.time old turns stored after b there zs ws (is_now last.left late turns after there zs ws chained) chained in
+        let so_far =
+        event_on_acts last.left late turns after there zs ws chained xs ys now Q lives took_it (λ front more l carried. (
           record {
-            run = story_then settings (resting from) (resting old) (owing new owed) front _ trace (new ∷ []) lives.story (taken_story old new moment what at owed step);
-            stops = stops;
+            whole = front;
+            behind = event_taken ∷ more;
+            acts_are = refl;
+            told = trace;
+            told_behind = last.left ∷ told_by (owed_in turns);
+            trace_is = refl;
+            state = old;
+            run = l.0.story;
+            ends = record {
+              moment = moment;
+              came = what;
+              at = at;
+              turns = turns;
+              last = last;
+              into = into;
+              given = more;
+              acts_are = refl;
+              sent = carried.sends;
+              trace_is = refl;
+              end_is = refl;
+            };
+            stops = goes_behind last.left late turns after there zs ws chained front more l carried goes;
           },
-          none_then (past_of media) front (timed_at moment what at ∷ []) lives.later (omega (arith, first, past_a), tt),
-          survives_writing settings from front trace same moment at what new [] [] old grown tt lives.bounded media a b c (past_of c) past_a (le_refl (past_of c)) tt lives.survives rests keeps writes,
-        )
+          λ r.
+              let rests_there : RestsWith there (LiesOn settings after) = chain_rests last.left.time old turns stored after b there zs ws (rests_b r) chained in (
+                behind_late last.left late r front more l (carried.late (rests_b r)),
+                broken_on settings from (last_left old turns).history grows.0 last.left last.left.time media there c (front ++ event_taken ∷ more) told grows.1
+                    (stands_behind last.left late turns after there zs ws chained r front more l carried)
+                    (stored_rests last.left.time last.left.time (last_left old turns).history after there stored_there stored_there.timely rests_there) (broke.writes rests_there),
+              ),
+        )) in
+        added_then xs ws vs Q (λ more. more ≡ []) Q so_far (none_added ws vs broke.silent) (λ front back q none. subst Q (ap (λ es. front ++ es) (sym none)) (subst Q (sym (append-nil front)) q))
 
-    pub stopped : (c : Option Media) (how : Stop) (now : ℕ) (xs ys zs ws : Option (List Timed)) → Added xs ys (RunsTo settings from old n media a trace)
-        → ((front : List Timed) → GoOn front → Stops how (front ++ (timed_at moment what at ∷ []))) → Adds ys moment zs now (took what at) → KeepsActs zs ws
-        → Leaves b c (HoldsTurn settings old new)
-        → Added xs ws (λ more. Ran settings from (trace ++ (new ∷ [])) (owing new owed) how more × NoneBefore (past_of media) more × Survives settings from media c more (trace ++ (new ∷ [])) new.history)
-    stopped c how now xs ys zs ws lives says took_it silent writes =
-        let timed : Timed = timed_at moment what at in
-        let P : List Timed → Type 0 = λ more. more ≡ timed ∷ [] in
-        let R : List Timed → Type 0 = λ more. Ran settings from (trace ++ (new ∷ [])) (owing new owed) how more × NoneBefore (past_of media) more × Survives settings from media c more (trace ++ (new ∷ [])) new.history in
-        let one = added_by ys zs moment now (took what at) P took_it refl in
-        let both = added_then ys zs ws P (λ more. more ≡ []) P one (none_added zs ws silent) (λ front back f none. ap (λ xs. front ++ xs) none ∙ append-nil front ∙ f) in
-        added_then xs ys ws (RunsTo settings from old n media a trace) P R lives both (λ front back f p.
-        subst (λ xs. R (front ++ xs)) (sym p) (ends_then c how front (says front f.goes_on) f writes))
+    -- it is a restart, and the disk wasn't recovered
+    pub unrecovered_on : (how : Stop) (c : Option Media) (xs ys zs vs : Option (List Timed)) (now : ℕ) → what ≡ event.Restart → Broke settings old (restarted settings old at) (LiesOn settings stored) b c zs vs
+        → EndsBehind how settings (restarted settings old at) [] (resting (restarted settings old at)) [] → ((front : List Timed) → GoOn front → Stops how (front ++ event_taken ∷ []))
+        → Added xs ys SoFar → Adds ys moment zs now (took what at)
+        → Added xs vs (HasCome settings from how media c Rests (trace ++ restarted settings old at ∷ []) (resting (restarted settings old at)))
+    unrecovered_on how c xs ys zs vs now is_restart broke ends says lives took_it =
+        let new : State = restarted settings old at in
+        let late : last_time old.history ≤ new.time = omega arith in
+        let Q : List Timed → Type 0 = HasCome settings from how media c Rests (trace ++ new ∷ []) (resting new) in
+        let one = added_by ys zs moment now (took what at) (λ more. more ≡ event_taken ∷ []) took_it refl in
+        let so_far =
+        added_then xs ys zs SoFar (λ more. more ≡ event_taken ∷ []) Q lives one (λ front back l f.
+        subst (λ es. Q (front ++ es)) (sym f) (
+          ran_whole settings from new how (front ++ event_taken ∷ []) (trace ++ new ∷ []) ends
+              (story_then settings (resting from) (resting old) (resting new) front (event_taken ∷ []) trace (new ∷ []) l.0.story
+              (event_story old new moment what at [] [] (subst (λ w. Step settings old w at [] new) (sym is_restart) (refl, refl)) tt))
+              (says front l.0.goes_on),
+          λ r. (
+            behind_late new late r front [] l tt,
+            broken_on settings from old.history [] new new.time media b c (front ++ event_taken ∷ []) (trace ++ new ∷ []) (sym (append-nil old.history)) (taken_here new late r front l)
+                (stored_rests old.time new.time old.history stored b is late (rests_b r)) (broke.writes (rests_b r)),
+          ),
+        )) in
+        added_then xs zs vs Q (λ more. more ≡ []) Q so_far (none_added zs vs broke.silent) (λ front back q none. subst Q (ap (λ es. front ++ es) (sym none)) (subst Q (sym (append-nil front)) q))
 
   -- the loop has run out
-  pub ran_out : (from old : State) (n : ℕ) (trace : List State) (media now : Option Media) (a b : Option (List Timed)) → n ≡ 2 ^ 40 → Added a b (RunsTo settings from old n media now trace)
-      → Added a b (λ more. Ran settings from trace (resting old) stop.TooMany more × NoneBefore (past_of media) more × Survives settings from media now more trace old.history)
-  ran_out from old n trace media now a b is lives =
-      added_weaker a b (RunsTo settings from old n media now trace) (λ more. Ran settings from trace (resting old) stop.TooMany more × NoneBefore (past_of media) more × Survives settings from media now more trace old.history) lives
-      (λ more l. (record { run = l.story; stops = (l.goes_on, l.count ∙ is) }, l.later, l.survives))
+  pub ran_out : (from old : State) (n : ℕ) (trace : List State) (media now : Option Media) (Rests : Type 0) (a b : Option (List Timed)) → n ≡ 2 ^ 40 → Added a b (GoesOnTo settings from old n media now Rests trace)
+      → Added a b (HasCome settings from stop.TooMany media now Rests trace (resting old))
+  ran_out from old n trace media now Rests a b is lives =
+      added_weaker a b (GoesOnTo settings from old n media now Rests trace) (HasCome settings from stop.TooMany media now Rests trace (resting old)) lives
+      (λ more l. (
+        ran_whole settings from old stop.TooMany more trace (refl, refl, refl) l.0.story (l.0.goes_on, l.0.count ∙ is),
+        λ r. ((l.1 r).later, (l.1 r).survives),
+      ))
+
+-- ---- a server in a run
+
+-- It goes on from the start, after so many events: it keeps a state, to which the acts are a run; and where the disk rested at the start, it rests
+-- with what the server has there, and the run survived so far.
+pub record LivesOn (settings : SettingsValue) (start : State) (server : ServerValue) (n : ℕ) (Rests : Type 0) (first media : Option Media) (acts acts_now : Option (List Timed)) : Type 0 where
+  pub state : State
+  pub few : List Entry
+  pub kept : IsKept server settings state few
+  pub rests : Rests → RestsWith media (LiesOn settings (stored_of server few))
+  pub grown : Grows start.history state.history
+  pub trace : List State
+  pub told : Added acts acts_now (GoesOnTo settings start state n first media Rests trace)
+
+pub lives_first : (settings : SettingsValue) (start : State) (server : ServerValue) (held : List Entry) (media : Option Media) (acts : Option (List Timed)) → IsKept server settings start held
+    → LivesOn settings start server 0 (RestsWith media (LiesOn settings (stored_of server held))) media media acts acts
+lives_first settings start server held media acts kept = record {
+  state = start;
+  few = held;
+  kept = kept;
+  rests = λ rests. rests;
+  grown = ([], sym (append-nil start.history));
+  trace = [];
+  told = added_none acts _ (begins settings start media (RestsWith media (LiesOn settings (stored_of server held)))
+      (λ rests. rests_as media (LiesOn settings (stored_of server held)) (λ image. Unit {0}) (λ image lies. tt) rests));
+}
+
+module _ (settings : SettingsValue) (start : State) (server : ServerValue) (n moment at : ℕ) (what : Event) (Rests : Type 0) (first a b : Option Media) (xs ys zs : Option (List Timed)) (now : ℕ)
+    (here : IsMoment moment a) (keeps : KeepsMedia a b) (took_it : Adds ys moment zs now (took what at)) (lives : LivesOn settings start server n Rests first a xs ys) where
+  abbrev now_stored : Stored
+  now_stored = stored_of server lives.few
+
+  is_stored : IsStored settings lives.state.time lives.state.history lives.few
+  is_stored = kept_stored server settings lives.state lives.few lives.kept
+
+  pub rests_came : Rests → RestsWith b (journal.Represents server.journal settings lives.few)
+  rests_came r = rests_still a b (LiesOn settings now_stored) (lives.rests r) keeps
+
+  -- an event was taken, and the run goes on
+  pub lives_then : (next : ServerValue) (d : Option Media) (ws : Option (List Timed)) → IsNoEnd (took what at) → Took settings lives.state what at server next lives.few b d zs ws
+      → LivesOn settings start next (n + 1) Rests first d xs ws
+  lives_then next d ws goes done =
+      let late = step_timely settings lives.state what at (owed_in done.turns) done.new is_stored.timely done.step in record {
+        state = done.new;
+        few = done.few;
+        kept = done.kept;
+        rests = λ r. chain_rests settings done.new.time lives.state done.turns now_stored (stored_of next done.few) b d zs ws (rests_came r) done.chained;
+        grown = grows_then start.history lives.state.history done.new.history lives.grown
+            (subst (λ es. Grows lives.state.history es) (sym done.left) (chain_grows settings done.new.time lives.state done.turns now_stored (stored_of next done.few) b d zs ws done.chained));
+        trace = lives.trace ++ done.new ∷ told_by (owed_in done.turns);
+        told = took_on settings start lives.state n moment at what lives.trace first a b now_stored Rests is_stored here lives.rests keeps done.new late done.turns (stored_of next done.few) d zs ws done.chained done.step done.left
+            xs ys now goes lives.told took_it;
+      }
+
+  -- an event was taken that changes nothing, and the run ends with it
+  pub comes_to_end : (how : Stop) → Step settings lives.state what at [] lives.state → IsSettled how (resting lives.state) → IsFound how
+      → EndsBehind how settings lives.state [] (resting lives.state) [] → ((front : List Timed) → GoOn front → Stops how (front ++ (record { moment = moment; act = took what at }) ∷ []))
+      → Came settings start how first b Rests xs zs (resting lives.state)
+  comes_to_end how step settled found ends says = record {
+    settled = settled;
+    trace = lives.trace ++ lives.state ∷ [];
+    told = ended_on settings start lives.state n moment at what lives.trace first a b now_stored Rests is_stored here lives.rests keeps lives.state is_stored.timely [] now_stored b zs zs (refl, refl, refl) step refl
+        how xs ys now ends (λ front more goes none. subst (λ es. Stops how (front ++ (record { moment = moment; act = took what at }) ∷ es)) (sym (no_sends more none)) (says front goes)) lives.told took_it;
+    grows = lives.grown;
+    own = lives.kept.represents.represents.own;
+    found = found;
+  }
+
+  -- the disk failed in the middle of an event
+  pub comes_to_failure : (c : Option Media) (vs : Option (List Timed)) → IsNoEnd (took what at) → (over : BrokeOff settings lives.state what at server lives.few b c zs vs)
+      → Came settings start stop.DiskFailed first c Rests xs vs (record { last = over.last.left; owed = each_telling over.last.left over.last.sends })
+  comes_to_failure c vs goes over = record {
+    settled = tt;
+    trace = lives.trace ++ over.last.left ∷ told_by (owed_in over.turns);
+    told = broke_on settings start lives.state n moment at what lives.trace first a b now_stored Rests is_stored here lives.rests keeps over.turns over.last over.stored over.there c xs ys zs over.told vs now
+        (into_timely settings lives.state what at over.turns over.last is_stored.timely over.into) over.into over.chained over.grows over.broke goes lives.told took_it;
+    grows = grows_then start.history (last_left lives.state over.turns).history over.last.left.history
+        (grows_then start.history lives.state.history (last_left lives.state over.turns).history lives.grown
+        (chain_grows settings over.last.left.time lives.state over.turns now_stored over.stored b over.there zs over.told over.chained))
+        over.grows;
+    own = over.broke.own;
+    found = tt;
+  }
+
+  -- at a restart the disk wasn't recovered
+  pub comes_unrecovered : (fault : JournalFault) (c : Option Media) (vs : Option (List Timed)) → what ≡ event.Restart → IsFailure fault
+      → Broke settings lives.state (restarted settings lives.state at) (journal.Represents server.journal settings lives.few) b c zs vs
+      → Came settings start (stop.Unrecovered fault) first c Rests xs vs (resting (restarted settings lives.state at))
+  comes_unrecovered fault c vs is found broke = record {
+    settled = refl;
+    trace = lives.trace ++ restarted settings lives.state at ∷ [];
+    told = unrecovered_on settings start lives.state n moment at what lives.trace first a b now_stored Rests is_stored here lives.rests keeps (stop.Unrecovered fault) c xs ys zs vs now is broke (refl, refl, refl)
+        (λ front goes. (front, record { moment = moment; act = took what at }, at, ap (λ w. took w at) is, refl, goes)) lives.told took_it;
+    grows = lives.grown;
+    own = broke.own;
+    found = found;
+  }
 
 -- acts that stay as they were
 pub keeps_same : (acts : Option (List Timed)) → KeepsActs acts acts

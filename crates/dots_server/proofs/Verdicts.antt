@@ -18,19 +18,19 @@ use Rattle.conflict_rules.specs.declared.judging.Judged.{Judged}
 use Rattle.conflict_rules.specs.Results.{Fails}
 use Rattle.dots_registry.specs.RegistryValues.{time_of, number_remembered}
 use Rattle.dots_registry.specs.RegistryValues as registry
-use Rattle.dots_registry.specs.Judging.{judge_request}
+use Rattle.conflict_rules.specs.ByHistory.{judge_request}
 use Rattle.dots_machine.specs.declared.target.TargetFault.{TargetFault}
 use Rattle.dots_machine.specs.declared.exchange.Exchange.{Exchange}
 use Rattle.dots_machine.specs.declared.mitigation_request.MitigationRequest.{MitigationRequest}
-use Rattle.dots_machine.specs.declared.verdict.Verdict.{Verdict}
+use Rattle.dots_machine.specs.Verdict.{Verdict}
 use Rattle.dots_machine.specs.declared.verdict.Verdict.TheVariants as verdict
 use Rattle.dots_machine.specs.Domains.{is_gateway, session_domain}
 use Rattle.dots_machine.specs.Targets.{scope_fault}
 use Rattle.dots_machine.specs.Replies.{bad_target, not_implemented}
-use Rattle.dots_machine.specs.MessageRepeats.{Sent, sent_for}
-use Rattle.dots_machine.specs.Mitigations.{sent_by, request_of, judged}
-use Rattle.dots_machine.specs.Machine.{State, is_stranger}
-use Rattle.dots_machine.specs.Verdicts.{repeated, unless_repeated, unless_faulty, put_verdict, in_domain, config_for}
+use Rattle.dots_machine.specs.MessageRepeats.{Sent, sent_for, unless_repeated}
+use Rattle.dots_machine.specs.Mitigations.{sent_by, request_of, judged, unless_faulty, put_answer}
+use Rattle.dots_machine.specs.Machine.{State, is_stranger, facts_in}
+use Rattle.dots_machine.specs.Deciding.{in_domain, config_for}
 use Rattle.dots_server.specs.Asking.{role_with}
 use Rattle.dots_server.specs.ServerValues.{ServerValue, Represents, IsServing}
 
@@ -82,7 +82,7 @@ repeat_none None otherwise is = refl
 
 -- the registry remembers by the settings, at the state's time
 pub remembered_here : (server : ServerValue) (settings : SettingsValue) (state : State) (sent : Sent) → Represents server settings state
-    → remembered (number_remembered server.registry) (time_of server.registry) sent.peer sent.domain sent.id state.history ≡ repeated settings state.time state.history sent
+    → remembered (number_remembered server.registry) (time_of server.registry) sent.peer sent.domain sent.id state.history ≡ (facts_in settings state).repeated sent
 remembered_here server settings state sent represents =
     ap (λ (l : Limits). remembered l.remembered (time_of server.registry) sent.peer sent.domain sent.id state.history) represents.is_of.limits
     ∙ ap (λ t. remembered settings.limits.remembered t sent.peer sent.domain sent.id state.history) represents.time_is
@@ -130,22 +130,22 @@ module _ (server : ServerValue) (settings : SettingsValue) (state : State) (a : 
   fault s = scope_fault s (prefixes_of s a.from.domain) a.body.asked
 
   abbrev known : Option Entry
-  known = repeated settings state.time state.history (sent_by a.from)
+  known = (facts_in settings state).repeated (sent_by a.from)
 
   abbrev by_rules : Verdict
   by_rules = judged state.time a (judge_request settings state.time state.history a.from.domain (request_of a))
 
   -- by the faults that the server finds
-  decided_by : (f : Option TargetFault) → fault server.settings ≡ f → unless_faulty a.from.exchange f (unless_repeated known by_rules) ≡ put_verdict settings state.time state.history a
+  decided_by : (f : Option TargetFault) → fault server.settings ≡ f → unless_faulty a.from.exchange f (unless_repeated known by_rules) ≡ put_answer settings (facts_in settings state) a
   decided_by f is = ap (λ f. unless_faulty a.from.exchange f (unless_repeated known by_rules)) (sym is ∙ ap fault represents.settings_are)
 
-  pub server_finds_fault : (f : TargetFault) → fault server.settings ≡ Some f → verdict.Reply (bad_target a.from.exchange f) ≡ put_verdict settings state.time state.history a
+  pub server_finds_fault : (f : TargetFault) → fault server.settings ≡ Some f → verdict.Reply (bad_target a.from.exchange f) ≡ put_answer settings (facts_in settings state) a
   server_finds_fault f is = decided_by (Some f) is
 
-  pub server_repeats : (reply : List ℕ) → fault server.settings ≡ None → Some reply ≡ reply_in known → verdict.Reply reply ≡ put_verdict settings state.time state.history a
+  pub server_repeats : (reply : List ℕ) → fault server.settings ≡ None → Some reply ≡ reply_in known → verdict.Reply reply ≡ put_answer settings (facts_in settings state) a
   server_repeats reply none is = repeat_found known by_rules reply is ∙ decided_by None none
 
-  pub server_goes_by_rules : fault server.settings ≡ None → None ≡ reply_in known → by_rules ≡ put_verdict settings state.time state.history a
+  pub server_goes_by_rules : fault server.settings ≡ None → None ≡ reply_in known → by_rules ≡ put_answer settings (facts_in settings state) a
   server_goes_by_rules none new = repeat_none known by_rules new ∙ decided_by None none
 
   -- the same at the state's time and by its settings
@@ -164,13 +164,13 @@ module _ (server : ServerValue) (settings : SettingsValue) (state : State) (a : 
 module _ (settings : SettingsValue) (state : State) (peer : ℕ) (x : Exchange) (own : Option ℕ) (own_is : role_of settings peer ≡ role_with own) (domain : ℕ)
     (there : session_domain (role_with own) ≡ Some domain) where
   abbrev recalled : Option Entry
-  recalled = repeated settings state.time state.history (sent_for peer x domain)
+  recalled = (facts_in settings state).repeated (sent_for peer x domain)
 
   abbrev decided : Verdict
-  decided = in_domain x (session_domain (role_of settings peer)) (config_for settings state peer x)
+  decided = in_domain x (session_domain (role_of settings peer)) (config_for (facts_in settings state) peer x)
 
-  found_there : config_for settings state peer x domain ≡ decided
-  found_there = sym (ap (λ d. in_domain x d (config_for settings state peer x)) (ap session_domain own_is ∙ there))
+  found_there : config_for (facts_in settings state) peer x domain ≡ decided
+  found_there = sym (ap (λ d. in_domain x d (config_for (facts_in settings state) peer x)) (ap session_domain own_is ∙ there))
 
   pub config_repeats : (reply : List ℕ) → Some reply ≡ reply_in recalled → verdict.Reply reply ≡ decided
   config_repeats reply is = repeat_found recalled (verdict.Reply (not_implemented x)) reply is ∙ found_there

@@ -5,12 +5,11 @@ use Rattle.dots_settings.specs.declared.peer.Role.TheVariants as role
 use Rattle.dots_settings.specs.Settings.{SettingsValue, IsKnown}
 use Rattle.dots_machine.specs.declared.received.Received.{Received}
 use Rattle.dots_machine.specs.declared.received.Received.TheVariants as received
-use Rattle.dots_machine.specs.declared.verdict.Verdict.{Verdict}
+use Rattle.dots_machine.specs.Verdict.{Verdict}
 use Rattle.dots_machine.specs.declared.verdict.Verdict.TheVariants as verdict
 use Rattle.dots_settings.specs.Lookups.{role_of}
 use Rattle.dots_machine.specs.Replies.{unavailable}
-use Rattle.dots_machine.specs.Machine.{State}
-use Rattle.dots_machine.specs.Verdicts.{verdict_on}
+use Rattle.dots_machine.specs.Machine.{State, facts_in, rules_say}
 
 -- a client has a domain of its own, and a gateway none
 abbrev pub role_with : Option ℕ → Role
@@ -34,4 +33,4 @@ IsUnavailable _ decided = ⊥
 
 -- what the rules say of it, or 5.00 to a request for want of memory
 abbrev pub DecidesOn : SettingsValue → State → ℕ → Received → Verdict → Type 0
-DecidesOn settings state peer got decided = (decided ≡ verdict_on settings state peer got) ⊎ IsUnavailable got decided
+DecidesOn settings state peer got decided = (decided ≡ rules_say settings (facts_in settings state) peer got) ⊎ IsUnavailable got decided

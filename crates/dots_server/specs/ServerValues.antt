@@ -1,5 +1,5 @@
 -- What a server keeps: the settings, a registry of what the history comes to, and the journal in which its entries are.
-use Rattle.std.specs.Prelude.{◌≡◌, ◌<◌, ◌^◌, true, List, ⊤}
+use Rattle.std.specs.Prelude.{◌≡◌, ℕ, ◌<◌, ◌^◌, true, List, ⊤}
 use Rattle.std.specs.List.{list_all}
 use Rattle.dots_settings.specs.Settings.{SettingsValue}
 use Rattle.dots_history.specs.declared.entry.Entry.{Entry}
@@ -15,7 +15,7 @@ use Rattle.slot_journal.specs.Sizes.{slots_of}
 use Rattle.dots_ledger.specs.LedgerValues.{LedgerValue}
 use Rattle.dots_ledger.specs.LedgerValues as ledger
 use Rattle.dots_registry.specs.Limits.{ClientsKeepLimits}
-use Rattle.dots_machine.specs.declared.verdict.Verdict.{Verdict}
+use Rattle.dots_machine.specs.Verdict.{Verdict}
 use Rattle.dots_machine.specs.declared.verdict.Verdict.TheVariants as verdict
 use Rattle.dots_machine.specs.Machine.{State}
 
@@ -63,6 +63,9 @@ pub record IsAcceptable (server : ServerValue) (entry : Entry) : Type 0 where
   pub fits : (settings : SettingsValue) (state : State) → Represents server settings state → fits_now settings server.registry state.history entry ≡ true
   pub own : (settings : SettingsValue) (state : State) → Represents server settings state → is_own settings entry ≡ true
   pub one_peer : (settings : SettingsValue) (state : State) → Represents server settings state → has_one_peer entry (mitigations entry.time state.history) ≡ true
+
+abbrev pub IsAccepted : Verdict → Type 0
+IsAccepted decided = (reply : List ℕ) × (entry : Entry) × (decided ≡ verdict.Accept reply entry)
 
 abbrev pub CanCarryOut : Verdict → ServerValue → Type 0
 CanCarryOut (verdict.Accept reply entry) server = IsAcceptable server entry

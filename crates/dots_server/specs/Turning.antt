@@ -1,17 +1,22 @@
--- What one event does to the disk and to the wire: first it is written, and then the sends are given.
-use Rattle.std.specs.Prelude.{◌≡◌, ◌⊎◌, ℕ, true, List, Option, ⊤}
+-- What an event does to the disk and to the wire, one turn after the other: first it is written, and then the sends are given.
+use Rattle.std.specs.Prelude.{◌≡◌, ◌⊎◌, ℕ, ◌≤◌, true, List, [], ◌∷◌, ◌++◌, Option, ⊤}
 use Rattle.std.specs.List.{list_all}
 use Rattle.dots_host.specs.declared.event.What.{What}
 use Rattle.dots_host.specs.declared.event.What.TheVariants as what
 use Rattle.dots_host.specs.declared.out.OwnedOut.{OwnedOut}
 use Rattle.dots_host.specs.Acts.{Timed}
-use Rattle.dots_host.specs.Runs.{Added, Gives}
+use Rattle.dots_host.specs.Runs.{Turn, Added, Gives}
 use Rattle.dots_disk.specs.Media.{Media}
 use Rattle.dots_disk.specs.Becoming.{Leaves, RestsWith, KeepsMedia, IsMoment}
 use Rattle.dots_disk.specs.Beside.{KeepsActs}
 use Rattle.dots_settings.specs.Settings.{SettingsValue}
+use Rattle.dots_history.specs.declared.entry.Entry.{Entry}
+use Rattle.dots_history.specs.Histories.{Kept}
 use Rattle.dots_laws.specs.Calm.{is_own}
-use Rattle.dots_ledger.specs.Crashes.{HoldsKept}
+use Rattle.dots_laws.specs.Fits.{is_calm, last_time}
+use Rattle.slot_store.specs.StoreValues.{JournalValue}
+use Rattle.slot_journal.specs.DiskEntries as journal
+use Rattle.slot_journal.specs.Kept.{HoldsKept}
 use Rattle.dots_machine.specs.Machine.{State}
 
 -- an event that a server takes: neither the end nor a failure of the host, nor a restart, at which a server begins anew
@@ -26,7 +31,7 @@ abbrev pub HoldsTurn : SettingsValue → State → State → (ℕ → ℕ) → T
 HoldsTurn settings old new image =
     HoldsKept settings settings.limits.remembered new.time old.history image ⊎ HoldsKept settings settings.limits.remembered new.time new.history image
 
--- The event led from the one state to the other. At each moment up to the first send the disk has entries with the view of the one history or
+-- A turn led from the one state to the other. At each moment up to the first send the disk has entries with the view of the one history or
 -- of the other; there it rests with those of the other; and from then on nothing is written, and the sends are given, one moment after the
 -- other. What the disk must rest with at the start, and does in the end, is said by two relations.
 pub record Turned (settings : SettingsValue) (old new : State) (outs : List OwnedOut) (before after : (ℕ → ℕ) → Type 0) (media media_new : Option Media) (acts acts_new : Option (List Timed)) : Type 0 where
@@ -44,3 +49,36 @@ pub record Broke (settings : SettingsValue) (old new : State) (before : (ℕ →
   pub silent : KeepsActs acts acts_new
   pub writes : RestsWith media before → Leaves media media_new (HoldsTurn settings old new)
   pub own : list_all (is_own settings) new.history ≡ true
+
+-- a journal, with the entries that are on its disk
+pub record Stored : Type 0 where
+  pub journal : JournalValue
+  pub entries : List Entry
+
+abbrev pub LiesOn : SettingsValue → Stored → (ℕ → ℕ) → Type 0
+LiesOn settings stored image = journal.Represents stored.journal settings stored.entries image
+
+-- The entries are calm, and have the view of the history at the time of its last entry, which isn't after this time.
+pub record IsStored (settings : SettingsValue) (time : ℕ) (history entries : List Entry) : Type 0 where
+  pub calm : is_calm settings entries ≡ true
+  pub kept : Kept settings.limits.remembered (last_time history) entries history
+  pub timely : last_time history ≤ time
+
+-- a history to which entries were added, or none
+abbrev pub Grows : List Entry → List Entry → Type 0
+Grows history new = (extra : List Entry) × (new ≡ history ++ extra)
+
+-- the state that the last turn left
+abbrev pub last_left : State → List (Turn State) → State
+last_left old [] = old
+last_left old (turn ∷ turns) = last_left turn.left turns
+
+-- The turns of an event lead from the one state on, all at one time. Each is written, and then sends; it only adds to the history; and between
+-- two of them the disk rests, with entries that have the view of the history so far.
+abbrev pub Chained : SettingsValue → ℕ → State → Stored → List (Turn State) → Stored → Option Media → Option Media → Option (List Timed) → Option (List Timed) → Type 0
+Chained settings time old stored [] after media media_new acts acts_new = (after ≡ stored) × (media_new ≡ media) × (acts_new ≡ acts)
+Chained settings time old stored (turn ∷ turns) after media media_new acts acts_new =
+    (between : Stored) × (there : Option Media) × (told : Option (List Timed)) × (turn.left.time ≡ time) × Grows old.history turn.left.history
+    × IsStored settings time turn.left.history between.entries
+    × Turned settings old turn.left turn.sends (LiesOn settings stored) (LiesOn settings between) media there acts told
+    × Chained settings time turn.left between turns after there media_new told acts_new

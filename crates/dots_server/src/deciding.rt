@@ -5,19 +5,20 @@ ghost use Rattle.dots_keys.specs.Askable.{IsAskable, IsAskableBody};
 ghost use Rattle.dots_settings.specs.Settings.{SettingsValue};
 ghost use Rattle.dots_settings.specs.Lookups.{role_of};
 ghost use Rattle.dots_laws.specs.Calm.{may_act};
-ghost use Rattle.dots_machine.specs.Machine.{State, reject_verdict, dismissal_verdict, Decides};
+ghost use Rattle.dots_machine.specs.Machine.{State, reject_verdict, dismissal_verdict, Decides, facts_in};
 ghost use Rattle.dots_machine.specs.Domains.{domain_for};
-ghost use Rattle.dots_machine.specs.Verdicts.{asked_verdict, in_domain, with_mid, put_for, put_in, get_for, delete_for, delete_in};
+ghost use Rattle.dots_machine.specs.Deciding.{in_domain, with_mid, put_in, put_for, delete_in, delete_for, get_for, answer_to};
 ghost use Rattle.dots_server.specs.Asking.{IsOwn, domain_asked, DecidesOn};
 ghost use Rattle.dots_replies.specs.Receiving.{IsGrantable};
 ghost use Rattle.dots_server.specs.ServerValues.{Represents, CanCarryOut};
 
 use crate::server::Server;
+use crate::verdict::Verdict;
 use coap_message::Kind;
 use dots_heads::{Content, MitigationPath, Reject};
 use dots_keys::{MitigationBody, Request};
 use dots_lists::{Name, NoMemory};
-use dots_machine::{ClientRequest, Dismissal, Exchange, MitigationRequest, Received, Verdict};
+use dots_machine::{ClientRequest, Dismissal, Exchange, MitigationRequest, Received};
 use dots_replies::{bad_parameter, not_implemented, receive, rejection, reset, unavailable};
 use dots_settings::Role;
 
@@ -76,7 +77,7 @@ impl Server {
         requires askable { IsAskable request }
         requires own { IsOwn self.now.settings peer own }
         ensures decides { (settings : SettingsValue) (state : State) → Represents self.now settings state
-            → IfOk result (λ verdict. verdict ≡ asked_verdict settings state peer exchange request) }
+            → IfOk result (λ verdict. verdict ≡ answer_to settings (facts_in settings state) peer exchange request) }
         ensures ready { IfOk result (λ verdict. CanCarryOut verdict self.now) }
     {
         match request {
@@ -108,7 +109,7 @@ impl Server {
         requires askable { IsAskableBody body }
         requires own { IsOwn self.now.settings peer own }
         ensures decides { (settings : SettingsValue) (state : State) → Represents self.now settings state
-            → IfOk result (λ verdict. verdict ≡ in_domain exchange (domain_for settings (role_of settings peer) path.cdid) (put_for settings state peer exchange path body)) }
+            → IfOk result (λ verdict. verdict ≡ in_domain exchange (domain_for settings (role_of settings peer) path.cdid) (put_for settings (facts_in settings state) peer exchange path body)) }
         ensures ready { IfOk result (λ verdict. CanCarryOut verdict self.now) }
     {
         let mid = path.mid;
@@ -128,7 +129,7 @@ impl Server {
         requires askable { IsAskableBody body }
         requires acts { may_act self.now.settings (role_of self.now.settings from.peer) from.domain ≡ true }
         ensures decides { (settings : SettingsValue) (state : State) → Represents self.now settings state
-            → IfOk result (λ verdict. verdict ≡ with_mid from.exchange mid (put_in settings state from body)) }
+            → IfOk result (λ verdict. verdict ≡ with_mid from.exchange mid (put_in settings (facts_in settings state) from body)) }
         ensures ready { IfOk result (λ verdict. CanCarryOut verdict self.now) }
     {
         match mid {
@@ -148,7 +149,7 @@ impl Server {
     ) -> Result<Verdict, NoMemory>
         requires own { IsOwn self.now.settings peer own }
         ensures decides { (settings : SettingsValue) (state : State) → Represents self.now settings state
-            → IfOk result (λ verdict. verdict ≡ in_domain exchange (domain_for settings (role_of settings peer) path.cdid) (get_for state peer exchange path content)) }
+            → IfOk result (λ verdict. verdict ≡ in_domain exchange (domain_for settings (role_of settings peer) path.cdid) (get_for (facts_in settings state) peer exchange path content)) }
         ensures ready { IfOk result (λ verdict. CanCarryOut verdict self.now) }
     {
         let mid = path.mid;
@@ -168,7 +169,7 @@ impl Server {
     ) -> Result<Verdict, NoMemory>
         requires own { IsOwn self.now.settings peer own }
         ensures decides { (settings : SettingsValue) (state : State) → Represents self.now settings state
-            → IfOk result (λ verdict. verdict ≡ in_domain exchange (domain_for settings (role_of settings peer) path.cdid) (delete_for settings state peer exchange path)) }
+            → IfOk result (λ verdict. verdict ≡ in_domain exchange (domain_for settings (role_of settings peer) path.cdid) (delete_for (facts_in settings state) peer exchange path)) }
         ensures ready { IfOk result (λ verdict. CanCarryOut verdict self.now) }
     {
         let mid = path.mid;
@@ -182,7 +183,7 @@ impl Server {
     fn delete_with_mid(&self, from: &ClientRequest, mid: Option<u32>) -> Result<Verdict, NoMemory>
         requires acts { may_act self.now.settings (role_of self.now.settings from.now.peer) from.now.domain ≡ true }
         ensures decides { (settings : SettingsValue) (state : State) → Represents self.now settings state
-            → IfOk result (λ verdict. verdict ≡ with_mid from.now.exchange mid (delete_in settings state from.now)) }
+            → IfOk result (λ verdict. verdict ≡ with_mid from.now.exchange mid (delete_in (facts_in settings state) from.now)) }
         ensures ready { IfOk result (λ verdict. CanCarryOut verdict self.now) }
     {
         match mid {

@@ -15,6 +15,7 @@ mod naming;
 mod repeating;
 mod report;
 mod server;
+mod verdict;
 
 pub use events::take_events;
 pub use server::{ReportFault, Server};

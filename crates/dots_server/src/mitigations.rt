@@ -1,7 +1,6 @@
 //! What a server decides on requests for mitigations.
 
 ghost use Rattle.std.specs.Prelude.{◌≡◌, ◌≢◌, ◌≤◌, ◌<◌, List, ◌++◌, ◌∷◌, [], map, filter, length, true, false, IfOk, OnOk, None, Err};
-ghost use Rattle.std.specs.List.{list_any};
 ghost use Rattle.dots_keys.specs.Askable.{IsAskableBody};
 ghost use Rattle.dots_settings.specs.Settings.{SettingsValue};
 ghost use Rattle.dots_settings.specs.Lookups.{role_of, prefixes_of};
@@ -11,26 +10,26 @@ ghost use Rattle.conflict_rules.specs.Results.{Gives};
 ghost use Rattle.conflict_rules.specs.declared.fault.PutFault.TheVariants as faults;
 ghost use Rattle.dots_registry.specs.RegistryValues.{time_of, domains_of};
 ghost use Rattle.dots_registry.specs.RegistryValues as registry;
-ghost use Rattle.dots_registry.specs.Judging.{judge_request};
+ghost use Rattle.conflict_rules.specs.ByHistory.{judge_request};
 ghost use Rattle.reply_bodies.specs.Mitigations.{scope_of};
-ghost use Rattle.dots_machine.specs.Machine.{State};
+ghost use Rattle.dots_machine.specs.Machine.{State, facts_in};
 ghost use Rattle.dots_lists.specs.Name.{is_name};
 ghost use Rattle.dots_machine.specs.Replies.{conflicting, deleted, granting, mitigation_fields};
 ghost use Rattle.dots_machine.specs.Targets.{scope_fault};
 ghost use Rattle.dots_machine.specs.declared.verdict.Verdict.TheVariants as verdicts;
-ghost use Rattle.dots_machine.specs.Mitigations.{grant, entry_of, refusal, judged, request_of, lives, is_wanted};
-ghost use Rattle.dots_machine.specs.Verdicts.{put_verdict, is_taken, stands_as, delete_by, delete_verdict, delete_in, get_verdict};
-ghost use Rattle.live_mitigations.specs.LiveViews.{LiveView, row_view};
-ghost use Rattle.dots_registry.specs.Statuses.{is_standing};
+ghost use Rattle.dots_machine.specs.Mitigations.{grant, entry_of, refusal, judged, request_of, is_wanted, put_answer, is_taken, delete_by, delete_answer, get_answer, client_for};
+ghost use Rattle.dots_machine.specs.Deciding.{delete_in};
+ghost use Rattle.conflict_rules.specs.LiveViews.{LiveView};
+ghost use Rattle.live_mitigations.specs.LiveViews.{row_view};
+ghost use Rattle.conflict_rules.specs.Statuses.{is_standing};
 ghost use Rattle.dots_server.specs.ServerValues.{Represents, CanCarryOut};
 
 use crate::server::Server;
+use crate::verdict::Verdict;
 use conflict_rules::{Judged, PutFault, PutRequest};
 use dots_history::{Change, Entry};
 use dots_lists::{List, NoMemory};
-use dots_machine::{
-    ClientRequest, Exchange, MitigationRequest, ShortMessage, Verdict, scope_fault,
-};
+use dots_machine::{ClientRequest, Exchange, MitigationRequest, ShortMessage, scope_fault};
 use dots_registry::Registry;
 use dots_replies::{
     absent, at_capacity, bad_request, bad_target, conflicting, copies, deleted, entry_of, granting,
@@ -52,7 +51,7 @@ impl Server {
         requires askable { IsAskableBody asked.body }
         requires acts { may_act self.now.settings (role_of self.now.settings asked.from.peer) asked.from.domain ≡ true }
         ensures decides { (settings : SettingsValue) (state : State) → Represents self.now settings state
-            → IfOk result (λ verdict. verdict ≡ put_verdict settings state.time state.history asked) }
+            → IfOk result (λ verdict. verdict ≡ put_answer settings (facts_in settings state) asked) }
         ensures ready { IfOk result (λ verdict. CanCarryOut verdict self.now) }
     {
         self.decide_asked(&asked)
@@ -63,7 +62,7 @@ impl Server {
         requires askable { IsAskableBody asked.now.body }
         requires acts { may_act self.now.settings (role_of self.now.settings asked.now.from.peer) asked.now.from.domain ≡ true }
         ensures decides { (settings : SettingsValue) (state : State) → Represents self.now settings state
-            → IfOk result (λ verdict. verdict ≡ put_verdict settings state.time state.history asked.now) }
+            → IfOk result (λ verdict. verdict ≡ put_answer settings (facts_in settings state) asked.now) }
         ensures ready { IfOk result (λ verdict. CanCarryOut verdict self.now) }
     {
         let domain = self.settings.prefixes_of(asked.from.domain);
@@ -168,7 +167,7 @@ impl Server {
     pub(crate) fn decide_delete(&self, from: &ClientRequest, mid: u32) -> Result<Verdict, NoMemory>
         requires acts { may_act self.now.settings (role_of self.now.settings from.now.peer) from.now.domain ≡ true }
         ensures decides { (settings : SettingsValue) (state : State) → Represents self.now settings state
-            → IfOk result (λ verdict. verdict ≡ delete_in settings state from.now mid) }
+            → IfOk result (λ verdict. verdict ≡ delete_in (facts_in settings state) from.now mid) }
         ensures ready { IfOk result (λ verdict. CanCarryOut verdict self.now) }
     {
         let known = self.remembered(from.peer, from.domain, &from.exchange);
@@ -182,7 +181,7 @@ impl Server {
     fn judge_delete(&self, from: &ClientRequest, mid: u32) -> Result<Verdict, NoMemory>
         requires acts { may_act self.now.settings (role_of self.now.settings from.now.peer) from.now.domain ≡ true }
         ensures decides { (settings : SettingsValue) (state : State) → Represents self.now settings state
-            → IfOk result (λ verdict. verdict ≡ delete_verdict state.time state.history from.now mid) }
+            → IfOk result (λ verdict. verdict ≡ delete_answer (facts_in settings state) from.now mid) }
         ensures ready { IfOk result (λ verdict. CanCarryOut verdict self.now) }
     {
         if self.is_taken(from) {
@@ -212,7 +211,7 @@ impl Server {
     ) -> Result<Verdict, NoMemory>
         requires acts { may_act self.now.settings (role_of self.now.settings from.now.peer) from.now.domain ≡ true }
         ensures decides { (settings : SettingsValue) (state : State) → Represents self.now settings state
-            → IfOk result (λ verdict. verdict ≡ get_verdict state.time state.history from.now mid content) }
+            → IfOk result (λ verdict. verdict ≡ get_answer (facts_in settings state) from.now mid content) }
         ensures ready { IfOk result (λ verdict. CanCarryOut verdict self.now) }
     {
         if self.is_taken(from) {
@@ -244,7 +243,7 @@ impl Server {
     /// Whether the client's name is in use by another peer.
     fn is_taken(&self, from: &ClientRequest) -> bool
         requires acts { may_act self.now.settings (role_of self.now.settings from.now.peer) from.now.domain ≡ true }
-        ensures { (settings : SettingsValue) (state : State) → Represents self.now settings state → result ≡ is_taken state.time state.history from.now }
+        ensures { (settings : SettingsValue) (state : State) → Represents self.now settings state → result ≡ is_taken (facts_in settings state) from.now }
     {
         self.ledger
             .registry()
@@ -255,7 +254,7 @@ impl Server {
     fn stands(&self, from: &ClientRequest, mid: u32) -> bool
         requires acts { may_act self.now.settings (role_of self.now.settings from.now.peer) from.now.domain ≡ true }
         ensures { (settings : SettingsValue) (state : State) → Represents self.now settings state
-            → result ≡ list_any (stands_as mid) (lives state.time state.history from.now) }
+            → result ≡ (facts_in settings state).stands (client_for from.now) mid }
     {
         for row in self
             .ledger
@@ -278,7 +277,7 @@ impl Server {
     ) -> Result<ViewList<'a>, NoMemory>
         requires acts { may_act self.now.settings (role_of self.now.settings from.now.peer) from.now.domain ≡ true }
         ensures { (settings : SettingsValue) (state : State) → Represents self.now settings state
-            → IfOk result (λ views. map scope_of views ≡ map (mitigation_fields content) (filter (is_wanted mid) (lives state.time state.history from.now))) }
+            → IfOk result (λ views. map scope_of views ≡ map (mitigation_fields content) (filter (is_wanted mid) ((facts_in settings state).views (client_for from.now)))) }
     {
         let mut views = List::new(self.alloc);
         for row in self

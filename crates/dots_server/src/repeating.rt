@@ -5,13 +5,14 @@ ghost use Rattle.dots_settings.specs.Settings.{SettingsValue};
 ghost use Rattle.dots_settings.specs.Lookups.{role_of};
 ghost use Rattle.dots_machine.specs.Domains.{session_domain};
 ghost use Rattle.dots_machine.specs.MessageRepeats.{sent_for};
-ghost use Rattle.dots_machine.specs.Machine.{State};
-ghost use Rattle.dots_machine.specs.Verdicts.{repeated, in_domain, config_for};
+ghost use Rattle.dots_machine.specs.Machine.{State, facts_in};
+ghost use Rattle.dots_machine.specs.Deciding.{in_domain, config_for};
 ghost use Rattle.dots_server.specs.Asking.{role_with, IsOwn};
 ghost use Rattle.dots_server.specs.ServerValues.{Represents, CanCarryOut};
 
 use crate::server::Server;
-use dots_machine::{Exchange, ShortMessage, Verdict};
+use crate::verdict::Verdict;
+use dots_machine::{Exchange, ShortMessage};
 use dots_replies::not_implemented;
 use dots_settings::NO_DOMAIN;
 
@@ -25,7 +26,7 @@ impl Server {
         exchange: &Exchange,
     ) -> Option<ShortMessage>
         ensures { (settings : SettingsValue) (state : State) → Represents self.now settings state
-            → result ≡ option_map (λ entry. entry.reply) (repeated settings state.time state.history (sent_for peer exchange.now domain)) }
+            → result ≡ option_map (λ entry. entry.reply) ((facts_in settings state).repeated (sent_for peer exchange.now domain)) }
     {
         let reply = self.ledger.registry().repeat(peer, domain, exchange.id)?;
         Some(ShortMessage::copy_of(reply))
@@ -35,7 +36,7 @@ impl Server {
     pub(crate) fn decide_config(&self, peer: u32, own: Option<u16>, exchange: &Exchange) -> Verdict
         requires own { IsOwn self.now.settings peer own }
         ensures decides { (settings : SettingsValue) (state : State) → Represents self.now settings state
-            → result ≡ in_domain exchange.now (session_domain (role_of settings peer)) (config_for settings state peer exchange.now) }
+            → result ≡ in_domain exchange.now (session_domain (role_of settings peer)) (config_for (facts_in settings state) peer exchange.now) }
         ensures ready { CanCarryOut result self.now }
     {
         match self.remembered(peer, session_domain(own), exchange) {

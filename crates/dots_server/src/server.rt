@@ -1,13 +1,12 @@
 //! The server: the settings, and what was accepted, in its tables and on the disk.
 
-ghost use Rattle.std.specs.Prelude.{◌≡◌, ◌≢◌, ℕ, ◌<◌, ◌≤◌, ◌⊎◌, ◌^◌, [], ◌∷◌, length, true, List, IfOk, IfErr, OnOk, OnErr};
+ghost use Rattle.std.specs.Prelude.{◌≡◌, ◌≢◌, ℕ, ◌<◌, ◌≤◌, ◌⊎◌, ◌^◌, [], ◌∷◌, length, true, List, IfOk, IfErr, OnOk, OnErr, ⊤};
 ghost use Rattle.std.specs.Io.KnownBytes.{Appends};
 ghost use Rattle.dots_disk.specs.Becoming.{Leaves, RestsWith, KeepsMedia};
 ghost use Rattle.dots_host.specs.Acts.{IsWithin, event_of};
 ghost use Rattle.dots_host.specs.Causes.{HasCause};
-ghost use Rattle.dots_host.specs.Runs.{Added, Gives, outs_of};
+ghost use Rattle.dots_host.specs.Runs.{Added, Gives};
 ghost use Rattle.dots_host.specs.Writing.{AppendsBeginning};
-ghost use Rattle.dots_host.specs.declared.out.OwnedOut.{OwnedOut};
 ghost use Rattle.dots_host.specs.declared.out.OwnedOut.TheVariants as owned;
 ghost use Rattle.dots_settings.specs.Settings.{SettingsValue};
 ghost use Rattle.dots_history.specs.declared.entry.Entry.{Entry};
@@ -20,18 +19,19 @@ ghost use Rattle.slot_journal.specs.DiskEntries.{Holds};
 ghost use Rattle.slot_journal.specs.DiskEntries as journal;
 ghost use Rattle.slot_journal.specs.Refused.{Caused};
 ghost use Rattle.slot_journal.specs.declared.fault.JournalFault.TheVariants as faults;
-ghost use Rattle.dots_ledger.specs.Beginning.{RefusesLedger, IsFailure};
-ghost use Rattle.dots_machine.specs.Machine.{State, begun_from, later, restarted, sends_of, after, Step};
+ghost use Rattle.slot_journal.specs.Untaken.{RefusesLedger, IsFailure};
+ghost use Rattle.dots_machine.specs.Machine.{State, begun_from, later, restarted, sends_of, after};
 ghost use Rattle.dots_machine.specs.Report.{report_of};
-ghost use Rattle.dots_server.specs.ServerValues.{Represents, IsKept, CanCarryOut};
+ghost use Rattle.dots_server.specs.ServerValues.{Represents, IsKept, CanCarryOut, IsAccepted};
+ghost use Rattle.dots_server.specs.Taking.{Took, BrokeOff};
 ghost use Rattle.dots_server.specs.Turning.{IsServed, Turned, Broke};
 
 use crate::gathering::Gatherer;
 use crate::report::{put_packets, put_rows};
+use crate::verdict::Verdict;
 use dots_disk::Host;
 use dots_host::{Got, Out, Sink, What};
 use dots_ledger::Ledger;
-use dots_machine::Verdict;
 use dots_registry::Registry;
 use dots_settings::Settings;
 use slot_journal::{DiskFault, JournalFault};
@@ -79,7 +79,7 @@ impl Server {
     ) -> Result<Self, JournalFault>
         requires early { at < 2 ^ 48 }
         // It represents calm entries, which are what the disk held, and the disk rests with them.
-        ensures begun { IfOk result (λ server. (held : List Entry) × IsKept server settings (restarted (begun_from held) at) held × (is_calm settings held ≡ true)
+        ensures begun { IfOk result (λ server. (held : List Entry) × IsKept server settings (restarted settings (begun_from settings held) at) held × (is_calm settings held ≡ true)
             × ((seen : ℕ → ℕ) → Sees (H.media host.old) seen → Holds settings seen held × RestsWith (H.media host.new) (journal.Represents server.journal settings held))) }
         ensures settings { IfOk result (λ server. server.settings ≡ settings) }
         ensures size { OnOk result (needed_of (slots_of settings) ≤ H.extent host.new) }
@@ -110,7 +110,7 @@ impl Server {
         requires early { at < 2 ^ 48 }
         ensures restarted { IfOk result (λ server. (settings : SettingsValue) (state : State) (entries : List Entry) → IsKept self settings state entries
             → RestsWith (H.media host.old) (journal.Represents self.journal settings entries)
-            → IsKept server settings (restarted state at) entries × RestsWith (H.media host.new) (journal.Represents server.journal settings entries)) }
+            → IsKept server settings (restarted settings state at) entries × RestsWith (H.media host.new) (journal.Represents server.journal settings entries)) }
         ensures settings { IfOk result (λ server. server.settings ≡ self.settings) }
         ensures slots { IfOk result (λ server. server.journal.slots ≡ slots_of self.settings) }
         ensures size { OnOk result (needed_of (slots_of self.settings) ≤ H.extent host.new) }
@@ -148,25 +148,22 @@ impl Server {
         self.ledger.registry()
     }
 
-    /// Takes one event, its bytes at the front of the room: one step of the machine. What is accepted is on the disk and in the tables before
-    /// the first of its sends is handed to the host, and nothing else is sent.
+    /// Takes one event, its bytes at the front of the room: one step of the machine, by its turns. What a turn accepts is on the disk and in the
+    /// tables before the first of its sends is handed to the host, and nothing else is sent.
     ///
     /// # Errors
     ///
-    /// `DiskFault` where the disk's count of faults rose. Then nothing was sent, and the server isn't used again.
+    /// `DiskFault` where the disk's count of faults rose. Then nothing was sent of the turn in which it rose, and the server isn't used again.
     pub fn handle<H: Host>(&mut self, host: &mut H, got: &Got, room: &[u8]) -> Result<(), DiskFault>
         requires within { IsWithin got.now.what (length room.now) }
         requires early { got.now.at < 2 ^ 48 }
         requires served { IsServed got.now.what }
         requires size { needed_of self.old.journal.slots ≤ H.extent host.old }
         ensures done { OnOk result ((settings : SettingsValue) (state : State) (entries : List Entry) → IsKept self.old settings state entries
-            → (owed : List (State × OwnedOut)) × (new : State) × (few : List Entry)
-            × Step settings state (event_of got.now.what room.now) got.now.at owed new × IsKept self.new settings new few
-            × Turned settings state new (outs_of owed) (journal.Represents self.old.journal settings entries) (journal.Represents self.new.journal settings few)
-            (H.media host.old) (H.media host.new) (H.acts host.old) (H.acts host.new)) }
+            → Took settings state (event_of got.now.what room.now) got.now.at self.old self.new entries (H.media host.old) (H.media host.new) (H.acts host.old) (H.acts host.new)) }
         ensures failed { OnErr result ((settings : SettingsValue) (state : State) (entries : List Entry) → IsKept self.old settings state entries
-            → (owed : List (State × OwnedOut)) × (new : State) × Step settings state (event_of got.now.what room.now) got.now.at owed new
-            × Broke settings state new (journal.Represents self.old.journal settings entries) (H.media host.old) (H.media host.new) (H.acts host.old) (H.acts host.new)) }
+            → BrokeOff settings state (event_of got.now.what room.now) got.now.at self.old entries (H.media host.old) (H.media host.new) (H.acts host.old) (H.acts host.new)) }
+        ensures adds { Added (H.acts host.old) (H.acts host.new) (λ _. ⊤) }
         ensures settings { self.new.settings ≡ self.old.settings }
         ensures slots { self.new.journal.slots ≡ self.old.journal.slots }
         ensures extent { H.extent host.new ≡ H.extent host.old }
@@ -212,8 +209,10 @@ impl Server {
             → (few : List Entry) × IsKept self.new settings (after verdict state) few
             × Turned settings state (after verdict state) (sends_of verdict peer) (journal.Represents self.old.journal settings entries) (journal.Represents self.new.journal settings few)
             (H.media host.old) (H.media host.new) (H.acts host.old) (H.acts host.new)) }
+        // Nothing but an entry that is accepted is written.
         ensures failed { OnErr result ((settings : SettingsValue) (state : State) (entries : List Entry) → IsKept self.old settings state entries
-            → Broke settings state (after verdict state) (journal.Represents self.old.journal settings entries) (H.media host.old) (H.media host.new) (H.acts host.old) (H.acts host.new)) }
+            → IsAccepted verdict × Broke settings state (after verdict state) (journal.Represents self.old.journal settings entries) (H.media host.old) (H.media host.new) (H.acts host.old) (H.acts host.new)) }
+        ensures adds { Added (H.acts host.old) (H.acts host.new) (λ _. ⊤) }
         ensures settings { self.new.settings ≡ self.old.settings }
         ensures slots { self.new.journal.slots ≡ self.old.journal.slots }
         ensures extent { H.extent host.new ≡ H.extent host.old }

@@ -1,208 +1,299 @@
-use Rattle.std.proofs.Common.{◌∙◌, ◌++◌, ◌∷◌, [], refl, sym, arith, append-nil}
+use Rattle.std.proofs.Common.{◌≡◌, ◌≤◌, ◌∙◌, ◌+◌, inl, inr, [], refl, sym, subst, arith}
+use Rattle.dots_disk.specs.Becoming.{RestsWith}
 use Rattle.dots_host.specs.declared.event.Event.TheVariants as event
-use Rattle.dots_host.specs.Acts.{event_of}
-use Rattle.dots_host.specs.Runs.{resting}
-use Rattle.std.proofs.lemmas.Result.{err_from_is_err_and}
+use Rattle.dots_host.specs.Acts.{took, event_of}
 use Rattle.dots_host.specs.Causes.{Rose}
-use Rattle.slot_store.proofs.Steps.{begins}
-use Rattle.dots_host.proofs.RunLemmas.{added_none}
+use Rattle.dots_host.specs.Runs.{resting, each_telling}
+use Rattle.dots_host.proofs.RunLemmas.{added_none, added_by}
+use Rattle.slot_store.specs.Layout.{needed_of}
 use Rattle.slot_journal.specs.DiskEntries as journal
 use Rattle.dots_machine.specs.declared.ending.Stop.TheVariants as stop
-use Rattle.dots_machine.proofs.Surviving.{told_by, rests_still, step_timely}
-use Rattle.dots_server.specs.Turning.{HoldsTurn}
-use Rattle.dots_server.proofs.Looping.{timely, rests_kept}
-use Rattle.dots_server.proofs.Turns.{begins as lives_begin, turned, stopped, ran_out, grows_on, no_end, keeps_same}
-use Rattle.dots_server.proofs.Taking.{stops_settled, stops_at, stops_more, rose_since}
+use Rattle.dots_machine.specs.Machine.{restarted}
+use Rattle.dots_server.specs.ServerValues.{ServerValue}
+use Rattle.dots_server.proofs.Turning.{none_added}
+use Rattle.dots_server.proofs.Turns.{LivesOn, lives_first, lives_then, rests_came, comes_to_end, comes_to_failure, comes_unrecovered, ran_out, no_end}
+use Rattle.dots_server.proofs.Taking.{restart_took, restart_broke, recover_stops, stops_more, rose_since}
+use Rattle.dots_server.proofs.Following.{added_any, restarted_on, restarted_now, taken_on, added_on, either_on, followed}
+use Rattle.dots_server.proofs.events.take_events.Goals.{in-Restart+in-Ok, in_default+in-Ok-handle}
 use Rattle.dots_server.proofs.events.take_events.Goals as goal
 
--- ---- before the first turn
+-- ---- before the first event
 
 pub loop-turn-init : goal.loop-turn-init
-loop-turn-init g c = record {
-  leads = g.met.H.Wire.leads_same c.args.host.now;
-  later = omega arith;
-  disk = refl;
-  size = c.requires.size;
-  settings = refl;
-  lives = λ settings start held kept rests.
-      (start, held, kept, rests, ([], sym (append-nil start.history)), [], added_none _ _ (lives_begin settings start (g.H.Disk.media c.args.host.now) (journal.Represents c.args.server.journal settings held) rests));
-}
+loop-turn-init g c =
+    let media = g.H.Disk.media c.args.host.now in
+    let acts = g.H.Wire.acts c.args.host.now in record {
+      leads = g.met.H.Wire.leads_same c.args.host.now;
+      later = omega arith;
+      disk = refl;
+      size = c.requires.size;
+      settings = refl;
+      adds = added_none acts (λ _. Unit {0}) tt;
+      rested = λ settings start held kept rests. lives_first settings start c.args.server held media acts kept;
+      lives = λ settings start held kept. inr (lives_first settings start c.args.server held media acts kept);
+    }
 
 -- ---- one more
 
 pub loop-turn-preserved : goal.loop-turn-preserved
-loop-turn-preserved g c = record {
-  leads = g.met.H.Wire.leads_then _ _ _ (g.met.H.Wire.leads_then _ _ _ c.loop-turn.invariant.leads c.next-got.ensures.leads) c.take_one.ensures.leads;
-  later = omega (arith, c.next-got.ensures.later, c.take_one.ensures.wire, c.loop-turn.invariant.later);
-  disk = c.in_ok-server-in_default.ensures.disk ∙ (g.met.H.Host.wire_keeps c.loop-turn.host c.next-got.new.self c.next-got.ensures.beside).2 ∙ c.loop-turn.invariant.disk;
-  size = c.in_ok-server-in_default.ensures.size;
-  settings = c.in_ok-server-in_default.ensures.settings ∙ c.loop-turn.invariant.settings;
-  lives = λ settings start held first rests_first.
-      let (state, few, kept, rests, grown, trace, lives) = c.loop-turn.invariant.lives settings start held first rests_first in
-      let host = c.loop-turn.host in
-      let came = c.next-got.new.self in
-      let left = c.take_one.new.host in
-      let now = c.in_ok-server-in_default.server in
-      let keeps = (g.met.H.Host.wire_keeps host came c.next-got.ensures.beside).0 in
-      let rests_came = rests_still (g.H.Disk.media host) (g.H.Disk.media came) (journal.Represents c.loop-turn.server.journal settings few) rests keeps in
-      let took = c.in_ok-server-in_default.ensures.done settings state few kept rests_came in
-      let what = event_of c.next-got.result.what c.next-got.new.into in
-      let at = c.next-got.result.at in
-      let late = step_timely settings state what at took.owed took.new (timely c.loop-turn.server settings state few kept) took.step in
-      let held_on = rests_kept c.loop-turn.server settings state few took.new.time (g.H.Disk.media host) kept late rests in
-      let here = g.met.H.Host.one_moment host in (
-        took.new,
-        took.few,
-        took.kept,
-        rests_still took.turn.between (g.H.Disk.media left) (journal.Represents now.journal settings took.few) (took.turn.rests rests_came) took.turn.sends,
-        grows_on settings start state took.new c.loop-turn._turn (g.H.Wire.moment host) at what took.owed trace (g.H.Disk.media c.args.host.now) (g.H.Disk.media host) (g.H.Disk.media came) took.step here held_on keeps grown,
-        trace ++ (took.new ∷ told_by took.owed),
-        turned settings start state took.new c.loop-turn._turn (g.H.Wire.moment host) at what took.owed trace (g.H.Disk.media c.args.host.now) (g.H.Disk.media host) (g.H.Disk.media came) took.step here held_on keeps
-            (g.H.Disk.media left) (journal.Represents c.loop-turn.server.journal settings few) (journal.Represents now.journal settings took.few) _ _ _ _ _
-            (no_end _ _ _ c.in_default.not-End c.in_default.not-Failed) lives c.next-got.ensures.acts took.turn rests_came
-            (rests_kept now settings took.new took.few took.new.time took.turn.between took.kept (timely now settings took.new took.few took.kept)),
-      );
-}
+loop-turn-preserved g c =
+    let inv = c.loop-turn.invariant in
+    let host = c.loop-turn.host in
+    let came = c.next-got.new.self in
+    let server = c.loop-turn.server in
+    let at = c.next-got.result.at in
+    let keeps = g.met.H.Host.wire_keeps host came c.next-got.ensures.beside in
+    let first = g.H.Disk.media c.args.host.now in
+    let a = g.H.Disk.media host in
+    let b = g.H.Disk.media came in
+    let xs = g.H.Wire.acts c.args.host.now in
+    let ys = g.H.Wire.acts host in
+    let zs = g.H.Wire.acts came in
+    let moment = g.H.Wire.moment host in
+    let now = g.H.Wire.moment came in
+    let here = g.met.H.Host.one_moment host in
+    let size_came = subst (λ extent. needed_of server.journal.slots ≤ extent) (sym keeps.1) inv.size in
+    elim c.match-got.branch [
+      | in-Restart+in-Ok w ↦
+          let left = w.restart.new.host in
+          let begun = w.in-Ok.begun in
+          let keeps_left = g.met.H.Host.disk_keeps came left w.restart.ensures.beside in
+          let took_it = rw w.in-Restart.is at c.next-got.ensures.acts in
+          let more = added_any zs (g.H.Wire.acts left) (λ more. more ≡ []) (none_added zs (g.H.Wire.acts left) keeps_left.0) in
+          rw (w.host-is, w.server-is) (record {
+            leads = g.met.H.Wire.leads_then _ _ _ (g.met.H.Wire.leads_then _ _ _ inv.leads c.next-got.ensures.leads) keeps_left.2;
+            later = omega (arith, c.next-got.ensures.later, keeps_left.1, inv.later);
+            disk = w.in-Ok.ensures.cause ∙ keeps.2 ∙ inv.disk;
+            size = subst (λ slots. needed_of slots ≤ g.H.Disk.extent left) (sym w.in-Ok.ensures.slots) w.in-Ok.ensures.size;
+            settings = w.in-Ok.ensures.settings ∙ inv.settings;
+            adds = added_on xs zs (g.H.Wire.acts left) (taken_on xs ys zs moment now (took event.Restart at) inv.adds took_it) more;
+            rested = λ settings start held kept rests.
+                let Rests = RestsWith first (journal.Represents c.args.server.journal settings held) in
+                let lives = inv.rested settings start held kept rests in
+                let still = rests_came settings start server c.loop-turn._turn moment at event.Restart Rests first a b xs ys zs now here keeps.0 took_it lives rests in
+                let found = w.in-Ok.ensures.restarted settings lives.state lives.few lives.kept still in
+                lives_then settings start server c.loop-turn._turn moment at event.Restart Rests first a b xs ys zs now here keeps.0 took_it lives begun (g.H.Disk.media left) (g.H.Wire.acts left) tt
+                (restart_took settings lives.state at server lives.few lives.kept b (g.H.Disk.media left) zs (g.H.Wire.acts left) keeps_left.0 (w.restart.ensures.moments settings lives.state lives.few lives.kept)
+                begun (g.H.Wire.moment left) (g.met.H.Host.one_moment left) found.0 found.1);
+            lives = λ settings start held kept. inl (restarted_on xs zs (g.H.Wire.acts left) (restarted_now xs ys zs moment now (took event.Restart at) tt inv.adds took_it) more);
+          })
+      | in_default+in-Ok-handle w ↦
+          let left = w.handle.new.host in
+          let what = event_of c.next-got.result.what c.next-got.new.into in
+          let goes = no_end c.next-got.result.what c.next-got.new.into at w.in_default.not-End w.in_default.not-Failed in
+          let took_it = c.next-got.ensures.acts in
+          rw (w.host-is, w.server-is) (record {
+            leads = g.met.H.Wire.leads_then _ _ _ (g.met.H.Wire.leads_then _ _ _ inv.leads c.next-got.ensures.leads) w.handle.ensures.leads;
+            later = omega (arith, c.next-got.ensures.later, w.handle.ensures.wire, inv.later);
+            disk = w.in-Ok-handle.ensures.cause.same ∙ keeps.2 ∙ inv.disk;
+            size = subst (λ slots. needed_of slots ≤ g.H.Disk.extent left) (sym w.handle.ensures.slots) (subst (λ extent. needed_of server.journal.slots ≤ extent) (sym w.handle.ensures.extent) size_came);
+            settings = w.handle.ensures.settings ∙ inv.settings;
+            adds = added_on xs zs (g.H.Wire.acts left) (taken_on xs ys zs moment now (took what at) inv.adds took_it) w.handle.ensures.adds;
+            rested = λ settings start held kept rests.
+                let Rests = RestsWith first (journal.Represents c.args.server.journal settings held) in
+                let lives = inv.rested settings start held kept rests in
+                lives_then settings start server c.loop-turn._turn moment at what Rests first a b xs ys zs now here keeps.0 took_it lives w.handle.new.self (g.H.Disk.media left) (g.H.Wire.acts left) goes
+                (w.in-Ok-handle.ensures.done settings lives.state lives.few lives.kept);
+            lives = λ settings start held kept.
+                let Rests = RestsWith first (journal.Represents c.args.server.journal settings held) in
+                either_on (LivesOn settings start server c.loop-turn._turn Rests first a xs ys) (LivesOn settings start w.handle.new.self (c.loop-turn._turn + 1) Rests first (g.H.Disk.media left) xs (g.H.Wire.acts left))
+                xs ys (g.H.Wire.acts left) (added_on ys zs (g.H.Wire.acts left) (added_by ys zs moment now (took what at) (λ _. Unit {0}) took_it tt) w.handle.ensures.adds)
+                (λ lives.
+                lives_then settings start server c.loop-turn._turn moment at what Rests first a b xs ys zs now here keeps.0 took_it lives w.handle.new.self (g.H.Disk.media left) (g.H.Wire.acts left) goes
+                (w.in-Ok-handle.ensures.done settings lives.state lives.few lives.kept))
+                (inv.lives settings start held kept);
+          })
+    ]
 
 -- ---- the end
 
-pub returns-in-End : goal.returns-in-End
-returns-in-End g c = record {
-  came = λ settings start held first rests_first.
-      let (state, few, kept, rests, grown, trace, lives) = c.loop-turn.invariant.lives settings start held first rests_first in
-      let host = c.loop-turn.host in
-      let came = c.next-got.new.self in
-      let at = c.next-got.result.at in
-      let keeps = (g.met.H.Host.wire_keeps host came c.next-got.ensures.beside).0 in
-      let held_on = rests_kept c.loop-turn.server settings state few state.time (g.H.Disk.media host) kept (timely c.loop-turn.server settings state few kept) rests in (
-        resting state,
-        record {
-          settled = refl;
-          trace = trace ++ (state ∷ []);
-          told = stopped settings start state state c.loop-turn._turn (g.H.Wire.moment host) at event.End [] trace (g.H.Disk.media c.args.host.now) (g.H.Disk.media host) (g.H.Disk.media came) (refl, refl)
-              (g.met.H.Host.one_moment host) held_on keeps (g.H.Disk.media came) stop.Ended _ _ _ _ _ lives (λ front goes. (front, _, at, refl, refl, goes)) (rw c.in-End.is at c.next-got.ensures.acts)
-              (keeps_same (g.H.Wire.acts came)) (begins (g.H.Disk.media came) (HoldsTurn settings state state));
-          grows = grown;
-          own = kept.represents.represents.own;
-          found = tt;
-        },
-        kept.represents.represents,
-      );
-  settings = c.loop-turn.invariant.settings;
-  stopped = tt;
-  leads = g.met.H.Wire.leads_then _ _ _ c.loop-turn.invariant.leads c.next-got.ensures.leads;
-  later = omega (arith, c.next-got.ensures.later, c.loop-turn.invariant.later);
-}
-
-pub returns-in-Failed : goal.returns-in-Failed
-returns-in-Failed g c = record {
-  came = λ settings start held first rests_first.
-      let (state, few, kept, rests, grown, trace, lives) = c.loop-turn.invariant.lives settings start held first rests_first in
-      let host = c.loop-turn.host in
-      let came = c.next-got.new.self in
-      let at = c.next-got.result.at in
-      let keeps = (g.met.H.Host.wire_keeps host came c.next-got.ensures.beside).0 in
-      let held_on = rests_kept c.loop-turn.server settings state few state.time (g.H.Disk.media host) kept (timely c.loop-turn.server settings state few kept) rests in (
-        resting state,
-        record {
-          settled = refl;
-          trace = trace ++ (state ∷ []);
-          told = stopped settings start state state c.loop-turn._turn (g.H.Wire.moment host) at event.Failed [] trace (g.H.Disk.media c.args.host.now) (g.H.Disk.media host) (g.H.Disk.media came) (refl, refl)
-              (g.met.H.Host.one_moment host) held_on keeps (g.H.Disk.media came) stop.NextFailed _ _ _ _ _ lives (λ front goes. (front, _, at, refl, refl, goes)) (rw c.in-Failed.is at c.next-got.ensures.acts)
-              (keeps_same (g.H.Wire.acts came)) (begins (g.H.Disk.media came) (HoldsTurn settings state state));
-          grows = grown;
-          own = kept.represents.represents.own;
-          found = tt;
-        },
-        tt,
-      );
-  settings = tt;
-  stopped = rose_since _ _ _ c.loop-turn.invariant.later (rw c.in-Failed.is at c.next-got.ensures.cause);
-  leads = g.met.H.Wire.leads_then _ _ _ c.loop-turn.invariant.leads c.next-got.ensures.leads;
-  later = omega (arith, c.next-got.ensures.later, c.loop-turn.invariant.later);
-}
-
--- the disk failed in the middle of an event, or wasn't recovered at a restart
-pub returns-in_err-server-in_default-clause-came : goal.returns-in_err-server-in_default-clause-came
-returns-in_err-server-in_default-clause-came g c =
-    let p = err_from_is_err_and c.from_residual.result c.from_residual.ensures.1 in
-    rw (p.1, p.2) (λ settings start held first rests_first.
-    let (state, few, kept, rests, grown, trace, lives) = c.loop-turn.invariant.lives settings start held first rests_first in
+pub returns-in-End-clause-came : goal.returns-in-End-clause-came
+returns-in-End-clause-came g c = λ settings start held kept follows.
+    let inv = c.loop-turn.invariant in
     let host = c.loop-turn.host in
     let came = c.next-got.new.self in
-    let left = c.take_one.new.host in
-    let what = event_of c.next-got.result.what c.next-got.new.into in
+    let server = c.loop-turn.server in
     let at = c.next-got.result.at in
-    let keeps = (g.met.H.Host.wire_keeps host came c.next-got.ensures.beside).0 in
-    let rests_came = rests_still (g.H.Disk.media host) (g.H.Disk.media came) (journal.Represents c.loop-turn.server.journal settings few) rests keeps in
-    let how = c.in_err-server-in_default.field-0.0 in
-    let over = c.in_err-server-in_default.ensures.failed settings state few kept rests_came in
-    let late = step_timely settings state what at over.owed over.new (timely c.loop-turn.server settings state few kept) over.step in
-    let held_on = rests_kept c.loop-turn.server settings state few over.new.time (g.H.Disk.media host) kept late rests in
-    let here = g.met.H.Host.one_moment host in (
-      record { last = over.new; owed = over.owed },
-      record {
-        settled = stops_settled settings state how what at over.owed over.new over.step over.may;
-        trace = trace ++ (over.new ∷ []);
-        told = stopped settings start state over.new c.loop-turn._turn (g.H.Wire.moment host) at what over.owed trace (g.H.Disk.media c.args.host.now) (g.H.Disk.media host) (g.H.Disk.media came) over.step
-            here held_on keeps (g.H.Disk.media left) how _ _ _ _ _ lives
-            (λ front goes. stops_at how what at (g.H.Wire.moment host) front (no_end _ _ _ c.in_default.not-End c.in_default.not-Failed) goes over.may) c.next-got.ensures.acts
-            over.broke.silent (over.broke.writes rests_came);
-        grows = grows_on settings start state over.new c.loop-turn._turn (g.H.Wire.moment host) at what over.owed trace (g.H.Disk.media c.args.host.now) (g.H.Disk.media host) (g.H.Disk.media came) over.step here held_on keeps grown;
-        own = over.broke.own;
-        found = over.found;
-      },
+    let first = g.H.Disk.media c.args.host.now in
+    let xs = g.H.Wire.acts c.args.host.now in
+    let ys = g.H.Wire.acts host in
+    let zs = g.H.Wire.acts came in
+    let moment = g.H.Wire.moment host in
+    let now = g.H.Wire.moment came in
+    let Rests = RestsWith first (journal.Represents c.args.server.journal settings held) in
+    let L = LivesOn settings start server c.loop-turn._turn Rests first (g.H.Disk.media host) xs ys in
+    let took_it = rw c.in-End.is at c.next-got.ensures.acts in
+    let lives = followed Rests L xs zs follows (inv.rested settings start held kept)
+    (either_on L L xs ys zs (added_by ys zs moment now (took event.End at) (λ _. Unit {0}) took_it tt) (λ l. l) (inv.lives settings start held kept)) in (
+      resting lives.state,
+      comes_to_end settings start server c.loop-turn._turn moment at event.End Rests first (g.H.Disk.media host) (g.H.Disk.media came) xs ys zs now (g.met.H.Host.one_moment host)
+          (g.met.H.Host.wire_keeps host came c.next-got.ensures.beside).0 took_it lives stop.Ended (refl, refl) refl tt (refl, refl, refl) (λ front goes. (front, _, at, refl, refl, goes)),
+      lives.kept.represents.represents,
+    )
+
+pub returns-in-End-clause-adds : goal.returns-in-End-clause-adds
+returns-in-End-clause-adds g c =
+    taken_on (g.H.Wire.acts c.args.host.now) (g.H.Wire.acts c.loop-turn.host) (g.H.Wire.acts c.next-got.new.self) (g.H.Wire.moment c.loop-turn.host) (g.H.Wire.moment c.next-got.new.self)
+    (took (event_of c.next-got.result.what c.next-got.new.into) c.next-got.result.at) c.loop-turn.invariant.adds c.next-got.ensures.acts
+
+pub returns-in-Failed-clause-came : goal.returns-in-Failed-clause-came
+returns-in-Failed-clause-came g c = λ settings start held kept follows.
+    let inv = c.loop-turn.invariant in
+    let host = c.loop-turn.host in
+    let came = c.next-got.new.self in
+    let server = c.loop-turn.server in
+    let at = c.next-got.result.at in
+    let first = g.H.Disk.media c.args.host.now in
+    let xs = g.H.Wire.acts c.args.host.now in
+    let ys = g.H.Wire.acts host in
+    let zs = g.H.Wire.acts came in
+    let moment = g.H.Wire.moment host in
+    let now = g.H.Wire.moment came in
+    let Rests = RestsWith first (journal.Represents c.args.server.journal settings held) in
+    let L = LivesOn settings start server c.loop-turn._turn Rests first (g.H.Disk.media host) xs ys in
+    let took_it = rw c.in-Failed.is at c.next-got.ensures.acts in
+    let lives = followed Rests L xs zs follows (inv.rested settings start held kept)
+    (either_on L L xs ys zs (added_by ys zs moment now (took event.Failed at) (λ _. Unit {0}) took_it tt) (λ l. l) (inv.lives settings start held kept)) in (
+      resting lives.state,
+      comes_to_end settings start server c.loop-turn._turn moment at event.Failed Rests first (g.H.Disk.media host) (g.H.Disk.media came) xs ys zs now (g.met.H.Host.one_moment host)
+          (g.met.H.Host.wire_keeps host came c.next-got.ensures.beside).0 took_it lives stop.NextFailed (refl, refl) refl tt (refl, refl, refl) (λ front goes. (front, _, at, refl, refl, goes)),
+      tt,
+    )
+
+pub returns-in-Failed-clause-adds : goal.returns-in-Failed-clause-adds
+returns-in-Failed-clause-adds g c =
+    taken_on (g.H.Wire.acts c.args.host.now) (g.H.Wire.acts c.loop-turn.host) (g.H.Wire.acts c.next-got.new.self) (g.H.Wire.moment c.loop-turn.host) (g.H.Wire.moment c.next-got.new.self)
+    (took (event_of c.next-got.result.what c.next-got.new.into) c.next-got.result.at) c.loop-turn.invariant.adds c.next-got.ensures.acts
+
+-- ---- at a restart the disk wasn't recovered
+
+pub returns-in-Err-clause-came : goal.returns-in-Err-clause-came
+returns-in-Err-clause-came g c = λ settings start held kept follows.
+    let inv = c.loop-turn.invariant in
+    let host = c.loop-turn.host in
+    let came = c.next-got.new.self in
+    let left = c.restart.new.host in
+    let server = c.loop-turn.server in
+    let at = c.next-got.result.at in
+    let keeps = g.met.H.Host.wire_keeps host came c.next-got.ensures.beside in
+    let keeps_left = g.met.H.Host.disk_keeps came left c.restart.ensures.beside in
+    let first = g.H.Disk.media c.args.host.now in
+    let a = g.H.Disk.media host in
+    let b = g.H.Disk.media came in
+    let xs = g.H.Wire.acts c.args.host.now in
+    let ys = g.H.Wire.acts host in
+    let zs = g.H.Wire.acts came in
+    let moment = g.H.Wire.moment host in
+    let now = g.H.Wire.moment came in
+    let here = g.met.H.Host.one_moment host in
+    let Rests = RestsWith first (journal.Represents c.args.server.journal settings held) in
+    let took_it = rw c.in-Restart.is at c.next-got.ensures.acts in
+    let more = added_any zs (g.H.Wire.acts left) (λ more. more ≡ []) (none_added zs (g.H.Wire.acts left) keeps_left.0) in
+    followed Rests _ xs (g.H.Wire.acts left) follows (λ rests.
+    let lives = inv.rested settings start held kept rests in
+    let still = rests_came settings start server c.loop-turn._turn moment at event.Restart Rests first a b xs ys zs now here keeps.0 took_it lives rests in
+    let size_came = subst (λ extent. needed_of server.journal.slots ≤ extent) (sym keeps.1) inv.size in
+    let large = subst (λ slots. needed_of slots ≤ g.H.Disk.extent came) lives.kept.represents.slots size_came in (
+      resting (restarted settings lives.state at),
+      comes_unrecovered settings start server c.loop-turn._turn moment at event.Restart Rests first a b xs ys zs now here keeps.0 took_it lives c.in-Err.fault (g.H.Disk.media left) (g.H.Wire.acts left) refl
+          (c.in-Err.ensures.found settings lives.state lives.few lives.kept still large)
+          (restart_broke settings lives.state at server lives.few lives.kept b (g.H.Disk.media left) zs (g.H.Wire.acts left) keeps_left.0 (c.restart.ensures.moments settings lives.state lives.few lives.kept)),
       tt,
     ))
+    (inl (restarted_on xs zs (g.H.Wire.acts left) (restarted_now xs ys zs moment now (took event.Restart at) tt inv.adds took_it) more))
 
-pub returns-in_err-server-in_default-clause-stopped : goal.returns-in_err-server-in_default-clause-stopped
-returns-in_err-server-in_default-clause-stopped g c =
-    let p = err_from_is_err_and c.from_residual.result c.from_residual.ensures.1 in
+pub returns-in-Err-clause-adds : goal.returns-in-Err-clause-adds
+returns-in-Err-clause-adds g c =
+    let came = c.next-got.new.self in
+    let left = c.restart.new.host in
+    let xs = g.H.Wire.acts c.args.host.now in
+    let zs = g.H.Wire.acts came in
+    added_on xs zs (g.H.Wire.acts left)
+    (taken_on xs (g.H.Wire.acts c.loop-turn.host) zs (g.H.Wire.moment c.loop-turn.host) (g.H.Wire.moment came) (took (event_of c.next-got.result.what c.next-got.new.into) c.next-got.result.at)
+    c.loop-turn.invariant.adds c.next-got.ensures.acts)
+    (added_any zs (g.H.Wire.acts left) (λ more. more ≡ []) (none_added zs (g.H.Wire.acts left) (g.met.H.Host.disk_keeps came left c.restart.ensures.beside).0))
+
+pub returns-in-Err-clause-stopped : goal.returns-in-Err-clause-stopped
+returns-in-Err-clause-stopped g c =
     let first = c.args.host.now in
     let came = c.next-got.new.self in
-    let left = c.take_one.new.host in
+    let left = c.restart.new.host in
     let wire = c.loop-turn.invariant.later in
     let wire_on = c.next-got.ensures.later in
     let disk = c.loop-turn.invariant.disk in
     let disk_on = (g.met.H.Host.wire_keeps c.loop-turn.host came c.next-got.ensures.beside).2 in
-    rw (p.1, p.2) (
-    stops_more c.in_err-server-in_default.field-0.0 (Rose (g.H.Wire.faults came) (g.H.Wire.faults left)) (Rose (g.H.Wire.faults first) (g.H.Wire.faults left))
+    stops_more (stop.Unrecovered c.in-Err.fault) (Rose (g.H.Wire.faults came) (g.H.Wire.faults left)) (Rose (g.H.Wire.faults first) (g.H.Wire.faults left))
     (Rose (g.H.Disk.faults came) (g.H.Disk.faults left)) (Rose (g.H.Disk.faults first) (g.H.Disk.faults left))
     (rose_since (g.H.Wire.faults first) (g.H.Wire.faults came) (g.H.Wire.faults left) (omega (arith, wire, wire_on)))
     (rose_since (g.H.Disk.faults first) (g.H.Disk.faults came) (g.H.Disk.faults left) (omega (arith, disk, disk_on)))
-    c.in_err-server-in_default.ensures.stopped
+    (recover_stops ServerValue c.in-Err.fault (Rose (g.H.Wire.faults came) (g.H.Wire.faults left)) (g.H.Disk.faults came) (g.H.Disk.faults left) c.in-Err.ensures.cause)
+
+pub returns-in-Err-clause-leads : goal.returns-in-Err-clause-leads
+returns-in-Err-clause-leads g c =
+    g.met.H.Wire.leads_then _ _ _ (g.met.H.Wire.leads_then _ _ _ c.loop-turn.invariant.leads c.next-got.ensures.leads) (g.met.H.Host.disk_keeps c.next-got.new.self c.restart.new.host c.restart.ensures.beside).2
+
+pub returns-in-Err-clause-later : goal.returns-in-Err-clause-later
+returns-in-Err-clause-later g c =
+    let keeps = g.met.H.Host.disk_keeps c.next-got.new.self c.restart.new.host c.restart.ensures.beside in
+    omega (arith, c.next-got.ensures.later, keeps.1, c.loop-turn.invariant.later)
+
+-- ---- the disk failed in the middle of an event
+
+pub returns-in-Err-handle : goal.returns-in-Err-handle
+returns-in-Err-handle g c =
+    let inv = c.loop-turn.invariant in
+    let host = c.loop-turn.host in
+    let came = c.next-got.new.self in
+    let left = c.handle.new.host in
+    let server = c.loop-turn.server in
+    let at = c.next-got.result.at in
+    let what = event_of c.next-got.result.what c.next-got.new.into in
+    let keeps = g.met.H.Host.wire_keeps host came c.next-got.ensures.beside in
+    let first = g.H.Disk.media c.args.host.now in
+    let xs = g.H.Wire.acts c.args.host.now in
+    let ys = g.H.Wire.acts host in
+    let zs = g.H.Wire.acts came in
+    let vs = g.H.Wire.acts left in
+    let moment = g.H.Wire.moment host in
+    let now = g.H.Wire.moment came in
+    let took_it = c.next-got.ensures.acts in record {
+      came = λ settings start held kept follows.
+          let Rests = RestsWith first (journal.Represents c.args.server.journal settings held) in
+          let L = LivesOn settings start server c.loop-turn._turn Rests first (g.H.Disk.media host) xs ys in
+          let lives = followed Rests L xs vs follows (inv.rested settings start held kept)
+          (either_on L L xs ys vs (added_on ys zs vs (added_by ys zs moment now (took what at) (λ _. Unit {0}) took_it tt) c.handle.ensures.adds) (λ l. l) (inv.lives settings start held kept)) in
+          let over = c.in-Err-handle.ensures.failed settings lives.state lives.few lives.kept in (
+            record { last = over.last.left; owed = each_telling over.last.left over.last.sends },
+            comes_to_failure settings start server c.loop-turn._turn moment at what Rests first (g.H.Disk.media host) (g.H.Disk.media came) xs ys zs now (g.met.H.Host.one_moment host) keeps.0 took_it lives
+                (g.H.Disk.media left) vs (no_end c.next-got.result.what c.next-got.new.into at c.in_default.not-End c.in_default.not-Failed) over,
+            tt,
+          );
+      adds = added_on xs zs vs (taken_on xs ys zs moment now (took what at) inv.adds took_it) c.handle.ensures.adds;
+      settings = tt;
+      stopped = let disk = inv.disk in let disk_on = keeps.2 in
+          rose_since (g.H.Disk.faults c.args.host.now) (g.H.Disk.faults came) (g.H.Disk.faults left) (omega (arith, disk, disk_on)) c.in-Err-handle.ensures.cause.rose;
+      leads = g.met.H.Wire.leads_then _ _ _ (g.met.H.Wire.leads_then _ _ _ inv.leads c.next-got.ensures.leads) c.handle.ensures.leads;
+      later = omega (arith, c.next-got.ensures.later, c.handle.ensures.wire, inv.later);
+    }
+
+-- ---- the loop has run out
+
+pub returns-clause-came : goal.returns-clause-came
+returns-clause-came g c = λ settings start held kept follows.
+    let first = g.H.Disk.media c.args.host.now in
+    let media = g.H.Disk.media c.loop-turn.host in
+    let xs = g.H.Wire.acts c.args.host.now in
+    let ys = g.H.Wire.acts c.loop-turn.host in
+    let Rests = RestsWith first (journal.Represents c.args.server.journal settings held) in
+    let lives = followed Rests (LivesOn settings start c.loop-turn.server c.loop-turn._turn Rests first media xs ys) xs ys follows (c.loop-turn.invariant.rested settings start held kept) (c.loop-turn.invariant.lives settings start held kept) in (
+      resting lives.state,
+      record {
+        settled = refl;
+        trace = lives.trace;
+        told = ran_out settings start lives.state c.loop-turn._turn lives.trace first media Rests xs ys (omega (arith, c.loop-turn-test.false, c.loop-turn.auto._turn-end)) lives.told;
+        grows = lives.grown;
+        own = lives.kept.represents.represents.own;
+        found = tt;
+      },
+      tt,
     )
-
-pub returns-in_err-server-in_default-clause-settings : goal.returns-in_err-server-in_default-clause-settings
-returns-in_err-server-in_default-clause-settings g c =
-    let p = err_from_is_err_and c.from_residual.result c.from_residual.ensures.1 in
-    rw p.1 tt
-
-pub returns-in_err-server-in_default-clause-leads : goal.returns-in_err-server-in_default-clause-leads
-returns-in_err-server-in_default-clause-leads g c =
-    g.met.H.Wire.leads_then _ _ _ (g.met.H.Wire.leads_then _ _ _ c.loop-turn.invariant.leads c.next-got.ensures.leads) c.take_one.ensures.leads
-
-pub returns-in_err-server-in_default-clause-later : goal.returns-in_err-server-in_default-clause-later
-returns-in_err-server-in_default-clause-later g c = omega (arith, c.next-got.ensures.later, c.take_one.ensures.wire, c.loop-turn.invariant.later)
-
--- the loop has run out
-pub returns : goal.returns
-returns g c = record {
-  came = λ settings start held first rests_first.
-      let (state, few, kept, rests, grown, trace, lives) = c.loop-turn.invariant.lives settings start held first rests_first in (
-        resting state,
-        record {
-          settled = refl;
-          trace = trace;
-          told = ran_out settings start state c.loop-turn._turn trace (g.H.Disk.media c.args.host.now) (g.H.Disk.media c.loop-turn.host) _ _ (omega (arith, c.loop-turn-test.false, c.loop-turn.auto._turn-end)) lives;
-          grows = grown;
-          own = kept.represents.represents.own;
-          found = tt;
-        },
-        tt,
-      );
-  settings = tt;
-  stopped = tt;
-  leads = c.loop-turn.invariant.leads;
-  later = c.loop-turn.invariant.later;
-}

@@ -1,4 +1,4 @@
-use Rattle.std.proofs.Common.{◌≡◌, ◌≤◌, ◌++◌, List}
+use Rattle.std.proofs.Common.{◌≡◌, ◌≤◌, ◌⊎◌, List}
 use Rattle.dots_disk.specs.Becoming.{RestsWith}
 use Rattle.dots_host.specs.Runs.{Added}
 use Rattle.dots_settings.specs.Settings.{SettingsValue}
@@ -6,10 +6,12 @@ use Rattle.dots_history.specs.declared.entry.Entry.{Entry}
 use Rattle.slot_store.specs.Layout.{needed_of}
 use Rattle.slot_journal.specs.DiskEntries as journal
 use Rattle.dots_machine.specs.Machine.{State}
+use Rattle.dots_machine.specs.Endings.{AnyRestart}
 use Rattle.dots_server.specs.ServerValues.{IsKept}
-use Rattle.dots_server.specs.Running.{RunsTo}
+use Rattle.dots_server.proofs.Turns.{LivesOn}
 use Rattle.dots_server.proofs.events.take_events.Given as goal
 
+-- What is known of the run so far: where the disk rested at its start; and whatever the disk told, unless a restart was taken.
 abbrev pub invariant-loop-turn : goal.invariant-loop-turn
 invariant-loop-turn g l = record {
   leads : g.H.Wire.leads l.fn.host l.host;
@@ -17,9 +19,12 @@ invariant-loop-turn g l = record {
   disk : g.H.Disk.faults l.host ≡ g.H.Disk.faults l.fn.host;
   size : needed_of l.server.journal.slots ≤ g.H.Disk.extent l.host;
   settings : l.server.settings ≡ l.fn.server.settings;
+  adds : Added (g.H.Wire.acts l.fn.host) (g.H.Wire.acts l.host) (λ _. Unit {0});
+  rested : (settings : SettingsValue) (start : State) (held : List Entry) → IsKept l.fn.server settings start held → RestsWith (g.H.Disk.media l.fn.host) (journal.Represents l.fn.server.journal settings held)
+      → LivesOn settings start l.server l._turn (RestsWith (g.H.Disk.media l.fn.host) (journal.Represents l.fn.server.journal settings held)) (g.H.Disk.media l.fn.host) (g.H.Disk.media l.host)
+      (g.H.Wire.acts l.fn.host) (g.H.Wire.acts l.host);
   lives : (settings : SettingsValue) (start : State) (held : List Entry) → IsKept l.fn.server settings start held
-      → RestsWith (g.H.Disk.media l.fn.host) (journal.Represents l.fn.server.journal settings held)
-      → (state : State) × (few : List Entry) × IsKept l.server settings state few × RestsWith (g.H.Disk.media l.host) (journal.Represents l.server.journal settings few)
-      × ((extra : List Entry) × (state.history ≡ start.history ++ extra))
-      × (trace : List State) × Added (g.H.Wire.acts l.fn.host) (g.H.Wire.acts l.host) (RunsTo settings start state l._turn (g.H.Disk.media l.fn.host) (g.H.Disk.media l.host) trace);
+      → Added (g.H.Wire.acts l.fn.host) (g.H.Wire.acts l.host) AnyRestart
+      ⊎ LivesOn settings start l.server l._turn (RestsWith (g.H.Disk.media l.fn.host) (journal.Represents l.fn.server.journal settings held)) (g.H.Disk.media l.fn.host) (g.H.Disk.media l.host)
+      (g.H.Wire.acts l.fn.host) (g.H.Wire.acts l.host);
 }

@@ -92,12 +92,14 @@ returns-in_err-accept-in-Accept-clause-failed g c =
     accepting settings (number_remembered old.registry) (time_of old.registry) state entry (g.H.Disk.media host) (g.H.Disk.media left) (ap (λ (limits : Limits). limits.remembered) of.is_of.limits) of.time_is
     (can.now ∙ of.time_is) (c.accept.ensures.moments settings state.history entries here.represents.ledger joins rests) in
     rw c.in-Accept.is (
-    record {
-      silent = (g.met.H.Host.disk_keeps host left c.accept.ensures.beside).0;
-      writes = subst (λ (server : ServerValue). RestsWith (g.H.Disk.media host) (journal.Represents server.journal settings entries) → Leaves (g.H.Disk.media host) (g.H.Disk.media left) (HoldsTurn settings state (with_entry state entry)))
-          c.self.view_is writes;
-      own = own_with settings old state entry of can;
-    }))
+      (c.in-Accept.reply, c.in-Accept.entry, refl),
+      record {
+        silent = (g.met.H.Host.disk_keeps host left c.accept.ensures.beside).0;
+        writes = subst (λ (server : ServerValue). RestsWith (g.H.Disk.media host) (journal.Represents server.journal settings entries) → Leaves (g.H.Disk.media host) (g.H.Disk.media left) (HoldsTurn settings state (with_entry state entry)))
+            c.self.view_is writes;
+        own = own_with settings old state entry of can;
+      },
+    ))
 
 -- it is on the disk and in the tables
 pub invariant_of-self-in-Accept : goal.invariant_of-self-in-Accept

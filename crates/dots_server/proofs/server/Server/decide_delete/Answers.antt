@@ -1,12 +1,12 @@
 use Rattle.std.proofs.Common.{◌∙◌}
-use Rattle.dots_machine.specs.Mitigations.{sent_by}
-use Rattle.dots_machine.specs.Verdicts.{repeated, delete_verdict}
+use Rattle.dots_machine.specs.Mitigations.{sent_by, delete_answer}
+use Rattle.dots_machine.specs.Machine.{facts_in}
 use Rattle.dots_server.proofs.Verdicts.{if_ok, repeat_found, repeat_none}
 use Rattle.dots_server.proofs.server.Server.decide_delete.Goals as goal
 
 pub returns-in-Some-clause-decides : goal.returns-in-Some-clause-decides
 returns-in-Some-clause-decides c = λ settings state stands.
-    repeat_found (repeated settings state.time state.history (sent_by c.args.from.now)) (delete_verdict state.time state.history c.args.from.now c.args.mid) c.in-Some.reply
+    repeat_found ((facts_in settings state).repeated (sent_by c.args.from.now)) (delete_answer (facts_in settings state) c.args.from.now c.args.mid) c.in-Some.reply
     (c.in-Some.ensures settings state stands)
 
 pub returns-clause-decides : goal.returns-clause-decides
@@ -14,6 +14,6 @@ returns-clause-decides c = λ settings state stands.
     if_ok c.judge_delete.result _ _
     (λ v is.
     is
-    ∙ repeat_none (repeated settings state.time state.history (sent_by c.args.from.now)) (delete_verdict state.time state.history c.args.from.now c.args.mid)
+    ∙ repeat_none ((facts_in settings state).repeated (sent_by c.args.from.now)) (delete_answer (facts_in settings state) c.args.from.now c.args.mid)
     (c.in_default.ensures settings state stands))
     (c.judge_delete.ensures.decides settings state stands)

@@ -1,7 +1,8 @@
 use Rattle.std.proofs.Common.{◌∙◌, ap}
 use Rattle.dots_machine.specs.declared.client_request.ClientRequest.{ClientRequest}
 use Rattle.dots_machine.specs.declared.verdict.Verdict.TheVariants as verdict
-use Rattle.dots_machine.specs.Verdicts.{put_for, put_in, with_mid}
+use Rattle.dots_machine.specs.Deciding.{with_mid, put_in, put_for}
+use Rattle.dots_machine.specs.Machine.{facts_in}
 use Rattle.dots_server.proofs.Asked.{without_domain, with_domain}
 use Rattle.dots_server.proofs.Verdicts.{if_ok}
 use Rattle.dots_server.proofs.server.Server.put_by_path.Goals as goal
@@ -11,13 +12,13 @@ returns-in-Some-clause-decides c = λ settings state represents.
     if_ok c.put_with_mid.result _ _
     (λ v is.
     is
-    ∙ ap (λ (from : ClientRequest). with_mid from.exchange c.args.path.mid (put_in settings state from c.args.body)) c.in-Some.ensures.some.1
+    ∙ ap (λ (from : ClientRequest). with_mid from.exchange c.args.path.mid (put_in settings (facts_in settings state) from c.args.body)) c.in-Some.ensures.some.1
     ∙ with_domain c.args.self.now.settings settings c.args.peer c.args.own c.args.path.cdid c.requires.own represents.settings_are c.args.exchange
-    (put_for settings state c.args.peer c.args.exchange c.args.path c.args.body) c.in-Some.from.domain c.in-Some.ensures.some.0)
+    (put_for settings (facts_in settings state) c.args.peer c.args.exchange c.args.path c.args.body) c.in-Some.from.domain c.in-Some.ensures.some.0)
     (c.put_with_mid.ensures.decides settings state represents)
 
 pub returns-in-None-clause-decides : goal.returns-in-None-clause-decides
 returns-in-None-clause-decides c = λ settings state represents.
     ap verdict.Reply c.bad_parameter.ensures
     ∙ without_domain c.args.self.now.settings settings c.args.peer c.args.own c.args.path.cdid c.requires.own represents.settings_are c.args.exchange
-    (put_for settings state c.args.peer c.args.exchange c.args.path c.args.body) c.in-None.ensures.none
+    (put_for settings (facts_in settings state) c.args.peer c.args.exchange c.args.path c.args.body) c.in-None.ensures.none
