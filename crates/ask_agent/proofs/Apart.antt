@@ -1,5 +1,5 @@
 -- Numbers of runs that begin at different seconds.
-use Rattle.std.proofs.Common.{◌≡◌, ◌≢◌, ℕ, ◌+◌, ◌*◌, ◌%◌, ◌^◌, ◌<◌, ◌≤◌, sym, ◌∙◌, arith}
+use Rattle.std.proofs.Common.{◌≡◌, ◌≢◌, ℕ, ◌+◌, ◌*◌, ◌%◌, ◌<◌, sym, ◌∙◌, arith}
 use Rattle.ask_agent.specs.Numbers.{number_at, message_id}
 
 -- what is behind a multiple of 64 is told by it

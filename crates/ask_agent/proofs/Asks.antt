@@ -1,6 +1,6 @@
 -- Asks, one after the other.
-use Rattle.std.proofs.Common.{◌≡◌, ◌≢◌, ℕ, zero, suc, ◌+◌, ◌<◌, ◌≤◌, Bool, true, false, cond, List, [], ◌∷◌, ◌++◌, length, Option, Some, None, refl, sym, ap, ◌∙◌, subst, get_or, arith}
-use Rattle.std.specs.Prelude.{is_some, slice_get, nat_le, if◌then◌else◌, IsTrue, ⊤}
+use Rattle.std.proofs.Common.{◌≡◌, ℕ, zero, suc, ◌+◌, ◌<◌, Bool, true, false, List, ◌++◌, length, Option, Some, None, refl, sym, ap, ◌∙◌, subst, get_or, arith}
+use Rattle.std.specs.Prelude.{is_some, slice_get, nat_le, if◌then◌else◌, IsTrue}
 use Rattle.std.specs.List.{list_any}
 use Rattle.std.proofs.lemmas.Bool.{false≢true}
 use Rattle.std.proofs.lemmas.Option.{slice_get_within, slice_get-get_or}
@@ -11,7 +11,7 @@ use Rattle.dots_client.specs.Client.{ClientValue, has_mid, IsKnown}
 use Rattle.ask_settings.specs.declared.planned.Planned.{Planned}
 use Rattle.ask_agent.specs.declared.unsent.Unsent.{Unsent}
 use Rattle.ask_agent.specs.declared.unsent.Why.{Why}
-use Rattle.ask_agent.specs.Asking.{AskState, unknown_in, unknown_mid, Makes, noted, when_reached, next_ask, AsksNext, AsksEach, AsksDue}
+use Rattle.ask_agent.specs.Asking.{AskState, unknown_mid, Makes, noted, when_reached, next_ask, AsksNext, AsksEach, AsksDue}
 
 -- ---- what may be asked
 

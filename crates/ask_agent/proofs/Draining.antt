@@ -1,11 +1,11 @@
 -- What is due is handed out, one message after the other.
-use Rattle.std.proofs.Common.{◌≡◌, ℕ, ◌<◌, true, false, List, [], ◌∷◌, ◌++◌, map, Option, Some, None, refl, sym, ap, ◌∙◌, subst, append_assoc, append-nil, arith}
+use Rattle.std.proofs.Common.{◌≡◌, ℕ, ◌<◌, true, false, List, [], ◌∷◌, ◌++◌, Option, Some, None, refl, sym, ap, subst, append_assoc}
 use Rattle.std.specs.Prelude.{is_some}
 use Rattle.std.proofs.lemmas.Bool.{false≢true}
 use Rattle.dots_host.specs.Acts.{Timed}
 use Rattle.dots_agents.specs.Sending.{Handed}
 use Rattle.dots_agents.proofs.Sends.{handed_none}
-use Rattle.dots_client.specs.Client.{ClientValue, WaitingValue, milliseconds, due_answer, due_after, tick_answer, tick_after}
+use Rattle.dots_client.specs.Client.{ClientValue, milliseconds, tick_answer, tick_after}
 use Rattle.dots_client.specs.Ending.{turns_left}
 use Rattle.dots_client.proofs.Falls.{due_falls}
 use Rattle.ask_agent.specs.Asking.{Drains, messages_in, to_server}

@@ -1,5 +1,5 @@
 -- Runs and their reports.
-use Rattle.std.proofs.Common.{◌≡◌, ℕ, List, ◌++◌, Option, Result, Ok, Err, ap, subst}
+use Rattle.std.proofs.Common.{◌≡◌, ℕ, List, ◌++◌, Option, Result, Ok, Err, subst}
 use Rattle.std.specs.Prelude.{flat_map}
 use Rattle.dots_client.specs.declared.granted.Granted.{Granted}
 use Rattle.dots_agents.specs.Writing.{Wrote}

@@ -3,3 +3,6 @@ pub mod Report
 pub mod Numbers
 pub mod Running
 pub mod Unmoved
+pub mod Commands
+pub mod Outcomes
+pub mod Checking

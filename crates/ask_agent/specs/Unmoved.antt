@@ -1,5 +1,5 @@
 -- The end and a failure of the wire leave a client as it is.
-use Rattle.std.specs.Prelude.{◌≡◌, ℕ, []}
+use Rattle.std.specs.Prelude.{ℕ, []}
 use Rattle.std.proofs.Common.{refl}
 use Rattle.dots_host.specs.declared.event.Event.TheVariants as event
 use Rattle.ask_agent.specs.Asking.{AskState, step}

@@ -2,13 +2,17 @@
 //! reports what was granted.
 //!
 //! [`run_ask`] reads the settings, takes the events of a wire until the end, and writes the report. [`Asker`] is the agent, whose
-//! turns [`ask_over`] takes over any wire.
+//! turns [`ask_over`] takes over any wire. [`run_client`] does so for the words of a command line, and [`check_ask_settings`] tells what
+//! settings come to.
 //!
 //! Start reading at `specs/Asking.antt`, which has the client as a machine over events: what is heard, what is asked, and what is
-//! sent. `specs/Report.antt` has the report, and `specs/Running.antt` what a run has done by its ending.
+//! sent. `specs/Report.antt` has the report, and `specs/Running.antt` what a run has done by its ending; `specs/Outcomes.antt`
+//! has what a status says.
 #![tactic(auto)]
 
 mod asker;
+mod checking;
+mod command;
 mod ending;
 mod firsts;
 pub mod laws;
@@ -17,9 +21,13 @@ mod report;
 mod running;
 mod sending;
 mod unsent;
+mod words;
 
 pub use asker::{Asker, ROOM};
+pub use checking::check_ask_settings;
+pub use command::run_client;
 pub use ending::AskEnding;
 pub use firsts::Firsts;
 pub use running::{ask_over, run_ask};
 pub use unsent::{Unsent, Why};
+pub use words::{ask_names, checked_name, is_ask, is_check_ask};

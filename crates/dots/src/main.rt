@@ -1,9 +1,13 @@
-//! The program `dots`: it hands [`run_program`], or with the words `serve ..` [`run_sockets`] and with those that ask about a host file
-//! [`check_host`], the words of its command line, the real files and streams, and the runtime, and ends with its status.
+//! The program `dots`: it hands [`run_program`], or with the words `serve ..` [`run_sockets`], with `ask ..` [`ask_sockets`], with
+//! `check-ask ..` [`check_client`] and with those that ask about a host file [`check_host`], the words of its command line, the real
+//! files and streams, and the runtime, and ends with its status.
 #![tactic(auto)]
 
 use dots_lists::NoMemory;
-use dots_run::{check_host, host_task, is_serve, run_program, run_sockets};
+use dots_run::{
+    ask_sockets, check_client, check_host, host_task, is_ask, is_check_ask, is_serve, run_program,
+    run_sockets,
+};
 use std::io::ErrorKind;
 use std::process::ExitCode;
 use std::{env, fs, io};
@@ -32,6 +36,14 @@ fn main(rt: HostRuntime) -> ExitCode {
         if is_serve(list.as_slice()) {
             let served = run_sockets(rt.alloc(), list.as_slice(), opening, &rt, report);
             return ExitCode::from(served.into_status());
+        }
+        if is_ask(list.as_slice()) {
+            let asked = ask_sockets(rt.alloc(), list.as_slice(), opening, &rt, report);
+            return ExitCode::from(asked.into_status());
+        }
+        if is_check_ask(list.as_slice()) {
+            let checked = check_client(rt.alloc(), list.as_slice(), opening, report);
+            return ExitCode::from(checked.into_status());
         }
     }
     let sends = io::writer(&rt);

@@ -18,7 +18,7 @@ use Rattle.slot_journal.specs.declared.fault.JournalFault.{JournalFault}
 use Rattle.slot_journal.specs.declared.fault.JournalFault.TheVariants as faults
 use Rattle.slot_journal.specs.Sizes.{slots_of}
 use Rattle.slot_journal.specs.DiskEntries.{Holds}
-use Rattle.dots_ledger.specs.Beginning.{IsFailure}
+use Rattle.slot_journal.specs.Untaken.{IsFailure}
 use Rattle.dots_ledger.proofs.Recovering.{fails_alone}
 use Rattle.dots_machine.specs.declared.ending.Ending.{Ending}
 use Rattle.dots_machine.specs.declared.ending.Ending.TheVariants as ending
@@ -27,7 +27,7 @@ use Rattle.dots_machine.specs.declared.ending.Stop.TheVariants as stop
 use Rattle.dots_machine.specs.Commands.{is_word, is_replay, is_serve, is_served, is_show, is_command, second_of}
 use Rattle.dots_run.proofs.Commands.{served_by}
 use Rattle.dots_machine.specs.Outside.{Outside, SourceFailed, WireFailed, DiskFailed, ReportFailed}
-use Rattle.dots_machine.specs.Endings.{recovery_status, status_of, has_hosted, IsDiskFailure, Unrecovers, Behaves, GivesSettings, GivesFault, IsReady, IsReadable}
+use Rattle.dots_machine.specs.Endings.{by_disk, recovery_status, status_of, has_hosted, IsDiskFailure, Unrecovers, Behaves, GivesSettings, GivesFault, IsReady, IsReadable}
 
 two_names : (name word : List ℕ) → (bytes_eq name (codes "replay") && is_word word) ≡ true → (bytes_eq name (codes "show") && is_word word) ≡ true → ⊥
 two_names [] word r s = absurd (cc r)
@@ -159,7 +159,7 @@ module _ (words : List (List ℕ)) (before now : Outside) where
     ends_well (ending.Served stop.NextFailed) served behaves = absurd (came behaves.3.any.2.1)
     ends_well (ending.Served stop.TooMany) served behaves = inr (inr refl)
     ends_well (ending.Served stop.DiskFailed) served behaves = absurd (kept behaves.3.any.2.1)
-    ends_well (ending.Served (stop.Unrecovered fault)) served behaves = wants_memory fault (behaves.3.runs_from ready.seen ready.sees).found behaves.3.any.2.1
+    ends_well (ending.Served (stop.Unrecovered fault)) served behaves = wants_memory fault (behaves.3.runs_from (by_disk ready.seen ready.sees)).found behaves.3.any.2.1
     ends_well ending.ReportFailed served behaves = absurd (written behaves.3.1)
 
   no_fault_printed : (word text : List ℕ) → IsReadable word → PrintsFault word text ⊎ PrintsNoHex word text → ⊥

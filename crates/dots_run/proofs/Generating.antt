@@ -51,14 +51,14 @@ at_rest : (end : Owing State) → end.owed ≡ [] → end ≡ resting end.last
 at_rest end none = ap (λ (owed : List (State × OwnedOut)). record { last = end.last; owed = owed }) none
 
 -- a run from what an empty disk held
-pub runs_to_end : (settings : SettingsValue) → SettingsAre settings_text settings → (held : List Entry) → Holds settings (byte_of []) held → (from : State) → from ≡ begun_from held
+pub runs_to_end : (settings : SettingsValue) → SettingsAre settings_text settings → (held : List Entry) → Holds settings (byte_of []) held → (from : State) → from ≡ begun_from settings held
     → (acts : List Timed) (trace : List State) (end : Owing State) (rows : ℕ) → end.owed ≡ [] → Story settings (resting from) acts trace end → EndsBy event.End acts → rows ≡ rows_of end.last → RunsToEnd acts rows
 runs_to_end settings are held holds from begun acts trace end rows none run ends counted = record {
   settings = settings;
   are = are;
   trace = trace;
   end = end.last;
-  run = subst (λ (state : State). Story settings (resting state) acts trace (resting end.last)) (begun ∙ ap (λ (entries : List Entry). begun_from entries) (held_nothing settings held holds))
+  run = subst (λ (state : State). Story settings (resting state) acts trace (resting end.last)) (begun ∙ ap (λ (entries : List Entry). begun_from settings entries) (held_nothing settings held holds))
       (subst (λ (to : Owing State). Story settings (resting from) acts trace to) (at_rest end none) run);
   ends = ends;
   rows_are = counted;

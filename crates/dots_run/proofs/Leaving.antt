@@ -59,26 +59,26 @@ opens settings fault before now first seen entries rests holds m image left then
 module _ (settings : SettingsValue) (before now : Outside) (first : HasServed settings before now)
     (seen : ℕ → ℕ) (sees : Sees before.media seen) (rests : RestsWith before.media (Is seen)) (xs ys : List Timed) (old : before.acts ≡ Some xs) (new : now.acts ≡ Some ys)
     (m : ℕ) (image : ℕ → ℕ) (left : CrashLeaves m before.media now.media image) where
-  has_run : Added (Some xs) (Some ys) (HasRun settings (begun_from first.held) (first.runs_from seen sees).how before now (first.runs_from seen sees).trace (first.runs_from seen sees).end)
+  has_run : Added (Some xs) (Some ys) (HasRun settings (begun_from settings first.held) (first.runs_from seen sees).how before now (first.runs_from seen sees).trace (first.runs_from seen sees).end)
   has_run =
-      subst (λ acts. Added acts (Some ys) (HasRun settings (begun_from first.held) (first.runs_from seen sees).how before now (first.runs_from seen sees).trace (first.runs_from seen sees).end)) old
-      (subst (λ acts. Added before.acts acts (HasRun settings (begun_from first.held) (first.runs_from seen sees).how before now (first.runs_from seen sees).trace (first.runs_from seen sees).end)) new (first.runs_from seen sees).has_run)
+      subst (λ acts. Added acts (Some ys) (HasRun settings (begun_from settings first.held) (first.runs_from seen sees).how before now (first.runs_from seen sees).trace (first.runs_from seen sees).end)) old
+      (subst (λ acts. Added before.acts acts (HasRun settings (begun_from settings first.held) (first.runs_from seen sees).how before now (first.runs_from seen sees).trace (first.runs_from seen sees).end)) new (first.runs_from seen sees).has_run)
 
-  is_meant : MeansAt settings (begun_from first.held) has_run.0 (first.runs_from seen sees).trace (first.runs_from seen sees).end.last.history m image
+  is_meant : MeansAt settings (begun_from settings first.held) has_run.0 (first.runs_from seen sees).trace (first.runs_from seen sees).end.last.history m image
   is_meant =
-      leaves_there m before.media now.media (MeansAt settings (begun_from first.held) has_run.0 (first.runs_from seen sees).trace (first.runs_from seen sees).end.last.history) image
+      leaves_there m before.media now.media (MeansAt settings (begun_from settings first.held) has_run.0 (first.runs_from seen sees).trace (first.runs_from seen sees).end.last.history) image
       (has_run.2.survives seen rests) left
 
   pub goes_on : (then after : Outside) (second : HasServed settings then after) → Sees then.media image
       → (acts : List Timed) × (ys ≡ xs ++ acts)
-      × GoesOn settings (begun_from first.held) acts (first.runs_from seen sees).trace (first.runs_from seen sees).end.last.history m second.held
+      × GoesOn settings (begun_from settings first.held) acts (first.runs_from seen sees).trace (first.runs_from seen sees).end.last.history m second.held
   goes_on then after second there =
-      let found = found_again settings (begun_from first.held) has_run.0 (first.runs_from seen sees).trace (first.runs_from seen sees).end.last.history m image then.media second.held is_meant there second.was_held in
+      let found = found_again settings (begun_from settings first.held) has_run.0 (first.runs_from seen sees).trace (first.runs_from seen sees).end.last.history m image then.media second.held is_meant there second.was_held in
       (has_run.0, has_run.1, record { count = found.0; within = found.1; has_shown = found.2; kept = found.3 })
 
   pub is_ready : (left_then : Option (List ℕ)) (then : Option Media) (extent : ℕ) (gives : GivesSettings left_then) → gives.settings ≡ settings → Sees then image
       → needed_of (slots_of settings) ≤ extent → IsReady left_then then extent
   is_ready left_then then extent gives same there large =
-      ready_again (begun_from first.held) has_run.0 (first.runs_from seen sees).trace (first.runs_from seen sees).end.last.history m image left_then then extent gives
-      (subst (λ s. MeansAt s (begun_from first.held) has_run.0 (first.runs_from seen sees).trace (first.runs_from seen sees).end.last.history m image) (sym same) is_meant) there
+      ready_again (begun_from settings first.held) has_run.0 (first.runs_from seen sees).trace (first.runs_from seen sees).end.last.history m image left_then then extent gives
+      (subst (λ s. MeansAt s (begun_from settings first.held) has_run.0 (first.runs_from seen sees).trace (first.runs_from seen sees).end.last.history m image) (sym same) is_meant) there
       (subst (λ s. needed_of (slots_of s) ≤ extent) (sym same) large)

@@ -14,3 +14,5 @@ mod Asking
 mod InBlocks
 mod Leaving
 mod HostReporting
+mod OverSockets
+mod ClientReporting

@@ -54,9 +54,9 @@ decided settings old event at owed others new last are a b none nor = by (one_an
 pub one_report : (seed : ℕ) (one other : List ℕ) → LoadTold seed one → LoadTold seed other → one ≡ other
 one_report seed one other a b =
     let settings = one_settings settings_text b.settings a.settings b.are a.are in
-    let first = story_trace a.settings (resting (begun_from [])) (resting a.end) a.acts a.trace a.run in
-    let second = story_trace a.settings (resting (begun_from [])) (resting b.end) b.acts b.trace (subst (λ s. Story s (resting (begun_from [])) b.acts b.trace (resting b.end)) settings b.run) in
+    let first = story_trace a.settings (resting (begun_from a.settings [])) (resting a.end) a.acts a.trace a.run in
+    let second = story_trace a.settings (resting (begun_from a.settings [])) (resting b.end) b.acts b.trace (subst (λ s. Story s (resting (begun_from s [])) b.acts b.trace (resting b.end)) settings b.run) in
     let same = a.events ∙ sym b.events in
     let each = subst (λ (came : List Coming). EachComing AreBytes came) (sym a.events) (all_bytes seed) in
-    let outcome = one_outcome (Step a.settings) (decided a.settings) (resting (begun_from [])) a.acts b.acts a.trace b.trace a.end b.end first second same each a.served b.served in
+    let outcome = one_outcome (Step a.settings) (decided a.settings) (resting (begun_from a.settings [])) a.acts b.acts a.trace b.trace a.end b.end first second same each a.served b.served in
     a.text_is ∙ one_text a.acts b.acts (rows_of a.end) (rows_of b.end) same outcome.0 (ap (λ (end : State). rows_of end) outcome.1) ∙ sym b.text_is

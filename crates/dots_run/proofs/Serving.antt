@@ -1,10 +1,9 @@
 -- What a server has done, from what its disk held.
-use Rattle.std.proofs.Common.{◌≡◌, ℕ, true, max, List, [], ◌++◌, Option, Some, None, sym, ap, subst, arith}
+use Rattle.std.proofs.Common.{◌≡◌, ◌∙◌, ℕ, inl, inr, true, max, List, [], ◌++◌, Option, Some, None, sym, ap, subst, arith}
 use Rattle.std.specs.Prelude.{IfSome}
 use Rattle.std.specs.List.{list_all}
-use Rattle.dots_host.specs.declared.out.OwnedOut.{OwnedOut}
 use Rattle.dots_host.specs.Acts.{Timed}
-use Rattle.dots_host.specs.Runs.{Owing, resting}
+use Rattle.dots_host.specs.Runs.{Owing, resting, Added}
 use Rattle.dots_host.specs.Writing.{AppendsBeginning}
 use Rattle.dots_host.proofs.RunLemmas.{added_then}
 use Rattle.dots_disk.specs.Media.{Media}
@@ -21,68 +20,66 @@ use Rattle.dots_laws.specs.Fits.{is_calm, last_time}
 use Rattle.dots_laws.proofs.Composing.{kept_refl}
 use Rattle.dots_laws.proofs.Containing.{scrub_rows_inside, acl_rows_inside}
 use Rattle.slot_journal.specs.DiskEntries.{Holds}
-use Rattle.dots_ledger.specs.Crashes.{HoldsKept}
+use Rattle.slot_journal.specs.Kept.{HoldsKept}
 use Rattle.dots_machine.specs.declared.ending.Ending.{Ending}
 use Rattle.dots_machine.specs.declared.ending.Ending.TheVariants as ending
 use Rattle.dots_machine.specs.declared.ending.Stop.{Stop}
 use Rattle.dots_machine.specs.declared.ending.Stop.TheVariants as stop
-use Rattle.dots_machine.specs.Machine.{State, begun_from, restarted}
+use Rattle.dots_machine.specs.Machine.{State, afresh, begun_from, restarted}
 use Rattle.dots_machine.specs.Outside.{Outside}
 use Rattle.dots_machine.specs.Report.{Contained, report_of}
-use Rattle.dots_machine.specs.Surviving.{Story, past_of, NoneBefore, Survives}
+use Rattle.dots_machine.specs.Surviving.{past_of, NoneBefore, Survives}
 use Rattle.dots_machine.specs.Commands.{is_served}
-use Rattle.dots_machine.specs.Endings.{has_hosted, Ran, HasRun, RunsFrom, Reports, ServesTo, Behaves}
+use Rattle.dots_machine.specs.Endings.{has_hosted, IsKnown, by_disk, by_acts, NeverRestarts, Ran, HasRun, RunsFrom, Reports, ServesTo, Behaves}
 use Rattle.dots_machine.proofs.Laws.{keeps_laws}
 use Rattle.dots_machine.proofs.Surviving.{story_trace, survives_opening}
-use Rattle.dots_server.specs.Running.{Came}
+use Rattle.dots_server.specs.Running.{Came, IsFollowed}
 use Rattle.dots_run.specs.Refusals.{Wrote}
 use Rattle.dots_server.proofs.Turning.{none_added}
 
 contained_by : (settings : SettingsValue) (state : State) → list_all (is_own settings) state.history ≡ true → Contained settings state
 contained_by settings state own = record { scrubs = scrub_rows_inside settings state.time state.history own; lists = acl_rows_inside settings state.time state.history own }
 
--- an end that owes nothing is a state at rest
-resting_end : (end : Owing State) → end.owed ≡ [] → end ≡ resting end.last
-resting_end end none = ap (λ (owed : List (State × OwnedOut)). record { last = end.last; owed = owed }) none
-
 module _ (settings : SettingsValue) (held : List Entry) (how : Stop) (before between now : Outside) (end : Owing State) (calm : is_calm settings held ≡ true)
-    (silent : KeepsActs before.acts between.acts) (opened : (seen : ℕ → ℕ) → RestsWith before.media (Is seen) → Leaves before.media between.media (λ image. Holds settings image held)) where
+    (silent : KeepsActs before.acts between.acts) (opened : (seen : ℕ → ℕ) → RestsWith before.media (Is seen) → Leaves before.media between.media (λ image. Holds settings image held))
+    (Rests : Type 0) (rested : (seen : ℕ → ℕ) → RestsWith before.media (Is seen) → Rests) where
   abbrev from : State
-  from = begun_from held
+  from = begun_from settings held
 
   holds_first : (image : ℕ → ℕ) → Holds settings image held → HoldsKept settings settings.limits.remembered from.time from.history image
   holds_first image holds = record { entries = held; holds = holds; calm = calm; kept = kept_refl settings.limits.remembered from.time held }
 
-  lived_by : (trace : List State) (acts : List Timed) → (grows : (extra : List Entry) × (end.last.history ≡ held ++ extra)) → Ran settings from trace end how acts → NoneBefore (past_of between.media) acts
-      → Survives settings from between.media now.media acts trace end.last.history → HasRun settings from how before now trace end acts
-  lived_by trace acts grows ran late survives = record {
+  lived_by : (trace : List State) (acts : List Timed) → (grows : (extra : List Entry) × (end.last.history ≡ held ++ extra)) → Ran settings from trace end how acts
+      → (Rests → NoneBefore (past_of between.media) acts × Survives settings from between.media now.media acts trace end.last.history) → HasRun settings from how before now trace end acts
+  lived_by trace acts grows ran survived = record {
     ran = ran;
-    laws = λ none. keeps_laws settings from acts trace end.last (story_trace settings (resting from) (resting end.last) acts trace (subst (λ e. Story settings (resting from) acts trace e) (resting_end end none) ran.run));
+    laws = keeps_laws settings from ran.whole ran.told ran.state (story_trace settings (resting from) (resting ran.state) ran.whole ran.told ran.run);
     survives = λ seen rests.
+        let (late, survives) = survived (rested seen rests) in
         survives_opening settings from before.media between.media now.media acts trace end.last.history grows.0 grows.1 late (Is seen) rests
         (leaves_as before.media between.media (λ image. Holds settings image held) (HoldsKept settings settings.limits.remembered from.time from.history) holds_first (opened seen rests)) survives;
   }
 
-  pub lives_from : (wrote : State → Type 0) → Came settings from how between.media now.media between.acts now.acts end → wrote end.last → RunsFrom settings held how before now wrote
+  pub lives_from : (wrote : State → Type 0) → Came settings from how between.media now.media Rests between.acts now.acts end → wrote end.last → RunsFrom settings held how before now wrote
   lives_from wrote came reports = record {
     end = end;
     settled = came.settled;
     found = came.found;
     trace = came.trace;
     has_run = added_then before.acts between.acts now.acts (λ more. more ≡ []) _ (HasRun settings from how before now came.trace end) (none_added before.acts between.acts silent) came.told
-        (λ front back none told. subst (λ f. HasRun settings from how before now came.trace end (f ++ back)) (sym none) (lived_by came.trace back came.grows told.0 told.1 told.2));
+        (λ front back none told. subst (λ f. HasRun settings from how before now came.trace end (f ++ back)) (sym none) (lived_by came.trace back came.grows told.0 told.1));
     contained = contained_by settings end.last came.own;
     reports = reports;
   }
 
 module _ (settings : SettingsValue) (held : List Entry) (before between now : Outside) (calm : is_calm settings held ≡ true)
     (silent : KeepsActs before.acts between.acts) (opened : (seen : ℕ → ℕ) → RestsWith before.media (Is seen) → Leaves before.media between.media (λ image. Holds settings image held))
-    (was_held : (seen : ℕ → ℕ) → Sees before.media seen → Holds settings seen held) where
-  -- a run with this ending came there, where the disk is told
+    (was_held : (seen : ℕ → ℕ) → Sees before.media seen → Holds settings seen held) (Rests : Type 0) (rested : (seen : ℕ → ℕ) → RestsWith before.media (Is seen) → Rests) where
+  -- a run with this ending came there, where the disk is told, or where the acts are and none is a restart
   abbrev pub CameThere : Ending → Type 0
   CameThere how =
-      (seen : ℕ → ℕ) → Sees before.media seen
-      → (stopped : Stop) × (end : Owing State) × Came settings (begun_from held) stopped between.media now.media between.acts now.acts end × Wrote how stopped settings end.last before now
+      IsKnown before now
+      → (stopped : Stop) × (end : Owing State) × Came settings (begun_from settings held) stopped between.media now.media Rests between.acts now.acts end × Wrote how stopped settings end.last before now
 
   abbrev pub WroteAny : Ending → Type 0
   WroteAny how = (stopped : Stop) × (state : State) × (list_all (is_own settings) state.history ≡ true) × Wrote how stopped settings state before now
@@ -92,10 +89,10 @@ module _ (settings : SettingsValue) (held : List Entry) (before between now : Ou
     held = held;
     calm = calm;
     was_held = was_held;
-    runs_from = λ seen sees.
-        let (stopped, end, there, wrote) = came seen sees in
-        lives_from settings held how before between now end calm silent opened (Reports how settings before now)
-        (subst (λ h. Came settings (begun_from held) h between.media now.media between.acts now.acts end) (sym wrote.0) there) wrote.1;
+    runs_from = λ told.
+        let (stopped, end, there, wrote) = came told in
+        lives_from settings held how before between now end calm silent opened Rests rested (Reports how settings before now)
+        (subst (λ h. Came settings (begun_from settings held) h between.media now.media Rests between.acts now.acts end) (sym wrote.0) there) wrote.1;
     any = (any.1, contained_by settings any.1 any.2, any.3.1);
   }
   serves_to ending.ReportFailed came any = (
@@ -103,10 +100,10 @@ module _ (settings : SettingsValue) (held : List Entry) (before between now : Ou
       held = held;
       calm = calm;
       was_held = was_held;
-      runs_from = λ seen sees.
-          let (stopped, end, there, wrote) = came seen sees in
-          lives_from settings held stop.Ended before between now end calm silent opened (λ state. AppendsBeginning before.held now.held (report_of settings state))
-          (subst (λ h. Came settings (begun_from held) h between.media now.media between.acts now.acts end) (sym wrote.0) there) wrote.1;
+      runs_from = λ told.
+          let (stopped, end, there, wrote) = came told in
+          lives_from settings held stop.Ended before between now end calm silent opened Rests rested (λ state. AppendsBeginning before.held now.held (report_of settings state))
+          (subst (λ h. Came settings (begun_from settings held) h between.media now.media Rests between.acts now.acts end) (sym wrote.0) there) wrote.1;
       any = (any.1, contained_by settings any.1 any.2, any.3.1);
     },
     any.3.2,
@@ -118,13 +115,23 @@ module _ (settings : SettingsValue) (held : List Entry) (before between now : Ou
   serves_to ending.NoMemory came any = absurd any.3
   serves_to (ending.Unrecovered fault) came any = absurd any.3
 
--- a run begins at the time of the last entry
-pub begun_zero : (held : List Entry) → restarted (begun_from held) 0 ≡ begun_from held
-begun_zero held = ap (λ t. at_time t) (no_later (last_time held))
-  where
-    at_time : ℕ → State
-    at_time t = record { history = held; time = t }
+-- where no restart was taken since, none was taken from there on
+pub never_since : (xs ys zs : Option (List Timed)) → KeepsActs xs ys → Added ys zs (λ _. Unit {0}) → NeverRestarts xs zs → NeverRestarts ys zs
+never_since None ys zs keeps added never = absurd never
+never_since (Some xs) ys None keeps added never = absurd never
+never_since (Some xs) None (Some zs) keeps added never = absurd added
+never_since (Some xs) (Some ys) (Some zs) keeps added never = (never.0, never.1 ∙ ap (λ front. front ++ never.0) (sym keeps), never.2)
 
+-- a run that is told by what the disk held, or by its acts, is followed from where the server began
+pub followed_by : (Rests : Type 0) (before now : Outside) (ys : Option (List Timed)) → KeepsActs before.acts ys → Added ys now.acts (λ _. Unit {0}) → ((seen : ℕ → ℕ) → Sees before.media seen → Rests)
+    → IsKnown before now → IsFollowed Rests ys now.acts
+followed_by Rests before now ys keeps added rested (by_disk seen sees) = inl (rested seen sees)
+followed_by Rests before now ys keeps added rested (by_acts never) = inr (never_since before.acts ys now.acts keeps added never)
+
+-- a run begins at the time of the last entry
+pub begun_zero : (settings : SettingsValue) (held : List Entry) → restarted settings (begun_from settings held) 0 ≡ begun_from settings held
+begun_zero settings held = ap (λ t. afresh settings held t) (no_later (last_time held))
+  where
     no_later : (t : ℕ) → max 0 t ≡ t
     no_later t = omega arith
 

@@ -18,7 +18,7 @@ use Rattle.slot_store.specs.Gates.{Sees}
 use Rattle.slot_journal.proofs.Crashing.{one_history}
 use Rattle.dots_machine.specs.Machine.{State, begun_from}
 use Rattle.dots_machine.specs.Outside.{Outside}
-use Rattle.dots_machine.specs.Endings.{HasRun, RunsFrom, Serves, Reports, Behaves, status_of, has_hosted}
+use Rattle.dots_machine.specs.Endings.{by_disk, HasRun, RunsFrom, Serves, Reports, Behaves, status_of, has_hosted}
 use Rattle.dots_machine.specs.Report.{report_of}
 use Rattle.dots_run.specs.Blocks.{seeing, RunsInBlocks}
 use Rattle.dots_run.specs.Scripted.{Replays, JoinsTexts}
@@ -46,10 +46,10 @@ module _ (words : List (List ℕ)) (before after : Outside) (acts seen : List Ti
 
   served : (settings : SettingsValue) (how : Stop) (wrote : State → Type 0) → Serves settings how before after wrote → Replays settings how before after start now wrote
   served settings how wrote serves =
-      let runs_from = subst (λ held. RunsFrom settings held how before after wrote) (held_nothing settings how wrote serves) (serves.runs_from (byte_of []) sees_zeros) in
-      let has_run : Added (Some []) (Some seen) (HasRun settings (begun_from []) how before after runs_from.trace runs_from.end) =
-      subst (λ old. Added old (Some seen) (HasRun settings (begun_from []) how before after runs_from.trace runs_from.end)) none
-      (subst (λ new. Added before.acts new (HasRun settings (begun_from []) how before after runs_from.trace runs_from.end)) some runs_from.has_run) in
+      let runs_from = subst (λ held. RunsFrom settings held how before after wrote) (held_nothing settings how wrote serves) (serves.runs_from (by_disk (byte_of []) sees_zeros)) in
+      let has_run : Added (Some []) (Some seen) (HasRun settings (begun_from settings []) how before after runs_from.trace runs_from.end) =
+      subst (λ old. Added old (Some seen) (HasRun settings (begun_from settings []) how before after runs_from.trace runs_from.end)) none
+      (subst (λ new. Added before.acts new (HasRun settings (begun_from settings []) how before after runs_from.trace runs_from.end)) some runs_from.has_run) in
       record {
         acts = acts;
         seen = seen;
@@ -57,7 +57,7 @@ module _ (words : List (List ℕ)) (before after : Outside) (acts seen : List Ti
         handed_on = handed_on;
         end = runs_from.end;
         trace = runs_from.trace;
-        has_run = all_added seen (HasRun settings (begun_from []) how before after runs_from.trace runs_from.end) has_run;
+        has_run = all_added seen (HasRun settings (begun_from settings []) how before after runs_from.trace runs_from.end) has_run;
         accounts = accounts;
         reports = runs_from.reports;
       }

@@ -11,7 +11,7 @@ use Rattle.slot_journal.specs.DiskEntries.{Holds}
 use Rattle.dots_machine.specs.declared.ending.Stop.{Stop}
 use Rattle.dots_machine.specs.Machine.{State, begun_from}
 use Rattle.dots_machine.specs.Outside.{Outside}
-use Rattle.dots_machine.specs.Endings.{HasRun, Serves}
+use Rattle.dots_machine.specs.Endings.{by_disk, HasRun, Serves}
 use Rattle.dots_machine.specs.Surviving.{shown, time_at}
 
 -- From the one state of a disk to the other moments came, and a crash at this one of them leaves the image.
@@ -35,7 +35,7 @@ pub record RunsSo (settings : SettingsValue) (held : List Entry) (before now : O
   pub how : Stop
   pub end : Owing State
   pub trace : List State
-  pub has_run : Added before.acts now.acts (HasRun settings (begun_from held) how before now trace end)
+  pub has_run : Added before.acts now.acts (HasRun settings (begun_from settings held) how before now trace end)
 
 -- A run that came to serve, however it ended: it recovered entries, which are what the disk held, where it is told, and is a run from them.
 pub record HasServed (settings : SettingsValue) (before now : Outside) : Type 0 where
@@ -48,7 +48,7 @@ abbrev pub has_served : {settings : SettingsValue} {how : Stop} {before now : Ou
 has_served serves = record {
   held = serves.held;
   was_held = serves.was_held;
-  runs_from = λ seen sees. record { how = _; end = (serves.runs_from seen sees).end; trace = (serves.runs_from seen sees).trace; has_run = (serves.runs_from seen sees).has_run };
+  runs_from = λ seen sees. record { how = _; end = (serves.runs_from (by_disk seen sees)).end; trace = (serves.runs_from (by_disk seen sees)).trace; has_run = (serves.runs_from (by_disk seen sees)).has_run };
 }
 
 -- These entries mean a front of the history to which a run came: they have its view at the machine's time at the moment, and it has at least the

@@ -10,3 +10,4 @@ pub mod Topics
 pub mod Leaving
 pub mod HostReports
 pub mod Load
+pub mod Clients

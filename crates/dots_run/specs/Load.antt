@@ -26,7 +26,7 @@ pub record RunsToEnd (acts : List Timed) (rows : ℕ) : Type 0 where
   pub are : SettingsAre settings_text settings
   pub trace : List State
   pub end : State
-  pub run : Story settings (resting (begun_from [])) acts trace (resting end)
+  pub run : Story settings (resting (begun_from settings [])) acts trace (resting end)
   pub ends : EndsBy event.End acts
   pub rows_are : rows ≡ rows_of end
 
@@ -38,7 +38,7 @@ pub record LoadTold (seed : ℕ) (text : List ℕ) : Type 0 where
   pub acts : List Timed
   pub trace : List State
   pub end : State
-  pub run : Story settings (resting (begun_from [])) acts trace (resting end)
+  pub run : Story settings (resting (begun_from settings [])) acts trace (resting end)
   pub events : coming_in acts ≡ load_events seed ++ (record { event = event.End; at = 0 }) ∷ []
   pub served : NoneUnavailable acts
   pub text_is : text ≡ load_text acts (rows_of end)

@@ -1,11 +1,11 @@
 -- What a run over real sockets and a real journal has done.
 use Rattle.std.specs.Prelude.{◌≡◌, ◌⊎◌, ℕ, ◌<◌, ◌≤◌, true, false, List, length, codes, Option, None, IfSome}
-use Rattle.dots_edge.specs.Edge.{Edge, IsAsSaid}
+use Rattle.dots_edge.specs.Edge.{Edge, IsAsSaid, acts_told}
 use Rattle.dots_edge.specs.JournalFile.{room_of}
-use Rattle.dots_machine.specs.declared.ending.Ending.{Ending}
-use Rattle.dots_machine.specs.Endings.{status_of, has_hosted, Behaves}
+use Rattle.dots_machine.specs.Endings.{NeverRestarts}
 use Rattle.dots_machine.specs.Outside.{Outside}
 use Rattle.dots_run.specs.Outcomes.{Outcome}
+use Rattle.dots_run.specs.Blocks.{RunsInBlocks}
 
 -- how many bytes a host file may have
 abbrev pub max_host_file : ℕ
@@ -25,12 +25,12 @@ pub record IsOpenedFrom (left : Option (List ℕ)) (unread : Type 0) (host : Edg
   pub shut : host.opened ≡ false → host.journaled ≡ false
   pub no_faults : (host.wire ≡ 0) × (host.disk ≡ 0)
 
--- What stands outside a run over sockets: the host tells neither its acts nor what its disk holds.
+-- What stands outside a run over sockets: the host tells its acts, and not what its disk holds.
 abbrev pub outside_at : Option (List ℕ) → ℕ → Edge → Option (List ℕ) → ℕ → Outside
 outside_at left source_faults host held report_faults = record {
   left = left;
   source_faults = source_faults;
-  acts = None;
+  acts = acts_told host;
   wire_faults = host.wire;
   media = None;
   extent = room_of host.reserve;
@@ -40,8 +40,10 @@ outside_at left source_faults host held report_faults = record {
 }
 
 -- A run of words that are served, with this status, from what stood outside before to what stands there now, and from the host as it was to
--- what it is: what it has done, by the ending that its status is of; where it didn't come to its host, that was not called; and what the
--- status says of the words, of the settings and of what failed.
+-- what it is: what it has done, of the acts as they were seen above, by the ending that its status is of; how the host's acts stand to these; where
+-- it didn't come to its host, that was not called; no restart is among them, so they are known; and what the status says of the words, of the
+-- settings and of what failed.
 pub record RunsOver (words : List (List ℕ)) (status : ℕ) (before now : Outside) (first host : Edge) : Type 0 where
-  pub machine : (ending : Ending) × (status ≡ status_of ending) × Behaves ending words before now × (has_hosted ending ≡ false → host ≡ first)
+  pub machine : RunsInBlocks words status before now (host ≡ first)
+  pub known : NeverRestarts before.acts machine.seen
   pub outcome : Outcome words status before now

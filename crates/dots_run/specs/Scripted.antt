@@ -57,7 +57,7 @@ pub record Replays (settings : SettingsValue) (how : Stop) (before after : Outsi
   pub handed_on : AreSeen no_blocks acts seen blocks
   pub end : Owing State
   pub trace : List State
-  pub has_run : HasRun settings (begun_from []) how before after trace end seen
+  pub has_run : HasRun settings (begun_from settings []) how before after trace end seen
   pub accounts : Accounts start now acts
   pub reports : wrote end.last
 

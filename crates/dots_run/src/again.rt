@@ -53,7 +53,7 @@ pub fn run_again<H: Host, S: Source, K: Sink, G: Host, T: Source, L: Sink>(
         → (seen : ℕ → ℕ) (sees : Sees before.media seen) → RestsWith before.media (Is seen) → (xs ys : List Timed) → before.acts ≡ Some xs → now.acts ≡ Some ys
         → (m : ℕ) (image : ℕ → ℕ) → CrashLeaves m (H.media host.old) (H.media host.new) image → Sees (G.media other.old) image
         → (then after : Outside) (second : HasServed settings_of then after) → then.media ≡ G.media other.old
-        → (acts : List Timed) × (ys ≡ xs ++ acts) × GoesOn settings_of (begun_from first.held) acts (first.runs_from seen sees).trace (first.runs_from seen sees).end.last.history m second.held }
+        → (acts : List Timed) × (ys ≡ xs ++ acts) × GoesOn settings_of (begun_from settings_of first.held) acts (first.runs_from seen sees).trace (first.runs_from seen sees).end.last.history m second.held }
 
     // Where the first run recovered nothing, the second one recovers what the disk had held.
     ensures opens { (settings_of : SettingsValue) (fault : JournalFault) (before now : Outside) (first : Unrecovers settings_of fault before now)

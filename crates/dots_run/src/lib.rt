@@ -6,11 +6,15 @@
 //! how the program is called; and its version. That text is a function of the [`Topic`] and of the bytes of the source ([`one_text`]):
 //! `specs/Reporting.antt` says which, `specs/Usage.antt` has the texts that no file decides, and those of files are in `file_checks`.
 //!
+//! A client over sockets is [`ask_sockets`], and what its settings come to [`check_client`] tells: `specs/Clients.antt`.
+//!
 //! A generated run, [`run_load`], has a host of its own. Its report is a function of its number ([`one_load_text`]), and `specs/Load.antt` says which.
 #![tactic(auto)]
 
 mod again;
 mod blocks;
+mod client;
+mod client_report;
 mod host_report;
 mod laws;
 mod load;
@@ -28,7 +32,10 @@ mod wording;
 mod words;
 
 pub use again::run_again;
+pub use ask_agent::{is_ask, is_check_ask};
 pub use blocks::{Ended, run_blocks};
+pub use client::ask_sockets;
+pub use client_report::{ClientChecked, check_client};
 pub use dots_script::ScriptHost;
 pub use host_report::{HostChecked, check_host, host_task};
 pub use laws::{one_load_text, one_text};

@@ -1,10 +1,10 @@
 //! The commands of the machine, `replay` and `show`.
 
-ghost use Rattle.std.specs.Prelude.{◌≡◌, ◌≢◌, ◌≤◌, ◌⊎◌, ◌↔◌, ℕ, List, Option, map, false, true, string_bytes, IfOk, OnErr};
+ghost use Rattle.std.specs.Prelude.{◌≡◌, ◌≢◌, ◌≤◌, ◌⊎◌, ◌↔◌, ℕ, List, Option, map, false, true, string_bytes, IfOk, OnErr, ⊤};
 ghost use Rattle.std.specs.List.{list_all};
 ghost use Rattle.dots_disk.specs.Becoming.{RestsWith};
 ghost use Rattle.dots_host.specs.Causes.{Rose};
-ghost use Rattle.dots_host.specs.Runs.{Owing};
+ghost use Rattle.dots_host.specs.Runs.{Owing, Added};
 ghost use Rattle.dots_settings.specs.Settings.{SettingsValue};
 ghost use Rattle.dots_history.specs.declared.entry.Entry.{Entry};
 ghost use Rattle.dots_laws.specs.Calm.{is_own};
@@ -18,7 +18,7 @@ ghost use Rattle.dots_machine.specs.Endings.{status_of, has_hosted, Prints, Serv
 ghost use Rattle.dots_machine.specs.Machine.{State};
 ghost use Rattle.dots_machine.specs.Outside.{Outside, outside};
 ghost use Rattle.dots_server.specs.ServerValues.{IsKept};
-ghost use Rattle.dots_server.specs.Running.{Came};
+ghost use Rattle.dots_server.specs.Running.{Came, IsFollowed};
 ghost use Rattle.dots_run.specs.Refusals.{Counts, Wrote, WritesStop};
 
 use crate::refusals::write_refusal;
@@ -159,12 +159,14 @@ fn host_events<H: Host, K: Sink>(
 /// Serves the events of the host, and reports the filters that stand at End.
 fn serve<H: Host, K: Sink>(server: Server, host: &mut H, report: &mut K) -> Ending
     requires size { needed_of server.journal.slots ≤ H.extent host.old }
-    // Where the disk is told, the run from what it holds, and what was written of its last state.
+    // The run, and what was written of its last state: where the disk is told, or where the acts are and none is a restart.
     ensures came { (settings : SettingsValue) (start : State) (held : List Entry) → IsKept server settings start held
-        → RestsWith (H.media host.old) (journal.Represents server.journal settings held)
-        → (how : Stop) × (end : Owing State) × Came settings start how (H.media host.old) (H.media host.new) (H.acts host.old) (H.acts host.new) end
+        → IsFollowed (RestsWith (H.media host.old) (journal.Represents server.journal settings held)) (H.acts host.old) (H.acts host.new)
+        → (how : Stop) × (end : Owing State) × Came settings start how (H.media host.old) (H.media host.new) (RestsWith (H.media host.old) (journal.Represents server.journal settings held))
+        (H.acts host.old) (H.acts host.new) end
         × ((before now : Outside) → Counts before (K.holds report.old) (K.faults report.old) (H.Wire.faults host.old) (H.Disk.faults host.old)
         → Counts now (K.holds report.new) (K.faults report.new) (H.Wire.faults host.new) (H.Disk.faults host.new) → Wrote result how settings end.last before now) }
+    ensures adds { Added (H.acts host.old) (H.acts host.new) (λ _. ⊤) }
     // For every host, it is said of some state that has entries of the settings alone.
     ensures any { (how : Stop) × (state : State) × (list_all (is_own server.settings) state.history ≡ true)
         × ((before now : Outside) → Counts before (K.holds report.old) (K.faults report.old) (H.Wire.faults host.old) (H.Disk.faults host.old)

@@ -68,7 +68,8 @@ pub fn run_sockets<
     requires opens { Open.IsAlwaysCallable opening }
     requires serves { is_serve (map string_bytes words.now) ≡ true }
     // The two files are what opening the second and the third word gave. Where the host finds no memory, no settings were read and nothing was
-    // written; and else the run over the host that the host file's text opens is what `run` says of it.
+    // written; and else the run over the host that the host file's text opens is what `run` says of it. The host tells each event that it handed
+    // in and each send that it was handed, and none is a restart, so these are known. What its file holds it doesn't tell.
     ensures { (file named : Option F) × FnReturnsAt Open.Fn opening (second_of (map string_bytes words.now)) file
         × FnReturnsAt Open.Fn opening (third_of (map string_bytes words.now)) named
         × MatchOption result.host
@@ -104,7 +105,7 @@ pub fn run_sockets<
 }
 
 /// The host that the text of the host file opens.
-fn open_host<F: Read, R: Files<File = File> + Net + Clock + Drop>(
+pub fn open_host<F: Read, R: Files<File = File> + Net + Clock + Drop>(
     alloc: Global,
     rt: R,
     file: &mut StdSource<F>,

@@ -13,10 +13,15 @@ dots replay SETTINGS   serves a script of datagrams, which it reads from standar
                        end the filters that stand
 dots serve SETTINGS HOSTFILE
                        serves what comes to the sockets that a host file names, and keeps the journal in a file
+dots ask SETTINGS HOSTFILE
+                       asks a server for what the settings of a client say, over the sockets that a host file names:
+                       prints at the end what is granted
 dots show HEX          prints the CoAP message that bytes in hexadecimal spell
 dots check SETTINGS    prints what a settings file comes to, or its first fault and why it is one
 dots check SETTINGS HOSTFILE
                        prints what both files and the journal come to, and what a server would refuse
+dots check-ask SETTINGS
+                       prints what the settings of a client come to, or the line at fault
 dots journal SETTINGS HOSTFILE
                        prints the entries of the journal that a host file names
 dots check-script      reads a script from standard input: prints how many events it has, or its first fault, and why
@@ -39,7 +44,7 @@ The exit status, and what to do:
       the settings is one
   4   no memory was found: free some, and begin again
   5   the settings or the script can't be read, or a line is no script line: dots check-script says which, and why.
-      With serve: the settings can't be read, or the sockets failed
+      With serve and ask: the settings can't be read, or the sockets failed; with ask also what 6 says of the host file
   6   a call of the disk failed. What was answered is on it: see what it lacks, and begin again. With serve also: the
       host file can't be read or has a fault, a socket can't be bound, or another server has the journal: dots check
       SETTINGS HOSTFILE names what it can see

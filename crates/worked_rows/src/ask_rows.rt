@@ -2,7 +2,7 @@
 
 /// The first request of the client with the key `abc`, for 192.0.2.0/24 and 3600 s, and what follows.
 pub const ASKED: &str = "\
-$ ask settings
+$ ask settings host
 : server 9
 : spki 616263
 
@@ -88,7 +88,7 @@ $ ask settings
 
 /// Settings with a fault, and a report that fails.
 pub const FAULTS: &str = "\
-$ ask settings
+$ ask settings host
 : server 9
 
 # no name

@@ -2,7 +2,7 @@
 
 use crate::runs::{Parts, has_ended, parts_of_row};
 use crate::tables::Row;
-use ask_agent::{Firsts, run_ask};
+use ask_agent::{Firsts, is_ask, run_client};
 use dots_host::{MemorySink, MemorySource, NoMemory};
 use dots_run::{Ended, ScriptHost, run_blocks};
 use std::alloc::Global;
@@ -23,10 +23,10 @@ fn leaves(
     host: Scripted,
     sink: &mut MemorySink,
 ) -> bool {
-    if row.word("$ ") == "ask settings" {
+    let words = parts.words.as_slice();
+    if is_ask(words) {
         return asks(alloc, row, parts, host, sink);
     }
-    let words = parts.words.as_slice();
     let Ended { status, host } = run_blocks(alloc, words, &mut parts.settings, host, sink);
     let goes = has_ended(alloc, row, status, sink) && row.has(alloc, ">", host.sink().bytes());
     drop(host);
@@ -36,7 +36,14 @@ fn leaves(
 /// Whether a run of a client goes as the row says.
 fn asks(alloc: Global, row: Row, parts: &mut Parts, host: Scripted, sink: &mut MemorySink) -> bool {
     let mut host = host;
-    let status = run_ask(alloc, &mut parts.settings, Firsts::ones(), &mut host, sink).status();
+    let status = run_client(
+        alloc,
+        parts.words.as_slice(),
+        &mut parts.settings,
+        Firsts::ones(),
+        &mut host,
+        sink,
+    );
     let goes = has_ended(alloc, row, status, sink) && row.has(alloc, ">", host.sink().bytes());
     drop(host);
     goes

@@ -1,11 +1,13 @@
 use Rattle.std.specs.List.{list_all}
 use Rattle.std.proofs.Common.{◌≡◌, true, refl, sym, subst}
+use Rattle.dots_disk.specs.Becoming.{RestsWith}
+use Rattle.slot_journal.specs.DiskEntries as journal
 use Rattle.dots_machine.specs.Machine.{begun_from}
 use Rattle.dots_machine.specs.Outside.{Outside}
 use Rattle.dots_laws.specs.Calm.{is_own}
 use Rattle.dots_server.specs.ServerValues.{IsKept}
 use Rattle.dots_run.specs.Refusals.{Counts, Wrote}
-use Rattle.dots_run.proofs.Serving.{begun_zero, sees_of, serves_to}
+use Rattle.dots_run.proofs.Serving.{begun_zero, followed_by, sees_of, serves_to}
 use Rattle.dots_run.proofs.outcome.host_events.Goals as goal
 
 pub returns-in-Ok-clause-machine : goal.returns-in-Ok-clause-machine
@@ -55,10 +57,13 @@ returns-in-Ok-clause-machine g c = λ left left_now faults faults_now.
     serves_to c.args.settings held before between after calm keeps.0
     (λ seen rests. c.begin.ensures.moments seen held rests (disk seen (sees_of (g.H.Disk.media old) seen rests)).0)
     (λ seen sees. (disk seen sees).0)
+    (RestsWith (g.H.Disk.media mid) (journal.Represents c.in-Ok.server.journal c.args.settings held))
+    (λ seen rests. (disk seen (sees_of (g.H.Disk.media old) seen rests)).1)
     c.serve.result
-    (λ seen sees.
-    let (how, end, came, wrote) = c.serve.ensures.came c.args.settings (begun_from held) held
-    (subst (λ state. IsKept c.in-Ok.server c.args.settings state held) (begun_zero held) kept) (disk seen sees).1 in
+    (λ told.
+    let (how, end, came, wrote) = c.serve.ensures.came c.args.settings (begun_from c.args.settings held) held
+    (subst (λ state. IsKept c.in-Ok.server c.args.settings state held) (begun_zero c.args.settings held) kept)
+    (followed_by (RestsWith (g.H.Disk.media mid) (journal.Represents c.in-Ok.server.journal c.args.settings held)) before after (g.H.Wire.acts mid) keeps.0 c.serve.ensures.adds (λ seen sees. (disk seen sees).1) told) in
     (how, end, came, wrote before after counted counts))
     (let (how, state, own, wrote) = c.serve.ensures.any in (
       how,

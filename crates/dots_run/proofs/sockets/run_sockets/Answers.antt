@@ -4,10 +4,9 @@ use Rattle.std.proofs.lemmas.Fn.{says_at}
 use Rattle.dots_host.specs.Causes.{Rose}
 use Rattle.dots_machine.specs.Outside.{Outside}
 use Rattle.dots_run.specs.OverSockets.{IsOpenedFrom, outside_at, RunsOver}
-use Rattle.dots_machine.specs.Endings.{Behaves}
-use Rattle.dots_run.specs.Blocks.{seeing}
 use Rattle.dots_run.proofs.Asking.{served_no_topic}
 use Rattle.dots_run.proofs.Commands.{serve_is_served}
+use Rattle.dots_run.proofs.OverSockets.{known_seen}
 use Rattle.dots_run.proofs.sockets.run_sockets.Goals as goal
 
 pub returns-in_default : goal.returns-in_default
@@ -38,10 +37,7 @@ returns g c =
     outside_at (left c.run_blocks-status.new.settings.reader) c.run_blocks-status.new.settings.faults c.run_blocks-status.result.host (g.K.Write.contents c.run_blocks-status.new.report.writer) c.run_blocks-status.new.report.faults in
     let runs : RunsOver words c.run_blocks-status.result.status before after host c.run_blocks-status.result.host =
     let did = said.machine (served_no_topic words (serve_is_served words c.requires.serves)) in
-    record {
-      machine = (did.ending, did.status_is, subst (λ seen. Behaves did.ending words before (seeing after seen)) did.handed_on did.behaves, did.idle);
-      outcome = said.outcome;
-    } in (
+    record { machine = did; known = known_seen host c.run_blocks-status.result.host did.seen said.leads did.handed_on; outcome = said.outcome } in (
       c.opening.result,
       c.opening-2.result,
       subst (λ name. FnReturnsAt g.Open.Fn c.args.opening name c.opening.result) c.names_of.ensures.settings (says_at g.Open.Fn c.opening.ensures refl),

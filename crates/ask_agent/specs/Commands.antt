@@ -1,0 +1,26 @@
+-- Which words of the command line, without the program's name, ask for a client.
+use Rattle.std.specs.Prelude.{ℕ, List, [], ◌∷◌, Bool, false, ◌&&◌, not, ◌==◌, bytes_eq, codes}
+
+-- a word behind the name of a command: it isn't empty and doesn't begin with `-`
+abbrev pub is_word : List ℕ → Bool
+is_word [] = false
+is_word (first ∷ word) = not (first == 45)
+
+-- `ask SETTINGS HOSTFILE`
+abbrev pub is_ask : List (List ℕ) → Bool
+is_ask (name ∷ settings ∷ host ∷ []) = bytes_eq name (codes "ask") && (is_word settings && is_word host)
+is_ask _ = false
+
+-- `check-ask SETTINGS`
+abbrev pub is_check_ask : List (List ℕ) → Bool
+is_check_ask (name ∷ settings ∷ []) = bytes_eq name (codes "check-ask") && is_word settings
+is_check_ask _ = false
+
+-- the word behind the name, and the one behind that
+abbrev pub second_of : List (List ℕ) → List ℕ
+second_of (name ∷ word ∷ words) = word
+second_of _ = []
+
+abbrev pub third_of : List (List ℕ) → List ℕ
+third_of (name ∷ word ∷ other ∷ words) = other
+third_of _ = []
