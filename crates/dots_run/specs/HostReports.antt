@@ -15,11 +15,18 @@ abbrev pub is_of_host : List ℕ → List (List ℕ) → Bool
 is_of_host word (name ∷ settings ∷ host ∷ []) = bytes_eq name word && (is_word settings && is_word host)
 is_of_host word _ = false
 
--- what `check SETTINGS HOSTFILE` and `journal SETTINGS HOSTFILE` ask for
+-- `filters`, the same two, and `nft`
+abbrev pub is_filters : List (List ℕ) → Bool
+is_filters (name ∷ settings ∷ host ∷ form ∷ []) =
+    bytes_eq name (codes "filters") && (is_word settings && (is_word host && bytes_eq form (codes "nft")))
+is_filters _ = false
+
+-- what `check SETTINGS HOSTFILE`, `journal SETTINGS HOSTFILE` and `filters SETTINGS HOSTFILE nft` ask for
 abbrev pub host_task : List (List ℕ) → Option Task
 host_task words =
     if is_of_host (codes "check") words then Some task.Check
     else if is_of_host (codes "journal") words then Some task.List
+    else if is_filters words then Some task.Script
     else None
 
 -- what is found of both files, where they tell their bytes; no answer where a read of one failed, or for want of memory

@@ -19,6 +19,8 @@ usage_text =
     ++ codes "                       prints what the settings of a client come to, or the line at fault\n"
     ++ codes "dots journal SETTINGS HOSTFILE\n"
     ++ codes "                       prints the entries of the journal that a host file names\n"
+    ++ codes "dots filters SETTINGS HOSTFILE nft\n"
+    ++ codes "                       prints the filters of that journal, also while a server runs, as a script for nft -f\n"
     ++ codes "dots check-script      reads a script from standard input: prints how many events it has, or its first fault, and why\n"
     ++ codes "dots load N            serves 20,000 events that the number N, of 1 to 1,000, generates, over a host in memory: prints\n"
     ++ codes "                       eight counts, the same for the same N\n"

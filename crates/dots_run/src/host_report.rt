@@ -5,7 +5,7 @@ ghost use Rattle.std.specs.Fn.{FnReturnsAt};
 ghost use Rattle.dots_host.specs.Causes.{Rose};
 ghost use Rattle.dots_machine.specs.Commands.{second_of, third_of};
 ghost use Rattle.host_checks.specs.declared.files.Task.{Task};
-ghost use Rattle.dots_run.specs.HostReports.{host_task, is_of_host, ReportsHost};
+ghost use Rattle.dots_run.specs.HostReports.{host_task, is_of_host, is_filters, ReportsHost};
 
 use crate::reporting::report_found;
 use crate::words::is_word;
@@ -38,7 +38,8 @@ impl<F: Drop, K: Drop> HostChecked<F, K> {
     }
 }
 
-/// What `check SETTINGS HOSTFILE` and `journal SETTINGS HOSTFILE` ask for; None where the words are neither.
+/// What `check SETTINGS HOSTFILE`, `journal SETTINGS HOSTFILE` and `filters SETTINGS HOSTFILE nft` ask for; None where the words are none of
+/// these.
 pub fn host_task(words: &[String]) -> Option<Task>
     ensures { result ≡ host_task (map string_bytes words.now) }
 {
@@ -48,7 +49,24 @@ pub fn host_task(words: &[String]) -> Option<Task>
     if is_of_host("journal", words) {
         return Some(Task::List);
     }
+    if is_filters(words) {
+        return Some(Task::Script);
+    }
     None
+}
+
+/// Whether they are `filters`, two that name files, and `nft`.
+fn is_filters(words: &[String]) -> bool
+    ensures { result ≡ is_filters (map string_bytes words.now) }
+{
+    match words {
+        [name, settings, host, form] => {
+            name.as_str() == "filters"
+                && (is_word(settings.as_bytes())
+                    && (is_word(host.as_bytes()) && form.as_str() == "nft"))
+        }
+        _ => false,
+    }
 }
 
 /// Whether they are this word, and behind it two that name files.
@@ -71,14 +89,16 @@ fn asked_of(words: &[String]) -> (Task, &str, &str)
     ensures host { result.2.now ≡ third_of (map string_bytes words.now) }
 {
     match (host_task(words), words) {
-        (Some(task), [_, settings, host]) => (task, settings.as_str(), host.as_str()),
+        (Some(task), [_, settings, host] | [_, settings, host, _]) => {
+            (task, settings.as_str(), host.as_str())
+        }
         _ => unreachable!(),
     }
 }
 
-/// Does what the words `check SETTINGS HOSTFILE` or `journal SETTINGS HOSTFILE` ask for: `opening` opens both files by their names, and what
-/// they come to is written to `report`, with what is found of the journal that the host file names, or the entries of that; or the
-/// first fault of either file, and why it is one. Status 3 where a server wouldn't start with them. A file that can't be opened, where `opening` gives None, fails when it is read. Nothing is bound, and
+/// Does what the words `check SETTINGS HOSTFILE`, `journal SETTINGS HOSTFILE` or `filters SETTINGS HOSTFILE nft` ask for: `opening` opens both
+/// files by their names, and what they come to is written to `report`, with what is found of the journal that the host file names, or the
+/// entries of that, or the script of its filters; or the first fault of either file, and why it is one. Status 3 where a server wouldn't start with them. A file that can't be opened, where `opening` gives None, fails when it is read. Nothing is bound, and
 /// nothing else is written.
 pub fn check_host<
     F: Read + Drop,

@@ -78,6 +78,7 @@ TellsChecked settings file told = (now : ℕ) × (state : JournalState) × Check
 abbrev pub Tells : Task → SettingsValue → List ℕ → Checked → Type 0
 Tells task.Check settings file told = TellsChecked settings file told
 Tells task.List settings file told = ⊤
+Tells task.Script settings file told = ⊤
 
 -- What is told of the host file: that it is too long, or the report of its first fault, or what there is to be told.
 abbrev pub TellsHost : Task → SettingsValue → List ℕ → Checked → Type 0

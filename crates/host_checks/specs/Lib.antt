@@ -4,3 +4,4 @@ pub mod HostChecks
 pub mod Journals
 pub mod Listings
 pub mod Reasons
+pub mod Scripts

@@ -1,6 +1,6 @@
 //! What is told of a settings file and a host file together.
 
-ghost use Rattle.std.specs.Prelude.{◌≡◌, ◌⊎◌, ◌+◌, ◌^◌, ◌≤◌, length, map, Ok, IfOk, IfSome, OnOk};
+ghost use Rattle.std.specs.Prelude.{◌≡◌, ◌⊎◌, ◌+◌, ◌^◌, ◌<◌, ◌≤◌, length, map, Ok, IfOk, IfSome, OnOk};
 ghost use Rattle.dots_host.specs.Causes.{Rose};
 ghost use Rattle.plain_text.specs.Lines.{lines_of};
 ghost use Rattle.dots_settings.specs.File.{SettingsFail};
@@ -15,6 +15,7 @@ use crate::host_fault::host_fault_report;
 use crate::journal_state::{JournalState, add_journal};
 use crate::listing::list_journal;
 use crate::looking::look_at;
+use crate::scripting::script_read;
 use dots_edge::{FoundJournal, JournalReader};
 use dots_host::Source;
 use dots_lists::{Bytes, NoMemory};
@@ -31,6 +32,9 @@ const MAX_FILE: usize = 65_536;
 /// How much of a file is read: one byte more than it may have.
 const MAX_READ: usize = MAX_FILE + 1;
 
+/// The greatest second that an entry may have.
+const MAX_SECOND: u64 = 0xffff_ffff_ffff;
+
 /// What is to be told where neither file has a fault.
 #[derive(Clone, Copy)]
 pub enum Task {
@@ -38,11 +42,13 @@ pub enum Task {
     Check,
     /// The entries of the journal.
     List,
+    /// The script for `nft -f` of the filters that the journal comes to now.
+    Script,
 }
 
 /// What is told of a settings file and of the host file that a server would be started with beside it: the first fault of the settings; or
 /// that of the host file; or what its lines come to, and what is found of the journal now, with what a server would refuse and its status
-/// then; or the entries of the journal. Nothing is bound, and nothing is written.
+/// then; or the entries of the journal; or the script of its filters. Nothing is bound, and nothing is written.
 pub fn check_files<S: Source, T: Source, R: Files<File = File> + Clock>(
     alloc: Global,
     rt: &R,
@@ -98,6 +104,7 @@ fn check_beside<R: Files<File = File> + Clock>(
         Ok(said) => match task {
             Task::Check => check_said(alloc, rt, settings, said.as_slice(), text),
             Task::List => list_said(alloc, rt, settings, said.as_slice()),
+            Task::Script => script_said(alloc, rt, settings, said.as_slice()),
         },
         Err(HostFault::NoMemory) => Err(NoMemory),
         Err(fault) => match host_fault_report(alloc, text, fault) {
@@ -169,6 +176,42 @@ fn list_said<R: Files<File = File>>(
         FoundJournal::Unreadable => state_alone(alloc, JournalState::Unreadable),
         FoundJournal::There(mut reader) => list_journal(alloc, &mut reader, settings),
     }
+}
+
+/// The script of the filters that the journal of these lines comes to now. Where there is no journal yet that is a fault.
+fn script_said<R: Files<File = File> + Clock>(
+    alloc: Global,
+    rt: &R,
+    settings: &Settings,
+    said: &[HostLine<'_>],
+) -> Result<Checked, NoMemory> {
+    let Some(path) = journal_in(said) else {
+        return no_script(alloc, JournalState::Unreadable);
+    };
+    match JournalReader::open(rt, path, reserve_in(said)) {
+        FoundJournal::Missing => no_script(alloc, JournalState::Missing),
+        FoundJournal::Blank => no_script(alloc, JournalState::Blank),
+        FoundJournal::NotOne => no_script(alloc, JournalState::NotOne),
+        FoundJournal::Unreadable => no_script(alloc, JournalState::Unreadable),
+        FoundJournal::There(mut reader) => script_read(alloc, &mut reader, settings, now(rt)),
+    }
+}
+
+/// The second since 1970, below 2^48.
+fn now<R: Clock>(rt: &R) -> u64
+    ensures { result < 2 ^ 48 }
+{
+    match rt.since_1970() {
+        Ok(wall) => wall.as_secs().min(MAX_SECOND),
+        Err(_) => 0,
+    }
+}
+
+/// What is said of a journal that has no script.
+fn no_script(alloc: Global, state: JournalState) -> Result<Checked, NoMemory> {
+    let mut text = Vec::new(alloc);
+    add_journal(&mut text, 0, state)?;
+    Ok(Checked::AtFault(Bytes::from_vec(text)))
 }
 
 /// What is said of a journal of which no entry can be listed.

@@ -4,7 +4,7 @@
 //! [`check_files`] reads both files and looks at the journal. [`check_host`] answers the text of the two files and of what was found of
 //! the journal, which [`look_at`] reads off a disk, and [`host_fault_report`] that of a host file with a fault. Start reading at
 //! `specs/HostChecks.antt`; `specs/Findings.antt` has the remarks and faults of the lines, and `specs/Journals.antt` what is said of the
-//! journal. [`list_journal`] lists its entries (`specs/EntryLines.antt`).
+//! journal. [`list_journal`] lists its entries (`specs/EntryLines.antt`), and [`script_journal`] writes its filters for `nft` (`specs/Scripts.antt`).
 #![tactic(auto)]
 
 mod checking;
@@ -16,6 +16,7 @@ mod journal_state;
 mod listing;
 mod looking;
 mod reasons;
+mod scripting;
 
 pub use checking::check_host;
 pub use files::{Task, check_files};
@@ -23,3 +24,4 @@ pub use host_fault::host_fault_report;
 pub use journal_state::JournalState;
 pub use listing::list_journal;
 pub use looking::look_at;
+pub use scripting::script_journal;
