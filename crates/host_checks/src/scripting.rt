@@ -17,8 +17,8 @@ use slot_store::SLOT;
 use std::alloc::Global;
 use timed_filters::script_at;
 
-/// How often a journal that changed meanwhile is read anew.
-const MORE_TRIES: u32 = 16;
+/// How often a journal that may have changed meanwhile is read anew.
+const MORE_TRIES: u32 = 64;
 
 /// How much of the header, and of the first record of each half, shows that a half was taken into use.
 const MARK: usize = 64;
@@ -52,7 +52,8 @@ fn refused(alloc: Global, fault: JournalFault) -> Result<Checked, NoMemory>
 }
 
 /// The same of a journal that a server may write meanwhile. Records are written before their gates, and the other half before the selector.
-/// So where the selector and the first records are the same before and behind, what was read is one journal. Else it is read anew.
+/// So where the selector and the first records are the same before and behind, what was read is one journal. Else it is read anew, and so is
+/// one that is refused: what is written while it is read makes it one that no server leaves.
 pub(crate) fn script_read(
     alloc: Global,
     reader: &mut JournalReader,
@@ -64,7 +65,8 @@ pub(crate) fn script_read(
     for _ in 0..MORE_TRIES {
         let before = marks(reader, slots(settings));
         let told = script_journal(alloc, reader, settings, now)?;
-        if before.as_slice() == marks(reader, slots(settings)).as_slice() {
+        let is_same = before.as_slice() == marks(reader, slots(settings)).as_slice();
+        if is_same && matches!(told, Checked::Good(_)) {
             return Ok(told);
         }
     }
