@@ -1,9 +1,11 @@
 //! Heartbeats at a tick.
 
-ghost use Rattle.std.specs.Prelude.{◌≡◌, ℕ, List, map, length, true};
+ghost use Rattle.std.specs.Prelude.{◌≡◌, ℕ, List, map, length, true, ⊤};
 ghost use Rattle.dots_host.specs.Runs.{Added};
 ghost use Rattle.dots_disk.specs.Becoming.{KeepsMedia};
 ghost use Rattle.session_core.specs.declared.contact.Beat.{Beat};
+ghost use Rattle.session_core.specs.Beating.{Beating, Agrees};
+ghost use Rattle.session_core.specs.Places.{row_peer};
 ghost use Rattle.session_core.specs.Spacing.{LosesAll, BeatsAll};
 ghost use Rattle.dots_notices.specs.Notifying.{SentTo};
 ghost use Rattle.dots_notices.specs.Beats.{beat_with, beat_bytes, beat_sent, beats, after_beats};
@@ -26,9 +28,11 @@ const UNHEARD: [u8; 7] = [0xa1, 0x18, 0x31, 0xa1, 0x18, 0x33, 0xf4];
 /// Forgets the sessions that are lost at the time `now`, in seconds, and sends each peer the heartbeat that is due then, in the order of
 /// the settings (RFC 9132, section 4.7). Takes no memory. Whether a heartbeat left makes no difference.
 pub fn beat<H: Host, C: Configs>(host: &mut H, sessions: &mut Sessions, configs: &C, now: u64)
-    ensures sent { Added (H.acts host.old) (H.acts host.new)
-        (SentTo (H.moment host.old) (H.moment host.new) (beats (C.beats configs.now) now sessions.old)) }
-    ensures left { sessions.new ≡ after_beats (C.beats configs.now) now sessions.old }
+    ensures sent { (by : Beating) → Agrees (C.Says configs.now) by
+        → Added (H.acts host.old) (H.acts host.new) (SentTo (H.moment host.old) (H.moment host.new) (beats by now sessions.old)) }
+    ensures left { (by : Beating) → Agrees (C.Says configs.now) by → sessions.new ≡ after_beats by now sessions.old }
+    ensures adds { Added (H.acts host.old) (H.acts host.new) (λ more. ⊤) }
+    ensures peers { map row_peer sessions.new ≡ map row_peer sessions.old }
     ensures media { KeepsMedia (H.media host.old) (H.media host.new) }
     ensures extent { H.extent host.new ≡ H.extent host.old }
     ensures disk { H.Disk.faults host.new ≡ H.Disk.faults host.old }
@@ -41,7 +45,8 @@ pub fn beat<H: Host, C: Configs>(host: &mut H, sessions: &mut Sessions, configs:
 
 /// Forgets each session that is lost.
 fn lose<C: Configs>(sessions: &mut Sessions, configs: &C, now: u64)
-    ensures { (lost : List ℕ) × LosesAll (C.beats configs.now) now sessions.old lost sessions.new }
+    ensures lost { (lost : List ℕ) × ((by : Beating) → Agrees (C.Says configs.now) by → LosesAll by now sessions.old lost sessions.new) }
+    ensures peers { map row_peer sessions.new ≡ map row_peer sessions.old }
 {
     while let Some(peer) = sessions.next_lost(configs, now) {
         let _ = peer;
@@ -50,8 +55,9 @@ fn lose<C: Configs>(sessions: &mut Sessions, configs: &C, now: u64)
 
 /// Sends each heartbeat that is due.
 fn send_beats<H: Host, C: Configs>(host: &mut H, sessions: &mut Sessions, configs: &C, now: u64)
-    ensures sent { (given : List Beat) × BeatsAll (C.beats configs.now) now sessions.old given sessions.new
+    ensures sent { (given : List Beat) × ((by : Beating) → Agrees (C.Says configs.now) by → BeatsAll by now sessions.old given sessions.new)
         × Added (H.acts host.old) (H.acts host.new) (SentTo (H.moment host.old) (H.moment host.new) (map beat_sent given)) }
+    ensures peers { map row_peer sessions.new ≡ map row_peer sessions.old }
     ensures media { KeepsMedia (H.media host.old) (H.media host.new) }
     ensures extent { H.extent host.new ≡ H.extent host.old }
     ensures disk { H.Disk.faults host.new ≡ H.Disk.faults host.old }

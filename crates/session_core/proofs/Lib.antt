@@ -1,4 +1,5 @@
 pub mod Accepting
+pub mod Peers
 pub mod Placing
 pub mod Refusing
 pub mod Rows

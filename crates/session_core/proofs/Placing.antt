@@ -1,15 +1,12 @@
 -- The place of a peer's row.
 use Rattle.std.proofs.Common.{◌≡◌, ℕ, zero, suc, ◌+◌, ◌<◌, Bool, true, false, cond, List, [], ◌∷◌, ◌++◌, length, map, drop, get_or, set, drop-cons, add-one, Option, Some, None, refl, sym, ap, ◌∙◌, inl, inr, arith}
-use Rattle.std.specs.Prelude.{◌==◌, ◌||◌, is_some, position, slice_get, option_and_then, MatchOption}
+use Rattle.std.specs.Prelude.{◌==◌, ◌||◌, is_some, position, slice_get, option_and_then}
 use Rattle.std.specs.List.{find, list_any, position_from}
 use Rattle.std.proofs.lemmas.Bool.{cases_eq, eq-eqb, ne_eqb, cond-true, cond-false, false≢true}
 use Rattle.std.proofs.lemmas.Iterator.Adapters.{position_from-zero}
 use Rattle.std.proofs.lemmas.List.Quantifiers.{position-Some}
 use Rattle.session_core.specs.declared.contact.PeerContact.{PeerContact}
-use Rattle.session_core.specs.declared.contact.Beat.{Beat}
 use Rattle.session_core.specs.Contacts.{is_of, with_row, number_in, number_of}
-use Rattle.session_core.specs.Beating.{Beating, has_lost, row_forgotten, NoneLost, IsNextLost, has_due, row_sent, NoneBeats, IsNextBeat}
-use Rattle.session_core.specs.Firsts.{IsFirst}
 use Rattle.session_core.specs.Places.{row_peer, with_place}
 
 -- ---- by the map
@@ -147,24 +144,7 @@ peers_placed i becomes [] same = refl
 peers_placed zero becomes (row ∷ rows) same = ap (λ p. p ∷ map row_peer rows) (same row)
 peers_placed (suc i) becomes (row ∷ rows) same = ap (λ ps. row_peer row ∷ ps) (peers_placed i becomes rows same)
 
-peers_same : (front : List PeerContact) (row new : PeerContact) (rest : List PeerContact) → row_peer new ≡ row_peer row
+pub peers_same : (front : List PeerContact) (row new : PeerContact) (rest : List PeerContact) → row_peer new ≡ row_peer row
     → map row_peer (front ++ new ∷ rest) ≡ map row_peer (front ++ row ∷ rest)
 peers_same [] row new rest same = ap (λ p. p ∷ map row_peer rest) same
 peers_same (one ∷ front) row new rest same = ap (λ ps. row_peer one ∷ ps) (peers_same front row new rest same)
-
-peers_first : (test : PeerContact → Bool) (becomes : PeerContact → PeerContact) (old new : List PeerContact) (row : PeerContact)
-    → row_peer (becomes row) ≡ row_peer row → IsFirst test becomes old new row → map row_peer new ≡ map row_peer old
-peers_first test becomes old new row same is =
-    ap (map row_peer) is.after
-    ∙ peers_same is.front row (becomes row) is.rest same
-    ∙ ap (map row_peer) (sym is.there)
-
-pub peers_lost : (beats : Beating) (now : ℕ) (old new : List PeerContact) (lost : Option ℕ)
-    → MatchOption lost (NoneLost beats now old new) (λ peer. IsNextLost beats now old new peer) → map row_peer new ≡ map row_peer old
-peers_lost beats now old new None is = ap (map row_peer) is.same
-peers_lost beats now old new (Some peer) is = peers_first (has_lost beats now) row_forgotten old new is.row refl is.first
-
-pub peers_beat : (beats : Beating) (now : ℕ) (old new : List PeerContact) (beat : Option Beat)
-    → MatchOption beat (NoneBeats beats now old new) (λ b. IsNextBeat beats now old new b) → map row_peer new ≡ map row_peer old
-peers_beat beats now old new None is = ap (map row_peer) is.same
-peers_beat beats now old new (Some beat) is = peers_first (has_due beats now) (row_sent now) old new is.row refl is.first

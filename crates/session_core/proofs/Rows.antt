@@ -6,10 +6,10 @@ use Rattle.std.proofs.lemmas.List.{take-append-drop, take-set, drop-set}
 use Rattle.session_core.specs.declared.contact.PeerContact.{PeerContact}
 use Rattle.session_core.specs.Firsts.{IsFirst}
 
-cut : (xs : List PeerContact) (i : ℕ) (d : PeerContact) → i < length xs → xs ≡ take i xs ++ get_or xs i d ∷ drop (i + 1) xs
+pub cut : (xs : List PeerContact) (i : ℕ) (d : PeerContact) → i < length xs → xs ≡ take i xs ++ get_or xs i d ∷ drop (i + 1) xs
 cut xs i d less = grind (arith, common_steps, less)
 
-placed_in : (xs : List PeerContact) (i : ℕ) (x : PeerContact) → i < length xs → set xs i x ≡ take i xs ++ x ∷ drop (i + 1) xs
+pub placed_in : (xs : List PeerContact) (i : ℕ) (x : PeerContact) → i < length xs → set xs i x ≡ take i xs ++ x ∷ drop (i + 1) xs
 placed_in xs i x less =
     sym (take-append-drop i (set xs i x))
     ∙ ap (λ ys. ys ++ drop i (set xs i x)) (take-set xs i x)

@@ -1,5 +1,5 @@
 -- What is asked for at one time until there is none.
-use Rattle.std.proofs.Common.{◌≡◌, ℕ, ◌+◌, Bool, true, false, List, [], ◌∷◌, ◌++◌, map, Option, Some, None, refl, sym, ap, ◌∙◌, inl, inr, arith}
+use Rattle.std.proofs.Common.{◌≡◌, ℕ, ◌+◌, ◌<◌, Bool, true, false, List, [], ◌∷◌, ◌++◌, length, map, take, drop, get_or, set, Option, Some, None, refl, sym, ap, ◌∙◌, inl, inr, arith}
 use Rattle.std.specs.Prelude.{if◌then◌else◌, ◌&&◌, nat_lt, nat_le, is_some, filter, filter_map, count_by, option_map, option_and_then}
 use Rattle.std.specs.List.{list_any, cons_option}
 use Rattle.std.proofs.lemmas.Bool.{cases_Bool, cond-true, cond-false, or_parts}
@@ -16,6 +16,7 @@ use Rattle.session_core.specs.Firsts.{IsNowhere, IsFirst}
 use Rattle.session_core.specs.Beating.{Beating, lost_in, has_lost, row_forgotten, IsNextLost, beat_to, beat_in, due_beat, has_due, session_sent, contact_sent, row_sent, IsNextBeat}
 use Rattle.session_core.specs.Places.{row_peer}
 use Rattle.session_core.specs.Spacing.{LosesAll, BeatsAll, Tick, without_lost, with_beat}
+use Rattle.session_core.proofs.Rows.{cut, placed_in}
 use Rattle.session_core.proofs.Turns.{none_left}
 
 -- ---- first ones, until none is left
@@ -116,14 +117,32 @@ counted test front x rest =
     let one : PeerContact → ℕ = λ y. if test y then 1 else 0 in
     sum_by-append one front (x ∷ rest) ∙ ap (λ n. count_by test front + n) (sum_by-cons one x rest)
 
+fewer_between : (test : PeerContact → Bool) (front : List PeerContact) (row new : PeerContact) (rest : List PeerContact) → test row ≡ true → test new ≡ false
+    → count_by test (front ++ row ∷ rest) ≡ count_by test (front ++ new ∷ rest) + 1
+fewer_between test front row new rest passes once =
+    let before = counted test front row rest in
+    let after = counted test front new rest in
+    let one = cond-true {A = ℕ} (test row) 1 0 passes in
+    let none = cond-false {A = ℕ} (test new) 1 0 once in
+    omega (arith, before, after, one, none)
+
 fewer : (test : PeerContact → Bool) (becomes : PeerContact → PeerContact) (old new : List PeerContact) (row : PeerContact)
     → test (becomes row) ≡ false → IsFirst test becomes old new row → count_by test old ≡ count_by test new + 1
 fewer test becomes old new row once is =
-    let before = ap (count_by test) is.there ∙ counted test is.front row is.rest in
-    let after = ap (count_by test) is.after ∙ counted test is.front (becomes row) is.rest in
-    let one = cond-true {A = ℕ} (test row) 1 0 is.passes in
-    let none = cond-false {A = ℕ} (test (becomes row)) 1 0 once in
-    omega (arith, before, after, one, none)
+    ap (count_by test) is.there
+    ∙ fewer_between test is.front row (becomes row) is.rest is.passes once
+    ∙ ap (λ xs. count_by test xs + 1) (sym is.after)
+
+-- a row that passes becomes one that doesn't
+pub fewer_set : (test : PeerContact → Bool) (old rows : List PeerContact) (i : ℕ) (d new : PeerContact) → i < length old → rows ≡ old
+    → test (get_or rows i d) ≡ true → test new ≡ false → count_by test old ≡ count_by test (set rows i new) + 1
+fewer_set test old rows i d new less are passes once =
+    let front = take i old in
+    let rest = drop (i + 1) old in
+    ap (count_by test) (cut old i d less)
+    ∙ fewer_between test front (get_or old i d) new rest (ap (λ xs. test (get_or xs i d)) (sym are) ∙ passes) once
+    ∙ ap (λ xs. count_by test xs + 1) (sym (placed_in old i new less))
+    ∙ ap (λ xs. count_by test (set xs i new) + 1) (sym are)
 
 pub fewer_lost : (by : Beating) (now : ℕ) (old new : List PeerContact) (peer : ℕ) → IsNextLost by now old new peer
     → count_by (has_lost by now) old ≡ count_by (has_lost by now) new + 1

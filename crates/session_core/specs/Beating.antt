@@ -11,6 +11,10 @@ use Rattle.session_core.specs.Firsts.{IsNowhere, IsFirst}
 abbrev pub Beating : Type 0
 Beating = ℕ → ℕ × ℕ
 
+-- whatever is said of a peer, it is this
+abbrev pub Agrees : (ℕ → ℕ × ℕ → Type 0) → Beating → Type 0
+Agrees Says by = (peer : ℕ) (beat : ℕ × ℕ) → Says peer beat → beat ≡ by peer
+
 -- ---- sessions that are lost
 
 -- the peer was heard longer ago than the heartbeats that may be missed take
@@ -41,6 +45,10 @@ pub record IsNextLost (beats : Beating) (now : ℕ) (old new : List PeerContact)
   pub first : IsFirst (has_lost beats now) row_forgotten old new row
   pub own : peer ≡ row.peer
 
+-- there is a session
+abbrev pub has_session : PeerContact → Bool
+has_session row = is_some (session_of row)
+
 -- ---- heartbeats
 
 -- the interval has passed since the last heartbeat
@@ -65,6 +73,14 @@ due_beat beats now row = option_and_then (beat_in (beats row.peer).0 now row.pee
 
 abbrev pub has_due : Beating → ℕ → PeerContact → Bool
 has_due beats now row = is_some (due_beat beats now row)
+
+-- there is a session, which was sent its last heartbeat, or began, before now
+abbrev pub beat_before : ℕ → Option Session → Bool
+beat_before now None = false
+beat_before now (Some session) = nat_lt session.beat now
+
+abbrev pub has_waited : ℕ → PeerContact → Bool
+has_waited now row = beat_before now (session_of row)
 
 -- a heartbeat is sent now, and takes a Message ID
 abbrev pub session_sent : ℕ → Session → Session

@@ -1,9 +1,9 @@
 //! What is kept of a peer.
 
-ghost use Rattle.std.specs.Prelude.{◌≡◌, is_some, true};
+ghost use Rattle.std.specs.Prelude.{◌≡◌, is_some, true, MatchOption, ⊤, option_and_then};
 ghost use Rattle.session_core.specs.Contacts.{is_of, session_of, number_heard, session_heard, row_heard, row_begun, next_id, number_in, row_numbered};
-ghost use Rattle.session_core.specs.Beating.{is_lost, has_lost, contact_forgotten, row_forgotten};
-ghost use Rattle.session_core.specs.Beating.{is_due, was_heard, beat_to, due_beat, session_sent, contact_sent, row_sent};
+ghost use Rattle.session_core.specs.Beating.{Beating, Agrees, is_lost, lost_in, has_lost, has_session, contact_forgotten, row_forgotten};
+ghost use Rattle.session_core.specs.Beating.{beat_in, has_waited, is_due, was_heard, beat_to, due_beat, session_sent, contact_sent, row_sent};
 
 use crate::configs::Configs;
 
@@ -196,9 +196,17 @@ impl PeerContact {
 
     /// Whether its session is lost at the time `now`.
     pub(crate) fn has_lost<C: Configs>(&self, configs: &C, now: u64) -> bool
-        ensures { result ≡ has_lost (C.beats configs.now) now self.now }
+        ensures lost { (by : Beating) → Agrees (C.Says configs.now) by → result ≡ has_lost by now self.now }
+        ensures session { result ≡ true → has_session self.now ≡ true }
     {
         let (interval, missing) = configs.beat(self.peer);
+        self.has_lost_by(interval, missing, now)
+    }
+
+    /// Whether its session is lost at the time `now`, by an interval in seconds and a number of heartbeats that may be missed.
+    fn has_lost_by(&self, interval: u64, missing: u64, now: u64) -> bool
+        ensures { result ≡ lost_in (interval, missing) now (session_of self.now) }
+    {
         match self.session() {
             Some(session) => session.is_lost(interval, missing, now),
             None => false,
@@ -216,9 +224,17 @@ impl PeerContact {
 
     /// The heartbeat that the peer is to be sent at the time `now`, where one is due.
     pub(crate) fn due_beat<C: Configs>(&self, configs: &C, now: u64) -> Option<Beat>
-        ensures { result ≡ due_beat (C.beats configs.now) now self.now }
+        ensures due { (by : Beating) → Agrees (C.Says configs.now) by → result ≡ due_beat by now self.now }
+        ensures waited { MatchOption result ⊤ (λ beat. has_waited now self.now ≡ true) }
     {
         let (interval, _) = configs.beat(self.peer);
+        self.due_beat_by(interval, now)
+    }
+
+    /// The heartbeat that the peer is to be sent at the time `now`, where one is due by an interval in seconds.
+    fn due_beat_by(&self, interval: u64, now: u64) -> Option<Beat>
+        ensures { result ≡ option_and_then (beat_in interval now self.now.peer) self.now.contact }
+    {
         let contact = self.contact?;
         let session = contact.session?;
         session.beat_to(interval, now, self.peer, contact.number)

@@ -1,9 +1,9 @@
 //! The sessions with all peers.
 
-ghost use Rattle.std.specs.Prelude.{◌≡◌, ◌<◌, length, map, position, slice_get, option_and_then, is_some, true, Some, IfOk, MatchOption};
+ghost use Rattle.std.specs.Prelude.{◌≡◌, ◌<◌, ◌+◌, ℕ, length, map, position, slice_get, option_and_then, count_by, is_some, true, Some, IfOk, MatchOption, ⊤};
 ghost use Rattle.std.specs.List.{list_any};
 ghost use Rattle.session_core.specs.Contacts.{is_of, unheard, row_heard, heard_from, row_begun, begun_with, number_in, number_of, row_numbered, numbered};
-ghost use Rattle.session_core.specs.Beating.{NoneLost, IsNextLost, NoneBeats, IsNextBeat};
+ghost use Rattle.session_core.specs.Beating.{Beating, Agrees, has_session, NoneLost, IsNextLost, has_waited, NoneBeats, IsNextBeat};
 ghost use Rattle.session_core.specs.Places.{row_peer, AreFirsts, with_place};
 
 use crate::configs::Configs;
@@ -115,10 +115,13 @@ impl Sessions {
 
     /// Forgets the first session, in the order of the settings, that is lost at the time `now`, in seconds, and answers its peer; None
     /// exactly where there is none (RFC 9132, section 4.7). A session is lost where the interval of the peer
-    /// isn't 0 and the peer was heard longer ago than the missed heartbeats that are allowed take. Takes no memory.
+    /// isn't 0 and the peer was heard longer ago than the missed heartbeats that are allowed take. Whatever the configurations say, each
+    /// answer leaves one session fewer. Takes no memory.
     pub fn next_lost<C: Configs>(&mut self, configs: &C, now: u64) -> Option<u32>
-        ensures { MatchOption result (NoneLost (C.beats configs.now) now self.old self.new)
-            (λ peer. IsNextLost (C.beats configs.now) now self.old self.new peer) }
+        ensures first { (by : Beating) → Agrees (C.Says configs.now) by
+            → MatchOption result (NoneLost by now self.old self.new) (λ peer. IsNextLost by now self.old self.new peer) }
+        ensures peers { map row_peer self.new ≡ map row_peer self.old }
+        ensures fewer { MatchOption result ⊤ (λ peer. count_by has_session self.old ≡ count_by has_session self.new + 1) }
     {
         lost_among(&mut self.rows, configs, now)
     }
@@ -126,10 +129,13 @@ impl Sessions {
     /// The heartbeat of the first peer, in the order of the settings, that is due one at the time `now`, in seconds; it counts as sent
     /// (RFC 9132, section 4.7). None exactly where none is due. One is due where the interval of the peer isn't 0 and has passed since
     /// the last heartbeat, or since the session began. No session is forgotten, so [`Sessions::next_lost`] is to be asked until None
-    /// before. Takes no memory.
+    /// before. Whatever the configurations say, each answer leaves one session fewer whose last heartbeat, or beginning, was before `now`.
+    /// Takes no memory.
     pub fn next_beat<C: Configs>(&mut self, configs: &C, now: u64) -> Option<Beat>
-        ensures { MatchOption result (NoneBeats (C.beats configs.now) now self.old self.new)
-            (λ beat. IsNextBeat (C.beats configs.now) now self.old self.new beat) }
+        ensures first { (by : Beating) → Agrees (C.Says configs.now) by
+            → MatchOption result (NoneBeats by now self.old self.new) (λ beat. IsNextBeat by now self.old self.new beat) }
+        ensures peers { map row_peer self.new ≡ map row_peer self.old }
+        ensures fewer { MatchOption result ⊤ (λ beat. count_by (has_waited now) self.old ≡ count_by (has_waited now) self.new + 1) }
     {
         beat_among(&mut self.rows, configs, now)
     }
@@ -186,15 +192,19 @@ fn number_at(rows: &mut Vec<PeerContact>, at: usize) -> u16
 }
 
 fn lost_among<C: Configs>(rows: &mut Vec<PeerContact>, configs: &C, now: u64) -> Option<u32>
-    ensures { MatchOption result (NoneLost (C.beats configs.now) now rows.old.items rows.new.items)
-        (λ peer. IsNextLost (C.beats configs.now) now rows.old.items rows.new.items peer) }
+    ensures first { (by : Beating) → Agrees (C.Says configs.now) by
+        → MatchOption result (NoneLost by now rows.old.items rows.new.items) (λ peer. IsNextLost by now rows.old.items rows.new.items peer) }
+    ensures peers { map row_peer rows.new.items ≡ map row_peer rows.old.items }
+    ensures fewer { MatchOption result ⊤ (λ peer. count_by has_session rows.old.items ≡ count_by has_session rows.new.items + 1) }
 {
     next_lost(rows.as_mut_slice(), configs, now)
 }
 
 fn next_lost<C: Configs>(rows: &mut [PeerContact], configs: &C, now: u64) -> Option<u32>
-    ensures { MatchOption result (NoneLost (C.beats configs.now) now rows.old rows.new)
-        (λ peer. IsNextLost (C.beats configs.now) now rows.old rows.new peer) }
+    ensures first { (by : Beating) → Agrees (C.Says configs.now) by
+        → MatchOption result (NoneLost by now rows.old rows.new) (λ peer. IsNextLost by now rows.old rows.new peer) }
+    ensures peers { map row_peer rows.new ≡ map row_peer rows.old }
+    ensures fewer { MatchOption result ⊤ (λ peer. count_by has_session rows.old ≡ count_by has_session rows.new + 1) }
 {
     for row in rows.iter_mut() {
         if row.has_lost(configs, now) {
@@ -206,15 +216,19 @@ fn next_lost<C: Configs>(rows: &mut [PeerContact], configs: &C, now: u64) -> Opt
 }
 
 fn beat_among<C: Configs>(rows: &mut Vec<PeerContact>, configs: &C, now: u64) -> Option<Beat>
-    ensures { MatchOption result (NoneBeats (C.beats configs.now) now rows.old.items rows.new.items)
-        (λ beat. IsNextBeat (C.beats configs.now) now rows.old.items rows.new.items beat) }
+    ensures first { (by : Beating) → Agrees (C.Says configs.now) by
+        → MatchOption result (NoneBeats by now rows.old.items rows.new.items) (λ beat. IsNextBeat by now rows.old.items rows.new.items beat) }
+    ensures peers { map row_peer rows.new.items ≡ map row_peer rows.old.items }
+    ensures fewer { MatchOption result ⊤ (λ beat. count_by (has_waited now) rows.old.items ≡ count_by (has_waited now) rows.new.items + 1) }
 {
     next_beat(rows.as_mut_slice(), configs, now)
 }
 
 fn next_beat<C: Configs>(rows: &mut [PeerContact], configs: &C, now: u64) -> Option<Beat>
-    ensures { MatchOption result (NoneBeats (C.beats configs.now) now rows.old rows.new)
-        (λ beat. IsNextBeat (C.beats configs.now) now rows.old rows.new beat) }
+    ensures first { (by : Beating) → Agrees (C.Says configs.now) by
+        → MatchOption result (NoneBeats by now rows.old rows.new) (λ beat. IsNextBeat by now rows.old rows.new beat) }
+    ensures peers { map row_peer rows.new ≡ map row_peer rows.old }
+    ensures fewer { MatchOption result ⊤ (λ beat. count_by (has_waited now) rows.old ≡ count_by (has_waited now) rows.new + 1) }
 {
     for row in rows.iter_mut() {
         if let Some(beat) = row.due_beat(configs, now) {

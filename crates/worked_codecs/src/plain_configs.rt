@@ -1,6 +1,6 @@
 //! One interval and number for all clients.
 
-ghost use Rattle.std.specs.Prelude.{◌==◌, if◌then◌else◌};
+ghost use Rattle.std.specs.Prelude.{◌≡◌, ◌==◌, if◌then◌else◌};
 
 use session_core::Configs;
 
@@ -12,7 +12,7 @@ pub struct PlainConfigs {
 }
 
 impl Configs for PlainConfigs {
-    ghost beats = { λ configs peer. if peer == 3 then (15, 3) else (configs.interval, configs.missing) };
+    ghost Says = { λ configs peer beat. beat ≡ (if peer == 3 then (15, 3) else (configs.interval, configs.missing)) };
 
     fn beat(&self, peer: u32) -> (u64, u64) {
         if peer == 3 {

@@ -3,7 +3,8 @@ use Rattle.std.specs.Prelude.{count_by}
 use Rattle.dots_host.specs.Runs.{Added}
 use Rattle.dots_disk.specs.Becoming.{KeepsMedia}
 use Rattle.session_core.specs.declared.contact.Beat.{Beat}
-use Rattle.session_core.specs.Beating.{has_due}
+use Rattle.session_core.specs.Beating.{Beating, Agrees, has_waited}
+use Rattle.session_core.specs.Places.{row_peer}
 use Rattle.dots_notices.specs.Notifying.{SentTo}
 use Rattle.dots_notices.specs.Beats.{beat_sent}
 use Rattle.dots_notices.proofs.Ticking.{DueTo}
@@ -11,8 +12,9 @@ use Rattle.dots_notices.proofs.beating.send_beats.Given as goal
 
 abbrev pub invariant-loop-beat : goal.invariant-loop-beat
 invariant-loop-beat g l = record {
-  sent : (given : List Beat) × DueTo (g.C.Configs.beats l.configs) l.now l.fn.sessions given l.sessions
+  sent : (given : List Beat) × ((by : Beating) → Agrees (g.C.Configs.Says l.configs) by → DueTo by l.now l.fn.sessions given l.sessions)
       × Added (g.H.Wire.acts l.fn.host) (g.H.Wire.acts l.host) (SentTo (g.H.Wire.moment l.fn.host) (g.H.Wire.moment l.host) (map beat_sent given));
+  peers : map row_peer l.sessions ≡ map row_peer l.fn.sessions;
   media : KeepsMedia (g.H.Disk.media l.fn.host) (g.H.Disk.media l.host);
   extent : g.H.Disk.extent l.host ≡ g.H.Disk.extent l.fn.host;
   disk : g.H.Disk.faults l.host ≡ g.H.Disk.faults l.fn.host;
@@ -21,4 +23,4 @@ invariant-loop-beat g l = record {
 }
 
 abbrev pub decreases-loop-beat : goal.decreases-loop-beat
-decreases-loop-beat g l = count_by (has_due (g.C.Configs.beats l.configs) l.now) l.sessions
+decreases-loop-beat g l = count_by (has_waited l.now) l.sessions
