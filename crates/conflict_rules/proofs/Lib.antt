@@ -12,3 +12,6 @@ pub mod HeldPlaces
 pub mod Rules
 pub mod JudgedByPlaces
 pub mod Alone
+mod Rooms
+mod TakingMemory
+pub mod Standing

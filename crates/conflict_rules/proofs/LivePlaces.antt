@@ -64,7 +64,7 @@ status_at entries i e = status e Open (drop (suc i) entries)
 abbrev pub seen_at : List Entry → ℕ → Entry → LiveView
 seen_at entries i e = live_of (record { put = e; status = status_at entries i e })
 
-lives_more : (domain t : ℕ) (e : Entry) (later : List Entry)
+pub lives_more : (domain t : ℕ) (e : Entry) (later : List Entry)
     → lives_of domain t (e ∷ later)
     ≡ cond (live t e (status e Open later) && (e.domain == domain)) (seen_at (e ∷ later) 0 e ∷ lives_of domain t later) (lives_of domain t later)
 lives_more domain t e later =
@@ -76,10 +76,10 @@ pub record At (domain t : ℕ) (entries : List Entry) (i : ℕ) (e : Entry) : Ty
   pub alive : live t e (status_at entries i e) ≡ true
   pub here : (e.domain == domain) ≡ true
 
-further : (domain t : ℕ) (x : Entry) (later : List Entry) (i : ℕ) (e : Entry) → At domain t later i e → At domain t (x ∷ later) (suc i) e
+pub further : (domain t : ℕ) (x : Entry) (later : List Entry) (i : ℕ) (e : Entry) → At domain t later i e → At domain t (x ∷ later) (suc i) e
 further domain t x later i e at = record { there = at.there; alive = at.alive; here = at.here }
 
-nearer : (domain t : ℕ) (x : Entry) (later : List Entry) (i : ℕ) (e : Entry) → At domain t (x ∷ later) (suc i) e → At domain t later i e
+pub nearer : (domain t : ℕ) (x : Entry) (later : List Entry) (i : ℕ) (e : Entry) → At domain t (x ∷ later) (suc i) e → At domain t later i e
 nearer domain t x later i e at = record { there = at.there; alive = at.alive; here = at.here }
 
 pub seen_there : (domain t : ℕ) (entries : List Entry) (x : LiveView) → In x (lives_of domain t entries)

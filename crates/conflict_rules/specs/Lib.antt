@@ -13,3 +13,4 @@ pub mod LiveViews
 pub mod Statuses
 pub mod ByHistory
 pub mod Judgements
+pub mod Standing

@@ -9,12 +9,12 @@ ghost use Rattle.conflict_rules.specs.Judging.{granted_put, refreshed, overlap_f
 ghost use Rattle.conflict_rules.specs.Results.{Gives};
 
 use crate::by_mid::{MidJudgement, judge_mid};
-use crate::by_overlap::{Judgement, are_few, judge_overlap};
+use crate::by_overlap::{Judgement, judge_overlap};
 use crate::fault::PutFault;
 use crate::live::Mitigates;
 use crate::marking::marked;
 use crate::put_request::{Client, PutRequest};
-use crate::targets::{copy_of_targets, some_unknown, targets_of};
+use crate::targets::{come_to_few, copy_of_targets, some_unknown, targets_of};
 use acl_lists::Alias;
 use dots_history::{Put, TargetList};
 use dots_lists::NoMemory;
@@ -32,6 +32,11 @@ pub struct Judged {
 
 /// Judges a request at this time, in seconds, by the live mitigations of its domain and by what is held of its client
 /// (RFC 9132, section 4.4.1).
+///
+/// # Errors
+///
+/// That of the first rule that applies. `NoMemory` comes only where targets are copied or made, so never in place of
+/// `Collision`, `Changed`, `UnknownAlias` or `TooMany`.
 pub fn judge_put<T: Mitigates>(
     alloc: Global,
     settings: &Settings,
@@ -87,6 +92,7 @@ fn refreshed(
 }
 
 /// Judges a request of a mid of which no mitigation stands.
+#[tactic(auto, using(crate::proofs::TakingMemory::new_takes))]
 fn judge_new<T: Mitigates>(
     alloc: Global,
     settings: &Settings,
@@ -101,11 +107,15 @@ fn judge_new<T: Mitigates>(
     if some_unknown(aliases, request.asked.aliases.items()) {
         return Err(PutFault::UnknownAlias);
     }
+    if !come_to_few(settings, aliases, request.asked) {
+        return Err(PutFault::TooMany);
+    }
     let targets = targets_of(alloc, settings, aliases, request.asked)?;
     judge_targets(alloc, settings, live, targets, time, request)
 }
 
-/// Judges a new mitigation of these targets.
+/// Judges a new mitigation of these targets, which have at most 64 prefixes together.
+#[tactic(auto, using(crate::proofs::TakingMemory::targets_take))]
 fn judge_targets<T: Mitigates>(
     alloc: Global,
     settings: &Settings,
@@ -114,12 +124,10 @@ fn judge_targets<T: Mitigates>(
     time: u64,
     request: &PutRequest<'_>,
 ) -> Result<Judged, PutFault>
-    requires { IsLifetime request.now.lifetime }
+    requires lifetime { IsLifetime request.now.lifetime }
+    requires few { prefix_count targets ≤ MAX_RESOLVED }
     ensures { Gives result (judge_targets settings.now (map T.live live.now) targets time request.now) }
 {
-    if !are_few(&targets) {
-        return Err(PutFault::TooMany);
-    }
     if let Some(fault) = overlap_fault(alloc, settings, live, &targets, request)? {
         return Err(fault);
     }

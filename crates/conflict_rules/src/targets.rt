@@ -1,11 +1,13 @@
 //! What a request's targets come to.
 
-ghost use Rattle.std.specs.Prelude.{◌≡◌, ◌++◌, [], IfOk, OnOk, is_none};
-ghost use Rattle.std.specs.List.{list_any};
+ghost use Rattle.std.specs.Prelude.{◌≡◌, ◌+◌, ◌<◌, ◌++◌, [], length, nat_le, IfOk, OnOk, MatchOption, is_none};
+ghost use Rattle.std.specs.List.{flat_map, list_any};
 ghost use Rattle.std.specs.Option.{option_copied};
+ghost use Rattle.acl_lists.specs.declared.limits.TheConstants.{MAX_RESOLVED};
+ghost use Rattle.dots_history.specs.Bounds.{prefix_count};
 ghost use Rattle.conflict_rules.specs.Targets.{prefixes_asked, target_of, own_target, alias_named, is_unknown, alias_target, targets_of};
 
-use acl_lists::{Alias, Asked, PrefixList};
+use acl_lists::{Alias, Asked, MAX_RESOLVED, PrefixList};
 use dots_history::{Target, TargetList};
 use dots_lists::{List, Name, NoMemory};
 use dots_settings::Settings;
@@ -27,6 +29,61 @@ pub fn targets_of(
         push_alias(&mut targets, settings, aliases, name)?;
     }
     Ok(targets)
+}
+
+/// Whether the targets of what is asked have at most 64 prefixes together. None of them is made for it, and it takes no memory.
+#[tactic(auto, using(crate::proofs::Rooms::whole_count))]
+pub fn come_to_few(settings: &Settings, aliases: &[Alias], asked: &Asked) -> bool
+    ensures { result ≡ nat_le (prefix_count (targets_of settings.now aliases.now asked.now)) MAX_RESOLVED }
+{
+    match room_beside(MAX_RESOLVED, settings, asked) {
+        Some(left) => have_room(left, settings, aliases, asked.aliases.items()),
+        None => false,
+    }
+}
+
+/// Whether there is room for the prefixes of the targets of the aliases of these names.
+#[tactic(auto, using(crate::proofs::Rooms::names_count))]
+fn have_room(room: usize, settings: &Settings, aliases: &[Alias], names: &[Name]) -> bool
+    ensures { result ≡ nat_le (prefix_count (flat_map (alias_target settings.now aliases.now) names.now)) room }
+{
+    let mut left = room;
+    for name in names {
+        match room_beside_alias(left, settings, aliases, name) {
+            Some(rest) => left = rest,
+            None => return false,
+        }
+    }
+    true
+}
+
+/// The room that is left beside the prefixes of the target of the alias of this name; None where there is too little.
+fn room_beside_alias(
+    room: usize,
+    settings: &Settings,
+    aliases: &[Alias],
+    name: &Name,
+) -> Option<usize>
+    ensures { MatchOption result (room < prefix_count (alias_target settings.now aliases.now name.now))
+        (λ rest. rest + prefix_count (alias_target settings.now aliases.now name.now) ≡ room) }
+{
+    match alias_named(aliases, name) {
+        Some(alias) => room_beside(room, settings, &alias.asked),
+        None => Some(room),
+    }
+}
+
+/// The room that is left beside the asked prefixes and those of the asked host names; None where there is too little.
+#[tactic(auto, using(crate::proofs::Rooms::asked_count, crate::proofs::Rooms::addresses_count))]
+fn room_beside(room: usize, settings: &Settings, asked: &Asked) -> Option<usize>
+    ensures { MatchOption result (room < length (prefixes_asked settings.now asked.now))
+        (λ rest. rest + length (prefixes_asked settings.now asked.now) ≡ room) }
+{
+    let mut left = room.checked_sub(asked.prefixes.items().len())?;
+    for name in asked.names.items() {
+        left = left.checked_sub(settings.addresses(name.bytes()).len())?;
+    }
+    Some(left)
 }
 
 /// Whether the client holds no alias of one of these names.
