@@ -39,7 +39,7 @@ behind : (a b c d : Bool) → a && b && c && d ≡ a && (b && c && d)
 behind true b c d = refl
 behind false b c d = refl
 
-abbrev in_front : Entry → Bool
+abbrev pub in_front : Entry → Bool
 in_front e = nat_lt e.time (2 ^ 48) && ((length e.cuid == 0) || is_name e.cuid) && nat_le (length e.reply) 64
 
 change_of : (e : Entry) → within_bounds e ≡ true → change_within e.change ≡ true

@@ -364,7 +364,7 @@ none_least q t most entries e at is few =
     at
     (subst (λ ms. tally (λ (m : Mitigation). q m.put) ms ≤ most) (sym (adding t e entries timely)) less)
 
-none_room : (limits : Limits) (t : ℕ) (entries : List Entry) (e : Entry) → e.time ≡ t → put_of e.change ≡ None → Keeps limits t entries e
+pub none_room : (limits : Limits) (t : ℕ) (entries : List Entry) (e : Entry) → e.time ≡ t → put_of e.change ≡ None → Keeps limits t entries e
 none_room limits t entries e at is =
     record {
       of_domain = none_least (λ (x : Entry). x.domain == e.domain) t limits.domain_mitigations entries e at is;

@@ -233,7 +233,7 @@ limits_fitting settings t entries e clients later is =
 pub limits_calm : (settings : SettingsValue) (t : ℕ) (entries : List Entry) → IsCalmBy settings t entries → ClientsKeepLimits settings.limits t entries
 limits_calm settings t entries calm = record { live = calm.of_client; aliased = calm.capacities.aliased }
 
-limits_hold : (limits : Limits) (t : ℕ) (entries : List Entry) (e : Entry) → ClientsKeepLimits limits t entries → e.time ≡ t → HoldsNone e
+pub limits_hold : (limits : Limits) (t : ℕ) (entries : List Entry) (e : Entry) → ClientsKeepLimits limits t entries → e.time ≡ t → HoldsNone e
     → Keeps limits t entries e → ClientsKeepLimits limits t (entries ++ e ∷ [])
 limits_hold limits t entries e clients at none keeps =
     let timely : t ≤ e.time = omega (arith, at) in

@@ -128,13 +128,13 @@ put_of_change settings domain (change.Put put) configures acts false same own =
     (and_parts acts (change_inside settings domain (change.Put put)) own).1
 put_of_change settings domain _ configures acts b same own = refl
 
-abbrev configures : SettingsValue → Entry → Bool
+abbrev pub configures : SettingsValue → Entry → Bool
 configures settings e = is_nil e.cuid && may_configure (role_of settings e.peer) e.domain
 
-abbrev acts : SettingsValue → Entry → Bool
+abbrev pub acts : SettingsValue → Entry → Bool
 acts settings e = may_act settings (role_of settings e.peer) e.domain
 
-acts_of : (settings : SettingsValue) (e : Entry) → is_own settings e ≡ true → acts_rightly settings e ≡ true
+pub acts_of : (settings : SettingsValue) (e : Entry) → is_own settings e ≡ true → acts_rightly settings e ≡ true
 acts_of settings e own =
     (and_parts (acts_rightly settings e) (loses_rightly settings e && waits_rightly settings e) (and_parts (is_of_settings settings e) (came_rightly e) own).0).0
 
@@ -174,7 +174,7 @@ put_own settings domain m own here =
 
 -- ---- the entry
 -- where it is neither a loss nor waits, it is the settings' own by what it names alone
-by_parts : (settings : SettingsValue) (e : Entry) → acts_rightly settings e ≡ true → loses_rightly settings e ≡ true → waits_rightly settings e ≡ true → came_rightly e ≡ true
+pub by_parts : (settings : SettingsValue) (e : Entry) → acts_rightly settings e ≡ true → loses_rightly settings e ≡ true → waits_rightly settings e ≡ true → came_rightly e ≡ true
     → is_own settings e ≡ true
 by_parts settings e rightly losses waiting came =
     and_from

@@ -6,6 +6,7 @@ pub mod Inside
 pub mod Bounded
 pub mod Counted
 pub mod FittingEntries
+pub mod Configured
 pub mod OnePeer
 pub mod CalmLimits
 pub mod Rings

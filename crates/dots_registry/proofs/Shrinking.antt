@@ -168,7 +168,7 @@ pub moved_room : (keep : List ℕ) (registry : RegistryValue) → HasSlots regis
 moved_room keep registry room = slots_still registry (renumbered keep registry) refl refl refl refl room
 
 -- what the view names is stood for
-kept_in : (registry : RegistryValue) (all : List Filed) → RepresentsFiled registry all → Calm (map entry_of all)
+pub kept_in : (registry : RegistryValue) (all : List Filed) → RepresentsFiled registry all → Calm (map entry_of all)
     → RepresentsFiled registry (filed_kept (number_remembered registry) (time_of registry) all)
 kept_in registry all represents calm =
     let n = number_remembered registry in

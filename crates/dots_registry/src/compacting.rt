@@ -6,9 +6,9 @@ ghost use Rattle.dots_history.specs.declared.entry.Entry.{Entry};
 ghost use Rattle.dots_history.specs.Histories.{Calm};
 ghost use Rattle.dots_history.specs.Keeping.{kept};
 ghost use Rattle.dots_history.specs.Slots.{Rises, number_in};
-ghost use Rattle.dots_laws.specs.Filed.{Filed, entry_of, slot_of};
+ghost use Rattle.dots_laws.specs.Filed.{Filed, entry_of, slot_of, refiled};
 ghost use Rattle.dots_laws.specs.KeptPlaces.{union};
-ghost use Rattle.dots_registry.specs.Kept.{named_slots, filed, kept_slots};
+ghost use Rattle.dots_registry.specs.Kept.{named_slots, filed, filed_kept, kept_slots};
 ghost use Rattle.dots_registry.specs.RegistryValues.{Represents, IsOf, time_of, number_remembered};
 ghost use Rattle.dots_registry.specs.Filed.{RepresentsFiled, most_kept};
 
@@ -37,6 +37,10 @@ impl Registry {
     pub fn moved(&mut self, keep: &[u32])
         requires { Rises keep.now }
         ensures represents { (entries : List Entry) → Represents self.old entries → Represents self.new entries }
+        // Whatever list it is, each entry then stands in the slot of its new number: all of them, and those alone that the view names.
+        ensures refiled { (all : List Filed) → RepresentsFiled self.old all → RepresentsFiled self.new (map (refiled keep.now) all) }
+        ensures named { (all : List Filed) → RepresentsFiled self.old all → Calm (map entry_of all)
+            → RepresentsFiled self.new (map (refiled keep.now) (filed_kept (number_remembered self.old) (time_of self.old) all)) }
         ensures filed { (all : List Filed) → RepresentsFiled self.old all → Rises (map slot_of all) → Calm (map entry_of all)
             → keep.now ≡ named_slots (number_remembered self.old) (time_of self.old) all
             → RepresentsFiled self.new (filed (kept (number_remembered self.old) (time_of self.old) (map entry_of all))) }

@@ -17,6 +17,10 @@ use dots_settings::Settings;
 impl Registry {
     /// Judges the PUT of a mitigation, as it was read of a message of this peer, for a domain (RFC 9132, section 4.4.1). The path
     /// has a mid.
+    ///
+    /// # Errors
+    ///
+    /// Those of [`Registry::judge_request`].
     pub fn judge_put(
         &self,
         settings: &Settings,
@@ -43,6 +47,11 @@ impl Registry {
     }
 
     /// Judges a request for a domain by what the registry keeps of the domain and of the client.
+    ///
+    /// # Errors
+    ///
+    /// That of the first rule that applies. `NoMemory` comes only where targets are copied or made, so never in place of
+    /// `Collision`, `Changed`, `UnknownAlias` or `TooMany`.
     pub fn judge_request(
         &self,
         settings: &Settings,

@@ -13,10 +13,11 @@
 //!
 //! It joins the tables of `live_mitigations`, `held_resources`, `coap_exchange` and `installed_filters`. The settings of which it is
 //! (`IsOf`) stay with the caller. [`laws`] says that it also represents what a compaction keeps, and that nothing of it is left
-//! open.
+//! open. [`configuration_laws`] says how what a peer configures of its session goes into a history, and of which domain it is.
 #![tactic(auto)]
 
 mod compacting;
+pub mod configuration_laws;
 mod expiring;
 mod fitting;
 pub mod judgement_laws;
