@@ -5,3 +5,4 @@ pub mod Answering
 pub mod Sizing
 pub mod Recovering
 pub mod Wholes
+pub mod Making

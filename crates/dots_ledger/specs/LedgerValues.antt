@@ -1,9 +1,10 @@
 -- What a ledger keeps, and for which history it stands.
-use Rattle.std.specs.Prelude.{◌≡◌, ℕ, Bool, true, ◌&&◌, ◌<◌, nat_le, List, length}
+use Rattle.std.specs.Prelude.{◌≡◌, ℕ, Bool, true, ◌&&◌, ◌<◌, nat_le, nat_lt, if◌then◌else◌, List, length}
 use Rattle.dots_settings.specs.Settings.{SettingsValue}
 use Rattle.dots_history.specs.declared.entry.Entry.{Entry}
 use Rattle.dots_history.specs.Bounds.{within_bounds}
 use Rattle.dots_history.specs.Histories.{Kept}
+use Rattle.dots_history.specs.Keeping.{kept}
 use Rattle.dots_laws.specs.Fits.{joins, is_calm}
 use Rattle.dots_registry.specs.Kept.{filed}
 use Rattle.dots_registry.specs.RegistryValues.{RegistryValue, IsOf, time_of, number_remembered}
@@ -26,6 +27,14 @@ pub record Represents (ledger : LedgerValue) (settings : SettingsValue) (history
   pub kept : Kept (number_remembered ledger.registry) (time_of ledger.registry) entries history
   pub used : ledger.journal.used ≡ length entries
   pub free : most_kept ledger.registry < ledger.journal.slots
+
+-- What stands in the half in use once a slot is free there: the same entries where one is, and else those alone that the view of the
+-- history names.
+abbrev pub once_free : LedgerValue → List Entry → List Entry
+once_free ledger entries =
+    if nat_lt ledger.journal.used ledger.journal.slots
+    then entries
+    else kept (number_remembered ledger.registry) (time_of ledger.registry) entries
 
 -- it represents some history
 pub record RepresentsSome (ledger : LedgerValue) : Type 0 where

@@ -1,6 +1,6 @@
 //! The journal and the registry, side by side.
 
-ghost use Rattle.std.specs.Prelude.{◌≡◌, ◌<◌, ◌≤◌, ◌++◌, ◌∷◌, [], true, List, OnOk, OnErr};
+ghost use Rattle.std.specs.Prelude.{◌≡◌, ◌+◌, ◌<◌, ◌≤◌, ◌++◌, ◌∷◌, [], true, List, OnOk, OnErr};
 ghost use Rattle.dots_disk.specs.Becoming.{Leaves, RestsWith};
 ghost use Rattle.dots_host.specs.Causes.{HasCause};
 ghost use Rattle.dots_history.specs.declared.entry.Entry.{Entry};
@@ -9,8 +9,9 @@ ghost use Rattle.dots_settings.specs.Settings.{SettingsValue};
 ghost use Rattle.live_mitigations.specs.Ends.{never};
 ghost use Rattle.dots_registry.specs.RegistryValues.{time_of, number_remembered};
 ghost use Rattle.slot_store.specs.Layout.{needed_of};
+ghost use Rattle.slot_store.specs.Copying.{other_selector};
 ghost use Rattle.slot_journal.specs.DiskEntries as journal;
-ghost use Rattle.dots_ledger.specs.LedgerValues.{Represents, CanAccept, joins_at};
+ghost use Rattle.dots_ledger.specs.LedgerValues.{Represents, CanAccept, joins_at, once_free};
 ghost use Rattle.dots_ledger.specs.Crashes.{HoldsEither, HoldsOne};
 
 use dots_disk::Disk;
@@ -91,6 +92,17 @@ impl Ledger {
         ensures refused { OnErr result ((settings : SettingsValue) (history entries : List Entry) → Represents self.old settings history entries
             → (few : List Entry) × Represents self.new settings history few) }
 
+        // Where a slot is free, the entry is put into it, and at each moment each image holds the same entries as before, or these and the
+        // entry. Where none is, the other half is used from then on, and holds those alone that the view names, and the entry.
+        ensures next { OnOk result (self.old.journal.used < self.old.journal.slots → self.new.journal ≡ record self.old.journal { used = self.old.journal.used + 1 }) }
+        ensures appends { self.old.journal.used < self.old.journal.slots → (settings : SettingsValue) (history entries : List Entry) → Represents self.old settings history entries
+            → RestsWith (D.media disk.old) (journal.Represents self.old.journal settings entries)
+            → Leaves (D.media disk.old) (D.media disk.new) (HoldsOne settings entries (entries ++ staged ∷ [])) }
+        ensures half { OnOk result (self.old.journal.slots ≤ self.old.journal.used → self.new.journal.selector ≡ other_selector self.old.journal.selector) }
+        ensures entries { OnOk result ((settings : SettingsValue) (history entries : List Entry) → Represents self.old settings history entries
+            → joins_at settings (time_of self.old.registry) history staged ≡ true
+            → Represents self.new settings (history ++ staged ∷ []) (once_free self.old entries ++ staged ∷ [])) }
+
         ensures time { OnOk result (time_of self.new.registry ≡ staged.time) }
         ensures still { OnErr result (time_of self.new.registry ≡ time_of self.old.registry) }
         ensures slots { self.new.journal.slots ≡ self.old.journal.slots }
@@ -111,9 +123,12 @@ impl Ledger {
             → RestsWith (D.media disk.old) (journal.Represents self.old.journal settings entries)
             → Leaves (D.media disk.old) (D.media disk.new) (HoldsOne settings entries (kept (number_remembered self.old.registry) (time_of self.old.registry) entries)) }
         ensures compacted { OnOk result ((settings : SettingsValue) (history entries : List Entry) → Represents self.old settings history entries
-            → (few : List Entry) × Represents self.new settings history few
+            → Represents self.new settings history (once_free self.old entries)
             × (RestsWith (D.media disk.old) (journal.Represents self.old.journal settings entries)
-            → RestsWith (D.media disk.new) (journal.Represents self.new.journal settings few))) }
+            → RestsWith (D.media disk.new) (journal.Represents self.new.journal settings (once_free self.old entries)))) }
+        ensures free { self.old.journal.used < self.old.journal.slots → (self.new ≡ self.old) × (D.media disk.new ≡ D.media disk.old) }
+        ensures half { OnOk result (self.old.journal.slots ≤ self.old.journal.used → self.new.journal.selector ≡ other_selector self.old.journal.selector) }
+        ensures full { OnErr result (self.old.journal.slots ≤ self.old.journal.used) }
         ensures room { OnOk result (self.new.journal.used < self.new.journal.slots) }
         ensures same { OnErr result (self.new ≡ self.old) }
         ensures time { time_of self.new.registry ≡ time_of self.old.registry }
@@ -139,6 +154,7 @@ impl Ledger {
             → Represents self.new settings history (kept (number_remembered self.old.registry) (time_of self.old.registry) entries)
             × (RestsWith (D.media disk.old) (journal.Represents self.old.journal settings entries)
             → RestsWith (D.media disk.new) (journal.Represents self.new.journal settings (kept (number_remembered self.old.registry) (time_of self.old.registry) entries)))) }
+        ensures half { OnOk result (self.new.journal.selector ≡ other_selector self.old.journal.selector) }
         ensures room { OnOk result (self.new.journal.used < self.new.journal.slots) }
         ensures same { OnErr result (self.new ≡ self.old) }
         ensures time { time_of self.new.registry ≡ time_of self.old.registry }
@@ -168,6 +184,7 @@ impl Ledger {
             → Represents self.new settings (history ++ staged ∷ []) (entries ++ staged ∷ [])
             × (RestsWith (D.media disk.old) (journal.Represents self.old.journal settings entries)
             → RestsWith (D.media disk.new) (journal.Represents self.new.journal settings (entries ++ staged ∷ [])))) }
+        ensures next { OnOk result (self.new.journal ≡ record self.old.journal { used = self.old.journal.used + 1 }) }
         ensures same { OnErr result (self.new ≡ self.old) }
         ensures time { OnOk result (time_of self.new.registry ≡ staged.time) }
         ensures slots { self.new.journal.slots ≡ self.old.journal.slots }

@@ -1,10 +1,12 @@
-use Rattle.std.proofs.Common.{◌≡◌, ◌∙◌, ℕ, ap, true, [], ◌∷◌, ◌++◌, sym, subst}
+use Rattle.std.proofs.Common.{◌≡◌, ◌∙◌, ◌+◌, ℕ, ap, true, [], ◌∷◌, ◌++◌, sym, subst, arith}
 use Rattle.dots_host.specs.Causes.{HasCause}
-use Rattle.dots_disk.specs.Becoming.{Leaves}
+use Rattle.dots_disk.specs.Becoming.{Leaves, RestsWith}
 use Rattle.dots_registry.specs.RegistryValues.{time_of, number_remembered}
 use Rattle.slot_store.proofs.Steps.{leaves_then}
-use Rattle.dots_ledger.specs.LedgerValues.{LedgerValue, Represents, joins_at}
-use Rattle.dots_ledger.specs.Crashes.{HoldsEither}
+use Rattle.slot_store.specs.StoreValues.{JournalValue}
+use Rattle.slot_journal.specs.DiskEntries as journal
+use Rattle.dots_ledger.specs.LedgerValues.{LedgerValue, Represents, joins_at, once_free}
+use Rattle.dots_ledger.specs.Crashes.{HoldsEither, HoldsOne}
 use Rattle.dots_ledger.proofs.Answering.{ok_as, err_as}
 use Rattle.dots_ledger.proofs.Images.{leaves_compacting, leaves_appending}
 use Rattle.dots_ledger.proofs.ledger.Ledger.accept.Goals as goal
@@ -16,8 +18,8 @@ append-requires-clause-can g c =
     record {
       settings = can.settings;
       history = can.history;
-      entries = made.0;
-      represents = made.1;
+      entries = once_free c.args.self.now can.entries;
+      represents = made.0;
       joins = subst (λ (t : ℕ). joins_at can.settings t can.history c.args.staged ≡ true) (sym c.make_room.ensures.time) can.joins;
     }
 
@@ -35,6 +37,10 @@ returns-in-Err g c = record {
       represents
       (c.make_room.ensures.moments settings history entries represents rests);
   accepted = tt;
+  next = tt;
+  appends = λ free. let full = c.in-Err.ensures.full in absurd (omega (arith, free, full));
+  half = tt;
+  entries = tt;
   refused = λ settings history entries represents. (entries, subst (λ (l : LedgerValue). Represents l settings history entries) (sym c.in-Err.ensures.same) represents);
   time = tt;
   still = c.make_room.ensures.time;
@@ -72,11 +78,11 @@ returns-in-Ok g c = record {
       c.make_room.new.self
       settings
       history
-      made.0
+      (once_free c.args.self.now entries)
       c.args.staged
-      made.1
+      made.0
       (subst (λ (u : ℕ). joins_at settings u history c.args.staged ≡ true) (sym c.make_room.ensures.time) joins)
-      (c.append.ensures.moments settings history made.0 made.1 (made.2 rests)))));
+      (c.append.ensures.moments settings history (once_free c.args.self.now entries) made.0 (made.1 rests)))));
   accepted =
       ok_as
       c.append.result
@@ -87,10 +93,10 @@ returns-in-Ok g c = record {
       let end = goes
       settings
       history
+      (once_free c.args.self.now entries)
       made.0
-      made.1
       (subst (λ (u : ℕ). joins_at settings u history c.args.staged ≡ true) (sym c.make_room.ensures.time) joins) in
-      (made.0 ++ c.args.staged ∷ [], end.0, λ rests. end.1 (made.2 rests)))
+      (once_free c.args.self.now entries ++ c.args.staged ∷ [], end.0, λ rests. end.1 (made.1 rests)))
       c.append.ensures.appended;
   refused =
       err_as
@@ -98,9 +104,47 @@ returns-in-Ok g c = record {
       _
       _
       (λ same settings history entries represents.
-      let made = c.in-Ok.ensures.compacted settings history entries represents in
-      (made.0, subst (λ (l : LedgerValue). Represents l settings history made.0) (sym same) made.1))
+      let made = c.in-Ok.ensures.compacted settings history entries represents in (
+        once_free c.args.self.now entries,
+        subst (λ (l : LedgerValue). Represents l settings history (once_free c.args.self.now entries)) (sym same) made.0,
+      ))
       c.append.ensures.same;
+  next = ok_as
+      c.append.result
+      _
+      _
+      (λ next free. next ∙ ap (λ (l : LedgerValue). record l.journal { used = l.journal.used + 1 }) (c.make_room.ensures.free free).0)
+      c.append.ensures.next;
+  appends = λ free settings history entries represents rests.
+      let still = c.make_room.ensures.free free in
+      subst
+      (λ media. Leaves media (g.D.Disk.media c.append.new.disk) (HoldsOne settings entries (entries ++ c.args.staged ∷ [])))
+      still.1
+      (c.append.ensures.moments settings history entries
+      (subst (λ (l : LedgerValue). Represents l settings history entries) (sym still.0) represents)
+      (subst
+      (λ media. RestsWith media (journal.Represents c.make_room.new.self.journal settings entries))
+      (sym still.1)
+      (subst (λ (l : LedgerValue). RestsWith (g.D.Disk.media c.args.disk.now) (journal.Represents l.journal settings entries)) (sym still.0) rests)));
+  half = ok_as
+      c.append.result
+      _
+      _
+      (λ next full. ap (λ (j : JournalValue). j.selector) next ∙ c.in-Ok.ensures.half full)
+      c.append.ensures.next;
+  entries = ok_as
+      c.append.result
+      _
+      _
+      (λ goes settings history entries represents joins.
+      let made = c.in-Ok.ensures.compacted settings history entries represents in
+      (goes
+      settings
+      history
+      (once_free c.args.self.now entries)
+      made.0
+      (subst (λ (u : ℕ). joins_at settings u history c.args.staged ≡ true) (sym c.make_room.ensures.time) joins)).0)
+      c.append.ensures.appended;
   time = c.append.ensures.time;
   still = err_as c.append.result _ _ (λ same. ap (λ (l : LedgerValue). time_of l.registry) same ∙ c.make_room.ensures.time) c.append.ensures.same;
   slots = c.append.ensures.slots ∙ c.make_room.ensures.slots;

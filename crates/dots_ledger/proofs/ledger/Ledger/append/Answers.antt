@@ -1,4 +1,4 @@
-use Rattle.std.proofs.Common.{◌≡◌, [], ◌∷◌, ◌++◌, true, sym, ap, subst, ◌∙◌, arith}
+use Rattle.std.proofs.Common.{◌≡◌, ◌+◌, [], ◌∷◌, ◌++◌, true, sym, ap, subst, ◌∙◌, arith}
 use Rattle.std.specs.Prelude.{IsTrue}
 use Rattle.dots_disk.specs.Becoming.{Leaves, RestsWith}
 use Rattle.dots_history.specs.declared.entry.Entry.{Entry}
@@ -97,6 +97,9 @@ returns-in-Ok g c = record {
         (c.in-Ok.ensures.rests settings entries
         (subst (λ (l : LedgerValue). RestsWith (g.D.Disk.media c.args.disk.now) (journal.Represents l.journal settings entries)) (sym c.self.view_is) rests)),
   );
+  next =
+      c.in-Ok.ensures.next
+      ∙ ap (λ (l : LedgerValue). record l.journal { used = l.journal.used + 1 }) c.self.view_is;
   same = tt;
   time = c.apply.ensures.time;
   slots = ap (λ (j : JournalValue). j.slots) c.in-Ok.ensures.next ∙ ap (λ (l : LedgerValue). l.journal.slots) c.self.view_is;
@@ -123,6 +126,7 @@ returns-in-Err g c =
           (c.append.ensures.moments settings entries
           (subst (λ (l : LedgerValue). RestsWith (g.D.Disk.media c.args.disk.now) (journal.Represents l.journal settings entries)) (sym c.self.view_is) rests));
       appended = tt;
+      next = tt;
       same = same;
       time = tt;
       slots = ap (λ (l : LedgerValue). l.journal.slots) same;

@@ -7,7 +7,7 @@ use Rattle.dots_history.specs.Slots.{Slots, Rises}
 use Rattle.dots_registry.specs.Kept.{filed, named_slots}
 use Rattle.dots_registry.proofs.Numbering.{filed_rise, named_rise}
 use Rattle.dots_registry.specs.RegistryValues.{RegistryValue, time_of, number_remembered}
-use Rattle.slot_store.specs.Copying.{AreSlots}
+use Rattle.slot_store.specs.Copying.{AreSlots, other_selector}
 use Rattle.slot_store.specs.StoreValues.{JournalValue}
 use Rattle.slot_journal.specs.DiskEntries as journal
 use Rattle.dots_ledger.specs.LedgerValues.{LedgerValue, Represents, RepresentsSome}
@@ -115,6 +115,7 @@ returns-in_err-compact g c =
           (c.compact.ensures.moments settings entries
           (subst (λ (l : LedgerValue). RestsWith (g.D.Disk.media c.args.disk.now) (journal.Represents l.journal settings entries)) (sym c.self.view_is) rests)));
       compacted = rw p.1 tt;
+      half = rw p.1 tt;
       room = rw p.1 tt;
       same = rw p.1 same;
       time = ap (λ (l : LedgerValue). time_of l.registry) c.self.view_is;
@@ -177,6 +178,9 @@ returns g c =
                 (c.in_ok-compact.ensures.rests settings entries
                 (subst (λ (l : LedgerValue). RestsWith (g.D.Disk.media c.args.disk.now) (journal.Represents l.journal settings entries)) (sym c.self.view_is) rests))),
           );
+      half =
+          ap (λ (j : JournalValue). j.selector) c.in_ok-compact.ensures.next
+          ∙ ap (λ (l : LedgerValue). other_selector l.journal.selector) c.self.view_is;
       room = omega (arith, used, slots, few, free, items);
       same = tt;
       time = c.moved.ensures.time ∙ ap (λ (l : LedgerValue). time_of l.registry) c.self.view_is;
