@@ -17,6 +17,7 @@ use Rattle.dots_machine.specs.Answering.{AreBytes, IsHandedIn, SaysUnavailable, 
 use Rattle.dots_machine.specs.Handlings.{Handling, IsHandling, EachHandling, handlings_of}
 use Rattle.dots_machine.specs.Adding.{AcceptsDatagram, Accepts, AddsExactly}
 use Rattle.dots_machine.proofs.OneAnswer.{one_verdict, says}
+use Rattle.dots_machine.proofs.Hearing.{hears_history, same_history_after}
 use Rattle.dots_machine.proofs.Handlings.{by_handlings, each_weaker}
 
 module _ (settings : SettingsValue) (old : State) (peer : ℕ) (datagram : List ℕ) where
@@ -43,7 +44,7 @@ module _ (settings : SettingsValue) (old : State) (peer : ℕ) (datagram : List 
         by_verdicts : (a.0 ≡ verdict.Accept accepts.reply entry)
             ⊎ (LacksMemory datagram (is_gateway (role_of settings peer)) a.0 ⊎ LacksMemory datagram (is_gateway (role_of settings peer)) (verdict.Accept accepts.reply entry))
             → (new.history ≡ old.history ++ entry ∷ []) ⊎ SaysUnavailable peer datagram sends
-        by_verdicts (inl same) = inl (ap (λ state. state.history) (a.3 ∙ ap (λ v. after v old) same))
+        by_verdicts (inl same) = inl (ap (λ (state : State). state.history) (a.5 ∙ ap (λ v. after v a.3) same) ∙ ap (λ es. es ++ entry ∷ []) (hears_history settings peer datagram old a.3 a.4))
         by_verdicts (inr (inl lacks)) = inr (says settings old peer datagram are a.0 sends a.2 lacks)
         by_verdicts (inr (inr lacks)) = absurd (cc lacks.answer)
 
@@ -53,13 +54,21 @@ module _ (settings : SettingsValue) (old : State) (at : ℕ) (new : State) where
 
   added_by : (what : Event) (owed : List (State × OwnedOut)) → Step settings old what at owed new → AddsOne what
   added_by (event.Datagram peer datagram) owed step =
-      let a = step.2 in subst (λ state. Adds settings (later old at) peer datagram state) (sym a.3) (adds_so settings (later old at) peer datagram a.0 a.1)
+      let a = step.2 in
+      let now = later old at in
+      by_history (sym (ap (λ (state : State). state.history) a.5 ∙ same_history_after a.0 a.3 now (hears_history settings peer datagram now a.3 a.4)))
+      (adds_so settings now peer datagram a.0 a.1)
+    where
+      by_history : {before : List Entry} → before ≡ new.history → (before ≡ old.history) ⊎ ((entry : Entry) × (before ≡ old.history ++ entry ∷ []) × AcceptsDatagram settings (later old at) peer datagram entry)
+          → AddsOne (event.Datagram peer datagram)
+      by_history same (inl is) = inl (sym same ∙ is)
+      by_history same (inr (entry, is, accepts)) = inr (entry, sym same ∙ is, accepts)
   added_by event.End owed step = inl (ap (λ state. state.history) step.1)
   added_by event.Failed owed step = inl (ap (λ state. state.history) step.1)
   added_by (event.Opened c p) owed step = inl (ap (λ state. state.history) step.1)
   added_by (event.Piece c p) owed step = inl (ap (λ state. state.history) step.1)
   added_by (event.Closed c) owed step = inl (ap (λ state. state.history) step.1)
-  added_by event.Tick owed step = inl (ap (λ state. state.history) step.1)
+  added_by event.Tick owed step = inl (ap (λ (state : State). state.history) step.2.1)
   added_by event.Restart owed step = inl (ap (λ state. state.history) step.1)
 
   accepted_by : (what : Event) (owed : List (State × OwnedOut)) → Step settings old what at owed new → IsHandedIn what → (entry : Entry) → Accepts settings (later old at) what entry

@@ -10,7 +10,7 @@ use Rattle.dots_host.specs.Runs.{outs_of, each_telling}
 use Rattle.dots_host.proofs.RunLemmas.{outs_back}
 use Rattle.dots_settings.specs.Settings.{SettingsValue}
 use Rattle.dots_settings.specs.Lookups.{role_of, prefixes_of}
-use Rattle.dots_history.specs.Histories.{alone}
+use Rattle.dots_history.specs.Histories.{alone, held}
 use Rattle.dots_laws.proofs.Alone.{replies_alone}
 use Rattle.dots_heads.specs.declared.request.Content.{Content}
 use Rattle.dots_keys.specs.declared.request.Request.{Request}
@@ -26,29 +26,34 @@ use Rattle.dots_machine.specs.Verdict.{Verdict}
 use Rattle.dots_machine.specs.declared.verdict.Verdict.TheVariants as verdict
 use Rattle.dots_machine.specs.Domains.{domain_for, session_domain}
 use Rattle.dots_machine.specs.Targets.{scope_fault}
-use Rattle.dots_machine.specs.Replies.{not_implemented}
 use Rattle.dots_machine.specs.MessageRepeats.{Sent, sent_for, unless_repeated}
 use Rattle.dots_machine.specs.Mitigations.{sent_by, request_of, judged, unless_faulty, put_answer, is_taken, delete_by, delete_answer, get_by, get_answer, client_for}
-use Rattle.dots_machine.specs.Machine.{State, later, DecidesRequest, Rules, Decides, by_silence, by_rules, for_want_of_memory, sends_of, after, Answers, Step, facts_in}
-use Rattle.dots_machine.specs.Apart.{SameFor, domain_of, AsksFor, by_datagram, StaysApart, elsewhere, same_step, restarts}
+use Rattle.dots_machine.specs.Machine.{State, later, DecidesRequest, Rules, Decides, by_silence, by_rules, for_want_of_memory, sends_of, after, Hears, Answers, beating, Step, facts_in}
+use Rattle.dots_machine.specs.Apart.{SameFor, domain_of, AsksFor, by_datagram, StaysApart, elsewhere, same_step, ticks, restarts}
+use Rattle.dots_laws.specs.Held.{config_of}
+use Rattle.dots_keys.specs.declared.request.ConfigBody.{ConfigBody}
+use Rattle.session_core.specs.Negotiating.{negotiated}
+use Rattle.dots_notices.specs.Beats.{beats, after_beats}
+use Rattle.dots_machine.specs.Sessions.{sid_of, is_held}
 use Rattle.dots_machine.specs.Facts.{Facts, stands_as, facts_of}
-use Rattle.dots_machine.specs.Deciding.{in_domain, with_mid, put_in, put_for, delete_in, delete_for, get_for, config_for, answer_to, asks_for}
+use Rattle.dots_machine.specs.Deciding.{in_domain, with_mid, put_in, put_for, delete_in, delete_for, get_for, config_answer, put_config_for, clear_answer, delete_config_for, config_view, get_config_for, answer_to, asks_for}
 use Rattle.dots_machine.proofs.Verdicts.{request_valued, request_there, ruled}
-use Rattle.dots_machine.proofs.Outcomes.{AcceptsWell, puts_accept, deletes_accept, gets_accept, configs_accept}
+use Rattle.dots_machine.proofs.Hearing.{hears_history, hears_time, hears_too, same_history_after}
+use Rattle.dots_machine.proofs.Outcomes.{AcceptsWell, puts_accept, deletes_accept, gets_accept, put_configs_accept, delete_configs_accept, get_configs_accept}
+
+-- whatever is carried out on both leaves the domain the same
+same_after : (domain : ℕ) (one other : State) → SameFor domain one other → (v : Verdict) → SameFor domain (after v one) (after v other)
+same_after domain one other same verdict.Silent = same
+same_after domain one other same (verdict.Reply reply) = same
+same_after domain one other same (verdict.LongReply reply) = same
+same_after domain one other same (verdict.Accept reply entry) = record {
+  time = same.time;
+  entries = filter-append (λ e. e.domain == domain) one.history (entry ∷ []) ∙ ap (λ entries. entries ++ alone domain (entry ∷ [])) same.entries
+      ∙ sym (filter-append (λ e. e.domain == domain) other.history (entry ∷ []));
+}
 
 module _ (settings : SettingsValue) where
   module _ (domain : ℕ) (one other : State) (same : SameFor domain one other) where
-    -- whatever is carried out on both leaves the domain the same
-    same_after : (v : Verdict) → SameFor domain (after v one) (after v other)
-    same_after verdict.Silent = same
-    same_after (verdict.Reply reply) = same
-    same_after (verdict.LongReply reply) = same
-    same_after (verdict.Accept reply entry) = record {
-      time = same.time;
-      entries = filter-append (λ e. e.domain == domain) one.history (entry ∷ []) ∙ ap (λ entries. entries ++ alone domain (entry ∷ [])) same.entries
-          ∙ sym (filter-append (λ e. e.domain == domain) other.history (entry ∷ []));
-    }
-
     -- the verdict leaves the entries of the domain as they were
     abbrev pub Untouched : Verdict → Type 0
     Untouched v = alone domain (after v one).history ≡ alone domain one.history
@@ -84,8 +89,24 @@ module _ (settings : SettingsValue) where
     repeated_same : (sent : Sent) → sent.domain ≡ domain → (known one).repeated sent ≡ (known other).repeated sent
     repeated_same sent here = ap (λ t. (facts_of settings t one.history).repeated sent) same.time ∙ repeated_there sent here
 
-    config_same : (peer : ℕ) (x : Exchange) → config_for (facts_in settings one) peer x domain ≡ config_for (facts_in settings other) peer x domain
-    config_same peer x = ap (λ o. unless_repeated o (verdict.Reply (not_implemented x))) (repeated_same (sent_for peer x domain) refl)
+    configured_same : (peer : ℕ) → (known one).configured domain peer ≡ (known other).configured domain peer
+    configured_same peer = ap (λ es. config_of peer (held es)) same.entries
+
+    put_config_same : (peer : ℕ) (x : Exchange) (sid : ℕ) (body : ConfigBody)
+        → put_config_for (facts_in settings one) peer x sid body domain ≡ put_config_for (facts_in settings other) peer x sid body domain
+    put_config_same peer x sid body =
+        let mine = (known one).configured domain peer in
+        ap (λ o. unless_repeated o (config_answer one.time peer domain x sid (is_held sid mine) (negotiated (sid_of mine) sid body))) (repeated_same (sent_for peer x domain) refl)
+        ∙ ap (λ t. unless_repeated ((known other).repeated (sent_for peer x domain)) (config_answer t peer domain x sid (is_held sid mine) (negotiated (sid_of mine) sid body))) same.time
+        ∙ ap (λ c. unless_repeated ((known other).repeated (sent_for peer x domain)) (config_answer other.time peer domain x sid (is_held sid c) (negotiated (sid_of c) sid body)))
+        (configured_same peer)
+
+    delete_config_same : (peer : ℕ) (x : Exchange) (sid : ℕ) → delete_config_for (facts_in settings one) peer x sid domain ≡ delete_config_for (facts_in settings other) peer x sid domain
+    delete_config_same peer x sid =
+        let mine = (known one).configured domain peer in
+        ap (λ o. unless_repeated o (clear_answer one.time peer domain x (is_held sid mine))) (repeated_same (sent_for peer x domain) refl)
+        ∙ ap (λ t. unless_repeated ((known other).repeated (sent_for peer x domain)) (clear_answer t peer domain x (is_held sid mine))) same.time
+        ∙ ap (λ c. unless_repeated ((known other).repeated (sent_for peer x domain)) (clear_answer other.time peer domain x (is_held sid c))) (configured_same peer)
 
     module _ (from : ClientRequest) (here : from.domain ≡ domain) where
       own : alone from.domain one.history ≡ alone from.domain other.history
@@ -159,12 +180,17 @@ module _ (settings : SettingsValue) where
         (delete_for (facts_in settings one) peer x path) (delete_for (facts_in settings other) peer x path) refl (deletes_accept settings (facts_in settings one) peer x path)
         (with_mid_same x path.mid _ _ (λ mid. delete_in_same (asks_for peer x path domain) refl mid))
     asked_apart peer x (request.PutConfig sid body) =
-        in_domain_apart peer x (request.PutConfig sid body) (session_domain (role_of settings peer)) (config_for (facts_in settings one) peer x) (config_for (facts_in settings other) peer x) refl
-        (configs_accept settings (facts_in settings one) peer x) (config_same peer x)
-    asked_apart peer x (request.GetConfig sid) = inr refl
+        in_domain_apart peer x (request.PutConfig sid body) (session_domain (role_of settings peer))
+        (put_config_for (facts_in settings one) peer x sid body) (put_config_for (facts_in settings other) peer x sid body) refl
+        (put_configs_accept settings (facts_in settings one) peer x sid body) (put_config_same peer x sid body)
+    asked_apart peer x (request.GetConfig sid) =
+        in_domain_apart peer x (request.GetConfig sid) (session_domain (role_of settings peer))
+        (get_config_for (facts_in settings one) peer x sid) (get_config_for (facts_in settings other) peer x sid) refl
+        (get_configs_accept settings (facts_in settings one) peer x sid) (ap (config_view x sid) (configured_same peer))
     asked_apart peer x (request.DeleteConfig sid) =
-        in_domain_apart peer x (request.DeleteConfig sid) (session_domain (role_of settings peer)) (config_for (facts_in settings one) peer x) (config_for (facts_in settings other) peer x) refl
-        (configs_accept settings (facts_in settings one) peer x) (config_same peer x)
+        in_domain_apart peer x (request.DeleteConfig sid) (session_domain (role_of settings peer))
+        (delete_config_for (facts_in settings one) peer x sid) (delete_config_for (facts_in settings other) peer x sid) refl
+        (delete_configs_accept settings (facts_in settings one) peer x sid) (delete_config_same peer x sid)
     asked_apart peer x (request.PutHeartbeat heard) = inr refl
 
     module _ (peer : ℕ) (datagram : List ℕ) (sends : List OwnedOut) (new : State) where
@@ -175,19 +201,36 @@ module _ (settings : SettingsValue) where
       AlsoThere = (last : State) × Answers settings other peer datagram sends last × SameFor domain new last
 
       -- the same verdict there
-      also_there : (v : Verdict) → sends ≡ sends_of v peer → new ≡ after v one → Decides settings other peer datagram v → AlsoThere
-      also_there v s k decides = (after v other, (v, decides, s, refl), subst (λ state. SameFor domain state (after v other)) (sym k) (same_after v))
+      also_there : (v : Verdict) (met : State) → sends ≡ sends_of v peer → Hears settings one peer datagram met → new ≡ after v met → Decides settings other peer datagram v → AlsoThere
+      also_there v met s hears k decides = (after v last, (v, decides, s, last, there.1, refl), subst (λ state. SameFor domain state (after v last)) (sym k) (same_after domain met last met_same v))
+        where
+          there : (last : State) × Hears settings other peer datagram last
+          there = hears_too settings peer datagram one other met hears
+
+          last : State
+          last = there.0
+
+          met_same : SameFor domain met last
+          met_same = record {
+            time = hears_time settings peer datagram one met hears ∙ same.time ∙ sym (hears_time settings peer datagram other last there.1);
+            entries = ap (alone domain) (hears_history settings peer datagram one met hears) ∙ same.entries ∙ sym (ap (alone domain) (hears_history settings peer datagram other last there.1));
+          }
 
       pub answered_apart : Answers settings one peer datagram sends new → ForAnother ⊎ AlsoThere
       answered_apart a = by_decision a.1
         where
+          history_is : new.history ≡ (after a.0 one).history
+          history_is = ap (λ (state : State). state.history) a.5 ∙ same_history_after a.0 a.3 one (hears_history settings peer datagram one a.3 a.4)
+
           by_decision : Decides settings one peer datagram a.0 → ForAnother ⊎ AlsoThere
-          by_decision (by_silence n is) = inr (also_there a.0 a.2 a.3 (by_silence n is))
-          by_decision (for_want_of_memory n lacks) = inr (also_there a.0 a.2 a.3 (for_want_of_memory n lacks))
+          by_decision (by_silence n is) = inr (also_there a.0 a.3 a.2 a.4 a.5 (by_silence n is))
+          by_decision (for_want_of_memory n lacks) = inr (also_there a.0 a.3 a.2 a.4 a.5 (for_want_of_memory n lacks))
+          by_decision (by_rules n (received.Unread d) got is) =
+              inr (also_there a.0 a.3 a.2 a.4 a.5 (by_rules n (received.Unread d) got (ruled settings other peer (received.Unread d) a.0 is.2)))
           by_decision (by_rules n (received.Dismissed d) got is) =
-              inr (also_there a.0 a.2 a.3 (by_rules n (received.Dismissed d) got (ruled settings other peer (received.Dismissed d) a.0 is.2)))
+              inr (also_there a.0 a.3 a.2 a.4 a.5 (by_rules n (received.Dismissed d) got (ruled settings other peer (received.Dismissed d) a.0 is.2)))
           by_decision (by_rules n (received.Refused x e) got is) =
-              inr (also_there a.0 a.2 a.3 (by_rules n (received.Refused x e) got (ruled settings other peer (received.Refused x e) a.0 is.2)))
+              inr (also_there a.0 a.3 a.2 a.4 a.5 (by_rules n (received.Refused x e) got (ruled settings other peer (received.Refused x e) a.0 is.2)))
           by_decision (by_rules n (received.Asked x r) got is) = joined (asked_apart peer x r)
             where
               there : answer_to settings (facts_in settings one) peer x r ≡ answer_to settings (facts_in settings other) peer x r → Rules settings other peer (received.Asked x r) a.0
@@ -195,8 +238,8 @@ module _ (settings : SettingsValue) where
 
               joined : Elsewhere r peer (answer_to settings (facts_in settings one) peer x r) ⊎ (answer_to settings (facts_in settings one) peer x r ≡ answer_to settings (facts_in settings other) peer x r) → ForAnother ⊎ AlsoThere
               joined (inl (another, there, found, none)) =
-                  inl (another, there, by_datagram peer datagram x r refl got found, ap (λ state. alone domain state.history) (a.3 ∙ ap (λ v. after v one) (request_valued settings one peer x r a.0 is)) ∙ none)
-              joined (inr alike) = inr (also_there a.0 a.2 a.3 (by_rules n (received.Asked x r) got (there alike)))
+                  inl (another, there, by_datagram peer datagram x r refl got found, ap (alone domain) (history_is ∙ ap (λ v. (after v one).history) (request_valued settings one peer x r a.0 is)) ∙ none)
+              joined (inr alike) = inr (also_there a.0 a.3 a.2 a.4 a.5 (by_rules n (received.Asked x r) got (there alike)))
 
   module _ (domain : ℕ) (old other : State) (same : SameFor domain old other) (at : ℕ) (new : State) where
     moved : SameFor domain (later old at) (later other at)
@@ -221,5 +264,14 @@ module _ (settings : SettingsValue) where
     step_apart (event.Opened c p) owed step = rests (event.Opened c p) owed (later other at) (step.0, refl) (subst (λ state. SameFor domain state (later other at)) (sym step.1) moved)
     step_apart (event.Piece c p) owed step = rests (event.Piece c p) owed (later other at) (step.0, refl) (subst (λ state. SameFor domain state (later other at)) (sym step.1) moved)
     step_apart (event.Closed c) owed step = rests (event.Closed c) owed (later other at) (step.0, refl) (subst (λ state. SameFor domain state (later other at)) (sym step.1) moved)
-    step_apart event.Tick owed step = rests event.Tick owed (later other at) (step.0, refl) (subst (λ state. SameFor domain state (later other at)) (sym step.1) moved)
+    step_apart event.Tick owed step =
+        let there = later other at in
+        let last : State = record there { contacts = after_beats (beating settings there) there.time there.contacts } in
+        let sends : List OwnedOut = beats (beating settings there) there.time there.contacts in
+        ticks refl (each_telling last sends) last (sends, refl, (refl, refl))
+        (record {
+          time = ap (λ (state : State). state.time) step.2.1 ∙ moved.time;
+          entries = ap (λ (state : State). alone domain state.history) step.2.1 ∙ moved.entries;
+        })
+        (ap (λ (state : State). alone domain state.history) step.2.1)
     step_apart event.Restart owed step = restarts refl (ap outs_of step.0) (ap (λ state. alone domain state.history) step.1)

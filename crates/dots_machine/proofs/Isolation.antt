@@ -30,10 +30,11 @@ use Rattle.dots_machine.specs.Machine.{State, afresh, later, is_stranger, Decide
 use Rattle.dots_machine.specs.Apart.{SameFor, domain_of, AsksFor, by_datagram}
 use Rattle.dots_machine.specs.Handlings.{Handling, IsHandling, EachHandling, handlings_of}
 use Rattle.dots_machine.specs.Isolation.{TakenUp, TakesUp, PassesBy, none_came, was_refused, lacked_memory, entries_of, Make, IsIsolated}
-use Rattle.dots_machine.specs.Deciding.{in_domain, put_for, delete_for, get_for, config_for, answer_to}
+use Rattle.dots_machine.specs.Deciding.{in_domain, put_for, delete_for, get_for, put_config_for, delete_config_for, get_config_for, answer_to}
 use Rattle.dots_machine.proofs.OneRequest.{Same, one, first_refused, second_refused, same_received}
-use Rattle.dots_machine.proofs.Outcomes.{AcceptsWell, IsRefusal, reject_refuses, puts_accept, deletes_accept, gets_accept, configs_accept, request_accepts}
+use Rattle.dots_machine.proofs.Outcomes.{AcceptsWell, IsRefusal, reject_refuses, puts_accept, deletes_accept, gets_accept, put_configs_accept, delete_configs_accept, get_configs_accept, request_accepts}
 use Rattle.dots_machine.proofs.Verdicts.{request_valued, request_there}
+use Rattle.dots_machine.proofs.Hearing.{hears_history, hears_time, same_history_after, same_time_after}
 use Rattle.dots_machine.proofs.Apart.{untouched, Elsewhere, asked_apart}
 use Rattle.dots_machine.proofs.Handlings.{by_handlings}
 
@@ -142,9 +143,10 @@ module _ (settings : SettingsValue) (domain : ℕ) (old : State) (handling : Han
             by_test true here = let same : d ≡ domain = grind (arith, nat_tests, here) in inl (at ∙ ap Some same)
             by_test false out = inr (λ asked. let same : d ≡ domain = some_same d domain (sym at ∙ asked) in both_ways (d == domain) out (grind (arith, nat_tests, same)))
 
-    module _ (sends : List OwnedOut) (sent : sends ≡ handling.sends) (decided : Verdict) (told : sends ≡ sends_of decided peer) (is_after : new ≡ after decided now) where
+    module _ (sends : List OwnedOut) (sent : sends ≡ handling.sends) (decided : Verdict) (told : sends ≡ sends_of decided peer)
+        (history_is : new.history ≡ (after decided now).history) (time_is : new.time ≡ (after decided now).time) where
       unchanged : after decided now ≡ now → alone domain new.history ≡ alone domain old.history
-      unchanged same = ap (λ (state : State). alone domain state.history) (is_after ∙ same)
+      unchanged same = ap (alone domain) (history_is ∙ ap (λ (state : State). state.history) same)
 
       -- the verdict leaves the domain's entries as they were
       abbrev Left : Verdict → Type 0
@@ -152,7 +154,7 @@ module _ (settings : SettingsValue) (domain : ℕ) (old : State) (handling : Han
 
       -- not for the domain
       not_taken : (x : Exchange) (r : Request) → (IsAsked r → ⊥) → decided ≡ answer_to settings (facts_in settings now) peer x r → alone domain new.history ≡ alone domain old.history
-      not_taken x r never is = ap (λ (state : State). alone domain state.history) (is_after ∙ ap (λ v. after v now) is) ∙ left r never
+      not_taken x r never is = ap (alone domain) (history_is ∙ ap (λ v. (after v now).history) is) ∙ left r never
         where
           same_now : SameFor domain now now
           same_now = record { time = refl; entries = refl }
@@ -168,9 +170,12 @@ module _ (settings : SettingsValue) (domain : ℕ) (old : State) (handling : Han
               in_domain_left (domain_for settings who path.cdid) (get_for (facts_in settings now) peer x path content) (gets_accept settings (facts_in settings now) peer x path content) never
           left (request.DeleteMitigation path) never =
               in_domain_left (domain_for settings who path.cdid) (delete_for (facts_in settings now) peer x path) (deletes_accept settings (facts_in settings now) peer x path) never
-          left (request.PutConfig sid body) never = in_domain_left (session_domain who) (config_for (facts_in settings now) peer x) (configs_accept settings (facts_in settings now) peer x) never
-          left (request.GetConfig sid) never = refl
-          left (request.DeleteConfig sid) never = in_domain_left (session_domain who) (config_for (facts_in settings now) peer x) (configs_accept settings (facts_in settings now) peer x) never
+          left (request.PutConfig sid body) never =
+              in_domain_left (session_domain who) (put_config_for (facts_in settings now) peer x sid body) (put_configs_accept settings (facts_in settings now) peer x sid body) never
+          left (request.GetConfig sid) never =
+              in_domain_left (session_domain who) (get_config_for (facts_in settings now) peer x sid) (get_configs_accept settings (facts_in settings now) peer x sid) never
+          left (request.DeleteConfig sid) never =
+              in_domain_left (session_domain who) (delete_config_for (facts_in settings now) peer x sid) (delete_configs_accept settings (facts_in settings now) peer x sid) never
           left (request.PutHeartbeat heard) never = refl
 
       time_kept : (v : Verdict) → (after v now).time ≡ now.time
@@ -187,11 +192,11 @@ module _ (settings : SettingsValue) (domain : ℕ) (old : State) (handling : Han
         decided,
         subst (DecidesRequest settings own peer x r) (sym (is ∙ alike)) (request_there settings own peer x r),
         sym sent ∙ told,
-        ap (λ (state : State). alone domain state.history) is_after ∙ added decided (well_so is),
+        ap (alone domain) history_is ∙ added decided (well_so is),
       )
         where
           same : SameFor domain now own
-          same = record { time = sym (ap (λ (state : State). state.time) is_after ∙ time_kept decided); entries = alone_twice domain old.history }
+          same = record { time = sym (time_is ∙ time_kept decided); entries = alone_twice domain old.history }
 
           alike : answer_to settings (facts_in settings now) peer x r ≡ answer_to settings (facts_in settings own) peer x r
           alike = by_apart (asked_apart settings domain now own same peer x r)
@@ -229,7 +234,14 @@ module _ (settings : SettingsValue) (domain : ℕ) (old : State) (handling : Han
       another_never y q out x r asked (first_refused m e is) = cc is
       another_never y q out x r asked (second_refused m e is) = cc is
 
+      unread_never : (d : Dismissal) (x : Exchange) (r : Request) → IsAsked r → Same (received.Unread d) (received.Asked x r) → ⊥
+      unread_never d x r asked (one e) = cc e
+      unread_never d x r asked (first_refused m e is) = cc is
+      unread_never d x r asked (second_refused m e is) = cc is
+
       by_received : (got : Received) → IsReceived datagram (is_gateway who) got → Rules settings now peer got decided → Taken ⊎ Passed
+      by_received (received.Unread d) got is =
+          inr (never_asked (received.Unread d) (unread_never d) got, unchanged (ap (λ v. after v now) is.2 ∙ dismissal_adds_nothing d now))
       by_received (received.Dismissed d) got is =
           inr (never_asked (received.Dismissed d) (dismissed_never d) got, unchanged (ap (λ v. after v now) is.2 ∙ dismissal_adds_nothing d now))
       by_received (received.Refused x e) got is =
@@ -260,13 +272,16 @@ module _ (settings : SettingsValue) (domain : ℕ) (old : State) (handling : Han
   by_event : (what : Event) (owed : List (State × OwnedOut)) → handling.what ≡ what → outs_of owed ≡ handling.sends → Step settings old what handling.at owed new → Taken ⊎ Passed
   by_event (event.Datagram peer datagram) owed is sent step =
       let a = step.2 in
-      by_decision peer datagram is step.0 (sym (ap outs_of step.1 ∙ outs_back new step.0) ∙ sent) a.0 a.2 a.3 a.1
+      by_decision peer datagram is step.0 (sym (ap outs_of step.1 ∙ outs_back new step.0) ∙ sent) a.0 a.2
+      (ap (λ (state : State). state.history) a.5 ∙ same_history_after a.0 a.3 now (hears_history settings peer datagram now a.3 a.4))
+      (ap (λ (state : State). state.time) a.5 ∙ same_time_after a.0 a.3 now (hears_time settings peer datagram now a.3 a.4))
+      a.1
   by_event event.End owed is sent step = nothing_asked event.End is (λ p d e. cc e) (ap (λ (state : State). state.history) step.1)
   by_event event.Failed owed is sent step = nothing_asked event.Failed is (λ p d e. cc e) (ap (λ (state : State). state.history) step.1)
   by_event (event.Opened c p) owed is sent step = nothing_asked (event.Opened c p) is (λ p d e. cc e) (ap (λ (state : State). state.history) step.1)
   by_event (event.Piece c p) owed is sent step = nothing_asked (event.Piece c p) is (λ p d e. cc e) (ap (λ (state : State). state.history) step.1)
   by_event (event.Closed c) owed is sent step = nothing_asked (event.Closed c) is (λ p d e. cc e) (ap (λ (state : State). state.history) step.1)
-  by_event event.Tick owed is sent step = nothing_asked event.Tick is (λ p d e. cc e) (ap (λ (state : State). state.history) step.1)
+  by_event event.Tick owed is sent step = nothing_asked event.Tick is (λ p d e. cc e) (ap (λ (state : State). state.history) step.2.1)
   by_event event.Restart owed is sent step = nothing_asked event.Restart is (λ p d e. cc e) (ap (λ (state : State). state.history) step.1)
 
   pub one_handling_isolated : IsHandling settings old handling new → Taken ⊎ Passed

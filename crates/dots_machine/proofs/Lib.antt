@@ -6,6 +6,7 @@ pub mod OneState
 pub mod RepeatAnswers
 pub mod Outcomes
 pub mod Verdicts
+pub mod Hearing
 pub mod Handlings
 pub mod Adding
 pub mod Isolation

@@ -20,6 +20,7 @@ use Rattle.dots_machine.specs.Machine.{State, later, restarted, is_stranger, Lac
 use Rattle.dots_machine.specs.Answering.{AreBytes, IsHandedIn, SaysUnavailable, IsUnavailable}
 use Rattle.dots_machine.proofs.OneRequest.{one_received}
 use Rattle.dots_machine.proofs.Verdicts.{valued}
+use Rattle.dots_machine.proofs.Hearing.{hears_once}
 
 -- ---- the payload is a part of the datagram
 
@@ -82,7 +83,10 @@ module _ (settings : SettingsValue) (state : State) (peer : ℕ) (datagram : Lis
     where
       by_verdicts : (a.0 ≡ b.0) ⊎ (LacksMemory datagram gateway a.0 ⊎ LacksMemory datagram gateway b.0)
           → ((sends ≡ others) × (new ≡ last)) ⊎ (SaysUnavailable peer datagram sends ⊎ SaysUnavailable peer datagram others)
-      by_verdicts (inl same) = inl (a.2 ∙ ap (λ v. sends_of v peer) same ∙ sym b.2, a.3 ∙ ap (λ v. after v state) same ∙ sym b.3)
+      by_verdicts (inl same) = inl (
+        a.2 ∙ ap (λ v. sends_of v peer) same ∙ sym b.2,
+        a.5 ∙ ap (λ v. after v a.3) same ∙ ap (after b.0) (hears_once settings peer datagram state a.3 b.3 a.4 b.4) ∙ sym b.5,
+      )
       by_verdicts (inr (inl lacks)) = inr (inl (says a.0 sends a.2 lacks))
       by_verdicts (inr (inr lacks)) = inr (inr (says b.0 others b.2 lacks))
 
@@ -106,5 +110,7 @@ one_answer settings old event.Failed at owed others new last are a b = rests owe
 one_answer settings old (event.Opened c p) at owed others new last are a b = rests owed others new last (later old at) a b
 one_answer settings old (event.Piece c p) at owed others new last are a b = rests owed others new last (later old at) a b
 one_answer settings old (event.Closed c) at owed others new last are a b = rests owed others new last (later old at) a b
-one_answer settings old event.Tick at owed others new last are a b = rests owed others new last (later old at) a b
+one_answer settings old event.Tick at owed others new last are a b =
+    let state : new ≡ last = a.2.1 ∙ sym b.2.1 in
+    inl (a.1 ∙ ap (each_telling new) (a.2.0 ∙ sym b.2.0) ∙ ap (λ s. each_telling s b.0) state ∙ sym b.1, state)
 one_answer settings old event.Restart at owed others new last are a b = rests owed others new last (restarted settings old at) a b

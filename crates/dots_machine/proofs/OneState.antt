@@ -15,8 +15,9 @@ use Rattle.dots_machine.specs.declared.verdict.Verdict.TheVariants as verdict
 use Rattle.dots_machine.specs.Domains.{is_gateway}
 use Rattle.dots_machine.specs.Exchanges.{exchange_in}
 use Rattle.dots_machine.specs.Replies.{unavailable}
-use Rattle.dots_machine.specs.Machine.{State, later, Decides, by_silence, by_rules, for_want_of_memory, sends_of, after, Answers, Step, facts_in, rules_say}
+use Rattle.dots_machine.specs.Machine.{State, later, Decides, by_silence, by_rules, for_want_of_memory, sends_of, after, Answers, Beats, Step, facts_in, rules_say}
 use Rattle.dots_machine.proofs.Verdicts.{valued}
+use Rattle.dots_machine.proofs.Hearing.{hears_once}
 use Rattle.dots_machine.proofs.OneRequest.{Same, one, first_refused, second_refused, same_received}
 use Rattle.dots_machine.proofs.Outcomes.{code_of, is_success, IsAccept, IsRefusal, SucceedsWell, reject_refuses, succeeds}
 
@@ -77,22 +78,22 @@ module _ (settings : SettingsValue) (state : State) (peer : ℕ) (datagram : Lis
           absurd (refusal_sends w peer (subst IsRefusal (sym (second ∙ ap (rules_say settings (facts_in settings state) peer) refused)) (reject_refuses _ e)) (subst SendsSuccess same (accepts_well v (by_rules n got received is) a)))
 
   -- what changes nothing leaves the state
-  by_verdicts : (v w : Verdict) → Decides settings state peer datagram v → Decides settings state peer datagram w → sends_of v peer ≡ sends_of w peer → after v state ≡ after w state
-  by_verdicts (verdict.Accept reply entry) w d e same = ap (λ v. after v state) (one_accept (verdict.Accept reply entry) w d e same tt)
-  by_verdicts v (verdict.Accept reply entry) d e same = sym (ap (λ v. after v state) (one_accept (verdict.Accept reply entry) v e d (sym same) tt))
-  by_verdicts verdict.Silent verdict.Silent d e same = refl
-  by_verdicts verdict.Silent (verdict.Reply r) d e same = refl
-  by_verdicts verdict.Silent (verdict.LongReply r) d e same = refl
-  by_verdicts (verdict.Reply q) verdict.Silent d e same = refl
-  by_verdicts (verdict.Reply q) (verdict.Reply r) d e same = refl
-  by_verdicts (verdict.Reply q) (verdict.LongReply r) d e same = refl
-  by_verdicts (verdict.LongReply q) verdict.Silent d e same = refl
-  by_verdicts (verdict.LongReply q) (verdict.Reply r) d e same = refl
-  by_verdicts (verdict.LongReply q) (verdict.LongReply r) d e same = refl
+  by_verdicts : (met : State) (v w : Verdict) → Decides settings state peer datagram v → Decides settings state peer datagram w → sends_of v peer ≡ sends_of w peer → after v met ≡ after w met
+  by_verdicts met (verdict.Accept reply entry) w d e same = ap (λ v. after v met) (one_accept (verdict.Accept reply entry) w d e same tt)
+  by_verdicts met v (verdict.Accept reply entry) d e same = sym (ap (λ v. after v met) (one_accept (verdict.Accept reply entry) v e d (sym same) tt))
+  by_verdicts met verdict.Silent verdict.Silent d e same = refl
+  by_verdicts met verdict.Silent (verdict.Reply r) d e same = refl
+  by_verdicts met verdict.Silent (verdict.LongReply r) d e same = refl
+  by_verdicts met (verdict.Reply q) verdict.Silent d e same = refl
+  by_verdicts met (verdict.Reply q) (verdict.Reply r) d e same = refl
+  by_verdicts met (verdict.Reply q) (verdict.LongReply r) d e same = refl
+  by_verdicts met (verdict.LongReply q) verdict.Silent d e same = refl
+  by_verdicts met (verdict.LongReply q) (verdict.Reply r) d e same = refl
+  by_verdicts met (verdict.LongReply q) (verdict.LongReply r) d e same = refl
 
   answered_once : (sends : List OwnedOut) (new last : State) → Answers settings state peer datagram sends new → Answers settings state peer datagram sends last → new ≡ last
   answered_once sends new last a b =
-      a.3 ∙ by_verdicts a.0 b.0 a.1 b.1 (sym a.2 ∙ b.2) ∙ sym b.3
+      a.5 ∙ by_verdicts a.3 a.0 b.0 a.1 b.1 (sym a.2 ∙ b.2) ∙ ap (after b.0) (hears_once settings peer datagram state a.3 b.3 a.4 b.4) ∙ sym b.5
 
 step_once : (settings : SettingsValue) (old : State) (event : Event) (at : ℕ) (owed others : List (State × OwnedOut)) (new last : State)
     → Step settings old event at owed new → Step settings old event at others last → outs_of owed ≡ outs_of others → (owed ≡ others) × (new ≡ last)
@@ -104,7 +105,9 @@ step_once settings old event.Failed at owed others new last a b outs = (a.0 ∙ 
 step_once settings old (event.Opened c p) at owed others new last a b outs = (a.0 ∙ sym b.0, a.1 ∙ sym b.1)
 step_once settings old (event.Piece c p) at owed others new last a b outs = (a.0 ∙ sym b.0, a.1 ∙ sym b.1)
 step_once settings old (event.Closed c) at owed others new last a b outs = (a.0 ∙ sym b.0, a.1 ∙ sym b.1)
-step_once settings old event.Tick at owed others new last a b outs = (a.0 ∙ sym b.0, a.1 ∙ sym b.1)
+step_once settings old event.Tick at owed others new last a b outs =
+    one_turn owed others new last (λ sends. Beats settings (later old at) sends new) (λ sends. Beats settings (later old at) sends last) a b outs
+    (λ sends one other. one.1 ∙ sym other.1)
 step_once settings old event.Restart at owed others new last a b outs = (a.0 ∙ sym b.0, a.1 ∙ sym b.1)
 
 pub one_state : (settings : SettingsValue) (from : State) (acts : List Timed) (trace others : List State) (new last : State)

@@ -1,5 +1,5 @@
 -- A run keeps the mitigations that stand apart.
-use Rattle.std.proofs.Common.{◌≡◌, ◌⊎◌, inl, inr, ℕ, Bool, true, false, List, [], ◌∷◌, ◌++◌, Option, Some, None, Result, Ok, Err, refl, sym, ◌∙◌, subst, arith}
+use Rattle.std.proofs.Common.{◌≡◌, ◌⊎◌, inl, inr, ℕ, Bool, true, false, cond, List, [], ◌∷◌, ◌++◌, Option, Some, None, Result, Ok, Err, refl, sym, ap, ◌∙◌, subst, arith}
 use Rattle.std.proofs.lemmas.Option.{none-some}
 use Rattle.coap_message.specs.declared.kind.Kind.{Kind}
 use Rattle.coap_message.specs.declared.kind.Kind.TheVariants.{Con, Non, Ack, Rst}
@@ -19,6 +19,11 @@ use Rattle.dots_heads.specs.declared.reject.Reject.{Reject}
 use Rattle.dots_heads.specs.declared.reject.Reject.TheVariants as reject
 use Rattle.dots_heads.specs.declared.request.Content.{Content}
 use Rattle.dots_keys.specs.declared.request.Request.{Request}
+use Rattle.dots_keys.specs.declared.request.ConfigBody.{ConfigBody}
+use Rattle.dots_history.specs.declared.config.Config.{Config}
+use Rattle.session_core.specs.declared.negotiating.ConfigFault.{ConfigFault}
+use Rattle.session_core.specs.declared.negotiating.ConfigFault.TheVariants.{Range, OlderSid}
+use Rattle.session_core.specs.Negotiating.{negotiated}
 use Rattle.dots_keys.specs.declared.request.Request.TheVariants as request
 use Rattle.conflict_rules.specs.LiveViews.{LiveView}
 use Rattle.conflict_rules.specs.declared.fault.PutFault.{PutFault}
@@ -37,31 +42,33 @@ use Rattle.dots_machine.specs.Verdict.{Verdict}
 use Rattle.dots_machine.specs.declared.verdict.Verdict.TheVariants as verdict
 use Rattle.dots_machine.specs.Domains.{domain_for, session_domain}
 use Rattle.dots_machine.specs.Targets.{scope_fault}
-use Rattle.dots_machine.specs.Replies.{not_implemented}
 use Rattle.dots_machine.specs.MessageRepeats.{sent_for, unless_repeated}
 use Rattle.dots_machine.specs.Mitigations.{entry_of, sent_by, request_of, refusal, judged, client_for, get_reply, unless_faulty, put_answer, is_taken, delete_by, delete_answer, get_by, get_answer}
 use Rattle.dots_machine.specs.Machine.{State, afresh, later, restarted, with_entry, option_verdict, reject_verdict, dismissal_verdict, Decides, by_silence, by_rules, for_want_of_memory, after, Step, facts_in, rules_say}
 use Rattle.dots_machine.specs.Orderly.{ShareNone, HigherStays, IsOrderly}
 use Rattle.dots_machine.specs.Handlings.{Handling, IsHandling, EachHandling, handlings_of}
+use Rattle.dots_machine.specs.Replies.{configuration_reply, absent}
+use Rattle.dots_machine.specs.Sessions.{Configured, sid_of, is_held}
 use Rattle.dots_machine.specs.Facts.{Facts}
-use Rattle.dots_machine.specs.Deciding.{in_domain, with_mid, put_in, put_for, delete_in, delete_for, get_for, config_for, answer_to, asks_for}
+use Rattle.dots_machine.specs.Deciding.{in_domain, with_mid, put_in, put_for, delete_in, delete_for, get_for, config_answer, put_config_for, clear_answer, delete_config_for, config_view, get_config_for, answer_to, asks_for}
 use Rattle.dots_machine.proofs.Verdicts.{are_facts, valued}
+use Rattle.dots_machine.proofs.Hearing.{hears_history, hears_time, same_history_after, same_time_after}
 use Rattle.dots_machine.proofs.Orderly.{share_later, share_without, share_with, higher_more, higher_with}
 use Rattle.dots_machine.proofs.Handlings.{by_handlings}
 
 module _ (settings : SettingsValue) (state : State) where
-  -- a mitigation was granted by the rules, or one was withdrawn
+  -- a mitigation was granted by the rules, or none was asked for
   abbrev Granted : Entry → Type 0
   Granted entry =
       (asked : MitigationRequest) × (given : Judged) × (reply : List ℕ)
       × IsJudged settings state.time state.history (client_for asked.from) (request_of asked) (Ok given)
       × (entry ≡ entry_of state.time asked.from reply (change.Put given.put))
 
-  abbrev Withdrawn : Entry → Type 0
-  Withdrawn entry = (from : ClientRequest) × (mid : ℕ) × (reply : List ℕ) × (entry ≡ entry_of state.time from reply (change.Withdraw mid))
+  abbrev PutsNone : Entry → Type 0
+  PutsNone entry = (entry.time ≡ state.time) × ((put : Put) → entry.change ≡ change.Put put → ⊥)
 
   abbrev pub AcceptsAs : Verdict → Type 0
-  AcceptsAs (verdict.Accept reply entry) = Granted entry ⊎ Withdrawn entry
+  AcceptsAs (verdict.Accept reply entry) = Granted entry ⊎ PutsNone entry
   AcceptsAs _ = Unit {0}
 
   of_refusal : (x : Exchange) (mid : ℕ) (fault : PutFault) → AcceptsAs (refusal x mid fault)
@@ -95,12 +102,15 @@ module _ (settings : SettingsValue) (state : State) where
       (of_repeat (known.repeated (sent_by a.from)) _
       (of_judged a (known.judged a.from.domain (request_of a)) ((are_facts settings state.time state.history).judged a.from.domain (request_of a))))
 
+  withdraws_none : (mid : ℕ) (put : Put) → change.Withdraw mid ≡ change.Put put → ⊥
+  withdraws_none mid put is = cc is
+
   of_delete : (from : ClientRequest) (mid : ℕ) → AcceptsAs (delete_answer known from mid)
   of_delete from mid = by_test (is_taken known from) (known.stands (client_for from) mid)
     where
       by_test : (taken stands : Bool) → AcceptsAs (delete_by state.time from mid taken stands)
       by_test true stands = tt
-      by_test false true = inr (from, mid, _, refl)
+      by_test false true = inr (refl, withdraws_none mid)
       by_test false false = tt
 
   of_tell : (x : Exchange) (content : Content) (ms : List LiveView) → AcceptsAs (get_reply x content ms)
@@ -123,10 +133,36 @@ module _ (settings : SettingsValue) (state : State) where
   of_mid x (Some m) f each = each m
 
   module _ (peer : ℕ) where
-    of_config : (x : Exchange) → AcceptsAs (in_domain x (session_domain (role_of settings peer)) (config_for known peer x))
-    of_config x =
-        of_domain x (session_domain (role_of settings peer)) (config_for known peer x)
-        (λ d. of_repeat (known.repeated (sent_for peer x d)) (verdict.Reply (not_implemented x)) tt)
+    sets_none : (sid : ℕ) (config : Config) (put : Put) → change.SetConfig sid config ≡ change.Put put → ⊥
+    sets_none sid config put is = cc is
+
+    clears_none : (put : Put) → change.ClearConfig ≡ change.Put put → ⊥
+    clears_none put is = cc is
+
+    of_config : (x : Exchange) (sid d : ℕ) (replaced : Bool) (r : Result Config ConfigFault) → AcceptsAs (config_answer state.time peer d x sid replaced r)
+    of_config x sid d replaced (Ok config) = inr (refl, sets_none sid config)
+    of_config x sid d replaced (Err (Range key)) = tt
+    of_config x sid d replaced (Err (OlderSid kept)) = tt
+
+    of_put_config : (x : Exchange) (sid : ℕ) (body : ConfigBody) (d : ℕ) → AcceptsAs (put_config_for known peer x sid body d)
+    of_put_config x sid body d =
+        of_repeat (known.repeated (sent_for peer x d)) _
+        (of_config x sid d (is_held sid (known.configured d peer)) (negotiated (sid_of (known.configured d peer)) sid body))
+
+    of_clear : (x : Exchange) (d : ℕ) (there : Bool) → AcceptsAs (clear_answer state.time peer d x there)
+    of_clear x d true = inr (refl, clears_none)
+    of_clear x d false = tt
+
+    of_delete_config : (x : Exchange) (sid d : ℕ) → AcceptsAs (delete_config_for known peer x sid d)
+    of_delete_config x sid d = of_repeat (known.repeated (sent_for peer x d)) _ (of_clear x d (is_held sid (known.configured d peer)))
+
+    of_view : (x : Exchange) (sid : Option ℕ) (configured : Option Configured) → AcceptsAs (config_view x sid configured)
+    of_view x None configured = tt
+    of_view x (Some sid) configured = by_test (is_held sid configured)
+      where
+        by_test : (there : Bool) → AcceptsAs (cond there (verdict.LongReply (configuration_reply x configured)) (verdict.Reply (absent x)))
+        by_test true = tt
+        by_test false = tt
 
     of_request : (x : Exchange) (r : Request) → AcceptsAs (answer_to settings known peer x r)
     of_request x (request.PutMitigation path body) =
@@ -139,9 +175,10 @@ module _ (settings : SettingsValue) (state : State) where
         (λ d.
         of_mid x path.mid (delete_in known (asks_for peer x path d))
         (λ mid. of_repeat (known.repeated (sent_by (asks_for peer x path d))) (delete_answer known (asks_for peer x path d) mid) (of_delete (asks_for peer x path d) mid)))
-    of_request x (request.PutConfig sid body) = of_config x
-    of_request x (request.GetConfig sid) = tt
-    of_request x (request.DeleteConfig sid) = of_config x
+    of_request x (request.PutConfig sid body) = of_domain x (session_domain (role_of settings peer)) (put_config_for known peer x sid body) (of_put_config x sid body)
+    of_request x (request.GetConfig sid) =
+        of_domain x (session_domain (role_of settings peer)) (get_config_for known peer x sid) (λ d. of_view x sid (known.configured d peer))
+    of_request x (request.DeleteConfig sid) = of_domain x (session_domain (role_of settings peer)) (delete_config_for known peer x sid) (of_delete_config x sid)
     of_request x (request.PutHeartbeat heard) = tt
 
     of_option : (kind : Kind) (reply : List ℕ) → AcceptsAs (option_verdict kind reply)
@@ -167,6 +204,7 @@ module _ (settings : SettingsValue) (state : State) where
     of_dismissal (dismissal.Reset id) = tt
 
     of_received : (got : Received) → AcceptsAs (rules_say settings known peer got)
+    of_received (received.Unread d) = of_dismissal d
     of_received (received.Dismissed d) = of_dismissal d
     of_received (received.Refused x e) = of_reject x e
     of_received (received.Asked x r) = of_request x r
@@ -194,26 +232,30 @@ module _ (settings : SettingsValue) (state : State) where
       (share_with settings state.time state.history (client_for asked.from) (request_of asked) given share is e refl refl refl refl)
       (higher_with settings state.time state.history (client_for asked.from) (request_of asked) given share is e refl refl refl refl orderly.higher_stays))
 
-  no_put : (from : ClientRequest) (mid : ℕ) (reply : List ℕ) (put : Put) → (entry_of state.time from reply (change.Withdraw mid)).change ≡ change.Put put → ⊥
-  no_put from mid reply put is = cc is
-
-  withdrawn_keeps : (entry : Entry) → Withdrawn entry → IsOrderly state → IsOrderly (with_entry state entry)
-  withdrawn_keeps entry (from, mid, reply, same) orderly =
-      let e = entry_of state.time from reply (change.Withdraw mid) in
-      subst (λ e. IsOrderly (with_entry state e)) (sym same) (orderly_with e refl
-      (share_without state.time state.history e (no_put from mid reply) (orderly.share_none state.time orderly.timely))
-      (higher_more state.history e orderly.higher_stays (λ domain i a one put is st ended. absurd (no_put from mid reply put is))))
+  none_keeps : (entry : Entry) → PutsNone entry → IsOrderly state → IsOrderly (with_entry state entry)
+  none_keeps entry (now, none) orderly =
+      orderly_with entry now
+      (share_without state.time state.history entry none (orderly.share_none state.time orderly.timely))
+      (higher_more state.history entry orderly.higher_stays (λ domain i a one put is st ended. absurd (none put is)))
 
   verdict_keeps : (v : Verdict) → AcceptsAs v → IsOrderly state → IsOrderly (after v state)
   verdict_keeps verdict.Silent how orderly = orderly
   verdict_keeps (verdict.Reply reply) how orderly = orderly
   verdict_keeps (verdict.LongReply reply) how orderly = orderly
   verdict_keeps (verdict.Accept reply entry) (inl granted) orderly = granted_keeps entry granted orderly
-  verdict_keeps (verdict.Accept reply entry) (inr withdrawn) orderly = withdrawn_keeps entry withdrawn orderly
+  verdict_keeps (verdict.Accept reply entry) (inr none) orderly = none_keeps entry none orderly
 
 -- ---- a step
 later_orderly : (state : State) (at : ℕ) → IsOrderly state → IsOrderly (later state at)
 later_orderly state at orderly = record { timely = omega (arith, orderly.timely); share_none = orderly.share_none; higher_stays = orderly.higher_stays }
+
+-- it depends on the history and the time alone
+orderly_as : (one other : State) → other.history ≡ one.history → other.time ≡ one.time → IsOrderly one → IsOrderly other
+orderly_as one other history time orderly = record {
+  timely = let same = ap last_time history in omega (arith, same, time, orderly.timely);
+  share_none = λ t less. subst (ShareNone t) (sym history) (orderly.share_none t (let same = ap last_time history in omega (arith, same, less)));
+  higher_stays = subst HigherStays (sym history) orderly.higher_stays;
+}
 
 restarted_orderly : (settings : SettingsValue) (state : State) (at : ℕ) → IsOrderly state → IsOrderly (restarted settings state at)
 restarted_orderly settings state at orderly = record { timely = omega arith; share_none = orderly.share_none; higher_stays = orderly.higher_stays }
@@ -221,13 +263,18 @@ restarted_orderly settings state at orderly = record { timely = omega arith; sha
 pub step_orderly : (settings : SettingsValue) (old : State) (event : Event) (at : ℕ) (owed : List (State × OwnedOut)) (new : State) → IsOrderly old → Step settings old event at owed new → IsOrderly new
 step_orderly settings old (event.Datagram peer datagram) at owed new orderly step =
     let a = step.2 in
-    subst IsOrderly (sym a.3) (verdict_keeps settings (later old at) a.0 (accepts_as settings (later old at) peer datagram a.0 a.1) (later_orderly old at orderly))
+    let now = later old at in
+    orderly_as (after a.0 now) new
+    (ap (λ (state : State). state.history) a.5 ∙ same_history_after a.0 a.3 now (hears_history settings peer datagram now a.3 a.4))
+    (ap (λ (state : State). state.time) a.5 ∙ same_time_after a.0 a.3 now (hears_time settings peer datagram now a.3 a.4))
+    (verdict_keeps settings now a.0 (accepts_as settings now peer datagram a.0 a.1) (later_orderly old at orderly))
 step_orderly settings old event.End at owed new orderly step = subst IsOrderly (sym step.1) orderly
 step_orderly settings old event.Failed at owed new orderly step = subst IsOrderly (sym step.1) orderly
 step_orderly settings old (event.Opened c p) at owed new orderly step = subst IsOrderly (sym step.1) (later_orderly old at orderly)
 step_orderly settings old (event.Piece c p) at owed new orderly step = subst IsOrderly (sym step.1) (later_orderly old at orderly)
 step_orderly settings old (event.Closed c) at owed new orderly step = subst IsOrderly (sym step.1) (later_orderly old at orderly)
-step_orderly settings old event.Tick at owed new orderly step = subst IsOrderly (sym step.1) (later_orderly old at orderly)
+step_orderly settings old event.Tick at owed new orderly step =
+    orderly_as (later old at) new (ap (λ (state : State). state.history) step.2.1) (ap (λ (state : State). state.time) step.2.1) (later_orderly old at orderly)
 step_orderly settings old event.Restart at owed new orderly step = subst IsOrderly (sym step.1) (restarted_orderly settings old at orderly)
 
 handlings_orderly : (settings : SettingsValue) (old : State) (handlings : List Handling) (new : State) → IsOrderly old → EachHandling (IsHandling settings) old handlings new → IsOrderly new

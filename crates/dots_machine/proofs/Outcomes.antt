@@ -1,5 +1,5 @@
 -- Of what is accepted the client is told with a success, 2.01, 2.02 or 2.04; of what is refused, or can't be served, never.
-use Rattle.std.proofs.Common.{◌≡◌, ℕ, ◌==◌, Bool, true, false, ◌||◌, List, [], ◌∷◌, Option, Some, None, Result, Ok, Err, refl, sym, subst}
+use Rattle.std.proofs.Common.{◌≡◌, ℕ, ◌==◌, Bool, true, false, cond, ◌||◌, List, [], ◌∷◌, Option, Some, None, Result, Ok, Err, refl, sym, subst}
 use Rattle.coap_message.specs.declared.kind.Kind.{Kind}
 use Rattle.coap_message.specs.declared.kind.Kind.TheVariants.{Con, Non, Ack, Rst}
 use Rattle.dots_settings.specs.Settings.{SettingsValue}
@@ -12,6 +12,11 @@ use Rattle.dots_heads.specs.declared.request.MitigationPath.{MitigationPath}
 use Rattle.dots_keys.specs.declared.request.Request.{Request}
 use Rattle.dots_keys.specs.declared.request.Request.TheVariants as request
 use Rattle.dots_keys.specs.declared.request.MitigationBody.{MitigationBody}
+use Rattle.dots_keys.specs.declared.request.ConfigBody.{ConfigBody}
+use Rattle.dots_history.specs.declared.config.Config.{Config}
+use Rattle.session_core.specs.declared.negotiating.ConfigFault.{ConfigFault}
+use Rattle.session_core.specs.declared.negotiating.ConfigFault.TheVariants.{Range, OlderSid}
+use Rattle.session_core.specs.Negotiating.{negotiated}
 use Rattle.conflict_rules.specs.LiveViews.{LiveView}
 use Rattle.conflict_rules.specs.declared.fault.PutFault.{PutFault}
 use Rattle.conflict_rules.specs.declared.fault.PutFault.TheVariants as faults
@@ -28,13 +33,14 @@ use Rattle.dots_machine.specs.Verdict.{Verdict}
 use Rattle.dots_machine.specs.declared.verdict.Verdict.TheVariants as verdict
 use Rattle.dots_machine.specs.Domains.{domain_for, session_domain}
 use Rattle.dots_machine.specs.Targets.{scope_fault}
-use Rattle.dots_machine.specs.Replies.{grant_code, rejection, not_implemented}
+use Rattle.dots_machine.specs.Replies.{grant_code, rejection, configuration_reply, absent}
 use Rattle.dots_machine.specs.MessageRepeats.{sent_for, unless_repeated}
 use Rattle.dots_machine.specs.Mitigations.{sent_by, request_of, refusal, judged, get_reply, unless_faulty, put_answer, is_taken, delete_by, delete_answer, get_by, get_answer, client_for}
 use Rattle.dots_machine.specs.Machine.{option_verdict, reject_verdict, dismissal_verdict, rules_say}
 use Rattle.dots_machine.specs.Apart.{domain_of}
+use Rattle.dots_machine.specs.Sessions.{Configured, sid_of, is_held}
 use Rattle.dots_machine.specs.Facts.{Facts}
-use Rattle.dots_machine.specs.Deciding.{in_domain, with_mid, put_in, put_for, delete_in, delete_for, get_for, config_for, answer_to, asks_for}
+use Rattle.dots_machine.specs.Deciding.{in_domain, with_mid, put_in, put_for, delete_in, delete_for, get_for, config_answer, put_config_for, clear_answer, delete_config_for, config_view, get_config_for, answer_to, asks_for}
 
 abbrev pub code_of : List ℕ → ℕ
 code_of (first ∷ code ∷ bytes) = code
@@ -150,9 +156,34 @@ module _ (settings : SettingsValue) (facts : Facts) where
     pub gets_accept : (path : MitigationPath) (content : Content) (domain : ℕ) → AcceptsWell domain (get_for facts peer x path content domain)
     gets_accept path content domain = get_accepts (asks_for peer x path domain) path.mid content
 
-    pub configs_accept : (domain : ℕ) → AcceptsWell domain (config_for facts peer x domain)
-    configs_accept domain =
-        repeat_accepts domain (facts.repeated (sent_for peer x domain)) (verdict.Reply (not_implemented x)) tt
+    config_accepts : (sid domain : ℕ) (replaced : Bool) (r : Result Config ConfigFault) → AcceptsWell domain (config_answer facts.time peer domain x sid replaced r)
+    config_accepts sid domain replaced (Ok config) = (grant_succeeds replaced, refl)
+    config_accepts sid domain replaced (Err (Range key)) = tt
+    config_accepts sid domain replaced (Err (OlderSid kept)) = tt
+
+    pub put_configs_accept : (sid : ℕ) (body : ConfigBody) (domain : ℕ) → AcceptsWell domain (put_config_for facts peer x sid body domain)
+    put_configs_accept sid body domain =
+        repeat_accepts domain (facts.repeated (sent_for peer x domain)) _
+        (config_accepts sid domain (is_held sid (facts.configured domain peer)) (negotiated (sid_of (facts.configured domain peer)) sid body))
+
+    clear_accepts : (domain : ℕ) (there : Bool) → AcceptsWell domain (clear_answer facts.time peer domain x there)
+    clear_accepts domain true = (refl, refl)
+    clear_accepts domain false = tt
+
+    pub delete_configs_accept : (sid domain : ℕ) → AcceptsWell domain (delete_config_for facts peer x sid domain)
+    delete_configs_accept sid domain =
+        repeat_accepts domain (facts.repeated (sent_for peer x domain)) _ (clear_accepts domain (is_held sid (facts.configured domain peer)))
+
+    view_accepts : (domain : ℕ) (sid : Option ℕ) (configured : Option Configured) → AcceptsWell domain (config_view x sid configured)
+    view_accepts domain None configured = tt
+    view_accepts domain (Some sid) configured = by_test (is_held sid configured)
+      where
+        by_test : (there : Bool) → AcceptsWell domain (cond there (verdict.LongReply (configuration_reply x configured)) (verdict.Reply (absent x)))
+        by_test true = tt
+        by_test false = tt
+
+    pub get_configs_accept : (sid : Option ℕ) (domain : ℕ) → AcceptsWell domain (get_config_for facts peer x sid domain)
+    get_configs_accept sid domain = view_accepts domain sid (facts.configured domain peer)
 
   -- on a request for a domain
   in_domain_accepts : (x : Exchange) (found : Option ℕ) (domain : ℕ) (f : ℕ → Verdict) → ((d : ℕ) → AcceptsWell d (f d)) → found ≡ Some domain → AcceptsWell domain (in_domain x found f)
@@ -167,10 +198,11 @@ module _ (settings : SettingsValue) (facts : Facts) where
   request_accepts peer x (request.DeleteMitigation path) domain found =
       in_domain_accepts x (domain_for settings (role_of settings peer) path.cdid) domain (delete_for facts peer x path) (deletes_accept peer x path) found
   request_accepts peer x (request.PutConfig sid body) domain found =
-      in_domain_accepts x (session_domain (role_of settings peer)) domain (config_for facts peer x) (configs_accept peer x) found
-  request_accepts peer x (request.GetConfig sid) domain found = tt
+      in_domain_accepts x (session_domain (role_of settings peer)) domain (put_config_for facts peer x sid body) (put_configs_accept peer x sid body) found
+  request_accepts peer x (request.GetConfig sid) domain found =
+      in_domain_accepts x (session_domain (role_of settings peer)) domain (get_config_for facts peer x sid) (get_configs_accept peer x sid) found
   request_accepts peer x (request.DeleteConfig sid) domain found =
-      in_domain_accepts x (session_domain (role_of settings peer)) domain (config_for facts peer x) (configs_accept peer x) found
+      in_domain_accepts x (session_domain (role_of settings peer)) domain (delete_config_for facts peer x sid) (delete_configs_accept peer x sid) found
   request_accepts peer x (request.PutHeartbeat heard) domain found = tt
 
   -- where it accepts it tells a success
@@ -192,9 +224,9 @@ module _ (settings : SettingsValue) (facts : Facts) where
   asked_succeeds peer x (request.PutMitigation path body) = in_domain_succeeds x (domain_for settings (role_of settings peer) path.cdid) _ (puts_accept peer x path body)
   asked_succeeds peer x (request.GetMitigation path content observe) = in_domain_succeeds x (domain_for settings (role_of settings peer) path.cdid) _ (gets_accept peer x path content)
   asked_succeeds peer x (request.DeleteMitigation path) = in_domain_succeeds x (domain_for settings (role_of settings peer) path.cdid) _ (deletes_accept peer x path)
-  asked_succeeds peer x (request.PutConfig sid body) = in_domain_succeeds x (session_domain (role_of settings peer)) _ (configs_accept peer x)
-  asked_succeeds peer x (request.GetConfig sid) = tt
-  asked_succeeds peer x (request.DeleteConfig sid) = in_domain_succeeds x (session_domain (role_of settings peer)) _ (configs_accept peer x)
+  asked_succeeds peer x (request.PutConfig sid body) = in_domain_succeeds x (session_domain (role_of settings peer)) _ (put_configs_accept peer x sid body)
+  asked_succeeds peer x (request.GetConfig sid) = in_domain_succeeds x (session_domain (role_of settings peer)) _ (get_configs_accept peer x sid)
+  asked_succeeds peer x (request.DeleteConfig sid) = in_domain_succeeds x (session_domain (role_of settings peer)) _ (delete_configs_accept peer x sid)
   asked_succeeds peer x (request.PutHeartbeat heard) = tt
 
   refusal_succeeds : (v : Verdict) → IsRefusal v → SucceedsWell v
@@ -208,6 +240,7 @@ module _ (settings : SettingsValue) (facts : Facts) where
   dismissal_succeeds (dismissal.Reset id) = tt
 
   pub succeeds : (peer : ℕ) (got : Received) → SucceedsWell (rules_say settings facts peer got)
+  succeeds peer (received.Unread d) = dismissal_succeeds d
   succeeds peer (received.Dismissed d) = dismissal_succeeds d
   succeeds peer (received.Refused x e) = refusal_succeeds (reject_verdict x e) (reject_refuses x e)
   succeeds peer (received.Asked x r) = asked_succeeds peer x r

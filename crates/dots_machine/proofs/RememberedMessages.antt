@@ -1,5 +1,5 @@
 -- What is kept of an accepted message lets its repeats be known.
-use Rattle.std.proofs.Common.{◌≡◌, ℕ, zero, suc, ◌+◌, ◌<◌, ◌≤◌, Bool, true, false, ◌&&◌, ◌||◌, List, [], ◌∷◌, ◌++◌, length, drop, Option, Some, None, Result, Ok, Err, refl, sym, ap, ◌∙◌, subst, arith}
+use Rattle.std.proofs.Common.{◌≡◌, ℕ, zero, suc, ◌+◌, ◌<◌, ◌≤◌, Bool, true, false, cond, ◌&&◌, ◌||◌, List, [], ◌∷◌, ◌++◌, length, drop, Option, Some, None, Result, Ok, Err, refl, sym, ap, ◌∙◌, subst, arith}
 use Rattle.std.specs.Prelude.{slice_get}
 use Rattle.std.specs.List.{list_any}
 use Rattle.std.proofs.lemmas.Bool.{and_from, eq-eqb, le-leb}
@@ -35,8 +35,15 @@ use Rattle.dots_machine.specs.RepeatRule.{heard_for}
 use Rattle.dots_machine.specs.Mitigations.{key_of, entry_of, sent_by, request_of, refusal, judged, get_reply, unless_faulty, is_taken, delete_by, get_by, client_for}
 use Rattle.dots_machine.specs.Machine.{State, DecidesRequest, facts_in}
 use Rattle.dots_machine.specs.Apart.{domain_of}
+use Rattle.dots_history.specs.declared.config.Config.{Config}
+use Rattle.dots_keys.specs.declared.request.ConfigBody.{ConfigBody}
+use Rattle.session_core.specs.declared.negotiating.ConfigFault.{ConfigFault}
+use Rattle.session_core.specs.declared.negotiating.ConfigFault.TheVariants.{Range, OlderSid}
+use Rattle.session_core.specs.Negotiating.{negotiated}
+use Rattle.dots_machine.specs.Replies.{configuration_reply, absent}
+use Rattle.dots_machine.specs.Sessions.{Configured, sid_of, is_held}
 use Rattle.dots_machine.specs.Facts.{Facts}
-use Rattle.dots_machine.specs.Deciding.{in_domain, with_mid, put_in, put_for, delete_in, delete_for, get_for, config_for, answer_to, asks_for}
+use Rattle.dots_machine.specs.Deciding.{in_domain, with_mid, put_in, put_for, delete_in, delete_for, get_for, session_entry, config_answer, put_config_for, clear_answer, delete_config_for, config_view, get_config_for, answer_to, asks_for}
 use Rattle.dots_machine.proofs.Verdicts.{request_valued}
 
 -- ---- an entry whose message may be repeated
@@ -53,6 +60,14 @@ signal_of peer domain e is whose there = and_from _ _ is (and_from _ _ (eq-eqb e
 put_is_signal : (put : Put) → is_signal (change.Put put) ≡ true
 unfolding is_signal
 put_is_signal put = refl
+
+configuration_is_signal : (sid : ℕ) (config : Config) → is_signal (change.SetConfig sid config) ≡ true
+unfolding is_signal
+configuration_is_signal sid config = refl
+
+clearing_is_signal : is_signal change.ClearConfig ≡ true
+unfolding is_signal
+clearing_is_signal = refl
 
 withdrawal_is_signal : (mid : ℕ) → is_signal (change.Withdraw mid) ≡ true
 unfolding is_signal
@@ -179,8 +194,35 @@ module _ (settings : SettingsValue) (facts : Facts) (peer : ℕ) (x : Exchange) 
         by_test true = tt
         by_test false = tell_keeps domain content _
 
-  config_keeps : (domain : ℕ) → KeepsFor domain (config_for facts peer x domain)
-  config_keeps domain = repeat_keeps domain (facts.repeated (sent_for peer x domain)) _ tt
+  session_keeps : (domain : ℕ) (reply : List ℕ) (made : Change) → is_signal made ≡ true → Keeps facts.time peer x domain reply (session_entry facts.time peer domain x reply made)
+  session_keeps domain reply made is =
+      record { time_is = refl; of_both = signal_of peer domain (session_entry facts.time peer domain x reply made) is refl refl; key_is = refl; reply_is = refl }
+
+  config_keeps : (sid domain : ℕ) (replaced : Bool) (r : Result Config ConfigFault) → KeepsFor domain (config_answer facts.time peer domain x sid replaced r)
+  config_keeps sid domain replaced (Ok config) = session_keeps domain _ (change.SetConfig sid config) (configuration_is_signal sid config)
+  config_keeps sid domain replaced (Err (Range key)) = tt
+  config_keeps sid domain replaced (Err (OlderSid kept)) = tt
+
+  put_config_keeps : (sid : ℕ) (body : ConfigBody) (domain : ℕ) → KeepsFor domain (put_config_for facts peer x sid body domain)
+  put_config_keeps sid body domain =
+      repeat_keeps domain (facts.repeated (sent_for peer x domain)) _
+      (config_keeps sid domain (is_held sid (facts.configured domain peer)) (negotiated (sid_of (facts.configured domain peer)) sid body))
+
+  clear_keeps : (domain : ℕ) (there : Bool) → KeepsFor domain (clear_answer facts.time peer domain x there)
+  clear_keeps domain true = session_keeps domain _ change.ClearConfig clearing_is_signal
+  clear_keeps domain false = tt
+
+  delete_config_keeps : (sid domain : ℕ) → KeepsFor domain (delete_config_for facts peer x sid domain)
+  delete_config_keeps sid domain =
+      repeat_keeps domain (facts.repeated (sent_for peer x domain)) _ (clear_keeps domain (is_held sid (facts.configured domain peer)))
+
+  view_keeps : (domain : ℕ) (sid : Option ℕ) (configured : Option Configured) → KeepsFor domain (config_view x sid configured)
+  view_keeps domain None configured = tt
+  view_keeps domain (Some sid) configured = by_test (is_held sid configured)
+    where
+      by_test : (there : Bool) → KeepsFor domain (cond there (verdict.LongReply (configuration_reply x configured)) (verdict.Reply (absent x)))
+      by_test true = tt
+      by_test false = tt
 
   -- for the domain of the request
   abbrev KeepsFound : Option ℕ → Verdict → Type 0
@@ -201,9 +243,9 @@ module _ (settings : SettingsValue) (facts : Facts) (peer : ℕ) (x : Exchange) 
   asked_keeps (request.PutMitigation path body) = in_domain_keeps (domain_for settings (role_of settings peer) path.cdid) _ (λ d. put_keeps path d body)
   asked_keeps (request.GetMitigation path content observe) = in_domain_keeps (domain_for settings (role_of settings peer) path.cdid) _ (λ d. get_keeps path d content)
   asked_keeps (request.DeleteMitigation path) = in_domain_keeps (domain_for settings (role_of settings peer) path.cdid) _ (λ d. delete_keeps path d)
-  asked_keeps (request.PutConfig sid body) = in_domain_keeps (session_domain (role_of settings peer)) _ config_keeps
-  asked_keeps (request.GetConfig sid) = tt
-  asked_keeps (request.DeleteConfig sid) = in_domain_keeps (session_domain (role_of settings peer)) _ config_keeps
+  asked_keeps (request.PutConfig sid body) = in_domain_keeps (session_domain (role_of settings peer)) _ (put_config_keeps sid body)
+  asked_keeps (request.GetConfig sid) = in_domain_keeps (session_domain (role_of settings peer)) _ (λ d. view_keeps d sid (facts.configured d peer))
+  asked_keeps (request.DeleteConfig sid) = in_domain_keeps (session_domain (role_of settings peer)) _ (delete_config_keeps sid)
   asked_keeps (request.PutHeartbeat heard) = tt
 
 pub accepted_keeps : (settings : SettingsValue) (state : State) (peer : ℕ) (x : Exchange) (r : Request) (reply : List ℕ) (entry : Entry)

@@ -19,18 +19,20 @@ use Rattle.dots_machine.specs.declared.mitigation_request.MitigationRequest.{Mit
 use Rattle.dots_machine.specs.Verdict.{Verdict}
 use Rattle.dots_machine.specs.declared.verdict.Verdict.TheVariants as verdict
 use Rattle.dots_machine.specs.Domains.{is_gateway, session_domain}
-use Rattle.dots_machine.specs.Replies.{not_implemented}
 use Rattle.dots_machine.specs.Requests.{IsReceived}
 use Rattle.dots_machine.specs.MessageRepeats.{Repeats, unless_repeated, sent_for, IsRepeatOf}
 use Rattle.dots_machine.specs.Mitigations.{request_of, judged, unless_faulty, delete_answer}
-use Rattle.dots_machine.specs.Machine.{State, later, is_stranger, DecidesRequest, Rules, Decides, by_silence, by_rules, for_want_of_memory, sends_of, after, Answers, Step}
+use Rattle.dots_machine.specs.Machine.{State, later, hearing, is_stranger, DecidesRequest, Rules, Decides, by_silence, by_rules, for_want_of_memory, sends_of, after, Answers, Step}
 use Rattle.dots_machine.specs.Answering.{AreBytes, IsUnavailable}
 use Rattle.dots_machine.specs.RepeatRule.{AsksToChange}
 use Rattle.dots_machine.specs.Handlings.{Handling, IsHandling, EachHandling, handlings_of}
 use Rattle.dots_machine.specs.RepeatAnswers.{AnswersRepeats}
+use Rattle.session_core.specs.Negotiating.{negotiated}
+use Rattle.dots_machine.specs.Sessions.{Configured, sid_of, is_held}
 use Rattle.dots_machine.specs.Facts.{Facts, AreFacts}
-use Rattle.dots_machine.specs.Deciding.{in_domain, with_mid, put_in, put_for, delete_in, delete_for, config_for, answer_to, asks_for}
+use Rattle.dots_machine.specs.Deciding.{in_domain, with_mid, put_in, put_for, delete_in, delete_for, config_answer, put_config_for, clear_answer, delete_config_for, answer_to, asks_for}
 use Rattle.dots_machine.proofs.MessageRepeats.{one_repeated}
+use Rattle.dots_machine.proofs.Hearing.{asked_is_heard}
 use Rattle.dots_machine.proofs.OneAnswer.{one_thing, says}
 use Rattle.dots_machine.proofs.Handlings.{by_handlings, each_weaker}
 
@@ -48,9 +50,8 @@ module _ (settings : SettingsValue) (state : State) (peer : ℕ) (x : Exchange) 
             ap (λ (e : Entry). verdict.Reply e.reply) (one_repeated settings.limits.remembered state.time (sent_for peer x domain) state.history other entry also is)
         by_found None never = absurd (never entry is)
 
-    config_repeated : session_domain (role_of settings peer) ≡ Some domain
-        → in_domain x (session_domain (role_of settings peer)) (config_for facts peer x) ≡ verdict.Reply entry.reply
-    config_repeated found = ap (λ o. in_domain x o (config_for facts peer x)) found ∙ repeat_is (verdict.Reply (not_implemented x))
+    abbrev configured : Option Configured
+    configured = facts.configured domain peer
 
     answer_repeated : (r : Request) → AsksToChange settings (role_of settings peer) domain r → answer_to settings facts peer x r ≡ verdict.Reply entry.reply
     answer_repeated (request.PutMitigation path body) (found, (mid, has), clear) =
@@ -64,8 +65,11 @@ module _ (settings : SettingsValue) (state : State) (peer : ℕ) (x : Exchange) 
     answer_repeated (request.DeleteMitigation path) (found, (mid, has)) =
         let from : ClientRequest = asks_for peer x path domain in
         ap (λ o. in_domain x o (delete_for facts peer x path)) found ∙ ap (λ o. with_mid x o (delete_in facts from)) has ∙ repeat_is (delete_answer facts from mid)
-    answer_repeated (request.PutConfig sid body) found = config_repeated found
-    answer_repeated (request.DeleteConfig sid) found = config_repeated found
+    answer_repeated (request.PutConfig sid body) found =
+        ap (λ o. in_domain x o (put_config_for facts peer x sid body)) found
+        ∙ repeat_is (config_answer facts.time peer domain x sid (is_held sid configured) (negotiated (sid_of configured) sid body))
+    answer_repeated (request.DeleteConfig sid) found =
+        ap (λ o. in_domain x o (delete_config_for facts peer x sid)) found ∙ repeat_is (clear_answer facts.time peer domain x (is_held sid configured))
     answer_repeated (request.GetMitigation path content observe) none = absurd none
     answer_repeated (request.GetConfig sid) none = absurd none
     answer_repeated (request.PutHeartbeat heard) none = absurd none
@@ -75,7 +79,7 @@ module _ (settings : SettingsValue) (state : State) (peer : ℕ) (x : Exchange) 
 
 module _ (settings : SettingsValue) (old : State) (peer : ℕ) (datagram : List ℕ) (at : ℕ) (owed : List (State × OwnedOut)) (new : State) where
   abbrev Says : List ℕ → Type 0
-  Says reply = (outs_of owed ≡ owned.To peer reply ∷ []) × (new ≡ later old at)
+  Says reply = (outs_of owed ≡ owned.To peer reply ∷ []) × (new ≡ hearing peer (later old at))
 
   pub step_repeated : (x : Exchange) (r : Request) (domain : ℕ) (entry : Entry) → AreBytes datagram → is_stranger (role_of settings peer) ≡ false
       → IsReceived datagram (is_gateway (role_of settings peer)) (received.Asked x r) → AsksToChange settings (role_of settings peer) domain r
@@ -90,7 +94,10 @@ module _ (settings : SettingsValue) (old : State) (peer : ℕ) (datagram : List 
       sent = ap outs_of step.1 ∙ outs_back new step.0
 
       told : a.0 ≡ verdict.Reply entry.reply → Says entry.reply
-      told same = (sent ∙ a.2 ∙ ap (λ v. sends_of v peer) same, a.3 ∙ ap (λ v. after v (later old at)) same)
+      told same = (
+        sent ∙ a.2 ∙ ap (λ v. sends_of v peer) same,
+        a.5 ∙ ap (λ v. after v a.3) same ∙ asked_is_heard settings peer datagram (is_gateway (role_of settings peer)) x r (later old at) a.3 known got a.4,
+      )
 
       by_decision : Decides settings (later old at) peer datagram a.0 → Says entry.reply ⊎ IsUnavailable (event.Datagram peer datagram) owed
       by_decision (by_silence stranger silent) = absurd (both_ways (is_stranger (role_of settings peer)) known stranger)
@@ -103,8 +110,8 @@ pub handling_repeats : (settings : SettingsValue) (old : State) (handling : Hand
 handling_repeats settings old handling new is = record {
   handled = is;
   repeated = λ peer datagram x r domain entry what are known got asks repeats.
-      subst (λ w. ((handling.sends ≡ owned.To peer entry.reply ∷ []) × (new ≡ later old handling.at)) ⊎ IsUnavailable w is.owed) (sym what)
-      (subst (λ sends. ((sends ≡ owned.To peer entry.reply ∷ []) × (new ≡ later old handling.at)) ⊎ IsUnavailable (event.Datagram peer datagram) is.owed) is.sent
+      subst (λ w. ((handling.sends ≡ owned.To peer entry.reply ∷ []) × (new ≡ hearing peer (later old handling.at))) ⊎ IsUnavailable w is.owed) (sym what)
+      (subst (λ sends. ((sends ≡ owned.To peer entry.reply ∷ []) × (new ≡ hearing peer (later old handling.at))) ⊎ IsUnavailable (event.Datagram peer datagram) is.owed) is.sent
       (step_repeated settings old peer datagram handling.at is.owed new x r domain entry are known got asks repeats (subst (λ w. Step settings old w handling.at is.owed new) what is.step)));
 }
 

@@ -24,6 +24,7 @@ use Rattle.dots_machine.specs.declared.ending.Stop.{Stop}
 use Rattle.dots_machine.specs.declared.ending.Stop.TheVariants as stop
 use Rattle.dots_machine.specs.Endings.{Stops, EndsBehind, Ran}
 use Rattle.dots_machine.specs.Machine.{State, later, after, Step}
+use Rattle.dots_machine.proofs.Hearing.{hears_history, hears_time, same_history_after, same_time_after}
 use Rattle.dots_machine.specs.Surviving.{Story, told_by, entries_shown, shown, time_shown, time_at, past_of, NoneBefore, MeansAt, EachFrom, LeavesAt}
 
 -- ---- runs with all that they tell
@@ -174,7 +175,7 @@ step_tells settings old event.Failed at owed new step = none_owed _ owed step.0
 step_tells settings old (event.Opened c p) at owed new step = none_owed _ owed step.0
 step_tells settings old (event.Piece c p) at owed new step = none_owed _ owed step.0
 step_tells settings old (event.Closed c) at owed new step = none_owed _ owed step.0
-step_tells settings old event.Tick at owed new step = none_owed _ owed step.0
+step_tells settings old event.Tick at owed new step = subst (TellFew (length new.history)) (sym step.1) (tell_each new step.0)
 step_tells settings old event.Restart at owed new step = none_owed _ owed step.0
 
 abbrev Grows : State → State → Type 0
@@ -192,13 +193,16 @@ verdict_grows (verdict.Accept reply entry) state = (entry ∷ [], refl)
 -- a step adds to the history, or leaves it
 pub step_grows : (settings : SettingsValue) (old : State) (what : Event) (at : ℕ) (owed : List (State × OwnedOut)) (new : State) → Step settings old what at owed new → (extra : List Entry) × (new.history ≡ old.history ++ extra)
 step_grows settings old (event.Datagram peer datagram) at owed new step =
-    let grown = verdict_grows step.2.0 (later old at) in (grown.0, ap (λ (state : State). state.history) step.2.3 ∙ grown.1)
+    let a = step.2 in
+    let now = later old at in
+    let grown = verdict_grows a.0 now in
+    (grown.0, ap (λ (state : State). state.history) a.5 ∙ same_history_after a.0 a.3 now (hears_history settings peer datagram now a.3 a.4) ∙ grown.1)
 step_grows settings old event.End at owed new step = same_grows old new (ap (λ (state : State). state.history) step.1)
 step_grows settings old event.Failed at owed new step = same_grows old new (ap (λ (state : State). state.history) step.1)
 step_grows settings old (event.Opened c p) at owed new step = same_grows old new (ap (λ (state : State). state.history) step.1)
 step_grows settings old (event.Piece c p) at owed new step = same_grows old new (ap (λ (state : State). state.history) step.1)
 step_grows settings old (event.Closed c) at owed new step = same_grows old new (ap (λ (state : State). state.history) step.1)
-step_grows settings old event.Tick at owed new step = same_grows old new (ap (λ (state : State). state.history) step.1)
+step_grows settings old event.Tick at owed new step = same_grows old new (ap (λ (state : State). state.history) step.2.1)
 step_grows settings old event.Restart at owed new step = same_grows old new (ap (λ (state : State). state.history) step.1)
 
 after_time : (v : Verdict) (state : State) → (after v state).time ≡ state.time
@@ -214,13 +218,16 @@ moved_on old new at timely is = omega (arith, timely, is)
 pub step_timely : (settings : SettingsValue) (old : State) (what : Event) (at : ℕ) (owed : List (State × OwnedOut)) (new : State) → last_time old.history ≤ old.time → Step settings old what at owed new
     → last_time old.history ≤ new.time
 step_timely settings old (event.Datagram peer datagram) at owed new timely step =
-    moved_on old new at timely (ap (λ (state : State). state.time) step.2.3 ∙ after_time step.2.0 (later old at))
+    let a = step.2 in
+    let now = later old at in
+    moved_on old new at timely
+    (ap (λ (state : State). state.time) a.5 ∙ same_time_after a.0 a.3 now (hears_time settings peer datagram now a.3 a.4) ∙ after_time a.0 now)
 step_timely settings old event.End at owed new timely step = subst (λ (state : State). last_time old.history ≤ state.time) (sym step.1) timely
 step_timely settings old event.Failed at owed new timely step = subst (λ (state : State). last_time old.history ≤ state.time) (sym step.1) timely
 step_timely settings old (event.Opened c p) at owed new timely step = moved_on old new at timely (ap (λ (state : State). state.time) step.1)
 step_timely settings old (event.Piece c p) at owed new timely step = moved_on old new at timely (ap (λ (state : State). state.time) step.1)
 step_timely settings old (event.Closed c) at owed new timely step = moved_on old new at timely (ap (λ (state : State). state.time) step.1)
-step_timely settings old event.Tick at owed new timely step = moved_on old new at timely (ap (λ (state : State). state.time) step.1)
+step_timely settings old event.Tick at owed new timely step = moved_on old new at timely (ap (λ (state : State). state.time) step.2.1)
 step_timely settings old event.Restart at owed new timely step =
     let is = ap (λ (state : State). state.time) step.1 in omega (arith, is)
 

@@ -35,11 +35,13 @@ use Rattle.dots_machine.specs.Verdict.{Verdict}
 use Rattle.dots_machine.specs.declared.verdict.Verdict.TheVariants as verdict
 use Rattle.dots_machine.specs.Domains.{domain_for, session_domain}
 use Rattle.dots_machine.specs.Targets.{scope_fault}
-use Rattle.dots_machine.specs.Replies.{not_implemented}
 use Rattle.dots_machine.specs.MessageRepeats.{Sent, sent_for, Repeats, unless_repeated}
+use Rattle.dots_keys.specs.declared.request.ConfigBody.{ConfigBody}
+use Rattle.session_core.specs.Negotiating.{negotiated}
+use Rattle.dots_machine.specs.Sessions.{sid_of, is_held}
 use Rattle.dots_machine.specs.Facts.{Facts, IsTestOf, AreFacts, stands_as, facts_of}
 use Rattle.dots_machine.specs.Mitigations.{sent_by, request_of, judged, unless_faulty, put_answer, client_for, delete_by, delete_answer, get_by, get_answer}
-use Rattle.dots_machine.specs.Deciding.{in_domain, asks_for, with_mid, put_in, put_for, delete_in, delete_for, get_for, config_for, answer_to}
+use Rattle.dots_machine.specs.Deciding.{in_domain, asks_for, with_mid, put_in, put_for, delete_in, delete_for, get_for, config_answer, put_config_for, clear_answer, delete_config_for, config_view, get_config_for, answer_to}
 use Rattle.dots_machine.specs.Machine.{State, facts_in, DecidesRequest, rules_say, Rules}
 use Rattle.dots_machine.proofs.MessageRepeats.{is_repeated, is_remembered, none_remembered, never_repeated}
 
@@ -121,6 +123,7 @@ module _ (settings : SettingsValue) (t : ℕ) (history : List Entry) where
     taken = λ client peer. is_test (read.taken client peer) (IsTaken t history client peer) (collides_taken t history client peer) (taken_collides t history client peer);
     stands = λ client mid. is_test (read.stands client mid) ((put : Put) × HasMid t history client mid put) (stands_so client mid) (stands_true client mid);
     views = λ client. refl;
+    configured = λ domain peer. refl;
   }
 
   -- ---- and any others are the same
@@ -173,10 +176,20 @@ module _ (settings : SettingsValue) (t : ℕ) (history : List Entry) where
         ∙ ap (get_by from.exchange mid content (read.taken (client_for from) from.peer)) (are.views (client_for from))
 
     module _ (peer : ℕ) (x : Exchange) where
-      config_is : in_domain x (session_domain (role_of settings peer)) (config_for facts peer x) ≡ in_domain x (session_domain (role_of settings peer)) (config_for read peer x)
-      config_is =
-          in_domain_is x (session_domain (role_of settings peer)) (config_for facts peer x) (config_for read peer x)
-          (λ d. ap (λ o. unless_repeated o (verdict.Reply (not_implemented x))) (repeated_is (sent_for peer x d)))
+      put_config_is : (sid : ℕ) (body : ConfigBody) (d : ℕ) → put_config_for facts peer x sid body d ≡ put_config_for read peer x sid body d
+      put_config_is sid body d =
+          ap (λ o. unless_repeated o (config_answer facts.time peer d x sid (is_held sid (facts.configured d peer)) (negotiated (sid_of (facts.configured d peer)) sid body)))
+          (repeated_is (sent_for peer x d))
+          ∙ ap
+          (λ n. unless_repeated (read.repeated (sent_for peer x d)) (config_answer n peer d x sid (is_held sid (facts.configured d peer)) (negotiated (sid_of (facts.configured d peer)) sid body)))
+          are.time
+          ∙ ap (λ c. unless_repeated (read.repeated (sent_for peer x d)) (config_answer t peer d x sid (is_held sid c) (negotiated (sid_of c) sid body))) (are.configured d peer)
+
+      delete_config_is : (sid d : ℕ) → delete_config_for facts peer x sid d ≡ delete_config_for read peer x sid d
+      delete_config_is sid d =
+          ap (λ o. unless_repeated o (clear_answer facts.time peer d x (is_held sid (facts.configured d peer)))) (repeated_is (sent_for peer x d))
+          ∙ ap (λ n. unless_repeated (read.repeated (sent_for peer x d)) (clear_answer n peer d x (is_held sid (facts.configured d peer)))) are.time
+          ∙ ap (λ c. unless_repeated (read.repeated (sent_for peer x d)) (clear_answer t peer d x (is_held sid c))) (are.configured d peer)
 
       answer_is : (r : Request) → answer_to settings facts peer x r ≡ answer_to settings read peer x r
       answer_is (request.PutMitigation path body) =
@@ -190,12 +203,17 @@ module _ (settings : SettingsValue) (t : ℕ) (history : List Entry) where
       answer_is (request.DeleteMitigation path) =
           in_domain_is x (domain_for settings (role_of settings peer) path.cdid) (delete_for facts peer x path) (delete_for read peer x path)
           (λ d. with_mid_is x path.mid (delete_in facts (asks_for peer x path d)) (delete_in read (asks_for peer x path d)) (delete_is (asks_for peer x path d)))
-      answer_is (request.PutConfig sid body) = config_is
-      answer_is (request.GetConfig sid) = refl
-      answer_is (request.DeleteConfig sid) = config_is
+      answer_is (request.PutConfig sid body) =
+          in_domain_is x (session_domain (role_of settings peer)) (put_config_for facts peer x sid body) (put_config_for read peer x sid body) (put_config_is sid body)
+      answer_is (request.GetConfig sid) =
+          in_domain_is x (session_domain (role_of settings peer)) (get_config_for facts peer x sid) (get_config_for read peer x sid)
+          (λ d. ap (config_view x sid) (are.configured d peer))
+      answer_is (request.DeleteConfig sid) =
+          in_domain_is x (session_domain (role_of settings peer)) (delete_config_for facts peer x sid) (delete_config_for read peer x sid) (delete_config_is sid)
       answer_is (request.PutHeartbeat heard) = refl
 
     say_is : (peer : ℕ) (got : Received) → rules_say settings facts peer got ≡ rules_say settings read peer got
+    say_is peer (received.Unread d) = refl
     say_is peer (received.Dismissed d) = refl
     say_is peer (received.Refused x e) = refl
     say_is peer (received.Asked x r) = answer_is peer x r

@@ -38,11 +38,14 @@ pub data AsksFor (settings : SettingsValue) (domain : ℕ) (what : Event) : Type
       → domain_of settings (role_of settings peer) asked ≡ Some domain → AsksFor settings domain what
 
 -- A step from one state is for another domain, and leaves the entries of this one as they were; or it can be made from the other
--- state too, with the same sends, and both leave this domain the same; or the machine restarts, and leaves the entries as they were: the time
+-- state too, with the same sends, and both leave this domain the same; or it is a tick, which sends heartbeats to peers of all domains, and it can be
+-- made from the other state too, and both leave this domain the same; or the machine restarts, and leaves the entries as they were: the time
 -- may be held up then by an entry of any domain.
 pub data StaysApart (settings : SettingsValue) (domain : ℕ) (old other : State) (what : Event) (at : ℕ) (sends : List OwnedOut) (new : State) : Type 0 where
   elsewhere : (another : ℕ) → another ≢ domain → AsksFor settings another what → alone domain new.history ≡ alone domain old.history
       → StaysApart settings domain old other what at sends new
   same_step : (owed : List (State × OwnedOut)) (last : State) → outs_of owed ≡ sends → Step settings other what at owed last → SameFor domain new last
       → StaysApart settings domain old other what at sends new
+  ticks : what ≡ event.Tick → (owed : List (State × OwnedOut)) (last : State) → Step settings other what at owed last → SameFor domain new last
+      → alone domain new.history ≡ alone domain old.history → StaysApart settings domain old other what at sends new
   restarts : what ≡ event.Restart → sends ≡ [] → alone domain new.history ≡ alone domain old.history → StaysApart settings domain old other what at sends new

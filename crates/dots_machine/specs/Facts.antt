@@ -14,6 +14,7 @@ use Rattle.conflict_rules.specs.Statuses.{views_in, is_standing}
 use Rattle.conflict_rules.specs.ByHistory.{collides, judge_request}
 use Rattle.conflict_rules.specs.Judgements.{IsTaken, HasMid, IsJudged}
 use Rattle.dots_machine.specs.MessageRepeats.{Sent, Repeats}
+use Rattle.dots_machine.specs.Sessions.{Configured, configured_in}
 
 pub record Facts : Type 0 where
   pub time : ℕ
@@ -27,6 +28,8 @@ pub record Facts : Type 0 where
   pub stands : Client → ℕ → Bool
   -- the client's live mitigations as a reader gets them, in order of their entries
   pub views : Client → List LiveView
+  -- what a peer has configured for its session, in the domain in which it configures it
+  pub configured : ℕ → ℕ → Option Configured
 
 -- the test is whether this holds
 abbrev pub IsTestOf : Bool → Type 0 → Type 0
@@ -41,6 +44,7 @@ pub record AreFacts (settings : SettingsValue) (t : ℕ) (history : List Entry) 
   pub taken : (client : Client) (peer : ℕ) → IsTestOf (facts.taken client peer) (IsTaken t history client peer)
   pub stands : (client : Client) (mid : ℕ) → IsTestOf (facts.stands client mid) ((put : Put) × HasMid t history client mid put)
   pub views : (client : Client) → facts.views client ≡ views_in client.domain client.cuid t history
+  pub configured : (domain peer : ℕ) → facts.configured domain peer ≡ configured_in history domain peer
 
 -- it stands, and has this mid
 abbrev pub stands_as : ℕ → LiveView → Bool
@@ -55,4 +59,5 @@ facts_of settings t history = record {
   taken = λ (client : Client). λ (peer : ℕ). collides t history peer client;
   stands = λ (client : Client). λ (mid : ℕ). list_any (stands_as mid) (views_in client.domain client.cuid t history);
   views = λ (client : Client). views_in client.domain client.cuid t history;
+  configured = configured_in history;
 }

@@ -5,6 +5,7 @@ pub mod Requests
 pub mod Replies
 pub mod Verdict
 pub mod MessageRepeats
+pub mod Sessions
 pub mod Facts
 pub mod Mitigations
 pub mod Deciding

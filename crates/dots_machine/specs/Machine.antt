@@ -8,6 +8,8 @@ use Rattle.dots_host.specs.Runs.{Turn, in_one_turn}
 use Rattle.coap_message.specs.declared.kind.Kind.{Kind}
 use Rattle.coap_message.specs.declared.kind.Kind.TheVariants.{Con}
 use Rattle.coap_message.specs.Message.{CoapMessage, IsMessage, spelling}
+use Rattle.coap_message.specs.declared.fault.CoapFault.{CoapFault}
+use Rattle.coap_message.specs.Breaks.{Breaks}
 use Rattle.dots_settings.specs.declared.peer.Role.{Role}
 use Rattle.dots_settings.specs.declared.peer.Role.TheVariants as role
 use Rattle.dots_settings.specs.Settings.{SettingsValue}
@@ -16,7 +18,9 @@ use Rattle.dots_history.specs.declared.entry.Entry.{Entry}
 use Rattle.dots_laws.specs.Fits.{last_time}
 use Rattle.coap_observe.specs.Observed.{ObservedValue}
 use Rattle.session_core.specs.declared.contact.PeerContact.{PeerContact}
-use Rattle.session_core.specs.Contacts.{unheard}
+use Rattle.session_core.specs.Contacts.{unheard, heard_from}
+use Rattle.session_core.specs.Beating.{Beating}
+use Rattle.dots_notices.specs.Beats.{beats, after_beats}
 use Rattle.stream_table.specs.Lines.{PeerLines, no_lines}
 use Rattle.dots_heads.specs.declared.reject.Reject.{Reject}
 use Rattle.dots_heads.specs.declared.reject.Reject.TheVariants as reject
@@ -33,6 +37,7 @@ use Rattle.dots_machine.specs.Domains.{is_gateway}
 use Rattle.dots_machine.specs.Exchanges.{exchange_in, dismissed}
 use Rattle.dots_machine.specs.Requests.{IsReceived}
 use Rattle.dots_machine.specs.Replies.{unavailable, reset_message, rejection}
+use Rattle.dots_machine.specs.Sessions.{beating_at}
 use Rattle.dots_machine.specs.Facts.{Facts, AreFacts, facts_of}
 use Rattle.dots_machine.specs.Deciding.{answer_to}
 
@@ -95,6 +100,7 @@ dismissal_verdict (dismissal.Reset id) = verdict.Reply (reset_message id)
 
 -- what the rules say of what a client or a gateway sent, by what is known
 abbrev pub rules_say : SettingsValue → Facts → ℕ → Received → Verdict
+rules_say settings facts peer (received.Unread answered) = dismissal_verdict answered
 rules_say settings facts peer (received.Dismissed answered) = dismissal_verdict answered
 rules_say settings facts peer (received.Refused exchange reject) = reject_verdict exchange reject
 rules_say settings facts peer (received.Asked exchange request) = answer_to settings facts peer exchange request
@@ -136,10 +142,33 @@ abbrev pub after : Verdict → State → State
 after (verdict.Accept reply entry) state = with_entry state entry
 after _ state = state
 
--- a datagram is decided on, and the verdict is carried out
+-- the peer is heard now, and a session with it begins where there is none
+abbrev pub hearing : ℕ → State → State
+hearing peer state = record state { contacts = heard_from peer state.time state.contacts }
+
+-- A client or a gateway is heard by each message of it, whatever that is answered; what can't be read isn't heard, nor is a stranger (RFC 9132,
+-- section 4.7).
+pub data Hears (settings : SettingsValue) (state : State) (peer : ℕ) (datagram : List ℕ) (new : State) : Type 0 where
+  by_message : is_stranger (role_of settings peer) ≡ false → (message : CoapMessage) → IsMessage message → datagram ≡ spelling message → new ≡ hearing peer state
+      → Hears settings state peer datagram new
+  unreadable : (fault : CoapFault) → Breaks datagram fault → new ≡ state → Hears settings state peer datagram new
+  by_stranger : is_stranger (role_of settings peer) ≡ true → new ≡ state → Hears settings state peer datagram new
+
+-- a datagram is decided on, its peer is heard, and the verdict is carried out
 abbrev pub Answers : SettingsValue → State → ℕ → List ℕ → List OwnedOut → State → Type 0
 Answers settings state peer datagram sends new =
-    (decided : Verdict) × Decides settings state peer datagram decided × (sends ≡ sends_of decided peer) × (new ≡ after decided state)
+    (decided : Verdict) × Decides settings state peer datagram decided × (sends ≡ sends_of decided peer)
+    × (met : State) × Hears settings state peer datagram met × (new ≡ after decided met)
+
+-- what the heartbeats of each peer go by
+abbrev pub beating : SettingsValue → State → Beating
+beating settings state = beating_at settings state.time state.history
+
+-- sessions that are lost are forgotten, and each heartbeat that is due is sent (RFC 9132, section 4.7)
+abbrev pub Beats : SettingsValue → State → List OwnedOut → State → Type 0
+Beats settings state sends new =
+    (sends ≡ beats (beating settings state) state.time state.contacts)
+    × (new ≡ record state { contacts = after_beats (beating settings state) state.time state.contacts })
 
 -- One event: the sends that it owes, each beside the state that it tells, and the state after it. End and a failure of the host move no
 -- time; a restart keeps what was accepted alone; what isn't served yet moves the time and no more.
@@ -148,6 +177,7 @@ Step settings old (event.Datagram peer datagram) at owed new = in_one_turn (λ s
 Step settings old event.End at owed new = (owed ≡ []) × (new ≡ old)
 Step settings old event.Failed at owed new = (owed ≡ []) × (new ≡ old)
 Step settings old event.Restart at owed new = (owed ≡ []) × (new ≡ restarted settings old at)
+Step settings old event.Tick at owed new = in_one_turn (λ sends. Beats settings (later old at) sends new) owed new
 Step settings old _ at owed new = (owed ≡ []) × (new ≡ later old at)
 
 -- In the middle of an event the disk failed. These turns of the event were carried out, and the one after them was being written, which has an
@@ -155,5 +185,5 @@ Step settings old _ at owed new = (owed ≡ []) × (new ≡ later old at)
 abbrev pub StepInto : SettingsValue → State → Event → ℕ → List (Turn State) → Turn State → Type 0
 StepInto settings old (event.Datagram peer datagram) at turns last =
     (turns ≡ []) × (reply : List ℕ) × (entry : Entry) × Decides settings (later old at) peer datagram (verdict.Accept reply entry)
-    × (last ≡ (record { sends = owned.To peer reply ∷ []; left = with_entry (later old at) entry }))
+    × (met : State) × Hears settings (later old at) peer datagram met × (last ≡ (record { sends = owned.To peer reply ∷ []; left = with_entry met entry }))
 StepInto settings old _ at turns last = ⊥

@@ -13,7 +13,7 @@ use Rattle.dots_machine.specs.Domains.{is_gateway}
 use Rattle.dots_machine.specs.Requests.{IsReceived}
 use Rattle.dots_machine.specs.MessageRepeats.{sent_for, IsRepeatOf}
 use Rattle.dots_machine.specs.RepeatRule.{AsksToChange}
-use Rattle.dots_machine.specs.Machine.{State, later, is_stranger}
+use Rattle.dots_machine.specs.Machine.{State, later, hearing, is_stranger}
 use Rattle.dots_machine.specs.Handlings.{Handling, IsHandling}
 
 -- A handling for a repeat that asks for a change gives the bytes that answered the message, and adds nothing; or 5.00 is answered, for want of memory.
@@ -24,4 +24,4 @@ pub record AnswersRepeats (settings : SettingsValue) (old : State) (handling : H
       → AreBytes datagram → is_stranger (role_of settings peer) ≡ false
       → IsReceived datagram (is_gateway (role_of settings peer)) (received.Asked exchange asked) → AsksToChange settings (role_of settings peer) domain asked
       → IsRepeatOf settings.limits.remembered (later old handling.at).time old.history (sent_for peer exchange domain) entry
-      → ((handling.sends ≡ owned.To peer entry.reply ∷ []) × (new ≡ later old handling.at)) ⊎ IsUnavailable handling.what handled.owed
+      → ((handling.sends ≡ owned.To peer entry.reply ∷ []) × (new ≡ hearing peer (later old handling.at))) ⊎ IsUnavailable handling.what handled.owed

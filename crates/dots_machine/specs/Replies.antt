@@ -1,8 +1,8 @@
 -- The replies: messages with the Message ID and the token of the request (RFC 7252, section 5.2; RFC 9132, section 4.4).
-use Rattle.std.specs.Prelude.{ℕ, ◌/◌, ◌%◌, Bool, true, false, List, [], ◌∷◌, ◌++◌, codes, map, Option}
+use Rattle.std.specs.Prelude.{ℕ, ◌/◌, ◌%◌, Bool, true, false, List, [], ◌∷◌, ◌++◌, codes, decimal, map, Option}
 use Rattle.cbor_profile.specs.Canon.{canon}
 use Rattle.cbor_profile.specs.Tree.{Tree, unsigned}
-use Rattle.coap_message.specs.declared.codes.TheConstants.{EMPTY, CREATED, DELETED, CHANGED, CONTENT, BAD_REQUEST, NOT_FOUND, CONFLICT, INTERNAL_SERVER_ERROR, NOT_IMPLEMENTED, SERVICE_UNAVAILABLE}
+use Rattle.coap_message.specs.declared.codes.TheConstants.{EMPTY, CREATED, DELETED, CHANGED, CONTENT, BAD_REQUEST, NOT_FOUND, CONFLICT, UNPROCESSABLE_ENTITY, INTERNAL_SERVER_ERROR, SERVICE_UNAVAILABLE}
 use Rattle.coap_message.specs.declared.option_numbers.TheConstants.{CONTENT_FORMAT}
 use Rattle.coap_message.specs.declared.TheConstants.{DOTS_CBOR}
 use Rattle.coap_message.specs.declared.kind.Kind.TheVariants.{Rst}
@@ -20,10 +20,14 @@ use Rattle.reply_bodies.specs.Mitigations.{asked_fields, mitigations_with}
 use Rattle.reply_bodies.specs.Replies.{reply_tree}
 use Rattle.conflict_rules.specs.LiveViews.{LiveView}
 use Rattle.conflict_rules.specs.declared.judging.Judged.{Judged}
+use Rattle.dots_history.specs.declared.config.Values.{Values}
+use Rattle.reply_bodies.specs.declared.session.Current.{Current}
+use Rattle.reply_bodies.specs.declared.session.SessionView.{SessionView}
 use Rattle.dots_machine.specs.declared.target.TargetFault.{TargetFault}
 use Rattle.dots_machine.specs.declared.exchange.Exchange.{Exchange}
 use Rattle.dots_machine.specs.Targets.{target_text}
 use Rattle.dots_machine.specs.Exchanges.{reply_kind}
+use Rattle.dots_machine.specs.Sessions.{Configured, sid_of, config_in}
 
 -- a reply without options, whose payload is a text that says why, or empty (section 5.5.2: a diagnostic payload)
 abbrev pub plain : ℕ → Exchange → List ℕ → List ℕ
@@ -113,9 +117,42 @@ bad_request exchange text = plain BAD_REQUEST exchange text
 abbrev pub at_capacity : Exchange → List ℕ
 at_capacity exchange = plain SERVICE_UNAVAILABLE exchange (codes "capacity")
 
--- 5.01 Not Implemented, for what isn't served yet
-abbrev pub not_implemented : Exchange → List ℕ
-not_implemented exchange = plain NOT_IMPLEMENTED exchange []
+-- 2.04 Changed where the configuration of the sid is replaced, and else 2.01 Created (section 4.5.2)
+abbrev pub configuring : Exchange → Bool → List ℕ
+configuring exchange replaced = plain (grant_code replaced) exchange []
+
+-- 4.09 Conflict, where a higher sid is held
+abbrev pub older_sid : Exchange → List ℕ
+older_sid exchange = plain CONFLICT exchange (codes "sid")
+
+-- 4.22 Unprocessable Entity, with the key of the first value that is out of its range
+abbrev pub out_of_range : Exchange → ℕ → List ℕ
+out_of_range exchange key = plain UNPROCESSABLE_ENTITY exchange (codes "range " ++ decimal key)
+
+abbrev pub current_of : Values → Current
+current_of values = record {
+  interval = values.interval;
+  missing = values.missing;
+  retransmit = values.retransmit;
+  timeout = values.timeout;
+  factor = values.factor;
+  rate = values.rate;
+}
+
+-- 2.05 Content, with what is configured, or with what holds where nothing is (section 4.5.1)
+abbrev pub session_view : Option Configured → SessionView
+session_view configured = record {
+  sid = sid_of configured;
+  mitigating = current_of (config_in configured).mitigating;
+  idle = current_of (config_in configured).idle;
+}
+
+abbrev pub configuration_reply : Exchange → Option Configured → List ℕ
+configuration_reply exchange configured = with_body CONTENT exchange (canon (reply_tree (reply.Session (session_view configured))))
+
+-- 2.04 Changed, of a heartbeat (section 4.7)
+abbrev pub heartbeat_reply : Exchange → List ℕ
+heartbeat_reply exchange = plain CHANGED exchange []
 
 -- 5.00 Internal Server Error, for want of memory
 abbrev pub unavailable : Exchange → List ℕ

@@ -20,7 +20,7 @@ received_as exchange (Err reject) = received.Refused exchange reject
 
 -- what the datagram of a gateway, or of a client, is
 pub data IsReceived (datagram : List ℕ) (gateway : Bool) (got : Received) : Type 0 where
-  unread : (fault : CoapFault) → Breaks datagram fault → got ≡ received.Dismissed (dismissed_unread (salvaged datagram)) → IsReceived datagram gateway got
+  unread : (fault : CoapFault) → Breaks datagram fault → got ≡ received.Unread (dismissed_unread (salvaged datagram)) → IsReceived datagram gateway got
   asks_nothing : (message : CoapMessage) (answer : Dismissal) → IsMessage message → datagram ≡ spelling message → dismissed message ≡ Some answer
       → got ≡ received.Dismissed answer → IsReceived datagram gateway got
   meant : (message : CoapMessage) (answer : Result Request Reject) → IsMessage message → datagram ≡ spelling message → dismissed message ≡ None

@@ -1,4 +1,4 @@
-/// What is done with a message that asks nothing (RFC 7252, sections 4.2 and 4.3).
+/// What is done with a datagram that can't be read, and with a message that asks nothing (RFC 7252, sections 4.2 and 4.3).
 #[derive(Clone, Copy)]
 pub enum Dismissal {
     /// Nothing is sent.

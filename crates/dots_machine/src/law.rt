@@ -28,7 +28,7 @@ ghost use Rattle.dots_machine.specs.Domains.{is_gateway};
 ghost use Rattle.dots_machine.specs.Requests.{IsReceived};
 ghost use Rattle.dots_machine.specs.MessageRepeats.{sent_for, IsRepeatOf};
 ghost use Rattle.dots_machine.specs.RepeatRule.{heard_for, AsksToChange};
-ghost use Rattle.dots_machine.specs.Machine.{State, afresh, later, is_stranger, DecidesRequest, Step};
+ghost use Rattle.dots_machine.specs.Machine.{State, afresh, later, hearing, is_stranger, DecidesRequest, Step};
 ghost use Rattle.dots_machine.specs.Handlings.{Handling, IsHandling, EachHandling, handlings_of};
 ghost use Rattle.dots_machine.specs.Adding.{AddsExactly};
 ghost use Rattle.dots_machine.specs.RepeatAnswers.{AnswersRepeats};
@@ -57,7 +57,8 @@ pub fn one_answer()
 
 /// The domains stay apart: of two states of one time that have the same entries of a domain, a step from the one is for another
 /// domain, and leaves the entries of this one as they were, or it can be made from the other too, with the same sends, and both
-/// leave this domain the same. Or it is a restart, which sends nothing and leaves the entries of this one as they were. And the same rows of mitigations filter for it in both.
+/// leave this domain the same. Or it is a tick, whose heartbeats go to peers of all domains: it can be made from the other too, and both leave this
+/// domain the same. Or it is a restart, which sends nothing and leaves the entries of this one as they were. And the same rows of mitigations filter for it in both.
 pub fn domains_stay_apart()
     ensures step { (settings : SettingsValue) (domain : ℕ) (old other : State) (event : Event) (at : ℕ) (owed : List (State × OwnedOut)) (new : State)
         → SameFor domain old other → Step settings old event at owed new → StaysApart settings domain old other event at (outs_of owed) new }
@@ -86,7 +87,7 @@ pub fn repeats_are_answered()
         → AsksToChange settings (role_of settings peer) domain asked
         → IsRepeatOf settings.limits.remembered (later old at).time old.history (sent_for peer exchange domain) entry
         → Step settings old (event.Datagram peer datagram) at owed new
-        → ((outs_of owed ≡ owned.To peer entry.reply ∷ []) × (new ≡ later old at)) ⊎ IsUnavailable (event.Datagram peer datagram) owed }
+        → ((outs_of owed ≡ owned.To peer entry.reply ∷ []) × (new ≡ hearing peer (later old at))) ⊎ IsUnavailable (event.Datagram peer datagram) owed }
     ensures run { (settings : SettingsValue) (from : State) (acts : List Timed) (trace : List State) (new : State)
         → Trace (Step settings) (resting from) acts trace (resting new) → EachHandling (AnswersRepeats settings) from (handlings_of acts) new }
 {}

@@ -3,7 +3,7 @@
 //!
 //! The definitions are in `specs/`, one file for each: `Domains`, `Targets`, `Exchanges` (what is dismissed at once),
 //! `Requests` (what a datagram is), `Replies`, `MessageRepeats` (which messages are repeats, and what they are answered), `Facts` (what is
-//! known of a history, by the places of its entries), `Mitigations` (what is decided on requests for them by the facts), `Deciding` (and on
+//! known of a history, by the places of its entries), `Sessions` (what a peer has configured, and what its heartbeats go by), `Mitigations` (what is decided on requests for them by the facts), `Deciding` (and on
 //! any request), `Machine` (the state, verdicts and a step), `RepeatRule` (which requests come to the rule on repeats), `Apart` (how
 //! domains stay apart), `Handlings` (a run by what becomes of its events), `Adding` (when an entry is added), `Isolation` (what becomes of a domain over a run),
 //! `Orderly` (which mitigations stand beside each other), `Report`, `Commands`, `Outside` (what stood before and after) and `Endings`

@@ -6,7 +6,9 @@ use dots_keys::Request;
 /// What a datagram is.
 #[derive(Drop)]
 pub enum Received {
-    /// It asks nothing.
+    /// It can't be read.
+    Unread(Dismissal),
+    /// A message that asks nothing.
     Dismissed(Dismissal),
     /// A message that is refused for what it has.
     Refused {

@@ -1,13 +1,14 @@
 //! What is kept of an accepted change.
 
-ghost use Rattle.std.specs.Prelude.{◌≡◌, ◌≤◌, true, length, IfOk, OnOk};
+ghost use Rattle.std.specs.Prelude.{◌≡◌, ◌≤◌, true, length, [], IfOk, OnOk};
 ghost use Rattle.dots_lists.specs.Name.{is_name};
 ghost use Rattle.dots_machine.specs.Mitigations.{key_of, entry_of};
+ghost use Rattle.dots_machine.specs.Deciding.{session_entry};
 
 use coap_message::Kind;
 use dots_history::{Change, Entry, MessageKey};
 use dots_lists::{Bytes, Name, NoMemory, Text};
-use dots_machine::{ClientRequest, ShortMessage};
+use dots_machine::{ClientRequest, Exchange, ShortMessage};
 use std::alloc::Global;
 
 /// What is kept of a change that is accepted at this time, in seconds, with the client's name and the reply.
@@ -25,6 +26,31 @@ pub fn entry_of(time: u64, from: &ClientRequest, copies: (Text, Bytes), change: 
         reply,
         change,
     }
+}
+
+/// What is kept of a change of the configuration of a peer's session, which is of no client, at this time, in seconds.
+pub fn session_entry(
+    alloc: Global,
+    time: u64,
+    peer: u32,
+    domain: u16,
+    exchange: &Exchange,
+    reply: &ShortMessage,
+    change: Change,
+) -> Result<Entry, NoMemory>
+    ensures entry { IfOk result (λ entry. entry ≡ session_entry time peer domain exchange.now reply.now change) }
+    ensures reply { OnOk result (length reply.now ≤ 64) }
+{
+    let reply = Bytes::from_slice(alloc, reply.bytes())?;
+    Ok(Entry {
+        time,
+        peer,
+        domain,
+        cuid: Text::from_string(String::new(alloc)),
+        key: key_of(exchange.kind, exchange.id),
+        reply,
+        change,
+    })
 }
 
 /// The client's name and the reply, as an entry has them.

@@ -2,16 +2,18 @@
 //! made here, with what an entry keeps of the one that granted it ([`copies`], [`entry_of`]).
 #![tactic(auto)]
 
+mod configurations;
 mod dismissing;
 mod entries;
 mod long_replies;
 mod receiving;
 mod replies;
 
-pub use entries::{copies, entry_of};
-pub use long_replies::{conflicting, mitigations_reply};
+pub use configurations::config_in;
+pub use entries::{copies, entry_of, session_entry};
+pub use long_replies::{configuration_reply, conflicting, mitigations_reply};
 pub use receiving::receive;
 pub use replies::{
-    absent, at_capacity, bad_parameter, bad_request, bad_target, deleted, granting,
-    not_implemented, rejection, reset, unavailable,
+    absent, at_capacity, bad_parameter, bad_request, bad_target, configuring, deleted, granting,
+    heartbeat_reply, older_sid, out_of_range, rejection, reset, unavailable,
 };

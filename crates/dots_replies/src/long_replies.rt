@@ -1,14 +1,16 @@
 //! Replies with a body of any length.
 
-ghost use Rattle.std.specs.Prelude.{◌≡◌, ◌≢◌, IfOk};
-ghost use Rattle.dots_machine.specs.Replies.{with_body, conflicting};
+ghost use Rattle.std.specs.Prelude.{◌≡◌, ◌≢◌, IfOk, option_map};
+ghost use Rattle.dots_machine.specs.Replies.{with_body, conflicting, configuration_reply};
 ghost use Rattle.reply_bodies.specs.Mitigations.{views_tree};
 ghost use Rattle.cbor_profile.specs.Canon.{canon};
 ghost use Rattle.coap_message.specs.declared.codes.TheConstants.{CONTENT};
 
+use crate::configurations::session_view;
 use coap_message::codes::{CONFLICT, CONTENT};
 use coap_message::option_numbers::CONTENT_FORMAT;
 use coap_message::{DOTS_CBOR, OptionPart, Parts, encode_into, encoded_len};
+use dots_history::Config;
 use dots_lists::{Bytes, NoMemory};
 use dots_machine::Exchange;
 use reply_bodies::{Conflict, ConflictCause, Reply, ViewList, body_of};
@@ -36,6 +38,18 @@ pub fn mitigations_reply(
     ensures { IfOk result (λ reply. reply ≡ with_body CONTENT exchange.now (canon (views_tree views.entry))) }
 {
     let body = body_of(alloc, &Reply::Mitigations(views))?;
+    long_reply(alloc, CONTENT, exchange, body.items())
+}
+
+/// 2.05, with the configuration of a session and its sid, or with what holds where none is held (RFC 9132, section 4.5.1).
+pub fn configuration_reply(
+    alloc: Global,
+    exchange: &Exchange,
+    configured: Option<(u32, &Config)>,
+) -> Result<Bytes, NoMemory>
+    ensures { IfOk result (λ reply. reply ≡ configuration_reply exchange.now (option_map (λ held. (held.0, held.1.now)) configured.entry)) }
+{
+    let body = body_of(alloc, &Reply::Session(session_view(configured)))?;
     long_reply(alloc, CONTENT, exchange, body.items())
 }
 

@@ -20,7 +20,7 @@ pub fn receive(alloc: Global, datagram: &[u8], gateway: bool) -> Result<Received
 {
     match decode(datagram) {
         Ok(message) => receive_message(alloc, &message, gateway),
-        Err(_) => Ok(Received::Dismissed(dismissed_unread(datagram))),
+        Err(_) => Ok(Received::Unread(dismissed_unread(datagram))),
     }
 }
 

@@ -1,11 +1,11 @@
 //! The replies.
 
 ghost use Rattle.std.specs.Prelude.{◌≡◌, ◌≢◌, ◌≤◌, length, IfOk};
-ghost use Rattle.dots_machine.specs.Replies.{reset_message, plain, with_body, granting, grant_code, deleted, absent, bad_request, at_capacity, rejection, bad_parameter, not_implemented, unavailable, bad_target};
+ghost use Rattle.dots_machine.specs.Replies.{reset_message, plain, with_body, granting, grant_code, deleted, absent, bad_request, at_capacity, rejection, bad_parameter, unavailable, bad_target, configuring, older_sid, out_of_range, heartbeat_reply};
 
 use coap_message::codes::{
-    BAD_REQUEST, CHANGED, CREATED, DELETED, EMPTY, INTERNAL_SERVER_ERROR, NOT_FOUND,
-    NOT_IMPLEMENTED, SERVICE_UNAVAILABLE,
+    BAD_REQUEST, CHANGED, CONFLICT, CREATED, DELETED, EMPTY, INTERNAL_SERVER_ERROR, NOT_FOUND,
+    SERVICE_UNAVAILABLE, UNPROCESSABLE_ENTITY,
 };
 use coap_message::option_numbers::CONTENT_FORMAT;
 use coap_message::{DOTS_CBOR, Kind, OptionPart, Parts};
@@ -13,6 +13,7 @@ use conflict_rules::Judged;
 use dots_heads::{MAX_TEXT, Reject};
 use dots_lists::NoMemory;
 use dots_machine::{Exchange, ShortMessage, TargetFault};
+use itoa::Buffer;
 use reply_bodies::{Reply, body_of};
 use std::alloc::Global;
 
@@ -125,11 +126,38 @@ pub fn at_capacity(exchange: &Exchange) -> ShortMessage
     plain(SERVICE_UNAVAILABLE, exchange, b"capacity")
 }
 
-/// 5.01, for what isn't served.
-pub fn not_implemented(exchange: &Exchange) -> ShortMessage
-    ensures { result ≡ not_implemented exchange.now }
+/// 2.04 where the configuration of the same sid is replaced, else 2.01 (RFC 9132, section 4.5.2).
+pub fn configuring(exchange: &Exchange, replaced: bool) -> ShortMessage
+    ensures { result ≡ configuring exchange.now replaced }
 {
-    plain(NOT_IMPLEMENTED, exchange, &[])
+    plain(grant_code(replaced), exchange, &[])
+}
+
+/// 4.09, where a configuration with a higher sid is held (RFC 9132, section 4.5.2).
+pub fn older_sid(exchange: &Exchange) -> ShortMessage
+    ensures { result ≡ older_sid exchange.now }
+{
+    plain(CONFLICT, exchange, b"sid")
+}
+
+/// 4.22, where the value of this key is out of its range (RFC 9132, section 4.5.2).
+pub fn out_of_range(exchange: &Exchange, key: u8) -> ShortMessage
+    ensures { result ≡ out_of_range exchange.now key }
+{
+    let mut buffer = Buffer::new();
+    let digits = buffer.format(key).as_bytes();
+    let mut text = [0; MAX_TEXT];
+    let (front, rest) = text.split_at_mut(6);
+    front.copy_from_slice(b"range ");
+    rest[..digits.len()].copy_from_slice(digits);
+    plain(UNPROCESSABLE_ENTITY, exchange, &text[..6 + digits.len()])
+}
+
+/// 2.04, of a heartbeat (RFC 9132, section 4.7).
+pub fn heartbeat_reply(exchange: &Exchange) -> ShortMessage
+    ensures { result ≡ heartbeat_reply exchange.now }
+{
+    plain(CHANGED, exchange, &[])
 }
 
 /// 5.00, for want of memory.

@@ -1,5 +1,5 @@
 -- What a server represents when it begins, and when it begins anew.
-use Rattle.std.proofs.Common.{◌≡◌, ℕ, ◌<◌, ◌≤◌, ◌^◌, true, List, [], ◌∷◌, max, Option, Some, None, refl, sym, ap, ◌∙◌, subst, arith, inr}
+use Rattle.std.proofs.Common.{◌≡◌, ℕ, ◌<◌, ◌≤◌, ◌^◌, true, List, [], ◌∷◌, map, max, Option, Some, None, refl, sym, ap, ◌∙◌, subst, arith, inr}
 use Rattle.std.specs.List.{list_all, AllByRecursion}
 use Rattle.std.proofs.lemmas.Bool.{and_from}
 use Rattle.dots_disk.specs.Media.{Media}
@@ -29,6 +29,8 @@ use Rattle.dots_ledger.proofs.Recovering.{fails_alone}
 use Rattle.dots_ledger.proofs.Wholes.{ledger_whole}
 use Rattle.dots_registry.specs.Limits.{ClientsKeepLimits}
 use Rattle.dots_registry.proofs.CalmLimits.{limits_calm, limits_whole, own_calm, early_calm}
+use Rattle.session_core.specs.declared.contact.PeerContact.{PeerContact}
+use Rattle.session_core.specs.Contacts.{unheard}
 use Rattle.dots_machine.specs.Machine.{State, begun_from, restarted}
 use Rattle.dots_server.specs.ServerValues.{ServerValue, ledger_of, IsKept, IsServing}
 
@@ -40,9 +42,10 @@ bounded_by [] each = refl
 bounded_by (e ∷ entries) each = and_from (within_bounds e) (list_all within_bounds entries) each.0.within (bounded_by entries each.1)
 
 module _ (settings : SettingsValue) (at : ℕ) (tables : LedgerValue) (held : List Entry) (early : at < 2 ^ 48) (represents : ledger.Represents tables settings held held)
-    (time : time_of tables.registry ≡ max at (last_time held)) (slots : tables.journal.slots ≡ slots_of settings) (each : AllByRecursion HasRecord held) where
+    (time : time_of tables.registry ≡ max at (last_time held)) (slots : tables.journal.slots ≡ slots_of settings) (each : AllByRecursion HasRecord held)
+    (sessions : List PeerContact) (unheard_all : sessions ≡ map unheard settings.peers) where
   abbrev begun : ServerValue
-  begun = record { settings = settings; registry = tables.registry; journal = tables.journal }
+  begun = record { settings = settings; registry = tables.registry; journal = tables.journal; sessions = sessions }
 
   pub begun_kept : IsKept begun settings (restarted settings (begun_from settings held) at) held
   begun_kept =
@@ -53,6 +56,7 @@ module _ (settings : SettingsValue) (at : ℕ) (tables : LedgerValue) (held : Li
             is_of = represents.is_of;
             registry = represents.registry;
             time_is = time;
+            contacts = unheard_all;
             early = omega (arith, early, young);
             own = own_calm settings held represents.calm;
             bounded = bounded_by held each;
@@ -125,6 +129,7 @@ module _ (settings : SettingsValue) (at : ℕ) (old new : ServerValue) (state : 
             is_of = whole.is_of;
             registry = whole.registry;
             time_is = now;
+            contacts = begun_anew.represents.represents.contacts;
             early = subst (λ t. max at t < 2 ^ 48) same_time young;
             own = kept.represents.represents.own;
             bounded = kept.represents.represents.bounded;

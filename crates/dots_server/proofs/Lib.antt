@@ -16,3 +16,4 @@ pub mod Reports
 pub mod Insides
 pub mod MitigationReplies
 pub mod Verdicts
+pub mod Sessions

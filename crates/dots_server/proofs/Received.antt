@@ -35,11 +35,14 @@ module _ (settings : SettingsValue) (state : State) (peer : ℕ) (datagram : Lis
   same_request x r y (Ok s) e = (cc e, cc e)
   same_request x r y (Err s) e = absurd (cc e)
 
+  never_unread : (answer : Dismissal) (x : Exchange) (r : Request) → received.Asked x r ≡ received.Unread answer → ⊥
+  never_unread answer x r e = cc e
+
   never_dismissed : (answer : Dismissal) (x : Exchange) (r : Request) → received.Asked x r ≡ received.Dismissed answer → ⊥
   never_dismissed answer x r e = cc e
 
   lacks_memory : (x : Exchange) (r : Request) (v : Verdict) → IsReceived datagram gateway (received.Asked x r) → v ≡ verdict.Reply (unavailable x) → Decides settings state peer datagram v
-  lacks_memory x r v (unread fault breaks e) is = absurd (never_dismissed _ x r e)
+  lacks_memory x r v (unread fault breaks e) is = absurd (never_unread _ x r e)
   lacks_memory x r v (asks_nothing message answer m spelled dismisses e) is = absurd (never_dismissed answer x r e)
   lacks_memory x r v (meant message answer m spelled asks means e) is =
       let same = same_request x r (exchange_in message) answer e in
@@ -49,6 +52,7 @@ module _ (settings : SettingsValue) (state : State) (peer : ℕ) (datagram : Lis
   unavailable_decided : (got : Received) (v : Verdict) → IsReceived datagram gateway got → IsUnavailable got v → Decides settings state peer datagram v
   unavailable_decided (received.Asked x r) v got lacks = lacks_memory x r v got lacks
   unavailable_decided (received.Refused x e) v got lacks = absurd lacks
+  unavailable_decided (received.Unread d) v got lacks = absurd lacks
   unavailable_decided (received.Dismissed d) v got lacks = absurd lacks
 
   pub decided : (got : Received) (v : Verdict) → IsReceived datagram gateway got → DecidesOn settings state peer got v → Decides settings state peer datagram v

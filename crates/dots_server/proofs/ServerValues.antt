@@ -25,7 +25,7 @@ use Rattle.dots_server.specs.ServerValues.{ServerValue, ledger_of, Represents, R
 
 -- ---- the time of the tables was moved
 
-module _ (at : ℕ) (old new : ServerValue) (early : at < 2 ^ 48) (same : new.settings ≡ old.settings) (journal : new.journal ≡ old.journal) (time : time_of new.registry ≡ max at (time_of old.registry))
+module _ (at : ℕ) (old new : ServerValue) (early : at < 2 ^ 48) (same : new.settings ≡ old.settings) (sessions : new.sessions ≡ old.sessions) (journal : new.journal ≡ old.journal) (time : time_of new.registry ≡ max at (time_of old.registry))
     (goes : (settings : SettingsValue) (history entries : List Entry) → ledger.Represents (ledger_of old) settings history entries → ledger.Represents (ledger_of new) settings history entries) where
   with_later : (settings : SettingsValue) (state : State) (entries : List Entry) → RepresentsWith old settings state entries → RepresentsWith new settings (later state at) entries
   with_later settings state entries represents =
@@ -36,6 +36,7 @@ module _ (at : ℕ) (old new : ServerValue) (early : at < 2 ^ 48) (same : new.se
           is_of = tables.is_of;
           registry = tables.registry;
           time_is = time ∙ ap (max at) represents.represents.time_is;
+          contacts = sessions ∙ represents.represents.contacts;
           early = omega (arith, early, young);
           own = represents.represents.own;
           bounded = represents.represents.bounded;
@@ -86,7 +87,7 @@ can_accept server entry serving can = record {
   joins = joins_there server server.settings serving.state entry serving.represents.represents can;
 }
 
-module _ (entry : Entry) (old new : ServerValue) (can : IsAcceptable old entry) (same : new.settings ≡ old.settings) (slots : new.journal.slots ≡ old.journal.slots) (time : time_of new.registry ≡ entry.time) where
+module _ (entry : Entry) (old new : ServerValue) (can : IsAcceptable old entry) (same : new.settings ≡ old.settings) (sessions : new.sessions ≡ old.sessions) (slots : new.journal.slots ≡ old.journal.slots) (time : time_of new.registry ≡ entry.time) where
   -- it is in the tables and on the disk
   with_entry_kept : (settings : SettingsValue) (state : State) (entries few : List Entry) → RepresentsWith old settings state entries → ledger.Represents (ledger_of new) settings (state.history ++ entry ∷ []) few
       → RepresentsWith new settings (with_entry state entry) few
@@ -98,6 +99,7 @@ module _ (entry : Entry) (old new : ServerValue) (can : IsAcceptable old entry) 
           is_of = tables.is_of;
           registry = tables.registry;
           time_is = time ∙ at;
+          contacts = sessions ∙ represents.represents.contacts;
           early = represents.represents.early;
           own = own_with settings old state entry represents.represents can;
           bounded = list_with within_bounds state.history entry represents.represents.bounded fits.0;
@@ -125,9 +127,9 @@ module _ (entry : Entry) (old new : ServerValue) (can : IsAcceptable old entry) 
   }
 
 -- the disk failed, and the tables are as they were
-pub lives_still : (old new : ServerValue) (few : List Entry) (serving : IsServing old) → new.settings ≡ old.settings → new.journal.slots ≡ old.journal.slots → time_of new.registry ≡ time_of old.registry
+pub lives_still : (old new : ServerValue) (few : List Entry) (serving : IsServing old) → new.settings ≡ old.settings → new.sessions ≡ old.sessions → new.journal.slots ≡ old.journal.slots → time_of new.registry ≡ time_of old.registry
     → ledger.Represents (ledger_of new) old.settings serving.state.history few → IsServing new
-lives_still old new few serving same slots time tables =
+lives_still old new few serving same sessions slots time tables =
     let represents = serving.represents in record {
       state = serving.state;
       entries = few;
@@ -137,6 +139,7 @@ lives_still old new few serving same slots time tables =
           is_of = tables.is_of;
           registry = tables.registry;
           time_is = time ∙ represents.represents.time_is;
+          contacts = sessions ∙ represents.represents.contacts;
           early = represents.represents.early;
           own = represents.represents.own;
           bounded = represents.represents.bounded;
@@ -149,7 +152,7 @@ lives_still old new few serving same slots time tables =
 
 abbrev pub MovesAlone : What → Type 0
 MovesAlone what =
-    ((c : ℕ) × (p : ℕ) × (what ≡ what_is.Opened c p)) ⊎ ((c : ℕ) × (n : ℕ) × (what ≡ what_is.Piece c n)) ⊎ ((c : ℕ) × (what ≡ what_is.Closed c)) ⊎ (what ≡ what_is.Tick)
+    ((c : ℕ) × (p : ℕ) × (what ≡ what_is.Opened c p)) ⊎ ((c : ℕ) × (n : ℕ) × (what ≡ what_is.Piece c n)) ⊎ ((c : ℕ) × (what ≡ what_is.Closed c))
 
 -- an event that isn't served yet moves the time and no more
 pub moves_alone : (settings : SettingsValue) (what : What) (room : List ℕ) (at : ℕ) (state : State) → MovesAlone what → Step settings state (event_of what room) at [] (later state at)
@@ -161,5 +164,4 @@ moves_alone settings what room at state is = by_case is
     by_case : MovesAlone what → Step settings state (event_of what room) at [] (later state at)
     by_case (inl (c, p, e)) = so (what_is.Opened c p) e (refl, refl)
     by_case (inr (inl (c, n, e))) = so (what_is.Piece c n) e (refl, refl)
-    by_case (inr (inr (inl (c, e)))) = so (what_is.Closed c) e (refl, refl)
-    by_case (inr (inr (inr e))) = so what_is.Tick e (refl, refl)
+    by_case (inr (inr (c, e))) = so (what_is.Closed c) e (refl, refl)

@@ -1,5 +1,5 @@
 -- What one event comes to in a run.
-use Rattle.std.proofs.Common.{◌≡◌, ◌≢◌, ℕ, ◌≤◌, max, inl, List, [], ◌∷◌, Option, Err, refl, sym, ap, arith, append-nil}
+use Rattle.std.proofs.Common.{◌≡◌, ◌≢◌, ℕ, ◌≤◌, max, inl, List, [], ◌∷◌, Option, Err, refl, sym, ap, ◌∙◌, arith, append-nil}
 use Rattle.dots_host.specs.declared.event.Event.{Event}
 use Rattle.dots_host.specs.declared.event.Event.TheVariants as event
 use Rattle.dots_host.specs.declared.event.What.{What}
@@ -23,7 +23,8 @@ use Rattle.slot_journal.specs.DiskEntries.{Holds}
 use Rattle.slot_journal.specs.DiskEntries as journal
 use Rattle.dots_machine.specs.declared.ending.Stop.{Stop}
 use Rattle.dots_machine.specs.declared.ending.Stop.TheVariants as stop
-use Rattle.dots_machine.specs.Machine.{State, restarted, StepInto}
+use Rattle.dots_machine.specs.Machine.{State, later, restarted, StepInto}
+use Rattle.dots_machine.proofs.Hearing.{hears_time}
 use Rattle.dots_server.specs.ServerValues.{ServerValue, IsKept}
 use Rattle.dots_server.specs.Turning.{IsServed, HoldsTurn, Broke}
 use Rattle.dots_server.proofs.Turning.{keeps_itself, added_behind}
@@ -95,7 +96,7 @@ served_of what_is.Tick end failed other = tt
 pub into_timely : (settings : SettingsValue) (old : State) (what : Event) (at : ℕ) (turns : List (Turn State)) (last : Turn State) → last_time old.history ≤ old.time → StepInto settings old what at turns last
     → last_time old.history ≤ last.left.time
 into_timely settings old (event.Datagram peer datagram) at turns last timely into =
-    let is : last.left.time ≡ max at old.time = ap (λ (turn : Turn State). turn.left.time) into.4 in
+    let is : last.left.time ≡ max at old.time = ap (λ (turn : Turn State). turn.left.time) into.6 ∙ hears_time settings peer datagram (later old at) into.4 into.5 in
     omega (arith, timely, is)
 into_timely settings old event.End at turns last timely into = absurd into
 into_timely settings old event.Failed at turns last timely into = absurd into

@@ -1,5 +1,5 @@
 -- What an event does to the disk and to the wire, part by part.
-use Rattle.std.proofs.Common.{◌≡◌, ℕ, inl, inr, List, [], ◌∷◌, ◌++◌, Option, Some, None, refl, sym, ◌∙◌, subst, append-nil}
+use Rattle.std.proofs.Common.{◌≡◌, ℕ, Bool, inl, inr, List, [], ◌∷◌, ◌++◌, Option, Some, None, refl, sym, ◌∙◌, subst, append-nil}
 use Rattle.dots_host.specs.declared.out.OwnedOut.{OwnedOut}
 use Rattle.dots_host.specs.Acts.{Timed}
 use Rattle.dots_host.specs.Runs.{Added, Gives}
@@ -15,6 +15,7 @@ use Rattle.dots_ledger.specs.Crashes.{HoldsEither}
 use Rattle.dots_machine.specs.Verdict.{Verdict}
 use Rattle.dots_machine.specs.declared.verdict.Verdict.TheVariants as verdict
 use Rattle.dots_machine.specs.Machine.{State, later, with_entry, Decides}
+use Rattle.dots_server.specs.Sessions.{met}
 use Rattle.dots_server.specs.Turning.{HoldsTurn, Turned, Broke}
 
 -- where nothing was written the disk is as it was, at each moment of none
@@ -66,9 +67,9 @@ accepting settings n t state entry old new same at now =
     by_image image (inr holds) =
         inr (subst (λ k. HoldsKept settings k state.time (state.history ++ entry ∷ []) image) same (subst (λ u. HoldsKept settings n u (state.history ++ entry ∷ []) image) now holds))
 
--- the history is the same before and after the time was moved
-module _ (settings : SettingsValue) (state new : State) (at : ℕ) (Before : (ℕ → ℕ) → Type 0) (media media_new : Option Media) (acts acts_new : Option (List Timed)) where
-  pub turned_from : (outs : List OwnedOut) (After : (ℕ → ℕ) → Type 0) → Turned settings (later state at) new outs Before After media media_new acts acts_new
+-- the history is the same before and after the time was moved and the peer was met
+module _ (settings : SettingsValue) (state new : State) (at : ℕ) (heard : Bool) (peer : ℕ) (Before : (ℕ → ℕ) → Type 0) (media media_new : Option Media) (acts acts_new : Option (List Timed)) where
+  pub turned_from : (outs : List OwnedOut) (After : (ℕ → ℕ) → Type 0) → Turned settings (met heard peer (later state at)) new outs Before After media media_new acts acts_new
       → Turned settings state new outs Before After media media_new acts acts_new
   turned_from outs After turned = record {
     between = turned.between;
@@ -80,5 +81,5 @@ module _ (settings : SettingsValue) (state new : State) (at : ℕ) (Before : (�
     sends = turned.sends;
   }
 
-  pub broke_from : Broke settings (later state at) new Before media media_new acts acts_new → Broke settings state new Before media media_new acts acts_new
+  pub broke_from : Broke settings (met heard peer (later state at)) new Before media media_new acts acts_new → Broke settings state new Before media media_new acts acts_new
   broke_from broke = record { silent = broke.silent; writes = broke.writes; own = broke.own }

@@ -26,11 +26,11 @@ use Rattle.dots_machine.specs.Verdict.{Verdict}
 use Rattle.dots_machine.specs.declared.verdict.Verdict.TheVariants as verdict
 use Rattle.dots_machine.specs.Domains.{is_gateway, session_domain}
 use Rattle.dots_machine.specs.Targets.{scope_fault}
-use Rattle.dots_machine.specs.Replies.{bad_target, not_implemented}
+use Rattle.dots_machine.specs.Replies.{bad_target}
 use Rattle.dots_machine.specs.MessageRepeats.{Sent, sent_for, unless_repeated}
 use Rattle.dots_machine.specs.Mitigations.{sent_by, request_of, judged, unless_faulty, put_answer}
 use Rattle.dots_machine.specs.Machine.{State, is_stranger, facts_in}
-use Rattle.dots_machine.specs.Deciding.{in_domain, config_for}
+use Rattle.dots_machine.specs.Deciding.{in_domain}
 use Rattle.dots_server.specs.Asking.{role_with}
 use Rattle.dots_server.specs.ServerValues.{ServerValue, Represents, IsServing}
 
@@ -160,20 +160,9 @@ module _ (server : ServerValue) (settings : SettingsValue) (state : State) (a : 
       → judged (time_of server.registry) a r ≡ by_rules
   server_judges r is = ap (λ t. judged t a r) represents.time_is ∙ ap (judged state.time a) (sym (judged_here r is))
 
--- ---- on a request to change the configuration of a session
-module _ (settings : SettingsValue) (state : State) (peer : ℕ) (x : Exchange) (own : Option ℕ) (own_is : role_of settings peer ≡ role_with own) (domain : ℕ)
-    (there : session_domain (role_with own) ≡ Some domain) where
-  abbrev recalled : Option Entry
-  recalled = (facts_in settings state).repeated (sent_for peer x domain)
-
-  abbrev decided : Verdict
-  decided = in_domain x (session_domain (role_of settings peer)) (config_for (facts_in settings state) peer x)
-
-  found_there : config_for (facts_in settings state) peer x domain ≡ decided
-  found_there = sym (ap (λ d. in_domain x d (config_for (facts_in settings state) peer x)) (ap session_domain own_is ∙ there))
-
-  pub config_repeats : (reply : List ℕ) → Some reply ≡ reply_in recalled → verdict.Reply reply ≡ decided
-  config_repeats reply is = repeat_found recalled (verdict.Reply (not_implemented x)) reply is ∙ found_there
-
-  pub config_new : None ≡ reply_in recalled → verdict.Reply (not_implemented x) ≡ decided
-  config_new new = repeat_none recalled (verdict.Reply (not_implemented x)) new ∙ found_there
+-- ---- on a request for the configuration of a session
+module _ (settings : SettingsValue) (peer : ℕ) (x : Exchange) (own : Option ℕ) (own_is : role_of settings peer ≡ role_with own) (domain : ℕ)
+    (there : session_domain (role_with own) ≡ Some domain) (decide : ℕ → Verdict) where
+  -- it is decided in the domain of the session
+  pub in_session : decide domain ≡ in_domain x (session_domain (role_of settings peer)) decide
+  in_session = sym (ap (λ d. in_domain x d decide) (ap session_domain own_is ∙ there))

@@ -5,3 +5,4 @@ pub mod Taking
 pub mod ServerValues
 pub mod Turning
 pub mod Asking
+pub mod Sessions

@@ -1,4 +1,4 @@
--- What a server keeps: the settings, a registry of what the history comes to, and the journal in which its entries are.
+-- What a server keeps: the settings, a registry of what the history comes to, the journal in which its entries are, and the sessions with its peers.
 use Rattle.std.specs.Prelude.{◌≡◌, ℕ, ◌<◌, ◌^◌, true, List, ⊤}
 use Rattle.std.specs.List.{list_all}
 use Rattle.dots_settings.specs.Settings.{SettingsValue}
@@ -15,6 +15,7 @@ use Rattle.slot_journal.specs.Sizes.{slots_of}
 use Rattle.dots_ledger.specs.LedgerValues.{LedgerValue}
 use Rattle.dots_ledger.specs.LedgerValues as ledger
 use Rattle.dots_registry.specs.Limits.{ClientsKeepLimits}
+use Rattle.session_core.specs.declared.contact.PeerContact.{PeerContact}
 use Rattle.dots_machine.specs.Verdict.{Verdict}
 use Rattle.dots_machine.specs.declared.verdict.Verdict.TheVariants as verdict
 use Rattle.dots_machine.specs.Machine.{State}
@@ -23,17 +24,19 @@ pub record ServerValue : Type 0 where
   pub settings : SettingsValue
   pub registry : RegistryValue
   pub journal : JournalValue
+  pub sessions : List PeerContact
 
 abbrev pub ledger_of : ServerValue → LedgerValue
 ledger_of server = record { registry = server.registry; journal = server.journal }
 
 -- A server represents a state: its registry is of the settings, and represents the history at the state's time, which is below
--- 2^48; and the entries are the settings' own and within bounds, and the clients keep the limits.
+-- 2^48; its sessions are those of the state; and the entries are the settings' own and within bounds, and the clients keep the limits.
 pub record Represents (server : ServerValue) (settings : SettingsValue) (state : State) : Type 0 where
   pub settings_are : server.settings ≡ settings
   pub is_of : IsOf settings server.registry
   pub registry : registry.Represents server.registry state.history
   pub time_is : time_of server.registry ≡ state.time
+  pub contacts : server.sessions ≡ state.contacts
   pub early : state.time < 2 ^ 48
   pub own : list_all (is_own settings) state.history ≡ true
   pub bounded : list_all within_bounds state.history ≡ true

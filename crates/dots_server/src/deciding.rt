@@ -5,12 +5,13 @@ ghost use Rattle.dots_keys.specs.Askable.{IsAskable, IsAskableBody};
 ghost use Rattle.dots_settings.specs.Settings.{SettingsValue};
 ghost use Rattle.dots_settings.specs.Lookups.{role_of};
 ghost use Rattle.dots_laws.specs.Calm.{may_act};
-ghost use Rattle.dots_machine.specs.Machine.{State, reject_verdict, dismissal_verdict, Decides, facts_in};
+ghost use Rattle.dots_machine.specs.Machine.{State, reject_verdict, dismissal_verdict, Decides, Hears, facts_in};
 ghost use Rattle.dots_machine.specs.Domains.{domain_for};
 ghost use Rattle.dots_machine.specs.Deciding.{in_domain, with_mid, put_in, put_for, delete_in, delete_for, get_for, answer_to};
 ghost use Rattle.dots_server.specs.Asking.{IsOwn, domain_asked, DecidesOn};
 ghost use Rattle.dots_replies.specs.Receiving.{IsGrantable};
 ghost use Rattle.dots_server.specs.ServerValues.{Represents, CanCarryOut};
+ghost use Rattle.dots_server.specs.Sessions.{is_heard, met};
 
 use crate::server::Server;
 use crate::verdict::Verdict;
@@ -19,31 +20,51 @@ use dots_heads::{Content, MitigationPath, Reject};
 use dots_keys::{MitigationBody, Request};
 use dots_lists::{Name, NoMemory};
 use dots_machine::{ClientRequest, Dismissal, Exchange, MitigationRequest, Received};
-use dots_replies::{bad_parameter, not_implemented, receive, rejection, reset, unavailable};
+use dots_replies::{bad_parameter, heartbeat_reply, receive, rejection, reset, unavailable};
 use dots_settings::Role;
 
+/// What is decided on a datagram.
+#[derive(Drop)]
+pub(crate) struct Decided {
+    /// Whether its peer is heard by it.
+    pub heard: bool,
+    pub verdict: Verdict,
+}
+
 impl Server {
-    /// What is decided on a datagram, that of a stranger being passed over in silence. What is accepted can be carried out.
-    pub(crate) fn decide(&self, peer: u32, datagram: &[u8]) -> Verdict
-        ensures decides { (settings : SettingsValue) (state : State) → Represents self.now settings state → Decides settings state peer datagram.now result }
-        ensures ready { CanCarryOut result self.now }
+    /// What is decided on a datagram, that of a stranger being passed over in silence, and whether its peer is heard by it. What is accepted can
+    /// be carried out.
+    pub(crate) fn decide(&self, peer: u32, datagram: &[u8]) -> Decided
+        ensures decides { (settings : SettingsValue) (state : State) → Represents self.now settings state → Decides settings state peer datagram.now result.verdict }
+        ensures hears { (state : State) → Hears self.now.settings state peer datagram.now (met result.heard peer state) }
+        ensures ready { CanCarryOut result.verdict self.now }
     {
         match self.settings.domain_of(peer) {
-            Role::Stranger => Verdict::Silent,
+            Role::Stranger => Decided {
+                heard: false,
+                verdict: Verdict::Silent,
+            },
             Role::Client(domain) => self.decide_known(peer, Some(domain), datagram),
             Role::Gateway => self.decide_known(peer, None, datagram),
         }
     }
 
     /// What is decided on the datagram of a client of this domain, or of a gateway.
-    fn decide_known(&self, peer: u32, own: Option<u16>, datagram: &[u8]) -> Verdict
+    fn decide_known(&self, peer: u32, own: Option<u16>, datagram: &[u8]) -> Decided
         requires own { IsOwn self.now.settings peer own }
-        ensures decides { (settings : SettingsValue) (state : State) → Represents self.now settings state → Decides settings state peer datagram.now result }
-        ensures ready { CanCarryOut result self.now }
+        ensures decides { (settings : SettingsValue) (state : State) → Represents self.now settings state → Decides settings state peer datagram.now result.verdict }
+        ensures hears { (state : State) → Hears self.now.settings state peer datagram.now (met result.heard peer state) }
+        ensures ready { CanCarryOut result.verdict self.now }
     {
         match receive(self.alloc, datagram, own.is_none()) {
-            Ok(received) => self.decide_on(peer, own, received),
-            Err(exchange) => Verdict::Reply(unavailable(&exchange)),
+            Ok(received) => Decided {
+                heard: is_heard(&received),
+                verdict: self.decide_on(peer, own, received),
+            },
+            Err(exchange) => Decided {
+                heard: true,
+                verdict: Verdict::Reply(unavailable(&exchange)),
+            },
         }
     }
 
@@ -55,7 +76,9 @@ impl Server {
         ensures ready { CanCarryOut result self.now }
     {
         match received {
-            Received::Dismissed(dismissal) => dismissal_verdict(dismissal),
+            Received::Unread(dismissal) | Received::Dismissed(dismissal) => {
+                dismissal_verdict(dismissal)
+            }
             Received::Refused { exchange, reject } => reject_verdict(&exchange, &reject),
             Received::Asked { exchange, request } => {
                 match self.decide_request(peer, own, exchange, request) {
@@ -88,12 +111,10 @@ impl Server {
                 self.get_by_path(peer, own, exchange, path, content)
             }
             Request::DeleteMitigation { path } => self.delete_by_path(peer, own, exchange, path),
-            Request::PutConfig { .. } | Request::DeleteConfig { .. } => {
-                Ok(self.decide_config(peer, own, &exchange))
-            }
-            Request::GetConfig { .. } | Request::PutHeartbeat { .. } => {
-                Ok(Verdict::Reply(not_implemented(&exchange)))
-            }
+            Request::PutConfig { sid, body } => self.put_config(peer, own, &exchange, sid, &body),
+            Request::GetConfig { sid } => self.get_config(peer, own, &exchange, sid),
+            Request::DeleteConfig { sid } => self.delete_config(peer, own, &exchange, sid),
+            Request::PutHeartbeat { .. } => Ok(Verdict::Reply(heartbeat_reply(&exchange))),
         }
     }
 
@@ -231,7 +252,17 @@ impl Server {
     }
 }
 
-/// What is done with a message that asks nothing.
+/// Whether a peer is heard by what it sent: what can't be read isn't heard.
+fn is_heard(received: &Received) -> bool
+    ensures { result ≡ is_heard received.now }
+{
+    match received {
+        Received::Unread(_) => false,
+        Received::Dismissed(_) | Received::Refused { .. } | Received::Asked { .. } => true,
+    }
+}
+
+/// What is done with what can't be read, and with a message that asks nothing.
 fn dismissal_verdict(dismissal: Dismissal) -> Verdict
     ensures { result ≡ dismissal_verdict dismissal }
 {

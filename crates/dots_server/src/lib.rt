@@ -1,12 +1,14 @@
 //! The server: what it decides on an event, what it keeps, and what it sends.
 //!
 //! Start at [`Server`]. A datagram's bytes become what was received (`dots_replies`), that becomes a verdict, which is a value
-//! (`deciding`, `mitigations`, `repeating`), and one function carries a verdict out. What the server keeps represents a state of the machine
-//! of `dots_machine` (`specs/ServerValues.antt`), and each call of [`Server::handle`] is one of its steps. The report has a
+//! (`deciding`, `mitigations`, `configuring`, `repeating`), and one function carries a verdict out. What the server keeps represents a state of the machine
+//! of `dots_machine` (`specs/ServerValues.antt`), and each call of [`Server::handle`] is one of its steps. At a tick the heartbeats that are due are sent (`beating`). The report has a
 //! line for each row of a mitigation that filters, and one for each sample packet (`report`), gathered in a block on the way to its sink
 //! (`gathering`).
 #![tactic(auto)]
 
+mod beating;
+mod configuring;
 mod deciding;
 mod events;
 mod gathering;

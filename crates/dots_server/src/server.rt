@@ -1,6 +1,6 @@
 //! The server: the settings, and what was accepted, in its tables and on the disk.
 
-ghost use Rattle.std.specs.Prelude.{◌≡◌, ◌≢◌, ℕ, ◌<◌, ◌≤◌, ◌⊎◌, ◌^◌, [], ◌∷◌, length, true, List, IfOk, IfErr, OnOk, OnErr, ⊤};
+ghost use Rattle.std.specs.Prelude.{◌≡◌, ◌≢◌, ℕ, ◌<◌, ◌≤◌, ◌⊎◌, ◌^◌, [], ◌∷◌, length, true, if◌then◌else◌, List, IfOk, IfErr, OnOk, OnErr, ⊤};
 ghost use Rattle.std.specs.Io.KnownBytes.{Appends};
 ghost use Rattle.dots_disk.specs.Becoming.{Leaves, RestsWith, KeepsMedia};
 ghost use Rattle.dots_host.specs.Acts.{IsWithin, event_of};
@@ -20,20 +20,27 @@ ghost use Rattle.slot_journal.specs.DiskEntries as journal;
 ghost use Rattle.slot_journal.specs.Refused.{Caused};
 ghost use Rattle.slot_journal.specs.declared.fault.JournalFault.TheVariants as faults;
 ghost use Rattle.slot_journal.specs.Untaken.{RefusesLedger, IsFailure};
-ghost use Rattle.dots_machine.specs.Machine.{State, begun_from, later, restarted, sends_of, after};
+ghost use Rattle.dots_machine.specs.Machine.{State, begun_from, later, restarted, sends_of, after, beating};
 ghost use Rattle.dots_machine.specs.Report.{report_of};
+ghost use Rattle.dots_registry.specs.RegistryValues.{time_of};
+ghost use Rattle.session_core.specs.Contacts.{heard_from};
+ghost use Rattle.dots_notices.specs.Beats.{beats};
 ghost use Rattle.dots_server.specs.ServerValues.{Represents, IsKept, CanCarryOut, IsAccepted};
+ghost use Rattle.dots_server.specs.Sessions.{beaten};
 ghost use Rattle.dots_server.specs.Taking.{Took, BrokeOff};
 ghost use Rattle.dots_server.specs.Turning.{IsServed, Turned, Broke};
 
+use crate::beating::PeerBeats;
 use crate::gathering::Gatherer;
 use crate::report::{put_packets, put_rows};
 use crate::verdict::Verdict;
 use dots_disk::Host;
 use dots_host::{Got, Out, Sink, What};
 use dots_ledger::Ledger;
+use dots_notices::beat;
 use dots_registry::Registry;
 use dots_settings::Settings;
+use session_core::Sessions;
 use slot_journal::{DiskFault, JournalFault};
 use std::alloc::Global;
 use std::marker::Model;
@@ -44,6 +51,8 @@ pub struct Server {
     pub(crate) alloc: Global,
     pub(crate) settings: Settings,
     pub(crate) ledger: Ledger,
+    /// The sessions with the peers.
+    sessions: Sessions,
 }
 
 impl Model for Server {
@@ -51,9 +60,9 @@ impl Model for Server {
 
     ghost Value = { ServerValue };
 
-    ghost view = { λ server. record { settings = server.settings; registry = server.ledger.registry; journal = server.ledger.journal } };
+    ghost view = { λ server. record { settings = server.settings; registry = server.ledger.registry; journal = server.ledger.journal; sessions = server.sessions } };
 
-    ghost invariant = { λ server. IsServing (record { settings = server.settings; registry = server.ledger.registry; journal = server.ledger.journal }) };
+    ghost invariant = { λ server. IsServing (record { settings = server.settings; registry = server.ledger.registry; journal = server.ledger.journal; sessions = server.sessions }) };
 }
 
 /// The report couldn't be written.
@@ -93,11 +102,13 @@ impl Server {
         ensures cause { Caused (H.Disk.faults host.old) (H.Disk.faults host.new) result }
         ensures beside { H.Disk.beside host.old host.new }
     {
+        let sessions = Sessions::new(alloc, &settings)?;
         let ledger = Ledger::begin(alloc, host, &settings, at)?;
         Ok(Server {
             alloc,
             settings,
             ledger,
+            sessions,
         })
     }
 
@@ -174,11 +185,17 @@ impl Server {
         match got.what {
             What::Datagram { from, len } => {
                 self.move_time(got.at);
-                let verdict = self.decide(from, &room[..len]);
-                return self.carry_out(host, from, verdict);
+                let decided = self.decide(from, &room[..len]);
+                self.hear(from, decided.heard);
+                return self.carry_out(host, from, decided.verdict);
+            }
+            What::Tick => {
+                self.move_time(got.at);
+                self.send_heartbeats(host);
+                return Ok(());
             }
             What::End | What::Failed | What::Restart => return Ok(()),
-            What::Opened { .. } | What::Piece { .. } | What::Closed { .. } | What::Tick => {
+            What::Opened { .. } | What::Piece { .. } | What::Closed { .. } => {
                 self.move_time(got.at);
                 return Ok(());
             }
@@ -194,6 +211,38 @@ impl Server {
     {
         let time = at.max(self.ledger.registry().time());
         self.ledger.tick(time);
+    }
+
+    /// The peer is heard by what it sent, or it isn't.
+    fn hear(&mut self, peer: u32, heard: bool)
+        ensures { self.new ≡ record self.old { sessions = if heard then heard_from peer (time_of self.old.registry) self.old.sessions else self.old.sessions } }
+    {
+        if heard && self.sessions.holds(peer) {
+            let time = self.ledger.registry().time();
+            self.sessions.heard(peer, time);
+        }
+    }
+
+    /// Forgets the sessions that are lost, and sends the heartbeats that are due (RFC 9132, section 4.7).
+    fn send_heartbeats<H: Host>(&mut self, host: &mut H)
+        ensures sent { (settings : SettingsValue) (state : State) → Represents self.old settings state
+            → Added (H.acts host.old) (H.acts host.new) (Gives (H.moment host.old) (beats (beating settings state) state.time state.contacts)) }
+        ensures kept { (settings : SettingsValue) (state : State) (entries : List Entry) → IsKept self.old settings state entries → IsKept self.new settings (beaten settings state) entries }
+        ensures journal { self.new.journal ≡ self.old.journal }
+        ensures settings { self.new.settings ≡ self.old.settings }
+        ensures adds { Added (H.acts host.old) (H.acts host.new) (λ _. ⊤) }
+        ensures media { KeepsMedia (H.media host.old) (H.media host.new) }
+        ensures extent { H.extent host.new ≡ H.extent host.old }
+        ensures disk { H.Disk.faults host.new ≡ H.Disk.faults host.old }
+        ensures wire { H.Wire.faults host.new ≡ H.Wire.faults host.old }
+        ensures leads { H.leads host.old host.new }
+    {
+        let time = self.ledger.registry().time();
+        let beats = PeerBeats {
+            settings: &self.settings,
+            registry: self.ledger.registry(),
+        };
+        beat(host, &mut self.sessions, &beats, time);
     }
 
     /// Carries a verdict on a peer's datagram out: what is accepted is kept, on the disk and then in the tables, and then the reply is sent.

@@ -4,4 +4,4 @@ use Rattle.dots_machine.specs.Requests.{unread}
 use Rattle.dots_replies.proofs.receiving.receive.Goals as goal
 
 pub returns-in-Err-clause-received : goal.returns-in-Err-clause-received
-returns-in-Err-clause-received c = unread _ c.in-Err.ensures.breaks (ap received.Dismissed c.dismissed_unread.ensures)
+returns-in-Err-clause-received c = unread _ c.in-Err.ensures.breaks (ap received.Unread c.dismissed_unread.ensures)

@@ -65,22 +65,22 @@ returns-in-LongReply-clause-cause g c = record { later = omega (arith, c.send_to
 pub accept-requires-clause-can : goal.accept-requires-clause-can
 accept-requires-clause-can g c =
     let can = subst (λ v. CanCarryOut v c.args.self.now) c.in-Accept.is c.requires.ready in
-    can_accept (record { settings = c.self.inside.settings; registry = c.self.inside.ledger.registry; journal = c.self.inside.ledger.journal }) c.in-Accept.entry c.self.invariant
+    can_accept (record { settings = c.self.inside.settings; registry = c.self.inside.ledger.registry; journal = c.self.inside.ledger.journal; sessions = c.self.inside.sessions }) c.in-Accept.entry c.self.invariant
     (subst (λ server. IsAcceptable server c.in-Accept.entry) (sym c.self.view_is) can)
 
 -- the disk failed
 pub invariant_of-self : goal.invariant_of-self
 invariant_of-self g c =
-    let old : ServerValue = record { settings = c.self.inside.settings; registry = c.self.inside.ledger.registry; journal = c.self.inside.ledger.journal } in
-    let new : ServerValue = record { settings = c.self.inside.settings; registry = c.accept.new.self.registry; journal = c.accept.new.self.journal } in
+    let old : ServerValue = record { settings = c.self.inside.settings; registry = c.self.inside.ledger.registry; journal = c.self.inside.ledger.journal; sessions = c.self.inside.sessions } in
+    let new : ServerValue = record { settings = c.self.inside.settings; registry = c.accept.new.self.registry; journal = c.accept.new.self.journal; sessions = c.self.inside.sessions } in
     let serving = c.self.invariant in
     let made = c.in_err-accept-in-Accept.ensures.refused c.self.inside.settings serving.state.history serving.entries serving.represents.ledger in
-    lives_still old new made.0 serving refl c.accept.ensures.slots c.in_err-accept-in-Accept.ensures.still made.1
+    lives_still old new made.0 serving refl refl c.accept.ensures.slots c.in_err-accept-in-Accept.ensures.still made.1
 
 pub returns-in_err-accept-in-Accept-clause-failed : goal.returns-in_err-accept-in-Accept-clause-failed
 returns-in_err-accept-in-Accept-clause-failed g c =
     err_of c.from_residual.result _ (λ settings state entries kept.
-    let old : ServerValue = record { settings = c.self.inside.settings; registry = c.self.inside.ledger.registry; journal = c.self.inside.ledger.journal } in
+    let old : ServerValue = record { settings = c.self.inside.settings; registry = c.self.inside.ledger.registry; journal = c.self.inside.ledger.journal; sessions = c.self.inside.sessions } in
     let entry = c.in-Accept.entry in
     let host = c.args.host.now in
     let left = c.accept.new.disk in
@@ -104,19 +104,19 @@ returns-in_err-accept-in-Accept-clause-failed g c =
 -- it is on the disk and in the tables
 pub invariant_of-self-in-Accept : goal.invariant_of-self-in-Accept
 invariant_of-self-in-Accept g c =
-    let old : ServerValue = record { settings = c.self.inside.settings; registry = c.self.inside.ledger.registry; journal = c.self.inside.ledger.journal } in
-    let new : ServerValue = record { settings = c.self.inside.settings; registry = c.accept.new.self.registry; journal = c.accept.new.self.journal } in
+    let old : ServerValue = record { settings = c.self.inside.settings; registry = c.self.inside.ledger.registry; journal = c.self.inside.ledger.journal; sessions = c.self.inside.sessions } in
+    let new : ServerValue = record { settings = c.self.inside.settings; registry = c.accept.new.self.registry; journal = c.accept.new.self.journal; sessions = c.self.inside.sessions } in
     let entry = c.in-Accept.entry in
     let can = subst (λ server. IsAcceptable server entry) (sym c.self.view_is) (subst (λ v. CanCarryOut v c.args.self.now) c.in-Accept.is c.requires.ready) in
     let serving = c.self.invariant in
     let made = c.in_ok-accept-in-Accept.ensures.accepted c.self.inside.settings serving.state.history serving.entries serving.represents.ledger
     (joins_there old c.self.inside.settings serving.state entry serving.represents.represents can) in
-    lives_with entry old new can refl c.accept.ensures.slots c.in_ok-accept-in-Accept.ensures.time made.0 serving made.1
+    lives_with entry old new can refl refl c.accept.ensures.slots c.in_ok-accept-in-Accept.ensures.time made.0 serving made.1
 
 pub returns-in-Accept-clause-done : goal.returns-in-Accept-clause-done
 returns-in-Accept-clause-done g c = λ settings state entries kept.
-    let old : ServerValue = record { settings = c.self.inside.settings; registry = c.self.inside.ledger.registry; journal = c.self.inside.ledger.journal } in
-    let new : ServerValue = record { settings = c.self.inside.settings; registry = c.accept.new.self.registry; journal = c.accept.new.self.journal } in
+    let old : ServerValue = record { settings = c.self.inside.settings; registry = c.self.inside.ledger.registry; journal = c.self.inside.ledger.journal; sessions = c.self.inside.sessions } in
+    let new : ServerValue = record { settings = c.self.inside.settings; registry = c.accept.new.self.registry; journal = c.accept.new.self.journal; sessions = c.self.inside.sessions } in
     let entry = c.in-Accept.entry in
     let host = c.args.host.now in
     let between = c.accept.new.disk in
@@ -133,7 +133,7 @@ returns-in-Accept-clause-done g c = λ settings state entries kept.
     subst (λ reply. Added (g.H.Wire.acts between) (g.H.Wire.acts left) (Gives (g.H.Wire.moment between) (owned.To c.args.peer reply ∷ []))) c.bytes-in-Accept.ensures.value c.send_to-in-Accept.ensures.acts in
     rw c.in-Accept.is (
       made.0,
-      kept_with entry old new can refl c.accept.ensures.slots c.in_ok-accept-in-Accept.ensures.time settings state entries made.0 here.represents made.1,
+      kept_with entry old new can refl refl c.accept.ensures.slots c.in_ok-accept-in-Accept.ensures.time settings state entries made.0 here.represents made.1,
       subst
           (λ (server : ServerValue). Turned settings state (with_entry state entry) (owned.To c.args.peer c.in-Accept.reply ∷ []) (journal.Represents server.journal settings entries)
           (journal.Represents c.accept.new.self.journal settings made.0) (g.H.Disk.media host) (g.H.Disk.media left) (g.H.Wire.acts host) (g.H.Wire.acts left))

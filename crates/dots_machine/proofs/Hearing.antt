@@ -1,0 +1,66 @@
+-- To be heard changes neither the history nor the time, and a datagram leaves one state heard.
+use Rattle.std.proofs.Common.{◌≡◌, ℕ, Bool, true, false, List, [], ◌∷◌, ◌++◌, refl, sym, ap, ◌∙◌}
+use Rattle.std.proofs.lemmas.Bool.{false≢true}
+use Rattle.coap_message.proofs.Faults.{breaks_no_message}
+use Rattle.dots_settings.specs.Settings.{SettingsValue}
+use Rattle.dots_settings.specs.Lookups.{role_of}
+use Rattle.dots_keys.specs.declared.request.Request.{Request}
+use Rattle.dots_machine.specs.declared.exchange.Exchange.{Exchange}
+use Rattle.dots_machine.specs.declared.received.Received.TheVariants as received
+use Rattle.dots_machine.specs.Requests.{IsReceived, unread, asks_nothing, meant}
+use Rattle.dots_machine.specs.Verdict.{Verdict}
+use Rattle.dots_machine.specs.declared.verdict.Verdict.TheVariants as verdict
+use Rattle.dots_machine.specs.Machine.{State, is_stranger, hearing, Hears, by_message, unreadable, by_stranger, after}
+
+module _ (settings : SettingsValue) (peer : ℕ) (datagram : List ℕ) where
+  pub hears_history : (state met : State) → Hears settings state peer datagram met → met.history ≡ state.history
+  hears_history state met (by_message known m is spelled e) = ap (λ (state : State). state.history) e
+  hears_history state met (unreadable fault breaks e) = ap (λ (state : State). state.history) e
+  hears_history state met (by_stranger unknown e) = ap (λ (state : State). state.history) e
+
+  pub hears_time : (state met : State) → Hears settings state peer datagram met → met.time ≡ state.time
+  hears_time state met (by_message known m is spelled e) = ap (λ (state : State). state.time) e
+  hears_time state met (unreadable fault breaks e) = ap (λ (state : State). state.time) e
+  hears_time state met (by_stranger unknown e) = ap (λ (state : State). state.time) e
+
+  known_or_not : {A : Type 0} → is_stranger (role_of settings peer) ≡ false → is_stranger (role_of settings peer) ≡ true → A
+  known_or_not known unknown = absurd (false≢true (sym known ∙ unknown))
+
+  pub hears_once : (state met other : State) → Hears settings state peer datagram met → Hears settings state peer datagram other → met ≡ other
+  hears_once state met other (by_message known m is spelled e) (by_message k n also s f) = e ∙ sym f
+  hears_once state met other (by_message known m is spelled e) (unreadable fault breaks f) = absurd (breaks_no_message datagram fault m breaks is spelled)
+  hears_once state met other (by_message known m is spelled e) (by_stranger unknown f) = known_or_not known unknown
+  hears_once state met other (unreadable fault breaks e) (by_message known m is spelled f) = absurd (breaks_no_message datagram fault m breaks is spelled)
+  hears_once state met other (unreadable fault breaks e) (unreadable g b f) = e ∙ sym f
+  hears_once state met other (unreadable fault breaks e) (by_stranger unknown f) = e ∙ sym f
+  hears_once state met other (by_stranger unknown e) (by_message known m is spelled f) = known_or_not known unknown
+  hears_once state met other (by_stranger unknown e) (unreadable g b f) = e ∙ sym f
+  hears_once state met other (by_stranger unknown e) (by_stranger u f) = e ∙ sym f
+
+  -- it is heard in any state
+  pub hears_too : (state other met : State) → Hears settings state peer datagram met → (last : State) × Hears settings other peer datagram last
+  hears_too state other met (by_message known m is spelled e) = (hearing peer other, by_message known m is spelled refl)
+  hears_too state other met (unreadable fault breaks e) = (other, unreadable fault breaks refl)
+  hears_too state other met (by_stranger unknown e) = (other, by_stranger unknown refl)
+
+  -- who asks something is heard
+  pub asked_is_heard : (gateway : Bool) (x : Exchange) (r : Request) (state met : State) → is_stranger (role_of settings peer) ≡ false → IsReceived datagram gateway (received.Asked x r)
+      → Hears settings state peer datagram met → met ≡ hearing peer state
+  asked_is_heard gateway x r state met known got (by_message k m is spelled e) = e
+  asked_is_heard gateway x r state met known got (by_stranger unknown e) = known_or_not known unknown
+  asked_is_heard gateway x r state met known (unread fault b e) (unreadable f breaks same) = absurd (cc e)
+  asked_is_heard gateway x r state met known (asks_nothing m answer is spelled dismissed e) (unreadable f breaks same) = absurd (cc e)
+  asked_is_heard gateway x r state met known (meant m answer is spelled dismissed means e) (unreadable f breaks same) = absurd (breaks_no_message datagram f m breaks is spelled)
+
+-- ---- what a verdict makes of states with one history, or one time
+pub same_history_after : (v : Verdict) (a b : State) → a.history ≡ b.history → (after v a).history ≡ (after v b).history
+same_history_after verdict.Silent a b same = same
+same_history_after (verdict.Reply reply) a b same = same
+same_history_after (verdict.LongReply reply) a b same = same
+same_history_after (verdict.Accept reply entry) a b same = ap (λ es. es ++ entry ∷ []) same
+
+pub same_time_after : (v : Verdict) (a b : State) → a.time ≡ b.time → (after v a).time ≡ (after v b).time
+same_time_after verdict.Silent a b same = same
+same_time_after (verdict.Reply reply) a b same = same
+same_time_after (verdict.LongReply reply) a b same = same
+same_time_after (verdict.Accept reply entry) a b same = same

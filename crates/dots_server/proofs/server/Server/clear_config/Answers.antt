@@ -1,0 +1,52 @@
+use Rattle.std.proofs.Common.{◌≡◌, ℕ, Option, true, false, option_map, List, Some, None, Result, Ok, Err, sym, ap, ◌∙◌, subst}
+use Rattle.dots_settings.specs.Lookups.{role_of}
+use Rattle.dots_history.specs.declared.entry.Entry.{Entry}
+use Rattle.dots_history.specs.declared.change.Change.TheVariants as change
+use Rattle.dots_history.specs.Histories.{held}
+use Rattle.dots_laws.specs.Calm.{may_configure}
+use Rattle.dots_laws.specs.Held.{config_of}
+use Rattle.held_resources.specs.Tables.{config_now}
+use Rattle.dots_registry.specs.RegistryValues.{time_of}
+use Rattle.dots_registry.specs.RegistryValues as registry
+use Rattle.session_core.specs.Negotiating.{negotiated}
+use Rattle.dots_machine.specs.declared.verdict.Verdict.TheVariants as verdict
+use Rattle.dots_machine.specs.Replies.{configuring, configuration_reply}
+use Rattle.dots_machine.specs.Sessions.{sid_of, is_held, configured_in}
+use Rattle.dots_machine.specs.Deciding.{session_entry, config_answer, clear_answer}
+use Rattle.dots_server.specs.ServerValues.{ServerValue, Represents}
+use Rattle.dots_server.specs.Sessions.{is_wanted}
+use Rattle.dots_server.proofs.Verdicts.{if_ok}
+use Rattle.dots_server.proofs.Sessions.{configured_here, clearing_configures}
+use Rattle.dots_server.proofs.server.Server.clear_config.Goals as goal
+
+pub accept_config-requires-clause-configures : goal.accept_config-requires-clause-configures
+accept_config-requires-clause-configures c = clearing_configures
+
+pub returns-then-is_held-clause-decides : goal.returns-then-is_held-clause-decides
+returns-then-is_held-clause-decides c = λ settings state represents.
+    let server : ServerValue = record { settings = c.self.inside.settings; registry = c.self.inside.ledger.registry; journal = c.self.inside.ledger.journal; sessions = c.self.inside.sessions } in
+    let here = subst (λ server. Represents server settings state) (sym c.self.view_is) represents in
+    let may = subst (λ (server : ServerValue). may_configure (role_of server.settings c.args.peer) c.args.domain ≡ true) (sym c.self.view_is) c.requires.may in
+    let found =
+    configured_here server settings state here c.args.peer c.args.domain may (option_map config_now c.config.result)
+    (subst (λ tables. (entries : List Entry) → registry.Represents tables entries → option_map config_now c.config.result ≡ config_of c.args.peer (held entries)) c.registry.ensures c.config.ensures) in
+    let configured = configured_in state.history c.args.domain c.args.peer in
+    if_ok c.accept_config.result _ _
+    (λ v is.
+    is
+    ∙ ap (λ t. verdict.Accept c.deleted.result (session_entry t c.args.peer c.args.domain c.args.exchange.now c.deleted.result change.ClearConfig)) represents.time_is
+    ∙ ap (λ reply. verdict.Accept reply (session_entry state.time c.args.peer c.args.domain c.args.exchange.now reply change.ClearConfig)) c.deleted.ensures
+    ∙ ap (clear_answer state.time c.args.peer c.args.domain c.args.exchange.now) (sym c.if-is_held.true ∙ c.is_held.ensures ∙ ap (is_held c.args.sid) found))
+    c.accept_config.ensures.verdict
+
+pub returns-clause-decides : goal.returns-clause-decides
+returns-clause-decides c = λ settings state represents.
+    let server : ServerValue = record { settings = c.self.inside.settings; registry = c.self.inside.ledger.registry; journal = c.self.inside.ledger.journal; sessions = c.self.inside.sessions } in
+    let here = subst (λ server. Represents server settings state) (sym c.self.view_is) represents in
+    let may = subst (λ (server : ServerValue). may_configure (role_of server.settings c.args.peer) c.args.domain ≡ true) (sym c.self.view_is) c.requires.may in
+    let found =
+    configured_here server settings state here c.args.peer c.args.domain may (option_map config_now c.config.result)
+    (subst (λ tables. (entries : List Entry) → registry.Represents tables entries → option_map config_now c.config.result ≡ config_of c.args.peer (held entries)) c.registry.ensures c.config.ensures) in
+    let configured = configured_in state.history c.args.domain c.args.peer in
+    ap verdict.Reply c.deleted-2.ensures
+    ∙ ap (clear_answer state.time c.args.peer c.args.domain c.args.exchange.now) (sym c.if-is_held.false ∙ c.is_held.ensures ∙ ap (is_held c.args.sid) found)
