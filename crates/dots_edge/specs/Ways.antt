@@ -1,19 +1,21 @@
 -- Where a peer's messages go.
-use Rattle.std.specs.Prelude.{ℕ, Option, Some, None}
-use Rattle.std.specs.Ordering.{nat_cmp}
-use Rattle.std.specs.BTreeMap.{get}
+use Rattle.std.specs.Prelude.{ℕ, Option, Some, None, option_map}
 use Rattle.std.specs.declared.net.socket_addr.SocketAddr.{SocketAddr}
-use Rattle.dots_edge.specs.declared.peers.Peers.{Peers}
-use Rattle.dots_edge.specs.declared.way.Way.{Way}
+use Rattle.peer_endpoints.specs.declared.head.Head.{Head}
+use Rattle.peer_endpoints.specs.declared.way.Way.{Way}
+use Rattle.peer_endpoints.specs.Returns.{Reached, after_heard, after_sent, goes_to}
 
--- to where it was heard, from the socket on which it was
+-- back to where a datagram came from, from the socket on which it came
 abbrev pub heard : SocketAddr → ℕ → Way
 heard from via = record { to = from; via = Some via }
 
--- none for a number that no line names, and for a peer that no line gives a port and that wasn't heard
-abbrev pub way_in : Peers → ℕ → Option Way
-way_in peers number = inner (get nat_cmp peers.ways number)
-  where
-    inner : Option (Option Way) → Option Way
-    inner None = None
-    inner (Some way) = way
+-- of a number that no line names nothing is known, and nothing goes to it
+abbrev pub after_heard_by : Way → Option Head → Option Reached → Option Reached
+after_heard_by way head known = option_map (after_heard way head) known
+
+abbrev pub after_sent_by : Option Head → Option Reached → Option Reached
+after_sent_by head known = option_map (after_sent head) known
+
+abbrev pub way_by : Option Head → Option Reached → Option Way
+way_by head None = None
+way_by head (Some known) = goes_to head known

@@ -225,8 +225,9 @@ impl Ends {
         for _ in 0..PASSED_AT_ONCE {
             match self.sockets.receive(self.datagram.as_mut_slice())? {
                 Received::Datagram { len, from, via } if len <= MAX_EVENT_BYTES => {
-                    into[..len].copy_from_slice(&self.datagram.as_slice()[..len]);
-                    let from = self.peers.hear(from, via);
+                    let datagram = &self.datagram.as_slice()[..len];
+                    into[..len].copy_from_slice(datagram);
+                    let from = self.peers.hear(from, via, datagram);
                     return Ok(Some(What::Datagram { from, len }));
                 }
                 Received::Nothing => {
@@ -294,7 +295,7 @@ impl Ends {
     /// Sends.
     pub fn send(&mut self, out: &Out) -> Sent {
         match out {
-            Out::To { peer, bytes } => match self.peers.way_to(*peer) {
+            Out::To { peer, bytes } => match self.peers.way_for(*peer, *bytes) {
                 Some(way) => self.sockets.send_to(*bytes, way),
                 None => Sent::Lost,
             },

@@ -26,7 +26,6 @@ mod passing;
 mod peers;
 mod seconds;
 mod sockets;
-mod way;
 
 pub use file_socket_host::FileSocketHost;
 pub use host_file::{

@@ -1,18 +1,19 @@
 //! Which peer an address is, and where a peer's messages go.
 
-ghost use Rattle.std.specs.Prelude.{◌≡◌, ℕ, ◌==◌, if◌then◌else◌, None, Some, is_some, true, map, IfOk, OnOk};
+ghost use Rattle.std.specs.Prelude.{◌≡◌, ℕ, ◌==◌, if◌then◌else◌, None, Some, false, map, IfOk, OnOk};
 ghost use Rattle.std.specs.Ordering.{nat_cmp};
 ghost use Rattle.std.specs.BTreeMap.{get};
 ghost use Rattle.std.specs.Net.Socket.{socket_ip};
 ghost use Rattle.dots_edge.specs.Address.{key_of_ip};
 ghost use Rattle.host_file.specs.HostLine.{line_value};
 ghost use Rattle.dots_edge.specs.Peers.{whose, or_stranger};
-ghost use Rattle.dots_edge.specs.Ways.{way_in, heard};
+ghost use Rattle.peer_endpoints.specs.Headers.{head_in};
+ghost use Rattle.dots_edge.specs.Ways.{heard, after_heard_by, after_sent_by, way_by};
 
 use crate::address::{key_of_ip, socket_address};
-use crate::way::Way;
 use dots_lists::NoMemory;
 use host_file::{Endpoint, HostLine, STRANGER, key_of};
+use peer_endpoints::{Endpoints, Way};
 use std::alloc::Global;
 use std::collections::BTreeMap;
 use std::net::SocketAddr;
@@ -22,9 +23,8 @@ use std::net::SocketAddr;
 pub struct Peers {
     /// The number of the peer whose address it is, by the key of the address.
     numbers: BTreeMap<u128, u32>,
-    /// Where the messages of a peer go: to where it was heard last, from the socket on which it was, or to the first of its lines that
-    /// has a port.
-    ways: BTreeMap<u32, Option<Way>>,
+    /// Where the messages of a peer go. Before it was heard that is the first of its lines that has a port.
+    endpoints: BTreeMap<u32, Endpoints>,
 }
 
 impl Peers {
@@ -35,7 +35,7 @@ impl Peers {
     {
         let mut peers = Peers {
             numbers: BTreeMap::new(alloc),
-            ways: BTreeMap::new(alloc),
+            endpoints: BTreeMap::new(alloc),
         };
         for line in lines {
             if let HostLine::Peer {
@@ -48,23 +48,38 @@ impl Peers {
                     address: *address,
                     port,
                 });
-                peers.add(key_of(*address), *number, way)?;
+                peers.add(alloc, key_of(*address), *number, way)?;
             }
         }
         Ok(peers)
     }
 
-    fn add(&mut self, key: u128, number: u32, way: Option<Endpoint>) -> Result<(), NoMemory>
+    fn add(
+        &mut self,
+        alloc: Global,
+        key: u128,
+        number: u32,
+        way: Option<Endpoint>,
+    ) -> Result<(), NoMemory>
         ensures { OnOk result ((other : ℕ) → get nat_cmp self.new.numbers other
             ≡ (if key == other then Some number else get nat_cmp self.old.numbers other)) }
     {
         self.numbers.insert(key, number)?;
-        let way = match self.way_to(number) {
+        let known = match self.last_way_to(number) {
             Some(known) => Some(known),
             None => way.map(|at| unheard(at)),
         };
-        self.ways.insert(number, way)?;
+        let endpoints = Endpoints::new(alloc, known)?;
+        self.endpoints.insert(number, endpoints)?;
         Ok(())
+    }
+
+    /// Where the peer was heard last, or is known to be.
+    fn last_way_to(&self, number: u32) -> Option<Way> {
+        match self.endpoints.get(&number) {
+            Some(endpoints) => endpoints.last(),
+            None => None,
+        }
     }
 
     /// The peer whose address it is, or the number of strangers.
@@ -77,28 +92,35 @@ impl Peers {
         }
     }
 
-    /// The peer whose address it is, whose messages go there from now on, from the socket of this place.
-    pub fn hear(&mut self, from: SocketAddr, via: usize) -> u32
+    /// The peer whose address it is. Its datagram came from there to the socket of this place.
+    pub fn hear(&mut self, from: SocketAddr, via: usize, bytes: &[u8]) -> u32
         ensures whose { result ≡ or_stranger (get nat_cmp self.old.numbers (key_of_ip (socket_ip from))) }
         ensures kept { self.new.numbers ≡ self.old.numbers }
-        ensures way { is_some (get nat_cmp self.old.ways result) ≡ true → way_in self.new result ≡ Some (heard from via) }
+        ensures heard { get nat_cmp self.new.endpoints result
+            ≡ after_heard_by (heard from via) (head_in bytes.now) (get nat_cmp self.old.endpoints result) }
+        ensures others { (other : ℕ) → (result == other) ≡ false → get nat_cmp self.new.endpoints other ≡ get nat_cmp self.old.endpoints other }
     {
         let number = self.number_of(from);
-        if let Some(way) = self.ways.get_mut(&number) {
-            *way = Some(Way {
+        if let Some(endpoints) = self.endpoints.get_mut(&number) {
+            let way = Way {
                 to: from,
                 via: Some(via),
-            });
+            };
+            endpoints.hear(way, bytes);
         }
         number
     }
 
-    /// Where the messages of the peer go.
-    pub fn way_to(&self, number: u32) -> Option<Way>
-        ensures { result ≡ way_in self.now number }
+    /// Where this datagram to the peer goes.
+    pub fn way_for(&mut self, number: u32, bytes: &[u8]) -> Option<Way>
+        ensures way { result ≡ way_by (head_in bytes.now) (get nat_cmp self.old.endpoints number) }
+        ensures kept { self.new.numbers ≡ self.old.numbers }
+        ensures sent { get nat_cmp self.new.endpoints number
+            ≡ after_sent_by (head_in bytes.now) (get nat_cmp self.old.endpoints number) }
+        ensures others { (other : ℕ) → (number == other) ≡ false → get nat_cmp self.new.endpoints other ≡ get nat_cmp self.old.endpoints other }
     {
-        match self.ways.get(&number) {
-            Some(way) => *way,
+        match self.endpoints.get_mut(&number) {
+            Some(endpoints) => endpoints.way_for(bytes),
             None => None,
         }
     }

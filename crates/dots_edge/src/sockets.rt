@@ -5,11 +5,11 @@ ghost use Rattle.dots_edge.specs.Events.{IsReceived};
 
 use crate::address::{mapped, socket_address};
 use crate::connections::MAX_CONNECTIONS;
-use crate::way::Way;
 use dots_host::{NoMemory, Sent};
 use host_file::{Endpoint, HostLine};
 use mio::net::{TcpListener, TcpStream, UdpSocket};
 use mio::{Events, Interest, Poll, Token};
+use peer_endpoints::Way;
 use std::alloc::Global;
 use std::io;
 use std::io::{Error, ErrorKind};

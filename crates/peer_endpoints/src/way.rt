@@ -1,6 +1,6 @@
 use std::net::SocketAddr;
 
-/// Where a peer's messages go, and from which socket.
+/// Where a datagram goes, and from which socket.
 #[derive(Clone, Copy)]
 pub struct Way {
     pub to: SocketAddr,

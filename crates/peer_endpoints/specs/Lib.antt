@@ -1,0 +1,3 @@
+pub mod Headers
+pub mod Returns
+pub mod Passed
