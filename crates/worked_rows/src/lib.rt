@@ -79,6 +79,8 @@ mod scripted;
 #[cfg(test)]
 mod serving;
 #[cfg(test)]
+mod session_rows;
+#[cfg(test)]
 mod shown_rows;
 #[cfg(test)]
 mod tables;

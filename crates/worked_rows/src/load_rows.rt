@@ -32,6 +32,41 @@ fn datagrams_of(seed: u64) -> u64 {
     count
 }
 
+/// How many heartbeats the ticks of a seed send: one to each of the eight peers, once 30 seconds have passed since the one before it, or since
+/// its first datagram. An event comes each second, and no peer is silent for 450.
+fn heartbeats_of(seed: u64) -> u64 {
+    let mut number = seed;
+    let mut last: [Option<u64>; 8] = [None; 8];
+    let mut count: u64 = 0;
+    for second in 0..20_000u64 {
+        let first = next(number);
+        let kind = next(first);
+        let peer = ((first >> 32) % 8) as usize;
+        if (kind >> 32) % 8 == 7 {
+            count = count.saturating_add(beats_at(&mut last, second));
+        } else if last[peer].is_none() {
+            last[peer] = Some(second);
+        }
+        number = next(next(kind));
+    }
+    count
+}
+
+/// How many peers are sent a heartbeat at this second.
+fn beats_at(last: &mut [Option<u64>; 8], second: u64) -> u64 {
+    let mut count: u64 = 0;
+    for beat in last.iter_mut() {
+        match *beat {
+            Some(before) if before.saturating_add(30) <= second => {
+                *beat = Some(second);
+                count = count.saturating_add(1);
+            }
+            _ => {}
+        }
+    }
+    count
+}
+
 /// The number in the line of this name.
 fn count_in(text: &str, name: &str) -> u64 {
     for line in text.lines() {
@@ -45,13 +80,14 @@ fn count_in(text: &str, name: &str) -> u64 {
     u64::MAX
 }
 
-/// Whether a report counts 20,000 events, and one send for each datagram of the seed.
+/// Whether a report counts 20,000 events, and a send for each datagram of the seed and each heartbeat.
 fn adds_up(text: &str, seed: u64) -> bool {
     let mut sends: u64 = 0;
     for name in SENDS {
         sends = sends.saturating_add(count_in(text, name));
     }
-    count_in(text, "events") == 20_000 && sends == datagrams_of(seed)
+    count_in(text, "events") == 20_000
+        && sends == datagrams_of(seed).saturating_add(heartbeats_of(seed))
 }
 
 /// Whether two runs of a seed have one report, which adds up.

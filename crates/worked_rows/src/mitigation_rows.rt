@@ -48,6 +48,7 @@ $ replay settings
 < at 1220 from 0 51040005+MITIGATE+CUID+056d69643d39
 > to 0 REPLY
 > to 0 514200024a
+> to 0 500303e8+BEAT+f4
 > to 0 518400044aff616273656e74
 > to 0 514200054a
 
@@ -189,6 +190,7 @@ $ replay settings
 < at 1219 tick
 > to 0 REPLY
 > to 0 514200024a
+> to 0 500303e8+BEAT+f4
 = ROW
 = packet 1 scrubbed 123
 

@@ -58,7 +58,7 @@ $ replay settings
 < at 1000 from 0 HEAD+MID_123+12010fffa101a10281a306816c3139322e302e322e302f32340e190e10183c00
 > to 0 518000014aff756e6b6e6f776e203630
 
-# The configuration of a session and heartbeats aren't served; what is wrong with them is answered.
+# What is wrong with the path of a request is answered.
 < at 1000 from 0 510100014abb2e77656c6c2d6b6e6f776e04646f7473086d69746967617465+CUID
 > to 0 ABSENT
 
@@ -67,18 +67,6 @@ $ replay settings
 
 < at 1000 from 0 510400014abb2e77656c6c2d6b6e6f776e04646f7473086d69746967617465+B_7
 > to 0 DELETED
-
-< at 1000 from 0 510400014abb2e77656c6c2d6b6e6f776e04646f747306636f6e666967057369643d31
-> to 0 UNSERVED
-
-< at 1000 from 0 510100014abb2e77656c6c2d6b6e6f776e04646f747306636f6e666967
-> to 0 UNSERVED
-
-< at 1000 from 0 510300014abb2e77656c6c2d6b6e6f776e04646f747302686212010fffa11831a11833f5
-> to 0 UNSERVED
-
-< at 1000 from 0 510300014abb2e77656c6c2d6b6e6f776e04646f747303686262
-> to 0 NO_PATH
 
 # A GET with a query that isn't one of the contents.
 < at 1000 from 0 510100014abb2e77656c6c2d6b6e6f776e04646f7473086d69746967617465+CUID+43633d61

@@ -78,7 +78,7 @@ $ replay settings
 > to 0 REPLY
 > to 0 REPLY
 > to 0 REPLY
-> to 0 51a100024a
+> to 0 514200024a
 = ROW
 
 < at 1000 from 0 REQUEST
@@ -106,7 +106,7 @@ $ replay settings
 > to 3 51410001+CBOR+a101a10281a205070e190e10
 > to 3 51410001+CBOR+a101a10281a205070e190e10
 > to 3 51410001+CBOR+a101a10281a205070e190e10
-> to 3 UNSERVED
+> to 3 DELETED
 = scrub net2 b 7 198.51.100.0/24 any any
 = scrub net1 b 7 192.0.2.0/24 any any
 

@@ -17,6 +17,7 @@ use crate::restart_rows::RESTARTS;
 use crate::runs::sink_of;
 use crate::script_rows::SCRIPTS;
 use crate::scripted::goes_over_script;
+use crate::session_rows::SESSIONS;
 use crate::shown_rows::SHOWN;
 use crate::tables::Row;
 use crate::topic_rows::{EVENTS, FAULTS, WORDS};
@@ -75,6 +76,7 @@ fn runs_over_scripts(rt: HostRuntime) {
     all_hold(&rt, alloc, REPEATS);
     all_hold(&rt, alloc, LAST_TWO);
     all_hold(&rt, alloc, RESTARTS);
+    all_hold(&rt, alloc, SESSIONS);
     all_hold(&rt, alloc, SCRIPTS);
     all_hold(&rt, alloc, BLOCKS);
 }

@@ -59,9 +59,11 @@ scrub net1 dz6pHjaADkaFTbjr0JGBpw 124 2001:db8:1::/64 any any
 /// The replies are those with the code and the payload that their names say: NO_PATH 4.04 with `path`, NO_PARAMETER 4.00 with
 /// `path parameter`, HOP_LIMIT 4.00 with `hop limit`, NO_CBOR 4.00 with `cbor`, QUERY 4.00 with `query`, NOT_A_TARGET,
 /// OUTSIDE_DOMAIN and UNKNOWN_NAME 4.00 with these words, UNKNOWN_ALIAS and CHANGED 4.00 with `unknown alias` and `changed`, ABSENT
-/// 4.04 with `absent`, DELETED 2.02, REFRESHED 2.04 with mid 123 and 3600 s, COLLISION 4.09 for mid 123 with conflict-cause 3, and
-/// UNSERVED 5.01. They have Message ID 1. MITIGATE is a datagram behind its Message ID up to the end of `mitigate`, and CBOR the
-/// Content-Format of a reply with the mark behind it.
+/// 4.04 with `absent`, DELETED 2.02, REFRESHED 2.04 with mid 123 and 3600 s, and COLLISION 4.09 for mid 123 with conflict-cause 3.
+/// They have Message ID 1. MITIGATE is a datagram behind its Message ID up to the end of `mitigate`, CONFIGURE one up to the end of `config`, and
+/// CBOR the Content-Format of a reply with the mark behind it. BEAT is a heartbeat without a token behind its Message ID, up to its status, and
+/// BEAT_4A one with a token. OFFER is the rest of a request behind its sid, for an interval, which stands behind it, while no mitigation filters;
+/// VALUES is the default values of a session, and VALUES_60 the same with an interval of 60 s.
 ///
 /// ASK is REQUEST behind its Message ID, and DONE its reply. ASK_SECOND is the same request for 2001:db8:1::/64 with mid 124, and
 /// ASK_END that of ASK with a lifetime of 0, to which the payload
@@ -109,7 +111,12 @@ MITIGATE 4abb2e77656c6c2d6b6e6f776e04646f7473086d69746967617465
 CLIENT_ABC bb2e77656c6c2d6b6e6f776e04646f7473086d697469676174650d0e637569643d756e6757763438427a2d704251554465586134694977
 GRANTED_1 c2010fffa101a10281a205010e190e10
 CBOR 4ac2010fff
-UNSERVED 51a100014a
+CONFIGURE 4abb2e77656c6c2d6b6e6f776e04646f747306636f6e666967
+OFFER 12010fffa1181ea1182ca11821a11824
+VALUES a61821a11824181e1825a118240f1826a11824031827a1182bc4822118c81828a1182bc4822118961832a1182405
+VALUES_60 a61821a11824183c1825a118240f1826a11824031827a1182bc4822118c81828a1182bc4822118961832a1182405
+BEAT bb2e77656c6c2d6b6e6f776e04646f747302686212010fffa11831a11833
+BEAT_4A 4abb2e77656c6c2d6b6e6f776e04646f747302686212010fffa11831a11833
 ASK 4abb2e77656c6c2d6b6e6f776e04646f7473086d697469676174650d0e637569643d647a3670486a6141446b614654626a72304a47427077076d69643d31323312010fffa101a10281a206816c3139322e302e322e302f32340e190e10
 ASK_SECOND 4abb2e77656c6c2d6b6e6f776e04646f7473086d697469676174650d0e637569643d647a3670486a6141446b614654626a72304a47427077076d69643d31323412010fffa101a10281a206816f323030313a6462383a313a3a2f36340e190e10
 ASK_END 4abb2e77656c6c2d6b6e6f776e04646f7473086d697469676174650d0e637569643d647a3670486a6141446b614654626a72304a47427077076d69643d31323312010fffa101a10281a206816c3139322e302e322e302f32340e00

@@ -123,6 +123,49 @@ signal 127.0.0.1:0
 peer 5 127.0.0.1
 
 --
+# Two ports of a peer use the token 01: a GET comes from the one, which may have registered an observer there, and a DELETE from the other.
+# Each reply goes back to where its request came from, and a notification to where the GET came from, however often.
+socket 0 send = 0x4101000101
+next from 5 = 0x4101000101
+ok to 5 = 0x6145000101
+socket 0 hear = 0x6145000101
+socket 1 send = 0x4104000701
+next from 5 = 0x4104000701
+ok to 5 = 0x6142000701
+ok to 5 = 0x4145009901
+socket 1 hear = 0x6142000701
+socket 0 hear = 0x4145009901
+ok to 5 = 0x4145009a01
+socket 0 hear = 0x4145009a01
+# So it is where the notification has the Message ID that the DELETE had, once that has its reply. The reply to a NON is a NON.
+socket 1 send = 0x5104000b01
+next from 5 = 0x5104000b01
+ok to 5 = 0x5142000b01
+ok to 5 = 0x5145000b01
+socket 1 hear = 0x5142000b01
+socket 0 hear = 0x5145000b01
+# A request of the server's own goes to where the peer was heard last, and so does a notification with a token that no GET had.
+ok to 5 = 0x5003000c
+socket 1 hear = 0x5003000c
+ok to 5 = 0x5145000d02
+socket 1 hear = 0x5145000d02
+# A RST has no token, and goes back to where that came from to which it replies.
+socket 0 send = 0x4000000e
+next from 5 = 0x4000000e
+ok to 5 = 0x7000000e
+socket 0 hear = 0x7000000e
+# A later GET with the token moves the observer.
+socket 1 send = 0x4101000f01
+next from 5 = 0x4101000f01
+socket 0 send = 0x4000001000
+next from 5 = 0x4000001000
+ok to 5 = 0x5145001101
+socket 1 hear = 0x5145001101
+==
+signal 127.0.0.1:0
+peer 5 127.0.0.1
+
+--
 # A datagram of 4,096 bytes is handed in, and a longer one isn't.
 socket 0 send = LONG
 socket 0 send = FULL
