@@ -1,6 +1,6 @@
 //! Numbers that are drawn, and what is drawn of few: addresses, prefixes, protocols and ports that often meet.
 
-ghost use Rattle.std.specs.Prelude.{◌<◌, ◌≤◌, ◌^◌};
+ghost use Rattle.std.specs.Prelude.{◌≡◌, ◌<◌, ◌≤◌, ◌^◌, ◌⊎◌, IfSome};
 
 use ip_scope::{Addr, Family, PortRange, Prefix};
 
@@ -60,7 +60,9 @@ impl Draws {
     }
 
     /// One of sixteen addresses of a family.
-    pub fn address(&mut self, family: Family) -> Addr {
+    pub fn address(&mut self, family: Family) -> Addr
+        ensures { result.family ≡ family }
+    {
         let place = self.of_sixteen();
         match family {
             Family::V4 => Addr {
@@ -75,24 +77,28 @@ impl Draws {
     }
 
     /// A prefix of one to sixteen of these addresses, and now and then of all addresses.
-    pub fn prefix(&mut self, family: Family) -> Option<Prefix> {
+    pub fn prefix(&mut self, family: Family) -> Prefix
+        ensures { result.family ≡ family }
+    {
         let address = self.address(family);
         let bits = self.of_eight();
         if bits >= 5 {
             if self.of_eight() == 0 {
-                return Prefix::new(address, 0);
+                return Prefix::new(address, 0).unwrap();
             }
-            return Prefix::new(address, family.width());
+            return Prefix::new(address, family.width()).unwrap();
         }
-        Prefix::new(address, family.width() - bits as u8)
+        Prefix::new(address, family.width() - bits as u8).unwrap()
     }
 
-    /// A prefix or none.
-    pub fn some_prefix(&mut self, family: Family) -> Option<Prefix> {
+    /// A prefix of this family or none.
+    pub fn some_prefix(&mut self, family: Family) -> Option<Prefix>
+        ensures { IfSome result (λ prefix. prefix.family ≡ family) }
+    {
         if self.coin() {
             return None;
         }
-        self.prefix(family)
+        Some(self.prefix(family))
     }
 
     /// A protocol, with ports or without.
@@ -110,7 +116,9 @@ impl Draws {
     }
 
     /// One of eight ports, the lowest and the greatest among them.
-    pub fn port(&mut self) -> u16 {
+    pub fn port(&mut self) -> u16
+        ensures { (result < 4) ⊎ (65532 ≤ result) }
+    {
         let place = self.of_eight() as u16;
         if place < 4 { place } else { 65_528 + place }
     }
@@ -122,8 +130,10 @@ impl Draws {
         PortRange::new(lower, upper)
     }
 
-    /// So many seconds, or no end.
-    pub fn left(&mut self) -> Option<u32> {
+    /// From 1,000 to 87,399 seconds, or no end.
+    pub fn left(&mut self) -> Option<u32>
+        ensures { IfSome result (λ seconds. (1000 ≤ seconds) × (seconds < 87400)) }
+    {
         if self.of_four() == 0 {
             return None;
         }

@@ -1,9 +1,10 @@
 //! Drawn access lists.
 
 use crate::draws::Draws;
+use crate::rows::client;
 use acl_lists::{Ace, AceList, Acl, Activation, PortTest};
 use anyhow::{Result, bail};
-use dots_lists::{List, Name, Text};
+use dots_lists::{List, Name};
 use filter_rows::AclRow;
 use std::alloc::Global;
 
@@ -27,13 +28,6 @@ fn name(alloc: Global, number: u32) -> Result<Name> {
     match Name::new(alloc, digits.as_bytes())? {
         Some(name) => Ok(name),
         None => bail!("no name"),
-    }
-}
-
-fn client(alloc: Global) -> Result<Text> {
-    match Text::new(alloc, b"client")? {
-        Some(cuid) => Ok(cuid),
-        None => bail!("no text"),
     }
 }
 

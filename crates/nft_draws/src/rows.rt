@@ -4,7 +4,7 @@ use crate::draws::Draws;
 use anyhow::{Result, bail};
 use dots_lists::{Bytes, List, Text};
 use filter_rows::ScrubRow;
-use ip_scope::{PortRange, Prefix};
+use ip_scope::PortRange;
 use std::alloc::Global;
 
 /// Up to three ranges of ports, mostly few.
@@ -27,15 +27,8 @@ fn protocols(alloc: Global, draws: &mut Draws) -> Result<Bytes> {
     Ok(Bytes::from_vec(protocols))
 }
 
-fn prefix(draws: &mut Draws) -> Result<Prefix> {
-    let family = draws.family();
-    match draws.prefix(family) {
-        Some(prefix) => Ok(prefix),
-        None => bail!("no prefix"),
-    }
-}
-
-fn client(alloc: Global) -> Result<Text> {
+/// The cuid that all rows and lists have.
+pub fn client(alloc: Global) -> Result<Text> {
     match Text::new(alloc, b"client")? {
         Some(cuid) => Ok(cuid),
         None => bail!("no text"),
@@ -43,7 +36,8 @@ fn client(alloc: Global) -> Result<Text> {
 }
 
 fn row(alloc: Global, draws: &mut Draws) -> Result<ScrubRow> {
-    let prefix = prefix(draws)?;
+    let family = draws.family();
+    let prefix = draws.prefix(family);
     let ports = ports(alloc, draws)?;
     let protocols = protocols(alloc, draws)?;
     let cuid = client(alloc)?;

@@ -3,11 +3,11 @@
 use crate::draws::Draws;
 use crate::lists::lists;
 use crate::packets::line;
-use crate::rows::rows;
+use crate::rows::{client, rows};
 use acl_lists::PrefixList;
 use anyhow::{Result, bail};
 use dots_host::MemorySource;
-use dots_lists::{Bytes, List, Text};
+use dots_lists::{Bytes, List};
 use dots_settings::{Settings, read_settings};
 use filter_rows::{AclRow, ScrubRow};
 use ip_scope::{Addr, Family, PortRange, Prefix};
@@ -97,16 +97,10 @@ fn loaded(alloc: Global, number: u32) -> Result<ScrubRow> {
         number: u128::from(number),
     };
     let mut ports = List::new(alloc);
-    if let Some(range) = PortRange::new(443, 453) {
-        ports.push(range)?;
-    }
+    ports.push(PortRange::new(443, 453).unwrap())?;
     let protocols = Bytes::from_vec(Vec::from_slice(alloc, &[6, 17])?);
-    let Some(cuid) = Text::new(alloc, b"client")? else {
-        bail!("no text");
-    };
-    let Some(prefix) = Prefix::new(address, 32) else {
-        bail!("no prefix");
-    };
+    let cuid = client(alloc)?;
+    let prefix = Prefix::new(address, 32).unwrap();
     Ok(ScrubRow {
         domain: 0,
         cuid,
