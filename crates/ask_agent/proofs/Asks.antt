@@ -9,6 +9,7 @@ use Rattle.dots_client.specs.declared.ask.Ask.TheVariants as ask
 use Rattle.dots_client.specs.declared.granted.Granted.{Granted}
 use Rattle.dots_client.specs.Client.{ClientValue, has_mid, IsKnown}
 use Rattle.ask_settings.specs.declared.planned.Planned.{Planned}
+use Rattle.ask_agent.specs.declared.refusal.Refusal.{Refusal}
 use Rattle.ask_agent.specs.declared.unsent.Unsent.{Unsent}
 use Rattle.ask_agent.specs.declared.unsent.Why.{Why}
 use Rattle.ask_agent.specs.Asking.{AskState, unknown_mid, Makes, noted, when_reached, next_ask, AsksNext, AsksEach, AsksDue}
@@ -57,8 +58,9 @@ reached_by now found planned is = sym (is_some_if (nat_le planned.at now) planne
 pub reached_none : (now : ℕ) (found : Option Planned) → found ≡ None → false ≡ is_some (when_reached now found)
 reached_none now found is = ap (λ f. is_some (when_reached now f)) (sym is)
 
-abbrev pub stated : ℕ → ℕ → ClientValue → List Planned → ℕ → List Unsent → AskState
-stated server time client asks reached unsent = record { server = server; time = time; client = client; asks = asks; reached = reached; unsent = unsent }
+abbrev pub stated : ℕ → ℕ → ClientValue → List Planned → ℕ → List Unsent → Option Refusal → AskState
+stated server time client asks reached unsent refused =
+    record { server = server; time = time; client = client; asks = asks; reached = reached; unsent = unsent; refused = refused }
 
 pub asked_next : (old new : AskState) (asks : List Planned) (other : Planned) (cause : Option Why) (client : ClientValue) → is_some (next_ask old) ≡ true → asks ≡ old.asks
     → Makes old.client (get_or asks old.reached other).ask old.time cause client

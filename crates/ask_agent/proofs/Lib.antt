@@ -5,3 +5,4 @@ pub mod Draining
 pub mod Order
 pub mod Ran
 pub mod Turns
+pub mod WasSaid

@@ -1,5 +1,5 @@
 -- An event, joined from its parts.
-use Rattle.std.proofs.Common.{◌≡◌, ◌≢◌, ℕ, eqb, Bool, inl, inr, true, false, List, [], ◌∷◌, ◌++◌, Option, refl, sym, ◌∙◌, subst}
+use Rattle.std.proofs.Common.{◌≡◌, ◌≢◌, ℕ, eqb, Bool, inl, inr, true, false, List, [], ◌∷◌, ◌++◌, Option, Some, refl, sym, ap, ◌∙◌, subst}
 use Rattle.std.specs.Bool.{MatchBool}
 use Rattle.std.proofs.lemmas.Bool.{false≢true}
 use Rattle.std.proofs.lemmas.Bool.Decides.{eqb_tells}
@@ -16,7 +16,8 @@ use Rattle.dots_host.specs.declared.out.OwnedOut.TheVariants as owned
 use Rattle.dots_host.specs.Acts.{Timed, event_of}
 use Rattle.dots_agents.specs.Sending.{Handed}
 use Rattle.dots_agents.proofs.Sends.{handed_then, handed_none}
-use Rattle.ask_agent.specs.Asking.{AskState, at_time, answers_to, HearsServer, HearsEvent, AsksDue, HandsOut, Takes, Turns, to_server}
+use Rattle.ask_agent.specs.declared.refusal.Refusal.{Refusal}
+use Rattle.ask_agent.specs.Asking.{AskState, at_time, answers_to, refused_after, HearsServer, HearsEvent, AsksDue, HandsOut, Takes, Turns, to_server}
 
 -- an event that isn't the last is a turn
 pub taken_turns : (old new : AskState) (w : What) (room : List ℕ) (at : ℕ) (outs : List OwnedOut) → w ≢ what.End → w ≢ what.Failed → Takes old (event_of w room) at outs new
@@ -71,11 +72,37 @@ silent (heard.Beat answer) none = absurd (none answer refl)
 silent heard.Nothing none = refl
 silent heard.NoMemory none = refl
 
+-- only a refusal is kept
+stays : (before : Option Refusal) (said : Heard) → ((mid code : ℕ) → said ≡ heard.Refused mid code → ⊥) → before ≡ refused_after before said
+stays before (heard.Granted mid) none = refl
+stays before (heard.Withdrawn mid) none = refl
+stays before (heard.Refused mid code) none = absurd (none mid code refl)
+stays before (heard.Beat answer) none = refl
+stays before heard.Nothing none = refl
+stays before heard.NoMemory none = refl
+
+-- a refusal
+pub heard_refused : (old new : AskState) (bytes : List ℕ) (mid code : ℕ) (client : ClientValue) (a : Option (List Timed)) (k : ℕ) → Hears old.client bytes old.time (heard.Refused mid code) client
+    → new ≡ record old { client = client; refused = Some (record { mid = mid; code = code }) }
+    → (answers : List (List ℕ)) × HearsServer old bytes answers new × Handed a k a k (to_server old.server answers)
+heard_refused old new bytes mid code client a k hears leaves =
+    ([], record { said = heard.Refused mid code; client = client; hears = hears; answered = refl; leaves = leaves }, handed_none a k)
+
 -- and nothing else
 pub heard_silent : (old new : AskState) (bytes : List ℕ) (said : Heard) (client : ClientValue) (a : Option (List Timed)) (k : ℕ) → ((answer : List ℕ) → said ≡ heard.Beat answer → ⊥)
-    → Hears old.client bytes old.time said client → new ≡ record old { client = client } → (answers : List (List ℕ)) × HearsServer old bytes answers new × Handed a k a k (to_server old.server answers)
-heard_silent old new bytes said client a k none hears leaves =
-    ([], record { said = said; client = client; hears = hears; answered = silent said none; leaves = leaves }, handed_none a k)
+    → ((mid code : ℕ) → said ≡ heard.Refused mid code → ⊥) → Hears old.client bytes old.time said client → new ≡ record old { client = client }
+    → (answers : List (List ℕ)) × HearsServer old bytes answers new × Handed a k a k (to_server old.server answers)
+heard_silent old new bytes said client a k none nor hears leaves = (
+  [],
+  record {
+    said = said;
+    client = client;
+    hears = hears;
+    answered = silent said none;
+    leaves = leaves ∙ ap (λ (r : Option Refusal). record old { client = client; refused = r }) (stays old.refused said nor);
+  },
+  handed_none a k,
+)
 
 -- two lists of messages that were sent to one server
 pub sends_joined : (server again : ℕ) (answers messages : List (List ℕ)) (a b c : Option (List Timed)) (k l m : ℕ) → again ≡ server → Handed a k b l (to_server server answers)

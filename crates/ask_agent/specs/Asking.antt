@@ -17,6 +17,7 @@ use Rattle.dots_client.specs.Hearing.{Hears}
 use Rattle.ask_settings.specs.declared.planned.Planned.{Planned}
 use Rattle.ask_settings.specs.declared.settings.AskSettings.{AskSettings}
 use Rattle.ask_agent.specs.declared.firsts.Firsts.{Firsts}
+use Rattle.ask_agent.specs.declared.refusal.Refusal.{Refusal}
 use Rattle.ask_agent.specs.declared.unsent.Unsent.{Unsent}
 use Rattle.ask_agent.specs.declared.unsent.Why.{Why}
 use Rattle.ask_agent.specs.declared.unsent.Why.TheVariants as why
@@ -31,6 +32,8 @@ pub record AskState : Type 0 where
   pub asks : List Planned
   pub reached : ℕ
   pub unsent : List Unsent
+  -- the last request that was refused
+  pub refused : Option Refusal
 
 -- at the start, by the settings, and by these numbers where the settings don't say them
 abbrev pub start_of : AskSettings → Firsts → AskState
@@ -48,6 +51,7 @@ start_of settings firsts = record {
   asks = settings.asks;
   reached = 0;
   unsent = [];
+  refused = None;
 }
 
 -- there is room for each ask that isn't reached yet among those that aren't sent
@@ -131,13 +135,18 @@ abbrev pub answers_to : Heard → List (List ℕ)
 answers_to (heard.Beat answer) = answer ∷ []
 answers_to _ = []
 
+-- a refusal is kept
+abbrev pub refused_after : Option Refusal → Heard → Option Refusal
+refused_after before (heard.Refused mid code) = Some (record { mid = mid; code = code })
+refused_after before _ = before
+
 -- a datagram of the server
 pub record HearsServer (old : AskState) (bytes : List ℕ) (answers : List (List ℕ)) (new : AskState) : Type 0 where
   pub said : Heard
   pub client : ClientValue
   pub hears : Hears old.client bytes old.time said client
   pub answered : answers ≡ answers_to said
-  pub leaves : new ≡ record old { client = client }
+  pub leaves : new ≡ record old { client = client; refused = refused_after old.refused said }
 
 abbrev pub HearsNothing : AskState → List (List ℕ) → AskState → Type 0
 HearsNothing old answers new = (answers ≡ []) × (new ≡ old)

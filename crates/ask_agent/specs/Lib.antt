@@ -6,3 +6,5 @@ pub mod Unmoved
 pub mod Commands
 pub mod Outcomes
 pub mod Checking
+pub mod Protecting
+pub mod Said

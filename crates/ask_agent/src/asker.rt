@@ -1,16 +1,18 @@
 //! The agent.
 
-ghost use Rattle.std.specs.Prelude.{◌≡◌, ◌≤◌, ◌<◌, ◌^◌, ℕ, List, length, max, true, is_some, Some, IfOk};
+ghost use Rattle.std.specs.Prelude.{◌≡◌, ◌≤◌, ◌<◌, ◌^◌, ℕ, List, length, max, true, false, is_some, Some, IfOk};
 ghost use Rattle.dots_host.specs.Acts.{IsWithin, event_of};
 ghost use Rattle.dots_host.specs.declared.out.OwnedOut.{OwnedOut};
 ghost use Rattle.dots_agents.specs.Sending.{Handed};
 ghost use Rattle.dots_client.specs.declared.client.TheConstants.{MAX_MID};
 ghost use Rattle.ask_settings.specs.File.{IsMidFit};
 ghost use Rattle.ask_agent.specs.Asking.{AskState, step, at_time, next_ask, AsksNext, AsksDue, HandsOut, HearsServer, HearsEvent, Takes, to_server, start_of};
+ghost use Rattle.ask_agent.specs.Protecting.{is_over};
 ghost use Rattle.ask_agent.specs.Unmoved.{step_ends, step_fails};
 
 use crate::firsts::Firsts;
 use crate::making::make;
+use crate::refusal::Refusal;
 use crate::sending::send_due;
 use crate::unsent::Unsent;
 use ask_settings::{AskSettings, Planned};
@@ -36,6 +38,8 @@ pub struct Asker {
     reached: usize,
     /// Those of them that weren't sent, with room for each.
     unsent: Vec<Unsent>,
+    /// The last request that was refused.
+    refused: Option<Refusal>,
 }
 
 impl Model for Asker {
@@ -51,6 +55,7 @@ impl Model for Asker {
       asks = asker.asks;
       reached = asker.reached;
       unsent = asker.unsent.items;
+      refused = asker.refused;
     } };
 
     ghost invariant = { λ asker. HasRoom asker.reached (length asker.asks) (vec_len asker.unsent) (vec_capacity asker.unsent) };
@@ -80,6 +85,7 @@ impl Asker {
             asks,
             reached: 0,
             unsent,
+            refused: None,
         })
     }
 
@@ -88,6 +94,20 @@ impl Asker {
         ensures { result.now ≡ self.now.unsent }
     {
         self.unsent.as_slice()
+    }
+
+    /// The last request that was refused.
+    pub fn refused(&self) -> Option<Refusal>
+        ensures { result ≡ self.now.refused }
+    {
+        self.refused
+    }
+
+    /// Whether all asks were reached and no request waits for its answer.
+    pub fn is_over(&self) -> bool
+        ensures { result ≡ is_over self.now }
+    {
+        self.reached >= self.asks.items().len() && self.core.is_idle()
     }
 
     /// The client.
@@ -150,6 +170,10 @@ impl Asker {
                 send_to(wire, self.server, answer.bytes());
                 return;
             }
+            Heard::Refused { mid, code } => {
+                self.refused = Some(Refusal { mid, code });
+                return;
+            }
             _ => return,
         }
     }
@@ -206,6 +230,13 @@ impl Asker {
 
 impl<W: Wire> Agent<W> for Asker {
     ghost step = { step };
+
+    ghost over = { λ _. false };
+
+    /// A client goes on until the end.
+    fn is_over(&self) -> bool {
+        false
+    }
 
     fn turn(&mut self, wire: &mut W, got: &Got, room: &[u8]) {
         match got.what {

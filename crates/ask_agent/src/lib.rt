@@ -3,11 +3,13 @@
 //!
 //! [`run_ask`] reads the settings, takes the events of a wire until the end, and writes the report. [`Asker`] is the agent, whose
 //! turns [`ask_over`] takes over any wire. [`run_client`] does so for the words of a command line, and [`check_ask_settings`] tells what
-//! settings come to.
+//! settings come to. [`run_protect`] asks once, as words say, and ends when that is answered or given up.
 //!
 //! Start reading at `specs/Asking.antt`, which has the client as a machine over events: what is heard, what is asked, and what is
 //! sent. `specs/Report.antt` has the report, and `specs/Running.antt` what a run has done by its ending; `specs/Outcomes.antt`
-//! has what a status says.
+//! has what a status says. `specs/Protecting.antt` has all of this for a client that asks once.
+//!
+//! [`laws`] has what these come to: that the server said what is reported, in `specs/Said.antt`, and that the numbers of runs stay apart.
 #![tactic(auto)]
 
 mod asker;
@@ -17,10 +19,15 @@ mod ending;
 mod firsts;
 pub mod laws;
 mod making;
+mod protect_ending;
+mod protecting;
+mod refusal;
 mod report;
 mod running;
 mod sending;
 mod unsent;
+mod until_answered;
+mod verdict;
 mod words;
 
 pub use asker::{Asker, ROOM};
@@ -28,6 +35,10 @@ pub use checking::check_ask_settings;
 pub use command::run_client;
 pub use ending::AskEnding;
 pub use firsts::Firsts;
+pub use protect_ending::ProtectEnding;
+pub use protecting::run_protect;
+pub use refusal::Refusal;
 pub use running::{ask_over, run_ask};
 pub use unsent::{Unsent, Why};
-pub use words::{ask_names, checked_name, is_ask, is_check_ask};
+pub use verdict::Verdict;
+pub use words::{ask_names, checked_name, is_ask, is_check_ask, is_protect, protect_host};

@@ -88,7 +88,7 @@ pub fn ask_over<W: Wire, K: Sink>(asker: &mut Asker, wire: &mut W, report: &mut 
 {
     let mut room = [0; MAX_EVENT_BYTES];
     match take_turns(asker, wire, &mut room) {
-        Ok(()) => match write_report(asker, report) {
+        Ok(_) => match write_report(asker, report) {
             Ok(()) => return AskEnding::Reported,
             Err(_) => return AskEnding::ReportFailed,
         },

@@ -1,7 +1,7 @@
 //! The words of the command line that ask for a client, without the program's name.
 
 ghost use Rattle.std.specs.Prelude.{◌≡◌, map, string_bytes, true};
-ghost use Rattle.ask_agent.specs.Commands.{is_ask, is_check_ask, is_word, second_of, third_of};
+ghost use Rattle.ask_agent.specs.Commands.{is_ask, is_protect, is_check_ask, is_word, second_of, third_of, fourth_of, fifth_of, sixth_of};
 
 /// Whether they are `ask SETTINGS HOSTFILE`.
 pub fn is_ask(words: &[String]) -> bool
@@ -23,6 +23,46 @@ pub fn ask_names(words: &[String]) -> (&str, &str)
 {
     match words {
         [_, settings, host] => (settings.as_str(), host.as_str()),
+        _ => unreachable!(),
+    }
+}
+
+/// Whether they are `protect HOSTFILE SERVER NAME LIFETIME PREFIXES`. What the last four say is read later.
+pub fn is_protect(words: &[String]) -> bool
+    ensures { result ≡ is_protect (map string_bytes words.now) }
+{
+    match words {
+        [name, host, _, _, _, _] => name.as_str() == "protect" && is_word(host.as_bytes()),
+        _ => false,
+    }
+}
+
+/// The name of the host file, where they are `protect HOSTFILE SERVER NAME LIFETIME PREFIXES`.
+pub fn protect_host(words: &[String]) -> &str
+    requires { is_protect (map string_bytes words.now) ≡ true }
+    ensures { result.now ≡ second_of (map string_bytes words.now) }
+{
+    match words {
+        [_, host, _, _, _, _] => host.as_str(),
+        _ => unreachable!(),
+    }
+}
+
+/// The last four words, where they are `protect HOSTFILE SERVER NAME LIFETIME PREFIXES`.
+pub fn protect_words(words: &[String]) -> (&[u8], &[u8], &[u8], &[u8])
+    requires { is_protect (map string_bytes words.now) ≡ true }
+    ensures server { result.0.now ≡ third_of (map string_bytes words.now) }
+    ensures name { result.1.now ≡ fourth_of (map string_bytes words.now) }
+    ensures lifetime { result.2.now ≡ fifth_of (map string_bytes words.now) }
+    ensures prefixes { result.3.now ≡ sixth_of (map string_bytes words.now) }
+{
+    match words {
+        [_, _, server, name, lifetime, prefixes] => (
+            server.as_bytes(),
+            name.as_bytes(),
+            lifetime.as_bytes(),
+            prefixes.as_bytes(),
+        ),
         _ => unreachable!(),
     }
 }

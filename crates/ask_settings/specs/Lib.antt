@@ -3,3 +3,4 @@ pub mod Said
 pub mod Admitting
 pub mod File
 pub mod Taking
+pub mod Protecting

@@ -1,10 +1,11 @@
 //! What a line says.
 
 ghost use Rattle.std.specs.Prelude.{◌≡◌, ◌∷◌, [], map, IfOk};
-ghost use Rattle.ask_settings.specs.Lines.{new_of, refresh_of, withdraw_of, ask_of, named, value_of, front_of, at_of, fields_say};
+ghost use Rattle.dots_client.specs.declared.ask.Ask.TheVariants as asks;
+ghost use Rattle.ask_settings.specs.Lines.{prefixes_asked, new_of, refresh_of, withdraw_of, ask_of, named, value_of, front_of, at_of, fields_say};
 
 use crate::fields::{cuid_in, lifetime_in, long_in, prefixes_in, word_in};
-use acl_lists::Asked;
+use acl_lists::{Asked, PrefixList};
 use dots_client::{Ask, MAX_MID};
 use dots_lists::{Bytes, List, Name, NoMemory};
 use plain_text::{is_word, number_in};
@@ -134,6 +135,13 @@ fn read_new(alloc: Global, lifetime: &[u8], prefixes: &[u8]) -> Result<Option<As
     let Some(prefixes) = prefixes_in(alloc, prefixes)? else {
         return Ok(None);
     };
+    Ok(Some(new_ask(alloc, prefixes, lifetime)))
+}
+
+/// A new mitigation of these prefixes. Takes no memory.
+pub fn new_ask(alloc: Global, prefixes: PrefixList, lifetime: i32) -> Ask
+    ensures { result ≡ asks.New (prefixes_asked prefixes) lifetime }
+{
     let asked = Asked {
         prefixes,
         ports: List::new(alloc),
@@ -141,7 +149,7 @@ fn read_new(alloc: Global, lifetime: &[u8], prefixes: &[u8]) -> Result<Option<As
         names: List::new(alloc),
         aliases: List::new(alloc),
     };
-    Ok(Some(Ask::New { asked, lifetime }))
+    Ask::New { asked, lifetime }
 }
 
 fn read_refresh(mid: &[u8], lifetime: &[u8]) -> Option<Ask>

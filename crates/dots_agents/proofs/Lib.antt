@@ -1,3 +1,4 @@
 pub mod Sends
 mod Turning
+pub mod Until
 pub mod Wrote

@@ -1,13 +1,12 @@
 -- Texts that are written one after the other.
-use Rattle.std.proofs.Common.{◌≡◌, ℕ, ◌+◌, ◌<◌, ◌≤◌, List, [], ◌∷◌, ◌++◌, length, take, drop, get_or, Option, Result, Ok, Err, OnOk, OnErr, refl, sym, ap, ◌∙◌, subst, append_assoc, append-nil, arith}
+use Rattle.std.proofs.Common.{◌≡◌, ℕ, ◌+◌, ◌<◌, ◌≤◌, List, [], ◌∷◌, ◌++◌, length, take, drop, get_or, Option, Result, Ok, Err, refl, sym, ap, ◌∙◌, subst, append_assoc, append-nil, arith}
 use Rattle.std.specs.Prelude.{flat_map}
 use Rattle.std.specs.Io.KnownBytes.{Appends}
 use Rattle.std.proofs.KnownBytes.{Appends-nil, Appends-trans}
 use Rattle.std.proofs.lemmas.Grind.{take_at_read, flat_map-append}
 use Rattle.std.proofs.lemmas.List.{take_all, take-append-drop}
-use Rattle.std.proofs.Math.Seq.{drop-cons}
-use Rattle.dots_host.specs.Causes.{Rose, HasCause}
-use Rattle.dots_host.specs.Writing.{Owes, AppendsBeginning, Writes}
+use Rattle.dots_host.specs.Causes.{Rose}
+use Rattle.dots_host.specs.Writing.{AppendsBeginning, Writes}
 use Rattle.dots_host.proofs.WriteLemmas.{owes_lost, begun_longer, writes}
 use Rattle.dots_agents.specs.Writing.{Wrote}
 

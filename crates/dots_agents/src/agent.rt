@@ -1,4 +1,4 @@
-ghost use Rattle.std.specs.Prelude.{◌≡◌, ◌<◌, ◌^◌, ℕ, List, [], length};
+ghost use Rattle.std.specs.Prelude.{◌≡◌, ◌<◌, ◌^◌, ℕ, Bool, List, [], length};
 ghost use Rattle.dots_host.specs.Acts.{IsWithin, event_of};
 ghost use Rattle.dots_host.specs.Runs.{Added, Gives, each_telling};
 ghost use Rattle.dots_host.specs.declared.event.Event.{Event};
@@ -11,6 +11,13 @@ use dots_host::{Got, Wire};
 pub trait Agent<W: Wire> {
     /// What an event and the time beside it come to: the sends, each beside the agent that it tells, and the agent after it.
     ghost step: { Self → Event → ℕ → List (Self × OwnedOut) → Self → Type 0 };
+
+    /// Which agents have nothing left to do.
+    ghost over: { Self → Bool };
+
+    /// Whether it has nothing left to do, so that no further event is taken.
+    fn is_over(&self) -> bool
+        ensures { result ≡ over self.now };
 
     /// Takes one event, its bytes at the front of the room, and gives its sends.
     fn turn(&mut self, wire: &mut W, got: &Got, room: &[u8])

@@ -6,7 +6,7 @@ ghost use Rattle.coap_message.specs.Message.{spelling};
 ghost use Rattle.agent_messages.specs.Requests.{asking, withdrawing};
 ghost use Rattle.dots_client.specs.declared.client.TheConstants.{MAX_MID, MAX_ROOM};
 ghost use Rattle.dots_client.specs.declared.request.Request.{Request};
-ghost use Rattle.dots_client.specs.Client.{WaitingValue, IsKnown, Faults, ask_fault, mid_for, mid_after, new_request, bytes_for, asked_at, tick_answer, tick_after};
+ghost use Rattle.dots_client.specs.Client.{WaitingValue, IsKnown, is_empty, Faults, ask_fault, mid_for, mid_after, new_request, bytes_for, asked_at, tick_answer, tick_after};
 ghost use Rattle.dots_client.specs.Hearing.{Hears, Answers, TellsOrLacks};
 ghost use Rattle.dots_client.specs.Steps.{Sets, Removes, Leaves, IsOf};
 
@@ -102,6 +102,13 @@ impl ClientCore {
         ensures { result.now ≡ self.now.ledger }
     {
         self.ledger.as_slice()
+    }
+
+    /// Whether no request waits for its answer.
+    pub fn is_idle(&self) -> bool
+        ensures { result ≡ is_empty self.now.waiting }
+    {
+        self.waiting.is_empty()
     }
 
     /// The Message ID of the next request.

@@ -48,8 +48,8 @@ fn kind_name(kind: Kind) -> &'static [u8]
     }
 }
 
-/// The class of the code, a dot, and its detail in two digits.
-fn code_text(code: u8) -> [u8; 4]
+/// A code as the standard writes it: its class, a dot, and its detail in two digits (RFC 7252, section 3).
+pub fn code_text(code: u8) -> [u8; 4]
     ensures { result ≡ code_text code }
 {
     let detail = code % 32;
