@@ -135,3 +135,12 @@ HasDone words (ending.WrongWord which) firsts before now =
 HasDone words ending.NoMemory firsts before now = (now.acts ≡ before.acts) × (now.held ≡ before.held)
 HasDone words how firsts before now =
     (settings : AskSettings) × (protected_by words ≡ Ok settings) × (end : AskState) × ProtectedTo (start_of settings firsts) how before now end
+
+-- where a word is at fault the first such one is named, want of memory aside
+abbrev pub NamesWord : List (List ℕ) → ProtectEnding → Type 0
+NamesWord words how = (which : ProtectWord) → protected_by words ≡ Err which → (how ≡ ending.WrongWord which) ⊎ (how ≡ ending.NoMemory)
+
+-- where no word is at fault and no call failed, what became of the ask is told, want of memory and 2^40 events aside
+abbrev pub TellsVerdict : List (List ℕ) → ProtectEnding → Around → Around → Type 0
+TellsVerdict words how before now = (settings : AskSettings) → protected_by words ≡ Ok settings → ¬ (WireFailed before now) → ¬ (ReportFailed before now)
+    → ((said : Verdict) × (how ≡ ending.Told said)) ⊎ ((how ≡ ending.NoMemory) ⊎ (how ≡ ending.TooMany))

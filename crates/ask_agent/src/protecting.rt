@@ -1,16 +1,13 @@
 //! The whole run of a client that asks once.
 
-ghost use Rattle.std.specs.Prelude.{◌≡◌, ◌≤◌, ◌⊎◌, false, true, map, string_bytes, None, Ok, Err};
+ghost use Rattle.std.specs.Prelude.{◌≡◌, ◌≤◌, false, true, map, string_bytes, None};
 ghost use Rattle.dots_host.specs.Causes.{Rose};
 ghost use Rattle.dots_client.specs.declared.client.TheConstants.{MAX_MID};
-ghost use Rattle.ask_settings.specs.declared.protecting.ProtectWord.{ProtectWord};
-ghost use Rattle.ask_settings.specs.declared.settings.AskSettings.{AskSettings};
 ghost use Rattle.ask_settings.specs.File.{IsMidFit};
 ghost use Rattle.ask_agent.specs.declared.protect_ending.ProtectEnding.TheVariants as ending;
-ghost use Rattle.ask_agent.specs.declared.verdict.Verdict.{Verdict};
 ghost use Rattle.ask_agent.specs.Asking.{start_of};
 ghost use Rattle.ask_agent.specs.Commands.{is_protect};
-ghost use Rattle.ask_agent.specs.Protecting.{has_protected, is_over, protected_by, word_name, Tells, ProtectedTo, Protects, HasDone};
+ghost use Rattle.ask_agent.specs.Protecting.{has_protected, is_over, word_name, Tells, ProtectedTo, Protects, HasDone, NamesWord, TellsVerdict};
 ghost use Rattle.ask_agent.specs.Running.{around};
 
 use crate::asker::Asker;
@@ -46,11 +43,11 @@ pub fn run_protect<W: Wire, K: Sink>(
     // Which faults there must have been.
     ensures taken { result ≡ ending.NextFailed → Rose (W.faults wire.old) (W.faults wire.new) }
     ensures written { result ≡ ending.ReportFailed → Rose (K.faults report.old) (K.faults report.new) }
-    // When the words are refused, and when what became of the ask must be told, want of memory and 2^40 events aside.
-    ensures refused { (word : ProtectWord) → protected_by (map string_bytes words.now) ≡ Err word → (result ≡ ending.WrongWord word) ⊎ (result ≡ ending.NoMemory) }
-    ensures complete { (settings : AskSettings) → protected_by (map string_bytes words.now) ≡ Ok settings
-        → ¬ (Rose (W.faults wire.old) (W.faults wire.new)) → ¬ (Rose (K.faults report.old) (K.faults report.new))
-        → ((said : Verdict) × (result ≡ ending.Told said)) ⊎ ((result ≡ ending.NoMemory) ⊎ (result ≡ ending.TooMany)) }
+    // When the words are refused, and when what became of the ask must be told.
+    ensures refused { NamesWord (map string_bytes words.now) result }
+    ensures complete { TellsVerdict (map string_bytes words.now) result
+        (around None 0 (W.acts wire.old) (W.faults wire.old) (K.holds report.old) (K.faults report.old))
+        (around None 0 (W.acts wire.new) (W.faults wire.new) (K.holds report.new) (K.faults report.new)) }
 {
     let (server, name, lifetime, prefixes) = protect_words(words);
     match protect_settings(alloc, server, name, lifetime, prefixes) {

@@ -1,12 +1,12 @@
 //! The program `dots`: it hands [`run_program`], or with the words `serve ..` [`run_sockets`], with `ask ..` [`ask_sockets`], with
-//! `check-ask ..` [`check_client`] and with those that ask about a host file [`check_host`], the words of its command line, the real
-//! files and streams, and the runtime, and ends with its status.
+//! `protect ..` [`protect_sockets`], with `check-ask ..` [`check_client`] and with those that ask about a host file [`check_host`], the
+//! words of its command line, the real files and streams, and the runtime, and ends with its status.
 #![tactic(auto)]
 
 use dots_lists::NoMemory;
 use dots_run::{
-    ask_sockets, check_client, check_host, host_task, is_ask, is_check_ask, is_serve, run_program,
-    run_sockets,
+    ask_sockets, check_client, check_host, host_task, is_ask, is_check_ask, is_protect, is_serve,
+    protect_sockets, run_program, run_sockets,
 };
 use std::io::ErrorKind;
 use std::process::ExitCode;
@@ -39,6 +39,10 @@ fn main(rt: HostRuntime) -> ExitCode {
         }
         if is_ask(list.as_slice()) {
             let asked = ask_sockets(rt.alloc(), list.as_slice(), opening, &rt, report);
+            return ExitCode::from(asked.into_status());
+        }
+        if is_protect(list.as_slice()) {
+            let asked = protect_sockets(rt.alloc(), list.as_slice(), opening, &rt, report);
             return ExitCode::from(asked.into_status());
         }
         if is_check_ask(list.as_slice()) {

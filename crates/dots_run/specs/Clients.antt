@@ -1,5 +1,5 @@
 -- What a run of a client over real sockets has done, and what is told of a client's settings.
-use Rattle.std.specs.Prelude.{◌≡◌, ℕ, ◌<◌, ◌^◌, List, Option, Result}
+use Rattle.std.specs.Prelude.{◌≡◌, ℕ, ◌<◌, ◌^◌, false, List, Option, Result}
 use Rattle.dots_edge.specs.Edge.{Edge, acts_told}
 use Rattle.file_checks.specs.declared.checked.Checked.{Checked}
 use Rattle.file_checks.specs.declared.checked.Unchecked.{Unchecked}
@@ -8,6 +8,8 @@ use Rattle.ask_agent.specs.declared.firsts.Firsts.{Firsts}
 use Rattle.ask_agent.specs.Numbers.{mid_at, number_at}
 use Rattle.ask_agent.specs.Outcomes.{RunsAsk, AskOutcome}
 use Rattle.ask_agent.specs.Running.{Around}
+use Rattle.ask_agent.specs.declared.protect_ending.ProtectEnding.{ProtectEnding}
+use Rattle.ask_agent.specs.Protecting.{protect_status, has_protected, HasDone, NamesWord, TellsVerdict}
 use Rattle.dots_run.specs.declared.topic_outcome.TopicOutcome.{TopicOutcome}
 use Rattle.dots_run.specs.Reporting.{outcome_status, Checks, Reports}
 
@@ -34,6 +36,19 @@ pub record AsksOver (words : List (List ℕ)) (status : ℕ) (before now : Aroun
   pub early : second < 2 ^ 48
   pub runs : RunsAsk status (firsts_at second) before now (host ≡ first)
   pub outcome : AskOutcome words status before now
+
+-- A run of words that ask once, with this status, from what stood around before to what stands there now, and from the host as it was to
+-- what it is. The first mid and the first number are those of a second, as above.
+pub record ProtectsOver (words : List (List ℕ)) (status : ℕ) (before now : Around) (first host : Edge) : Type 0 where
+  pub second : ℕ
+  pub early : second < 2 ^ 48
+  pub ending : ProtectEnding
+  pub status_is : status ≡ protect_status ending
+  pub does : HasDone words ending (firsts_at second) before now
+  pub idle : has_protected ending ≡ false → host ≡ first
+  -- when the words are refused, and when what became of the ask must be told
+  pub refused : NamesWord words ending
+  pub complete : TellsVerdict words ending before now
 
 -- Telling of a client's settings ended with this status, from what the source had left and what the report held to what it holds now; and
 -- what must have failed.

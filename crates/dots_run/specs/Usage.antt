@@ -11,6 +11,9 @@ usage_text =
     ++ codes "dots ask SETTINGS HOSTFILE\n"
     ++ codes "                       asks a server for what the settings of a client say, over the sockets that a host file names:\n"
     ++ codes "                       prints at the end what is granted\n"
+    ++ codes "dots protect HOSTFILE SERVER NAME LIFETIME PREFIXES\n"
+    ++ codes "                       asks the server once, as the client NAME, for filtering of PREFIXES during LIFETIME seconds: prints\n"
+    ++ codes "                       what it answers, and ends\n"
     ++ codes "dots show HEX          prints the CoAP message that bytes in hexadecimal spell\n"
     ++ codes "dots check SETTINGS    prints what a settings file comes to, or its first fault and why it is one\n"
     ++ codes "dots check SETTINGS HOSTFILE\n"
@@ -41,7 +44,8 @@ usage_text =
     ++ codes "      the settings is one\n"
     ++ codes "  4   no memory was found: free some, and begin again\n"
     ++ codes "  5   the settings or the script can't be read, or a line is no script line: dots check-script says which, and why.\n"
-    ++ codes "      With serve and ask: the settings can't be read, or the sockets failed; with ask also what 6 says of the host file\n"
+    ++ codes "      With serve, ask and protect: the settings can't be read, or the sockets failed; with the last two also what 6 says\n"
+    ++ codes "      of the host file\n"
     ++ codes "  6   a call of the disk failed. What was answered is on it: see what it lacks, and begin again. With serve also: the\n"
     ++ codes "      host file can't be read or has a fault, a socket can't be bound, or another server has the journal: dots check\n"
     ++ codes "      SETTINGS HOSTFILE names what it can see\n"
@@ -50,6 +54,8 @@ usage_text =
     ++ codes "  9   standard output can't be written: look where it goes\n"
     ++ codes "  10  the disk is smaller than the settings need. What is printed has both sizes, in bytes\n"
     ++ codes "  11  no end came within 2^40 events or lines: cut the script, or begin again\n"
+    ++ codes "  12  protect: the server refused it, with the code that is printed. docs/OPERATING.md says what to do then\n"
+    ++ codes "  13  protect: no answer came within a minute: ask again, and see whether the server runs and is reached\n"
     ++ codes "  70  the program isn't built yet, and can't be built: what stands above says why\n"
 
 -- the version of the program, and the logic that it is proved with

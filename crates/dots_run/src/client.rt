@@ -75,7 +75,7 @@ pub fn ask_sockets<
 }
 
 /// The seconds since 1970, below 2^48; 0 where the clock can't be read.
-fn start_second<R: Clock>(rt: &R) -> u64
+pub fn start_second<R: Clock>(rt: &R) -> u64
     ensures { result < 2 ^ 48 }
 {
     match rt.since_1970() {

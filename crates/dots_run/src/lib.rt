@@ -6,7 +6,8 @@
 //! how the program is called; and its version. That text is a function of the [`Topic`] and of the bytes of the source ([`one_text`]):
 //! `specs/Reporting.antt` says which, `specs/Usage.antt` has the texts that no file decides, and those of files are in `file_checks`.
 //!
-//! A client over sockets is [`ask_sockets`], and what its settings come to [`check_client`] tells: `specs/Clients.antt`.
+//! A client over sockets is [`ask_sockets`], one that asks once [`protect_sockets`], and what the settings of a client come to
+//! [`check_client`] tells: `specs/Clients.antt`.
 //!
 //! A generated run, [`run_load`], has a host of its own. Its report is a function of its number ([`one_load_text`]), and `specs/Load.antt` says which.
 #![tactic(auto)]
@@ -20,6 +21,7 @@ mod laws;
 mod load;
 mod outcome;
 mod program;
+mod protect;
 mod refusals;
 mod reporting;
 mod running;
@@ -32,7 +34,7 @@ mod wording;
 mod words;
 
 pub use again::run_again;
-pub use ask_agent::{is_ask, is_check_ask};
+pub use ask_agent::{is_ask, is_check_ask, is_protect};
 pub use blocks::{Ended, run_blocks};
 pub use client::ask_sockets;
 pub use client_report::{ClientChecked, check_client};
@@ -41,6 +43,7 @@ pub use host_report::{HostChecked, check_host, host_task};
 pub use laws::{one_load_text, one_text};
 pub use load::run_load;
 pub use program::{Finished, run_program};
+pub use protect::{Protected, protect_sockets};
 pub use reporting::report_topic;
 pub use running::run;
 pub use scripted::{Scripted, run_script};

@@ -113,3 +113,98 @@ $ ask settings host
 < at 1000 tock
 ? 5
 ";
+
+/// A client that asks once, of the name that the key `abc` has. The line behind the last event is none, so it isn't read.
+pub const PROTECTED: &str = "\
+$ protect host 9 ungWv48Bz-pBQUDeXa4iIw 3600 192.0.2.0/24
+
+# it is granted
+< at 1000 tick
+< at 1001 from 8 58410001+00000000+00000001+GRANTED_1
+< at 1001 from 9 58410001+00000000+00000001+GRANTED_1
+< over
+> to 9 58030001+00000000+00000001+CLIENT_ABC+056d69643d31+NET1
+= granted 1 3600
+
+# The grant is of another mid.
+< at 1000 tick
+< at 1001 from 9 58410001+00000000+00000001+c2010fff+a101a10281a205020e190e10
+< over
+> to 9 58030001+00000000+00000001+CLIENT_ABC+056d69643d31+NET1
+= refused 1 2.01
+? 12
+
+# it is refused
+< at 1000 tick
+< at 1003 from 9 58890001+00000000+00000001
+< over
+> to 9 58030001+00000000+00000001+CLIENT_ABC+056d69643d31+NET1
+= refused 1 4.09
+? 12
+
+# No answer comes: it is sent four times, and given up.
+< at 1000 tick
+< at 1004 tick
+< at 1010 tick
+< at 1022 tick
+< at 1045 tick
+< at 1046 tick
+< over
+> to 9 58030001+00000000+00000001+CLIENT_ABC+056d69643d31+NET1
+> to 9 58030001+00000000+00000001+CLIENT_ABC+056d69643d31+NET1
+> to 9 58030001+00000000+00000001+CLIENT_ABC+056d69643d31+NET1
+> to 9 58030001+00000000+00000001+CLIENT_ABC+056d69643d31+NET1
+= no answer
+? 13
+
+# the end comes before an answer, and before any event
+< at 1000 tick
+> to 9 58030001+00000000+00000001+CLIENT_ABC+056d69643d31+NET1
+= no answer
+? 13
+
+= no answer
+? 13
+
+# the wire fails, and the line can't be written
+< over
+? 5
+
+< at 1000 tick
+! write 1
+> to 9 58030001+00000000+00000001+CLIENT_ABC+056d69643d31+NET1
+? 9
+
+# a lifetime without an end, and two prefixes
+$ protect host 9 ungWv48Bz-pBQUDeXa4iIw -1 192.0.2.0/25,192.0.2.128/25
+< at 1000 tick
+< at 1001 from 9 58410001+00000000+00000001+c2010fff+a101a10281a205010e20
+> to 9 58030001+00000000+00000001+CLIENT_ABC+056d69643d31+12010fffa101a10281a206826c3139322e302e322e302f32356e3139322e302e322e3132382f32350e20
+= granted 1 -1
+
+# Words that aren't of their form: the first is named, and no event is taken.
+$ protect host 09 ungWv48Bz-pBQUDeXa4iIw 0 192.0.2.0/33
+< over
+= words SERVER
+? 2
+
+$ protect host 9  0 192.0.2.0/33
+= words NAME
+? 2
+
+$ protect host 9 ungWv48Bz-pBQUDeXa4iIw 0 192.0.2.0/33
+= words LIFETIME
+? 2
+
+$ protect host 9 ungWv48Bz-pBQUDeXa4iIw 3600 192.0.2.0/33
+= words PREFIXES
+? 2
+
+$ protect host 9 ungWv48Bz-pBQUDeXa4iIw 3600
+= words
+? 2
+
+$ protect -host 9 ungWv48Bz-pBQUDeXa4iIw 3600 192.0.2.0/24
+= words
+? 2
+";

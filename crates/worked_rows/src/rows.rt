@@ -113,6 +113,7 @@ fn runs_of_clients(rt: HostRuntime) {
     let alloc = rt.alloc();
     all_hold(&rt, alloc, ask_rows::ASKED);
     all_hold(&rt, alloc, ask_rows::FAULTS);
+    all_hold(&rt, alloc, ask_rows::PROTECTED);
 }
 
 #[test]

@@ -1,8 +1,11 @@
 //! Runs over scripts, as the program makes them: long replies leave in blocks.
 
+ghost use Rattle.std.specs.Prelude.{◌≡◌, map, string_bytes, true};
+ghost use Rattle.ask_agent.specs.Commands.{is_protect};
+
 use crate::runs::{Parts, has_ended, parts_of_row};
 use crate::tables::Row;
-use ask_agent::{Firsts, is_ask, run_client};
+use ask_agent::{Firsts, is_ask, is_protect, run_client, run_protect};
 use dots_host::{MemorySink, MemorySource, NoMemory};
 use dots_run::{Ended, ScriptHost, run_blocks};
 use std::alloc::Global;
@@ -27,6 +30,9 @@ fn leaves(
     if is_ask(words) {
         return asks(alloc, row, parts, host, sink);
     }
+    if is_protect(words) {
+        return protects(alloc, row, words, host, sink);
+    }
     let Ended { status, host } = run_blocks(alloc, words, &mut parts.settings, host, sink);
     let goes = has_ended(alloc, row, status, sink) && row.has(alloc, ">", host.sink().bytes());
     drop(host);
@@ -44,6 +50,23 @@ fn asks(alloc: Global, row: Row, parts: &mut Parts, host: Scripted, sink: &mut M
         &mut host,
         sink,
     );
+    let goes = has_ended(alloc, row, status, sink) && row.has(alloc, ">", host.sink().bytes());
+    drop(host);
+    goes
+}
+
+/// Whether a run of a client that asks once goes as the row says.
+fn protects(
+    alloc: Global,
+    row: Row,
+    words: &[String],
+    host: Scripted,
+    sink: &mut MemorySink,
+) -> bool
+    requires { is_protect (map string_bytes words.now) ≡ true }
+{
+    let mut host = host;
+    let status = run_protect(alloc, words, Firsts::ones(), &mut host, sink).status();
     let goes = has_ended(alloc, row, status, sink) && row.has(alloc, ">", host.sink().bytes());
     drop(host);
     goes

@@ -106,6 +106,9 @@ $ help
 = dots ask SETTINGS HOSTFILE
 =                        asks a server for what the settings of a client say, over the sockets that a host file names:
 =                        prints at the end what is granted
+= dots protect HOSTFILE SERVER NAME LIFETIME PREFIXES
+=                        asks the server once, as the client NAME, for filtering of PREFIXES during LIFETIME seconds: prints
+=                        what it answers, and ends
 = dots show HEX          prints the CoAP message that bytes in hexadecimal spell
 = dots check SETTINGS    prints what a settings file comes to, or its first fault and why it is one
 = dots check SETTINGS HOSTFILE
@@ -136,7 +139,8 @@ $ help
 =       the settings is one
 =   4   no memory was found: free some, and begin again
 =   5   the settings or the script can't be read, or a line is no script line: dots check-script says which, and why.
-=       With serve and ask: the settings can't be read, or the sockets failed; with ask also what 6 says of the host file
+=       With serve, ask and protect: the settings can't be read, or the sockets failed; with the last two also what 6 says
+=       of the host file
 =   6   a call of the disk failed. What was answered is on it: see what it lacks, and begin again. With serve also: the
 =       host file can't be read or has a fault, a socket can't be bound, or another server has the journal: dots check
 =       SETTINGS HOSTFILE names what it can see
@@ -145,6 +149,8 @@ $ help
 =   9   standard output can't be written: look where it goes
 =   10  the disk is smaller than the settings need. What is printed has both sizes, in bytes
 =   11  no end came within 2^40 events or lines: cut the script, or begin again
+=   12  protect: the server refused it, with the code that is printed. docs/OPERATING.md says what to do then
+=   13  protect: no answer came within a minute: ask again, and see whether the server runs and is reached
 =   70  the program isn't built yet, and can't be built: what stands above says why
 
 $ help
