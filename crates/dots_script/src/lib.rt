@@ -1,9 +1,12 @@
 //! A host whose events come from a script: it reads lines from a source and writes its sends to a sink. Its disk is in
 //! memory.
 //!
-//! A script has one event a line, as `at 1000 from 0 50030002`: at second 1000 a datagram of these bytes comes
-//! from peer 0; `at 1001 tick`: second 1001 has come; or `at 1002 restart`: at second 1002 the server lost all but its disk
-//! and begins again. Blank lines and lines that begin with `#` are skipped, and any other line is a fault. A send is written as `to 0 60450002`, one line each.
+//! A script has one event a line. `at 1000 from 0 50030002`: at second 1000 a datagram of these bytes comes from peer 0.
+//! `at 1000 open 5 0`: peer 0 opens connection 5. `at 1000 piece 5 474554`: these bytes come on connection 5. `at 1000 close 5`:
+//! connection 5 is closed. `at 1001 tick`: second 1001 has come. `at 1002 restart`: at second 1002 the server lost all but its
+//! disk and begins again. Blank lines and lines that begin with `#` are skipped, and any other line is a fault.
+//!
+//! A send is one line: `to 0 60450002` a datagram to peer 0, `conn 5 485454` bytes on connection 5, and `close 5` its end.
 //!
 //! Read [`ScriptHost`] first, then `specs/Script.antt` (the lines of a script), `specs/Lines.antt` (what a call
 //! answers) and `specs/Sends.antt` (the line of a send).

@@ -14,14 +14,33 @@ use Rattle.file_checks.specs.Remarks.{of_field, of_line}
 abbrev pub unless : Bool → Reason → ℕ → Option Remark → Option Remark
 unless holds reason field later = if holds then later else Some (of_field reason field)
 
+-- a number below 2^32, without leading zeros
+abbrev pub is_small : List ℕ → Bool
+is_small text = is_some (number_in 0 4294967295 text)
+
 -- 1 to 4,096 bytes in hexadecimal
-abbrev pub is_datagram : List ℕ → Bool
-is_datagram text = nat_le 2 (length text) && nat_le (length text) 8192 && length text % 2 == 0 && list_all is_ascii_hexdigit text
+abbrev pub are_bytes : List ℕ → Bool
+are_bytes text = nat_le 2 (length text) && nat_le (length text) 8192 && length text % 2 == 0 && list_all is_ascii_hexdigit text
 
 -- the fields behind `from`: a peer, and bytes
 abbrev pub datagram_remark : List (List ℕ) → Option Remark
-datagram_remark (peer ∷ digits ∷ []) = unless (is_some (number_in 0 4294967295 peer)) (reason.Mistake mistake.Peer) 3 (unless (is_datagram digits) reason.Datagram 4 None)
+datagram_remark (peer ∷ digits ∷ []) = unless (is_small peer) (reason.Mistake mistake.Peer) 3 (unless (are_bytes digits) reason.Datagram 4 None)
 datagram_remark _ = Some (of_line reason.DatagramFields)
+
+-- the fields behind `open`: a connection, and a peer
+abbrev pub opening_remark : List (List ℕ) → Option Remark
+opening_remark (conn ∷ peer ∷ []) = unless (is_small conn) reason.Connection 3 (unless (is_small peer) (reason.Mistake mistake.Peer) 4 None)
+opening_remark _ = Some (of_line reason.OpeningFields)
+
+-- the fields behind `piece`: a connection, and bytes
+abbrev pub piece_remark : List (List ℕ) → Option Remark
+piece_remark (conn ∷ digits ∷ []) = unless (is_small conn) reason.Connection 3 (unless (are_bytes digits) reason.Piece 4 None)
+piece_remark _ = Some (of_line reason.PieceFields)
+
+-- the fields behind `close`: a connection
+abbrev pub closing_remark : List (List ℕ) → Option Remark
+closing_remark (conn ∷ []) = unless (is_small conn) reason.Connection 3 None
+closing_remark _ = Some (of_line reason.ClosingFields)
 
 -- the fields behind `tick`: none
 abbrev pub tick_remark : List (List ℕ) → Option Remark
@@ -37,6 +56,9 @@ restart_remark _ = Some (of_line reason.RestartFields)
 unfoldable pub remark_by_word : List ℕ → List (List ℕ) → Option Remark
 remark_by_word word fields =
     if bytes_eq word (codes "from") then datagram_remark fields
+    else if bytes_eq word (codes "open") then opening_remark fields
+    else if bytes_eq word (codes "piece") then piece_remark fields
+    else if bytes_eq word (codes "close") then closing_remark fields
     else if bytes_eq word (codes "tick") then tick_remark fields
     else if bytes_eq word (codes "restart") then restart_remark fields
     else Some (of_field reason.EventWord 2)

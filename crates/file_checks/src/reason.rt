@@ -47,10 +47,17 @@ pub enum Reason {
     LineTooLong,
     /// The last line of a script has no line feed.
     Unended,
-    /// A line of a script is none of `at SECONDS from PEER HEX`, `at SECONDS tick` and `at SECONDS restart`.
+    /// A line of a script isn't `at SECONDS` and one of `from PEER HEX`, `open CONN PEER`, `piece CONN HEX`, `close CONN`, `tick` and
+    /// `restart`.
     EventFields,
     /// One with `from` has other fields than `at SECONDS from PEER HEX`.
     DatagramFields,
+    /// One with `open` has other fields than `at SECONDS open CONN PEER`.
+    OpeningFields,
+    /// One with `piece` has other fields than `at SECONDS piece CONN HEX`.
+    PieceFields,
+    /// One with `close` has other fields than `at SECONDS close CONN`.
+    ClosingFields,
     /// One with `tick` has more fields than `at SECONDS tick`.
     TickFields,
     /// One with `restart` has more fields than `at SECONDS restart`.
@@ -59,10 +66,14 @@ pub enum Reason {
     At,
     /// The time is none.
     Seconds,
-    /// The third word is none of `from`, `tick` and `restart`.
+    /// The third word is none of `from`, `open`, `piece`, `close`, `tick` and `restart`.
     EventWord,
-    /// The bytes are none.
+    /// The bytes of a datagram are none.
     Datagram,
+    /// The number of a connection is none.
+    Connection,
+    /// The bytes of a connection are none.
+    Piece,
     /// The limit of a capacity is out of its range: this is the greatest.
     OutOfRange { most: u32 },
     /// The prefix meets one of another domain: this is the first line with such a one.
@@ -97,9 +108,15 @@ impl Reason {
             Reason::LineTooLong => b"a line has at most 8400 bytes",
             Reason::Unended => b"the last line does not end with a line feed",
             Reason::EventFields =>
-                b"a line is: at SECONDS from PEER HEX, or: at SECONDS tick, or: at SECONDS restart, with one space between two fields",
+                b"a line is: at SECONDS, and one of: from PEER HEX, open CONN PEER, piece CONN HEX, close CONN, tick, restart, with one space between two fields",
             Reason::DatagramFields =>
                 b"a from line is: at SECONDS from PEER HEX, with one space between two fields",
+            Reason::OpeningFields =>
+                b"an open line is: at SECONDS open CONN PEER, with one space between two fields",
+            Reason::PieceFields =>
+                b"a piece line is: at SECONDS piece CONN HEX, with one space between two fields",
+            Reason::ClosingFields =>
+                b"a close line is: at SECONDS close CONN, with one space between two fields",
             Reason::TickFields =>
                 b"a tick line is: at SECONDS tick, with one space between two fields",
             Reason::RestartFields =>
@@ -107,8 +124,12 @@ impl Reason {
             Reason::At => b"the first word of a line is at",
             Reason::Seconds =>
                 b"the time is a number of seconds below 281474976710656, without leading zeros",
-            Reason::EventWord => b"the third word of a line is from, tick or restart",
+            Reason::EventWord =>
+                b"the third word of a line is from, open, piece, close, tick or restart",
             Reason::Datagram => b"a datagram is 1 to 4096 bytes in hexadecimal, two digits each",
+            Reason::Connection =>
+                b"a connection is a number from 0 to 4294967295, without leading zeros",
+            Reason::Piece => b"a piece is 1 to 4096 bytes in hexadecimal, two digits each",
             Reason::OutOfRange { .. } => b"the limit of this capacity is a number from 1 to ",
             Reason::Overlap { .. } =>
                 b"this prefix overlaps one of another domain, which stands in line ",

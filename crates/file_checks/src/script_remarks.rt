@@ -4,7 +4,7 @@ ghost use Rattle.std.specs.Prelude.{◌≡◌, map};
 ghost use Rattle.std.specs.Char.{is_ascii_hexdigit};
 ghost use Rattle.std.specs.List.{list_all};
 ghost use Rattle.dots_settings.specs.Lines.{fields_of};
-ghost use Rattle.file_checks.specs.ScriptRemarks.{is_datagram, datagram_remark, tick_remark, restart_remark, remark_by_word, event_remark, script_remark};
+ghost use Rattle.file_checks.specs.ScriptRemarks.{is_small, are_bytes, datagram_remark, opening_remark, piece_remark, closing_remark, tick_remark, restart_remark, remark_by_word, event_remark, script_remark};
 
 use crate::reason::Reason;
 use crate::remark::Remark;
@@ -14,8 +14,8 @@ use plain_text::{is_word, number_in};
 /// The greatest time of an event, in seconds.
 const MAX_SECONDS: u64 = 281_474_976_710_655;
 
-/// The greatest number of a peer.
-const MAX_PEER: u64 = 4_294_967_295;
+/// The greatest number of a peer and of a connection.
+const MAX_SMALL: u64 = 4_294_967_295;
 
 /// The remark of a line with these fields, which ends with a line feed or doesn't.
 pub fn script_remark(ended: bool, line: &[u8], fields: &[&[u8]]) -> Remark
@@ -58,6 +58,15 @@ fn remark_by_word(word: &[u8], fields: &[&[u8]]) -> Option<Remark>
     if is_word(word, b"from") {
         return datagram_remark(fields);
     }
+    if is_word(word, b"open") {
+        return opening_remark(fields);
+    }
+    if is_word(word, b"piece") {
+        return piece_remark(fields);
+    }
+    if is_word(word, b"close") {
+        return closing_remark(fields);
+    }
     if is_word(word, b"tick") {
         return tick_remark(fields);
     }
@@ -74,11 +83,56 @@ fn datagram_remark(fields: &[&[u8]]) -> Option<Remark>
     let [peer, digits] = fields else {
         return Some(Remark::of_line(Reason::DatagramFields));
     };
-    if number_in(0, MAX_PEER, peer).is_none() {
+    if !is_small(peer) {
         return Some(Remark::of_field(Reason::Mistake(Mistake::Peer), 3));
     }
-    if !is_datagram(digits) {
+    if !are_bytes(digits) {
         return Some(Remark::of_field(Reason::Datagram, 4));
+    }
+    None
+}
+
+/// The remark of the fields behind `open`.
+fn opening_remark(fields: &[&[u8]]) -> Option<Remark>
+    ensures { result ≡ opening_remark (map (λ field. field.now) fields.now) }
+{
+    let [conn, peer] = fields else {
+        return Some(Remark::of_line(Reason::OpeningFields));
+    };
+    if !is_small(conn) {
+        return Some(Remark::of_field(Reason::Connection, 3));
+    }
+    if !is_small(peer) {
+        return Some(Remark::of_field(Reason::Mistake(Mistake::Peer), 4));
+    }
+    None
+}
+
+/// The remark of the fields behind `piece`.
+fn piece_remark(fields: &[&[u8]]) -> Option<Remark>
+    ensures { result ≡ piece_remark (map (λ field. field.now) fields.now) }
+{
+    let [conn, digits] = fields else {
+        return Some(Remark::of_line(Reason::PieceFields));
+    };
+    if !is_small(conn) {
+        return Some(Remark::of_field(Reason::Connection, 3));
+    }
+    if !are_bytes(digits) {
+        return Some(Remark::of_field(Reason::Piece, 4));
+    }
+    None
+}
+
+/// The remark of the fields behind `close`.
+fn closing_remark(fields: &[&[u8]]) -> Option<Remark>
+    ensures { result ≡ closing_remark (map (λ field. field.now) fields.now) }
+{
+    let [conn] = fields else {
+        return Some(Remark::of_line(Reason::ClosingFields));
+    };
+    if !is_small(conn) {
+        return Some(Remark::of_field(Reason::Connection, 3));
     }
     None
 }
@@ -103,9 +157,16 @@ fn restart_remark(fields: &[&[u8]]) -> Option<Remark>
     None
 }
 
+/// Whether the text is a number below 2^32, without leading zeros, as those of peers and of connections are.
+fn is_small(text: &[u8]) -> bool
+    ensures { result ≡ is_small text.now }
+{
+    number_in(0, MAX_SMALL, text).is_some()
+}
+
 /// Whether the text is 1 to 4,096 bytes in hexadecimal.
-fn is_datagram(text: &[u8]) -> bool
-    ensures { result ≡ is_datagram text.now }
+fn are_bytes(text: &[u8]) -> bool
+    ensures { result ≡ are_bytes text.now }
 {
     if text.len() < 2 || text.len() > 8192 || text.len() % 2 != 0 {
         return false;

@@ -111,12 +111,12 @@ $ check-script
 : at 1000 from 0 50030002
 : at 1000 frm 0 5003
 = script line 2: \"at 1000 frm 0 5003\"
-= line 2: the third word of a line is from, tick or restart: \"frm\"
+= line 2: the third word of a line is from, open, piece, close, tick or restart: \"frm\"
 ? 3
 
 : at 5 tock
 = script line 1: \"at 5 tock\"
-= line 1: the third word of a line is from, tick or restart: \"tock\"
+= line 1: the third word of a line is from, open, piece, close, tick or restart: \"tock\"
 ? 3
 
 : at 6 restart
@@ -130,7 +130,7 @@ $ check-script
 : at 5 tick
 : at 6 restarts
 = script line 2: \"at 6 restarts\"
-= line 2: the third word of a line is from, tick or restart: \"restarts\"
+= line 2: the third word of a line is from, open, piece, close, tick or restart: \"restarts\"
 ? 3
 
 : at 5 tick 0
@@ -163,9 +163,64 @@ $ check-script
 = line 1: the first word of a line is at: \"in\"
 ? 3
 
+: at 1000 open 5 0
+: at 1000 piece 5 474554
+: at 1001 close 5
+= events: 3
+
+: at 5 open 4294967296 0
+= script line 1: \"at 5 open 4294967296 0\"
+= line 1: a connection is a number from 0 to 4294967295, without leading zeros: \"4294967296\"
+? 3
+
+: at 5 open 7 00
+= script line 1: \"at 5 open 7 00\"
+= line 1: a peer is a number from 0 to 4294967295, without leading zeros: \"00\"
+? 3
+
+: at 5 open 7
+= script line 1: \"at 5 open 7\"
+= line 1: an open line is: at SECONDS open CONN PEER, with one space between two fields: \"at 5 open 7\"
+? 3
+
+: at 5 piece 07 00
+= script line 1: \"at 5 piece 07 00\"
+= line 1: a connection is a number from 0 to 4294967295, without leading zeros: \"07\"
+? 3
+
+: at 5 piece 7 000
+= script line 1: \"at 5 piece 7 000\"
+= line 1: a piece is 1 to 4096 bytes in hexadecimal, two digits each: \"000\"
+? 3
+
+: at 5 piece 7 0g
+= script line 1: \"at 5 piece 7 0g\"
+= line 1: a piece is 1 to 4096 bytes in hexadecimal, two digits each: \"0g\"
+? 3
+
+: at 5 piece 7
+= script line 1: \"at 5 piece 7\"
+= line 1: a piece line is: at SECONDS piece CONN HEX, with one space between two fields: \"at 5 piece 7\"
+? 3
+
+: at 5 close x
+= script line 1: \"at 5 close x\"
+= line 1: a connection is a number from 0 to 4294967295, without leading zeros: \"x\"
+? 3
+
+: at 5 close 7 0
+= script line 1: \"at 5 close 7 0\"
+= line 1: a close line is: at SECONDS close CONN, with one space between two fields: \"at 5 close 7 0\"
+? 3
+
+: at 5 opened 7 0
+= script line 1: \"at 5 opened 7 0\"
+= line 1: the third word of a line is from, open, piece, close, tick or restart: \"opened\"
+? 3
+
 : at 5
 = script line 1: \"at 5\"
-= line 1: a line is: at SECONDS from PEER HEX, or: at SECONDS tick, or: at SECONDS restart, with one space between two fields: \"at 5\"
+= line 1: a line is: at SECONDS, and one of: from PEER HEX, open CONN PEER, piece CONN HEX, close CONN, tick, restart, with one space between two fields: \"at 5\"
 ? 3
 
 : at 1000 from 0 500

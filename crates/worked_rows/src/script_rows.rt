@@ -32,6 +32,46 @@ $ replay settings
 > to 0 REPLY
 = ROW
 
+# what comes on a connection isn't answered: the replies and the report are those of the request alone
+< at 999 open 5 0
+< at 999 piece 5 474554202f20485454502f312e310d0a0d0a
+< at 1000 from 0 REQUEST
+< at 1000 piece 5 00
+< at 1001 close 5
+> to 0 REPLY
+= ROW
+
+# an opened connection moves the time, and so do its bytes and its end
+< at 1000 from 0 REQUEST
+< at 4600 open 5 0
+> to 0 REPLY
+
+< at 1000 from 0 REQUEST
+< at 4600 piece 5 00
+> to 0 REPLY
+
+< at 1000 from 0 REQUEST
+< at 4600 close 5
+> to 0 REPLY
+
+# half a byte of a connection is a fault
+< at 1000 from 0 REQUEST
+< at 1001 piece 5 000
+> to 0 REPLY
+? 5
+
+# a connection has a number below 2^32
+< at 1000 from 0 REQUEST
+< at 1001 open 4294967296 0
+> to 0 REPLY
+? 5
+
+# an end of a connection names nothing else
+< at 1000 from 0 REQUEST
+< at 1001 close 5 0
+> to 0 REPLY
+? 5
+
 # an empty script
 
 # a last line without its line feed is a fault, so the run ends without a report

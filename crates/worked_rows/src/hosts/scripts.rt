@@ -114,6 +114,23 @@ at 8 restart x
 at 7 restart
 at 0 failed
 ==
+# A connection is opened, bytes come on it, and it is closed.
+at 1000 open 5 0
+at 1000 piece 5 474554
+at 1001 open 4294967295 4294967295
+at 1001 piece 4294967295 aAfF
+at 1002 close 5
+at 281474976710655 close 4294967295
+
+--
+at 1000 opened 5 0
+at 1000 piece 5 = GET
+at 1001 opened 4294967295 4294967295
+at 1001 piece 4294967295 = 0xaaff
+at 1002 closed 5
+at 281474976710655 closed 4294967295
+at 0 end
+==
 # A send is a line.
 --
 ok to 0 = 0x50a10002
@@ -295,17 +312,147 @@ at 1 RESTART
 --
 times 2 at 0 failed
 ==
-at 1 open 5 0
+at 1 open 5
 
 --
 times 2 at 0 failed
 ==
-at 1 piece 5 00
+at 1 open 5 0\x20
 
 --
 times 2 at 0 failed
 ==
-at 1 close 5
+at 1 open 5  0
+
+--
+times 2 at 0 failed
+==
+at 1 open 05 0
+
+--
+times 2 at 0 failed
+==
+at 1 open 5 00
+
+--
+times 2 at 0 failed
+==
+at 1 open 4294967296 0
+
+--
+times 2 at 0 failed
+==
+at 1 open 0 4294967296
+
+--
+times 2 at 0 failed
+==
+at 1 open 5 0 0
+
+--
+times 2 at 0 failed
+==
+at 1 opened 5 0
+
+--
+times 2 at 0 failed
+==
+at open 5 0
+
+--
+times 2 at 0 failed
+==
+at 281474976710656 open 5 0
+
+--
+times 2 at 0 failed
+==
+at 1 piece 5
+
+--
+times 2 at 0 failed
+==
+at 1 piece 5\x20
+
+--
+times 2 at 0 failed
+==
+at 1 piece 5 0
+
+--
+times 2 at 0 failed
+==
+at 1 piece 5 000
+
+--
+times 2 at 0 failed
+==
+at 1 piece 5 0g
+
+--
+times 2 at 0 failed
+==
+at 1 piece 05 00
+
+--
+times 2 at 0 failed
+==
+at 1 piece 4294967296 00
+
+--
+times 2 at 0 failed
+==
+at 1 piece 5 00\x20
+
+--
+times 2 at 0 failed
+==
+at 1 piece 00
+
+--
+times 2 at 0 failed
+==
+at 1 close
+
+--
+times 2 at 0 failed
+==
+at 1 close\x20
+
+--
+times 2 at 0 failed
+==
+at 1 close 05
+
+--
+times 2 at 0 failed
+==
+at 1 close 4294967296
+
+--
+times 2 at 0 failed
+==
+at 1 close 5\x20
+
+--
+times 2 at 0 failed
+==
+at 1 close 5 0
+
+--
+times 2 at 0 failed
+==
+at 1 close -1
+
+--
+times 2 at 0 failed
+==
+at 1 closed 5
+
+--
+times 2 at 0 failed
+==
+at 1 Close 5
 
 --
 times 2 at 0 failed";
