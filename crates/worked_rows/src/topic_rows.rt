@@ -244,7 +244,7 @@ $ check-script
 : at 1000 frm 0 5003
 : at 1001 from 0 50030002
 = script line 2: \"at 1000 frm 0 5003\"
-= line 2: the third word of a line is from, tick or restart: \"frm\"
+= line 2: the third word of a line is from, open, piece, close, tick or restart: \"frm\"
 
 # a fault stays one
 $ check-script
