@@ -1,12 +1,17 @@
 -- The lines of the report in their parts.
-use Rattle.std.proofs.Common.{◌≡◌, ℕ, ◌+◌, ◌<◌, zero, suc, List, [], ◌∷◌, ◌++◌, length, take, get_or, flat_map, codes, decimal, sym, ap, ◌∙◌, arith, append_assoc, append-nil}
+use Rattle.std.proofs.Common.{◌≡◌, ℕ, ◌+◌, ◌<◌, zero, suc, Bool, true, false, cond, List, [], ◌∷◌, ◌++◌, length, take, get_or, filter, flat_map, codes, decimal, refl, sym, ap, ◌∙◌, arith, append_assoc, append-nil}
+use Rattle.ip_scope.specs.Prefix.{PrefixValue}
+use Rattle.ip_scope.specs.PrefixText.{prefix_text}
 use Rattle.filter_rows.specs.declared.rows.ScrubRow.{ScrubRow}
+use Rattle.filter_rows.specs.declared.rows.AclRow.{AclRow}
+use Rattle.acl_lists.specs.declared.ace.Ace.{Ace}
 use Rattle.acl_lists.specs.declared.packet.Packet.{Packet}
 use Rattle.filter_rows.specs.Fates.{Fate}
 use Rattle.dots_settings.specs.Settings.{SettingsValue}
-use Rattle.dots_machine.specs.Report.{any_or, texts_of, ports_text, scrub_line, fate_text, packet_line, packet_lines}
+use Rattle.dots_settings.specs.Lookups.{name_of}
+use Rattle.dots_machine.specs.Report.{any_or, texts_of, ports_text, scrub_line, acl_line, verdict_text, asked_text, test_text, fate_text, packet_line, packet_lines}
 use Rattle.dots_server.specs.Gathering.{Gathered, Sunk, Puts}
-use Rattle.dots_server.specs.Lines.{line_front, line_end}
+use Rattle.dots_server.specs.Lines.{line_front, line_end, only_where, list_front, ace_front, ace_aims, ace_end}
 use Rattle.dots_server.proofs.Puts.{puts_then, puts_same}
 
 -- one row more
@@ -24,6 +29,36 @@ puts_line settings row a b c g h i first second =
     puts_same a c g i _ (scrub_line settings row)
     (behind_front (line_front settings row) (any_or (texts_of decimal row.protocols)) (any_or (texts_of ports_text row.ports)))
     (puts_then a b c g h i (line_front settings row) (line_end row) first second)
+
+-- ---- access lists
+
+module _ {X : Type 0} (f : X → List ℕ) where
+  -- one element more
+  pub one_more : (written : List ℕ) (left rest : List X) (x : X) → left ≡ x ∷ rest → written ++ flat_map f left ≡ (written ++ f x) ++ flat_map f rest
+  one_more written left rest x is = ap (λ xs. written ++ flat_map f xs) is ∙ sym (append_assoc written (f x) (flat_map f rest))
+
+  one_tested : (b : Bool) (x : X) (xs : List X) → flat_map f (cond b (x ∷ xs) xs) ≡ only_where b (f x) ++ flat_map f xs
+  one_tested true x xs = refl
+  one_tested false x xs = refl
+
+  -- the texts of the elements that pass a test are those of all, each where it passes
+  pub tested : (test : X → Bool) (xs : List X) → flat_map (λ x. only_where (test x) (f x)) xs ≡ flat_map f (filter test xs)
+  tested test [] = refl
+  tested test (x ∷ xs) = ap (λ rest. only_where (test x) (f x) ++ rest) (tested test xs) ∙ sym (one_tested (test x) x (filter test xs))
+
+list_in_parts : (word blank feed domain cuid name ace verdict source destination protocol from to : List ℕ)
+    → (((word ++ domain ++ blank ++ cuid ++ blank ++ name ++ blank) ++ (ace ++ blank ++ verdict ++ blank)) ++ (source ++ blank ++ destination ++ blank)) ++ (protocol ++ blank ++ from ++ blank ++ to ++ feed)
+    ≡ word ++ domain ++ blank ++ cuid ++ blank ++ name ++ blank ++ ace ++ blank ++ verdict ++ blank ++ source ++ blank ++ destination ++ blank ++ protocol ++ blank ++ from ++ blank ++ to ++ feed
+list_in_parts word blank feed domain cuid name ace verdict source destination protocol from to = simp append_assoc
+
+-- a line of an access list in its four parts
+pub acl_in_parts : (settings : SettingsValue) (row : AclRow) (ace : Ace) (destination : PrefixValue)
+    → ((list_front settings row ++ ace_front ace) ++ ace_aims ace destination) ++ ace_end ace ≡ acl_line settings row ace destination
+acl_in_parts settings row ace destination =
+    list_in_parts (codes "acl ") (codes " ") (codes "\n") (name_of settings row.domain) row.cuid row.acl.name ace.name (verdict_text ace.accept) (asked_text prefix_text ace.source) (prefix_text destination) (asked_text decimal ace.protocol)
+    (test_text ace.source_port) (test_text ace.destination_port)
+
+-- ---- sample packets
 
 -- a line of a packet in its parts
 pub packet_in_parts : (number : ℕ) (fate : Fate) → ((codes "packet " ++ decimal number ++ codes " ") ++ fate_text fate) ++ codes "\n" ≡ packet_line number fate

@@ -1,13 +1,13 @@
-//! The report: a line for each row of a mitigation, and one for each sample packet.
+//! The report: a line for each row of a mitigation, those of access lists, and one for each sample packet.
 
 ghost use Rattle.std.specs.Prelude.{◌++◌, flat_map, map, codes, decimal};
 ghost use Rattle.filter_rows.specs.Fates.{fate_by_rows};
 ghost use Rattle.filter_rows.specs.HandedOut.{fate_of};
 ghost use Rattle.filter_table.specs.TableRows.{row_of_scrub, row_of_acl, active_rows};
 ghost use Rattle.dots_settings.specs.Lookups.{prefixes_of};
-ghost use Rattle.dots_machine.specs.Report.{any_or, texts_of, ports_text, scrub_line, fate_text, packet_line, packet_lines};
+ghost use Rattle.dots_machine.specs.Report.{any_or, texts_of, ports_text, scrub_line, list_lines, fate_text, packet_line, packet_lines};
 ghost use Rattle.dots_server.specs.Gathering.{sunk, Puts};
-ghost use Rattle.dots_server.specs.Lines.{line_front, line_end};
+ghost use Rattle.dots_server.specs.Lines.{line_front, line_end, active_lists};
 
 use crate::gathering::Gatherer;
 use crate::naming::name_of;
@@ -18,8 +18,26 @@ use filter_rows::{Fate, ScrubRow};
 use filter_table::FilterTable;
 use ip_scope::{PortRange, write_prefix};
 
-/// The lines of the active rows of mitigations, in order.
+mod lists;
+
+use lists::put_lists;
+
+/// The lines of the rows that filter: those of mitigations, and behind them those of access lists.
 pub fn put_rows<K: Sink>(
+    settings: &Settings,
+    table: &FilterTable,
+    report: &mut Gatherer,
+    sink: &mut K,
+)
+    ensures { Puts (sunk K.holds K.faults sink.old) report.old (sunk K.holds K.faults sink.new) report.new
+        (flat_map (scrub_line settings.now) (active_rows table.now.scrubs) ++ flat_map (list_lines settings.now) (active_lists table.now.acls)) }
+{
+    put_scrubs(settings, table, report, sink);
+    put_lists(settings, table, report, sink);
+}
+
+/// The lines of the active rows of mitigations, in order.
+fn put_scrubs<K: Sink>(
     settings: &Settings,
     table: &FilterTable,
     report: &mut Gatherer,

@@ -2,7 +2,7 @@ use Rattle.std.proofs.Common.{◌++◌, ◌∙◌}
 use Rattle.dots_machine.specs.Report.{scrub_line}
 use Rattle.dots_server.proofs.Puts.{puts_then}
 use Rattle.dots_server.proofs.ReportTexts.{row_more, puts_line}
-use Rattle.dots_server.proofs.report.put_rows.Goals as goal
+use Rattle.dots_server.proofs.report.put_scrubs.Goals as goal
 
 pub loop-row-preserved : goal.loop-row-preserved
 loop-row-preserved g c = record {

@@ -2,7 +2,7 @@ use Rattle.std.proofs.Common.{◌≡◌, List, ℕ, ◌++◌, flat_map}
 use Rattle.filter_table.specs.TableRows.{active_rows}
 use Rattle.dots_machine.specs.Report.{scrub_line}
 use Rattle.dots_server.specs.Gathering.{sunk, Puts}
-use Rattle.dots_server.proofs.report.put_rows.Given as goal
+use Rattle.dots_server.proofs.report.put_scrubs.Given as goal
 
 abbrev pub invariant-loop-row : goal.invariant-loop-row
 invariant-loop-row g l = record {
