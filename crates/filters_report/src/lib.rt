@@ -4,6 +4,7 @@
 //! (`dots_machine/specs/Report.antt`); `specs/Lines.antt` has their parts.
 #![tactic(auto)]
 
+mod lists;
 mod reading;
 mod report;
 mod words;

@@ -10,6 +10,7 @@ ghost use Rattle.dots_machine.specs.Machine.{afresh};
 ghost use Rattle.dots_machine.specs.Report.{behind_commas, any_or, texts_of, ports_text, scrub_line, fate_text, packet_line, packet_lines, report_of};
 ghost use Rattle.filters_report.specs.Lines.{line_client, line_prefix, line_end, fate_in};
 
+use crate::lists::add_lists;
 use crate::words::{add_number, add_numbered, add_prefix, add_range, add_words};
 use acl_lists::Packet;
 use dots_lists::{Bytes, NoMemory};
@@ -21,7 +22,7 @@ use ip_scope::PortRange;
 use std::alloc::Global;
 
 /// The report of a server of these settings that begins with the history of a registry, at its time: a line for each row of a mitigation
-/// that filters, and one for each sample packet.
+/// that filters, those of the access lists that filter, and one for each sample packet.
 pub fn report_of(alloc: Global, settings: &Settings, registry: &Registry) -> Result<Bytes, NoMemory>
     requires { IsOf settings.now registry.now }
     ensures { IfOk result (λ text. (entries : List Entry) → Represents registry.now entries
@@ -30,6 +31,7 @@ pub fn report_of(alloc: Global, settings: &Settings, registry: &Registry) -> Res
     let table = registry.filters();
     let mut text = Vec::new(alloc);
     add_rows(&mut text, settings, table)?;
+    add_lists(&mut text, settings, table)?;
     add_packets(&mut text, settings, table)?;
     Ok(Bytes::from_vec(text))
 }
@@ -65,7 +67,7 @@ fn add_client(text: &mut Vec<u8>, settings: &Settings, row: &ScrubRow) -> Result
 }
 
 /// The name of the domain of this number; empty where there is none.
-fn name_of(settings: &Settings, domain: u16) -> &[u8]
+pub fn name_of(settings: &Settings, domain: u16) -> &[u8]
     ensures { result.now ≡ name_of settings.now domain }
 {
     if domain < settings.domains() {

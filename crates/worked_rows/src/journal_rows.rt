@@ -62,6 +62,7 @@ $ replay settings
 >* 44
 = ROW_SECOND
 = ROW
+= acl net1 dz6pHjaADkaFTbjr0JGBpw d e drop any 192.0.2.0/24 any any any
 + 48 00
 + 237568 a5002b+AT_999+CLIENT+HTTP+07
 + 245760 a50046+AT_999+CLIENT+HTTP+ALIAS

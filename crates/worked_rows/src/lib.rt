@@ -43,6 +43,8 @@ mod images;
 #[cfg(test)]
 mod journal_rows;
 #[cfg(test)]
+mod list_rows;
+#[cfg(test)]
 mod load_rows;
 #[cfg(test)]
 mod long_lists;

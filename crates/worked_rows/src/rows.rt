@@ -7,6 +7,7 @@ use crate::disks::goes_over_disk;
 use crate::domain_rows::DOMAINS;
 use crate::faults::{FAULTY, LARGE, UNREAD};
 use crate::journal_rows::{DIGESTS, JOURNALS, TIMES};
+use crate::list_rows::LISTS;
 use crate::long_lists::long_list;
 use crate::mitigation_rows::{FATES, MITIGATIONS};
 use crate::name_rows::{LIFETIMES, SCOPES};
@@ -127,4 +128,5 @@ fn runs_over_disks(rt: HostRuntime) {
     all_hold(&rt, alloc, JOURNALS);
     all_hold(&rt, alloc, TIMES);
     all_hold(&rt, alloc, DIGESTS);
+    all_hold(&rt, alloc, LISTS);
 }

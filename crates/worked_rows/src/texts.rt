@@ -73,7 +73,12 @@ scrub net1 dz6pHjaADkaFTbjr0JGBpw 124 2001:db8:1::/64 any any
 /// The others are parts of a record: a time, a peer with its domain and cuid, the key and the reply of what came by HTTP, and a change
 /// with its fields. A put has the mid 123, 124 or 125, for 192.0.2.0/24, for 2001:db8:1::/64, for 2001:db8:1:1::/64 or for 198.51.100.1/32, which
 /// is outside the domain; 3600 s; and behind it its start, which is the entry's time. The alias is `web`, of 192.0.2.1/32; the access
-/// list `d` has one entry, and drops all while the client mitigates.
+/// list `d` has one entry, and drops all while the client mitigates. CLIENT_NET2 is a client of the second domain with peer 1. The other lists are
+/// `w` of IPv4, active while the client mitigates, with four entries: to 192.0.2.80/32 and port 443 of protocol 6 from 203.0.113.0/24;
+/// to 192.0.2.0/25 and ports up to 1023 of protocol 17, not from port 53; of all; and of protocol 17 from ports from 1024 on to ports 80 to 90;
+/// `i` of IPv6, active at once, with two: of protocol 6 from port 0 to port 5 from 2001:db8:ffff::/48, and to 2001:db8:1::1/128; and with one
+/// entry each `x` of IPv4, which is not active or, as it is now, at once for protocol 1, and `n` of IPv4 and `m` of IPv6, active at once.
+/// The first and fourth entries of `w`, the first of `i` and that of `x` now accept, and the others drop.
 pub const NAMES: &str = "\
 REQUEST 510300014abb2e77656c6c2d6b6e6f776e04646f7473086d697469676174650d0e637569643d647a3670486a6141446b614654626a72304a47427077076d69643d31323312010fffa101a10281a206816c3139322e302e322e302f32340e190e10
 REPLY 514100014ac2010fffa101a10281a205187b0e190e10
@@ -144,4 +149,11 @@ WITHDRAW 020000007b
 WITHDRAW_SECOND 020000007c
 ALIAS 0303776562010420000000000000000000000000c000020100000000
 ACL 0501640000010165000000000000
+CLIENT_NET2 00000001000116647a3670486a6141446b614654626a72304a47427077
+LIST_W 050177000004026131010418000000000000000000000000cb007100010420000000000000000000000000c00002500106000101bb0102613200010419000000000000000000000000c000020001110200350303ff0002613300000000000002613400000111040400050050005a01
+LIST_I 05016901010202623101063020010db8ffff000000000000000000000001060100000500050005010262320001068020010db800010000000000000000000100000000
+LIST_X 050178000201026331000000000000
+LIST_X_NOW 05017800010102633100000101000001
+LIST_N 05016e000101026431000000000000
+LIST_M 05016d010101026d31000000000000
 CONFIG 09000000070000001e0000000f00000003000000c800000096000000050000001e0000000f00000003000000c80000009600000005";
