@@ -25,7 +25,7 @@ use Rattle.dots_machine.specs.declared.mitigation_request.MitigationRequest.{Mit
 use Rattle.dots_machine.specs.Verdict.{Verdict}
 use Rattle.dots_machine.specs.declared.verdict.Verdict.TheVariants as verdict
 use Rattle.dots_machine.specs.Domains.{domain_for, session_domain}
-use Rattle.dots_machine.specs.Targets.{scope_fault}
+use Rattle.target_rules.specs.Targets.{scope_fault}
 use Rattle.dots_machine.specs.MessageRepeats.{Sent, sent_for, unless_repeated}
 use Rattle.dots_machine.specs.Mitigations.{sent_by, request_of, judged, unless_faulty, put_answer, is_taken, delete_by, delete_answer, get_by, get_answer, client_for}
 use Rattle.dots_machine.specs.Machine.{State, later, DecidesRequest, Rules, Decides, by_silence, by_rules, for_want_of_memory, sends_of, after, Hears, Answers, beating, Step, facts_in}

@@ -21,7 +21,7 @@ use Rattle.conflict_rules.specs.LiveViews.{LiveView}
 use Rattle.conflict_rules.specs.declared.fault.PutFault.{PutFault}
 use Rattle.conflict_rules.specs.declared.fault.PutFault.TheVariants as faults
 use Rattle.conflict_rules.specs.declared.judging.Judged.{Judged}
-use Rattle.dots_machine.specs.declared.target.TargetFault.{TargetFault}
+use Rattle.target_rules.specs.declared.target.TargetFault.{TargetFault}
 use Rattle.dots_machine.specs.declared.exchange.Exchange.{Exchange}
 use Rattle.dots_machine.specs.declared.dismissal.Dismissal.{Dismissal}
 use Rattle.dots_machine.specs.declared.dismissal.Dismissal.TheVariants as dismissal
@@ -32,7 +32,7 @@ use Rattle.dots_machine.specs.declared.mitigation_request.MitigationRequest.{Mit
 use Rattle.dots_machine.specs.Verdict.{Verdict}
 use Rattle.dots_machine.specs.declared.verdict.Verdict.TheVariants as verdict
 use Rattle.dots_machine.specs.Domains.{domain_for, session_domain}
-use Rattle.dots_machine.specs.Targets.{scope_fault}
+use Rattle.target_rules.specs.Targets.{scope_fault}
 use Rattle.dots_machine.specs.Replies.{grant_code, rejection, configuration_reply, absent}
 use Rattle.dots_machine.specs.MessageRepeats.{sent_for, unless_repeated}
 use Rattle.dots_machine.specs.Mitigations.{sent_by, request_of, refusal, judged, get_reply, unless_faulty, put_answer, is_taken, delete_by, delete_answer, get_by, get_answer, client_for}

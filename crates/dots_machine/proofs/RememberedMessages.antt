@@ -23,13 +23,13 @@ use Rattle.conflict_rules.specs.LiveViews.{LiveView}
 use Rattle.conflict_rules.specs.declared.fault.PutFault.{PutFault}
 use Rattle.conflict_rules.specs.declared.fault.PutFault.TheVariants as faults
 use Rattle.conflict_rules.specs.declared.judging.Judged.{Judged}
-use Rattle.dots_machine.specs.declared.target.TargetFault.{TargetFault}
+use Rattle.target_rules.specs.declared.target.TargetFault.{TargetFault}
 use Rattle.dots_machine.specs.declared.exchange.Exchange.{Exchange}
 use Rattle.dots_machine.specs.declared.client_request.ClientRequest.{ClientRequest}
 use Rattle.dots_machine.specs.Verdict.{Verdict}
 use Rattle.dots_machine.specs.declared.verdict.Verdict.TheVariants as verdict
 use Rattle.dots_machine.specs.Domains.{domain_for, session_domain}
-use Rattle.dots_machine.specs.Targets.{scope_fault}
+use Rattle.target_rules.specs.Targets.{scope_fault}
 use Rattle.dots_machine.specs.MessageRepeats.{sent_for, IsRepeatOf, unless_repeated}
 use Rattle.dots_machine.specs.RepeatRule.{heard_for}
 use Rattle.dots_machine.specs.Mitigations.{key_of, entry_of, sent_by, request_of, refusal, judged, get_reply, unless_faulty, is_taken, delete_by, get_by, client_for}
@@ -43,7 +43,7 @@ use Rattle.session_core.specs.Negotiating.{negotiated}
 use Rattle.dots_machine.specs.Replies.{configuration_reply, absent}
 use Rattle.dots_machine.specs.Sessions.{Configured, sid_of, is_held}
 use Rattle.dots_machine.specs.Facts.{Facts}
-use Rattle.dots_machine.specs.Deciding.{in_domain, with_mid, put_in, put_for, delete_in, delete_for, get_for, session_entry, config_answer, put_config_for, clear_answer, delete_config_for, config_view, get_config_for, answer_to, asks_for}
+use Rattle.dots_machine.specs.Deciding.{in_domain, with_mid, put_in, put_for, delete_in, delete_for, get_for, session_entry, config_answer, put_config_for, clear_answer, delete_config_for, config_view, answer_to, asks_for}
 use Rattle.dots_machine.proofs.Verdicts.{request_valued}
 
 -- ---- an entry whose message may be repeated

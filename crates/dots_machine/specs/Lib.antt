@@ -1,4 +1,3 @@
-pub mod Targets
 pub mod Domains
 pub mod Exchanges
 pub mod Requests

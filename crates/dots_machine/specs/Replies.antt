@@ -23,9 +23,9 @@ use Rattle.conflict_rules.specs.declared.judging.Judged.{Judged}
 use Rattle.dots_history.specs.declared.config.Values.{Values}
 use Rattle.reply_bodies.specs.declared.session.Current.{Current}
 use Rattle.reply_bodies.specs.declared.session.SessionView.{SessionView}
-use Rattle.dots_machine.specs.declared.target.TargetFault.{TargetFault}
+use Rattle.target_rules.specs.declared.target.TargetFault.{TargetFault}
 use Rattle.dots_machine.specs.declared.exchange.Exchange.{Exchange}
-use Rattle.dots_machine.specs.Targets.{target_text}
+use Rattle.target_rules.specs.Targets.{target_text}
 use Rattle.dots_machine.specs.Exchanges.{reply_kind}
 use Rattle.dots_machine.specs.Sessions.{Configured, sid_of, config_in}
 

@@ -1,14 +1,14 @@
 //! What the machine does, as definitions: for which domain a peer may ask, what a datagram is, what is decided, what is
 //! reported, what the words of the command line ask for, and how a run ends.
 //!
-//! The definitions are in `specs/`, one file for each: `Domains`, `Targets`, `Exchanges` (what is dismissed at once),
+//! The definitions are in `specs/`, one file for each: `Domains`, `Exchanges` (what is dismissed at once),
 //! `Requests` (what a datagram is), `Replies`, `MessageRepeats` (which messages are repeats, and what they are answered), `Facts` (what is
 //! known of a history, by the places of its entries), `Sessions` (what a peer has configured, and what its heartbeats go by), `Mitigations` (what is decided on requests for them by the facts), `Deciding` (and on
 //! any request), `Machine` (the state, verdicts and a step), `RepeatRule` (which requests come to the rule on repeats), `Apart` (how
 //! domains stay apart), `Handlings` (a run by what becomes of its events), `Adding` (when an entry is added), `Isolation` (what becomes of a domain over a run),
 //! `Orderly` (which mitigations stand beside each other), `Report`, `Commands`, `Outside` (what stood before and after) and `Endings`
 //! (statuses). A run of the machine over the acts of a host is that of `dots_host`. The words are those of RFC 7252, RFC 8949 and
-//! RFC 9132. The code here is the types that the definitions speak of, which scopes may be asked for, and the laws [`one_state`], [`one_answer`],
+//! RFC 9132. The code here is the types that the definitions speak of, and the laws [`one_state`], [`one_answer`],
 //! [`domains_stay_apart`], [`repeats_are_answered`], [`entries_are_accepted`], [`domains_are_isolated`] and [`mitigations_stand_apart`]. Read [`Received`] and
 //! [`Verdict`] first.
 #![tactic(auto)]
@@ -20,9 +20,7 @@ mod exchange;
 mod law;
 mod mitigation_request;
 mod received;
-mod scopes;
 mod short_message;
-mod target;
 mod verdict;
 
 pub use client_request::ClientRequest;
@@ -35,7 +33,6 @@ pub use law::{
 };
 pub use mitigation_request::MitigationRequest;
 pub use received::Received;
-pub use scopes::scope_fault;
 pub use short_message::{MAX_SHORT, ShortMessage};
-pub use target::TargetFault;
+pub use target_rules::{TargetFault, scope_fault};
 pub use verdict::Verdict;

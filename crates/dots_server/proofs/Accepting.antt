@@ -24,7 +24,7 @@ use Rattle.dots_registry.proofs.FittingEntries.{fits_granted, fits_withdrawal}
 use Rattle.dots_registry.proofs.OnePeer.{free_is_one_peer, granted_is_free}
 use Rattle.dots_machine.specs.declared.client_request.ClientRequest.{ClientRequest}
 use Rattle.dots_machine.specs.declared.mitigation_request.MitigationRequest.{MitigationRequest}
-use Rattle.dots_machine.specs.Targets.{scope_fault}
+use Rattle.target_rules.specs.Targets.{scope_fault}
 use Rattle.dots_machine.specs.Mitigations.{request_of, client_for, entry_of, is_taken}
 use Rattle.dots_machine.specs.Machine.{State, facts_in}
 use Rattle.dots_server.specs.ServerValues.{ServerValue, Represents, IsAcceptable}

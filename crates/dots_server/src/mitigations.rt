@@ -15,7 +15,7 @@ ghost use Rattle.reply_bodies.specs.Mitigations.{scope_of};
 ghost use Rattle.dots_machine.specs.Machine.{State, facts_in};
 ghost use Rattle.dots_lists.specs.Name.{is_name};
 ghost use Rattle.dots_machine.specs.Replies.{conflicting, deleted, granting, mitigation_fields};
-ghost use Rattle.dots_machine.specs.Targets.{scope_fault};
+ghost use Rattle.target_rules.specs.Targets.{scope_fault};
 ghost use Rattle.dots_machine.specs.declared.verdict.Verdict.TheVariants as verdicts;
 ghost use Rattle.dots_machine.specs.Mitigations.{grant, entry_of, refusal, judged, request_of, is_wanted, put_answer, is_taken, delete_by, delete_answer, get_answer, client_for};
 ghost use Rattle.dots_machine.specs.Deciding.{delete_in};

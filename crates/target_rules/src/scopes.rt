@@ -1,13 +1,13 @@
-//! Which scopes may be asked for.
+//! Which scopes and which access lists may be asked for.
 
 ghost use Rattle.std.specs.Prelude.{◌≡◌, ◌≤◌, ◌<◌, ◌^◌};
 ghost use Rattle.std.specs.List.{list_any};
 ghost use Rattle.ip_scope.specs.Family.{width};
 ghost use Rattle.ip_scope.specs.Prefix.{prefix_of, meets};
-ghost use Rattle.dots_machine.specs.Targets.{is_target, prefix_fault, first_fault, fault_of_addresses, name_fault, scope_fault};
+ghost use Rattle.target_rules.specs.Targets.{is_target, prefix_fault, first_fault, fault_of_addresses, name_fault, scope_fault, destination_fault, list_fault};
 
 use crate::target::TargetFault;
-use acl_lists::Asked;
+use acl_lists::{Ace, Acl, Asked};
 use dots_lists::Name;
 use dots_settings::Settings;
 use ip_scope::{Addr, Family, Prefix, inside_any, meets};
@@ -20,6 +20,35 @@ pub fn scope_fault(settings: &Settings, domain: &[Prefix], asked: &Asked) -> Opt
     match first_prefix_fault(domain, asked.prefixes.items()) {
         Some(fault) => Some(fault),
         None => first_name_fault(settings, domain, asked.names.items()),
+    }
+}
+
+/// Why an access list may not be written for a domain of these prefixes: the fault of the first destination of its entries that has
+/// one. Its sources may be any.
+pub fn list_fault(domain: &[Prefix], acl: &Acl) -> Option<TargetFault>
+    ensures { result ≡ list_fault domain.now acl.now }
+{
+    first_destination_fault(domain, acl.aces.items())
+}
+
+fn first_destination_fault(domain: &[Prefix], aces: &[Ace]) -> Option<TargetFault>
+    ensures { result ≡ first_fault (destination_fault domain.now) aces.now }
+{
+    for ace in aces {
+        if let Some(fault) = destination_fault(domain, ace) {
+            return Some(fault);
+        }
+    }
+    None
+}
+
+/// An entry may have no destination.
+fn destination_fault(domain: &[Prefix], ace: &Ace) -> Option<TargetFault>
+    ensures { result ≡ destination_fault domain.now ace.now }
+{
+    match ace.destination {
+        Some(prefix) => prefix_fault(domain, &prefix),
+        None => None,
     }
 }
 

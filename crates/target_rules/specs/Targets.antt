@@ -1,13 +1,15 @@
--- Which scopes may be asked for (RFC 9132, section 4.4.1: target-prefix, target-fqdn).
+-- Which scopes may be asked for (RFC 9132, section 4.4.1: target-prefix, target-fqdn), and which access lists (RFC 8783, section 7.2).
 use Rattle.std.specs.Prelude.{ℕ, ◌*◌, ◌^◌, ◌-◌, Bool, not, if◌then◌else◌, List, [], ◌∷◌, codes, Option, Some, None}
 use Rattle.std.specs.List.{list_any}
 use Rattle.ip_scope.specs.declared.family.Family.TheVariants.{V4, V6}
 use Rattle.ip_scope.specs.Prefix.{PrefixValue, inside, meets}
+use Rattle.acl_lists.specs.declared.ace.Ace.{Ace}
+use Rattle.acl_lists.specs.declared.acl.Acl.{Acl}
 use Rattle.acl_lists.specs.declared.asked.Asked.{Asked}
 use Rattle.dots_history.specs.Histories.{or_else}
 use Rattle.dots_settings.specs.Settings.{SettingsValue}
-use Rattle.dots_machine.specs.declared.target.TargetFault.{TargetFault}
-use Rattle.dots_machine.specs.declared.target.TargetFault.TheVariants.{NotATarget, OutsideDomain, UnknownName}
+use Rattle.target_rules.specs.declared.target.TargetFault.{TargetFault}
+use Rattle.target_rules.specs.declared.target.TargetFault.TheVariants.{NotATarget, OutsideDomain, UnknownName}
 use Rattle.dots_settings.specs.Lookups.{addresses_of}
 
 -- loopback, multicast and limited broadcast: 127.0.0.0/8, 224.0.0.0/4, 255.255.255.255/32, ::1/128 and ff00::/8
@@ -45,6 +47,18 @@ name_fault settings domain name = fault_of_addresses domain (addresses_of settin
 abbrev pub scope_fault : SettingsValue → List PrefixValue → Asked → Option TargetFault
 scope_fault settings domain asked =
     or_else (first_fault (prefix_fault domain) asked.prefixes) (first_fault (name_fault settings domain) asked.names)
+
+-- The destination of an entry of an access list, where it has one, may be asked for. What it has as its source isn't looked at.
+abbrev pub fault_of_destination : List PrefixValue → Option PrefixValue → Option TargetFault
+fault_of_destination domain None = None
+fault_of_destination domain (Some prefix) = prefix_fault domain prefix
+
+abbrev pub destination_fault : List PrefixValue → Ace → Option TargetFault
+destination_fault domain ace = fault_of_destination domain ace.destination
+
+-- the fault of the first destination that has one
+abbrev pub list_fault : List PrefixValue → Acl → Option TargetFault
+list_fault domain acl = first_fault (destination_fault domain) acl.aces
 
 -- the text of its refusal
 abbrev pub target_text : TargetFault → List ℕ

@@ -1,5 +1,5 @@
 ghost use Rattle.std.specs.Prelude.{◌≡◌, ◌≤◌, length};
-ghost use Rattle.dots_machine.specs.Targets.{target_text};
+ghost use Rattle.target_rules.specs.Targets.{target_text};
 
 /// Why a scope can't be asked for.
 #[derive(Clone, Copy)]
