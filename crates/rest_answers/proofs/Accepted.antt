@@ -1,0 +1,129 @@
+-- What an accepted change has.
+use Rattle.std.proofs.Common.{◌≡◌, ℕ, Bool, true, false, List, ◌++◌, Option, Some, None, refl, ap, subst, cond}
+use Rattle.std.specs.Prelude.{codes, option_map, ⊤}
+use Rattle.std.proofs.lemmas.Option.{none-some, same_Some}
+use Rattle.std.proofs.lemmas.Bool.{false≢true}
+use Rattle.dots_history.specs.declared.entry.Entry.{Entry}
+use Rattle.dots_history.specs.declared.change.Change.{Change}
+use Rattle.dots_laws.specs.Fits.{is_of_mitigations}
+use Rattle.http_cut.specs.Reply.{status_line}
+use Rattle.data_channel.specs.declared.replies.RestBody.{RestBody}
+use Rattle.data_channel.specs.declared.request.RestRequest.{RestRequest}
+use Rattle.data_channel.specs.declared.request.RestRequest.TheVariants as request
+use Rattle.rest_judging.specs.declared.outcome.RestOutcome.{RestOutcome}
+use Rattle.rest_judging.specs.declared.outcome.RestOutcome.TheVariants as outcome
+use Rattle.rest_judging.specs.Asking.{verb_of, kind_of, cuid_of}
+use Rattle.rest_judging.specs.Outcomes.{is_accepted}
+use Rattle.rest_judging.specs.Judging.{judge}
+use Rattle.rest_answers.specs.declared.answer.RestAnswer.TheVariants as answer
+use Rattle.rest_answers.specs.declared.caller.Caller.{Caller}
+use Rattle.rest_answers.specs.Known.{Known}
+use Rattle.rest_answers.specs.Changes.{change_of, changed_by, entry_of}
+use Rattle.rest_answers.specs.Replies.{outcome_reply, unavailable}
+use Rattle.rest_answers.specs.Answers.{body_of, changing, showing, telling, rest_answer, IsOf}
+
+-- ---- the entry
+
+abbrev IsOther : Option Change → Type 0
+IsOther None = ⊤
+IsOther (Some change) = is_of_mitigations change ≡ false
+
+other_change : (asked : RestRequest) → IsOther (change_of asked)
+unfolding is_of_mitigations
+other_change (request.PutClient cuid) = refl
+other_change (request.PostClient cuid) = refl
+other_change (request.GetClient cuid) = tt
+other_change (request.DeleteClient cuid) = refl
+other_change (request.PutAlias cuid alias) = refl
+other_change (request.PostAlias cuid alias) = refl
+other_change (request.GetAlias cuid name) = tt
+other_change (request.DeleteAlias cuid name) = refl
+other_change (request.GetAliases cuid) = tt
+other_change (request.PutAcl cuid acl) = refl
+other_change (request.PostAcl cuid acl) = refl
+other_change (request.GetAcl cuid name) = tt
+other_change (request.DeleteAcl cuid name) = refl
+other_change (request.GetAcls cuid) = tt
+
+of_change : (time : ℕ) (caller : Caller) (asked : RestRequest) (changed : Option Change) (e : Entry) → IsOther changed
+    → option_map (changed_by time caller (cuid_of asked)) changed ≡ Some e → IsOf time caller asked e
+of_change time caller asked None e other is = absurd (none-some e is)
+of_change time caller asked (Some change) e other is =
+    subst (λ (x : Entry). IsOf time caller asked x) (same_Some (changed_by time caller (cuid_of asked) change) e is)
+    (record { now = refl; peer = refl; domain = refl; cuid = refl; http = refl; other = other })
+
+pub entry_is_of : (time : ℕ) (caller : Caller) (asked : RestRequest) (e : Entry) → entry_of time caller asked ≡ Some e → IsOf time caller asked e
+entry_is_of time caller asked e is = of_change time caller asked (change_of asked) e (other_change asked) is
+
+-- ---- the reply
+
+abbrev IsSuccess : List ℕ → Type 0
+IsSuccess reply = (rest : List ℕ) × (reply ≡ codes "HTTP/1.1 2" ++ rest)
+
+success : (close : Bool) (asked : RestRequest) (outcome : RestOutcome) → is_accepted outcome ≡ true → IsSuccess (outcome_reply close asked outcome)
+unfolding status_line
+success close asked outcome.Created is = (_, refl)
+success close asked outcome.Replaced is = (_, refl)
+success close asked outcome.Deleted is = (_, refl)
+success close asked outcome.BadTarget is = absurd (false≢true is)
+success close asked outcome.Taken is = absurd (false≢true is)
+success close asked outcome.Absent is = absurd (false≢true is)
+success close asked outcome.Exists is = absurd (false≢true is)
+success close asked outcome.Full is = absurd (false≢true is)
+success close asked outcome.Shown is = absurd (false≢true is)
+success close asked outcome.Unchanged is = absurd (false≢true is)
+
+pub failure : (close : Bool) → (rest : List ℕ) × (unavailable close ≡ codes "HTTP/1.1 5" ++ rest)
+unfolding status_line
+failure close = (_, refl)
+
+-- ---- both
+
+-- what is accepted is the reply and the entry of an accepted outcome
+record Accepts (time : ℕ) (caller : Caller) (close : Bool) (asked : RestRequest) (reply : List ℕ) (e : Entry) : Type 0 where
+  outcome : RestOutcome
+  accepted : is_accepted outcome ≡ true
+  reply_is : outcome_reply close asked outcome ≡ reply
+  entry_is : entry_of time caller asked ≡ Some e
+
+shown_is_none : (close : Bool) (asked : RestRequest) (shown : Option RestBody) (reply : List ℕ) (e : Entry) → ¬ (showing close asked shown ≡ answer.Accept reply e)
+shown_is_none close asked None reply e is = cc is
+shown_is_none close asked (Some body) reply e is = cc is
+
+told_is_none : (close : Bool) (asked : RestRequest) (shown : Option RestBody) (outcome : RestOutcome) (reply : List ℕ) (e : Entry) → ¬ (telling close asked shown outcome ≡ answer.Accept reply e)
+told_is_none close asked shown outcome.Shown reply e is = shown_is_none close asked shown reply e is
+told_is_none close asked shown outcome.Created reply e is = cc is
+told_is_none close asked shown outcome.Replaced reply e is = cc is
+told_is_none close asked shown outcome.Deleted reply e is = cc is
+told_is_none close asked shown outcome.BadTarget reply e is = cc is
+told_is_none close asked shown outcome.Taken reply e is = cc is
+told_is_none close asked shown outcome.Absent reply e is = cc is
+told_is_none close asked shown outcome.Exists reply e is = cc is
+told_is_none close asked shown outcome.Full reply e is = cc is
+told_is_none close asked shown outcome.Unchanged reply e is = cc is
+
+changed_is : (made : List ℕ) (found : Option Entry) (reply : List ℕ) (e : Entry) → changing made found ≡ answer.Accept reply e → (made ≡ reply) × (found ≡ Some e)
+changed_is made None reply e is = absurd (cc is)
+changed_is made (Some x) reply e is = (cc is, ap Some (cc is))
+
+accepts_by : (known : Known) (caller : Caller) (close : Bool) (asked : RestRequest) (outcome : RestOutcome) (b : Bool) (reply : List ℕ) (e : Entry) → is_accepted outcome ≡ b
+    → cond b (changing (outcome_reply close asked outcome) (entry_of known.time caller asked)) (telling close asked (body_of asked known.aliases known.acls) outcome) ≡ answer.Accept reply e
+    → Accepts known.time caller close asked reply e
+accepts_by known caller close asked outcome true reply e accepted is =
+    let both = changed_is (outcome_reply close asked outcome) (entry_of known.time caller asked) reply e is in
+    record { outcome = outcome; accepted = accepted; reply_is = both.0; entry_is = both.1 }
+accepts_by known caller close asked outcome false reply e accepted is = absurd (told_is_none close asked (body_of asked known.aliases known.acls) outcome reply e is)
+
+accepts : (known : Known) (caller : Caller) (close : Bool) (asked : RestRequest) (reply : List ℕ) (e : Entry) → rest_answer known caller close asked ≡ answer.Accept reply e
+    → Accepts known.time caller close asked reply e
+accepts known caller close asked reply e is =
+    let outcome = judge (verb_of asked) (kind_of asked) known.facts in
+    accepts_by known caller close asked outcome (is_accepted outcome) reply e refl is
+
+pub accepted_succeeds : (known : Known) (caller : Caller) (close : Bool) (asked : RestRequest) (reply : List ℕ) (e : Entry) → rest_answer known caller close asked ≡ answer.Accept reply e → IsSuccess reply
+accepted_succeeds known caller close asked reply e is =
+    let how = accepts known caller close asked reply e is in
+    subst (λ (bytes : List ℕ). IsSuccess bytes) how.reply_is (success close asked how.outcome how.accepted)
+
+pub accepted_is_of : (known : Known) (caller : Caller) (close : Bool) (asked : RestRequest) (reply : List ℕ) (e : Entry) → rest_answer known caller close asked ≡ answer.Accept reply e → IsOf known.time caller asked e
+accepted_is_of known caller close asked reply e is = entry_is_of known.time caller asked e (accepts known caller close asked reply e is).entry_is

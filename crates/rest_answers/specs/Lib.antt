@@ -1,0 +1,5 @@
+pub mod Known
+pub mod Changes
+pub mod Replies
+pub mod Answer
+pub mod Answers
