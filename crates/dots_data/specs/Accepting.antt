@@ -1,0 +1,24 @@
+-- When what is answered can be carried out.
+use Rattle.std.specs.Prelude.{◌≡◌, true, List, ⊤}
+use Rattle.dots_settings.specs.Settings.{SettingsValue}
+use Rattle.dots_history.specs.declared.entry.Entry.{Entry}
+use Rattle.dots_history.specs.Histories.{mitigations}
+use Rattle.dots_laws.specs.Calm.{is_own}
+use Rattle.dots_laws.specs.Fits.{has_one_peer}
+use Rattle.dots_registry.specs.RegistryValues.{RegistryValue, Represents, time_of}
+use Rattle.dots_registry.specs.Fitting.{fits_now}
+use Rattle.rest_answers.specs.declared.answer.RestAnswer.TheVariants as answer
+use Rattle.rest_answers.specs.Answer.{RestAnswer}
+
+-- An entry can be taken: it is of the registry's time, and for each history that the registry represents it fits, is the settings' own,
+-- and has the peer of each live mitigation of its client, where it is of mitigations.
+pub record IsAcceptable (settings : SettingsValue) (registry : RegistryValue) (entry : Entry) : Type 0 where
+  pub now : entry.time ≡ time_of registry
+  pub fits : (history : List Entry) → Represents registry history → fits_now settings registry history entry ≡ true
+  pub own : (history : List Entry) → Represents registry history → is_own settings entry ≡ true
+  pub one_peer : (history : List Entry) → Represents registry history → has_one_peer entry (mitigations entry.time history) ≡ true
+
+-- an accepted entry can be taken
+abbrev pub CanCarryOut : SettingsValue → RegistryValue → RestAnswer → Type 0
+CanCarryOut settings registry (answer.Accept reply entry) = IsAcceptable settings registry entry
+CanCarryOut settings registry _ = ⊤

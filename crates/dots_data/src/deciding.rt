@@ -1,0 +1,162 @@
+//! What is decided on a request.
+
+ghost use Rattle.std.specs.Prelude.{◌≡◌, ◌⊎◌, ◌<◌, List, length, IfOk};
+ghost use Rattle.http_cut.specs.Requests.{request_value};
+ghost use Rattle.serde_json.specs.Written.{compact_text};
+ghost use Rattle.data_channel.specs.Replies.{body_data};
+ghost use Rattle.dots_history.specs.declared.entry.Entry.{Entry};
+ghost use Rattle.dots_history.specs.Histories.{held};
+ghost use Rattle.dots_laws.specs.Held.{aliases_of, acls_of};
+ghost use Rattle.dots_registry.specs.RegistryValues.{Represents, IsOf, time_of, domains_of};
+ghost use Rattle.rest_answers.specs.declared.answer.RestAnswer.TheVariants as answers;
+ghost use Rattle.rest_answers.specs.Known.{client_for, known_of};
+ghost use Rattle.rest_answers.specs.Replies.{content_reply, outcome_reply, unavailable};
+ghost use Rattle.rest_answers.specs.Answers.{showing, telling, body_of, rest_answer, Answers};
+ghost use Rattle.rest_judging.specs.Asking.{verb_of, kind_of};
+ghost use Rattle.dots_data.specs.Accepting.{CanCarryOut};
+
+use crate::accepting::accept;
+use crate::bodies::body_of;
+use crate::desk::Desk;
+use crate::facts::facts;
+use crate::unavailable::Unavailable;
+use data_channel::{RestBody, RestRequest, body_text, read_rest};
+use dots_lists::{Bytes, NoMemory};
+use http_cut::HttpRequest;
+use installed_filters::Staged;
+use json_room::JsonRoom;
+use rest_answers::{Caller, RestAnswer, content_reply, outcome_reply, rejection, unavailable};
+use rest_judging::{RestOutcome, judge, kind_of, verb_of};
+use std::alloc::Global;
+
+/// What is answered to a message of a client peer of the settings, of which the registry is. The room serves one message after the other.
+///
+/// It is answered by the rules, or by 500: where memory ran out, or where the registry can't take the entry that the rules accept. What is
+/// accepted can be carried out, which takes no memory.
+pub fn decide_rest(
+    desk: &Desk<'_>,
+    room: &mut JsonRoom,
+    caller: Caller,
+    message: &HttpRequest<'_>,
+) -> RestAnswer<Staged>
+    requires is_of { IsOf desk.now.settings.now desk.now.registry.now }
+    requires inside { caller.domain < length desk.now.settings.now.domains }
+    ensures decides { (entries : List Entry) → Represents desk.now.registry.now entries
+        → Answers desk.now.settings.now (time_of desk.now.registry.now) entries caller (request_value message.now) result }
+    ensures ready { CanCarryOut desk.now.settings.now desk.now.registry.now result }
+{
+    match read_rest(desk.alloc, room, message) {
+        Ok(request) => decide_or_fail(desk, caller, message.close, request),
+        Err(reject) => RestAnswer::Reply(rejection(desk.alloc, message.close, &reject)),
+    }
+}
+
+/// What is answered to a request, or 500.
+fn decide_or_fail(
+    desk: &Desk<'_>,
+    caller: Caller,
+    close: bool,
+    request: RestRequest,
+) -> RestAnswer<Staged>
+    requires is_of { IsOf desk.now.settings.now desk.now.registry.now }
+    requires inside { caller.domain < domains_of desk.now.registry.now }
+    ensures decides { (entries : List Entry) → Represents desk.now.registry.now entries
+        → (result ≡ rest_answer (known_of desk.now.settings.now (time_of desk.now.registry.now) entries caller request) caller close request) ⊎ (result ≡ answers.Reply (unavailable close)) }
+    ensures ready { CanCarryOut desk.now.settings.now desk.now.registry.now result }
+{
+    match decide(desk, caller, close, request) {
+        Ok(answer) => answer,
+        Err(_) => RestAnswer::Reply(unavailable(desk.alloc, close)),
+    }
+}
+
+/// What the rules answer to a request.
+fn decide(
+    desk: &Desk<'_>,
+    caller: Caller,
+    close: bool,
+    request: RestRequest,
+) -> Result<RestAnswer<Staged>, Unavailable>
+    requires is_of { IsOf desk.now.settings.now desk.now.registry.now }
+    requires inside { caller.domain < domains_of desk.now.registry.now }
+    ensures decides { (entries : List Entry) → Represents desk.now.registry.now entries
+        → IfOk result (λ answer. answer ≡ rest_answer (known_of desk.now.settings.now (time_of desk.now.registry.now) entries caller request) caller close request) }
+    ensures ready { IfOk result (λ answer. CanCarryOut desk.now.settings.now desk.now.registry.now answer) }
+{
+    let facts = facts(desk, caller, &request);
+    let outcome = judge(verb_of(&request), kind_of(&request), facts);
+    if outcome.is_accepted() {
+        return accept(desk, caller, close, request, outcome);
+    }
+    let answer = tell(desk, caller, close, &request, outcome);
+    drop(request);
+    answer
+}
+
+/// What is answered to a request on which this is decided, which changes nothing.
+fn tell(
+    desk: &Desk<'_>,
+    caller: Caller,
+    close: bool,
+    request: &RestRequest,
+    outcome: RestOutcome,
+) -> Result<RestAnswer<Staged>, Unavailable>
+    ensures answer { (entries : List Entry) → Represents desk.now.registry.now entries
+        → IfOk result (λ answer. answer ≡ telling close request.now (body_of request.now (aliases_of (client_for caller request.now) (held entries)) (acls_of (client_for caller request.now) (held entries))) outcome) }
+    ensures ready { IfOk result (λ answer. CanCarryOut desk.now.settings.now desk.now.registry.now answer) }
+{
+    match outcome {
+        RestOutcome::Shown => show(desk, caller, close, request),
+        _ => tell_outcome(desk.alloc, close, request, outcome),
+    }
+}
+
+/// What is answered to a GET of what is there.
+fn show(
+    desk: &Desk<'_>,
+    caller: Caller,
+    close: bool,
+    request: &RestRequest,
+) -> Result<RestAnswer<Staged>, Unavailable>
+    ensures answer { (entries : List Entry) → Represents desk.now.registry.now entries
+        → IfOk result (λ answer. answer ≡ showing close request.now (body_of request.now (aliases_of (client_for caller request.now) (held entries)) (acls_of (client_for caller request.now) (held entries)))) }
+    ensures ready { IfOk result (λ answer. CanCarryOut desk.now.settings.now desk.now.registry.now answer) }
+{
+    match body_of(desk.alloc, desk.registry, caller, request)? {
+        Some(body) => show_body(desk.alloc, close, body),
+        None => tell_outcome(desk.alloc, close, request, RestOutcome::Absent),
+    }
+}
+
+/// A reply without a body, which changes nothing.
+fn tell_outcome(
+    alloc: Global,
+    close: bool,
+    request: &RestRequest,
+    outcome: RestOutcome,
+) -> Result<RestAnswer<Staged>, Unavailable>
+    ensures { IfOk result (λ answer. answer ≡ answers.Reply (outcome_reply close request.now outcome)) }
+{
+    match outcome_reply(alloc, close, request, outcome) {
+        Ok(reply) => Ok(RestAnswer::Reply(reply)),
+        Err(_) => Err(Unavailable),
+    }
+}
+
+/// A reply with this body.
+fn show_body(alloc: Global, close: bool, body: RestBody) -> Result<RestAnswer<Staged>, Unavailable>
+    ensures { IfOk result (λ answer. answer ≡ answers.LongReply (content_reply close (compact_text (body_data body)))) }
+{
+    match shown(alloc, close, &body) {
+        Ok(reply) => Ok(RestAnswer::LongReply(reply)),
+        Err(_) => Err(Unavailable),
+    }
+}
+
+/// The bytes of a reply with this body.
+fn shown(alloc: Global, close: bool, body: &RestBody) -> Result<Bytes, NoMemory>
+    ensures { IfOk result (λ reply. reply ≡ content_reply close (compact_text (body_data body.now))) }
+{
+    let text = body_text(alloc, body)?;
+    content_reply(alloc, close, &text)
+}
