@@ -100,7 +100,7 @@ few_checked : (most : ℕ) (m : Member) (found ds : Items) (test : Bool) → nat
 few_checked most m found ds true few is = let same = ok_same found ds is in subst (λ (items : Items). nat_le (items_len items) most ≡ true) same few
 few_checked most m found ds false many is = absurd (cc)
 
-few_bound : (most : ℕ) (m : Member) (o : Option Items) (ds : Items) → ok_or (option_and_then (at_most most) o) (faults.Invalid m) ≡ Ok ds → nat_le (items_len ds) most ≡ true
+pub few_bound : (most : ℕ) (m : Member) (o : Option Items) (ds : Items) → ok_or (option_and_then (at_most most) o) (faults.Invalid m) ≡ Ok ds → nat_le (items_len ds) most ≡ true
 few_bound most m None ds is = absurd (cc)
 few_bound most m (Some found) ds is = few_checked most m found ds (nat_le (items_len found) most) refl is
 

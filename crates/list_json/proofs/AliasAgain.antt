@@ -79,7 +79,7 @@ all_anything [] = tt
 all_anything (x ∷ xs) = (tt, all_anything xs)
 
 -- a prefix or a name is there
-target_same : (prefixes : List PrefixValue) (ports : List Ports) (protocols : List ℕ) (names aliases : List (List ℕ)) (asked : Asked)
+pub target_same : (prefixes : List PrefixValue) (ports : List Ports) (protocols : List ℕ) (names aliases : List (List ℕ)) (asked : Asked)
     → with_target (record { prefixes = prefixes; ports = ports; protocols = protocols; names = names; aliases = aliases }) ≡ Ok asked
     → record { prefixes = prefixes; ports = ports; protocols = protocols; names = names; aliases = aliases } ≡ asked
 target_same (p ∷ ps) ports protocols names aliases asked is = ok_same _ asked is
@@ -151,25 +151,25 @@ needed_name None name is = absurd (cc)
 needed_name (Some d) name is = name_bound the.Name d name is
 
 -- what is read behind the members before
-abbrev behind_names : List PrefixValue → List Ports → List ℕ → List (List ℕ) → Result Asked ListFault
+abbrev pub behind_names : List PrefixValue → List Ports → List ℕ → List (List ℕ) → Result Asked ListFault
 behind_names prefixes ports protocols names = with_target (record { prefixes = prefixes; ports = ports; protocols = protocols; names = names; aliases = [] })
 
-abbrev behind_protocols : Data → List PrefixValue → List Ports → List ℕ → Result Asked ListFault
+abbrev pub behind_protocols : Data → List PrefixValue → List Ports → List ℕ → Result Asked ListFault
 behind_protocols d prefixes ports protocols = items_in the.TargetFqdn 8 (name_of the.TargetFqdn) (get (codes "target-fqdn") d) >>= behind_names prefixes ports protocols
 
-abbrev behind_ports : Data → List PrefixValue → List Ports → Result Asked ListFault
+abbrev pub behind_ports : Data → List PrefixValue → List Ports → Result Asked ListFault
 behind_ports d prefixes ports = items_in the.TargetProtocol 16 (protocol_of the.TargetProtocol) (get (codes "target-protocol") d) >>= behind_protocols d prefixes ports
 
-abbrev behind_prefixes : Data → List PrefixValue → Result Asked ListFault
+abbrev pub behind_prefixes : Data → List PrefixValue → Result Asked ListFault
 behind_prefixes d prefixes = items_in the.TargetPortRange 16 range_of (get (codes "target-port-range") d) >>= behind_ports d prefixes
 
-abbrev behind_targets : List ℕ → Asked → Result Alias ListFault
+abbrev pub behind_targets : List ℕ → Asked → Result Alias ListFault
 behind_targets name asked = Ok (record { name = name; asked = asked })
 
-abbrev behind_name : Data → List ℕ → Result Alias ListFault
+abbrev pub behind_name : Data → List ℕ → Result Alias ListFault
 behind_name d name = targets_of d >>= behind_targets name
 
-abbrev behind_whole : Data → Unit {0} → Result Alias ListFault
+abbrev pub behind_whole : Data → Unit {0} → Result Alias ListFault
 behind_whole d done = needed the.Name (name_of the.Name) (get (codes "name") d) >>= behind_name d
 
 -- **an alias that was read is what its printed form is read as**; its prefixes are prefixes, as those of every value are

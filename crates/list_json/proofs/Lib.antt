@@ -1,6 +1,7 @@
 pub mod Again
 pub mod AliasAgain
 pub mod ListAgain
+pub mod Within
 pub mod Arrays
 pub mod Ordered
 pub mod OrderedLists

@@ -526,7 +526,7 @@ entry_read family d entry is =
 
 -- ---- the list
 
-entries_same : (entries aces : List Ace) → some_entries entries ≡ Ok aces → entries ≡ aces
+pub entries_same : (entries aces : List Ace) → some_entries entries ≡ Ok aces → entries ≡ aces
 entries_same [] aces is = absurd (cc)
 entries_same (entry ∷ entries) aces is = entries_checked (distinct (entry ∷ entries)) is where
   entries_checked : (test : Bool) → (if test then Ok (entry ∷ entries) else Err (faults.Invalid the.Name)) ≡ Ok aces → entry ∷ entries ≡ aces
@@ -537,7 +537,7 @@ aces_made : (family : Family) (aces : List Ace) → some_entries aces ≡ Ok ace
 aces_made family [] some again = absurd (cc)
 aces_made family (entry ∷ entries) some again = rw again some
 
-abbrev behind_aces : Family → Data → Unit {0} → Result (List Ace) ListFault
+abbrev pub behind_aces : Family → Data → Unit {0} → Result (List Ace) ListFault
 behind_aces family d done = items_in the.Ace 32 (entry_of family) (get (codes "ace") d) >>= some_entries
 
 aces_again : (family : Family) (d : Data) (aces : List Ace) → AllByRecursion HasPrefixes aces → aces_of family d ≡ Ok aces → aces_of family (aces_data family aces) ≡ Ok aces
@@ -563,16 +563,16 @@ activation_again activation.WhenMitigating = refl
 activation_again activation.Immediate = refl
 activation_again activation.Deactivate = refl
 
-abbrev behind_activation : Data → List ℕ → Family → Activation → Result Acl ListFault
+abbrev pub behind_activation : Data → List ℕ → Family → Activation → Result Acl ListFault
 behind_activation d name family active = needed the.Aces (aces_of family) (get (codes "aces") d) >>= λ aces. Ok (record { name = name; family = family; activation = active; aces = aces })
 
-abbrev behind_family : Data → List ℕ → Family → Result Acl ListFault
+abbrev pub behind_family : Data → List ℕ → Family → Result Acl ListFault
 behind_family d name family = otherwise activation.WhenMitigating (word_of activation_in the.ActivationType) (get (codes "activation-type") d) >>= behind_activation d name family
 
-abbrev behind_name : Data → List ℕ → Result Acl ListFault
+abbrev pub behind_name : Data → List ℕ → Result Acl ListFault
 behind_name d name = needed the.AclKind (word_of family_in the.AclKind) (get (codes "type") d) >>= behind_family d name
 
-abbrev behind_list : Data → Unit {0} → Result Acl ListFault
+abbrev pub behind_list : Data → Unit {0} → Result Acl ListFault
 behind_list d done = needed the.Name (name_of the.Name) (get (codes "name") d) >>= behind_name d
 
 -- **an access list that was read is what its printed form is read as**

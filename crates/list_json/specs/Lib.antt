@@ -6,6 +6,7 @@ pub mod Aliases
 pub mod AliasPrinting
 pub mod Putting
 pub mod Lists
+pub mod Within
 pub mod ListPrinting
 pub mod Prefixed
 pub mod FaultText
