@@ -5,4 +5,5 @@ pub mod Encoding
 pub mod Fronts
 pub mod Grammar
 pub mod Meaning
+pub mod Within
 mod Putting

@@ -6,3 +6,4 @@ pub mod Rest
 pub mod JsonValues
 pub mod Replies
 pub mod RejectText
+pub mod Within
