@@ -80,11 +80,10 @@ failure close = (_, refl)
 -- ---- both
 
 -- what is accepted is the reply and the entry of an accepted outcome
-record Accepts (time : ℕ) (caller : Caller) (close : Bool) (asked : RestRequest) (reply : List ℕ) (e : Entry) : Type 0 where
-  outcome : RestOutcome
-  accepted : is_accepted outcome ≡ true
-  reply_is : outcome_reply close asked outcome ≡ reply
-  entry_is : entry_of time caller asked ≡ Some e
+pub record Accepts (time : ℕ) (caller : Caller) (close : Bool) (asked : RestRequest) (outcome : RestOutcome) (reply : List ℕ) (e : Entry) : Type 0 where
+  pub accepted : is_accepted outcome ≡ true
+  pub reply_is : outcome_reply close asked outcome ≡ reply
+  pub entry_is : entry_of time caller asked ≡ Some e
 
 shown_is_none : (close : Bool) (asked : RestRequest) (shown : Option RestBody) (reply : List ℕ) (e : Entry) → ¬ (showing close asked shown ≡ answer.Accept reply e)
 shown_is_none close asked None reply e is = cc is
@@ -108,14 +107,14 @@ changed_is made (Some x) reply e is = (cc is, ap Some (cc is))
 
 accepts_by : (known : Known) (caller : Caller) (close : Bool) (asked : RestRequest) (outcome : RestOutcome) (b : Bool) (reply : List ℕ) (e : Entry) → is_accepted outcome ≡ b
     → cond b (changing (outcome_reply close asked outcome) (entry_of known.time caller asked)) (telling close asked (body_of asked known.aliases known.acls) outcome) ≡ answer.Accept reply e
-    → Accepts known.time caller close asked reply e
+    → Accepts known.time caller close asked outcome reply e
 accepts_by known caller close asked outcome true reply e accepted is =
     let both = changed_is (outcome_reply close asked outcome) (entry_of known.time caller asked) reply e is in
-    record { outcome = outcome; accepted = accepted; reply_is = both.0; entry_is = both.1 }
+    record { accepted = accepted; reply_is = both.0; entry_is = both.1 }
 accepts_by known caller close asked outcome false reply e accepted is = absurd (told_is_none close asked (body_of asked known.aliases known.acls) outcome reply e is)
 
-accepts : (known : Known) (caller : Caller) (close : Bool) (asked : RestRequest) (reply : List ℕ) (e : Entry) → rest_answer known caller close asked ≡ answer.Accept reply e
-    → Accepts known.time caller close asked reply e
+pub accepts : (known : Known) (caller : Caller) (close : Bool) (asked : RestRequest) (reply : List ℕ) (e : Entry) → rest_answer known caller close asked ≡ answer.Accept reply e
+    → Accepts known.time caller close asked (judge (verb_of asked) (kind_of asked) known.facts) reply e
 accepts known caller close asked reply e is =
     let outcome = judge (verb_of asked) (kind_of asked) known.facts in
     accepts_by known caller close asked outcome (is_accepted outcome) reply e refl is
@@ -123,7 +122,7 @@ accepts known caller close asked reply e is =
 pub accepted_succeeds : (known : Known) (caller : Caller) (close : Bool) (asked : RestRequest) (reply : List ℕ) (e : Entry) → rest_answer known caller close asked ≡ answer.Accept reply e → IsSuccess reply
 accepted_succeeds known caller close asked reply e is =
     let how = accepts known caller close asked reply e is in
-    subst (λ (bytes : List ℕ). IsSuccess bytes) how.reply_is (success close asked how.outcome how.accepted)
+    subst (λ (bytes : List ℕ). IsSuccess bytes) how.reply_is (success close asked (judge (verb_of asked) (kind_of asked) known.facts) how.accepted)
 
 pub accepted_is_of : (known : Known) (caller : Caller) (close : Bool) (asked : RestRequest) (reply : List ℕ) (e : Entry) → rest_answer known caller close asked ≡ answer.Accept reply e → IsOf known.time caller asked e
 accepted_is_of known caller close asked reply e is = entry_is_of known.time caller asked e (accepts known caller close asked reply e is).entry_is

@@ -1,1 +1,5 @@
 pub mod Accepted
+mod Insides
+mod Judged
+mod Rooms
+pub mod Taken
