@@ -11,8 +11,6 @@ mod copies;
 mod deciding;
 mod desk;
 mod facts;
-#[cfg(test)]
-mod tests;
 mod unavailable;
 
 pub use deciding::decide_rest;

@@ -14,8 +14,6 @@ mod faults;
 pub mod laws;
 mod replies;
 mod reply;
-#[cfg(test)]
-mod tests;
 
 pub use answer::RestAnswer;
 pub use caller::Caller;

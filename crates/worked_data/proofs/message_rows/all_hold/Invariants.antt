@@ -2,7 +2,7 @@
 use Rattle.std.proofs.Common.{List}
 use Rattle.dots_history.specs.declared.entry.Entry.{Entry}
 use Rattle.dots_registry.specs.RegistryValues.{Represents, IsOf}
-use Rattle.dots_data.proofs.tests.all_hold.Given as goal
+use Rattle.worked_data.proofs.message_rows.all_hold.Given as goal
 
 abbrev pub invariant-loop-row : goal.invariant-loop-row
 invariant-loop-row l = record {

@@ -1,9 +1,9 @@
-//! Each call that takes memory, once where there is some.
+//! Each call of `rest_answers` that takes memory, once where there is some.
 
-use crate::{Caller, content_reply, entry_of, outcome_reply};
 use data_channel::RestRequest;
 use dots_history::{Change, Entry};
 use dots_lists::{Bytes, Name};
+use rest_answers::{Caller, content_reply, entry_of, outcome_reply};
 use rest_judging::RestOutcome;
 use std::alloc::Global;
 

@@ -5,7 +5,7 @@ ghost use Rattle.dots_history.specs.declared.entry.Entry.{Entry};
 ghost use Rattle.dots_registry.specs.RegistryValues.{Represents, IsOf};
 ghost use Rattle.dots_data.specs.Accepting.{CanCarryOut};
 
-use crate::{Desk, decide_rest};
+use dots_data::{Desk, decide_rest};
 use dots_host::MemorySource;
 use dots_registry::Registry;
 use dots_settings::{Settings, read_settings};

@@ -1,4 +1,4 @@
-use Rattle.dots_data.proofs.tests.carry_out.Goals as goal
+use Rattle.worked_data.proofs.message_rows.carry_out.Goals as goal
 
 pub returns-in-Accept-clause-settings : goal.returns-in-Accept-clause-settings
 returns-in-Accept-clause-settings c = c.apply.ensures.settings c.args.settings.now c.requires.settings
