@@ -12,7 +12,7 @@
 //!
 //! Start reading at `specs/Rest.antt`, which says what a message means. `specs/Paths.antt` is the grammar of targets,
 //! `specs/Heads.antt` what is judged before the body, `specs/Bodies.antt` what a body makes of a request, and `specs/Replies.antt`
-//! what replies hold.
+//! what replies hold. [`laws`] says that a message means one thing, and that what it asks is within bounds.
 #![tactic(auto)]
 
 mod bodies;

@@ -1,2 +1,2 @@
 mod Copying
-mod Acceptable
+pub mod Acceptable

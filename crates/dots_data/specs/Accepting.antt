@@ -1,5 +1,5 @@
 -- When what is answered can be carried out.
-use Rattle.std.specs.Prelude.{◌≡◌, true, List, ⊤}
+use Rattle.std.specs.Prelude.{◌≡◌, ◌<◌, ◌^◌, true, List, ⊤}
 use Rattle.dots_settings.specs.Settings.{SettingsValue}
 use Rattle.dots_history.specs.declared.entry.Entry.{Entry}
 use Rattle.dots_history.specs.Histories.{mitigations}
@@ -7,8 +7,16 @@ use Rattle.dots_laws.specs.Calm.{is_own}
 use Rattle.dots_laws.specs.Fits.{has_one_peer}
 use Rattle.dots_registry.specs.RegistryValues.{RegistryValue, Represents, time_of}
 use Rattle.dots_registry.specs.Fitting.{fits_now}
+use Rattle.dots_registry.specs.Limits.{ClientsKeepLimits}
 use Rattle.rest_answers.specs.declared.answer.RestAnswer.TheVariants as answer
 use Rattle.rest_answers.specs.Answer.{RestAnswer}
+
+-- A registry in use represents a history whose clients keep the limits, and its time is below 2^48.
+pub record IsInUse (settings : SettingsValue) (registry : RegistryValue) : Type 0 where
+  pub history : List Entry
+  pub represents : Represents registry history
+  pub limits : ClientsKeepLimits settings.limits (time_of registry) history
+  pub early : time_of registry < 2 ^ 48
 
 -- An entry can be taken: it is of the registry's time, and for each history that the registry represents it fits, is the settings' own,
 -- and has the peer of each live mitigation of its client, where it is of mitigations.

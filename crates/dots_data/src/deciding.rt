@@ -1,11 +1,13 @@
 //! What is decided on a request.
 
-ghost use Rattle.std.specs.Prelude.{◌≡◌, ◌⊎◌, ◌<◌, List, length, IfOk};
+ghost use Rattle.std.specs.Prelude.{◌≡◌, ◌⊎◌, ◌<◌, true, List, IfOk};
 ghost use Rattle.http_cut.specs.Requests.{request_value};
 ghost use Rattle.serde_json.specs.Written.{compact_text};
 ghost use Rattle.data_channel.specs.Replies.{body_data};
+ghost use Rattle.dots_settings.specs.Lookups.{role_of};
 ghost use Rattle.dots_history.specs.declared.entry.Entry.{Entry};
 ghost use Rattle.dots_history.specs.Histories.{held};
+ghost use Rattle.dots_laws.specs.Calm.{may_act};
 ghost use Rattle.dots_laws.specs.Held.{aliases_of, acls_of};
 ghost use Rattle.dots_registry.specs.RegistryValues.{Represents, IsOf, time_of, domains_of};
 ghost use Rattle.rest_answers.specs.declared.answer.RestAnswer.TheVariants as answers;
@@ -13,13 +15,12 @@ ghost use Rattle.rest_answers.specs.Known.{client_for, known_of};
 ghost use Rattle.rest_answers.specs.Replies.{content_reply, outcome_reply, unavailable};
 ghost use Rattle.rest_answers.specs.Answers.{showing, telling, body_of, rest_answer, Answers};
 ghost use Rattle.rest_judging.specs.Asking.{verb_of, kind_of};
-ghost use Rattle.dots_data.specs.Accepting.{CanCarryOut};
+ghost use Rattle.dots_data.specs.Accepting.{IsInUse, CanCarryOut};
 
 use crate::accepting::accept;
 use crate::bodies::body_of;
 use crate::desk::Desk;
 use crate::facts::facts;
-use crate::unavailable::Unavailable;
 use data_channel::{RestBody, RestRequest, body_text, read_rest};
 use dots_lists::{Bytes, NoMemory};
 use http_cut::HttpRequest;
@@ -31,8 +32,7 @@ use std::alloc::Global;
 
 /// What is answered to a message of a client peer of the settings, of which the registry is. The room serves one message after the other.
 ///
-/// It is answered by the rules, or by 500: where memory ran out, or where the registry can't take the entry that the rules accept. What is
-/// accepted can be carried out, which takes no memory.
+/// It is answered by the rules, or by 500 where memory ran out. What is accepted can be carried out, which takes no memory.
 pub fn decide_rest(
     desk: &Desk<'_>,
     room: &mut JsonRoom,
@@ -40,7 +40,8 @@ pub fn decide_rest(
     message: &HttpRequest<'_>,
 ) -> RestAnswer<Staged>
     requires is_of { IsOf desk.now.settings.now desk.now.registry.now }
-    requires inside { caller.domain < length desk.now.settings.now.domains }
+    requires in_use { IsInUse desk.now.settings.now desk.now.registry.now }
+    requires acts { may_act desk.now.settings.now (role_of desk.now.settings.now caller.peer) caller.domain ≡ true }
     ensures decides { (entries : List Entry) → Represents desk.now.registry.now entries
         → Answers desk.now.settings.now (time_of desk.now.registry.now) entries caller (request_value message.now) result }
     ensures ready { CanCarryOut desk.now.settings.now desk.now.registry.now result }
@@ -51,7 +52,7 @@ pub fn decide_rest(
     }
 }
 
-/// What is answered to a request, or 500.
+/// What is answered to a request, or 500 where memory ran out.
 fn decide_or_fail(
     desk: &Desk<'_>,
     caller: Caller,
@@ -60,13 +61,12 @@ fn decide_or_fail(
 ) -> RestAnswer<Staged>
     requires is_of { IsOf desk.now.settings.now desk.now.registry.now }
     requires inside { caller.domain < domains_of desk.now.registry.now }
-    ensures decides { (entries : List Entry) → Represents desk.now.registry.now entries
+    ensures { (entries : List Entry) → Represents desk.now.registry.now entries
         → (result ≡ rest_answer (known_of desk.now.settings.now (time_of desk.now.registry.now) entries caller request) caller close request) ⊎ (result ≡ answers.Reply (unavailable close)) }
-    ensures ready { CanCarryOut desk.now.settings.now desk.now.registry.now result }
 {
     match decide(desk, caller, close, request) {
         Ok(answer) => answer,
-        Err(_) => RestAnswer::Reply(unavailable(desk.alloc, close)),
+        Err(NoMemory) => RestAnswer::Reply(unavailable(desk.alloc, close)),
     }
 }
 
@@ -76,12 +76,11 @@ fn decide(
     caller: Caller,
     close: bool,
     request: RestRequest,
-) -> Result<RestAnswer<Staged>, Unavailable>
+) -> Result<RestAnswer<Staged>, NoMemory>
     requires is_of { IsOf desk.now.settings.now desk.now.registry.now }
     requires inside { caller.domain < domains_of desk.now.registry.now }
-    ensures decides { (entries : List Entry) → Represents desk.now.registry.now entries
+    ensures { (entries : List Entry) → Represents desk.now.registry.now entries
         → IfOk result (λ answer. answer ≡ rest_answer (known_of desk.now.settings.now (time_of desk.now.registry.now) entries caller request) caller close request) }
-    ensures ready { IfOk result (λ answer. CanCarryOut desk.now.settings.now desk.now.registry.now answer) }
 {
     let facts = facts(desk, caller, &request);
     let outcome = judge(verb_of(&request), kind_of(&request), facts);
@@ -100,10 +99,9 @@ fn tell(
     close: bool,
     request: &RestRequest,
     outcome: RestOutcome,
-) -> Result<RestAnswer<Staged>, Unavailable>
-    ensures answer { (entries : List Entry) → Represents desk.now.registry.now entries
+) -> Result<RestAnswer<Staged>, NoMemory>
+    ensures { (entries : List Entry) → Represents desk.now.registry.now entries
         → IfOk result (λ answer. answer ≡ telling close request.now (body_of request.now (aliases_of (client_for caller request.now) (held entries)) (acls_of (client_for caller request.now) (held entries))) outcome) }
-    ensures ready { IfOk result (λ answer. CanCarryOut desk.now.settings.now desk.now.registry.now answer) }
 {
     match outcome {
         RestOutcome::Shown => show(desk, caller, close, request),
@@ -117,10 +115,9 @@ fn show(
     caller: Caller,
     close: bool,
     request: &RestRequest,
-) -> Result<RestAnswer<Staged>, Unavailable>
-    ensures answer { (entries : List Entry) → Represents desk.now.registry.now entries
+) -> Result<RestAnswer<Staged>, NoMemory>
+    ensures { (entries : List Entry) → Represents desk.now.registry.now entries
         → IfOk result (λ answer. answer ≡ showing close request.now (body_of request.now (aliases_of (client_for caller request.now) (held entries)) (acls_of (client_for caller request.now) (held entries)))) }
-    ensures ready { IfOk result (λ answer. CanCarryOut desk.now.settings.now desk.now.registry.now answer) }
 {
     match body_of(desk.alloc, desk.registry, caller, request)? {
         Some(body) => show_body(desk.alloc, close, body),
@@ -134,22 +131,20 @@ fn tell_outcome(
     close: bool,
     request: &RestRequest,
     outcome: RestOutcome,
-) -> Result<RestAnswer<Staged>, Unavailable>
+) -> Result<RestAnswer<Staged>, NoMemory>
     ensures { IfOk result (λ answer. answer ≡ answers.Reply (outcome_reply close request.now outcome)) }
 {
-    match outcome_reply(alloc, close, request, outcome) {
-        Ok(reply) => Ok(RestAnswer::Reply(reply)),
-        Err(_) => Err(Unavailable),
-    }
+    let reply = outcome_reply(alloc, close, request, outcome)?;
+    Ok(RestAnswer::Reply(reply))
 }
 
 /// A reply with this body.
-fn show_body(alloc: Global, close: bool, body: RestBody) -> Result<RestAnswer<Staged>, Unavailable>
+fn show_body(alloc: Global, close: bool, body: RestBody) -> Result<RestAnswer<Staged>, NoMemory>
     ensures { IfOk result (λ answer. answer ≡ answers.LongReply (content_reply close (compact_text (body_data body)))) }
 {
     match shown(alloc, close, &body) {
         Ok(reply) => Ok(RestAnswer::LongReply(reply)),
-        Err(_) => Err(Unavailable),
+        Err(fault) => Err(fault),
     }
 }
 

@@ -2,7 +2,7 @@
 //!
 //! [`alias_of`] and [`acl_of`] read a value of `serde_json`, and answer the alias or the access list that it is, or its first
 //! fault. [`alias_value`] and [`acl_value`] give the value that one is printed as: the members that say something, in the bytewise
-//! order of their names. What is printed of one that was read is read as the same ([`laws`]).
+//! order of their names. One that was read is within bounds, and what is printed of it is read as the same ([`laws`]).
 //!
 //! The members and their values are those of RFC 8783 (aliases in section 6.1, access lists in section 7.2), the latter after
 //! RFC 8519, section 4; names, prefixes and numbers are written as RFC 7951 and RFC 6991 say. Of them those are served that an

@@ -33,7 +33,7 @@ use Rattle.rest_answers.specs.declared.caller.Caller.{Caller}
 use Rattle.rest_answers.specs.Known.{Known, is_faulty, facts_of, known_of}
 use Rattle.rest_answers.specs.Changes.{change_of, changed_by, entry_with, entry_of}
 use Rattle.rest_answers.specs.Answers.{rest_answer}
-use Rattle.rest_answers.specs.Taken.{KeepsRoom}
+use Rattle.rest_answers.specs.Room.{KeepsRoom}
 use Rattle.rest_answers.proofs.Accepted.{accepts}
 use Rattle.rest_answers.proofs.Insides.{alias_inside, list_inside}
 use Rattle.rest_answers.proofs.Judged.{judged_clear, new_by_put, new_by_post, HasPlace, alias_by_put, alias_by_post, list_by_put, list_by_post}

@@ -76,9 +76,12 @@ pub record IsOf (time : ℕ) (caller : Caller) (asked : RestRequest) (entry : En
   pub http : entry.key ≡ Http
   pub other : is_of_mitigations entry.change ≡ false
 
--- **what may be answered to a message**: what it means is answered by the history, or it is answered by 500, and nothing changes, where memory
--- ran out or where the registry can't take the entry that the rules accept
+-- memory ran out: 500 is answered, and nothing changes
+abbrev pub LacksMemory : Request → RestAnswer → Type 0
+LacksMemory message answered = answered ≡ answer.Reply (unavailable message.close)
+
+-- **what may be answered to a message**: what it means is answered by the history, or memory ran out
 abbrev pub Answers : SettingsValue → ℕ → List Entry → Caller → Request → RestAnswer → Type 0
 Answers settings t history caller message answered =
     ((read : Result RestRequest RestReject) × Rest message read × (answered ≡ answer_to settings t history caller message.close read))
-    ⊎ (answered ≡ answer.Reply (unavailable message.close))
+    ⊎ LacksMemory message answered

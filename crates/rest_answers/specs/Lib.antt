@@ -3,4 +3,4 @@ pub mod Changes
 pub mod Replies
 pub mod Answer
 pub mod Answers
-pub mod Taken
+pub mod Room

@@ -14,7 +14,7 @@ ghost use Rattle.rest_answers.specs.declared.caller.Caller.{Caller as CallerValu
 ghost use Rattle.rest_answers.specs.Known.{Known, known_of};
 ghost use Rattle.rest_answers.specs.Replies.{unavailable};
 ghost use Rattle.rest_answers.specs.Answers.{rest_answer, IsOf};
-ghost use Rattle.rest_answers.specs.Taken.{KeepsRoom};
+ghost use Rattle.rest_answers.specs.Room.{KeepsRoom};
 
 /// The reply to an accepted change says success, and that for want of memory a failure: so a reply shows which of the two it is.
 pub fn accepted_is_success()
