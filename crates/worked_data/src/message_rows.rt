@@ -1,14 +1,12 @@
 //! Messages of two peers, one after the other, and how their replies begin or, where they have a body, end.
 
-ghost use Rattle.std.specs.Prelude.{List};
-ghost use Rattle.dots_history.specs.declared.entry.Entry.{Entry};
-ghost use Rattle.dots_registry.specs.RegistryValues.{Represents, IsOf};
-ghost use Rattle.dots_data.specs.Accepting.{CanCarryOut};
+ghost use Rattle.dots_registry.specs.RegistryValues.{IsOf};
+ghost use Rattle.dots_data.specs.Accepting.{IsInUse, CanCarryOut};
 
 use dots_data::{Desk, decide_rest};
 use dots_host::MemorySource;
 use dots_registry::Registry;
-use dots_settings::{Settings, read_settings};
+use dots_settings::{Role, Settings, read_settings};
 use http_cut::HttpRequest;
 use installed_filters::Staged;
 use json_room::JsonRoom;
@@ -64,10 +62,10 @@ fn carry_out(
     want: &[u8],
 ) -> bool
     requires settings { IsOf settings.now registry.old }
-    requires represents { (entries : List Entry) × Represents registry.old entries }
+    requires in_use { IsInUse settings.now registry.old }
     requires ready { CanCarryOut settings.now registry.old answer }
     ensures settings { IsOf settings.now registry.new }
-    ensures represents { (entries : List Entry) × Represents registry.new entries }
+    ensures in_use { IsInUse settings.now registry.new }
 {
     match answer {
         RestAnswer::Reply(reply) => begins(&reply, want),
@@ -89,20 +87,20 @@ fn answers(
     want: &[u8],
 ) -> bool
     requires settings { IsOf settings.now registry.old }
-    requires represents { (entries : List Entry) × Represents registry.old entries }
+    requires in_use { IsInUse settings.now registry.old }
     ensures settings { IsOf settings.now registry.new }
-    ensures represents { (entries : List Entry) × Represents registry.new entries }
+    ensures in_use { IsInUse settings.now registry.new }
 {
-    if settings.domains() == 0 {
+    let Role::Client(domain) = settings.domain_of(peer) else {
         return false;
-    }
+    };
     let mut room = JsonRoom::new(alloc);
     let desk = Desk {
         alloc,
         settings,
         registry: &*registry,
     };
-    let answer = decide_rest(&desk, &mut room, Caller { peer, domain: 0 }, message);
+    let answer = decide_rest(&desk, &mut room, Caller { peer, domain }, message);
     carry_out(registry, settings, answer, want)
 }
 
@@ -118,9 +116,9 @@ fn parts(row: &str) -> Option<(&str, &str, &str, &str, &str)> {
 /// Takes the message of a row, and says whether its reply is as wanted.
 fn holds(alloc: Global, settings: &Settings, registry: &mut Registry, row: &str) -> bool
     requires settings { IsOf settings.now registry.old }
-    requires represents { (entries : List Entry) × Represents registry.old entries }
+    requires in_use { IsInUse settings.now registry.old }
     ensures settings { IsOf settings.now registry.new }
-    ensures represents { (entries : List Entry) × Represents registry.new entries }
+    ensures in_use { IsInUse settings.now registry.new }
 {
     let Some((peer, method, target, body, want)) = parts(row) else {
         return false;
@@ -140,7 +138,7 @@ fn holds(alloc: Global, settings: &Settings, registry: &mut Registry, row: &str)
 /// Takes the messages of the rows, and says whether each reply is as wanted.
 fn all_hold(alloc: Global, settings: &Settings, registry: &mut Registry) -> bool
     requires settings { IsOf settings.now registry.old }
-    requires represents { (entries : List Entry) × Represents registry.old entries }
+    requires in_use { IsInUse settings.now registry.old }
 {
     let mut all = true;
     for row in ROWS.lines() {
