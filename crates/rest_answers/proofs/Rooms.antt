@@ -102,17 +102,17 @@ held_room q most entries e room =
 
 -- ---- aliases and access lists, the one of a name in place of the one before
 
-fewer_kept : {A : Type 0} (keep : A → Bool) (xs : List A) → length (filter keep xs) ≤ length xs
-fewer_kept keep [] = omega arith
-fewer_kept keep (x ∷ xs) =
-    let go = fewer_kept keep xs in
+fewer_pass : {A : Type 0} (keep : A → Bool) (xs : List A) → length (filter keep xs) ≤ length xs
+fewer_pass keep [] = omega arith
+fewer_pass keep (x ∷ xs) =
+    let go = fewer_pass keep xs in
     cond_both (keep x) (x ∷ filter keep xs) (filter keep xs) (λ ys. length ys ≤ length (x ∷ xs)) (λ is. omega (arith, go)) (λ out. omega (arith, go))
 
 replaced : {A : Type 0} (keep p : A → Bool) (xs : List A) → ((x : A) → p x ≡ true → keep x ≡ false) → is_some (find p xs) ≡ true
     → length (filter keep xs) + 1 ≤ length xs
 replaced keep p [] out found = absurd (false≢true found)
 replaced keep p (x ∷ xs) out found =
-    let fewer = fewer_kept keep xs in
+    let fewer = fewer_pass keep xs in
     elim (cases_Bool (p x)) [
       | inl is ↦
           subst (λ b. length (cond b (x ∷ filter keep xs) (filter keep xs)) + 1 ≤ length (x ∷ xs)) (sym (out x is)) (omega (arith, fewer))
@@ -177,7 +177,7 @@ alias_placed most entries e new writes few place =
     ∙ ap (λ c. filter (λ (a : Alias). not (undoes_alias a.name c)) before ++ option_to_list (holds.alias_of c)) writes in
     let long = ap length after in
     let split = length-append (filter (keeps_alias new) before) (new ∷ []) in
-    let fewer = fewer_kept (keeps_alias new) before in
+    let fewer = fewer_pass (keeps_alias new) before in
     let least : length (aliases_of (client_of e) (held_with e (held entries))) ≤ most =
     elim place [
       | inl there ↦
@@ -207,7 +207,7 @@ list_placed most entries e new writes few place =
     ∙ ap (λ c. filter (λ (a : Acl). not (undoes_acl a.name c)) before ++ option_to_list (acl_of c)) writes in
     let long = ap length after in
     let split = length-append (filter (keeps_list new) before) (new ∷ []) in
-    let fewer = fewer_kept (keeps_list new) before in
+    let fewer = fewer_pass (keeps_list new) before in
     let least : length (acls_of (client_of e) (held_with e (held entries))) ≤ most =
     elim place [
       | inl there ↦

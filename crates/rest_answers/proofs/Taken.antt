@@ -47,25 +47,25 @@ OfChange P (Some c) = P c
 -- ---- the kinds of change
 
 -- no mitigation, no session configuration and no loss
-abbrev IsHeld : Change → Type 0
-IsHeld c = (is_configuration c ≡ false) × (is_loss c ≡ false) × (waits c ≡ false) × (put_of c ≡ None)
+abbrev IsOfData : Change → Type 0
+IsOfData c = (is_configuration c ≡ false) × (is_loss c ≡ false) × (waits c ≡ false) × (put_of c ≡ None)
 
-held_kind : (asked : RestRequest) → OfChange IsHeld (change_of asked)
+data_kind : (asked : RestRequest) → OfChange IsOfData (change_of asked)
 unfolding is_configuration is_loss
-held_kind (request.PutClient cuid) = (refl, refl, refl, refl)
-held_kind (request.PostClient cuid) = (refl, refl, refl, refl)
-held_kind (request.GetClient cuid) = tt
-held_kind (request.DeleteClient cuid) = (refl, refl, refl, refl)
-held_kind (request.PutAlias cuid alias) = (refl, refl, refl, refl)
-held_kind (request.PostAlias cuid alias) = (refl, refl, refl, refl)
-held_kind (request.GetAlias cuid name) = tt
-held_kind (request.DeleteAlias cuid name) = (refl, refl, refl, refl)
-held_kind (request.GetAliases cuid) = tt
-held_kind (request.PutAcl cuid acl) = (refl, refl, refl, refl)
-held_kind (request.PostAcl cuid acl) = (refl, refl, refl, refl)
-held_kind (request.GetAcl cuid name) = tt
-held_kind (request.DeleteAcl cuid name) = (refl, refl, refl, refl)
-held_kind (request.GetAcls cuid) = tt
+data_kind (request.PutClient cuid) = (refl, refl, refl, refl)
+data_kind (request.PostClient cuid) = (refl, refl, refl, refl)
+data_kind (request.GetClient cuid) = tt
+data_kind (request.DeleteClient cuid) = (refl, refl, refl, refl)
+data_kind (request.PutAlias cuid alias) = (refl, refl, refl, refl)
+data_kind (request.PostAlias cuid alias) = (refl, refl, refl, refl)
+data_kind (request.GetAlias cuid name) = tt
+data_kind (request.DeleteAlias cuid name) = (refl, refl, refl, refl)
+data_kind (request.GetAliases cuid) = tt
+data_kind (request.PutAcl cuid acl) = (refl, refl, refl, refl)
+data_kind (request.PostAcl cuid acl) = (refl, refl, refl, refl)
+data_kind (request.GetAcl cuid name) = tt
+data_kind (request.DeleteAcl cuid name) = (refl, refl, refl, refl)
+data_kind (request.GetAcls cuid) = tt
 
 -- ---- the settings' own
 
@@ -89,7 +89,7 @@ inside_of settings domain (request.DeleteAcl cuid name) clear = refl
 inside_of settings domain (request.GetAcls cuid) clear = tt
 
 own_made : (settings : SettingsValue) (t : ℕ) (caller : Caller) (cuid : List ℕ) (c : Change) → may_act settings (role_of settings caller.peer) caller.domain ≡ true
-    → IsHeld c → IsInside settings caller.domain c → is_own settings (changed_by t caller cuid c) ≡ true
+    → IsOfData c → IsInside settings caller.domain c → is_own settings (changed_by t caller cuid c) ≡ true
 own_made settings t caller cuid c may kind within =
     let e = changed_by t caller cuid c in
     let acts = may_act settings (role_of settings caller.peer) caller.domain in
@@ -283,7 +283,7 @@ takes_of settings t history caller (request.DeleteAcl cuid name) keeps is = take
 takes_of settings t history caller (request.GetAcls cuid) keeps is = tt
 
 fits_made : (settings : SettingsValue) (t : ℕ) (history : List Entry) (caller : Caller) (cuid : List ℕ) (c : Change) → KeepsRoom settings.limits t history → t < 2 ^ 48
-    → IsHeld c → is_of_settings settings (changed_by t caller cuid c) ≡ true → TakesOf settings t history caller cuid c
+    → IsOfData c → is_of_settings settings (changed_by t caller cuid c) ≡ true → TakesOf settings t history caller cuid c
     → fits settings history (changed_by t caller cuid c) ≡ true
 fits_made settings t history caller cuid c keeps early kind own takes =
     let e = changed_by t caller cuid c in
@@ -335,12 +335,12 @@ own_of : (settings : SettingsValue) (t : ℕ) (history : List Entry) (caller : C
     → OfChange (λ c. IsOwn settings (changed_by t caller (cuid_of asked) c)) (change_of asked)
 own_of settings t history caller asked may is =
     together
-    IsHeld
+    IsOfData
     (IsInside settings caller.domain)
     (λ c. IsOwn settings (changed_by t caller (cuid_of asked) c))
     (change_of asked)
     (λ c kind within. own_made settings t caller (cuid_of asked) c may kind within)
-    (held_kind asked)
+    (data_kind asked)
     (inside_of settings caller.domain asked (judged_clear (verb_of asked) (kind_of asked) (facts_of settings t history caller asked) is).0)
 
 pub accepted_own : (settings : SettingsValue) (t : ℕ) (history : List Entry) (caller : Caller) (close : Bool) (asked : RestRequest) (reply : List ℕ) (entry : Entry)
@@ -386,14 +386,14 @@ accepted_fits settings t history caller close asked reply entry may keeps early 
     asked
     entry
     (together
-    IsHeld
+    IsOfData
     (IsTaken settings t history caller (cuid_of asked))
     (λ c. fits settings history (changed_by t caller (cuid_of asked) c) ≡ true)
     (change_of asked)
     (λ c kind taken.
     let own = and_parts (is_of_settings settings (changed_by t caller (cuid_of asked) c)) (came_rightly (changed_by t caller (cuid_of asked) c)) taken.1 in
     fits_made settings t history caller (cuid_of asked) c keeps early kind own.0 taken.0)
-    (held_kind asked)
+    (data_kind asked)
     (together
     (TakesOf settings t history caller (cuid_of asked))
     (λ c. IsOwn settings (changed_by t caller (cuid_of asked) c))
