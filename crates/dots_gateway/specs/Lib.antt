@@ -1,0 +1,10 @@
+pub mod Exchanges
+pub mod Finding
+pub mod Forwarding
+pub mod Gateway
+pub mod Options
+pub mod Replies
+pub mod Routes
+pub mod Steps
+pub mod Wanted
+pub mod WantedValues

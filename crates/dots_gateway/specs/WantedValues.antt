@@ -1,0 +1,25 @@
+-- What the code's types of what is wanted stand for.
+use Rattle.std.specs.Prelude.{⊤}
+use Rattle.std.specs.Option.{option_copied}
+use Rattle.dots_gateway.specs.declared.wanted.Passage.{Passage}
+use Rattle.dots_gateway.specs.declared.wanted.Wanted.{Wanted}
+use Rattle.dots_gateway.specs.declared.wanted.Wanted.TheVariants as code
+use Rattle.dots_gateway.specs.Options.{IsShortBehind}
+use Rattle.dots_gateway.specs.Wanted.{beat, passage}
+use Rattle.dots_gateway.specs.Wanted as wanted
+
+abbrev pub passage_value : Passage → wanted.Passage
+passage_value p = record { hop = p.hop; cuid = option_copied p.cuid; mid = option_copied p.mid }
+
+abbrev pub wanted_value : Wanted → wanted.Wanted
+wanted_value code.Beat = beat
+wanted_value (code.Passage p) = passage (passage_value p)
+
+-- the parameters can stand behind their names in an option
+pub record HasShortTexts (p : Passage) : Type 0 where
+  pub cuid : IsShortBehind 5 (option_copied p.cuid)
+  pub mid : IsShortBehind 4 (option_copied p.mid)
+
+abbrev pub AreTextsShort : Wanted → Type 0
+AreTextsShort code.Beat = ⊤
+AreTextsShort (code.Passage p) = HasShortTexts p
