@@ -1,6 +1,8 @@
 -- What the code's types of what is wanted stand for.
-use Rattle.std.specs.Prelude.{⊤}
+use Rattle.std.specs.Prelude.{⊤, Result, Ok, Err}
 use Rattle.std.specs.Option.{option_copied}
+use Rattle.dots_heads.specs.declared.reject.Reject.{Reject}
+use Rattle.dots_heads.specs.declared.reject.Reject.TheVariants as reject
 use Rattle.dots_gateway.specs.declared.wanted.Passage.{Passage}
 use Rattle.dots_gateway.specs.declared.wanted.Wanted.{Wanted}
 use Rattle.dots_gateway.specs.declared.wanted.Wanted.TheVariants as code
@@ -23,3 +25,9 @@ pub record HasShortTexts (p : Passage) : Type 0 where
 abbrev pub AreTextsShort : Wanted → Type 0
 AreTextsShort code.Beat = ⊤
 AreTextsShort (code.Passage p) = HasShortTexts p
+
+-- of what a server refuses, what isn't left to it
+abbrev pub operation_refusal : Reject → Result (Unit {0}) Reject
+operation_refusal reject.Method = Err reject.Method
+operation_refusal reject.Parameter = Err reject.Parameter
+operation_refusal _ = Ok tt

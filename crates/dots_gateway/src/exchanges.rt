@@ -1,7 +1,7 @@
 //! The exchanges that are kept.
 
-ghost use Rattle.std.specs.Prelude.{◌≡◌, [], length, drop, false, None, IfOk, OnErr, option_map};
-ghost use Rattle.std.specs.VecDeque.{deque_capacity};
+ghost use Rattle.std.specs.Prelude.{◌≡◌, ◌<◌, ◌++◌, ◌∷◌, [], length, drop, false, Some, None, IfOk, OnErr, option_map};
+ghost use Rattle.std.specs.VecDeque.{deque_capacity, deque_len};
 ghost use Rattle.std.specs.List.{find};
 ghost use Rattle.dots_gateway.specs.Exchanges.{AreApart, at_time, is_over, left_at, is_full, is_from, is_passed, key_for, exchange_for, with_one};
 ghost use Rattle.dots_gateway.specs.Finding.{AreInOrder, AreNumbered, is_first_over, has_number};
@@ -133,13 +133,22 @@ impl Exchanges {
         let exchange = exchange_for(self.next, self.time, peer, message);
         let id = message.id();
         self.numbers.insert(Key { peer, id }, self.next)?;
-        self.kept.push_back_reserved(Kept {
-            exchange,
-            asked: Some(asked),
-        });
+        keep(&mut self.kept, &exchange, asked);
         self.next += 1;
         Ok(exchange)
     }
+}
+
+/// Puts an exchange behind the others, beside the datagram that asked.
+fn keep(kept: &mut VecDeque<Kept>, exchange: &Exchange, asked: Bytes)
+    requires { deque_len kept.old < deque_capacity kept.old }
+    ensures items { kept.new.items ≡ kept.old.items ++ record { exchange = exchange.now; asked = Some asked } ∷ [] }
+    ensures capacity { deque_capacity kept.new ≡ deque_capacity kept.old }
+{
+    kept.push_back_reserved(Kept {
+        exchange: *exchange,
+        asked: Some(asked),
+    });
 }
 
 /// The exchange of a request.

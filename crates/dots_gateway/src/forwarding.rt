@@ -91,7 +91,7 @@ fn with_parameter(
     value: Option<&[u8]>,
 ) -> Result<OptionList, NoMemory>
     requires order { last_number 0 path ≤ URI_PATH }
-    requires short { IsShortBehind (length name.now) (option_copied value.entry) }
+    requires short { IsShortBehind (length name.now) (option_copied value) }
     ensures path { IfOk result (λ options. options ≡ path ++ map (option_with URI_PATH) (parameter name.now (option_copied value.entry))) }
     ensures last { IfOk result (λ options. last_number 0 options ≤ URI_PATH) }
 {

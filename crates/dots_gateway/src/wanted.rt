@@ -1,13 +1,11 @@
 //! What a client's message wants of a gateway.
 
-ghost use Rattle.std.specs.Prelude.{◌≡◌, ◌≢◌, ◌≤◌, None, Some, IfOk};
-ghost use Rattle.std.specs.Option.{option_copied, option_map};
-ghost use Rattle.dots_heads.specs.Heads.{refuse_critical, refuse_hop_limit};
-ghost use Rattle.dots_heads.specs.Options.{first_critical, value_of, values_of};
-ghost use Rattle.dots_heads.specs.Paths.{Resource, mitigation, resource_at};
+ghost use Rattle.std.specs.Prelude.{◌≡◌, ◌≢◌, ℕ, List, Option, None, Some, IfOk};
+ghost use Rattle.dots_heads.specs.Options.{first_critical, values_of};
+ghost use Rattle.dots_heads.specs.Paths.{mitigation, resource_at};
 ghost use Rattle.dots_heads.specs.Results.{Reads};
 ghost use Rattle.dots_gateway.specs.Wanted.{may_ask, is_request, hop_in, refuse_operation, wanted_of};
-ghost use Rattle.dots_gateway.specs.WantedValues.{wanted_value, AreTextsShort};
+ghost use Rattle.dots_gateway.specs.WantedValues.{wanted_value, AreTextsShort, operation_refusal};
 
 use coap_message::codes::{EMPTY, PUT};
 use coap_message::option_numbers::HOP_LIMIT;
@@ -109,11 +107,22 @@ fn read_resource<'a>(message: &Message<'a>, hop: u8) -> Result<Wanted<'a>, Rejec
 fn refuse_operation(message: &Message<'_>) -> Result<(), Reject>
     requires critical { first_critical None message.now.options ≡ None }
     requires hop { hop_in message.now.options ≢ 0 }
-    ensures { (resource : Resource) → resource_at (values_of 11 message.now.options) ≡ Some resource → result ≡ refuse_operation resource message.now.code }
+    ensures { (cdid cuid mid : Option (List ℕ)) → resource_at (values_of 11 message.now.options) ≡ Some (mitigation cdid cuid mid)
+        → result ≡ refuse_operation (mitigation cdid cuid mid) message.now.code }
 {
     match read_head(message, false) {
-        Err(Reject::Method) => Err(Reject::Method),
-        Err(Reject::Parameter) => Err(Reject::Parameter),
+        Err(reject) => operation_refusal(reject),
+        Ok(_) => Ok(()),
+    }
+}
+
+/// Of what a server refuses, what isn't left to it.
+fn operation_refusal(reject: Reject) -> Result<(), Reject>
+    ensures { result ≡ operation_refusal reject }
+{
+    match reject {
+        Reject::Method => Err(Reject::Method),
+        Reject::Parameter => Err(Reject::Parameter),
         _ => Ok(()),
     }
 }

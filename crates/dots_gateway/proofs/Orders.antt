@@ -1,0 +1,300 @@
+-- The exchanges in the order of their numbers.
+use Rattle.std.proofs.Common.{◌≡◌, ◌≢◌, ℕ, zero, suc, ◌+◌, ◌<◌, ◌≤◌, Bool, true, false, cond, List, [], ◌∷◌, ◌++◌, length, drop, refl, sym, ap, subst, ◌∙◌, inl, inr, length-append, arith}
+use Rattle.std.specs.Prelude.{◌==◌, ◌&&◌, not, nat_le, max, filter, slice_get, option_map, Option, Some, None, ⊤}
+use Rattle.std.specs.List.{find, AllByRecursion}
+use Rattle.std.specs.Option.{option_or}
+use Rattle.std.proofs.lemmas.Bool.{cond-true, cond-false, cases_order, cases_eq, both_ways, and_parts, and_from, eq-eqb, ne_eqb, eqb-true, leb-false, lt-leb, false≢true}
+use Rattle.std.proofs.lemmas.Option.{none-some, same_Some}
+use Rattle.std.proofs.lemmas.List.Folds.{find-append}
+use Rattle.coap_message.specs.Message.{CoapMessage}
+use Rattle.dots_history.specs.declared.entry.MessageKey.TheVariants as key
+use Rattle.coap_message.specs.declared.kind.Kind.{Kind}
+use Rattle.coap_message.specs.declared.kind.Kind.TheVariants.{Con, Non, Ack, Rst}
+use Rattle.dots_gateway.specs.declared.exchange.Exchange.{Exchange}
+use Rattle.dots_gateway.specs.declared.exchange.Kept.{Kept}
+use Rattle.dots_gateway.specs.declared.exchange.Key.{Key}
+use Rattle.dots_gateway.specs.Exchanges.{ExchangesValue, AreApart, is_over, left_at, at_time, is_from, id_of, key_for, is_full, exchange_for, with_one}
+use Rattle.dots_gateway.specs.Finding.{IsBefore, AreInOrder, AreSound, AreNumbered, is_first_over, has_number, number_of, same_key}
+
+-- ---- all of a list
+
+pub all_left : {A : Type 0} (P : A → Type 0) (t : A → Bool) (xs : List A) → AllByRecursion P xs → AllByRecursion P (filter t xs)
+all_left P t [] all = tt
+all_left {A} P t (x ∷ xs) all = by_test (t x) (all_left P t xs all.1)
+  where
+    by_test : (b : Bool) → AllByRecursion P (filter t xs) → AllByRecursion P (cond b (x ∷ filter t xs) (filter t xs))
+    by_test true rest = (all.0, rest)
+    by_test false rest = rest
+
+pub all_with : {A : Type 0} (P : A → Type 0) (xs : List A) (x : A) → AllByRecursion P xs → P x → AllByRecursion P (xs ++ x ∷ [])
+all_with P [] x all one = (one, tt)
+all_with P (y ∷ xs) x all one = (all.0, all_with P xs x all.1 one)
+
+pub all_mapped : {A : Type 0} (P Q : A → Type 0) → ((x : A) → P x → Q x) → (xs : List A) → AllByRecursion P xs → AllByRecursion Q xs
+all_mapped P Q f [] all = tt
+all_mapped P Q f (x ∷ xs) all = (f x all.0, all_mapped P Q f xs all.1)
+
+all_at : {A : Type 0} (P : A → Type 0) (xs : List A) (i : ℕ) (x : A) → AllByRecursion P xs → slice_get xs i ≡ Some x → P x
+all_at P [] i x all there = absurd (none-some x there)
+all_at P (y ∷ xs) zero x all there = subst P (same_Some y x there) all.0
+all_at P (y ∷ xs) (suc i) x all there = all_at P xs i x all.1 there
+
+-- what is found is one of them
+all_found : {A : Type 0} (P : A → Type 0) (t : A → Bool) (xs : List A) (x : A) → AllByRecursion P xs → find t xs ≡ Some x → P x
+all_found P t [] x all found = absurd (none-some x found)
+all_found {A} P t (y ∷ xs) x all found = by_test (t y) found (λ is. all_found P t xs x all.1 is)
+  where
+    by_test : (b : Bool) → cond b (Some y) (find t xs) ≡ Some x → (find t xs ≡ Some x → P x) → P x
+    by_test true is rest = subst P (same_Some y x is) all.0
+    by_test false is rest = rest is
+
+-- where none is found all fail, and the other way round
+pub none_passes : {A : Type 0} (t : A → Bool) (xs : List A) → find t xs ≡ None → AllByRecursion (λ (x : A). t x ≡ false) xs
+none_passes t [] none = tt
+none_passes {A} t (x ∷ xs) none = by_test (t x) refl none (λ is. none_passes t xs is)
+  where
+    by_test : (b : Bool) → t x ≡ b → cond b (Some x) (find t xs) ≡ None → (find t xs ≡ None → AllByRecursion (λ (y : A). t y ≡ false) xs)
+        → (t x ≡ false) × AllByRecursion (λ (y : A). t y ≡ false) xs
+    by_test true pass is rest = absurd (none-some x (sym is))
+    by_test false fail is rest = (fail, rest is)
+
+pub none_found : {A : Type 0} (t : A → Bool) (xs : List A) → AllByRecursion (λ (x : A). t x ≡ false) xs → find t xs ≡ None
+none_found t [] all = refl
+none_found t (x ∷ xs) all = cond-false (t x) (Some x) (find t xs) all.0 ∙ none_found t xs all.1
+
+all_from : {A : Type 0} (P : A → Type 0) (xs : List A) → ((i : ℕ) (x : A) → slice_get xs i ≡ Some x → P x) → AllByRecursion P xs
+all_from P [] each = tt
+all_from P (x ∷ xs) each = (each zero x refl, all_from P xs (λ i y there. each (suc i) y there))
+
+pub nowhere_found : {A : Type 0} (t : A → Bool) (xs : List A) → ((i : ℕ) (x : A) → slice_get xs i ≡ Some x → t x ≡ false) → find t xs ≡ None
+nowhere_found {A} t xs each = none_found t xs (all_from (λ (x : A). t x ≡ false) xs each)
+
+-- ---- the time
+
+late_over : (time other now : ℕ) → time ≤ other → nat_le (time + 247) now ≡ false → nat_le (other + 247) now ≡ false
+late_over time other now later not_yet = lt-leb (other + 247) now (omega (arith, later, leb-false (time + 247) now not_yet))
+
+none_over : (now : ℕ) (k : Kept) (ks : List Kept) → AllByRecursion (IsBefore k) ks → is_over now k ≡ false → AllByRecursion (λ (x : Kept). is_over now x ≡ false) ks
+none_over now k ks all not_yet =
+    all_mapped (IsBefore k) (λ (x : Kept). is_over now x ≡ false) (λ x before. late_over k.exchange.time x.exchange.time now before.time not_yet) ks all
+
+all_stay : (now : ℕ) (ks : List Kept) → AllByRecursion (λ (x : Kept). is_over now x ≡ false) ks → left_at now ks ≡ ks
+all_stay now [] all = refl
+all_stay now (k ∷ ks) all =
+    cond-true (not (is_over now k)) (k ∷ left_at now ks) (left_at now ks) (ap not all.0) ∙ ap (λ (xs : List Kept). k ∷ xs) (all_stay now ks all.1)
+
+-- where the first isn't over none is
+pub first_stays : (now : ℕ) (ks : List Kept) → AreInOrder ks → is_first_over now ks ≡ false → left_at now ks ≡ ks
+first_stays now [] order not_yet = refl
+first_stays now (k ∷ ks) order not_yet = all_stay now (k ∷ ks) (not_yet, none_over now k ks order.0 not_yet)
+
+-- and the first that is over leaves those that stay
+pub first_goes : (now : ℕ) (ks : List Kept) → is_first_over now ks ≡ true → left_at now (drop 1 ks) ≡ left_at now ks
+first_goes now [] over = refl
+first_goes now (k ∷ ks) over = sym (cond-false (not (is_over now k)) (k ∷ left_at now ks) (left_at now ks) (ap not over))
+
+pub fewer_left : (now : ℕ) (ks : List Kept) → is_first_over now ks ≡ true → length (drop 1 ks) < length ks
+fewer_left now [] over = absurd (false≢true over)
+fewer_left now (k ∷ ks) over = omega arith
+
+pub order_dropped : (ks : List Kept) → AreInOrder ks → AreInOrder (drop 1 ks)
+order_dropped [] order = tt
+order_dropped (k ∷ ks) order = order.1
+
+order_left : (t : Kept → Bool) (ks : List Kept) → AreInOrder ks → AreInOrder (filter t ks)
+order_left t [] order = tt
+order_left t (k ∷ ks) order = by_test (t k) (order_left t ks order.1)
+  where
+    by_test : (b : Bool) → AreInOrder (filter t ks) → AreInOrder (cond b (k ∷ filter t ks) (filter t ks))
+    by_test true rest = (all_left (IsBefore k) t ks order.0, rest)
+    by_test false rest = rest
+
+fewer : {A : Type 0} (t : A → Bool) (xs : List A) → length (filter t xs) ≤ length xs
+fewer t [] = omega arith
+fewer {A} t (x ∷ xs) = by_test (t x) (fewer t xs)
+  where
+    by_test : (b : Bool) → length (filter t xs) ≤ length xs → length (cond b (x ∷ filter t xs) (filter t xs)) ≤ suc (length xs)
+    by_test true rest = omega (arith, rest)
+    by_test false rest = omega (arith, rest)
+
+pub sound_at : (now : ℕ) (e : ExchangesValue) → AreSound e → AreSound (at_time now e)
+sound_at now e sound =
+    let t : ℕ = max now e.time in
+    let stays = λ (k : Kept). not (is_over t k) in
+    let few = fewer stays e.kept in
+    record {
+      few = omega (arith, few, sound.few);
+      order = order_left stays e.kept sound.order;
+      below = all_left (λ (k : Kept). k.exchange.number < e.next) stays e.kept sound.below;
+      past = all_left (λ (k : Kept). k.exchange.time ≤ t) stays e.kept
+        (all_mapped (λ (k : Kept). k.exchange.time ≤ e.time) (λ (k : Kept). k.exchange.time ≤ t) (λ k before. omega (arith, before)) e.kept sound.past);
+    }
+
+-- ---- their requests
+
+-- the peer and the Message ID of an exchange
+abbrev pub key_of : Kept → Key
+key_of k = record { peer = k.exchange.peer; id = id_of k.exchange.key }
+
+same_parts : (k : Kept) (key : Key) → is_from key.peer key.id k ≡ true → (k.exchange.peer ≡ key.peer) × (id_of k.exchange.key ≡ key.id)
+same_parts k key is =
+    let both = and_parts (k.exchange.peer == key.peer) (id_of k.exchange.key == key.id) is in
+    (eqb-true k.exchange.peer key.peer both.0, eqb-true (id_of k.exchange.key) key.id both.1)
+
+-- no later one is of the request of an earlier one
+none_later : (k : Kept) (ks : List Kept) (key : Key) → AllByRecursion (IsBefore k) ks → is_from key.peer key.id k ≡ true → find (is_from key.peer key.id) ks ≡ None
+none_later k ks key all is =
+    let same = same_parts k key is in
+    none_found (is_from key.peer key.id) ks
+    (all_mapped (IsBefore k) (λ (x : Kept). is_from key.peer key.id x ≡ false)
+        (λ x before. subst (λ (p : ℕ). is_from p key.id x ≡ false) same.0 (subst (λ (i : ℕ). is_from k.exchange.peer i x ≡ false) same.1 before.request)) ks all)
+
+-- the first one goes, and its number with it
+pub one_gone : (k : Kept) (ks : List Kept) (key : Key) (before found : Option ℕ) → AllByRecursion (IsBefore k) ks
+    → before ≡ option_map number_of (find (is_from key.peer key.id) (k ∷ ks)) → found ≡ cond (same_key (key_of k) key) None before
+    → found ≡ option_map number_of (find (is_from key.peer key.id) ks)
+one_gone k ks key before found all old new = new ∙ by_test (is_from key.peer key.id k) refl old
+  where
+    by_test : (b : Bool) → is_from key.peer key.id k ≡ b → before ≡ option_map number_of (cond b (Some k) (find (is_from key.peer key.id) ks))
+        → cond b None before ≡ option_map number_of (find (is_from key.peer key.id) ks)
+    by_test true is old = sym (ap (option_map number_of) (none_later k ks key all is))
+    by_test false is old = old
+
+or_none : (o : Option Kept) → option_or o None ≡ o
+or_none None = refl
+or_none (Some x) = refl
+
+-- one more, of another request
+pub one_more : (ks : List Kept) (one : Kept) (key : Key) (before found : Option ℕ) → find (is_from one.exchange.peer (id_of one.exchange.key)) ks ≡ None
+    → before ≡ option_map number_of (find (is_from key.peer key.id) ks) → found ≡ cond (same_key (key_of one) key) (Some one.exchange.number) before
+    → found ≡ option_map number_of (find (is_from key.peer key.id) (ks ++ one ∷ []))
+one_more ks one key before found none old new = new ∙ by_test (is_from key.peer key.id one) refl ∙ sym (ap (option_map number_of) (find-append (is_from key.peer key.id) ks (one ∷ [])))
+  where
+    by_test : (b : Bool) → is_from key.peer key.id one ≡ b
+        → cond b (Some one.exchange.number) before ≡ option_map number_of (option_or (find (is_from key.peer key.id) ks) (cond b (Some one) None))
+    by_test true is =
+        let same = same_parts one key is in
+        let nowhere : find (is_from key.peer key.id) ks ≡ None
+        = subst (λ (p : ℕ). find (is_from p key.id) ks ≡ None) same.0 (subst (λ (i : ℕ). find (is_from one.exchange.peer i) ks ≡ None) same.1 none) in
+        sym (ap (λ (o : Option Kept). option_map number_of (option_or o (Some one))) nowhere)
+    by_test false is = old ∙ ap (option_map number_of) (sym (or_none (find (is_from key.peer key.id) ks)))
+
+pub id_for : (kind : Kind) (id : ℕ) → id_of (key_for kind id) ≡ id
+id_for Con id = refl
+id_for Non id = refl
+id_for Ack id = refl
+id_for Rst id = refl
+
+eqb-sym : (a b : ℕ) → (a == b) ≡ (b == a)
+eqb-sym a b =
+    elim (cases_eq a b) [
+      | inl same ↦ eq-eqb a b same ∙ sym (eq-eqb b a (sym same))
+      | inr differ ↦ ne_eqb a b differ ∙ sym (ne_eqb b a (λ same. differ (sym same)))
+    ]
+
+turned : (a b c d : ℕ) → (a == b) && (c == d) ≡ false → (b == a) && (d == c) ≡ false
+turned a b c d apart = ap (λ (x : Bool). x && (d == c)) (eqb-sym b a) ∙ ap (λ (x : Bool). (a == b) && x) (eqb-sym d c) ∙ apart
+
+befores : (one : Kept) (ks : List Kept) → AllByRecursion (λ (k : Kept). k.exchange.number < one.exchange.number) ks
+    → AllByRecursion (λ (k : Kept). k.exchange.time ≤ one.exchange.time) ks
+    → AllByRecursion (λ (k : Kept). is_from one.exchange.peer (id_of one.exchange.key) k ≡ false) ks → AllByRecursion (λ (k : Kept). IsBefore k one) ks
+befores one [] below past others = tt
+befores one (k ∷ ks) below past others =
+    (record {
+      number = below.0;
+      time = past.0;
+      request = turned k.exchange.peer one.exchange.peer (id_of k.exchange.key) (id_of one.exchange.key) others.0;
+    }, befores one ks below.1 past.1 others.1)
+
+order_then : (one : Kept) (ks : List Kept) → AreInOrder ks → AllByRecursion (λ (k : Kept). IsBefore k one) ks → AreInOrder (ks ++ one ∷ [])
+order_then one [] order all = (tt, tt)
+order_then one (k ∷ ks) order all = (all_with (IsBefore k) ks one order.0 all.0, order_then one ks order.1 all.1)
+
+pub sound_with : (e : ExchangesValue) (one : Kept) → AreSound e → length e.kept < e.room → one.exchange.number ≡ e.next → one.exchange.time ≡ e.time
+    → find (is_from one.exchange.peer (id_of one.exchange.key)) e.kept ≡ None
+    → AreSound (record { room = e.room; next = e.next + 1; time = e.time; kept = e.kept ++ one ∷ [] })
+sound_with e one sound room number time none =
+    let len = length-append e.kept (one ∷ []) in
+    let below = subst (λ (n : ℕ). AllByRecursion (λ (k : Kept). k.exchange.number < n) e.kept) (sym number) sound.below in
+    let past = subst (λ (t : ℕ). AllByRecursion (λ (k : Kept). k.exchange.time ≤ t) e.kept) (sym time) sound.past in
+    record {
+      few = omega (arith, len, room);
+      order = order_then one e.kept sound.order (befores one e.kept below past (none_passes (is_from one.exchange.peer (id_of one.exchange.key)) e.kept none));
+      below = all_with (λ (k : Kept). k.exchange.number < e.next + 1) e.kept one
+        (all_mapped (λ (k : Kept). k.exchange.number < e.next) (λ (k : Kept). k.exchange.number < e.next + 1) (λ k before. omega (arith, before)) e.kept sound.below)
+        (omega (arith, number));
+      past = all_with (λ (k : Kept). k.exchange.time ≤ e.time) e.kept one sound.past (omega (arith, time));
+    }
+
+-- ---- places
+
+pub rising : (ks : List Kept) (i j : ℕ) (one other : Kept) → AreInOrder ks → slice_get ks i ≡ Some one → slice_get ks j ≡ Some other → i < j → IsBefore one other
+rising [] i j one other order at there less = absurd (none-some one at)
+rising (k ∷ ks) i zero one other order at there less = absurd (omega (arith, less))
+rising (k ∷ ks) zero (suc j) one other order at there less =
+    subst (λ (x : Kept). IsBefore x other) (same_Some k one at) (all_at (IsBefore k) ks j other order.0 there)
+rising (k ∷ ks) (suc i) (suc j) one other order at there less = rising ks i j one other order.1 at there (omega (arith, less))
+
+pub apart : (ks : List Kept) → AreInOrder ks → AreApart ks
+apart ks order = record {
+  numbers = λ i j one other at there same.
+      elim (cases_order i j) [
+        | inl equal ↦ equal
+        | inr (inl less) ↦ absurd (omega (arith, same, (rising ks i j one other order at there less).number))
+        | inr (inr more) ↦ absurd (omega (arith, same, (rising ks j i other one order there at more).number))
+      ];
+  requests = λ i j one other at there peer id.
+      elim (cases_order i j) [
+        | inl equal ↦ equal
+        | inr (inl less) ↦ absurd (both_ways _ (request_of one other peer id (rising ks i j one other order at there less).request) (itself other))
+        | inr (inr more) ↦ absurd (both_ways _ (request_of other one (sym peer) (sym id) (rising ks j i other one order there at more).request) (itself one))
+      ];
+}
+  where
+    itself : (k : Kept) → is_from k.exchange.peer (id_of k.exchange.key) k ≡ true
+    itself k = and_from (k.exchange.peer == k.exchange.peer) (id_of k.exchange.key == id_of k.exchange.key) (eq-eqb _ _ refl) (eq-eqb _ _ refl)
+    request_of : (k x : Kept) → k.exchange.peer ≡ x.exchange.peer → id_of k.exchange.key ≡ id_of x.exchange.key
+        → is_from k.exchange.peer (id_of k.exchange.key) x ≡ false → is_from x.exchange.peer (id_of x.exchange.key) x ≡ false
+    request_of k x peer id is = subst (λ (p : ℕ). is_from p (id_of x.exchange.key) x ≡ false) peer (subst (λ (n : ℕ). is_from k.exchange.peer n x ≡ false) id is)
+
+-- ---- numbers
+
+number_later : (k : Kept) (ks : List Kept) (x : Kept) → AllByRecursion (IsBefore k) ks → find (has_number x.exchange.number) ks ≡ Some x → has_number x.exchange.number k ≡ false
+number_later k ks x all found = let before = all_found (IsBefore k) (has_number x.exchange.number) ks x all found in ne_eqb k.exchange.number x.exchange.number (λ same. absurd (omega (arith, same, before.number)))
+
+-- the one at a place is that of its number
+pub number_at : (ks : List Kept) (i : ℕ) (x : Kept) → AreInOrder ks → slice_get ks i ≡ Some x → find (has_number x.exchange.number) ks ≡ Some x
+number_at [] i x order there = absurd (none-some x there)
+number_at (k ∷ ks) zero x order there =
+    let same = same_Some k x there in
+    cond-true (has_number x.exchange.number k) (Some k) (find (has_number x.exchange.number) ks) (eq-eqb k.exchange.number x.exchange.number (ap number_of same)) ∙ there
+number_at (k ∷ ks) (suc i) x order there =
+    let rest = number_at ks i x order.1 there in
+    cond-false (has_number x.exchange.number k) (Some k) (find (has_number x.exchange.number) ks) (number_later k ks x order.0 rest) ∙ rest
+
+-- and that of a request is that of its number
+pub number_found : (t : Kept → Bool) (ks : List Kept) (x : Kept) → AreInOrder ks → find t ks ≡ Some x → find (has_number x.exchange.number) ks ≡ Some x
+number_found t [] x order found = absurd (none-some x found)
+number_found t (k ∷ ks) x order found = by_test (t k) found (λ is. number_found t ks x order.1 is)
+  where
+    by_test : (b : Bool) → cond b (Some k) (find t ks) ≡ Some x → (find t ks ≡ Some x → find (has_number x.exchange.number) ks ≡ Some x)
+        → find (has_number x.exchange.number) (k ∷ ks) ≡ Some x
+    by_test true is rest = number_at (k ∷ ks) zero x order is
+    by_test false is rest =
+        cond-false (has_number x.exchange.number k) (Some k) (find (has_number x.exchange.number) ks) (number_later k ks x order.0 (rest is)) ∙ rest is
+
+-- the number that a map has of a request finds it
+pub found_by_number : (t : Kept → Bool) (ks : List Kept) (number : ℕ) → AreInOrder ks → Some number ≡ option_map number_of (find t ks) → find (has_number number) ks ≡ find t ks
+found_by_number t ks number order is = by_found (find t ks) refl is
+  where
+    by_found : (o : Option Kept) → find t ks ≡ o → Some number ≡ option_map number_of o → find (has_number number) ks ≡ find t ks
+    by_found None found is = absurd (none-some number (sym is))
+    by_found (Some x) found is =
+        subst (λ (n : ℕ). find (has_number n) ks ≡ find t ks) (sym (same_Some number x.exchange.number is)) (number_found t ks x order found ∙ sym found)
+
+pub none_by_number : (t : Kept → Bool) (ks : List Kept) → None ≡ option_map number_of (find t ks) → None ≡ find t ks
+none_by_number t ks is = by_found (find t ks) is
+  where
+    by_found : (o : Option Kept) → None ≡ option_map number_of o → None ≡ o
+    by_found None is = refl
+    by_found (Some x) is = absurd (none-some x.exchange.number is)

@@ -1,0 +1,41 @@
+-- The texts of a path are short enough for an option.
+use Rattle.std.proofs.Common.{◌≡◌, ℕ, ◌+◌, ◌≤◌, Bool, true, false, cond, List, [], ◌∷◌, ◌++◌, length, length-append, sym, subst, arith}
+use Rattle.std.specs.Prelude.{◌==◌, codes, Option, Some, None}
+use Rattle.std.specs.List.{AllByRecursion}
+use Rattle.coap_message.specs.Message.{CoapOption, AreOptions}
+use Rattle.dots_heads.specs.Options.{values_of}
+use Rattle.dots_heads.specs.Paths.{mitigation, parameter, path_of}
+use Rattle.dots_gateway.specs.Options.{IsShortBehind}
+
+abbrev pub IsShortValue : List ℕ → Type 0
+IsShortValue value = length value ≤ 65804
+
+pub values_short : (number previous : ℕ) (options : List CoapOption) → AreOptions previous options → AllByRecursion IsShortValue (values_of number options)
+values_short number previous [] are = tt
+values_short number previous (o ∷ os) are = by_test (o.number == number) (values_short number o.number os are.3)
+  where
+    by_test : (b : Bool) → AllByRecursion IsShortValue (values_of number os) → AllByRecursion IsShortValue (cond b (o.value ∷ values_of number os) (values_of number os))
+    by_test true rest = (are.2, rest)
+    by_test false rest = rest
+
+all_behind : (xs ys : List (List ℕ)) → AllByRecursion IsShortValue (xs ++ ys) → AllByRecursion IsShortValue ys
+all_behind [] ys all = all
+all_behind (x ∷ xs) ys all = all_behind xs ys all.1
+
+all_before : (xs ys : List (List ℕ)) → AllByRecursion IsShortValue (xs ++ ys) → AllByRecursion IsShortValue xs
+all_before [] ys all = tt
+all_before (x ∷ xs) ys all = (all.0, all_before xs ys all.1)
+
+parameter_short : (name : List ℕ) (text : Option (List ℕ)) → AllByRecursion IsShortValue (parameter name text) → IsShortBehind (length name) text
+parameter_short name None all = tt
+parameter_short name (Some value) all = omega (arith, all.0, length-append name value)
+
+pub texts_short : (options : List CoapOption) (cdid cuid mid : Option (List ℕ)) → AreOptions 0 options → values_of 11 options ≡ path_of (mitigation cdid cuid mid)
+    → IsShortBehind 5 cuid × IsShortBehind 4 mid
+texts_short options cdid cuid mid are is =
+    let all = subst (λ (xs : List (List ℕ)). AllByRecursion IsShortValue xs) is (values_short 11 0 options are) in
+    let named = parameter (codes "cuid=") cuid ++ parameter (codes "mid=") mid in
+    let parameters = all_behind (codes ".well-known" ∷ codes "dots" ∷ codes "mitigate" ∷ []) (parameter (codes "cdid=") cdid ++ named) all in
+    let behind = all_behind (parameter (codes "cdid=") cdid) named parameters in
+    (parameter_short (codes "cuid=") cuid (all_before (parameter (codes "cuid=") cuid) (parameter (codes "mid=") mid) behind),
+        parameter_short (codes "mid=") mid (all_behind (parameter (codes "cuid=") cuid) (parameter (codes "mid=") mid) behind))

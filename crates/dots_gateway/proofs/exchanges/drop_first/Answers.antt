@@ -1,0 +1,17 @@
+use Rattle.std.proofs.Common.{◌≡◌, List, ◌∷◌, subst, ap, ◌∙◌}
+use Rattle.std.specs.Prelude.{option_map}
+use Rattle.std.specs.List.{find}
+use Rattle.dots_gateway.specs.declared.exchange.Kept.{Kept}
+use Rattle.dots_gateway.specs.Exchanges.{is_from}
+use Rattle.dots_gateway.specs.Finding.{AreInOrder, number_of}
+use Rattle.dots_gateway.proofs.Orders.{one_gone}
+use Rattle.dots_gateway.proofs.exchanges.drop_first.Goals as goal
+
+pub returns-clause-numbered : goal.returns-clause-numbered
+returns-clause-numbered c =
+    let items = c.in-Some.ensures.items in
+    let order = subst (λ (ks : List Kept). AreInOrder ks) items c.requires.order in
+    λ key.
+        one_gone c.in-Some.first c.pop_front.new.self.items key _ _ order.0
+        (c.requires.numbered key ∙ ap (λ (ks : List Kept). option_map number_of (find (is_from key.peer key.id) ks)) items)
+        (c.remove-number.ensures.updates.0 key)
