@@ -1,9 +1,9 @@
 -- The exchanges in the order of their numbers.
-use Rattle.std.proofs.Common.{◌≡◌, ◌≢◌, ℕ, zero, suc, ◌+◌, ◌<◌, ◌≤◌, Bool, true, false, cond, List, [], ◌∷◌, ◌++◌, length, drop, refl, sym, ap, subst, ◌∙◌, inl, inr, length-append, arith}
+use Rattle.std.proofs.Common.{◌≡◌, ◌≢◌, ℕ, zero, suc, ◌+◌, ◌^◌, ◌<◌, ◌≤◌, Bool, true, false, cond, List, [], ◌∷◌, ◌++◌, length, drop, refl, sym, ap, subst, ◌∙◌, inl, inr, length-append, arith}
 use Rattle.std.specs.Prelude.{◌==◌, ◌&&◌, not, nat_le, max, filter, slice_get, option_map, Option, Some, None, ⊤}
 use Rattle.std.specs.List.{find, AllByRecursion}
 use Rattle.std.specs.Option.{option_or}
-use Rattle.std.proofs.lemmas.Bool.{cond-true, cond-false, cases_order, cases_eq, both_ways, and_parts, and_from, eq-eqb, ne_eqb, eqb-true, leb-false, lt-leb, false≢true}
+use Rattle.std.proofs.lemmas.Bool.{cond-true, cond-false, cases_order, cases_eq, both_ways, and_parts, and_from, or_parts, eq-eqb, ne_eqb, eqb-true, leb-false, lt-leb, false≢true}
 use Rattle.std.proofs.lemmas.Option.{none-some, same_Some}
 use Rattle.std.proofs.lemmas.List.Folds.{find-append}
 use Rattle.coap_message.specs.Message.{CoapMessage}
@@ -298,3 +298,58 @@ none_by_number t ks is = by_found (find t ks) is
     by_found : (o : Option Kept) → None ≡ option_map number_of o → None ≡ o
     by_found None is = refl
     by_found (Some x) is = absurd (none-some x.exchange.number is)
+
+-- ---- as the code has them
+
+pub sound_then_at : (now t : ℕ) (e : ExchangesValue) (kept : List Kept) → AreSound e → t ≡ max now e.time → kept ≡ left_at t e.kept
+    → AreSound (record { room = e.room; next = e.next; time = t; kept = kept })
+sound_then_at now t e kept sound time left =
+    subst (λ (ks : List Kept). AreSound (record { room = e.room; next = e.next; time = t; kept = ks })) (sym left)
+    (subst (λ (n : ℕ). AreSound (record { room = e.room; next = e.next; time = n; kept = left_at n e.kept })) (sym time) (sound_at now e sound))
+
+-- the exchange of a request
+abbrev pub one_of : ℕ → ℕ → ℕ → ℕ → Kind → List ℕ → Option (List ℕ) → Kept
+one_of number peer id time kind token asked = record { exchange = record { number = number; peer = peer; key = key_for kind id; token = token; time = time }; asked = asked }
+
+nowhere_by_key : (kind : Kind) (peer id : ℕ) (ks : List Kept) → find (is_from peer id) ks ≡ None → find (is_from peer (id_of (key_for kind id))) ks ≡ None
+nowhere_by_key kind peer id ks none = subst (λ (i : ℕ). find (is_from peer i) ks ≡ None) (sym (id_for kind id)) none
+
+pub entered : (ks : List Kept) (number peer id time : ℕ) (kind : Kind) (token : List ℕ) (asked : Option (List ℕ)) (key : Key) (before found : Option ℕ)
+    → find (is_from peer id) ks ≡ None → before ≡ option_map number_of (find (is_from key.peer key.id) ks)
+    → found ≡ cond ((peer == key.peer) && (id == key.id)) (Some number) before
+    → found ≡ option_map number_of (find (is_from key.peer key.id) (ks ++ one_of number peer id time kind token asked ∷ []))
+entered ks number peer id time kind token asked key before found none old new =
+    one_more ks (one_of number peer id time kind token asked) key before found (nowhere_by_key kind peer id ks none) old
+    (new ∙ ap (λ (i : ℕ). cond ((peer == key.peer) && (i == key.id)) (Some number) before) (sym (id_for kind id)))
+
+pub sound_entered : (e : ExchangesValue) (peer id : ℕ) (kind : Kind) (token : List ℕ) (asked : Option (List ℕ)) → AreSound e → is_full e ≡ false
+    → find (is_from peer id) e.kept ≡ None
+    → AreSound (record { room = e.room; next = e.next + 1; time = e.time; kept = e.kept ++ one_of e.next peer id e.time kind token asked ∷ [] })
+sound_entered e peer id kind token asked sound room none =
+    sound_with e (one_of e.next peer id e.time kind token asked) sound (leb-false e.room (length e.kept) (or_parts (nat_le e.room (length e.kept)) _ room).0) refl refl
+    (nowhere_by_key kind peer id e.kept none)
+
+-- ---- halving
+
+pub below_then : (ks : List Kept) (m : ℕ) (here : Kept) (n : ℕ) → AreInOrder ks → slice_get ks m ≡ Some here → here.exchange.number < n
+    → (i : ℕ) (k : Kept) → slice_get ks i ≡ Some k → i < m + 1 → k.exchange.number < n
+below_then ks m here n order at less i k there before =
+    elim (cases_order i m) [
+      | inl equal ↦ subst (λ (x : Kept). x.exchange.number < n) (same_Some here k (sym at ∙ ap (slice_get ks) (sym equal) ∙ there)) less
+      | inr (inl lower) ↦ omega (arith, less, (rising ks i m k here order there at lower).number)
+      | inr (inr higher) ↦ absurd (omega (arith, higher, before))
+    ]
+
+pub above_then : (ks : List Kept) (m : ℕ) (here : Kept) (n : ℕ) → AreInOrder ks → slice_get ks m ≡ Some here → n < here.exchange.number
+    → (i : ℕ) (k : Kept) → slice_get ks i ≡ Some k → m ≤ i → n < k.exchange.number
+above_then ks m here n order at more i k there behind =
+    elim (cases_order i m) [
+      | inl equal ↦ subst (λ (x : Kept). n < x.exchange.number) (same_Some here k (sym at ∙ ap (slice_get ks) (sym equal) ∙ there)) more
+      | inr (inl lower) ↦ absurd (omega (arith, lower, behind))
+      | inr (inr higher) ↦ omega (arith, more, (rising ks m i here k order at there higher).number)
+    ]
+
+-- ---- numbers that fit
+
+pub all_small : (e : ExchangesValue) → AreSound e → e.next < 2 ^ 64 → AllByRecursion (λ (k : Kept). k.exchange.number < 2 ^ 64) e.kept
+all_small e sound next = all_mapped (λ (k : Kept). k.exchange.number < e.next) (λ (k : Kept). k.exchange.number < 2 ^ 64) (λ k below. omega (arith, below, next)) e.kept sound.below

@@ -34,8 +34,7 @@ pub texts_short : (options : List CoapOption) (cdid cuid mid : Option (List ℕ)
     → IsShortBehind 5 cuid × IsShortBehind 4 mid
 texts_short options cdid cuid mid are is =
     let all = subst (λ (xs : List (List ℕ)). AllByRecursion IsShortValue xs) is (values_short 11 0 options are) in
-    let named = parameter (codes "cuid=") cuid ++ parameter (codes "mid=") mid in
-    let parameters = all_behind (codes ".well-known" ∷ codes "dots" ∷ codes "mitigate" ∷ []) (parameter (codes "cdid=") cdid ++ named) all in
-    let behind = all_behind (parameter (codes "cdid=") cdid) named parameters in
-    (parameter_short (codes "cuid=") cuid (all_before (parameter (codes "cuid=") cuid) (parameter (codes "mid=") mid) behind),
-        parameter_short (codes "mid=") mid (all_behind (parameter (codes "cuid=") cuid) (parameter (codes "mid=") mid) behind))
+    let named = parameter (codes "cdid=") cdid ++ parameter (codes "cuid=") cuid in
+    let parameters = all_behind (codes ".well-known" ∷ codes "dots" ∷ codes "mitigate" ∷ []) (named ++ parameter (codes "mid=") mid) all in
+    let client = all_behind (parameter (codes "cdid=") cdid) (parameter (codes "cuid=") cuid) (all_before named (parameter (codes "mid=") mid) parameters) in
+    (parameter_short (codes "cuid=") cuid client, parameter_short (codes "mid=") mid (all_behind named (parameter (codes "mid=") mid) parameters))

@@ -1,9 +1,10 @@
-use Rattle.std.proofs.Common.{◌≡◌, List, ◌∷◌, subst, ap, ◌∙◌}
-use Rattle.std.specs.Prelude.{option_map}
+use Rattle.std.proofs.Common.{◌≡◌, ℕ, cond, List, ◌∷◌, None, subst, ap, ◌∙◌}
+use Rattle.std.specs.Prelude.{option_map, ◌==◌, ◌&&◌}
+use Rattle.std.specs.Map.{lookup}
 use Rattle.std.specs.List.{find}
 use Rattle.dots_gateway.specs.declared.exchange.Kept.{Kept}
 use Rattle.dots_gateway.specs.Exchanges.{is_from}
-use Rattle.dots_gateway.specs.Finding.{AreInOrder, number_of}
+use Rattle.dots_gateway.specs.Finding.{AreInOrder, number_of, same_key}
 use Rattle.dots_gateway.proofs.Orders.{one_gone}
 use Rattle.dots_gateway.proofs.exchanges.drop_first.Goals as goal
 
@@ -14,4 +15,5 @@ returns-clause-numbered c =
     λ key.
         one_gone c.in-Some.first c.pop_front.new.self.items key _ _ order.0
         (c.requires.numbered key ∙ ap (λ (ks : List Kept). option_map number_of (find (is_from key.peer key.id) ks)) items)
-        (c.remove-number.ensures.updates.0 key)
+        (c.remove-number.ensures.updates.0 key
+            ∙ ap (λ (n : ℕ). cond ((c.in-Some.first.exchange.peer == key.peer) && (n == key.id)) None (lookup (same_key key) c.args.numbers.now.entries)) c.id_of.ensures)
