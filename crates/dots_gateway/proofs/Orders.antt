@@ -3,7 +3,7 @@ use Rattle.std.proofs.Common.{◌≡◌, ◌≢◌, ℕ, zero, suc, ◌+◌, ◌
 use Rattle.std.specs.Prelude.{◌==◌, ◌&&◌, not, nat_le, max, filter, slice_get, option_map, Option, Some, None, ⊤}
 use Rattle.std.specs.List.{find, AllByRecursion}
 use Rattle.std.specs.Option.{option_or}
-use Rattle.std.proofs.lemmas.Bool.{cond-true, cond-false, cases_order, cases_eq, both_ways, and_parts, and_from, or_parts, eq-eqb, ne_eqb, eqb-true, leb-false, lt-leb, false≢true}
+use Rattle.std.proofs.lemmas.Bool.{cond-true, cond-false, cases_order, cases_eq, both_ways, and_parts, and_from, or_parts, eq-eqb, ne_eqb, eqb-true, eqb-false, leb-false, lt-leb, false≢true}
 use Rattle.std.proofs.lemmas.Option.{none-some, same_Some}
 use Rattle.std.proofs.lemmas.List.Folds.{find-append}
 use Rattle.coap_message.specs.Message.{CoapMessage}
@@ -13,6 +13,7 @@ use Rattle.coap_message.specs.declared.kind.Kind.TheVariants.{Con, Non, Ack, Rst
 use Rattle.dots_gateway.specs.declared.exchange.Exchange.{Exchange}
 use Rattle.dots_gateway.specs.declared.exchange.Kept.{Kept}
 use Rattle.dots_gateway.specs.declared.exchange.Key.{Key}
+use Rattle.dots_gateway.specs.declared.exchange.TheConstants.{LAST_NUMBER}
 use Rattle.dots_gateway.specs.Exchanges.{ExchangesValue, AreApart, is_over, left_at, at_time, is_from, id_of, key_for, is_full, exchange_for, with_one}
 use Rattle.dots_gateway.specs.Finding.{IsBefore, AreInOrder, AreSound, AreNumbered, is_first_over, has_number, number_of, same_key}
 
@@ -123,6 +124,7 @@ sound_at now e sound =
     let stays = λ (k : Kept). not (is_over t k) in
     let few = fewer stays e.kept in
     record {
+      next = sound.next;
       few = omega (arith, few, sound.few);
       order = order_left stays e.kept sound.order;
       below = all_left (λ (k : Kept). k.exchange.number < e.next) stays e.kept sound.below;
@@ -210,14 +212,15 @@ order_then : (one : Kept) (ks : List Kept) → AreInOrder ks → AllByRecursion 
 order_then one [] order all = (tt, tt)
 order_then one (k ∷ ks) order all = (all_with (IsBefore k) ks one order.0 all.0, order_then one ks order.1 all.1)
 
-pub sound_with : (e : ExchangesValue) (one : Kept) → AreSound e → length e.kept < e.room → one.exchange.number ≡ e.next → one.exchange.time ≡ e.time
+pub sound_with : (e : ExchangesValue) (one : Kept) → AreSound e → length e.kept < e.room → e.next < LAST_NUMBER → one.exchange.number ≡ e.next → one.exchange.time ≡ e.time
     → find (is_from one.exchange.peer (id_of one.exchange.key)) e.kept ≡ None
     → AreSound (record { room = e.room; next = e.next + 1; time = e.time; kept = e.kept ++ one ∷ [] })
-sound_with e one sound room number time none =
+sound_with e one sound room left number time none =
     let len = length-append e.kept (one ∷ []) in
     let below = subst (λ (n : ℕ). AllByRecursion (λ (k : Kept). k.exchange.number < n) e.kept) (sym number) sound.below in
     let past = subst (λ (t : ℕ). AllByRecursion (λ (k : Kept). k.exchange.time ≤ t) e.kept) (sym time) sound.past in
     record {
+      next = omega (arith, left);
       few = omega (arith, len, room);
       order = order_then one e.kept sound.order (befores one e.kept below past (none_passes (is_from one.exchange.peer (id_of one.exchange.key)) e.kept none));
       below = all_with (λ (k : Kept). k.exchange.number < e.next + 1) e.kept one
@@ -326,8 +329,18 @@ pub sound_entered : (e : ExchangesValue) (peer id : ℕ) (kind : Kind) (token : 
     → find (is_from peer id) e.kept ≡ None
     → AreSound (record { room = e.room; next = e.next + 1; time = e.time; kept = e.kept ++ one_of e.next peer id e.time kind token asked ∷ [] })
 sound_entered e peer id kind token asked sound room none =
-    sound_with e (one_of e.next peer id e.time kind token asked) sound (leb-false e.room (length e.kept) (or_parts (nat_le e.room (length e.kept)) _ room).0) refl refl
-    (nowhere_by_key kind peer id e.kept none)
+    let parts = or_parts (nat_le e.room (length e.kept)) (e.next == LAST_NUMBER) room in
+    let few = leb-false e.room (length e.kept) parts.0 in
+    let differ = eqb-false e.next LAST_NUMBER parts.1 in
+    sound_with e (one_of e.next peer id e.time kind token asked) sound few (below_last e.next sound.next differ) refl refl (nowhere_by_key kind peer id e.kept none)
+  where
+    below_last : (n : ℕ) → n ≤ LAST_NUMBER → (n ≡ LAST_NUMBER → ⊥) → n < LAST_NUMBER
+    below_last n most differ =
+        elim (cases_order n LAST_NUMBER) [
+          | inl equal ↦ absurd (differ equal)
+          | inr (inl less) ↦ less
+          | inr (inr more) ↦ absurd (omega (arith, more, most))
+        ]
 
 -- ---- halving
 
@@ -351,5 +364,5 @@ above_then ks m here n order at more i k there behind =
 
 -- ---- numbers that fit
 
-pub all_small : (e : ExchangesValue) → AreSound e → e.next < 2 ^ 64 → AllByRecursion (λ (k : Kept). k.exchange.number < 2 ^ 64) e.kept
-all_small e sound next = all_mapped (λ (k : Kept). k.exchange.number < e.next) (λ (k : Kept). k.exchange.number < 2 ^ 64) (λ k below. omega (arith, below, next)) e.kept sound.below
+pub all_small : (e : ExchangesValue) → AreSound e → AllByRecursion (λ (k : Kept). k.exchange.number < 2 ^ 64) e.kept
+all_small e sound = all_mapped (λ (k : Kept). k.exchange.number < e.next) (λ (k : Kept). k.exchange.number < 2 ^ 64) (λ k below. omega (arith, below, sound.next)) e.kept sound.below

@@ -1,10 +1,12 @@
 -- The texts of a path are short enough for an option.
-use Rattle.std.proofs.Common.{◌≡◌, ℕ, ◌+◌, ◌≤◌, Bool, true, false, cond, List, [], ◌∷◌, ◌++◌, length, length-append, sym, subst, arith}
-use Rattle.std.specs.Prelude.{◌==◌, codes, Option, Some, None}
+use Rattle.std.proofs.Common.{◌≡◌, ℕ, ◌+◌, ◌≤◌, Bool, true, false, cond, List, [], ◌∷◌, ◌++◌, length, length-append, sym, ap, subst, arith}
+use Rattle.std.specs.Prelude.{◌==◌, not, codes, Option, Some, None}
+use Rattle.std.proofs.lemmas.Bool.{cond-false, eq-eqb}
 use Rattle.std.specs.List.{AllByRecursion}
 use Rattle.coap_message.specs.Message.{CoapOption, AreOptions}
 use Rattle.dots_heads.specs.Options.{values_of}
 use Rattle.dots_heads.specs.Paths.{mitigation, parameter, path_of}
+use Rattle.dots_gateway.specs.Forwarding.{without_observe}
 use Rattle.dots_gateway.specs.Options.{IsShortBehind}
 
 abbrev pub IsShortValue : List ℕ → Type 0
@@ -38,3 +40,16 @@ texts_short options cdid cuid mid are is =
     let parameters = all_behind (codes ".well-known" ∷ codes "dots" ∷ codes "mitigate" ∷ []) (named ++ parameter (codes "mid=") mid) all in
     let client = all_behind (parameter (codes "cdid=") cdid) (parameter (codes "cuid=") cuid) (all_before named (parameter (codes "mid=") mid) parameters) in
     (parameter_short (codes "cuid=") cuid client, parameter_short (codes "mid=") mid (all_behind named (parameter (codes "mid=") mid) parameters))
+
+-- ---- options without Observe
+
+pub observe_gone : (o : CoapOption) (os : List CoapOption) → o.number ≡ 6 → without_observe (o ∷ os) ≡ without_observe os
+observe_gone o os is = cond-false (not (o.number == 6)) (o ∷ without_observe os) (without_observe os) (ap not (eq-eqb o.number 6 is))
+
+weaker : (p q : ℕ) (os : List CoapOption) → q ≤ p → AreOptions p os → AreOptions q os
+weaker p q [] less are = tt
+weaker p q (o ∷ os) less are = (omega (arith, less, are.0), are.1, are.2, are.3)
+
+-- options behind one that is left out
+pub options_behind : (p : ℕ) (o : CoapOption) (os : List CoapOption) → AreOptions p (o ∷ os) → AreOptions p os
+options_behind p o os are = weaker o.number p os are.0 are.3

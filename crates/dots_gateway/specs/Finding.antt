@@ -4,6 +4,7 @@ use Rattle.std.specs.List.{find, AllByRecursion}
 use Rattle.std.specs.Map.{lookup}
 use Rattle.dots_gateway.specs.declared.exchange.Kept.{Kept}
 use Rattle.dots_gateway.specs.declared.exchange.Key.{Key}
+use Rattle.dots_gateway.specs.declared.exchange.TheConstants.{LAST_NUMBER}
 use Rattle.dots_gateway.specs.Exchanges.{ExchangesValue, is_over, id_of, is_from}
 
 -- a later exchange has a higher number, isn't of an earlier time, and is of another request
@@ -17,6 +18,7 @@ AreInOrder [] = Unit {0}
 AreInOrder (k ∷ ks) = AllByRecursion (IsBefore k) ks × AreInOrder ks
 
 pub record AreSound (e : ExchangesValue) : Type 0 where
+  pub next : e.next ≤ LAST_NUMBER
   pub few : length e.kept ≤ e.room
   pub order : AreInOrder e.kept
   pub below : AllByRecursion (λ (k : Kept). k.exchange.number < e.next) e.kept

@@ -38,6 +38,9 @@ is_ignored Con (reject.Critical number) = false
 is_ignored _ (reject.Critical number) = true
 is_ignored _ _ = false
 
+abbrev pub said_to : ℕ → List ℕ → Passed
+said_to peer bytes = passed.Reply peer bytes
+
 -- what is done with a datagram of the upstream, unless memory ran out
 abbrev pub Tells : Result Passed NoMemory → Passed → Type 0
 Tells (Ok answer) said = answer ≡ said

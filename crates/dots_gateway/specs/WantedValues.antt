@@ -1,5 +1,5 @@
 -- What the code's types of what is wanted stand for.
-use Rattle.std.specs.Prelude.{⊤, Result, Ok, Err}
+use Rattle.std.specs.Prelude.{◌≢◌, ⊤, Result, Ok, Err}
 use Rattle.std.specs.Option.{option_copied}
 use Rattle.dots_heads.specs.declared.reject.Reject.{Reject}
 use Rattle.dots_heads.specs.declared.reject.Reject.TheVariants as reject
@@ -17,14 +17,15 @@ abbrev pub wanted_value : Wanted → wanted.Wanted
 wanted_value code.Beat = beat
 wanted_value (code.Passage p) = passage (passage_value p)
 
--- the parameters can stand behind their names in an option
-pub record HasShortTexts (p : Passage) : Type 0 where
+-- the Hop-Limit can be lowered, and the parameters can stand behind their names in an option
+pub record CanPass (p : Passage) : Type 0 where
+  pub hop : p.hop ≢ 0
   pub cuid : IsShortBehind 5 (option_copied p.cuid)
   pub mid : IsShortBehind 4 (option_copied p.mid)
 
-abbrev pub AreTextsShort : Wanted → Type 0
-AreTextsShort code.Beat = ⊤
-AreTextsShort (code.Passage p) = HasShortTexts p
+abbrev pub IsPassable : Wanted → Type 0
+IsPassable code.Beat = ⊤
+IsPassable (code.Passage p) = CanPass p
 
 -- of what a server refuses, what isn't left to it
 abbrev pub operation_refusal : Reject → Result (Unit {0}) Reject

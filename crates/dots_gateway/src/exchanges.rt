@@ -1,6 +1,7 @@
 //! The exchanges that are kept.
 
-ghost use Rattle.std.specs.Prelude.{◌≡◌, ◌<◌, ◌++◌, ◌∷◌, [], length, drop, false, Some, None, IfOk, OnErr, option_map};
+ghost use Rattle.std.specs.Prelude.{◌≡◌, ◌≢◌, ◌<◌, ◌++◌, ◌∷◌, [], length, drop, false, Some, None, IfOk, OnErr, MatchOption, option_map};
+ghost use Rattle.std.specs.Int.{w64, from_be_bytes};
 ghost use Rattle.std.specs.VecDeque.{deque_capacity, deque_len};
 ghost use Rattle.std.specs.List.{find};
 ghost use Rattle.dots_gateway.specs.Exchanges.{AreApart, at_time, is_over, left_at, is_full, is_from, is_passed, key_for, exchange_for, with_one};
@@ -105,14 +106,14 @@ impl Exchanges {
     pub fn of_answer(&self, token: &[u8], id: u16) -> Option<&Kept>
         ensures { option_map (λ k. k.now) result ≡ find (is_passed token.now id) self.now.kept }
     {
-        let [a, b, c, d, e, f, g, h] = token else {
+        let Some(number) = number_in(token) else {
             return None;
         };
-        let number = u64::from_be_bytes([*a, *b, *c, *d, *e, *f, *g, *h]);
+        let found = of_number(&self.kept, number);
         if number % 65_536 != u64::from(id) {
             return None;
         }
-        of_number(&self.kept, number)
+        found
     }
 
     /// One more, of a request that came at this time in a datagram.
@@ -137,6 +138,18 @@ impl Exchanges {
         self.next += 1;
         Ok(exchange)
     }
+}
+
+/// The number whose 8 bytes the token is.
+fn number_in(token: &[u8]) -> Option<u64>
+    ensures { MatchOption result (length token.now ≢ 8) (λ number. (length token.now ≡ 8) × (number ≡ from_be_bytes w64 token.now)) }
+{
+    if token.len() != 8 {
+        return None;
+    }
+    let mut bytes = [0; 8];
+    bytes.copy_from_slice(token);
+    Some(u64::from_be_bytes(bytes))
 }
 
 /// Puts an exchange behind the others, beside the datagram that asked.

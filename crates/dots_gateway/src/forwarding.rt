@@ -8,7 +8,7 @@ ghost use Rattle.dots_heads.specs.Options.{value_of, values_of};
 ghost use Rattle.dots_heads.specs.Paths.{parameter};
 ghost use Rattle.dots_gateway.specs.Forwarding.{option_with, option_for, path_for, passed_options, forwarded, answered, answer_kind, without_observe};
 ghost use Rattle.dots_gateway.specs.Options.{IsShortBehind};
-ghost use Rattle.dots_gateway.specs.WantedValues.{passage_value, HasShortTexts};
+ghost use Rattle.dots_gateway.specs.WantedValues.{passage_value, CanPass};
 
 use crate::exchange::{Exchange, id_of};
 use crate::options::OptionList;
@@ -32,8 +32,7 @@ pub fn forwarded(
     message: &Message<'_>,
 ) -> Result<Bytes, NoMemory>
     requires code { message.now.code ≢ 0 }
-    requires hop { passage.now.hop ≢ 0 }
-    requires short { HasShortTexts passage.now }
+    requires passable { CanPass passage.now }
     ensures { IfOk result (λ bytes. bytes ≡ spelling (forwarded number domain.now (passage_value passage.now) message.now)) }
 {
     let options = passed_options(alloc, domain, passage, message)?;
@@ -54,8 +53,7 @@ fn passed_options(
     passage: &Passage<'_>,
     message: &Message<'_>,
 ) -> Result<OptionList, NoMemory>
-    requires hop { passage.now.hop ≢ 0 }
-    requires short { HasShortTexts passage.now }
+    requires passable { CanPass passage.now }
     ensures { IfOk result (λ options. options ≡ passed_options domain.now (passage_value passage.now) message.now.options) }
 {
     let path = path_for(alloc, domain, passage)?;
@@ -71,7 +69,7 @@ fn path_for(
     domain: &Name,
     passage: &Passage<'_>,
 ) -> Result<OptionList, NoMemory>
-    requires { HasShortTexts passage.now }
+    requires { CanPass passage.now }
     ensures path { IfOk result (λ options. options ≡ path_for domain.now (passage_value passage.now)) }
     ensures last { IfOk result (λ options. last_number 0 options ≤ URI_PATH) }
 {

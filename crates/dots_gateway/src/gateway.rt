@@ -10,7 +10,7 @@ ghost use Rattle.dots_gateway.specs.Steps.{TellsOf};
 use crate::exchanges::Exchanges;
 use crate::passed::{GatewayFault, Passed};
 use crate::requests::{Asking, ask, unread};
-use crate::responses::{beat_answer, is_beat, response};
+use crate::responses::{beat, is_beat, response};
 use crate::routes::{Route, domain_for, routes_of};
 use coap_message::decode;
 use dots_lists::NoMemory;
@@ -120,11 +120,7 @@ impl GatewayCore {
             return Ok(Passed::Nothing);
         };
         if is_beat(&message) {
-            let bytes = beat_answer(self.alloc, &message)?;
-            return Ok(Passed::Reply {
-                to: self.upstream,
-                bytes,
-            });
+            return beat(self.alloc, self.upstream, &message);
         }
         response(self.alloc, &self.exchanges, &message)
     }

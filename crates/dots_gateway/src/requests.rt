@@ -6,7 +6,7 @@ ghost use Rattle.coap_message.specs.Salvage.{salvaged};
 ghost use Rattle.dots_gateway.specs.Exchanges.{is_from};
 ghost use Rattle.dots_gateway.specs.Gateway.{rejected, unread, refused, same_message, came_again, passed_again, passed_first, passed_on, asked_said};
 ghost use Rattle.dots_gateway.specs.Steps.{Gives, Leaves, IsOld, is_ignored, replied};
-ghost use Rattle.dots_gateway.specs.WantedValues.{passage_value, HasShortTexts};
+ghost use Rattle.dots_gateway.specs.WantedValues.{passage_value, CanPass};
 
 use crate::exchange::{Kept, key_for};
 use crate::exchanges::Exchanges;
@@ -33,7 +33,8 @@ pub struct Asking<'a> {
 
 /// What is confirmable and can't be read, or is no request, is reset; any other is ignored (RFC 7252, sections 4.2 and 4.3).
 fn rejected(alloc: Global, peer: u32, kind: Kind, id: u16) -> Result<Passed, GatewayFault>
-    ensures { Gives result (rejected peer kind id) }
+    ensures gives { Gives result (rejected peer kind id) }
+    ensures old { IsOld result }
 {
     match kind {
         Kind::Con => {
@@ -46,7 +47,8 @@ fn rejected(alloc: Global, peer: u32, kind: Kind, id: u16) -> Result<Passed, Gat
 
 /// What is done with a datagram of a client that is no message.
 pub fn unread(alloc: Global, peer: u32, datagram: &[u8]) -> Result<Passed, GatewayFault>
-    ensures { Gives result (unread peer (salvaged datagram.now)) }
+    ensures gives { Gives result (unread peer (salvaged datagram.now)) }
+    ensures old { IsOld result }
 {
     match salvage(datagram) {
         Some((kind, id)) => rejected(alloc, peer, kind, id),
@@ -62,7 +64,8 @@ fn refused(
     message: &Message<'_>,
     reject: &Reject,
 ) -> Result<Passed, GatewayFault>
-    ensures { Gives result (refused peer message.now reject.now) }
+    ensures gives { Gives result (refused peer message.now reject.now) }
+    ensures old { IsOld result }
 {
     if is_ignored(message.kind(), reject) {
         return Ok(Passed::Nothing);
@@ -104,7 +107,8 @@ pub fn ask(
 /// A reply with this code alone.
 fn reply(alloc: Global, asking: &Asking<'_>, code: u8) -> Result<Passed, GatewayFault>
     requires { code ≢ 0 }
-    ensures { Gives result (replied asking.now.peer code asking.now.message.now) }
+    ensures gives { Gives result (replied asking.now.peer code asking.now.message.now) }
+    ensures old { IsOld result }
 {
     let bytes = plain(alloc, asking.message, code, &[])?;
     Ok(Passed::Reply {
@@ -121,8 +125,7 @@ fn pass_on(
     passage: &Passage<'_>,
 ) -> Result<Passed, GatewayFault>
     requires code { asking.now.message.now.code ≢ 0 }
-    requires hop { passage.now.hop ≢ 0 }
-    requires short { HasShortTexts passage.now }
+    requires passable { CanPass passage.now }
     ensures gives { Gives result (passed_on exchanges.old asking.now.peer asking.now.domain.now asking.now.datagram.now asking.now.message.now (passage_value passage.now)) }
     ensures leaves { Leaves exchanges.old asking.now.datagram.now result exchanges.new }
 {
@@ -143,8 +146,7 @@ fn pass_again(
     passage: &Passage<'_>,
 ) -> Result<Passed, GatewayFault>
     requires code { asking.now.message.now.code ≢ 0 }
-    requires hop { passage.now.hop ≢ 0 }
-    requires short { HasShortTexts passage.now }
+    requires passable { CanPass passage.now }
     ensures gives { Gives result (passed_again asking.now.domain.now asking.now.datagram.now asking.now.message.now (passage_value passage.now) kept.now) }
     ensures old { IsOld result }
 {
@@ -190,8 +192,7 @@ fn pass_first(
 ) -> Result<Passed, GatewayFault>
     requires new { find (is_from asking.now.peer asking.now.message.now.identifier) exchanges.old.kept ≡ None }
     requires code { asking.now.message.now.code ≢ 0 }
-    requires hop { passage.now.hop ≢ 0 }
-    requires short { HasShortTexts passage.now }
+    requires passable { CanPass passage.now }
     ensures gives { Gives result (passed_first exchanges.old asking.now.peer asking.now.domain.now asking.now.message.now (passage_value passage.now)) }
     ensures leaves { Leaves exchanges.old asking.now.datagram.now result exchanges.new }
 {

@@ -2,7 +2,7 @@
 
 ghost use Rattle.std.specs.Prelude.{◌≡◌, true, false, IfOk};
 ghost use Rattle.dots_gateway.specs.Gateway.{may_answer, is_response, IsBeat, beat_answer, response_said};
-ghost use Rattle.dots_gateway.specs.Steps.{Tells};
+ghost use Rattle.dots_gateway.specs.Steps.{Tells, said_to};
 
 use crate::exchanges::Exchanges;
 use crate::forwarding::answered;
@@ -26,8 +26,19 @@ pub fn is_beat(message: &Message<'_>) -> bool
     matches!(resource_of(message), Some(Resource::Heartbeat))
 }
 
-/// The answer to a heartbeat: 4.00 where its Hop-Limit is 0 (RFC 8768, section 3), and else 2.04.
-pub fn beat_answer(alloc: Global, message: &Message<'_>) -> Result<Bytes, NoMemory>
+/// The answer to a heartbeat of the upstream.
+pub fn beat(alloc: Global, upstream: u32, message: &Message<'_>) -> Result<Passed, NoMemory>
+    ensures { Tells result (said_to upstream (beat_answer message.now)) }
+{
+    let bytes = beat_answer(alloc, message)?;
+    Ok(Passed::Reply {
+        to: upstream,
+        bytes,
+    })
+}
+
+/// The bytes of the answer to a heartbeat: 4.00 where its Hop-Limit is 0 (RFC 8768, section 3), and else 2.04.
+fn beat_answer(alloc: Global, message: &Message<'_>) -> Result<Bytes, NoMemory>
     ensures { IfOk result (λ bytes. bytes ≡ beat_answer message.now) }
 {
     if hop_of(message) == 0 {

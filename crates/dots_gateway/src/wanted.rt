@@ -5,7 +5,7 @@ ghost use Rattle.dots_heads.specs.Options.{first_critical, values_of};
 ghost use Rattle.dots_heads.specs.Paths.{mitigation, resource_at};
 ghost use Rattle.dots_heads.specs.Results.{Reads};
 ghost use Rattle.dots_gateway.specs.Wanted.{may_ask, is_request, hop_in, refuse_operation, wanted_of};
-ghost use Rattle.dots_gateway.specs.WantedValues.{wanted_value, AreTextsShort, operation_refusal};
+ghost use Rattle.dots_gateway.specs.WantedValues.{wanted_value, IsPassable, operation_refusal};
 
 use coap_message::codes::{EMPTY, PUT};
 use coap_message::option_numbers::HOP_LIMIT;
@@ -66,7 +66,7 @@ pub fn hop_of(message: &Message<'_>) -> u8
 /// a method or parameters that a server refuses. Takes no memory.
 pub fn read_wanted<'a>(message: &Message<'a>) -> Result<Wanted<'a>, Reject>
     ensures value { Reads wanted_value result (wanted_of message.now) }
-    ensures short { IfOk result AreTextsShort }
+    ensures passable { IfOk result IsPassable }
 {
     if let Some(number) = first_critical(message) {
         return Err(Reject::Critical(number));
@@ -84,7 +84,7 @@ fn read_resource<'a>(message: &Message<'a>, hop: u8) -> Result<Wanted<'a>, Rejec
     requires hop { hop_in message.now.options ≡ hop }
     requires some { hop ≢ 0 }
     ensures value { Reads wanted_value result (wanted_of message.now) }
-    ensures short { IfOk result AreTextsShort }
+    ensures passable { IfOk result IsPassable }
 {
     match resource_of(message) {
         Some(Resource::Mitigation { cdid: _, cuid, mid }) => {
