@@ -16,3 +16,6 @@ returns c =
     ∙ of_its_number c.args.token.now c.args.id _ c.self.inside.kept.items c.in-Some.ensures.0 (λ i. omega (arith, c.type_inv.token i)) c.in-Some.ensures.1 (c.if-number-from.false ∙ c.from.ensures)
     (all_small _ c.self.invariant.sound)
     ∙ ap (λ (e : ExchangesValue). find (is_passed c.args.token.now c.args.id) e.kept) c.self.view_is
+
+pub returns-in_default : goal.returns-in_default
+returns-in_default c = sym (no_token c.args.token.now c.args.id c.args.self.now.kept c.in_default.ensures)
