@@ -26,6 +26,7 @@ no_token token id (k ∷ ks) other =
   where
     passes : (k : Kept) → is_passed token id k ≡ false
     passes k = and_left _ _ (false_from_ne_true _ (λ same. other (sym (ap length ((bytes_eq-Decides (to_be_bytes w64 k.exchange.number) token).0 same)))))
+
     all : (ks : List Kept) → AllByRecursion (λ (k : Kept). is_passed token id k ≡ false) ks
     all [] = tt
     all (k ∷ ks) = (passes k, all ks)
@@ -40,6 +41,7 @@ no_id token id number (k ∷ ks) is other all = none_found (is_passed token id) 
     fails k small = false_from_ne_true _ (λ passes.
         let both = and_parts (bytes_eq (to_be_bytes w64 k.exchange.number) token) (k.exchange.number % 2 ^ 16 == id) passes in
         other (ap (λ (n : ℕ). n % 2 ^ 16) (is ∙ sym (token_number token k small both.0)) ∙ eqb-true (k.exchange.number % 2 ^ 16) id both.1))
+
     each : (ks : List Kept) → AllByRecursion IsSmall ks → AllByRecursion (λ (k : Kept). is_passed token id k ≡ false) ks
     each [] all = tt
     each (k ∷ ks) all = (fails k all.0, each ks all.1)
@@ -56,11 +58,11 @@ of_its_number token id number (k ∷ ks) len bytes is same all =
     alike k small =
         elim (cases_eq k.exchange.number number) [
           | inl equal ↦
-            eq-eqb k.exchange.number number equal
-            ∙ sym (and_from (bytes_eq (to_be_bytes w64 k.exchange.number) token) (k.exchange.number % 2 ^ 16 == id)
-                ((bytes_eq-Decides (to_be_bytes w64 k.exchange.number) token).1 (be_bytes_8 token k.exchange.number len bytes (equal ∙ is)))
-                (eq-eqb (k.exchange.number % 2 ^ 16) id (ap (λ (n : ℕ). n % 2 ^ 16) equal ∙ same)))
+              eq-eqb k.exchange.number number equal
+              ∙ sym (and_from (bytes_eq (to_be_bytes w64 k.exchange.number) token) (k.exchange.number % 2 ^ 16 == id)
+              ((bytes_eq-Decides (to_be_bytes w64 k.exchange.number) token).1 (be_bytes_8 token k.exchange.number len bytes (equal ∙ is)))
+              (eq-eqb (k.exchange.number % 2 ^ 16) id (ap (λ (n : ℕ). n % 2 ^ 16) equal ∙ same)))
           | inr differ ↦
-            ne_eqb k.exchange.number number differ
-            ∙ sym (and_left _ _ (false_from_ne_true _ (λ same. differ (token_number token k small same ∙ sym is))))
+              ne_eqb k.exchange.number number differ
+              ∙ sym (and_left _ _ (false_from_ne_true _ (λ same. differ (token_number token k small same ∙ sym is))))
         ]

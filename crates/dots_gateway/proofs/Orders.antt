@@ -129,7 +129,7 @@ sound_at now e sound =
       order = order_left stays e.kept sound.order;
       below = all_left (λ (k : Kept). k.exchange.number < e.next) stays e.kept sound.below;
       past = all_left (λ (k : Kept). k.exchange.time ≤ t) stays e.kept
-        (all_mapped (λ (k : Kept). k.exchange.time ≤ e.time) (λ (k : Kept). k.exchange.time ≤ t) (λ k before. omega (arith, before)) e.kept sound.past);
+          (all_mapped (λ (k : Kept). k.exchange.time ≤ e.time) (λ (k : Kept). k.exchange.time ≤ t) (λ k before. omega (arith, before)) e.kept sound.past);
     }
 
 -- ---- their requests
@@ -149,7 +149,7 @@ none_later k ks key all is =
     let same = same_parts k key is in
     none_found (is_from key.peer key.id) ks
     (all_mapped (IsBefore k) (λ (x : Kept). is_from key.peer key.id x ≡ false)
-        (λ x before. subst (λ (p : ℕ). is_from p key.id x ≡ false) same.0 (subst (λ (i : ℕ). is_from k.exchange.peer i x ≡ false) same.1 before.request)) ks all)
+    (λ x before. subst (λ (p : ℕ). is_from p key.id x ≡ false) same.0 (subst (λ (i : ℕ). is_from k.exchange.peer i x ≡ false) same.1 before.request)) ks all)
 
 -- the first one goes, and its number with it
 pub one_gone : (k : Kept) (ks : List Kept) (key : Key) (before found : Option ℕ) → AllByRecursion (IsBefore k) ks
@@ -201,12 +201,14 @@ befores : (one : Kept) (ks : List Kept) → AllByRecursion (λ (k : Kept). k.exc
     → AllByRecursion (λ (k : Kept). k.exchange.time ≤ one.exchange.time) ks
     → AllByRecursion (λ (k : Kept). is_from one.exchange.peer (id_of one.exchange.key) k ≡ false) ks → AllByRecursion (λ (k : Kept). IsBefore k one) ks
 befores one [] below past others = tt
-befores one (k ∷ ks) below past others =
-    (record {
-      number = below.0;
-      time = past.0;
-      request = turned k.exchange.peer one.exchange.peer (id_of k.exchange.key) (id_of one.exchange.key) others.0;
-    }, befores one ks below.1 past.1 others.1)
+befores one (k ∷ ks) below past others = (
+  record {
+    number = below.0;
+    time = past.0;
+    request = turned k.exchange.peer one.exchange.peer (id_of k.exchange.key) (id_of one.exchange.key) others.0;
+  },
+  befores one ks below.1 past.1 others.1,
+)
 
 order_then : (one : Kept) (ks : List Kept) → AreInOrder ks → AllByRecursion (λ (k : Kept). IsBefore k one) ks → AreInOrder (ks ++ one ∷ [])
 order_then one [] order all = (tt, tt)
@@ -224,8 +226,8 @@ sound_with e one sound room left number time none =
       few = omega (arith, len, room);
       order = order_then one e.kept sound.order (befores one e.kept below past (none_passes (is_from one.exchange.peer (id_of one.exchange.key)) e.kept none));
       below = all_with (λ (k : Kept). k.exchange.number < e.next + 1) e.kept one
-        (all_mapped (λ (k : Kept). k.exchange.number < e.next) (λ (k : Kept). k.exchange.number < e.next + 1) (λ k before. omega (arith, before)) e.kept sound.below)
-        (omega (arith, number));
+          (all_mapped (λ (k : Kept). k.exchange.number < e.next) (λ (k : Kept). k.exchange.number < e.next + 1) (λ k before. omega (arith, before)) e.kept sound.below)
+          (omega (arith, number));
       past = all_with (λ (k : Kept). k.exchange.time ≤ e.time) e.kept one sound.past (omega (arith, time));
     }
 
@@ -256,6 +258,7 @@ apart ks order = record {
   where
     itself : (k : Kept) → is_from k.exchange.peer (id_of k.exchange.key) k ≡ true
     itself k = and_from (k.exchange.peer == k.exchange.peer) (id_of k.exchange.key == id_of k.exchange.key) (eq-eqb _ _ refl) (eq-eqb _ _ refl)
+
     request_of : (k x : Kept) → k.exchange.peer ≡ x.exchange.peer → id_of k.exchange.key ≡ id_of x.exchange.key
         → is_from k.exchange.peer (id_of k.exchange.key) x ≡ false → is_from x.exchange.peer (id_of x.exchange.key) x ≡ false
     request_of k x peer id is = subst (λ (p : ℕ). is_from p (id_of x.exchange.key) x ≡ false) peer (subst (λ (n : ℕ). is_from k.exchange.peer n x ≡ false) id is)

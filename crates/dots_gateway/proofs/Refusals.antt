@@ -106,7 +106,7 @@ behind_so : (message : CoapMessage) (m : Method) (o : Operation) → IsOther (be
 behind_so message m o =
     other_then (refuse_media reject.Accept (value_of 17 message.options)) _ (media_so reject.Accept (value_of 17 message.options) refl)
     (λ _. other_then (refuse_format m message.options) _ (format_so m message.options)
-        (λ _. other_then (content_of m (values_of 15 message.options)) _ (content_so m (values_of 15 message.options)) (λ content. tt)))
+    (λ _. other_then (content_of m (values_of 15 message.options)) _ (content_so m (values_of 15 message.options)) (λ content. tt)))
 
 -- ---- both
 
@@ -146,4 +146,4 @@ refused_so message cdid cuid mid critical some is =
     ap judged (head_so message (mitigation cdid cuid mid) critical some is)
     ∙ judged_operation (method_of (mitigation cdid cuid mid) message.code) _ _ (allowed_so cdid cuid mid (method_in message.code))
     (λ method. judged_operation (operation_of (mitigation cdid cuid mid) method false) _ _ (operation_so cdid cuid mid method)
-        (λ operation. judged_other (behind message method operation) (behind_so message method operation)))
+    (λ operation. judged_other (behind message method operation) (behind_so message method operation)))

@@ -3,6 +3,7 @@ pub mod Finding
 pub mod Forwarding
 pub mod Gateway
 pub mod Options
+pub mod PassedOn
 pub mod Replies
 pub mod Routes
 pub mod Steps

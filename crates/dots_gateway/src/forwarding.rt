@@ -64,11 +64,7 @@ fn passed_options(
 }
 
 /// The path of a mitigation.
-fn path_for(
-    alloc: Global,
-    domain: &Name,
-    passage: &Passage<'_>,
-) -> Result<OptionList, NoMemory>
+fn path_for(alloc: Global, domain: &Name, passage: &Passage<'_>) -> Result<OptionList, NoMemory>
     requires { CanPass passage.now }
     ensures path { IfOk result (λ options. options ≡ path_for domain.now (passage_value passage.now)) }
     ensures last { IfOk result (λ options. last_number 0 options ≤ URI_PATH) }

@@ -13,7 +13,10 @@ pub enum Passed {
         fresh: Option<Exchange>,
     },
     /// These bytes go to this peer.
-    Reply { to: u32, bytes: Bytes },
+    Reply {
+        to: u32,
+        bytes: Bytes,
+    },
     /// Nothing is sent.
     Nothing,
     /// Memory ran out, and nothing is sent. [`GatewayCore::up`](crate::GatewayCore::up) says so by its error.

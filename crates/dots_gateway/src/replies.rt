@@ -22,12 +22,7 @@ fn reply_kind(kind: Kind) -> Kind
 }
 
 /// A reply without options, with a text that says why it isn't what was asked for, or an empty one (RFC 7252, section 5.5.2).
-pub fn plain(
-    alloc: Global,
-    message: &Message<'_>,
-    code: u8,
-    text: &[u8],
-) -> Result<Bytes, NoMemory>
+pub fn plain(alloc: Global, message: &Message<'_>, code: u8, text: &[u8]) -> Result<Bytes, NoMemory>
     requires { code ≢ 0 }
     ensures { IfOk result (λ bytes. bytes ≡ plain code message.now text.now) }
 {
@@ -41,11 +36,7 @@ pub fn plain(
 }
 
 /// The refusal of a message, by its cause.
-pub fn rejection(
-    alloc: Global,
-    message: &Message<'_>,
-    reject: &Reject,
-) -> Result<Bytes, NoMemory>
+pub fn rejection(alloc: Global, message: &Message<'_>, reject: &Reject) -> Result<Bytes, NoMemory>
     ensures { IfOk result (λ bytes. bytes ≡ rejection message.now reject.now) }
 {
     let mut text = [0; MAX_TEXT];

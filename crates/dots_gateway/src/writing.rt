@@ -46,11 +46,7 @@ pub fn write(
 }
 
 /// The message without a payload.
-fn write_front(
-    alloc: Global,
-    front: &Front<'_>,
-    options: &OptionList,
-) -> Result<Vec<u8>, NoMemory>
+fn write_front(alloc: Global, front: &Front<'_>, options: &OptionList) -> Result<Vec<u8>, NoMemory>
     requires code { front.now.code ≢ 0 }
     requires token { length front.now.token.now ≤ 8 }
     ensures { IfOk result (λ bytes. bytes.items ≡ spelling (record {

@@ -13,7 +13,7 @@ returns-clause-numbered c =
     let items = c.in-Some.ensures.items in
     let order = subst (λ (ks : List Kept). AreInOrder ks) items c.requires.order in
     λ key.
-        one_gone c.in-Some.first c.pop_front.new.self.items key _ _ order.0
-        (c.requires.numbered key ∙ ap (λ (ks : List Kept). option_map number_of (find (is_from key.peer key.id) ks)) items)
-        (c.remove-number.ensures.updates.0 key
-            ∙ ap (λ (n : ℕ). cond ((c.in-Some.first.exchange.peer == key.peer) && (n == key.id)) None (lookup (same_key key) c.args.numbers.now.entries)) c.id_of.ensures)
+    one_gone c.in-Some.first c.pop_front.new.self.items key _ _ order.0
+    (c.requires.numbered key ∙ ap (λ (ks : List Kept). option_map number_of (find (is_from key.peer key.id) ks)) items)
+    (c.remove-number.ensures.updates.0 key
+    ∙ ap (λ (n : ℕ). cond ((c.in-Some.first.exchange.peer == key.peer) && (n == key.id)) None (lookup (same_key key) c.args.numbers.now.entries)) c.id_of.ensures)

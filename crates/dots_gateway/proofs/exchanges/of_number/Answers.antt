@@ -40,10 +40,10 @@ loop-low-preserved c =
 pub returns : goal.returns
 returns c =
     sym (nowhere_found (has_number c.args.number) c.args.kept.now.items
-        (λ i k there.
-            ne_eqb k.exchange.number c.args.number
-            (λ same.
-                elim (cases_lt i c.loop-low.low) [
-                  | inl less ↦ omega (arith, same, c.loop-low.invariant.below i k there less)
-                  | inr more ↦ omega (arith, same, c.loop-low.invariant.above i k there (omega (arith, more, c.loop-low-test.false)))
-                ])))
+    (λ i k there.
+    ne_eqb k.exchange.number c.args.number
+    (λ same.
+    elim (cases_lt i c.loop-low.low) [
+      | inl less ↦ omega (arith, same, c.loop-low.invariant.below i k there less)
+      | inr more ↦ omega (arith, same, c.loop-low.invariant.above i k there (omega (arith, more, c.loop-low-test.false)))
+    ])))

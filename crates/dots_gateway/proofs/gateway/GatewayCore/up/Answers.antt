@@ -15,8 +15,8 @@ returns-in_default-decode c =
     let new : GatewayValue = record { routes = c.self.inside.routes.items; upstream = c.self.inside.upstream; exchanges = c.pass_time.new.self } in
     subst (λ (g : GatewayValue). UpOrLacks (gateway_at c.args.now g) c.args.from c.args.bytes.now c.unread.result new) c.self.view_is
     (subst (λ (e : ExchangesValue). UpOrLacks (record { routes = c.self.inside.routes.items; upstream = c.self.inside.upstream; exchanges = e }) c.args.from c.args.bytes.now c.unread.result new)
-        c.pass_time.ensures
-        (up_then g c.args.from c.args.bytes.now _ c.unread.result c.pass_time.new.self ups c.unread.ensures.gives (old_leaves g.exchanges c.args.bytes.now c.unread.result c.unread.ensures.old)))
+    c.pass_time.ensures
+    (up_then g c.args.from c.args.bytes.now _ c.unread.result c.pass_time.new.self ups c.unread.ensures.gives (old_leaves g.exchanges c.args.bytes.now c.unread.result c.unread.ensures.old)))
 
 pub returns : goal.returns
 returns c =
@@ -26,5 +26,5 @@ returns c =
     let new : GatewayValue = record { routes = c.self.inside.routes.items; upstream = c.self.inside.upstream; exchanges = c.ask.new.exchanges } in
     subst (λ (g : GatewayValue). UpOrLacks (gateway_at c.args.now g) c.args.from c.args.bytes.now c.ask.result new) c.self.view_is
     (subst (λ (e : ExchangesValue). UpOrLacks (record { routes = c.self.inside.routes.items; upstream = c.self.inside.upstream; exchanges = e }) c.args.from c.args.bytes.now c.ask.result new)
-        c.pass_time.ensures
-        (up_then g c.args.from c.args.bytes.now _ c.ask.result c.ask.new.exchanges ups c.ask.ensures.gives c.ask.ensures.leaves))
+    c.pass_time.ensures
+    (up_then g c.args.from c.args.bytes.now _ c.ask.result c.ask.new.exchanges ups c.ask.ensures.gives c.ask.ensures.leaves))
