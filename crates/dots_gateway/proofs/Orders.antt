@@ -1,5 +1,5 @@
 -- The exchanges in the order of their numbers.
-use Rattle.std.proofs.Common.{◌≡◌, ◌≢◌, ℕ, zero, suc, ◌+◌, ◌^◌, ◌<◌, ◌≤◌, Bool, true, false, cond, List, [], ◌∷◌, ◌++◌, length, drop, refl, sym, ap, subst, ◌∙◌, inl, inr, length-append, arith}
+use Rattle.std.proofs.Common.{◌≡◌, ◌≢◌, ℕ, zero, suc, ◌+◌, ◌-◌, ◌^◌, ◌<◌, ◌≤◌, Bool, true, false, cond, List, [], ◌∷◌, ◌++◌, length, drop, refl, sym, ap, subst, ◌∙◌, inl, inr, length-append, arith}
 use Rattle.std.specs.Prelude.{◌==◌, ◌&&◌, not, nat_le, max, filter, slice_get, option_map, Option, Some, None, ⊤}
 use Rattle.std.specs.List.{find, AllByRecursion}
 use Rattle.std.specs.Option.{option_or}
@@ -13,7 +13,6 @@ use Rattle.coap_message.specs.declared.kind.Kind.TheVariants.{Con, Non, Ack, Rst
 use Rattle.dots_gateway.specs.declared.exchange.Exchange.{Exchange}
 use Rattle.dots_gateway.specs.declared.exchange.Kept.{Kept}
 use Rattle.dots_gateway.specs.declared.exchange.Key.{Key}
-use Rattle.dots_gateway.specs.declared.exchange.TheConstants.{LAST_NUMBER}
 use Rattle.dots_gateway.specs.Exchanges.{ExchangesValue, AreApart, is_over, left_at, at_time, is_from, id_of, key_for, is_full, exchange_for, with_one}
 use Rattle.dots_gateway.specs.Finding.{IsBefore, AreInOrder, AreSound, AreNumbered, is_first_over, has_number, number_of, same_key}
 
@@ -214,7 +213,7 @@ order_then : (one : Kept) (ks : List Kept) → AreInOrder ks → AllByRecursion 
 order_then one [] order all = (tt, tt)
 order_then one (k ∷ ks) order all = (all_with (IsBefore k) ks one order.0 all.0, order_then one ks order.1 all.1)
 
-pub sound_with : (e : ExchangesValue) (one : Kept) → AreSound e → length e.kept < e.room → e.next < LAST_NUMBER → one.exchange.number ≡ e.next → one.exchange.time ≡ e.time
+pub sound_with : (e : ExchangesValue) (one : Kept) → AreSound e → length e.kept < e.room → e.next < 2 ^ 64 - 1 → one.exchange.number ≡ e.next → one.exchange.time ≡ e.time
     → find (is_from one.exchange.peer (id_of one.exchange.key)) e.kept ≡ None
     → AreSound (record { room = e.room; next = e.next + 1; time = e.time; kept = e.kept ++ one ∷ [] })
 sound_with e one sound room left number time none =
@@ -332,14 +331,14 @@ pub sound_entered : (e : ExchangesValue) (peer id : ℕ) (kind : Kind) (token : 
     → find (is_from peer id) e.kept ≡ None
     → AreSound (record { room = e.room; next = e.next + 1; time = e.time; kept = e.kept ++ one_of e.next peer id e.time kind token asked ∷ [] })
 sound_entered e peer id kind token asked sound room none =
-    let parts = or_parts (nat_le e.room (length e.kept)) (e.next == LAST_NUMBER) room in
+    let parts = or_parts (nat_le e.room (length e.kept)) (e.next == 2 ^ 64 - 1) room in
     let few = leb-false e.room (length e.kept) parts.0 in
-    let differ = eqb-false e.next LAST_NUMBER parts.1 in
+    let differ = eqb-false e.next (2 ^ 64 - 1) parts.1 in
     sound_with e (one_of e.next peer id e.time kind token asked) sound few (below_last e.next sound.next differ) refl refl (nowhere_by_key kind peer id e.kept none)
   where
-    below_last : (n : ℕ) → n ≤ LAST_NUMBER → (n ≡ LAST_NUMBER → ⊥) → n < LAST_NUMBER
+    below_last : (n : ℕ) → n < 2 ^ 64 → (n ≡ 2 ^ 64 - 1 → ⊥) → n < 2 ^ 64 - 1
     below_last n most differ =
-        elim (cases_order n LAST_NUMBER) [
+        elim (cases_order n (2 ^ 64 - 1)) [
           | inl equal ↦ absurd (differ equal)
           | inr (inl less) ↦ less
           | inr (inr more) ↦ absurd (omega (arith, more, most))

@@ -20,7 +20,6 @@ use Rattle.dots_gateway.specs.declared.exchange.Kept.{Kept}
 use Rattle.dots_gateway.specs.declared.passed.Passed.{Passed}
 use Rattle.dots_gateway.specs.declared.passed.Passed.TheVariants as passed
 use Rattle.dots_gateway.specs.declared.passed.GatewayFault.TheVariants as fault
-use Rattle.dots_gateway.specs.declared.passed.TheConstants.{HOP_LIMIT_REACHED}
 use Rattle.dots_gateway.specs.Exchanges.{ExchangesValue, is_full, is_from, exchange_for}
 use Rattle.dots_gateway.specs.Forwarding.{option_with, option_for, path_for, passed_options, forwarded}
 use Rattle.dots_gateway.specs.Gateway.{GatewayValue, Said, Ups, of_no_client, unreadable, asking, rejected, unread, refused, refused_option, came_again, passed_again, passed_first, passed_by, passed_on, wanted_said, asked_said}
@@ -230,7 +229,7 @@ on_forwards : (e : ExchangesValue) (peer : ℕ) (domain datagram : List ℕ) (m 
     → passed_on e peer domain datagram m p ≡ Ok (passed.Forward bytes fresh) → Forwards e peer domain m p bytes fresh
 on_forwards e peer domain datagram m p bytes fresh is = by_test (p.hop == 1) is
   where
-    by_test : (b : Bool) → cond {A = Said} b (Ok (passed.Reply peer (plain HOP_LIMIT_REACHED m []))) (passed_by e peer domain datagram m p (find (is_from peer m.identifier) e.kept)) ≡ Ok (passed.Forward bytes fresh)
+    by_test : (b : Bool) → cond {A = Said} b (Ok (passed.Reply peer (plain 0xa8 m []))) (passed_by e peer domain datagram m p (find (is_from peer m.identifier) e.kept)) ≡ Ok (passed.Forward bytes fresh)
         → Forwards e peer domain m p bytes fresh
     by_test true is = absurd (no_reply is)
     by_test false is = found_forwards e peer domain datagram m p (find (is_from peer m.identifier) e.kept) bytes fresh is

@@ -1,6 +1,6 @@
 -- The exchanges that a gateway keeps, and what the time does to them. An exchange is a request of a client, with the number under which
 -- it was passed on. Times are in seconds.
-use Rattle.std.specs.Prelude.{◌≡◌, ℕ, ◌+◌, ◌%◌, ◌^◌, ◌<◌, ◌≤◌, Bool, not, ◌&&◌, ◌||◌, ◌==◌, nat_le, max, List, [], ◌∷◌, ◌++◌, length, filter, bytes_eq, slice_get, Option, Some, None}
+use Rattle.std.specs.Prelude.{◌≡◌, ℕ, ◌+◌, ◌-◌, ◌%◌, ◌^◌, ◌<◌, ◌≤◌, Bool, not, ◌&&◌, ◌||◌, ◌==◌, nat_le, max, List, [], ◌∷◌, ◌++◌, length, filter, bytes_eq, slice_get, Option, Some, None}
 use Rattle.std.specs.Int.{w64, to_be_bytes}
 use Rattle.coap_message.specs.declared.kind.Kind.{Kind}
 use Rattle.coap_message.specs.declared.kind.Kind.TheVariants.{Con}
@@ -9,7 +9,6 @@ use Rattle.dots_history.specs.declared.entry.MessageKey.{MessageKey}
 use Rattle.dots_history.specs.declared.entry.MessageKey.TheVariants as key
 use Rattle.dots_gateway.specs.declared.exchange.Exchange.{Exchange}
 use Rattle.dots_gateway.specs.declared.exchange.Kept.{Kept}
-use Rattle.dots_gateway.specs.declared.exchange.TheConstants.{EXCHANGE_LIFETIME, LAST_NUMBER}
 
 -- those that are kept, in the order of their numbers; how many there may be; the number of the next one; and the time
 pub record ExchangesValue : Type 0 where
@@ -22,7 +21,7 @@ pub record ExchangesValue : Type 0 where
 
 -- An exchange is kept for 247 seconds: as long as its Message ID stands for it, were it confirmable (RFC 7252, section 4.8.2).
 abbrev pub is_over : ℕ → Kept → Bool
-is_over now k = nat_le (k.exchange.time + EXCHANGE_LIFETIME) now
+is_over now k = nat_le (k.exchange.time + 247) now
 
 abbrev pub left_at : ℕ → List Kept → List Kept
 left_at now kept = filter (λ (k : Kept). not (is_over now k)) kept
@@ -35,7 +34,7 @@ at_time now e = record e { time = max now e.time; kept = left_at (max now e.time
 
 -- no number is left, or as many are kept as there may be
 abbrev pub is_full : ExchangesValue → Bool
-is_full e = nat_le e.room (length e.kept) || e.next == LAST_NUMBER
+is_full e = nat_le e.room (length e.kept) || e.next == 2 ^ 64 - 1
 
 -- the type and the Message ID of a request
 abbrev pub key_for : Kind → ℕ → MessageKey

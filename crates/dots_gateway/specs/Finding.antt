@@ -1,10 +1,9 @@
 -- How the exchanges that are kept follow one another, and how they are found.
-use Rattle.std.specs.Prelude.{◌≡◌, ℕ, ◌<◌, ◌≤◌, Bool, false, ◌&&◌, ◌==◌, List, [], ◌∷◌, length, option_map}
+use Rattle.std.specs.Prelude.{◌≡◌, ℕ, ◌^◌, ◌<◌, ◌≤◌, Bool, false, ◌&&◌, ◌==◌, List, [], ◌∷◌, length, option_map}
 use Rattle.std.specs.List.{find, AllByRecursion}
 use Rattle.std.specs.Map.{lookup}
 use Rattle.dots_gateway.specs.declared.exchange.Kept.{Kept}
 use Rattle.dots_gateway.specs.declared.exchange.Key.{Key}
-use Rattle.dots_gateway.specs.declared.exchange.TheConstants.{LAST_NUMBER}
 use Rattle.dots_gateway.specs.Exchanges.{ExchangesValue, is_over, id_of, is_from}
 
 -- a later exchange has a higher number, isn't of an earlier time, and is of another request
@@ -18,7 +17,7 @@ AreInOrder [] = Unit {0}
 AreInOrder (k ∷ ks) = AllByRecursion (IsBefore k) ks × AreInOrder ks
 
 pub record AreSound (e : ExchangesValue) : Type 0 where
-  pub next : e.next ≤ LAST_NUMBER
+  pub next : e.next < 2 ^ 64
   pub few : length e.kept ≤ e.room
   pub order : AreInOrder e.kept
   pub below : AllByRecursion (λ (k : Kept). k.exchange.number < e.next) e.kept

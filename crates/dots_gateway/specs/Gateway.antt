@@ -19,7 +19,6 @@ use Rattle.dots_gateway.specs.declared.passed.Passed.{Passed}
 use Rattle.dots_gateway.specs.declared.passed.Passed.TheVariants as passed
 use Rattle.dots_gateway.specs.declared.passed.GatewayFault.{GatewayFault}
 use Rattle.dots_gateway.specs.declared.passed.GatewayFault.TheVariants as fault
-use Rattle.dots_gateway.specs.declared.passed.TheConstants.{HOP_LIMIT_REACHED}
 use Rattle.dots_gateway.specs.declared.routes.Route.{Route}
 use Rattle.dots_gateway.specs.Exchanges.{ExchangesValue, at_time, is_full, exchange_for, with_one, is_from, is_passed, key_for}
 use Rattle.dots_gateway.specs.Forwarding.{forwarded, answered}
@@ -92,10 +91,10 @@ abbrev pub passed_by : ExchangesValue → ℕ → List ℕ → List ℕ → Coap
 passed_by e peer domain datagram m p (Some k) = passed_again domain datagram m p k
 passed_by e peer domain datagram m p None = passed_first e peer domain m p
 
--- A Hop-Limit of 1 would be 0 behind the gateway (RFC 8768, section 3).
+-- A Hop-Limit of 1 would be 0 behind the gateway: 5.08 Hop Limit Reached (RFC 8768, sections 3 and 4).
 abbrev pub passed_on : ExchangesValue → ℕ → List ℕ → List ℕ → CoapMessage → Passage → Said
 passed_on e peer domain datagram m p =
-    if p.hop == 1 then Ok (passed.Reply peer (plain HOP_LIMIT_REACHED m []))
+    if p.hop == 1 then Ok (passed.Reply peer (plain 0xa8 m []))
     else passed_by e peer domain datagram m p (find (is_from peer m.identifier) e.kept)
 
 abbrev pub wanted_said : ExchangesValue → ℕ → List ℕ → List ℕ → CoapMessage → Result Wanted Reject → Said

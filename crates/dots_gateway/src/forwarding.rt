@@ -58,7 +58,7 @@ fn passed_options(
 {
     let path = path_for(alloc, domain, passage)?;
     let format = with_value_of(path, CONTENT_FORMAT, message)?;
-    let queries = with_queries(format, message)?;
+    let queries = with_each_of(format, URI_QUERY, message)?;
     let hop = queries.with(HOP_LIMIT, b"", &[passage.hop - 1])?;
     with_value_of(hop, ACCEPT, message)
 }
@@ -111,16 +111,20 @@ fn with_value_of(
     }
 }
 
-/// The options with the queries of the message behind them.
-fn with_queries(options: OptionList, message: &Message<'_>) -> Result<OptionList, NoMemory>
-    requires { last_number 0 options ≤ URI_QUERY }
-    ensures list { IfOk result (λ list. list ≡ options ++ map (option_with URI_QUERY) (values_of URI_QUERY message.now.options)) }
-    ensures last { IfOk result (λ list. last_number 0 list ≤ URI_QUERY) }
+/// The options with each of the message's options of this number behind them.
+fn with_each_of(
+    options: OptionList,
+    number: u16,
+    message: &Message<'_>,
+) -> Result<OptionList, NoMemory>
+    requires { last_number 0 options ≤ number }
+    ensures list { IfOk result (λ list. list ≡ options ++ map (option_with number) (values_of number message.now.options)) }
+    ensures last { IfOk result (λ list. last_number 0 list ≤ number) }
 {
     let mut list = options;
     let mut rest = message.options();
-    while let Some(query) = next_value(&mut rest, URI_QUERY) {
-        list = list.with(URI_QUERY, b"", query)?;
+    while let Some(value) = next_value(&mut rest, number) {
+        list = list.with(number, b"", value)?;
     }
     Ok(list)
 }
