@@ -11,7 +11,7 @@ use Rattle.dots_history.specs.declared.entry.MessageKey.TheVariants as key
 use Rattle.coap_message.specs.declared.kind.Kind.{Kind}
 use Rattle.coap_message.specs.declared.kind.Kind.TheVariants.{Con, Non, Ack, Rst}
 use Rattle.dots_gateway.specs.declared.exchange.Exchange.{Exchange}
-use Rattle.dots_gateway.specs.declared.exchange.Kept.{Kept}
+use Rattle.dots_gateway.specs.declared.exchange.Waiting.{Waiting}
 use Rattle.dots_gateway.specs.declared.exchange.Key.{Key}
 use Rattle.dots_gateway.specs.Exchanges.{ExchangesValue, AreApart, is_over, left_at, at_time, is_from, id_of, key_for, is_full, exchange_for, with_one}
 use Rattle.dots_gateway.specs.Finding.{IsBefore, AreInOrder, AreSound, AreNumbered, is_first_over, has_number, number_of, same_key}
@@ -74,34 +74,34 @@ nowhere_found {A} t xs each = none_found t xs (all_from (λ (x : A). t x ≡ fal
 late_over : (time other now : ℕ) → time ≤ other → nat_le (time + 247) now ≡ false → nat_le (other + 247) now ≡ false
 late_over time other now later not_yet = lt-leb (other + 247) now (omega (arith, later, leb-false (time + 247) now not_yet))
 
-none_over : (now : ℕ) (k : Kept) (ks : List Kept) → AllByRecursion (IsBefore k) ks → is_over now k ≡ false → AllByRecursion (λ (x : Kept). is_over now x ≡ false) ks
+none_over : (now : ℕ) (k : Waiting) (ks : List Waiting) → AllByRecursion (IsBefore k) ks → is_over now k ≡ false → AllByRecursion (λ (x : Waiting). is_over now x ≡ false) ks
 none_over now k ks all not_yet =
-    all_mapped (IsBefore k) (λ (x : Kept). is_over now x ≡ false) (λ x before. late_over k.exchange.time x.exchange.time now before.time not_yet) ks all
+    all_mapped (IsBefore k) (λ (x : Waiting). is_over now x ≡ false) (λ x before. late_over k.exchange.time x.exchange.time now before.time not_yet) ks all
 
-all_stay : (now : ℕ) (ks : List Kept) → AllByRecursion (λ (x : Kept). is_over now x ≡ false) ks → left_at now ks ≡ ks
+all_stay : (now : ℕ) (ks : List Waiting) → AllByRecursion (λ (x : Waiting). is_over now x ≡ false) ks → left_at now ks ≡ ks
 all_stay now [] all = refl
 all_stay now (k ∷ ks) all =
-    cond-true (not (is_over now k)) (k ∷ left_at now ks) (left_at now ks) (ap not all.0) ∙ ap (λ (xs : List Kept). k ∷ xs) (all_stay now ks all.1)
+    cond-true (not (is_over now k)) (k ∷ left_at now ks) (left_at now ks) (ap not all.0) ∙ ap (λ (xs : List Waiting). k ∷ xs) (all_stay now ks all.1)
 
 -- where the first isn't over none is
-pub first_stays : (now : ℕ) (ks : List Kept) → AreInOrder ks → is_first_over now ks ≡ false → left_at now ks ≡ ks
+pub first_stays : (now : ℕ) (ks : List Waiting) → AreInOrder ks → is_first_over now ks ≡ false → left_at now ks ≡ ks
 first_stays now [] order not_yet = refl
 first_stays now (k ∷ ks) order not_yet = all_stay now (k ∷ ks) (not_yet, none_over now k ks order.0 not_yet)
 
 -- and the first that is over leaves those that stay
-pub first_goes : (now : ℕ) (ks : List Kept) → is_first_over now ks ≡ true → left_at now (drop 1 ks) ≡ left_at now ks
+pub first_goes : (now : ℕ) (ks : List Waiting) → is_first_over now ks ≡ true → left_at now (drop 1 ks) ≡ left_at now ks
 first_goes now [] over = refl
 first_goes now (k ∷ ks) over = sym (cond-false (not (is_over now k)) (k ∷ left_at now ks) (left_at now ks) (ap not over))
 
-pub fewer_left : (now : ℕ) (ks : List Kept) → is_first_over now ks ≡ true → length (drop 1 ks) < length ks
+pub fewer_left : (now : ℕ) (ks : List Waiting) → is_first_over now ks ≡ true → length (drop 1 ks) < length ks
 fewer_left now [] over = absurd (false≢true over)
 fewer_left now (k ∷ ks) over = omega arith
 
-pub order_dropped : (ks : List Kept) → AreInOrder ks → AreInOrder (drop 1 ks)
+pub order_dropped : (ks : List Waiting) → AreInOrder ks → AreInOrder (drop 1 ks)
 order_dropped [] order = tt
 order_dropped (k ∷ ks) order = order.1
 
-order_left : (t : Kept → Bool) (ks : List Kept) → AreInOrder ks → AreInOrder (filter t ks)
+order_left : (t : Waiting → Bool) (ks : List Waiting) → AreInOrder ks → AreInOrder (filter t ks)
 order_left t [] order = tt
 order_left t (k ∷ ks) order = by_test (t k) (order_left t ks order.1)
   where
@@ -120,38 +120,38 @@ fewer {A} t (x ∷ xs) = by_test (t x) (fewer t xs)
 pub sound_at : (now : ℕ) (e : ExchangesValue) → AreSound e → AreSound (at_time now e)
 sound_at now e sound =
     let t : ℕ = max now e.time in
-    let stays = λ (k : Kept). not (is_over t k) in
-    let few = fewer stays e.kept in
+    let stays = λ (k : Waiting). not (is_over t k) in
+    let few = fewer stays e.waiting in
     record {
       next = sound.next;
       few = omega (arith, few, sound.few);
-      order = order_left stays e.kept sound.order;
-      below = all_left (λ (k : Kept). k.exchange.number < e.next) stays e.kept sound.below;
-      past = all_left (λ (k : Kept). k.exchange.time ≤ t) stays e.kept
-          (all_mapped (λ (k : Kept). k.exchange.time ≤ e.time) (λ (k : Kept). k.exchange.time ≤ t) (λ k before. omega (arith, before)) e.kept sound.past);
+      order = order_left stays e.waiting sound.order;
+      below = all_left (λ (k : Waiting). k.exchange.number < e.next) stays e.waiting sound.below;
+      past = all_left (λ (k : Waiting). k.exchange.time ≤ t) stays e.waiting
+          (all_mapped (λ (k : Waiting). k.exchange.time ≤ e.time) (λ (k : Waiting). k.exchange.time ≤ t) (λ k before. omega (arith, before)) e.waiting sound.past);
     }
 
 -- ---- their requests
 
 -- the peer and the Message ID of an exchange
-abbrev pub key_of : Kept → Key
+abbrev pub key_of : Waiting → Key
 key_of k = record { peer = k.exchange.peer; id = id_of k.exchange.key }
 
-same_parts : (k : Kept) (key : Key) → is_from key.peer key.id k ≡ true → (k.exchange.peer ≡ key.peer) × (id_of k.exchange.key ≡ key.id)
+same_parts : (k : Waiting) (key : Key) → is_from key.peer key.id k ≡ true → (k.exchange.peer ≡ key.peer) × (id_of k.exchange.key ≡ key.id)
 same_parts k key is =
     let both = and_parts (k.exchange.peer == key.peer) (id_of k.exchange.key == key.id) is in
     (eqb-true k.exchange.peer key.peer both.0, eqb-true (id_of k.exchange.key) key.id both.1)
 
 -- no later one is of the request of an earlier one
-none_later : (k : Kept) (ks : List Kept) (key : Key) → AllByRecursion (IsBefore k) ks → is_from key.peer key.id k ≡ true → find (is_from key.peer key.id) ks ≡ None
+none_later : (k : Waiting) (ks : List Waiting) (key : Key) → AllByRecursion (IsBefore k) ks → is_from key.peer key.id k ≡ true → find (is_from key.peer key.id) ks ≡ None
 none_later k ks key all is =
     let same = same_parts k key is in
     none_found (is_from key.peer key.id) ks
-    (all_mapped (IsBefore k) (λ (x : Kept). is_from key.peer key.id x ≡ false)
+    (all_mapped (IsBefore k) (λ (x : Waiting). is_from key.peer key.id x ≡ false)
     (λ x before. subst (λ (p : ℕ). is_from p key.id x ≡ false) same.0 (subst (λ (i : ℕ). is_from k.exchange.peer i x ≡ false) same.1 before.request)) ks all)
 
 -- the first one goes, and its number with it
-pub one_gone : (k : Kept) (ks : List Kept) (key : Key) (before found : Option ℕ) → AllByRecursion (IsBefore k) ks
+pub one_gone : (k : Waiting) (ks : List Waiting) (key : Key) (before found : Option ℕ) → AllByRecursion (IsBefore k) ks
     → before ≡ option_map number_of (find (is_from key.peer key.id) (k ∷ ks)) → found ≡ cond (same_key (key_of k) key) None before
     → found ≡ option_map number_of (find (is_from key.peer key.id) ks)
 one_gone k ks key before found all old new = new ∙ by_test (is_from key.peer key.id k) refl old
@@ -161,12 +161,12 @@ one_gone k ks key before found all old new = new ∙ by_test (is_from key.peer k
     by_test true is old = sym (ap (option_map number_of) (none_later k ks key all is))
     by_test false is old = old
 
-or_none : (o : Option Kept) → option_or o None ≡ o
+or_none : (o : Option Waiting) → option_or o None ≡ o
 or_none None = refl
 or_none (Some x) = refl
 
 -- one more, of another request
-pub one_more : (ks : List Kept) (one : Kept) (key : Key) (before found : Option ℕ) → find (is_from one.exchange.peer (id_of one.exchange.key)) ks ≡ None
+pub one_more : (ks : List Waiting) (one : Waiting) (key : Key) (before found : Option ℕ) → find (is_from one.exchange.peer (id_of one.exchange.key)) ks ≡ None
     → before ≡ option_map number_of (find (is_from key.peer key.id) ks) → found ≡ cond (same_key (key_of one) key) (Some one.exchange.number) before
     → found ≡ option_map number_of (find (is_from key.peer key.id) (ks ++ one ∷ []))
 one_more ks one key before found none old new = new ∙ by_test (is_from key.peer key.id one) refl ∙ sym (ap (option_map number_of) (find-append (is_from key.peer key.id) ks (one ∷ [])))
@@ -177,7 +177,7 @@ one_more ks one key before found none old new = new ∙ by_test (is_from key.pee
         let same = same_parts one key is in
         let nowhere : find (is_from key.peer key.id) ks ≡ None
         = subst (λ (p : ℕ). find (is_from p key.id) ks ≡ None) same.0 (subst (λ (i : ℕ). find (is_from one.exchange.peer i) ks ≡ None) same.1 none) in
-        sym (ap (λ (o : Option Kept). option_map number_of (option_or o (Some one))) nowhere)
+        sym (ap (λ (o : Option Waiting). option_map number_of (option_or o (Some one))) nowhere)
     by_test false is = old ∙ ap (option_map number_of) (sym (or_none (find (is_from key.peer key.id) ks)))
 
 pub id_for : (kind : Kind) (id : ℕ) → id_of (key_for kind id) ≡ id
@@ -196,9 +196,9 @@ eqb-sym a b =
 turned : (a b c d : ℕ) → (a == b) && (c == d) ≡ false → (b == a) && (d == c) ≡ false
 turned a b c d apart = ap (λ (x : Bool). x && (d == c)) (eqb-sym b a) ∙ ap (λ (x : Bool). (a == b) && x) (eqb-sym d c) ∙ apart
 
-befores : (one : Kept) (ks : List Kept) → AllByRecursion (λ (k : Kept). k.exchange.number < one.exchange.number) ks
-    → AllByRecursion (λ (k : Kept). k.exchange.time ≤ one.exchange.time) ks
-    → AllByRecursion (λ (k : Kept). is_from one.exchange.peer (id_of one.exchange.key) k ≡ false) ks → AllByRecursion (λ (k : Kept). IsBefore k one) ks
+befores : (one : Waiting) (ks : List Waiting) → AllByRecursion (λ (k : Waiting). k.exchange.number < one.exchange.number) ks
+    → AllByRecursion (λ (k : Waiting). k.exchange.time ≤ one.exchange.time) ks
+    → AllByRecursion (λ (k : Waiting). is_from one.exchange.peer (id_of one.exchange.key) k ≡ false) ks → AllByRecursion (λ (k : Waiting). IsBefore k one) ks
 befores one [] below past others = tt
 befores one (k ∷ ks) below past others = (
   record {
@@ -209,37 +209,37 @@ befores one (k ∷ ks) below past others = (
   befores one ks below.1 past.1 others.1,
 )
 
-order_then : (one : Kept) (ks : List Kept) → AreInOrder ks → AllByRecursion (λ (k : Kept). IsBefore k one) ks → AreInOrder (ks ++ one ∷ [])
+order_then : (one : Waiting) (ks : List Waiting) → AreInOrder ks → AllByRecursion (λ (k : Waiting). IsBefore k one) ks → AreInOrder (ks ++ one ∷ [])
 order_then one [] order all = (tt, tt)
 order_then one (k ∷ ks) order all = (all_with (IsBefore k) ks one order.0 all.0, order_then one ks order.1 all.1)
 
-pub sound_with : (e : ExchangesValue) (one : Kept) → AreSound e → length e.kept < e.room → e.next < 2 ^ 64 - 1 → one.exchange.number ≡ e.next → one.exchange.time ≡ e.time
-    → find (is_from one.exchange.peer (id_of one.exchange.key)) e.kept ≡ None
-    → AreSound (record { room = e.room; next = e.next + 1; time = e.time; kept = e.kept ++ one ∷ [] })
+pub sound_with : (e : ExchangesValue) (one : Waiting) → AreSound e → length e.waiting < e.room → e.next < 2 ^ 64 - 1 → one.exchange.number ≡ e.next → one.exchange.time ≡ e.time
+    → find (is_from one.exchange.peer (id_of one.exchange.key)) e.waiting ≡ None
+    → AreSound (record { room = e.room; next = e.next + 1; time = e.time; waiting = e.waiting ++ one ∷ [] })
 sound_with e one sound room left number time none =
-    let len = length-append e.kept (one ∷ []) in
-    let below = subst (λ (n : ℕ). AllByRecursion (λ (k : Kept). k.exchange.number < n) e.kept) (sym number) sound.below in
-    let past = subst (λ (t : ℕ). AllByRecursion (λ (k : Kept). k.exchange.time ≤ t) e.kept) (sym time) sound.past in
+    let len = length-append e.waiting (one ∷ []) in
+    let below = subst (λ (n : ℕ). AllByRecursion (λ (k : Waiting). k.exchange.number < n) e.waiting) (sym number) sound.below in
+    let past = subst (λ (t : ℕ). AllByRecursion (λ (k : Waiting). k.exchange.time ≤ t) e.waiting) (sym time) sound.past in
     record {
       next = omega (arith, left);
       few = omega (arith, len, room);
-      order = order_then one e.kept sound.order (befores one e.kept below past (none_passes (is_from one.exchange.peer (id_of one.exchange.key)) e.kept none));
-      below = all_with (λ (k : Kept). k.exchange.number < e.next + 1) e.kept one
-          (all_mapped (λ (k : Kept). k.exchange.number < e.next) (λ (k : Kept). k.exchange.number < e.next + 1) (λ k before. omega (arith, before)) e.kept sound.below)
+      order = order_then one e.waiting sound.order (befores one e.waiting below past (none_passes (is_from one.exchange.peer (id_of one.exchange.key)) e.waiting none));
+      below = all_with (λ (k : Waiting). k.exchange.number < e.next + 1) e.waiting one
+          (all_mapped (λ (k : Waiting). k.exchange.number < e.next) (λ (k : Waiting). k.exchange.number < e.next + 1) (λ k before. omega (arith, before)) e.waiting sound.below)
           (omega (arith, number));
-      past = all_with (λ (k : Kept). k.exchange.time ≤ e.time) e.kept one sound.past (omega (arith, time));
+      past = all_with (λ (k : Waiting). k.exchange.time ≤ e.time) e.waiting one sound.past (omega (arith, time));
     }
 
 -- ---- places
 
-pub rising : (ks : List Kept) (i j : ℕ) (one other : Kept) → AreInOrder ks → slice_get ks i ≡ Some one → slice_get ks j ≡ Some other → i < j → IsBefore one other
+pub rising : (ks : List Waiting) (i j : ℕ) (one other : Waiting) → AreInOrder ks → slice_get ks i ≡ Some one → slice_get ks j ≡ Some other → i < j → IsBefore one other
 rising [] i j one other order at there less = absurd (none-some one at)
 rising (k ∷ ks) i zero one other order at there less = absurd (omega (arith, less))
 rising (k ∷ ks) zero (suc j) one other order at there less =
-    subst (λ (x : Kept). IsBefore x other) (same_Some k one at) (all_at (IsBefore k) ks j other order.0 there)
+    subst (λ (x : Waiting). IsBefore x other) (same_Some k one at) (all_at (IsBefore k) ks j other order.0 there)
 rising (k ∷ ks) (suc i) (suc j) one other order at there less = rising ks i j one other order.1 at there (omega (arith, less))
 
-pub apart : (ks : List Kept) → AreInOrder ks → AreApart ks
+pub apart : (ks : List Waiting) → AreInOrder ks → AreApart ks
 apart ks order = record {
   numbers = λ i j one other at there same.
       elim (cases_order i j) [
@@ -255,20 +255,20 @@ apart ks order = record {
       ];
 }
   where
-    itself : (k : Kept) → is_from k.exchange.peer (id_of k.exchange.key) k ≡ true
+    itself : (k : Waiting) → is_from k.exchange.peer (id_of k.exchange.key) k ≡ true
     itself k = and_from (k.exchange.peer == k.exchange.peer) (id_of k.exchange.key == id_of k.exchange.key) (eq-eqb _ _ refl) (eq-eqb _ _ refl)
 
-    request_of : (k x : Kept) → k.exchange.peer ≡ x.exchange.peer → id_of k.exchange.key ≡ id_of x.exchange.key
+    request_of : (k x : Waiting) → k.exchange.peer ≡ x.exchange.peer → id_of k.exchange.key ≡ id_of x.exchange.key
         → is_from k.exchange.peer (id_of k.exchange.key) x ≡ false → is_from x.exchange.peer (id_of x.exchange.key) x ≡ false
     request_of k x peer id is = subst (λ (p : ℕ). is_from p (id_of x.exchange.key) x ≡ false) peer (subst (λ (n : ℕ). is_from k.exchange.peer n x ≡ false) id is)
 
 -- ---- numbers
 
-number_later : (k : Kept) (ks : List Kept) (x : Kept) → AllByRecursion (IsBefore k) ks → find (has_number x.exchange.number) ks ≡ Some x → has_number x.exchange.number k ≡ false
+number_later : (k : Waiting) (ks : List Waiting) (x : Waiting) → AllByRecursion (IsBefore k) ks → find (has_number x.exchange.number) ks ≡ Some x → has_number x.exchange.number k ≡ false
 number_later k ks x all found = let before = all_found (IsBefore k) (has_number x.exchange.number) ks x all found in ne_eqb k.exchange.number x.exchange.number (λ same. absurd (omega (arith, same, before.number)))
 
 -- the one at a place is that of its number
-pub number_at : (ks : List Kept) (i : ℕ) (x : Kept) → AreInOrder ks → slice_get ks i ≡ Some x → find (has_number x.exchange.number) ks ≡ Some x
+pub number_at : (ks : List Waiting) (i : ℕ) (x : Waiting) → AreInOrder ks → slice_get ks i ≡ Some x → find (has_number x.exchange.number) ks ≡ Some x
 number_at [] i x order there = absurd (none-some x there)
 number_at (k ∷ ks) zero x order there =
     let same = same_Some k x there in
@@ -278,7 +278,7 @@ number_at (k ∷ ks) (suc i) x order there =
     cond-false (has_number x.exchange.number k) (Some k) (find (has_number x.exchange.number) ks) (number_later k ks x order.0 rest) ∙ rest
 
 -- and that of a request is that of its number
-pub number_found : (t : Kept → Bool) (ks : List Kept) (x : Kept) → AreInOrder ks → find t ks ≡ Some x → find (has_number x.exchange.number) ks ≡ Some x
+pub number_found : (t : Waiting → Bool) (ks : List Waiting) (x : Waiting) → AreInOrder ks → find t ks ≡ Some x → find (has_number x.exchange.number) ks ≡ Some x
 number_found t [] x order found = absurd (none-some x found)
 number_found t (k ∷ ks) x order found = by_test (t k) found (λ is. number_found t ks x order.1 is)
   where
@@ -289,37 +289,37 @@ number_found t (k ∷ ks) x order found = by_test (t k) found (λ is. number_fou
         cond-false (has_number x.exchange.number k) (Some k) (find (has_number x.exchange.number) ks) (number_later k ks x order.0 (rest is)) ∙ rest is
 
 -- the number that a map has of a request finds it
-pub found_by_number : (t : Kept → Bool) (ks : List Kept) (number : ℕ) → AreInOrder ks → Some number ≡ option_map number_of (find t ks) → find (has_number number) ks ≡ find t ks
+pub found_by_number : (t : Waiting → Bool) (ks : List Waiting) (number : ℕ) → AreInOrder ks → Some number ≡ option_map number_of (find t ks) → find (has_number number) ks ≡ find t ks
 found_by_number t ks number order is = by_found (find t ks) refl is
   where
-    by_found : (o : Option Kept) → find t ks ≡ o → Some number ≡ option_map number_of o → find (has_number number) ks ≡ find t ks
+    by_found : (o : Option Waiting) → find t ks ≡ o → Some number ≡ option_map number_of o → find (has_number number) ks ≡ find t ks
     by_found None found is = absurd (none-some number (sym is))
     by_found (Some x) found is =
         subst (λ (n : ℕ). find (has_number n) ks ≡ find t ks) (sym (same_Some number x.exchange.number is)) (number_found t ks x order found ∙ sym found)
 
-pub none_by_number : (t : Kept → Bool) (ks : List Kept) → None ≡ option_map number_of (find t ks) → None ≡ find t ks
+pub none_by_number : (t : Waiting → Bool) (ks : List Waiting) → None ≡ option_map number_of (find t ks) → None ≡ find t ks
 none_by_number t ks is = by_found (find t ks) is
   where
-    by_found : (o : Option Kept) → None ≡ option_map number_of o → None ≡ o
+    by_found : (o : Option Waiting) → None ≡ option_map number_of o → None ≡ o
     by_found None is = refl
     by_found (Some x) is = absurd (none-some x.exchange.number is)
 
 -- ---- as the code has them
 
-pub sound_then_at : (now t : ℕ) (e : ExchangesValue) (kept : List Kept) → AreSound e → t ≡ max now e.time → kept ≡ left_at t e.kept
-    → AreSound (record { room = e.room; next = e.next; time = t; kept = kept })
-sound_then_at now t e kept sound time left =
-    subst (λ (ks : List Kept). AreSound (record { room = e.room; next = e.next; time = t; kept = ks })) (sym left)
-    (subst (λ (n : ℕ). AreSound (record { room = e.room; next = e.next; time = n; kept = left_at n e.kept })) (sym time) (sound_at now e sound))
+pub sound_then_at : (now t : ℕ) (e : ExchangesValue) (waiting : List Waiting) → AreSound e → t ≡ max now e.time → waiting ≡ left_at t e.waiting
+    → AreSound (record { room = e.room; next = e.next; time = t; waiting = waiting })
+sound_then_at now t e waiting sound time left =
+    subst (λ (ks : List Waiting). AreSound (record { room = e.room; next = e.next; time = t; waiting = ks })) (sym left)
+    (subst (λ (n : ℕ). AreSound (record { room = e.room; next = e.next; time = n; waiting = left_at n e.waiting })) (sym time) (sound_at now e sound))
 
 -- the exchange of a request
-abbrev pub one_of : ℕ → ℕ → ℕ → ℕ → Kind → List ℕ → Option (List ℕ) → Kept
+abbrev pub one_of : ℕ → ℕ → ℕ → ℕ → Kind → List ℕ → Option (List ℕ) → Waiting
 one_of number peer id time kind token asked = record { exchange = record { number = number; peer = peer; key = key_for kind id; token = token; time = time }; asked = asked }
 
-nowhere_by_key : (kind : Kind) (peer id : ℕ) (ks : List Kept) → find (is_from peer id) ks ≡ None → find (is_from peer (id_of (key_for kind id))) ks ≡ None
+nowhere_by_key : (kind : Kind) (peer id : ℕ) (ks : List Waiting) → find (is_from peer id) ks ≡ None → find (is_from peer (id_of (key_for kind id))) ks ≡ None
 nowhere_by_key kind peer id ks none = subst (λ (i : ℕ). find (is_from peer i) ks ≡ None) (sym (id_for kind id)) none
 
-pub entered : (ks : List Kept) (number peer id time : ℕ) (kind : Kind) (token : List ℕ) (asked : Option (List ℕ)) (key : Key) (before found : Option ℕ)
+pub entered : (ks : List Waiting) (number peer id time : ℕ) (kind : Kind) (token : List ℕ) (asked : Option (List ℕ)) (key : Key) (before found : Option ℕ)
     → find (is_from peer id) ks ≡ None → before ≡ option_map number_of (find (is_from key.peer key.id) ks)
     → found ≡ cond ((peer == key.peer) && (id == key.id)) (Some number) before
     → found ≡ option_map number_of (find (is_from key.peer key.id) (ks ++ one_of number peer id time kind token asked ∷ []))
@@ -328,13 +328,13 @@ entered ks number peer id time kind token asked key before found none old new =
     (new ∙ ap (λ (i : ℕ). cond ((peer == key.peer) && (i == key.id)) (Some number) before) (sym (id_for kind id)))
 
 pub sound_entered : (e : ExchangesValue) (peer id : ℕ) (kind : Kind) (token : List ℕ) (asked : Option (List ℕ)) → AreSound e → is_full e ≡ false
-    → find (is_from peer id) e.kept ≡ None
-    → AreSound (record { room = e.room; next = e.next + 1; time = e.time; kept = e.kept ++ one_of e.next peer id e.time kind token asked ∷ [] })
+    → find (is_from peer id) e.waiting ≡ None
+    → AreSound (record { room = e.room; next = e.next + 1; time = e.time; waiting = e.waiting ++ one_of e.next peer id e.time kind token asked ∷ [] })
 sound_entered e peer id kind token asked sound room none =
-    let parts = or_parts (nat_le e.room (length e.kept)) (e.next == 2 ^ 64 - 1) room in
-    let few = leb-false e.room (length e.kept) parts.0 in
+    let parts = or_parts (nat_le e.room (length e.waiting)) (e.next == 2 ^ 64 - 1) room in
+    let few = leb-false e.room (length e.waiting) parts.0 in
     let differ = eqb-false e.next (2 ^ 64 - 1) parts.1 in
-    sound_with e (one_of e.next peer id e.time kind token asked) sound few (below_last e.next sound.next differ) refl refl (nowhere_by_key kind peer id e.kept none)
+    sound_with e (one_of e.next peer id e.time kind token asked) sound few (below_last e.next sound.next differ) refl refl (nowhere_by_key kind peer id e.waiting none)
   where
     below_last : (n : ℕ) → n < 2 ^ 64 → (n ≡ 2 ^ 64 - 1 → ⊥) → n < 2 ^ 64 - 1
     below_last n most differ =
@@ -346,25 +346,25 @@ sound_entered e peer id kind token asked sound room none =
 
 -- ---- halving
 
-pub below_then : (ks : List Kept) (m : ℕ) (here : Kept) (n : ℕ) → AreInOrder ks → slice_get ks m ≡ Some here → here.exchange.number < n
-    → (i : ℕ) (k : Kept) → slice_get ks i ≡ Some k → i < m + 1 → k.exchange.number < n
+pub below_then : (ks : List Waiting) (m : ℕ) (here : Waiting) (n : ℕ) → AreInOrder ks → slice_get ks m ≡ Some here → here.exchange.number < n
+    → (i : ℕ) (k : Waiting) → slice_get ks i ≡ Some k → i < m + 1 → k.exchange.number < n
 below_then ks m here n order at less i k there before =
     elim (cases_order i m) [
-      | inl equal ↦ subst (λ (x : Kept). x.exchange.number < n) (same_Some here k (sym at ∙ ap (slice_get ks) (sym equal) ∙ there)) less
+      | inl equal ↦ subst (λ (x : Waiting). x.exchange.number < n) (same_Some here k (sym at ∙ ap (slice_get ks) (sym equal) ∙ there)) less
       | inr (inl lower) ↦ omega (arith, less, (rising ks i m k here order there at lower).number)
       | inr (inr higher) ↦ absurd (omega (arith, higher, before))
     ]
 
-pub above_then : (ks : List Kept) (m : ℕ) (here : Kept) (n : ℕ) → AreInOrder ks → slice_get ks m ≡ Some here → n < here.exchange.number
-    → (i : ℕ) (k : Kept) → slice_get ks i ≡ Some k → m ≤ i → n < k.exchange.number
+pub above_then : (ks : List Waiting) (m : ℕ) (here : Waiting) (n : ℕ) → AreInOrder ks → slice_get ks m ≡ Some here → n < here.exchange.number
+    → (i : ℕ) (k : Waiting) → slice_get ks i ≡ Some k → m ≤ i → n < k.exchange.number
 above_then ks m here n order at more i k there behind =
     elim (cases_order i m) [
-      | inl equal ↦ subst (λ (x : Kept). n < x.exchange.number) (same_Some here k (sym at ∙ ap (slice_get ks) (sym equal) ∙ there)) more
+      | inl equal ↦ subst (λ (x : Waiting). n < x.exchange.number) (same_Some here k (sym at ∙ ap (slice_get ks) (sym equal) ∙ there)) more
       | inr (inl lower) ↦ absurd (omega (arith, lower, behind))
       | inr (inr higher) ↦ omega (arith, more, (rising ks m i here k order at there higher).number)
     ]
 
 -- ---- numbers that fit
 
-pub all_small : (e : ExchangesValue) → AreSound e → AllByRecursion (λ (k : Kept). k.exchange.number < 2 ^ 64) e.kept
-all_small e sound = all_mapped (λ (k : Kept). k.exchange.number < e.next) (λ (k : Kept). k.exchange.number < 2 ^ 64) (λ k below. omega (arith, below, sound.next)) e.kept sound.below
+pub all_small : (e : ExchangesValue) → AreSound e → AllByRecursion (λ (k : Waiting). k.exchange.number < 2 ^ 64) e.waiting
+all_small e sound = all_mapped (λ (k : Waiting). k.exchange.number < e.next) (λ (k : Waiting). k.exchange.number < 2 ^ 64) (λ k below. omega (arith, below, sound.next)) e.waiting sound.below

@@ -16,7 +16,7 @@ use Rattle.dots_heads.specs.Paths.{Resource, mitigation, config, heartbeat, para
 use Rattle.dots_heads.specs.Results.{◌>>=◌}
 use Rattle.dots_heads.proofs.PathLaws.{read_back}
 use Rattle.dots_gateway.specs.declared.exchange.Exchange.{Exchange}
-use Rattle.dots_gateway.specs.declared.exchange.Kept.{Kept}
+use Rattle.dots_gateway.specs.declared.exchange.Waiting.{Waiting}
 use Rattle.dots_gateway.specs.declared.passed.Passed.{Passed}
 use Rattle.dots_gateway.specs.declared.passed.Passed.TheVariants as passed
 use Rattle.dots_gateway.specs.declared.passed.GatewayFault.TheVariants as fault
@@ -198,7 +198,7 @@ unread_none : (peer : ℕ) (o : Option (Kind × ℕ)) (bytes : List ℕ) (fresh 
 unread_none peer None bytes fresh is = no_silence is
 unread_none peer (Some message) bytes fresh is = rejected_none peer message.0 message.1 bytes fresh is
 
-again_forwards : (e : ExchangesValue) (peer : ℕ) (domain datagram : List ℕ) (m : CoapMessage) (p : Passage) (k : Kept) (bytes : List ℕ) (fresh : Option Exchange)
+again_forwards : (e : ExchangesValue) (peer : ℕ) (domain datagram : List ℕ) (m : CoapMessage) (p : Passage) (k : Waiting) (bytes : List ℕ) (fresh : Option Exchange)
     → passed_again domain datagram m p k ≡ Ok (passed.Forward bytes fresh) → Forwards e peer domain m p bytes fresh
 again_forwards e peer domain datagram m p k bytes fresh is = by_test (came_again k.asked k.exchange datagram m) is
   where
@@ -220,7 +220,7 @@ first_forwards e peer domain m p bytes fresh is = by_test (is_full e) is
         let same = same_forward _ bytes (Some (exchange_for e peer m)) fresh is in
         (e.next, same.0, λ exchange there. sym (same_Some (exchange_for e peer m) exchange (sym same.1 ∙ there)))
 
-found_forwards : (e : ExchangesValue) (peer : ℕ) (domain datagram : List ℕ) (m : CoapMessage) (p : Passage) (o : Option Kept) (bytes : List ℕ) (fresh : Option Exchange)
+found_forwards : (e : ExchangesValue) (peer : ℕ) (domain datagram : List ℕ) (m : CoapMessage) (p : Passage) (o : Option Waiting) (bytes : List ℕ) (fresh : Option Exchange)
     → passed_by e peer domain datagram m p o ≡ Ok (passed.Forward bytes fresh) → Forwards e peer domain m p bytes fresh
 found_forwards e peer domain datagram m p (Some k) bytes fresh is = again_forwards e peer domain datagram m p k bytes fresh is
 found_forwards e peer domain datagram m p None bytes fresh is = first_forwards e peer domain m p bytes fresh is
@@ -229,10 +229,10 @@ on_forwards : (e : ExchangesValue) (peer : ℕ) (domain datagram : List ℕ) (m 
     → passed_on e peer domain datagram m p ≡ Ok (passed.Forward bytes fresh) → Forwards e peer domain m p bytes fresh
 on_forwards e peer domain datagram m p bytes fresh is = by_test (p.hop == 1) is
   where
-    by_test : (b : Bool) → cond {A = Said} b (Ok (passed.Reply peer (plain 0xa8 m []))) (passed_by e peer domain datagram m p (find (is_from peer m.identifier) e.kept)) ≡ Ok (passed.Forward bytes fresh)
+    by_test : (b : Bool) → cond {A = Said} b (Ok (passed.Reply peer (plain 0xa8 m []))) (passed_by e peer domain datagram m p (find (is_from peer m.identifier) e.waiting)) ≡ Ok (passed.Forward bytes fresh)
         → Forwards e peer domain m p bytes fresh
     by_test true is = absurd (no_reply is)
-    by_test false is = found_forwards e peer domain datagram m p (find (is_from peer m.identifier) e.kept) bytes fresh is
+    by_test false is = found_forwards e peer domain datagram m p (find (is_from peer m.identifier) e.waiting) bytes fresh is
 
 -- what is forwarded was asked for
 abbrev Asks : ExchangesValue → ℕ → List ℕ → CoapMessage → List ℕ → Option Exchange → Type 0

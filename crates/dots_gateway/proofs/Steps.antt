@@ -22,7 +22,7 @@ up_then g peer datagram said (Ok (passed.Reply to bytes)) e ups gives leaves = (
 up_then g peer datagram said (Ok passed.Nothing) e ups gives leaves = (subst (Ups g peer datagram) (sym gives) ups, ap (with_exchanges g) leaves)
 up_then g peer datagram said (Ok passed.NoMemory) e ups gives leaves = (subst (Ups g peer datagram) (sym gives) ups, ap (with_exchanges g) leaves)
 
--- where no exchange is new none is kept
+-- where no exchange is new none is waiting
 pub old_leaves : (e : ExchangesValue) (datagram : List ℕ) (answer : Said) → IsOld answer → Leaves e datagram answer e
 old_leaves e datagram (Err fault) old = refl
 old_leaves e datagram (Ok (passed.Forward bytes (Some x))) old = absurd old

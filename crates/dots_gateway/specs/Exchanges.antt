@@ -1,4 +1,4 @@
--- The exchanges that a gateway keeps, and what the time does to them. An exchange is a request of a client, with the number under which
+-- The exchanges of a gateway, and what the time does to them. An exchange is a request of a client, with the number under which
 -- it was passed on. Times are in seconds.
 use Rattle.std.specs.Prelude.{◌≡◌, ℕ, ◌+◌, ◌-◌, ◌%◌, ◌^◌, ◌<◌, ◌≤◌, Bool, not, ◌&&◌, ◌||◌, ◌==◌, nat_le, max, List, [], ◌∷◌, ◌++◌, length, filter, bytes_eq, slice_get, Option, Some, None}
 use Rattle.std.specs.Int.{w64, to_be_bytes}
@@ -8,33 +8,33 @@ use Rattle.coap_message.specs.Message.{CoapMessage}
 use Rattle.dots_history.specs.declared.entry.MessageKey.{MessageKey}
 use Rattle.dots_history.specs.declared.entry.MessageKey.TheVariants as key
 use Rattle.dots_gateway.specs.declared.exchange.Exchange.{Exchange}
-use Rattle.dots_gateway.specs.declared.exchange.Kept.{Kept}
+use Rattle.dots_gateway.specs.declared.exchange.Waiting.{Waiting}
 
--- those that are kept, in the order of their numbers; how many there may be; the number of the next one; and the time
+-- those that wait, in the order of their numbers; how many there may be; the number of the next one; and the time
 pub record ExchangesValue : Type 0 where
   pub room : ℕ
   pub next : ℕ
   pub time : ℕ
-  pub kept : List Kept
+  pub waiting : List Waiting
 
 -- ---- the time
 
--- An exchange is kept for 247 seconds: as long as its Message ID stands for it, were it confirmable (RFC 7252, section 4.8.2).
-abbrev pub is_over : ℕ → Kept → Bool
+-- An exchange waits for 247 seconds: as long as its Message ID may not mean another request, were it confirmable (RFC 7252, section 4.8.2).
+abbrev pub is_over : ℕ → Waiting → Bool
 is_over now k = nat_le (k.exchange.time + 247) now
 
-abbrev pub left_at : ℕ → List Kept → List Kept
-left_at now kept = filter (λ (k : Kept). not (is_over now k)) kept
+abbrev pub left_at : ℕ → List Waiting → List Waiting
+left_at now waiting = filter (λ (k : Waiting). not (is_over now k)) waiting
 
 -- The time doesn't fall: it is the greater of the time handed in and the time before.
 abbrev pub at_time : ℕ → ExchangesValue → ExchangesValue
-at_time now e = record e { time = max now e.time; kept = left_at (max now e.time) e.kept }
+at_time now e = record e { time = max now e.time; waiting = left_at (max now e.time) e.waiting }
 
 -- ---- one more
 
--- no number is left, or as many are kept as there may be
+-- no number is left, or as many wait as there may be
 abbrev pub is_full : ExchangesValue → Bool
-is_full e = nat_le e.room (length e.kept) || e.next == 2 ^ 64 - 1
+is_full e = nat_le e.room (length e.waiting) || e.next == 2 ^ 64 - 1
 
 -- the type and the Message ID of a request
 abbrev pub key_for : Kind → ℕ → MessageKey
@@ -45,31 +45,31 @@ key_for _ id = key.Non id
 abbrev pub exchange_for : ExchangesValue → ℕ → CoapMessage → Exchange
 exchange_for e peer m = record { number = e.next; peer = peer; key = key_for m.kind m.identifier; token = m.token; time = e.time }
 
--- kept beside the datagram that asked
+-- it waits beside the datagram that asked
 abbrev pub with_one : Exchange → List ℕ → ExchangesValue → ExchangesValue
-with_one exchange datagram e = record e { next = e.next + 1; kept = e.kept ++ record { exchange = exchange; asked = Some datagram } ∷ [] }
+with_one exchange datagram e = record e { next = e.next + 1; waiting = e.waiting ++ record { exchange = exchange; asked = Some datagram } ∷ [] }
 
 -- ---- which one
 
--- the Message ID of the client's request; none of the data channel is kept
+-- the Message ID of the client's request; none of the data channel waits
 abbrev pub id_of : MessageKey → ℕ
 id_of key.Http = 0
 id_of (key.Non id) = id
 id_of (key.Con id) = id
 
 -- of this peer's request with this Message ID
-abbrev pub is_from : ℕ → ℕ → Kept → Bool
+abbrev pub is_from : ℕ → ℕ → Waiting → Bool
 is_from peer id k = k.exchange.peer == peer && id_of k.exchange.key == id
 
 -- passed on with this token and this Message ID: the token is the number's 8 bytes, and the Message ID the number modulo 65,536
-abbrev pub is_passed : List ℕ → ℕ → Kept → Bool
+abbrev pub is_passed : List ℕ → ℕ → Waiting → Bool
 is_passed token id k = bytes_eq (to_be_bytes w64 k.exchange.number) token && k.exchange.number % 2 ^ 16 == id
 
 -- ---- what holds of them all
 
 -- no two have one number, nor are two of one peer and Message ID
-pub record AreApart (kept : List Kept) : Type 0 where
-  pub numbers : (i j : ℕ) (one other : Kept) → slice_get kept i ≡ Some one → slice_get kept j ≡ Some other
+pub record AreApart (waiting : List Waiting) : Type 0 where
+  pub numbers : (i j : ℕ) (one other : Waiting) → slice_get waiting i ≡ Some one → slice_get waiting j ≡ Some other
       → one.exchange.number ≡ other.exchange.number → i ≡ j
-  pub requests : (i j : ℕ) (one other : Kept) → slice_get kept i ≡ Some one → slice_get kept j ≡ Some other
+  pub requests : (i j : ℕ) (one other : Waiting) → slice_get waiting i ≡ Some one → slice_get waiting j ≡ Some other
       → one.exchange.peer ≡ other.exchange.peer → id_of one.exchange.key ≡ id_of other.exchange.key → i ≡ j

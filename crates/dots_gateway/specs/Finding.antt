@@ -1,37 +1,37 @@
--- How the exchanges that are kept follow one another, and how they are found.
+-- How the exchanges that wait follow one another, and how they are found.
 use Rattle.std.specs.Prelude.{◌≡◌, ℕ, ◌^◌, ◌<◌, ◌≤◌, Bool, false, ◌&&◌, ◌==◌, List, [], ◌∷◌, length, option_map}
 use Rattle.std.specs.List.{find, AllByRecursion}
 use Rattle.std.specs.Map.{lookup}
-use Rattle.dots_gateway.specs.declared.exchange.Kept.{Kept}
+use Rattle.dots_gateway.specs.declared.exchange.Waiting.{Waiting}
 use Rattle.dots_gateway.specs.declared.exchange.Key.{Key}
 use Rattle.dots_gateway.specs.Exchanges.{ExchangesValue, is_over, id_of, is_from}
 
 -- a later exchange has a higher number, isn't of an earlier time, and is of another request
-pub record IsBefore (one other : Kept) : Type 0 where
+pub record IsBefore (one other : Waiting) : Type 0 where
   pub number : one.exchange.number < other.exchange.number
   pub time : one.exchange.time ≤ other.exchange.time
   pub request : is_from one.exchange.peer (id_of one.exchange.key) other ≡ false
 
-abbrev pub AreInOrder : List Kept → Type 0
+abbrev pub AreInOrder : List Waiting → Type 0
 AreInOrder [] = Unit {0}
 AreInOrder (k ∷ ks) = AllByRecursion (IsBefore k) ks × AreInOrder ks
 
 pub record AreSound (e : ExchangesValue) : Type 0 where
   pub next : e.next < 2 ^ 64
-  pub few : length e.kept ≤ e.room
-  pub order : AreInOrder e.kept
-  pub below : AllByRecursion (λ (k : Kept). k.exchange.number < e.next) e.kept
-  pub past : AllByRecursion (λ (k : Kept). k.exchange.time ≤ e.time) e.kept
+  pub few : length e.waiting ≤ e.room
+  pub order : AreInOrder e.waiting
+  pub below : AllByRecursion (λ (k : Waiting). k.exchange.number < e.next) e.waiting
+  pub past : AllByRecursion (λ (k : Waiting). k.exchange.time ≤ e.time) e.waiting
 
 -- the first one is over
-abbrev pub is_first_over : ℕ → List Kept → Bool
+abbrev pub is_first_over : ℕ → List Waiting → Bool
 is_first_over now [] = false
 is_first_over now (k ∷ ks) = is_over now k
 
-abbrev pub has_number : ℕ → Kept → Bool
+abbrev pub has_number : ℕ → Waiting → Bool
 has_number number k = k.exchange.number == number
 
-abbrev pub number_of : Kept → ℕ
+abbrev pub number_of : Waiting → ℕ
 number_of k = k.exchange.number
 
 -- both are the same peer and Message ID
@@ -39,5 +39,5 @@ abbrev pub same_key : Key → Key → Bool
 same_key one other = (one.peer == other.peer) && (one.id == other.id)
 
 -- a map has the number of the exchange of each peer and Message ID
-abbrev pub AreNumbered : List (Key × ℕ) → List Kept → Type 0
-AreNumbered entries kept = (key : Key) → lookup (same_key key) entries ≡ option_map number_of (find (is_from key.peer key.id) kept)
+abbrev pub AreNumbered : List (Key × ℕ) → List Waiting → Type 0
+AreNumbered entries waiting = (key : Key) → lookup (same_key key) entries ≡ option_map number_of (find (is_from key.peer key.id) waiting)

@@ -14,7 +14,7 @@ use Rattle.dots_heads.specs.Paths.{heartbeat, resource_at}
 use Rattle.dots_history.specs.declared.entry.MessageKey.{MessageKey}
 use Rattle.dots_history.specs.declared.entry.MessageKey.TheVariants as key
 use Rattle.dots_gateway.specs.declared.exchange.Exchange.{Exchange}
-use Rattle.dots_gateway.specs.declared.exchange.Kept.{Kept}
+use Rattle.dots_gateway.specs.declared.exchange.Waiting.{Waiting}
 use Rattle.dots_gateway.specs.declared.passed.Passed.{Passed}
 use Rattle.dots_gateway.specs.declared.passed.Passed.TheVariants as passed
 use Rattle.dots_gateway.specs.declared.passed.GatewayFault.{GatewayFault}
@@ -74,8 +74,8 @@ abbrev pub came_again : Option (List ℕ) → Exchange → List ℕ → CoapMess
 came_again (Some asked) exchange datagram m = bytes_eq asked datagram
 came_again None exchange datagram m = same_message exchange.key (key_for m.kind m.identifier) && bytes_eq exchange.token m.token
 
--- a request whose peer and Message ID are kept: it is passed on once more, with the number that it had, or it is another one
-abbrev pub passed_again : List ℕ → List ℕ → CoapMessage → Passage → Kept → Said
+-- a request whose peer and Message ID have an exchange: it is passed on once more, with the number that it had, or it is another one
+abbrev pub passed_again : List ℕ → List ℕ → CoapMessage → Passage → Waiting → Said
 passed_again domain datagram m p k =
     if came_again k.asked k.exchange datagram m
     then Ok (passed.Forward (spelling (forwarded k.exchange.number domain p m)) None)
@@ -87,7 +87,7 @@ passed_first e peer domain m p =
     if is_full e then Err fault.TableFull
     else Ok (passed.Forward (spelling (forwarded e.next domain p m)) (Some (exchange_for e peer m)))
 
-abbrev pub passed_by : ExchangesValue → ℕ → List ℕ → List ℕ → CoapMessage → Passage → Option Kept → Said
+abbrev pub passed_by : ExchangesValue → ℕ → List ℕ → List ℕ → CoapMessage → Passage → Option Waiting → Said
 passed_by e peer domain datagram m p (Some k) = passed_again domain datagram m p k
 passed_by e peer domain datagram m p None = passed_first e peer domain m p
 
@@ -95,7 +95,7 @@ passed_by e peer domain datagram m p None = passed_first e peer domain m p
 abbrev pub passed_on : ExchangesValue → ℕ → List ℕ → List ℕ → CoapMessage → Passage → Said
 passed_on e peer domain datagram m p =
     if p.hop == 1 then Ok (passed.Reply peer (plain 0xa8 m []))
-    else passed_by e peer domain datagram m p (find (is_from peer m.identifier) e.kept)
+    else passed_by e peer domain datagram m p (find (is_from peer m.identifier) e.waiting)
 
 abbrev pub wanted_said : ExchangesValue → ℕ → List ℕ → List ℕ → CoapMessage → Result Wanted Reject → Said
 wanted_said e peer domain datagram m (Err reject) = refused peer m reject
@@ -116,7 +116,7 @@ pub data Ups (g : GatewayValue) (peer : ℕ) (datagram : List ℕ) (said : Said)
       → IsMessage m → datagram ≡ spelling m
       → said ≡ asked_said g.exchanges peer domain datagram m → Ups g peer datagram said
 
--- the gateway then: an exchange that is new is kept
+-- the gateway then: an exchange that is new waits
 abbrev pub after : GatewayValue → List ℕ → Said → GatewayValue
 after g datagram (Ok (passed.Forward bytes (Some exchange))) = record g { exchanges = with_one exchange datagram g.exchanges }
 after g datagram _ = g
@@ -142,13 +142,13 @@ pub record IsBeat (m : CoapMessage) : Type 0 where
 abbrev pub beat_answer : CoapMessage → List ℕ
 beat_answer m = if hop_in m.options == 0 then rejection m reject.HopLimit else plain CHANGED m []
 
--- the answer to the request of an exchange that is kept, whatever its type
-abbrev pub answer_to : Option Kept → CoapMessage → Passed
+-- the answer to the request of an exchange that waits, whatever its type
+abbrev pub answer_to : Option Waiting → CoapMessage → Passed
 answer_to None m = passed.Nothing
 answer_to (Some k) m = passed.Reply k.exchange.peer (spelling (answered k.exchange m))
 
 abbrev pub response_said : ExchangesValue → CoapMessage → Passed
-response_said e m = if is_response m then answer_to (find (is_passed m.token m.identifier) e.kept) m else passed.Nothing
+response_said e m = if is_response m then answer_to (find (is_passed m.token m.identifier) e.waiting) m else passed.Nothing
 
 -- what is said of a datagram of the upstream
 pub data Downs (g : GatewayValue) (datagram : List ℕ) (said : Passed) : Type 0 where

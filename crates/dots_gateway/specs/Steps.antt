@@ -18,7 +18,7 @@ abbrev pub Gives : Said → Said → Type 0
 Gives (Err fault.NoMemory) said = IsTrue (may_lack said)
 Gives answer said = answer ≡ said
 
--- and an exchange that is new is kept
+-- and an exchange that is new waits
 abbrev pub Leaves : ExchangesValue → List ℕ → Said → ExchangesValue → Type 0
 Leaves e datagram (Ok (passed.Forward bytes (Some exchange))) new = new ≡ with_one exchange datagram e
 Leaves e datagram _ new = new ≡ e

@@ -5,7 +5,7 @@ use coap_message::{Kind, Token};
 use dots_history::MessageKey;
 use dots_lists::Bytes;
 
-/// For how many seconds an exchange is kept (RFC 7252, section 4.8.2, EXCHANGE_LIFETIME).
+/// For how many seconds an exchange waits (RFC 7252, section 4.8.2, EXCHANGE_LIFETIME).
 pub const EXCHANGE_LIFETIME: u64 = 247;
 
 /// The greatest number, which no exchange has: the next one would have none.
@@ -27,9 +27,9 @@ pub struct Exchange {
     pub time: u64,
 }
 
-/// An exchange that is kept.
+/// An exchange that waits for its answer, or for its request to come again.
 #[derive(Drop)]
-pub struct Kept {
+pub struct Waiting {
     pub exchange: Exchange,
     /// The client's datagram. None where it was lost in a crash.
     pub asked: Option<Bytes>,

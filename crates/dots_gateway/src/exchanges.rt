@@ -1,4 +1,4 @@
-//! The exchanges that are kept.
+//! The exchanges that wait.
 
 ghost use Rattle.std.specs.Prelude.{◌≡◌, ◌≢◌, ◌<◌, ◌++◌, ◌∷◌, [], length, drop, false, Some, None, IfOk, OnErr, MatchOption, option_map};
 ghost use Rattle.std.specs.Int.{w64, from_be_bytes};
@@ -7,7 +7,7 @@ ghost use Rattle.std.specs.List.{find};
 ghost use Rattle.dots_gateway.specs.Exchanges.{AreApart, at_time, is_over, left_at, is_full, is_from, is_passed, key_for, exchange_for, with_one};
 ghost use Rattle.dots_gateway.specs.Finding.{AreInOrder, AreNumbered, is_first_over, has_number};
 
-use crate::exchange::{EXCHANGE_LIFETIME, Exchange, Kept, Key, LAST_NUMBER, id_of, key_for};
+use crate::exchange::{EXCHANGE_LIFETIME, Exchange, Key, LAST_NUMBER, Waiting, id_of, key_for};
 use coap_message::{Message, Token};
 use dots_lists::{Bytes, NoMemory};
 use std::alloc::Global;
@@ -17,7 +17,7 @@ use std::marker::Model;
 /// Exchanges in the order of their numbers. That of a client's request is found by its hash, and that of a number by halving.
 #[derive(Drop)]
 pub struct Exchanges {
-    kept: VecDeque<Kept>,
+    waiting: VecDeque<Waiting>,
     /// The number of each exchange.
     numbers: HashMap<Key, u64>,
     /// How many there may be.
@@ -36,24 +36,24 @@ impl Model for Exchanges {
 
     ghost Value = { ExchangesValue };
 
-    ghost view = { λ e. record { room = e.room; next = e.next; time = e.time; kept = e.kept.items } };
+    ghost view = { λ e. record { room = e.room; next = e.next; time = e.time; waiting = e.waiting.items } };
 
     ghost invariant = { λ e. record {
-      sound : AreSound (record { room = e.room; next = e.next; time = e.time; kept = e.kept.items });
-      numbered : AreNumbered e.numbers.entries e.kept.items;
-      reserved : e.room ≤ deque_capacity e.kept;
+      sound : AreSound (record { room = e.room; next = e.next; time = e.time; waiting = e.waiting.items });
+      numbered : AreNumbered e.numbers.entries e.waiting.items;
+      reserved : e.room ≤ deque_capacity e.waiting;
     } };
 }
 
 impl Exchanges {
     /// No exchanges, at the time 0, with room for so many. The first number is 1.
     pub fn new(alloc: Global, room: usize) -> Result<Self, NoMemory>
-        ensures { IfOk result (λ e. e ≡ record { room = room; next = 1; time = 0; kept = [] }) }
+        ensures { IfOk result (λ e. e ≡ record { room = room; next = 1; time = 0; waiting = [] }) }
     {
-        let kept = VecDeque::with_capacity(alloc, room)?;
+        let waiting = VecDeque::with_capacity(alloc, room)?;
         let numbers = HashMap::with_capacity(alloc, room)?;
         Ok(Exchanges {
-            kept,
+            waiting,
             numbers,
             room,
             next: 1,
@@ -72,16 +72,19 @@ impl Exchanges {
     pub fn is_full(&self) -> bool
         ensures { result ≡ is_full self.now }
     {
-        self.kept.len() >= self.room || self.next == LAST_NUMBER
+        self.waiting.len() >= self.room || self.next == LAST_NUMBER
     }
 
-    /// How many are kept at the time `now`, in seconds, or at their own time, if that is later.
+    /// How many wait at the time `now`, in seconds, or at their own time, if that is later.
     pub fn count(&self, now: u64) -> usize
-        ensures count { result ≡ length (at_time now self.now).kept }
-        ensures apart { AreApart self.now.kept }
+        ensures count { result ≡ length (at_time now self.now).waiting }
+        ensures apart { AreApart self.now.waiting }
     {
         let now = now.max(self.time);
-        self.kept.iter().filter(|kept| !is_over(kept, now)).count()
+        self.waiting
+            .iter()
+            .filter(|waiting| !is_over(waiting, now))
+            .count()
     }
 
     /// The time is now `now`, in seconds, unless it was later before. Exchanges that are over go. Takes no memory.
@@ -89,27 +92,27 @@ impl Exchanges {
         ensures { self.new ≡ at_time now self.old }
     {
         self.time = now.max(self.time);
-        drop_over(&mut self.kept, &mut self.numbers, self.time);
+        drop_over(&mut self.waiting, &mut self.numbers, self.time);
     }
 
     /// The exchange of a peer's request with this Message ID.
-    pub fn of_request(&self, peer: u32, id: u16) -> Option<&Kept>
-        ensures { option_map (λ k. k.now) result ≡ find (is_from peer id) self.now.kept }
+    pub fn of_request(&self, peer: u32, id: u16) -> Option<&Waiting>
+        ensures { option_map (λ k. k.now) result ≡ find (is_from peer id) self.now.waiting }
     {
         match self.numbers.get(&Key { peer, id }) {
-            Some(number) => of_number(&self.kept, *number),
+            Some(number) => of_number(&self.waiting, *number),
             None => None,
         }
     }
 
     /// The exchange that was passed on with this token and this Message ID.
-    pub fn of_answer(&self, token: &[u8], id: u16) -> Option<&Kept>
-        ensures { option_map (λ k. k.now) result ≡ find (is_passed token.now id) self.now.kept }
+    pub fn of_answer(&self, token: &[u8], id: u16) -> Option<&Waiting>
+        ensures { option_map (λ k. k.now) result ≡ find (is_passed token.now id) self.now.waiting }
     {
         let Some(number) = number_in(token) else {
             return None;
         };
-        let found = of_number(&self.kept, number);
+        let found = of_number(&self.waiting, number);
         if number % 65_536 != u64::from(id) {
             return None;
         }
@@ -125,7 +128,7 @@ impl Exchanges {
         datagram: &[u8],
     ) -> Result<Exchange, NoMemory>
         requires room { is_full self.old ≡ false }
-        requires new { find (is_from peer message.now.identifier) self.old.kept ≡ None }
+        requires new { find (is_from peer message.now.identifier) self.old.waiting ≡ None }
         ensures exchange { IfOk result (λ exchange. exchange ≡ exchange_for self.old peer message.now) }
         ensures ok { IfOk result (λ exchange. self.new ≡ with_one exchange datagram.now self.old) }
         ensures err { OnErr result (self.new ≡ self.old) }
@@ -134,7 +137,7 @@ impl Exchanges {
         let exchange = exchange_for(self.next, self.time, peer, message);
         let id = message.id();
         self.numbers.insert(Key { peer, id }, self.next)?;
-        keep(&mut self.kept, &exchange, asked);
+        put_last(&mut self.waiting, &exchange, asked);
         self.next += 1;
         Ok(exchange)
     }
@@ -153,12 +156,12 @@ fn number_in(token: &[u8]) -> Option<u64>
 }
 
 /// Puts an exchange behind the others, beside the datagram that asked.
-fn keep(kept: &mut VecDeque<Kept>, exchange: &Exchange, asked: Bytes)
-    requires { deque_len kept.old < deque_capacity kept.old }
-    ensures items { kept.new.items ≡ kept.old.items ++ record { exchange = exchange.now; asked = Some asked } ∷ [] }
-    ensures capacity { deque_capacity kept.new ≡ deque_capacity kept.old }
+fn put_last(waiting: &mut VecDeque<Waiting>, exchange: &Exchange, asked: Bytes)
+    requires { deque_len waiting.old < deque_capacity waiting.old }
+    ensures items { waiting.new.items ≡ waiting.old.items ++ record { exchange = exchange.now; asked = Some asked } ∷ [] }
+    ensures capacity { deque_capacity waiting.new ≡ deque_capacity waiting.old }
 {
-    kept.push_back_reserved(Kept {
+    waiting.push_back_reserved(Waiting {
         exchange: *exchange,
         asked: Some(asked),
     });
@@ -178,44 +181,44 @@ fn exchange_for(number: u64, time: u64, peer: u32, message: &Message<'_>) -> Exc
 }
 
 /// Whether an exchange is over at the time `now`, in seconds.
-fn is_over(kept: &Kept, now: u64) -> bool
-    ensures { result ≡ is_over now kept.now }
+fn is_over(waiting: &Waiting, now: u64) -> bool
+    ensures { result ≡ is_over now waiting.now }
 {
-    now.saturating_sub(kept.exchange.time) >= EXCHANGE_LIFETIME
+    now.saturating_sub(waiting.exchange.time) >= EXCHANGE_LIFETIME
 }
 
 /// Lets the exchanges go that are over at the time `now`, in seconds. They are the first.
-fn drop_over(kept: &mut VecDeque<Kept>, numbers: &mut HashMap<Key, u64>, now: u64)
-    requires order { AreInOrder kept.old.items }
-    requires numbered { AreNumbered numbers.old.entries kept.old.items }
-    ensures left { kept.new.items ≡ left_at now kept.old.items }
-    ensures numbered { AreNumbered numbers.new.entries kept.new.items }
-    ensures capacity { deque_capacity kept.new ≡ deque_capacity kept.old }
+fn drop_over(waiting: &mut VecDeque<Waiting>, numbers: &mut HashMap<Key, u64>, now: u64)
+    requires order { AreInOrder waiting.old.items }
+    requires numbered { AreNumbered numbers.old.entries waiting.old.items }
+    ensures left { waiting.new.items ≡ left_at now waiting.old.items }
+    ensures numbered { AreNumbered numbers.new.entries waiting.new.items }
+    ensures capacity { deque_capacity waiting.new ≡ deque_capacity waiting.old }
 {
-    while is_first_over(kept, now) {
-        drop_first(kept, numbers);
+    while is_first_over(waiting, now) {
+        drop_first(waiting, numbers);
     }
 }
 
 /// Whether the first exchange is over at the time `now`, in seconds.
-fn is_first_over(kept: &VecDeque<Kept>, now: u64) -> bool
-    ensures { result ≡ is_first_over now kept.now.items }
+fn is_first_over(waiting: &VecDeque<Waiting>, now: u64) -> bool
+    ensures { result ≡ is_first_over now waiting.now.items }
 {
-    match kept.front() {
+    match waiting.front() {
         Some(first) => is_over(first, now),
         None => false,
     }
 }
 
 /// Lets the first exchange go.
-fn drop_first(kept: &mut VecDeque<Kept>, numbers: &mut HashMap<Key, u64>)
-    requires order { AreInOrder kept.old.items }
-    requires numbered { AreNumbered numbers.old.entries kept.old.items }
-    ensures left { kept.new.items ≡ drop 1 kept.old.items }
-    ensures numbered { AreNumbered numbers.new.entries kept.new.items }
-    ensures capacity { deque_capacity kept.new ≡ deque_capacity kept.old }
+fn drop_first(waiting: &mut VecDeque<Waiting>, numbers: &mut HashMap<Key, u64>)
+    requires order { AreInOrder waiting.old.items }
+    requires numbered { AreNumbered numbers.old.entries waiting.old.items }
+    ensures left { waiting.new.items ≡ drop 1 waiting.old.items }
+    ensures numbered { AreNumbered numbers.new.entries waiting.new.items }
+    ensures capacity { deque_capacity waiting.new ≡ deque_capacity waiting.old }
 {
-    let Some(first) = kept.pop_front() else {
+    let Some(first) = waiting.pop_front() else {
         return;
     };
     let key = Key {
@@ -226,15 +229,15 @@ fn drop_first(kept: &mut VecDeque<Kept>, numbers: &mut HashMap<Key, u64>)
 }
 
 /// The exchange of this number, by halving.
-fn of_number(kept: &VecDeque<Kept>, number: u64) -> Option<&Kept>
-    requires { AreInOrder kept.now.items }
-    ensures { option_map (λ k. k.now) result ≡ find (has_number number) kept.now.items }
+fn of_number(waiting: &VecDeque<Waiting>, number: u64) -> Option<&Waiting>
+    requires { AreInOrder waiting.now.items }
+    ensures { option_map (λ k. k.now) result ≡ find (has_number number) waiting.now.items }
 {
     let mut low = 0;
-    let mut high = kept.len();
+    let mut high = waiting.len();
     while low < high {
         let middle = low + (high - low) / 2;
-        let here = &kept[middle];
+        let here = &waiting[middle];
         if here.exchange.number == number {
             return Some(here);
         }

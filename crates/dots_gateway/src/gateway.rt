@@ -1,7 +1,7 @@
 //! The gateway.
 
 ghost use Rattle.std.specs.Prelude.{◌≡◌, ◌≤◌, [], length, IfOk};
-ghost use Rattle.dots_gateway.specs.declared.gateway.TheConstants.{MAX_KEPT};
+ghost use Rattle.dots_gateway.specs.declared.gateway.TheConstants.{MAX_WAITING};
 ghost use Rattle.dots_gateway.specs.Exchanges.{AreApart, at_time};
 ghost use Rattle.dots_gateway.specs.Gateway.{gateway_at, UpOrLacks, DownOrLacks};
 ghost use Rattle.dots_gateway.specs.Routes.{routes_of};
@@ -19,7 +19,7 @@ use std::alloc::Global;
 use std::marker::Model;
 
 /// The most exchanges that a gateway may have room for.
-pub const MAX_KEPT: usize = 1024;
+pub const MAX_WAITING: usize = 1024;
 
 /// A server-domain gateway (RFC 8811, section 2.2.3).
 #[derive(Drop)]
@@ -40,7 +40,7 @@ impl Model for GatewayCore {
 }
 
 impl GatewayCore {
-    /// A gateway for the clients of the settings, with room for so many exchanges. Nothing is kept, the time is 0, and the first number
+    /// A gateway for the clients of the settings, with room for so many exchanges. None waits, the time is 0, and the first number
     /// is 1.
     pub fn new(
         alloc: Global,
@@ -48,8 +48,8 @@ impl GatewayCore {
         upstream: u32,
         room: usize,
     ) -> Result<Self, NoMemory>
-        requires { room ≤ MAX_KEPT }
-        ensures { IfOk result (λ core. core ≡ record { routes = routes_of settings.now; upstream = upstream; exchanges = record { room = room; next = 1; time = 0; kept = [] } }) }
+        requires { room ≤ MAX_WAITING }
+        ensures { IfOk result (λ core. core ≡ record { routes = routes_of settings.now; upstream = upstream; exchanges = record { room = room; next = 1; time = 0; waiting = [] } }) }
     {
         let routes = routes_of(alloc, settings)?;
         let exchanges = Exchanges::new(alloc, room)?;
@@ -62,7 +62,7 @@ impl GatewayCore {
     }
 
     /// Takes a datagram of a peer that isn't the upstream, at the time `now`, in seconds. What it is answered by itself is a reply to the
-    /// peer; a request for a mitigation is passed on, and is kept for 247 seconds with its number. After an error the gateway is as the
+    /// peer; a request for a mitigation is passed on, and waits for 247 seconds with its number. After an error the gateway is as the
     /// time alone leaves it.
     pub fn up(&mut self, from: u32, bytes: &[u8], now: u64) -> Result<Passed, GatewayFault>
         ensures { UpOrLacks (gateway_at now self.old) from bytes.now result self.new }
@@ -103,11 +103,11 @@ impl GatewayCore {
         self.exchanges.pass_time(now);
     }
 
-    /// How many exchanges are kept at the time `now`, in seconds, or at the gateway's own time, if that is later. No two have one number,
+    /// How many exchanges wait at the time `now`, in seconds, or at the gateway's own time, if that is later. No two have one number,
     /// nor are two of one peer and Message ID. Takes no memory.
     pub fn waiting(&self, now: u64) -> usize
-        ensures count { result ≡ length (at_time now self.now.exchanges).kept }
-        ensures apart { AreApart self.now.exchanges.kept }
+        ensures count { result ≡ length (at_time now self.now.exchanges).waiting }
+        ensures apart { AreApart self.now.exchanges.waiting }
     {
         self.exchanges.count(now)
     }

@@ -3,7 +3,7 @@
 //!
 //! A [`GatewayCore`] makes no call of a socket or a clock. [`GatewayCore::up`] takes a datagram of a client and [`GatewayCore::down`] one
 //! of the upstream, and each says what is to be sent. A request is passed on under a number of its own, and for the domain of its client,
-//! whatever domain it named. What was passed on is kept for 247 seconds as an [`Exchange`], so that a request that comes again has the
+//! whatever domain it named. What was passed on waits for 247 seconds as an [`Exchange`], so that a request that comes again has the
 //! same number and its answer finds its client.
 //!
 //! Start reading at `specs/Gateway.antt`, which has the gateway as a value and what a datagram does to it, at `specs/Forwarding.antt`,
@@ -24,7 +24,7 @@ mod routes;
 mod wanted;
 mod writing;
 
-pub use exchange::{EXCHANGE_LIFETIME, Exchange, Kept, LAST_NUMBER};
-pub use gateway::{GatewayCore, MAX_KEPT};
+pub use exchange::{EXCHANGE_LIFETIME, Exchange, LAST_NUMBER, Waiting};
+pub use gateway::{GatewayCore, MAX_WAITING};
 pub use passed::{GatewayFault, HOP_LIMIT_REACHED, Passed};
 pub use routes::Route;

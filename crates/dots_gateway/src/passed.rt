@@ -26,7 +26,7 @@ pub enum Passed {
 /// Why a request isn't passed on.
 #[derive(Clone, Copy)]
 pub enum GatewayFault {
-    /// As many exchanges are kept as there may be, or no number is left.
+    /// As many exchanges wait as there may be, or no number is left.
     TableFull,
     /// Memory ran out.
     NoMemory,

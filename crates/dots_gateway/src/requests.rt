@@ -8,7 +8,7 @@ ghost use Rattle.dots_gateway.specs.Gateway.{rejected, unread, refused, same_mes
 ghost use Rattle.dots_gateway.specs.Steps.{Gives, Leaves, IsOld, is_ignored, replied};
 ghost use Rattle.dots_gateway.specs.WantedValues.{passage_value, CanPass};
 
-use crate::exchange::{Kept, key_for};
+use crate::exchange::{Waiting, key_for};
 use crate::exchanges::Exchanges;
 use crate::forwarding::forwarded;
 use crate::passed::{GatewayFault, HOP_LIMIT_REACHED, Passed};
@@ -84,7 +84,7 @@ fn is_ignored(kind: Kind, reject: &Reject) -> bool
     }
 }
 
-/// What is done with a message of a client. An exchange that is new is kept.
+/// What is done with a message of a client. An exchange that is new waits from then on.
 pub fn ask(
     alloc: Global,
     exchanges: &mut Exchanges,
@@ -133,7 +133,7 @@ fn pass_on(
         return reply(alloc, asking, HOP_LIMIT_REACHED);
     }
     match exchanges.of_request(asking.peer, asking.message.id()) {
-        Some(kept) => pass_again(alloc, kept, asking, passage),
+        Some(waiting) => pass_again(alloc, waiting, asking, passage),
         None => pass_first(alloc, exchanges, asking, passage),
     }
 }
@@ -141,33 +141,33 @@ fn pass_on(
 /// Passes a request on once more with the number that it had, if it is the same one.
 fn pass_again(
     alloc: Global,
-    kept: &Kept,
+    waiting: &Waiting,
     asking: &Asking<'_>,
     passage: &Passage<'_>,
 ) -> Result<Passed, GatewayFault>
     requires code { asking.now.message.now.code ≢ 0 }
     requires passable { CanPass passage.now }
-    ensures gives { Gives result (passed_again asking.now.domain.now asking.now.datagram.now asking.now.message.now (passage_value passage.now) kept.now) }
+    ensures gives { Gives result (passed_again asking.now.domain.now asking.now.datagram.now asking.now.message.now (passage_value passage.now) waiting.now) }
     ensures old { IsOld result }
 {
-    if !came_again(kept, asking) {
+    if !came_again(waiting, asking) {
         return Ok(Passed::Nothing);
     }
-    let number = kept.exchange.number;
+    let number = waiting.exchange.number;
     let bytes = forwarded(alloc, number, asking.domain, passage, asking.message)?;
     Ok(Passed::Forward { bytes, fresh: None })
 }
 
 /// Whether the request of an exchange came again: as the same bytes, or, where these were lost, with the same type, Message ID and token.
-fn came_again(kept: &Kept, asking: &Asking<'_>) -> bool
-    ensures { result ≡ came_again kept.now.asked kept.now.exchange asking.now.datagram.now asking.now.message.now }
+fn came_again(waiting: &Waiting, asking: &Asking<'_>) -> bool
+    ensures { result ≡ came_again waiting.now.asked waiting.now.exchange asking.now.datagram.now asking.now.message.now }
 {
-    match &kept.asked {
+    match &waiting.asked {
         Some(asked) => asked.items() == asking.datagram,
         None => {
             let message = asking.message;
-            is_same(kept.exchange.key, key_for(message.kind(), message.id()))
-                && kept.exchange.token.bytes() == message.token()
+            is_same(waiting.exchange.key, key_for(message.kind(), message.id()))
+                && waiting.exchange.token.bytes() == message.token()
         }
     }
 }
@@ -190,7 +190,7 @@ fn pass_first(
     asking: &Asking<'_>,
     passage: &Passage<'_>,
 ) -> Result<Passed, GatewayFault>
-    requires new { find (is_from asking.now.peer asking.now.message.now.identifier) exchanges.old.kept ≡ None }
+    requires new { find (is_from asking.now.peer asking.now.message.now.identifier) exchanges.old.waiting ≡ None }
     requires code { asking.now.message.now.code ≢ 0 }
     requires passable { CanPass passage.now }
     ensures gives { Gives result (passed_first exchanges.old asking.now.peer asking.now.domain.now asking.now.message.now (passage_value passage.now)) }

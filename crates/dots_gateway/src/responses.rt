@@ -74,12 +74,12 @@ pub fn response(
     if !is_response(message) {
         return Ok(Passed::Nothing);
     }
-    let Some(kept) = exchanges.of_answer(message.token(), message.id()) else {
+    let Some(waiting) = exchanges.of_answer(message.token(), message.id()) else {
         return Ok(Passed::Nothing);
     };
-    let bytes = answered(alloc, &kept.exchange, message)?;
+    let bytes = answered(alloc, &waiting.exchange, message)?;
     Ok(Passed::Reply {
-        to: kept.exchange.peer,
+        to: waiting.exchange.peer,
         bytes,
     })
 }

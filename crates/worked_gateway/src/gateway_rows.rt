@@ -1,10 +1,10 @@
 //! What a gateway does with datagrams of its clients and of its upstream (RFC 9132, section 4.4; RFC 8768).
 //!
 //! Tables stand between lines of three equal signs. Each begins with the room for exchanges; its steps are put to one gateway, whose
-//! upstream is peer 9: a datagram of a peer at a time, one of the upstream at a time, and how many exchanges are kept at a time.
+//! upstream is peer 9: a datagram of a peer at a time, one of the upstream at a time, and how many exchanges wait at a time.
 
 use crate::row::Row;
-use dots_gateway::{GatewayCore, GatewayFault, MAX_KEPT, Passed};
+use dots_gateway::{GatewayCore, GatewayFault, MAX_WAITING, Passed};
 use dots_settings::settings_of;
 use std::alloc::Global;
 use std::process::Abort;
@@ -113,7 +113,7 @@ waiting 252 = 1";
 
 /// A gateway with room for so many exchanges.
 fn gateway(alloc: Global, room: usize) -> Option<GatewayCore> {
-    if room > MAX_KEPT {
+    if room > MAX_WAITING {
         return None;
     }
     let settings = settings_of(alloc, SETTINGS.as_bytes()).ok()?;
@@ -121,7 +121,7 @@ fn gateway(alloc: Global, room: usize) -> Option<GatewayCore> {
 }
 
 /// What is to be done, as text.
-fn told(alloc: Global, passed: &Passed) -> Option<String> {
+fn worded(alloc: Global, passed: &Passed) -> Option<String> {
     match passed {
         Passed::Forward { bytes, fresh } => {
             let hex = hex::encode(alloc, bytes.items()).ok()?;
@@ -149,7 +149,7 @@ fn up(alloc: Global, core: &mut GatewayCore, row: &mut Row<'_>) -> Option<String
     let word = row.text(" ");
     let datagram = row.bytes(alloc, word);
     match core.up(from, datagram.as_slice(), now) {
-        Ok(passed) => told(alloc, &passed),
+        Ok(passed) => worded(alloc, &passed),
         Err(GatewayFault::TableFull) => String::from_str(alloc, "full").ok(),
         Err(GatewayFault::NoMemory) => None,
     }
@@ -161,7 +161,7 @@ fn down(alloc: Global, core: &mut GatewayCore, row: &mut Row<'_>) -> Option<Stri
     let word = row.text(" ");
     let datagram = row.bytes(alloc, word);
     let passed = core.down(datagram.as_slice(), now);
-    told(alloc, &passed)
+    worded(alloc, &passed)
 }
 
 fn waiting(alloc: Global, core: &GatewayCore, row: &mut Row<'_>) -> Option<String> {

@@ -3,21 +3,21 @@ use Rattle.std.specs.Prelude.{slice_get, Some}
 use Rattle.std.specs.List.{find}
 use Rattle.std.proofs.lemmas.Bool.{ne_eqb, cases_lt}
 use Rattle.std.proofs.lemmas.Option.{slice_get_read}
-use Rattle.dots_gateway.specs.declared.exchange.Kept.{Kept}
+use Rattle.dots_gateway.specs.declared.exchange.Waiting.{Waiting}
 use Rattle.dots_gateway.specs.Finding.{has_number}
 use Rattle.dots_gateway.proofs.Orders.{number_at, below_then, above_then, nowhere_found}
 use Rattle.dots_gateway.proofs.exchanges.of_number.Goals as goal
 
 pub returns-then-here-number : goal.returns-then-here-number
 returns-then-here-number c =
-    let ks = c.args.kept.now.items in
+    let ks = c.args.waiting.now.items in
     let middle = c.loop-low.low + (c.loop-low.high - c.loop-low.low) / 2 in
     let there = slice_get_read ks (length ks) middle c.index-here.result.now refl (omega (arith, c.loop-low-test.true, c.loop-low.invariant.within)) c.index-here.ensures in
     sym (subst (λ (n : ℕ). find (has_number n) ks ≡ Some c.index-here.result.now) c.if-here-number.true (number_at ks middle c.index-here.result.now c.requires there))
 
 pub loop-low-preserved-then-here-number-2 : goal.loop-low-preserved-then-here-number-2
 loop-low-preserved-then-here-number-2 c =
-    let ks = c.args.kept.now.items in
+    let ks = c.args.waiting.now.items in
     let middle = c.loop-low.low + (c.loop-low.high - c.loop-low.low) / 2 in
     let there = slice_get_read ks (length ks) middle c.index-here.result.now refl (omega (arith, c.loop-low-test.true, c.loop-low.invariant.within)) c.index-here.ensures in
     record {
@@ -28,7 +28,7 @@ loop-low-preserved-then-here-number-2 c =
 
 pub loop-low-preserved : goal.loop-low-preserved
 loop-low-preserved c =
-    let ks = c.args.kept.now.items in
+    let ks = c.args.waiting.now.items in
     let middle = c.loop-low.low + (c.loop-low.high - c.loop-low.low) / 2 in
     let there = slice_get_read ks (length ks) middle c.index-here.result.now refl (omega (arith, c.loop-low-test.true, c.loop-low.invariant.within)) c.index-here.ensures in
     record {
@@ -39,7 +39,7 @@ loop-low-preserved c =
 
 pub returns : goal.returns
 returns c =
-    sym (nowhere_found (has_number c.args.number) c.args.kept.now.items
+    sym (nowhere_found (has_number c.args.number) c.args.waiting.now.items
     (λ i k there.
     ne_eqb k.exchange.number c.args.number
     (λ same.

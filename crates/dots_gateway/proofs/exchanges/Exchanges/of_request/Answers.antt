@@ -9,11 +9,11 @@ pub returns-in-Some : goal.returns-in-Some
 returns-in-Some c =
     let t = is_from c.args.peer c.args.id in
     c.of_number.ensures
-    ∙ found_by_number t c.self.inside.kept.items _ c.self.invariant.sound.order (c.in-Some.ensures.value ∙ c.self.invariant.numbered (record { peer = c.args.peer; id = c.args.id }))
-    ∙ ap (λ (e : ExchangesValue). find t e.kept) c.self.view_is
+    ∙ found_by_number t c.self.inside.waiting.items _ c.self.invariant.sound.order (c.in-Some.ensures.value ∙ c.self.invariant.numbered (record { peer = c.args.peer; id = c.args.id }))
+    ∙ ap (λ (e : ExchangesValue). find t e.waiting) c.self.view_is
 
 pub returns-in-None : goal.returns-in-None
 returns-in-None c =
     let t = is_from c.args.peer c.args.id in
-    none_by_number t c.self.inside.kept.items (c.in-None.ensures.value ∙ c.self.invariant.numbered (record { peer = c.args.peer; id = c.args.id }))
-    ∙ ap (λ (e : ExchangesValue). find t e.kept) c.self.view_is
+    none_by_number t c.self.inside.waiting.items (c.in-None.ensures.value ∙ c.self.invariant.numbered (record { peer = c.args.peer; id = c.args.id }))
+    ∙ ap (λ (e : ExchangesValue). find t e.waiting) c.self.view_is
