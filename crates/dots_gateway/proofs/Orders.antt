@@ -1,10 +1,11 @@
 -- The exchanges in the order of their numbers.
-use Rattle.std.proofs.Common.{◌≡◌, ◌≢◌, ℕ, zero, suc, ◌+◌, ◌-◌, ◌^◌, ◌<◌, ◌≤◌, Bool, true, false, cond, List, [], ◌∷◌, ◌++◌, length, drop, refl, sym, ap, subst, ◌∙◌, inl, inr, length-append, arith}
+use Rattle.std.proofs.Common.{◌≡◌, ◌≢◌, ℕ, zero, suc, ◌+◌, ◌-◌, ◌^◌, ◌<◌, ◌≤◌, Bool, true, false, cond, List, [], ◌∷◌, ◌++◌, length, map, drop, get_or, refl, sym, ap, subst, ◌∙◌, inl, inr, length-append, arith}
 use Rattle.std.specs.Prelude.{◌==◌, ◌&&◌, not, nat_le, max, filter, slice_get, option_map, Option, Some, None, ⊤}
 use Rattle.std.specs.List.{find, AllByRecursion}
 use Rattle.std.specs.Option.{option_or}
 use Rattle.std.proofs.lemmas.Bool.{cond-true, cond-false, cases_order, cases_eq, both_ways, and_parts, and_from, or_parts, eq-eqb, ne_eqb, eqb-true, eqb-false, leb-false, lt-leb, false≢true}
 use Rattle.std.proofs.lemmas.Option.{none-some, same_Some}
+use Rattle.std.proofs.lemmas.List.{length-map}
 use Rattle.std.proofs.lemmas.List.Folds.{find-append}
 use Rattle.coap_message.specs.Message.{CoapMessage}
 use Rattle.dots_history.specs.declared.entry.MessageKey.TheVariants as key
@@ -13,8 +14,8 @@ use Rattle.coap_message.specs.declared.kind.Kind.TheVariants.{Con, Non, Ack, Rst
 use Rattle.dots_gateway.specs.declared.exchange.Exchange.{Exchange}
 use Rattle.dots_gateway.specs.declared.exchange.Waiting.{Waiting}
 use Rattle.dots_gateway.specs.declared.exchange.Key.{Key}
-use Rattle.dots_gateway.specs.Exchanges.{ExchangesValue, AreApart, is_over, left_at, at_time, is_from, id_of, key_for, is_full, exchange_for, with_one}
-use Rattle.dots_gateway.specs.Finding.{IsBefore, AreInOrder, AreSound, AreNumbered, is_first_over, has_number, number_of, same_key}
+use Rattle.dots_gateway.specs.Exchanges.{ExchangesValue, AreApart, AreRising, AreRestorable, waiting_again, time_of, key_of, is_over, left_at, at_time, is_from, id_of, key_for, is_full, exchange_for, with_one}
+use Rattle.dots_gateway.specs.Finding.{IsBefore, AreInOrder, AreSound, AreLinked, number_for, is_first_over, has_number, number_of, same_key}
 
 -- ---- all of a list
 
@@ -123,6 +124,7 @@ sound_at now e sound =
     let stays = λ (k : Waiting). not (is_over t k) in
     let few = fewer stays e.waiting in
     record {
+      some = sound.some;
       next = sound.next;
       few = omega (arith, few, sound.few);
       order = order_left stays e.waiting sound.order;
@@ -133,33 +135,35 @@ sound_at now e sound =
 
 -- ---- their requests
 
--- the peer and the Message ID of an exchange
-abbrev pub key_of : Waiting → Key
-key_of k = record { peer = k.exchange.peer; id = id_of k.exchange.key }
-
 same_parts : (k : Waiting) (key : Key) → is_from key.peer key.id k ≡ true → (k.exchange.peer ≡ key.peer) × (id_of k.exchange.key ≡ key.id)
 same_parts k key is =
     let both = and_parts (k.exchange.peer == key.peer) (id_of k.exchange.key == key.id) is in
     (eqb-true k.exchange.peer key.peer both.0, eqb-true (id_of k.exchange.key) key.id both.1)
 
--- no later one is of the request of an earlier one
-none_later : (k : Waiting) (ks : List Waiting) (key : Key) → AllByRecursion (IsBefore k) ks → is_from key.peer key.id k ≡ true → find (is_from key.peer key.id) ks ≡ None
-none_later k ks key all is =
+-- two that are of one request have one number there
+same_number : (k : Waiting) (ks : List Waiting) (key : Key) → is_from key.peer key.id k ≡ true → number_for (key_of k.exchange) ks ≡ number_for key ks
+same_number k ks key is =
     let same = same_parts k key is in
-    none_found (is_from key.peer key.id) ks
-    (all_mapped (IsBefore k) (λ (x : Waiting). is_from key.peer key.id x ≡ false)
-    (λ x before. subst (λ (p : ℕ). is_from p key.id x ≡ false) same.0 (subst (λ (i : ℕ). is_from k.exchange.peer i x ≡ false) same.1 before.request)) ks all)
+    ap (λ (p : ℕ). option_map number_of (find (is_from p (id_of k.exchange.key)) ks)) same.0
+    ∙ ap (λ (i : ℕ). option_map number_of (find (is_from key.peer i) ks)) same.1
 
--- the first one goes, and its number with it
-pub one_gone : (k : Waiting) (ks : List Waiting) (key : Key) (before found : Option ℕ) → AllByRecursion (IsBefore k) ks
-    → before ≡ option_map number_of (find (is_from key.peer key.id) (k ∷ ks)) → found ≡ cond (same_key (key_of k) key) None before
-    → found ≡ option_map number_of (find (is_from key.peer key.id) ks)
-one_gone k ks key before found all old new = new ∙ by_test (is_from key.peer key.id k) refl old
+-- the first one goes, and the next one of its request is the first of it
+pub one_gone : (k : Waiting) (ks : List Waiting) (key : Key) (link before found : Option ℕ) → link ≡ number_for (key_of k.exchange) ks
+    → before ≡ number_for key (k ∷ ks) → found ≡ cond (same_key (key_of k.exchange) key) link before → found ≡ number_for key ks
+one_gone k ks key link before found next old new = new ∙ by_test (is_from key.peer key.id k) refl old
   where
-    by_test : (b : Bool) → is_from key.peer key.id k ≡ b → before ≡ option_map number_of (cond b (Some k) (find (is_from key.peer key.id) ks))
-        → cond b None before ≡ option_map number_of (find (is_from key.peer key.id) ks)
-    by_test true is old = sym (ap (option_map number_of) (none_later k ks key all is))
+    by_test : (b : Bool) → is_from key.peer key.id k ≡ b → before ≡ option_map number_of (cond b (Some k) (find (is_from key.peer key.id) ks)) → cond b link before ≡ number_for key ks
+    by_test true is old = next ∙ same_number k ks key is
     by_test false is old = old
+
+-- one more in front
+pub one_before : (k : Waiting) (ks : List Waiting) (key : Key) (before found : Option ℕ) → before ≡ number_for key ks
+    → found ≡ cond (same_key (key_of k.exchange) key) (Some k.exchange.number) before → found ≡ number_for key (k ∷ ks)
+one_before k ks key before found old new = new ∙ by_test (is_from key.peer key.id k)
+  where
+    by_test : (b : Bool) → cond b (Some k.exchange.number) before ≡ option_map number_of (cond b (Some k) (find (is_from key.peer key.id) ks))
+    by_test true = refl
+    by_test false = old
 
 or_none : (o : Option Waiting) → option_or o None ≡ o
 or_none None = refl
@@ -167,7 +171,7 @@ or_none (Some x) = refl
 
 -- one more, of another request
 pub one_more : (ks : List Waiting) (one : Waiting) (key : Key) (before found : Option ℕ) → find (is_from one.exchange.peer (id_of one.exchange.key)) ks ≡ None
-    → before ≡ option_map number_of (find (is_from key.peer key.id) ks) → found ≡ cond (same_key (key_of one) key) (Some one.exchange.number) before
+    → before ≡ option_map number_of (find (is_from key.peer key.id) ks) → found ≡ cond (same_key (key_of one.exchange) key) (Some one.exchange.number) before
     → found ≡ option_map number_of (find (is_from key.peer key.id) (ks ++ one ∷ []))
 one_more ks one key before found none old new = new ∙ by_test (is_from key.peer key.id one) refl ∙ sym (ap (option_map number_of) (find-append (is_from key.peer key.id) ks (one ∷ [])))
   where
@@ -196,37 +200,54 @@ eqb-sym a b =
 turned : (a b c d : ℕ) → (a == b) && (c == d) ≡ false → (b == a) && (d == c) ≡ false
 turned a b c d apart = ap (λ (x : Bool). x && (d == c)) (eqb-sym b a) ∙ ap (λ (x : Bool). (a == b) && x) (eqb-sym d c) ∙ apart
 
+pub linked_then : (ls : List (Option ℕ)) (ks : List Waiting) (one : Waiting) → AreLinked ls ks → find (is_from one.exchange.peer (id_of one.exchange.key)) ks ≡ None
+    → AreLinked (ls ++ None ∷ []) (ks ++ one ∷ [])
+linked_then [] [] one linked none = (refl, tt)
+linked_then [] (k ∷ ks) one linked none = absurd linked
+linked_then (l ∷ ls) [] one linked none = absurd linked
+linked_then (l ∷ ls) (k ∷ ks) one linked none =
+    let t = is_from k.exchange.peer (id_of k.exchange.key) in
+    let passes = none_passes (is_from one.exchange.peer (id_of one.exchange.key)) (k ∷ ks) none in
+    let other : t one ≡ false = turned k.exchange.peer one.exchange.peer (id_of k.exchange.key) (id_of one.exchange.key) passes.0 in
+    let found : find t (ks ++ one ∷ []) ≡ find t ks
+    = find-append t ks (one ∷ []) ∙ ap (option_or (find t ks)) (cond-false (t one) (Some one) None other) ∙ or_none (find t ks) in
+    (linked.0 ∙ sym (ap (option_map number_of) found), linked_then ls ks one linked.1 (none_found (is_from one.exchange.peer (id_of one.exchange.key)) ks passes.1))
+
+pub linked_length : (ls : List (Option ℕ)) (ks : List Waiting) → AreLinked ls ks → length ls ≡ length ks
+linked_length [] [] linked = refl
+linked_length [] (k ∷ ks) linked = absurd linked
+linked_length (l ∷ ls) [] linked = absurd linked
+linked_length (l ∷ ls) (k ∷ ks) linked = ap suc (linked_length ls ks linked.1)
+
+pub linked_dropped : (ls : List (Option ℕ)) (ks : List Waiting) → AreLinked ls ks → AreLinked (drop 1 ls) (drop 1 ks)
+linked_dropped [] [] linked = tt
+linked_dropped [] (k ∷ ks) linked = absurd linked
+linked_dropped (l ∷ ls) [] linked = absurd linked
+linked_dropped (l ∷ ls) (k ∷ ks) linked = linked.1
+
 befores : (one : Waiting) (ks : List Waiting) → AllByRecursion (λ (k : Waiting). k.exchange.number < one.exchange.number) ks
-    → AllByRecursion (λ (k : Waiting). k.exchange.time ≤ one.exchange.time) ks
-    → AllByRecursion (λ (k : Waiting). is_from one.exchange.peer (id_of one.exchange.key) k ≡ false) ks → AllByRecursion (λ (k : Waiting). IsBefore k one) ks
-befores one [] below past others = tt
-befores one (k ∷ ks) below past others = (
-  record {
-    number = below.0;
-    time = past.0;
-    request = turned k.exchange.peer one.exchange.peer (id_of k.exchange.key) (id_of one.exchange.key) others.0;
-  },
-  befores one ks below.1 past.1 others.1,
-)
+    → AllByRecursion (λ (k : Waiting). k.exchange.time ≤ one.exchange.time) ks → AllByRecursion (λ (k : Waiting). IsBefore k one) ks
+befores one [] below past = tt
+befores one (k ∷ ks) below past = (record { number = below.0; time = past.0 }, befores one ks below.1 past.1)
 
 order_then : (one : Waiting) (ks : List Waiting) → AreInOrder ks → AllByRecursion (λ (k : Waiting). IsBefore k one) ks → AreInOrder (ks ++ one ∷ [])
 order_then one [] order all = (tt, tt)
 order_then one (k ∷ ks) order all = (all_with (IsBefore k) ks one order.0 all.0, order_then one ks order.1 all.1)
 
 pub sound_with : (e : ExchangesValue) (one : Waiting) → AreSound e → length e.waiting < e.room → e.next < 2 ^ 64 - 1 → one.exchange.number ≡ e.next → one.exchange.time ≡ e.time
-    → find (is_from one.exchange.peer (id_of one.exchange.key)) e.waiting ≡ None
     → AreSound (record { room = e.room; next = e.next + 1; time = e.time; waiting = e.waiting ++ one ∷ [] })
-sound_with e one sound room left number time none =
+sound_with e one sound room left number time =
     let len = length-append e.waiting (one ∷ []) in
     let below = subst (λ (n : ℕ). AllByRecursion (λ (k : Waiting). k.exchange.number < n) e.waiting) (sym number) sound.below in
     let past = subst (λ (t : ℕ). AllByRecursion (λ (k : Waiting). k.exchange.time ≤ t) e.waiting) (sym time) sound.past in
     record {
+      some = omega arith;
       next = omega (arith, left);
       few = omega (arith, len, room);
-      order = order_then one e.waiting sound.order (befores one e.waiting below past (none_passes (is_from one.exchange.peer (id_of one.exchange.key)) e.waiting none));
+      order = order_then one e.waiting sound.order (befores one e.waiting below past);
       below = all_with (λ (k : Waiting). k.exchange.number < e.next + 1) e.waiting one
-          (all_mapped (λ (k : Waiting). k.exchange.number < e.next) (λ (k : Waiting). k.exchange.number < e.next + 1) (λ k before. omega (arith, before)) e.waiting sound.below)
-          (omega (arith, number));
+        (all_mapped (λ (k : Waiting). k.exchange.number < e.next) (λ (k : Waiting). k.exchange.number < e.next + 1) (λ k before. omega (arith, before)) e.waiting sound.below)
+        (omega (arith, number));
       past = all_with (λ (k : Waiting). k.exchange.time ≤ e.time) e.waiting one sound.past (omega (arith, time));
     }
 
@@ -240,27 +261,12 @@ rising (k ∷ ks) zero (suc j) one other order at there less =
 rising (k ∷ ks) (suc i) (suc j) one other order at there less = rising ks i j one other order.1 at there (omega (arith, less))
 
 pub apart : (ks : List Waiting) → AreInOrder ks → AreApart ks
-apart ks order = record {
-  numbers = λ i j one other at there same.
-      elim (cases_order i j) [
-        | inl equal ↦ equal
-        | inr (inl less) ↦ absurd (omega (arith, same, (rising ks i j one other order at there less).number))
-        | inr (inr more) ↦ absurd (omega (arith, same, (rising ks j i other one order there at more).number))
-      ];
-  requests = λ i j one other at there peer id.
-      elim (cases_order i j) [
-        | inl equal ↦ equal
-        | inr (inl less) ↦ absurd (both_ways _ (request_of one other peer id (rising ks i j one other order at there less).request) (itself other))
-        | inr (inr more) ↦ absurd (both_ways _ (request_of other one (sym peer) (sym id) (rising ks j i other one order there at more).request) (itself one))
-      ];
-}
-  where
-    itself : (k : Waiting) → is_from k.exchange.peer (id_of k.exchange.key) k ≡ true
-    itself k = and_from (k.exchange.peer == k.exchange.peer) (id_of k.exchange.key == id_of k.exchange.key) (eq-eqb _ _ refl) (eq-eqb _ _ refl)
-
-    request_of : (k x : Waiting) → k.exchange.peer ≡ x.exchange.peer → id_of k.exchange.key ≡ id_of x.exchange.key
-        → is_from k.exchange.peer (id_of k.exchange.key) x ≡ false → is_from x.exchange.peer (id_of x.exchange.key) x ≡ false
-    request_of k x peer id is = subst (λ (p : ℕ). is_from p (id_of x.exchange.key) x ≡ false) peer (subst (λ (n : ℕ). is_from k.exchange.peer n x ≡ false) id is)
+apart ks order i j one other at there same =
+    elim (cases_order i j) [
+      | inl equal ↦ equal
+      | inr (inl less) ↦ absurd (omega (arith, same, (rising ks i j one other order at there less).number))
+      | inr (inr more) ↦ absurd (omega (arith, same, (rising ks j i other one order there at more).number))
+    ]
 
 -- ---- numbers
 
@@ -316,7 +322,7 @@ sound_then_at now t e waiting sound time left =
 abbrev pub one_of : ℕ → ℕ → ℕ → ℕ → Kind → List ℕ → Option (List ℕ) → Waiting
 one_of number peer id time kind token asked = record { exchange = record { number = number; peer = peer; key = key_for kind id; token = token; time = time }; asked = asked }
 
-nowhere_by_key : (kind : Kind) (peer id : ℕ) (ks : List Waiting) → find (is_from peer id) ks ≡ None → find (is_from peer (id_of (key_for kind id))) ks ≡ None
+pub nowhere_by_key : (kind : Kind) (peer id : ℕ) (ks : List Waiting) → find (is_from peer id) ks ≡ None → find (is_from peer (id_of (key_for kind id))) ks ≡ None
 nowhere_by_key kind peer id ks none = subst (λ (i : ℕ). find (is_from peer i) ks ≡ None) (sym (id_for kind id)) none
 
 pub entered : (ks : List Waiting) (number peer id time : ℕ) (kind : Kind) (token : List ℕ) (asked : Option (List ℕ)) (key : Key) (before found : Option ℕ)
@@ -328,13 +334,12 @@ entered ks number peer id time kind token asked key before found none old new =
     (new ∙ ap (λ (i : ℕ). cond ((peer == key.peer) && (i == key.id)) (Some number) before) (sym (id_for kind id)))
 
 pub sound_entered : (e : ExchangesValue) (peer id : ℕ) (kind : Kind) (token : List ℕ) (asked : Option (List ℕ)) → AreSound e → is_full e ≡ false
-    → find (is_from peer id) e.waiting ≡ None
     → AreSound (record { room = e.room; next = e.next + 1; time = e.time; waiting = e.waiting ++ one_of e.next peer id e.time kind token asked ∷ [] })
-sound_entered e peer id kind token asked sound room none =
+sound_entered e peer id kind token asked sound room =
     let parts = or_parts (nat_le e.room (length e.waiting)) (e.next == 2 ^ 64 - 1) room in
     let few = leb-false e.room (length e.waiting) parts.0 in
     let differ = eqb-false e.next (2 ^ 64 - 1) parts.1 in
-    sound_with e (one_of e.next peer id e.time kind token asked) sound few (below_last e.next sound.next differ) refl refl (nowhere_by_key kind peer id e.waiting none)
+    sound_with e (one_of e.next peer id e.time kind token asked) sound few (below_last e.next sound.next differ) refl refl
   where
     below_last : (n : ℕ) → n < 2 ^ 64 → (n ≡ 2 ^ 64 - 1 → ⊥) → n < 2 ^ 64 - 1
     below_last n most differ =
@@ -368,3 +373,66 @@ above_then ks m here n order at more i k there behind =
 
 pub all_small : (e : ExchangesValue) → AreSound e → AllByRecursion (λ (k : Waiting). k.exchange.number < 2 ^ 64) e.waiting
 all_small e sound = all_mapped (λ (k : Waiting). k.exchange.number < e.next) (λ (k : Waiting). k.exchange.number < 2 ^ 64) (λ k below. omega (arith, below, sound.next)) e.waiting sound.below
+
+-- ---- exchanges that are restored
+
+rising_behind : (number time : ℕ) (xs : List Exchange) (next : ℕ) → AreRising number time xs next
+    → AllByRecursion (λ (k : Waiting). (number < k.exchange.number) × (time ≤ k.exchange.time)) (map waiting_again xs)
+rising_behind number time [] next rising = tt
+rising_behind number time (x ∷ xs) next rising =
+    ((rising.0, rising.1),
+        all_mapped (λ (k : Waiting). (x.number < k.exchange.number) × (x.time ≤ k.exchange.time)) (λ (k : Waiting). (number < k.exchange.number) × (time ≤ k.exchange.time))
+        (λ k behind. (omega (arith, behind.0, rising.0), omega (arith, behind.1, rising.1))) (map waiting_again xs) (rising_behind x.number x.time xs next rising.2))
+
+order_restored : (number time : ℕ) (xs : List Exchange) (next : ℕ) → AreRising number time xs next → AreInOrder (map waiting_again xs)
+order_restored number time [] next rising = tt
+order_restored number time (x ∷ xs) next rising =
+    (all_mapped (λ (k : Waiting). (x.number < k.exchange.number) × (x.time ≤ k.exchange.time)) (IsBefore (waiting_again x))
+        (λ k behind. record { number = behind.0; time = behind.1 }) (map waiting_again xs) (rising_behind x.number x.time xs next rising.2),
+        order_restored x.number x.time xs next rising.2)
+
+below_restored : (number time : ℕ) (xs : List Exchange) (next : ℕ) → AreRising number time xs next
+    → (number < next) × AllByRecursion (λ (k : Waiting). k.exchange.number < next) (map waiting_again xs)
+below_restored number time [] next rising = (rising, tt)
+below_restored number time (x ∷ xs) next rising =
+    let rest = below_restored x.number x.time xs next rising.2 in
+    (omega (arith, rising.0, rest.0), (rest.0, rest.1))
+
+past_restored : (number time : ℕ) (xs : List Exchange) (next : ℕ) → AreRising number time xs next
+    → (time ≤ time_of time xs) × AllByRecursion (λ (k : Waiting). k.exchange.time ≤ time_of time xs) (map waiting_again xs)
+past_restored number time [] next rising = (omega arith, tt)
+past_restored number time (x ∷ xs) next rising =
+    let rest = past_restored x.number x.time xs next rising.2 in
+    (omega (arith, rising.1, rest.0), (rest.0, rest.1))
+
+pub sound_restored : (xs : List Exchange) (next : ℕ) (e : ExchangesValue) (time : ℕ) (waiting : List Waiting) → AreRestorable xs next → next < 2 ^ 64 → length xs ≤ e.room
+    → time ≡ max (time_of 0 xs) e.time → waiting ≡ map waiting_again xs → AreSound (record { room = e.room; next = next; time = time; waiting = waiting })
+sound_restored xs next e time waiting rising fits room at are =
+    let t : ℕ = max (time_of 0 xs) e.time in
+    let below = below_restored 0 0 xs next rising in
+    let past = past_restored 0 0 xs next rising in
+    let len = length-map xs waiting_again in
+    let sound : AreSound (record { room = e.room; next = next; time = t; waiting = map waiting_again xs })
+    = record {
+      some = below.0;
+      next = fits;
+      few = omega (arith, len, room);
+      order = order_restored 0 0 xs next rising;
+      below = below.1;
+      past = all_mapped (λ (k : Waiting). k.exchange.time ≤ time_of 0 xs) (λ (k : Waiting). k.exchange.time ≤ t) (λ k before. omega (arith, before)) (map waiting_again xs) past.1;
+    } in
+    subst (λ (n : ℕ). AreSound (record { room = e.room; next = next; time = n; waiting = waiting })) (sym at)
+    (subst (λ (ks : List Waiting). AreSound (record { room = e.room; next = next; time = t; waiting = ks })) (sym are) sound)
+
+-- where the next number is 1 there are none
+pub none_restored : (xs : List Exchange) (next : ℕ) → AreRestorable xs next → next ≡ 1 → xs ≡ []
+none_restored [] next rising one = refl
+none_restored (x ∷ xs) next rising one = absurd (omega (arith, rising.0, (below_restored x.number x.time xs next rising.2).0, one))
+
+-- the last one has the time
+pub time_at_last : (time : ℕ) (xs : List Exchange) (d : Exchange) → 0 < length xs → time_of time xs ≡ (get_or xs (length xs - 1) d).time
+time_at_last time [] d some = absurd (omega (arith, some))
+time_at_last time (x ∷ []) d some = refl
+time_at_last time (x ∷ y ∷ xs) d some =
+    let same : length (x ∷ y ∷ xs) - 1 ≡ suc (length (y ∷ xs) - 1) = omega arith in
+    time_at_last x.time (y ∷ xs) d (omega arith) ∙ ap (λ (n : ℕ). (get_or (x ∷ y ∷ xs) n d).time) (sym same)

@@ -1,6 +1,6 @@
 -- The exchanges of a gateway, and what the time does to them. An exchange is a request of a client, with the number under which
 -- it was passed on. Times are in seconds.
-use Rattle.std.specs.Prelude.{◌≡◌, ℕ, ◌+◌, ◌-◌, ◌%◌, ◌^◌, ◌<◌, ◌≤◌, Bool, not, ◌&&◌, ◌||◌, ◌==◌, nat_le, max, List, [], ◌∷◌, ◌++◌, length, filter, bytes_eq, slice_get, Option, Some, None}
+use Rattle.std.specs.Prelude.{◌≡◌, ℕ, ◌+◌, ◌-◌, ◌%◌, ◌^◌, ◌<◌, ◌≤◌, Bool, not, ◌&&◌, ◌||◌, ◌==◌, nat_le, max, List, [], ◌∷◌, ◌++◌, length, map, filter, bytes_eq, slice_get, Option, Some, None}
 use Rattle.std.specs.Int.{w64, to_be_bytes}
 use Rattle.coap_message.specs.declared.kind.Kind.{Kind}
 use Rattle.coap_message.specs.declared.kind.Kind.TheVariants.{Con}
@@ -8,6 +8,7 @@ use Rattle.coap_message.specs.Message.{CoapMessage}
 use Rattle.dots_history.specs.declared.entry.MessageKey.{MessageKey}
 use Rattle.dots_history.specs.declared.entry.MessageKey.TheVariants as key
 use Rattle.dots_gateway.specs.declared.exchange.Exchange.{Exchange}
+use Rattle.dots_gateway.specs.declared.exchange.Key.{Key}
 use Rattle.dots_gateway.specs.declared.exchange.Waiting.{Waiting}
 
 -- those that wait, in the order of their numbers; how many there may be; the number of the next one; and the time
@@ -57,6 +58,10 @@ id_of key.Http = 0
 id_of (key.Non id) = id
 id_of (key.Con id) = id
 
+-- the peer and the Message ID of the request of an exchange
+abbrev pub key_of : Exchange → Key
+key_of x = record { peer = x.peer; id = id_of x.key }
+
 -- of this peer's request with this Message ID
 abbrev pub is_from : ℕ → ℕ → Waiting → Bool
 is_from peer id k = k.exchange.peer == peer && id_of k.exchange.key == id
@@ -67,9 +72,30 @@ is_passed token id k = bytes_eq (to_be_bytes w64 k.exchange.number) token && k.e
 
 -- ---- what holds of them all
 
--- no two have one number, nor are two of one peer and Message ID
-pub record AreApart (waiting : List Waiting) : Type 0 where
-  pub numbers : (i j : ℕ) (one other : Waiting) → slice_get waiting i ≡ Some one → slice_get waiting j ≡ Some other
-      → one.exchange.number ≡ other.exchange.number → i ≡ j
-  pub requests : (i j : ℕ) (one other : Waiting) → slice_get waiting i ≡ Some one → slice_get waiting j ≡ Some other
-      → one.exchange.peer ≡ other.exchange.peer → id_of one.exchange.key ≡ id_of other.exchange.key → i ≡ j
+-- no two have one number
+abbrev pub AreApart : List Waiting → Type 0
+AreApart waiting = (i j : ℕ) (one other : Waiting) → slice_get waiting i ≡ Some one → slice_get waiting j ≡ Some other
+    → one.exchange.number ≡ other.exchange.number → i ≡ j
+
+-- ---- after a crash
+
+-- numbers from 1 on that rise up to the next one, and times that don't fall
+abbrev pub AreRising : ℕ → ℕ → List Exchange → ℕ → Type 0
+AreRising number time [] next = number < next
+AreRising number time (x ∷ xs) next = (number < x.number) × (time ≤ x.time) × AreRising x.number x.time xs next
+
+abbrev pub AreRestorable : List Exchange → ℕ → Type 0
+AreRestorable exchanges next = AreRising 0 0 exchanges next
+
+-- an exchange whose datagram was lost
+abbrev pub waiting_again : Exchange → Waiting
+waiting_again x = record { exchange = x; asked = None }
+
+-- the time of the last one
+abbrev pub time_of : ℕ → List Exchange → ℕ
+time_of time [] = time
+time_of time (x ∷ xs) = time_of x.time xs
+
+-- The exchanges wait again, and the time is not before that of the last one.
+abbrev pub restored : List Exchange → ℕ → ExchangesValue → ExchangesValue
+restored exchanges next e = record e { next = next; time = max (time_of 0 exchanges) e.time; waiting = map waiting_again exchanges }

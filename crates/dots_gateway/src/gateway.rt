@@ -2,11 +2,12 @@
 
 ghost use Rattle.std.specs.Prelude.{◌≡◌, ◌≤◌, [], length, IfOk};
 ghost use Rattle.dots_gateway.specs.declared.gateway.TheConstants.{MAX_WAITING};
-ghost use Rattle.dots_gateway.specs.Exchanges.{AreApart, at_time};
+ghost use Rattle.dots_gateway.specs.Exchanges.{AreApart, AreRestorable, restored, at_time};
 ghost use Rattle.dots_gateway.specs.Gateway.{gateway_at, UpOrLacks, DownOrLacks};
 ghost use Rattle.dots_gateway.specs.Routes.{routes_of};
 ghost use Rattle.dots_gateway.specs.Steps.{TellsOf};
 
+use crate::exchange::Exchange;
 use crate::exchanges::Exchanges;
 use crate::passed::{GatewayFault, Passed};
 use crate::requests::{Asking, ask, unread};
@@ -96,6 +97,18 @@ impl GatewayCore {
         }
     }
 
+    /// Exchanges that waited before a crash wait again, in their order, and the next number is the one handed in. Their datagrams were
+    /// lost: a request of the same type, Message ID and token counts as one that comes again. Their numbers are from 1 on and rise up to
+    /// the next one, their times don't fall, and nothing was passed on before. Takes no memory.
+    pub fn restore(&mut self, exchanges: &[Exchange], next: u64)
+        requires fresh { self.old.exchanges.next ≡ 1 }
+        requires room { length exchanges.now ≤ self.old.exchanges.room }
+        requires order { AreRestorable exchanges.now next }
+        ensures { self.new ≡ record self.old { exchanges = restored exchanges.now next self.old.exchanges } }
+    {
+        self.exchanges.restore(exchanges, next);
+    }
+
     /// The time is now `now`, in seconds, unless it was later before. Exchanges that are over go.
     pub fn pass_time(&mut self, now: u64)
         ensures { self.new ≡ gateway_at now self.old }
@@ -103,8 +116,8 @@ impl GatewayCore {
         self.exchanges.pass_time(now);
     }
 
-    /// How many exchanges wait at the time `now`, in seconds, or at the gateway's own time, if that is later. No two have one number,
-    /// nor are two of one peer and Message ID. Takes no memory.
+    /// How many exchanges wait at the time `now`, in seconds, or at the gateway's own time, if that is later. No two have one number.
+    /// Takes no memory.
     pub fn waiting(&self, now: u64) -> usize
         ensures count { result ≡ length (at_time now self.now.exchanges).waiting }
         ensures apart { AreApart self.now.exchanges.waiting }

@@ -1,4 +1,5 @@
-use Rattle.std.proofs.Common.{arith}
+use Rattle.std.proofs.Common.{ap, ◌∙◌, arith}
+use Rattle.dots_gateway.specs.Exchanges.{left_at}
 use Rattle.dots_gateway.proofs.Orders.{sound_then_at}
 use Rattle.dots_gateway.proofs.exchanges.Exchanges.pass_time.Goals as goal
 
@@ -8,5 +9,9 @@ invariant_of-self c = record {
       (record { room = c.self.inside.room; next = c.self.inside.next; time = c.self.inside.time; waiting = c.self.inside.waiting.items })
       c.drop_over.new.waiting.items c.self.invariant.sound c.max-self-inside.ensures c.drop_over.ensures.left;
   numbered = c.drop_over.ensures.numbered;
-  reserved = omega (arith, c.drop_over.ensures.capacity, c.self.invariant.reserved);
+  linked = c.drop_over.ensures.linked;
+  reserved = (omega (arith, c.drop_over.ensures.capacity.0, c.self.invariant.reserved.0), omega (arith, c.drop_over.ensures.capacity.1, c.self.invariant.reserved.1));
+  unused = λ one.
+      let fresh = c.self.invariant.unused one in
+      (c.drop_over.ensures.left ∙ ap (left_at c.max-self-inside.result) fresh.0, omega (arith, c.drop_over.ensures.none fresh.0, fresh.1));
 }
