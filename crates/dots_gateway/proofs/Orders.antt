@@ -1,20 +1,18 @@
 -- The exchanges in the order of their numbers.
-use Rattle.std.proofs.Common.{◌≡◌, ◌≢◌, ℕ, zero, suc, ◌+◌, ◌-◌, ◌^◌, ◌<◌, ◌≤◌, Bool, true, false, cond, List, [], ◌∷◌, ◌++◌, length, map, drop, get_or, refl, sym, ap, subst, ◌∙◌, inl, inr, length-append, arith}
-use Rattle.std.specs.Prelude.{◌==◌, ◌&&◌, not, nat_le, max, filter, slice_get, option_map, Option, Some, None, ⊤}
+use Rattle.std.proofs.Common.{◌≡◌, ℕ, zero, suc, ◌+◌, ◌-◌, ◌^◌, ◌<◌, ◌≤◌, Bool, true, false, cond, List, [], ◌∷◌, ◌++◌, length, map, drop, get_or, refl, sym, ap, subst, ◌∙◌, inl, inr, length-append, arith}
+use Rattle.std.specs.Prelude.{◌==◌, ◌&&◌, not, nat_le, max, filter, slice_get, option_map, Option, Some, None}
 use Rattle.std.specs.List.{find, AllByRecursion}
 use Rattle.std.specs.Option.{option_or}
-use Rattle.std.proofs.lemmas.Bool.{cond-true, cond-false, cases_order, cases_eq, both_ways, and_parts, and_from, or_parts, eq-eqb, ne_eqb, eqb-true, eqb-false, leb-false, lt-leb, false≢true}
+use Rattle.std.proofs.lemmas.Bool.{cond-true, cond-false, cases_order, cases_eq, and_parts, or_parts, eq-eqb, ne_eqb, eqb-true, eqb-false, leb-false, lt-leb, false≢true}
 use Rattle.std.proofs.lemmas.Option.{none-some, same_Some}
 use Rattle.std.proofs.lemmas.List.{length-map}
 use Rattle.std.proofs.lemmas.List.Folds.{find-append}
-use Rattle.coap_message.specs.Message.{CoapMessage}
-use Rattle.dots_history.specs.declared.entry.MessageKey.TheVariants as key
 use Rattle.coap_message.specs.declared.kind.Kind.{Kind}
 use Rattle.coap_message.specs.declared.kind.Kind.TheVariants.{Con, Non, Ack, Rst}
 use Rattle.dots_gateway.specs.declared.exchange.Exchange.{Exchange}
 use Rattle.dots_gateway.specs.declared.exchange.Waiting.{Waiting}
 use Rattle.dots_gateway.specs.declared.exchange.Key.{Key}
-use Rattle.dots_gateway.specs.Exchanges.{ExchangesValue, AreApart, AreRising, AreRestorable, waiting_again, time_of, key_of, is_over, left_at, at_time, is_from, id_of, key_for, is_full, exchange_for, with_one}
+use Rattle.dots_gateway.specs.Exchanges.{ExchangesValue, AreApart, AreRising, AreRestorable, waiting_again, time_of, key_of, is_over, left_at, at_time, is_from, id_of, key_for, is_full}
 use Rattle.dots_gateway.specs.Finding.{IsBefore, AreInOrder, AreSound, AreLinked, number_for, is_first_over, has_number, number_of, same_key}
 
 -- ---- all of a list
@@ -246,8 +244,8 @@ sound_with e one sound room left number time =
       few = omega (arith, len, room);
       order = order_then one e.waiting sound.order (befores one e.waiting below past);
       below = all_with (λ (k : Waiting). k.exchange.number < e.next + 1) e.waiting one
-        (all_mapped (λ (k : Waiting). k.exchange.number < e.next) (λ (k : Waiting). k.exchange.number < e.next + 1) (λ k before. omega (arith, before)) e.waiting sound.below)
-        (omega (arith, number));
+          (all_mapped (λ (k : Waiting). k.exchange.number < e.next) (λ (k : Waiting). k.exchange.number < e.next + 1) (λ k before. omega (arith, before)) e.waiting sound.below)
+          (omega (arith, number));
       past = all_with (λ (k : Waiting). k.exchange.time ≤ e.time) e.waiting one sound.past (omega (arith, time));
     }
 
@@ -379,17 +377,19 @@ all_small e sound = all_mapped (λ (k : Waiting). k.exchange.number < e.next) (�
 rising_behind : (number time : ℕ) (xs : List Exchange) (next : ℕ) → AreRising number time xs next
     → AllByRecursion (λ (k : Waiting). (number < k.exchange.number) × (time ≤ k.exchange.time)) (map waiting_again xs)
 rising_behind number time [] next rising = tt
-rising_behind number time (x ∷ xs) next rising =
-    ((rising.0, rising.1),
-        all_mapped (λ (k : Waiting). (x.number < k.exchange.number) × (x.time ≤ k.exchange.time)) (λ (k : Waiting). (number < k.exchange.number) × (time ≤ k.exchange.time))
-        (λ k behind. (omega (arith, behind.0, rising.0), omega (arith, behind.1, rising.1))) (map waiting_again xs) (rising_behind x.number x.time xs next rising.2))
+rising_behind number time (x ∷ xs) next rising = (
+  (rising.0, rising.1),
+  all_mapped (λ (k : Waiting). (x.number < k.exchange.number) × (x.time ≤ k.exchange.time)) (λ (k : Waiting). (number < k.exchange.number) × (time ≤ k.exchange.time))
+      (λ k behind. (omega (arith, behind.0, rising.0), omega (arith, behind.1, rising.1))) (map waiting_again xs) (rising_behind x.number x.time xs next rising.2),
+)
 
 order_restored : (number time : ℕ) (xs : List Exchange) (next : ℕ) → AreRising number time xs next → AreInOrder (map waiting_again xs)
 order_restored number time [] next rising = tt
-order_restored number time (x ∷ xs) next rising =
-    (all_mapped (λ (k : Waiting). (x.number < k.exchange.number) × (x.time ≤ k.exchange.time)) (IsBefore (waiting_again x))
-        (λ k behind. record { number = behind.0; time = behind.1 }) (map waiting_again xs) (rising_behind x.number x.time xs next rising.2),
-        order_restored x.number x.time xs next rising.2)
+order_restored number time (x ∷ xs) next rising = (
+  all_mapped (λ (k : Waiting). (x.number < k.exchange.number) × (x.time ≤ k.exchange.time)) (IsBefore (waiting_again x))
+      (λ k behind. record { number = behind.0; time = behind.1 }) (map waiting_again xs) (rising_behind x.number x.time xs next rising.2),
+  order_restored x.number x.time xs next rising.2,
+)
 
 below_restored : (number time : ℕ) (xs : List Exchange) (next : ℕ) → AreRising number time xs next
     → (number < next) × AllByRecursion (λ (k : Waiting). k.exchange.number < next) (map waiting_again xs)

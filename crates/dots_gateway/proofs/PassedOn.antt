@@ -1,27 +1,26 @@
 -- What is passed on, by the rules that lead to it.
-use Rattle.std.proofs.Common.{◌≡◌, ◌≢◌, ℕ, suc, ◌+◌, ◌-◌, ◌*◌, ◌<◌, Bool, true, false, cond, List, [], ◌∷◌, ◌++◌, length, map, Option, Some, None, Result, Ok, Err, refl, sym, ap, subst, ◌∙◌, inl, inr, append_assoc, arith}
-use Rattle.std.specs.Prelude.{◌==◌, ◌&&◌, not}
+use Rattle.std.proofs.Common.{◌≡◌, ℕ, ◌+◌, ◌-◌, ◌*◌, Bool, true, false, cond, List, [], ◌∷◌, ◌++◌, length, map, Option, Some, None, Result, Ok, Err, refl, sym, ap, ◌∙◌, inl, inr, arith}
+use Rattle.std.specs.Prelude.{◌==◌}
 use Rattle.std.specs.List.{find}
 use Rattle.std.proofs.lemmas.Bool.{cases_eq, eqb-false}
 use Rattle.std.proofs.lemmas.Option.{none-some, same_Some}
 use Rattle.coap_message.specs.declared.kind.Kind.{Kind}
 use Rattle.coap_message.specs.declared.kind.Kind.TheVariants.{Con, Non, Ack, Rst}
-use Rattle.coap_message.specs.Message.{CoapOption, CoapMessage, IsMessage, spelling}
+use Rattle.coap_message.specs.Message.{CoapOption, CoapMessage, spelling}
 use Rattle.coap_message.specs.Salvage.{salvaged}
 use Rattle.dots_heads.specs.declared.reject.Reject.{Reject}
 use Rattle.dots_heads.specs.declared.reject.Reject.TheVariants as reject
 use Rattle.dots_heads.specs.Heads.{refuse_critical, refuse_hop_limit}
 use Rattle.dots_heads.specs.Options.{first_critical, values_of, value_of, option_number, recognised_value, has_length}
-use Rattle.dots_heads.specs.Paths.{Resource, mitigation, config, heartbeat, parameter, path_of, resource_at}
+use Rattle.dots_heads.specs.Paths.{Resource, mitigation, config, heartbeat, path_of, resource_at}
 use Rattle.dots_heads.specs.Results.{◌>>=◌}
 use Rattle.dots_heads.proofs.PathLaws.{read_back}
 use Rattle.dots_gateway.specs.declared.exchange.Exchange.{Exchange}
 use Rattle.dots_gateway.specs.declared.exchange.Waiting.{Waiting}
-use Rattle.dots_gateway.specs.declared.passed.Passed.{Passed}
 use Rattle.dots_gateway.specs.declared.passed.Passed.TheVariants as passed
 use Rattle.dots_gateway.specs.declared.passed.GatewayFault.TheVariants as fault
 use Rattle.dots_gateway.specs.Exchanges.{ExchangesValue, is_full, is_from, exchange_for}
-use Rattle.dots_gateway.specs.Forwarding.{option_with, option_for, path_for, passed_options, forwarded}
+use Rattle.dots_gateway.specs.Forwarding.{option_with, option_for, passed_options, forwarded}
 use Rattle.dots_gateway.specs.Gateway.{GatewayValue, Said, Ups, of_no_client, unreadable, asking, rejected, unread, refused, refused_option, came_again, passed_again, passed_first, passed_by, passed_on, wanted_said, asked_said}
 use Rattle.dots_gateway.specs.PassedOn.{IsPassedFor, IsPassedOn}
 use Rattle.dots_gateway.specs.Replies.{plain}

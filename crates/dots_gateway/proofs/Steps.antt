@@ -1,12 +1,12 @@
 -- What a datagram does, by its parts.
 use Rattle.std.proofs.Common.{◌≡◌, ℕ, List, refl, sym, ap, subst}
-use Rattle.std.specs.Prelude.{Some, None, Result, Ok, Err, IsTrue}
+use Rattle.std.specs.Prelude.{Some, None, Result, Ok, Err}
 use Rattle.dots_lists.specs.declared.memory.NoMemory.{NoMemory}
 use Rattle.dots_gateway.specs.declared.passed.Passed.{Passed}
 use Rattle.dots_gateway.specs.declared.passed.Passed.TheVariants as passed
 use Rattle.dots_gateway.specs.declared.passed.GatewayFault.TheVariants as fault
-use Rattle.dots_gateway.specs.Exchanges.{ExchangesValue, with_one}
-use Rattle.dots_gateway.specs.Gateway.{GatewayValue, Said, Ups, Downs, UpOrLacks, takes_memory}
+use Rattle.dots_gateway.specs.Exchanges.{ExchangesValue}
+use Rattle.dots_gateway.specs.Gateway.{GatewayValue, Said, Ups, Downs, UpOrLacks}
 use Rattle.dots_gateway.specs.Steps.{Gives, Leaves, IsOld, Tells, TellsOf}
 
 abbrev with_exchanges : GatewayValue → ExchangesValue → GatewayValue

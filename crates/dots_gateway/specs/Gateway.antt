@@ -1,10 +1,10 @@
 -- A server-domain gateway as a value (RFC 8811, section 2.2.3), and what a datagram of a client and one of its upstream do to it.
-use Rattle.std.specs.Prelude.{◌≡◌, ℕ, ◌/◌, Bool, true, false, not, ◌&&◌, ◌||◌, ◌==◌, if◌then◌else◌, List, [], Option, Some, None, Result, Ok, Err, IsTrue, bytes_eq}
+use Rattle.std.specs.Prelude.{◌≡◌, ℕ, ◌/◌, Bool, true, false, ◌&&◌, ◌||◌, ◌==◌, if◌then◌else◌, List, [], Option, Some, None, Result, Ok, Err, IsTrue, bytes_eq}
 use Rattle.std.specs.List.{find}
 use Rattle.coap_message.specs.declared.codes.TheConstants.{PUT, CHANGED}
 use Rattle.coap_message.specs.declared.kind.Kind.{Kind}
 use Rattle.coap_message.specs.declared.kind.Kind.TheVariants.{Con, Non, Ack, Rst}
-use Rattle.coap_message.specs.declared.option_numbers.TheConstants.{URI_PATH, HOP_LIMIT}
+use Rattle.coap_message.specs.declared.option_numbers.TheConstants.{URI_PATH}
 use Rattle.coap_message.specs.Message.{CoapMessage, IsMessage, spelling}
 use Rattle.coap_message.specs.Salvage.{salvaged}
 use Rattle.dots_heads.specs.declared.reject.Reject.{Reject}

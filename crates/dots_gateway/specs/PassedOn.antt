@@ -1,6 +1,6 @@
 -- What a client's datagram and the datagram that goes to the upstream for it have in common, in the words of the standards.
-use Rattle.std.specs.Prelude.{◌≡◌, ℕ, ◌+◌, List, [], Option, Some, None}
-use Rattle.coap_message.specs.declared.option_numbers.TheConstants.{OBSERVE, URI_PATH, CONTENT_FORMAT, URI_QUERY, HOP_LIMIT, ACCEPT}
+use Rattle.std.specs.Prelude.{◌≡◌, ℕ, ◌+◌, List, [], Option, Some}
+use Rattle.coap_message.specs.declared.option_numbers.TheConstants.{OBSERVE, URI_PATH, CONTENT_FORMAT, URI_QUERY, ACCEPT}
 use Rattle.coap_message.specs.Message.{CoapMessage, IsMessage, spelling}
 use Rattle.dots_heads.specs.Options.{values_of, value_of}
 use Rattle.dots_heads.specs.Paths.{mitigation, resource_at}

@@ -1,7 +1,7 @@
 ghost use Rattle.std.specs.Prelude.{◌≡◌};
-ghost use Rattle.dots_gateway.specs.Exchanges.{id_of, key_for};
+ghost use Rattle.dots_gateway.specs.Exchanges.{id_of, key_for, key_of};
 
-use coap_message::{Kind, Token};
+use coap_message::{Kind, Message, Token};
 use dots_history::MessageKey;
 use dots_lists::Bytes;
 
@@ -60,5 +60,28 @@ pub fn key_for(kind: Kind, id: u16) -> MessageKey
     match kind {
         Kind::Con => MessageKey::Con(id),
         _ => MessageKey::Non(id),
+    }
+}
+
+/// The peer and the Message ID of an exchange.
+pub fn key_of(exchange: &Exchange) -> Key
+    ensures { result ≡ key_of exchange.now }
+{
+    Key {
+        peer: exchange.peer,
+        id: id_of(exchange.key),
+    }
+}
+
+/// The exchange of a request.
+pub fn exchange_for(number: u64, time: u64, peer: u32, message: &Message<'_>) -> Exchange
+    ensures { result ≡ record { number = number; peer = peer; key = key_for message.now.kind message.now.identifier; token = message.now.token; time = time } }
+{
+    Exchange {
+        number,
+        peer,
+        key: key_for(message.kind(), message.id()),
+        token: Token::new(message.token()).unwrap(),
+        time,
     }
 }

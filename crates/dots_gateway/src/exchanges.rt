@@ -1,17 +1,15 @@
 //! The exchanges that wait.
 
-ghost use Rattle.std.specs.Prelude.{◌≡◌, ◌≢◌, ◌<◌, ◌≤◌, ◌+◌, ◌++◌, ◌∷◌, [], length, drop, map, max, cond, false, Some, None, IfOk, OnErr, MatchOption, option_map};
-ghost use Rattle.std.specs.Int.{w64, from_be_bytes};
-ghost use Rattle.std.specs.HashMap.{spare};
-ghost use Rattle.std.specs.Map.{lookup};
-ghost use Rattle.std.specs.VecDeque.{deque_capacity, deque_len};
-ghost use Rattle.dots_gateway.specs.declared.exchange.Key.{Key};
+ghost use Rattle.std.specs.Prelude.{◌≡◌, ◌<◌, ◌≤◌, ◌++◌, ◌∷◌, [], length, false, Some, None, IfOk, OnErr, option_map};
 ghost use Rattle.std.specs.List.{find};
-ghost use Rattle.dots_gateway.specs.Exchanges.{AreApart, AreRestorable, restored, waiting_again, time_of, key_of, at_time, is_over, left_at, is_full, is_from, is_passed, key_for, exchange_for, with_one};
-ghost use Rattle.dots_gateway.specs.Finding.{AreInOrder, AreLinked, AreNumbered, same_key, is_first_over, has_number};
+ghost use Rattle.std.specs.VecDeque.{deque_capacity, deque_len};
+ghost use Rattle.dots_gateway.specs.Exchanges.{AreApart, AreRestorable, restored, at_time, is_full, is_from, is_passed, exchange_for, with_one};
 
-use crate::exchange::{EXCHANGE_LIFETIME, Exchange, Key, LAST_NUMBER, Waiting, id_of, key_for};
-use coap_message::{Message, Token};
+use crate::dropping::{drop_over, is_over};
+use crate::exchange::{Exchange, Key, LAST_NUMBER, Waiting, exchange_for};
+use crate::restoring::{put_back, time_after};
+use crate::searching::{number_in, of_number};
+use coap_message::Message;
 use dots_lists::{Bytes, NoMemory};
 use std::alloc::Global;
 use std::collections::{HashMap, VecDeque};
@@ -177,18 +175,6 @@ impl Exchanges {
     }
 }
 
-/// The number whose 8 bytes the token is.
-fn number_in(token: &[u8]) -> Option<u64>
-    ensures { MatchOption result (length token.now ≢ 8) (λ number. (length token.now ≡ 8) × (number ≡ from_be_bytes w64 token.now)) }
-{
-    if token.len() != 8 {
-        return None;
-    }
-    let mut bytes = [0; 8];
-    bytes.copy_from_slice(token);
-    Some(u64::from_be_bytes(bytes))
-}
-
 /// Puts an exchange behind the others, beside the datagram that asked.
 fn put_last(waiting: &mut VecDeque<Waiting>, exchange: &Exchange, asked: Bytes)
     requires { deque_len waiting.old < deque_capacity waiting.old }
@@ -199,185 +185,4 @@ fn put_last(waiting: &mut VecDeque<Waiting>, exchange: &Exchange, asked: Bytes)
         exchange: *exchange,
         asked: Some(asked),
     });
-}
-
-/// The exchange of a request.
-fn exchange_for(number: u64, time: u64, peer: u32, message: &Message<'_>) -> Exchange
-    ensures { result ≡ record { number = number; peer = peer; key = key_for message.now.kind message.now.identifier; token = message.now.token; time = time } }
-{
-    Exchange {
-        number,
-        peer,
-        key: key_for(message.kind(), message.id()),
-        token: Token::new(message.token()).unwrap(),
-        time,
-    }
-}
-
-/// Whether an exchange is over at the time `now`, in seconds.
-fn is_over(waiting: &Waiting, now: u64) -> bool
-    ensures { result ≡ is_over now waiting.now }
-{
-    now.saturating_sub(waiting.exchange.time) >= EXCHANGE_LIFETIME
-}
-
-/// Lets the exchanges go that are over at the time `now`, in seconds. They are the first.
-fn drop_over(
-    waiting: &mut VecDeque<Waiting>,
-    links: &mut VecDeque<Option<u64>>,
-    numbers: &mut HashMap<Key, u64>,
-    now: u64,
-)
-    requires order { AreInOrder waiting.old.items }
-    requires linked { AreLinked links.old.items waiting.old.items }
-    requires numbered { AreNumbered numbers.old.entries waiting.old.items }
-    ensures left { waiting.new.items ≡ left_at now waiting.old.items }
-    ensures linked { AreLinked links.new.items waiting.new.items }
-    ensures numbered { AreNumbered numbers.new.entries waiting.new.items }
-    ensures capacity { (deque_capacity waiting.new ≡ deque_capacity waiting.old) × (deque_capacity links.new ≡ deque_capacity links.old) }
-    ensures none { waiting.old.items ≡ [] → spare numbers.new ≡ spare numbers.old }
-{
-    while is_first_over(waiting, now) {
-        drop_first(waiting, links, numbers);
-    }
-}
-
-/// Whether the first exchange is over at the time `now`, in seconds.
-fn is_first_over(waiting: &VecDeque<Waiting>, now: u64) -> bool
-    ensures { result ≡ is_first_over now waiting.now.items }
-{
-    match waiting.front() {
-        Some(first) => is_over(first, now),
-        None => false,
-    }
-}
-
-/// Lets the first exchange go. The next one of the same request is the first of it then.
-fn drop_first(
-    waiting: &mut VecDeque<Waiting>,
-    links: &mut VecDeque<Option<u64>>,
-    numbers: &mut HashMap<Key, u64>,
-)
-    requires linked { AreLinked links.old.items waiting.old.items }
-    requires numbered { AreNumbered numbers.old.entries waiting.old.items }
-    ensures left { waiting.new.items ≡ drop 1 waiting.old.items }
-    ensures linked { AreLinked links.new.items waiting.new.items }
-    ensures numbered { AreNumbered numbers.new.entries waiting.new.items }
-    ensures capacity { (deque_capacity waiting.new ≡ deque_capacity waiting.old) × (deque_capacity links.new ≡ deque_capacity links.old) }
-{
-    let Some(first) = waiting.pop_front() else {
-        return;
-    };
-    let Some(link) = links.pop_front() else {
-        unreachable!();
-    };
-    set_number(numbers, key_of(&first.exchange), link);
-}
-
-/// The peer and the Message ID of an exchange.
-fn key_of(exchange: &Exchange) -> Key
-    ensures { result ≡ key_of exchange.now }
-{
-    Key {
-        peer: exchange.peer,
-        id: id_of(exchange.key),
-    }
-}
-
-/// The number of the first exchange of a request that there was one of; None where there is none any more.
-fn set_number(numbers: &mut HashMap<Key, u64>, key: Key, number: Option<u64>)
-    requires { lookup (same_key key) numbers.old.entries ≢ None }
-    ensures { (other : Key) → lookup (same_key other) numbers.new.entries ≡ cond (same_key key other) number (lookup (same_key other) numbers.old.entries) }
-{
-    match number {
-        Some(number) => match numbers.insert(key, number) {
-            Ok(_) => {}
-            Err(_) => unreachable!(),
-        },
-        None => {
-            let _gone = numbers.remove(&key);
-        }
-    }
-}
-
-/// The time of the last exchange, or a later one.
-fn time_after(exchanges: &[Exchange], time: u64) -> u64
-    ensures { result ≡ max (time_of 0 exchanges.now) time }
-{
-    if exchanges.is_empty() {
-        return time;
-    }
-    exchanges[exchanges.len() - 1].time.max(time)
-}
-
-/// Puts exchanges back, from the last to the first.
-fn put_back(
-    waiting: &mut VecDeque<Waiting>,
-    links: &mut VecDeque<Option<u64>>,
-    numbers: &mut HashMap<Key, u64>,
-    exchanges: &[Exchange],
-)
-    requires none { waiting.old.items ≡ [] }
-    requires linked { AreLinked links.old.items waiting.old.items }
-    requires numbered { AreNumbered numbers.old.entries waiting.old.items }
-    requires room { (length exchanges.now ≤ deque_capacity waiting.old) × (length exchanges.now ≤ deque_capacity links.old) × (length exchanges.now ≤ spare numbers.old) }
-    ensures waiting { waiting.new.items ≡ map waiting_again exchanges.now }
-    ensures linked { AreLinked links.new.items waiting.new.items }
-    ensures numbered { AreNumbered numbers.new.entries waiting.new.items }
-    ensures capacity { (deque_capacity waiting.new ≡ deque_capacity waiting.old) × (deque_capacity links.new ≡ deque_capacity links.old) }
-    ensures none { exchanges.now ≡ [] → spare numbers.new ≡ spare numbers.old }
-{
-    let mut at = exchanges.len();
-    while at > 0 {
-        at -= 1;
-        put_first(waiting, links, numbers, &exchanges[at]);
-    }
-}
-
-/// Puts an exchange in front of the others, whose datagram was lost.
-fn put_first(
-    waiting: &mut VecDeque<Waiting>,
-    links: &mut VecDeque<Option<u64>>,
-    numbers: &mut HashMap<Key, u64>,
-    exchange: &Exchange,
-)
-    requires linked { AreLinked links.old.items waiting.old.items }
-    requires numbered { AreNumbered numbers.old.entries waiting.old.items }
-    requires room { (deque_len waiting.old < deque_capacity waiting.old) × (deque_len links.old < deque_capacity links.old) × (0 < spare numbers.old) }
-    ensures waiting { waiting.new.items ≡ waiting_again exchange.now ∷ waiting.old.items }
-    ensures linked { AreLinked links.new.items waiting.new.items }
-    ensures numbered { AreNumbered numbers.new.entries waiting.new.items }
-    ensures capacity { (deque_capacity waiting.new ≡ deque_capacity waiting.old) × (deque_capacity links.new ≡ deque_capacity links.old) }
-    ensures spare { spare numbers.old ≤ spare numbers.new + 1 }
-{
-    match numbers.insert(key_of(exchange), exchange.number) {
-        Ok(link) => links.push_front_reserved(link),
-        Err(_) => unreachable!(),
-    }
-    waiting.push_front_reserved(Waiting {
-        exchange: *exchange,
-        asked: None,
-    });
-}
-
-/// The exchange of this number, by halving.
-fn of_number(waiting: &VecDeque<Waiting>, number: u64) -> Option<&Waiting>
-    requires { AreInOrder waiting.now.items }
-    ensures { option_map (λ k. k.now) result ≡ find (has_number number) waiting.now.items }
-{
-    let mut low = 0;
-    let mut high = waiting.len();
-    while low < high {
-        let middle = low + (high - low) / 2;
-        let here = &waiting[middle];
-        if here.exchange.number == number {
-            return Some(here);
-        }
-        if here.exchange.number < number {
-            low = middle + 1;
-        } else {
-            high = middle;
-        }
-    }
-    None
 }

@@ -1,10 +1,14 @@
 //! What a gateway does with datagrams of its clients and of its upstream (RFC 9132, section 4.4; RFC 8768).
 //!
-//! Tables stand between lines of three equal signs. Each begins with the room for exchanges; its steps are put to one gateway, whose
-//! upstream is peer 9: a datagram of a peer at a time, one of the upstream at a time, and how many exchanges wait at a time.
+//! Tables stand between lines of three equal signs. Each begins with the room for exchanges, or has a gateway with three exchanges that were
+//! restored. Its steps are put to one gateway, whose upstream is peer 9: a datagram of a peer at a time, one of the upstream at a time, and how many exchanges wait at a time.
+
+ghost use Rattle.std.specs.Prelude.{◌≡◌, IfSome};
 
 use crate::row::Row;
-use dots_gateway::{GatewayCore, GatewayFault, MAX_WAITING, Passed};
+use coap_message::Token;
+use dots_gateway::{Exchange, GatewayCore, GatewayFault, MAX_WAITING, Passed};
+use dots_history::MessageKey;
 use dots_settings::settings_of;
 use std::alloc::Global;
 use std::process::Abort;
@@ -27,7 +31,8 @@ ceiling 86400
 
 /// A request that is passed on, answered, passed on again and, after 247 seconds, passed on anew; peers that are no clients, messages that
 /// are no requests, and requests that are refused; a client's own cdid, Hop-Limits, Observe, a query and Accept; messages of the upstream
-/// that answer nothing, and its heartbeats; and a gateway with room for one exchange, which is full behind all other refusals.
+/// that answer nothing, and its heartbeats; a gateway with room for one exchange, which is full behind all other refusals; and one whose
+/// exchanges are restored, of which the first and the last are of one peer and Message ID.
 const TABLES: &str = "\
 room 1024
 up 0 1000 510300014abb2e77656c6c2d6b6e6f776e04646f7473086d697469676174650d0e637569643d647a3670486a6141446b614654626a72304a47427077076d69643d31323312010fffa101a10281a206816c3139322e302e322e302f32340e190e10 = forward 1 580300010000000000000001bb2e77656c6c2d6b6e6f776e04646f7473086d6974696761746509636469643d6e6574310d0e637569643d647a3670486a6141446b614654626a72304a47427077076d69643d31323312010f410fffa101a10281a206816c3139322e302e322e302f32340e190e10
@@ -109,15 +114,68 @@ up 1 5 510300014abb2e77656c6c2d6b6e6f776e04646f7473086d697469676174650d0e6375696
 up 1 5 510300014abb2e77656c6c2d6b6e6f776e04646f7473086d697469676174650d0e637569643d647a3670486a6141446b614654626a72304a47427077076d69643d31323312010f4100ffa101a10281a206816c3139322e302e322e302f32340e190e10 = reply 1 518000014aff686f70206c696d6974
 up 0 6 510300014abb2e77656c6c2d6b6e6f776e04646f7473086d697469676174650d0e637569643d647a3670486a6141446b614654626a72304a47427077076d69643d31323312010fffa101a10281a206816c3139322e302e322e302f32340e190e10 = again 580300010000000000000001bb2e77656c6c2d6b6e6f776e04646f7473086d6974696761746509636469643d6e6574310d0e637569643d647a3670486a6141446b614654626a72304a47427077076d69643d31323312010f410fffa101a10281a206816c3139322e302e322e302f32340e190e10
 up 1 252 510300014abb2e77656c6c2d6b6e6f776e04646f7473086d697469676174650d0e637569643d647a3670486a6141446b614654626a72304a47427077076d69643d31323312010fffa101a10281a206816c3139322e302e322e302f32340e190e10 = forward 2 580300020000000000000002bb2e77656c6c2d6b6e6f776e04646f7473086d6974696761746509636469643d6e6574310d0e637569643d647a3670486a6141446b614654626a72304a47427077076d69643d31323312010f410fffa101a10281a206816c3139322e302e322e302f32340e190e10
-waiting 252 = 1";
+waiting 252 = 1
+===
+restored
+waiting 0 = 3
+up 0 1010 510300014abb2e77656c6c2d6b6e6f776e04646f7473086d697469676174650d0e637569643d647a3670486a6141446b614654626a72304a47427077076d69643d31323312010fffa101a10281a206816c3139322e302e322e302f32340e190e10 = again 580300010000000000000001bb2e77656c6c2d6b6e6f776e04646f7473086d6974696761746509636469643d6e6574310d0e637569643d647a3670486a6141446b614654626a72304a47427077076d69643d31323312010f410fffa101a10281a206816c3139322e302e322e302f32340e190e10
+up 0 1010 510300014bbb2e77656c6c2d6b6e6f776e04646f7473086d697469676174650d0e637569643d647a3670486a6141446b614654626a72304a47427077076d69643d31323312010fffa101a10281a206816c3139322e302e322e302f32340e190e10 = -
+up 0 1010 410300014abb2e77656c6c2d6b6e6f776e04646f7473086d697469676174650d0e637569643d647a3670486a6141446b614654626a72304a47427077076d69643d31323312010fffa101a10281a206816c3139322e302e322e302f32340e190e10 = -
+down 1010 584100010000000000000001c2010fffa101a10281a205187b0e190e10 = reply 0 514100014ac2010fffa101a10281a205187b0e190e10
+up 1 1010 4101000733bb2e77656c6c2d6b6e6f776e04646f7473086d6974696761746506637569643d61 = again 480100050000000000000005bb2e77656c6c2d6b6e6f776e04646f7473086d6974696761746509636469643d6e65743106637569643d61510f
+down 1202 684500050000000000000005c2010fff02 = reply 1 6145000733c2010fff02
+up 0 1246 510300014abb2e77656c6c2d6b6e6f776e04646f7473086d697469676174650d0e637569643d647a3670486a6141446b614654626a72304a47427077076d69643d31323312010fffa101a10281a206816c3139322e302e322e302f32340e190e10 = again 580300010000000000000001bb2e77656c6c2d6b6e6f776e04646f7473086d6974696761746509636469643d6e6574310d0e637569643d647a3670486a6141446b614654626a72304a47427077076d69643d31323312010f410fffa101a10281a206816c3139322e302e322e302f32340e190e10
+up 0 1247 510300014abb2e77656c6c2d6b6e6f776e04646f7473086d697469676174650d0e637569643d647a3670486a6141446b614654626a72304a47427077076d69643d31323312010fffa101a10281a206816c3139322e302e322e302f32340e190e10 = -
+up 0 1247 510300014bbb2e77656c6c2d6b6e6f776e04646f7473086d697469676174650d0e637569643d647a3670486a6141446b614654626a72304a47427077076d69643d31323312010fffa101a10281a206816c3139322e302e322e302f32340e190e10 = again 580300060000000000000006bb2e77656c6c2d6b6e6f776e04646f7473086d6974696761746509636469643d6e6574310d0e637569643d647a3670486a6141446b614654626a72304a47427077076d69643d31323312010f410fffa101a10281a206816c3139322e302e322e302f32340e190e10
+down 1247 584100010000000000000001c2010fffa101a10281a205187b0e190e10 = -
+down 1247 584100060000000000000006c2010fffa101a10281a205187b0e190e10 = reply 0 514100014bc2010fffa101a10281a205187b0e190e10
+up 2 1248 510300014abb2e77656c6c2d6b6e6f776e04646f7473086d697469676174650d0e637569643d647a3670486a6141446b614654626a72304a47427077076d69643d31323312010fffa101a10281a206816c3139322e302e322e302f32340e190e10 = forward 7 580300070000000000000007bb2e77656c6c2d6b6e6f776e04646f7473086d6974696761746509636469643d6e6574320d0e637569643d647a3670486a6141446b614654626a72304a47427077076d69643d31323312010f410fffa101a10281a206816c3139322e302e322e302f32340e190e10
+waiting 1248 = 2";
 
 /// A gateway with room for so many exchanges.
-fn gateway(alloc: Global, room: usize) -> Option<GatewayCore> {
+fn gateway(alloc: Global, room: usize) -> Option<GatewayCore>
+    ensures { IfSome result (λ core. (core.exchanges.next ≡ 1) × (core.exchanges.room ≡ room)) }
+{
     if room > MAX_WAITING {
         return None;
     }
     let settings = settings_of(alloc, SETTINGS.as_bytes()).ok()?;
     GatewayCore::new(alloc, &settings, UPSTREAM, room).ok()
+}
+
+/// An exchange with a token of one byte.
+fn exchange(number: u64, peer: u32, key: MessageKey, token: u8, time: u64) -> Exchange
+    ensures number { result.number ≡ number }
+    ensures time { result.time ≡ time }
+{
+    let token = Token::new(&[token]).unwrap();
+    Exchange {
+        number,
+        peer,
+        key,
+        token,
+        time,
+    }
+}
+
+/// A gateway with exchanges that were restored.
+fn restored(alloc: Global) -> Option<GatewayCore> {
+    let mut core = gateway(alloc, 3)?;
+    let exchanges = [
+        exchange(1, 0, MessageKey::Non(1), 0x4a, 1000),
+        exchange(5, 1, MessageKey::Con(7), 0x33, 1001),
+        exchange(6, 0, MessageKey::Non(1), 0x4b, 1010),
+    ];
+    core.restore(&exchanges, 7);
+    Some(core)
+}
+
+/// The gateway of a table.
+fn gateway_of(alloc: Global, row: &mut Row<'_>) -> Option<GatewayCore> {
+    match row.text(" ") {
+        "room" => gateway(alloc, row.number(" ")),
+        _ => restored(alloc),
+    }
 }
 
 /// What is to be done, as text.
@@ -201,8 +259,7 @@ fn first_wrong<'a>(alloc: Global, core: &mut GatewayCore, lines: &'a str) -> Opt
 fn first_wrong_of(alloc: Global, table: &str) -> Option<&str> {
     let (head, lines) = table.split_once("\n").unwrap_or((table, ""));
     let mut row = Row::new(head, " = ");
-    let _room = row.text(" ");
-    match gateway(alloc, row.number(" ")) {
+    match gateway_of(alloc, &mut row) {
         Some(mut core) => first_wrong(alloc, &mut core, lines),
         None => Some(head),
     }

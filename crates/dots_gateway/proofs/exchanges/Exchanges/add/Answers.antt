@@ -1,11 +1,11 @@
 use Rattle.std.proofs.Common.{◌≡◌, ℕ, ◌+◌, ◌++◌, ◌∷◌, [], List, Option, cond, false, length, sym, ap, subst, ◌∙◌, arith}
-use Rattle.std.specs.Prelude.{◌==◌, ◌&&◌, Some, None, option_map, nat_le}
+use Rattle.std.specs.Prelude.{◌==◌, ◌&&◌, Some, None, nat_le}
 use Rattle.std.specs.List.{find}
 use Rattle.std.specs.Map.{lookup}
 use Rattle.std.proofs.lemmas.Bool.{leb-false, or_parts}
 use Rattle.dots_gateway.specs.declared.exchange.Exchange.{Exchange}
 use Rattle.dots_gateway.specs.declared.exchange.Waiting.{Waiting}
-use Rattle.dots_gateway.specs.Exchanges.{ExchangesValue, is_full, is_from, key_for}
+use Rattle.dots_gateway.specs.Exchanges.{ExchangesValue, is_full, is_from}
 use Rattle.dots_gateway.specs.Finding.{AreLinked, AreSound, number_for, same_key}
 use Rattle.dots_gateway.proofs.Orders.{entered, sound_entered, linked_then, linked_length, nowhere_by_key, one_of}
 use Rattle.dots_gateway.proofs.exchanges.Exchanges.add.Goals as goal
@@ -35,7 +35,7 @@ invariant_of-self-2 c =
           ∙ sym (ap (λ (xs : List Waiting). number_for key xs) items);
       linked = subst (λ (ls : List (Option ℕ)). AreLinked ls c.put_last.new.waiting.items) (sym c.push_back_reserved.ensures.items)
           (subst (λ (xs : List Waiting). AreLinked (c.self.inside.links.items ++ None ∷ []) xs) (sym items)
-              (linked_then c.self.inside.links.items ks one c.self.invariant.linked (nowhere_by_key m.kind c.args.peer m.identifier ks none)));
+          (linked_then c.self.inside.links.items ks one c.self.invariant.linked (nowhere_by_key m.kind c.args.peer m.identifier ks none)));
       reserved = (omega (arith, c.put_last.ensures.capacity, c.self.invariant.reserved.0), omega (arith, c.push_back_reserved.ensures.capacity, c.self.invariant.reserved.1));
       unused = λ is. absurd (omega (arith, is, c.self.invariant.sound.some));
     }

@@ -1,4 +1,4 @@
-use Rattle.std.proofs.Common.{subst, ap}
+use Rattle.std.proofs.Common.{subst}
 use Rattle.dots_gateway.specs.Exchanges.{ExchangesValue, AreApart}
 use Rattle.dots_gateway.proofs.Orders.{apart}
 use Rattle.dots_gateway.proofs.exchanges.Exchanges.count.Goals as goal

@@ -1,4 +1,4 @@
-use Rattle.std.proofs.Common.{◌≡◌, sym, ap, ◌∙◌, arith}
+use Rattle.std.proofs.Common.{sym, ap, ◌∙◌, arith}
 use Rattle.std.specs.List.{find}
 use Rattle.dots_gateway.specs.Exchanges.{ExchangesValue, is_passed}
 use Rattle.dots_gateway.proofs.Numbers.{no_token, no_id, of_its_number}

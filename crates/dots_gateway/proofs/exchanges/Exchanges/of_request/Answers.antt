@@ -1,5 +1,4 @@
-use Rattle.std.proofs.Common.{◌≡◌, List, subst, sym, ap, ◌∙◌}
-use Rattle.std.specs.Prelude.{option_map}
+use Rattle.std.proofs.Common.{ap, ◌∙◌}
 use Rattle.std.specs.List.{find}
 use Rattle.dots_gateway.specs.Exchanges.{ExchangesValue, is_from}
 use Rattle.dots_gateway.proofs.Orders.{found_by_number, none_by_number}

@@ -1,4 +1,4 @@
-use Rattle.std.proofs.Common.{refl, sym, subst}
+use Rattle.std.proofs.Common.{refl, subst}
 use Rattle.dots_gateway.specs.Gateway.{GatewayValue, beating, answering}
 use Rattle.dots_gateway.specs.Steps.{TellsOf}
 use Rattle.dots_gateway.proofs.Steps.{tells_then}

@@ -1,4 +1,4 @@
-use Rattle.std.proofs.Common.{◌+◌, ◌≡◌, ◌≤◌, ◌<◌, List, ◌∷◌, [], ◌++◌, length, length-append, append_assoc, sym, ap, subst, ◌∙◌, arith}
+use Rattle.std.proofs.Common.{◌+◌, ◌≤◌, List, ◌∷◌, [], ◌++◌, length, length-append, append_assoc, sym, ap, subst, ◌∙◌, arith}
 use Rattle.coap_message.specs.declared.parts.OptionPart.{OptionPart}
 use Rattle.coap_message.specs.Message.{last_number, CoapOption}
 use Rattle.coap_message.specs.Parts.{options_of}

@@ -4,7 +4,7 @@ use Rattle.std.specs.HashMap.{spare}
 use Rattle.std.specs.VecDeque.{deque_capacity}
 use Rattle.dots_gateway.specs.Exchanges.{waiting_again}
 use Rattle.dots_gateway.specs.Finding.{AreLinked, AreNumbered}
-use Rattle.dots_gateway.proofs.exchanges.put_back.Given as goal
+use Rattle.dots_gateway.proofs.restoring.put_back.Given as goal
 
 abbrev pub invariant-loop-at : goal.invariant-loop-at
 invariant-loop-at l = record {

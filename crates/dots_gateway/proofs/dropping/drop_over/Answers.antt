@@ -1,6 +1,6 @@
 use Rattle.std.proofs.Common.{sym, ◌∙◌}
 use Rattle.dots_gateway.proofs.Orders.{first_stays}
-use Rattle.dots_gateway.proofs.exchanges.drop_over.Goals as goal
+use Rattle.dots_gateway.proofs.dropping.drop_over.Goals as goal
 
 pub returns-clause-left : goal.returns-clause-left
 returns-clause-left c =

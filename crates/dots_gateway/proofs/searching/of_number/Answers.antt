@@ -1,12 +1,11 @@
-use Rattle.std.proofs.Common.{◌≡◌, ℕ, ◌+◌, ◌-◌, ◌/◌, ◌<◌, length, refl, sym, ap, subst, ◌∙◌, arith, inl, inr}
-use Rattle.std.specs.Prelude.{slice_get, Some}
+use Rattle.std.proofs.Common.{◌≡◌, ℕ, ◌+◌, ◌-◌, ◌/◌, length, refl, sym, subst, arith, inl, inr}
+use Rattle.std.specs.Prelude.{Some}
 use Rattle.std.specs.List.{find}
 use Rattle.std.proofs.lemmas.Bool.{ne_eqb, cases_lt}
 use Rattle.std.proofs.lemmas.Option.{slice_get_read}
-use Rattle.dots_gateway.specs.declared.exchange.Waiting.{Waiting}
 use Rattle.dots_gateway.specs.Finding.{has_number}
 use Rattle.dots_gateway.proofs.Orders.{number_at, below_then, above_then, nowhere_found}
-use Rattle.dots_gateway.proofs.exchanges.of_number.Goals as goal
+use Rattle.dots_gateway.proofs.searching.of_number.Goals as goal
 
 pub returns-then-here-number : goal.returns-then-here-number
 returns-then-here-number c =

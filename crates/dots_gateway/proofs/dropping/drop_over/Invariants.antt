@@ -4,7 +4,7 @@ use Rattle.std.specs.HashMap.{spare}
 use Rattle.std.specs.VecDeque.{deque_capacity}
 use Rattle.dots_gateway.specs.Exchanges.{left_at}
 use Rattle.dots_gateway.specs.Finding.{AreInOrder, AreLinked, AreNumbered}
-use Rattle.dots_gateway.proofs.exchanges.drop_over.Given as goal
+use Rattle.dots_gateway.proofs.dropping.drop_over.Given as goal
 
 abbrev pub invariant-loop-waiting : goal.invariant-loop-waiting
 invariant-loop-waiting l = record {

@@ -2,7 +2,7 @@
 use Rattle.std.proofs.Common.{◌≡◌, ◌-◌, ◌<◌, ◌≤◌, ℕ, length}
 use Rattle.std.specs.Prelude.{slice_get, Some}
 use Rattle.dots_gateway.specs.declared.exchange.Waiting.{Waiting}
-use Rattle.dots_gateway.proofs.exchanges.of_number.Given as goal
+use Rattle.dots_gateway.proofs.searching.of_number.Given as goal
 
 abbrev pub invariant-loop-low : goal.invariant-loop-low
 invariant-loop-low l = record {

@@ -2,7 +2,7 @@ use Rattle.std.proofs.Common.{ℕ, length, sym, ap, ◌∙◌, arith}
 use Rattle.std.specs.Prelude.{max}
 use Rattle.std.proofs.lemmas.Bool.{eqb-false}
 use Rattle.dots_gateway.proofs.Orders.{time_at_last}
-use Rattle.dots_gateway.proofs.exchanges.time_after.Goals as goal
+use Rattle.dots_gateway.proofs.restoring.time_after.Goals as goal
 
 pub returns : goal.returns
 returns c =
