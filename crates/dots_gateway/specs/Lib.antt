@@ -1,3 +1,4 @@
+pub mod Answered
 pub mod Exchanges
 pub mod Finding
 pub mod Forwarding
