@@ -3,6 +3,7 @@ use Rattle.std.specs.Prelude.{ℕ, ◌/◌, ◌%◌, ◌==◌, nat_lt, if◌then
 use Rattle.coap_message.specs.declared.codes.TheConstants.{CONTENT, NOT_FOUND}
 use Rattle.coap_message.specs.declared.option_numbers.TheConstants.{OBSERVE, CONTENT_FORMAT}
 use Rattle.coap_message.specs.declared.TheConstants.{DOTS_CBOR}
+use Rattle.coap_message.specs.declared.kind.Kind.{Kind}
 use Rattle.coap_message.specs.declared.kind.Kind.TheVariants.{Non}
 use Rattle.coap_message.specs.Message.{CoapOption, spelling}
 
@@ -22,16 +23,20 @@ observe number = record { number = OBSERVE; value = shortest number }
 abbrev pub dots_cbor : CoapOption
 dots_cbor = record { number = CONTENT_FORMAT; value = DOTS_CBOR / 256 ∷ DOTS_CBOR % 256 ∷ [] }
 
--- 2.05 Content, with the body of a reply to the GET that registered the observer
-abbrev pub content_notice : ℕ → List ℕ → ℕ → List ℕ → List ℕ
-content_notice id token number body = spelling (record {
-  kind = Non;
+-- 2.05 Content, with a number and a body
+abbrev pub numbered_content : Kind → ℕ → List ℕ → ℕ → List ℕ → List ℕ
+numbered_content kind id token number body = spelling (record {
+  kind = kind;
   code = CONTENT;
   identifier = id;
   token = token;
   options = observe number ∷ dots_cbor ∷ [];
   payload = body;
 })
+
+-- with the body of a reply to the GET that registered the observer
+abbrev pub content_notice : ℕ → List ℕ → ℕ → List ℕ → List ℕ
+content_notice id token number body = numbered_content Non id token number body
 
 -- 4.04 Not Found, where nothing is left to see: it ends the observing, so it has no Observe (RFC 7641, section 4.2)
 abbrev pub gone_notice : ℕ → List ℕ → List ℕ

@@ -17,6 +17,8 @@ mod shows;
 mod watch;
 
 pub use beating::beat;
+pub use notices::{Front, numbered_content};
 pub use notifying::notify;
+pub use sending::send_to;
 pub use shows::Shows;
 pub use watch::Watch;

@@ -31,7 +31,8 @@ struct Due {
 
 /// Tells each observer that is due what there is to see now, in the order of registration (RFC 7641, section 4.2; RFC 9132, section
 /// 4.4.2.1). One for whose notification there is no memory is passed over, and stays due. Whether a notification left makes no difference.
-pub fn notify<H: Host, S: Shows>(host: &mut H, alloc: Global, watch: &mut Watch, shows: &S)
+/// Answers whether one was passed over.
+pub fn notify<H: Host, S: Shows>(host: &mut H, alloc: Global, watch: &mut Watch, shows: &S) -> bool
     ensures told { (sends : List OwnedOut)
         × Notifies (S.Views.lists shows.now) (S.bodies shows.now) watch.old.observers.observed watch.old.sessions sends watch.new.observers.observed watch.new.sessions
         × Added (H.acts host.old) (H.acts host.new) (SentTo (H.moment host.old) (H.moment host.new) sends) }
@@ -44,9 +45,12 @@ pub fn notify<H: Host, S: Shows>(host: &mut H, alloc: Global, watch: &mut Watch,
     ensures leads { H.leads host.old host.new }
 {
     let mut from = 0;
+    let mut passed_over = false;
     while let Some(due) = next_notice(alloc, watch, shows, from) {
+        passed_over |= due.bytes.is_none();
         from = notify_one(host, watch, shows, due);
     }
+    passed_over
 }
 
 /// The first notification, from the place on, that is due.
