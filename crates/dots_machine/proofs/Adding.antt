@@ -17,7 +17,8 @@ use Rattle.dots_machine.specs.Answering.{AreBytes, IsHandedIn, SaysUnavailable, 
 use Rattle.dots_machine.specs.Handlings.{Handling, IsHandling, EachHandling, handlings_of}
 use Rattle.dots_machine.specs.Adding.{AcceptsDatagram, Accepts, AddsExactly}
 use Rattle.dots_machine.proofs.OneAnswer.{one_verdict, says}
-use Rattle.dots_machine.proofs.Hearing.{hears_history, same_history_after}
+use Rattle.dots_machine.proofs.Hearing.{answer_history, tick_history}
+use Rattle.dots_machine.proofs.Observing.{told_history}
 use Rattle.dots_machine.proofs.Handlings.{by_handlings, each_weaker}
 
 module _ (settings : SettingsValue) (old : State) (peer : ℕ) (datagram : List ℕ) where
@@ -33,19 +34,20 @@ module _ (settings : SettingsValue) (old : State) (peer : ℕ) (datagram : List 
   adds_so verdict.Silent decides = inl refl
   adds_so (verdict.Reply reply) decides = inl refl
   adds_so (verdict.LongReply reply) decides = inl refl
+  adds_so (verdict.Shows y body) decides = inl refl
   adds_so (verdict.Accept reply entry) decides = inr (entry, refl, accepts_so reply entry decides)
 
   module _ (are : AreBytes datagram) (sends : List OwnedOut) (new : State) where
     accepted_so : (entry : Entry) → AcceptsDatagram settings old peer datagram entry → Answers settings old peer datagram sends new
         → (new.history ≡ old.history ++ entry ∷ []) ⊎ SaysUnavailable peer datagram sends
     accepted_so entry accepts a =
-        by_verdicts (one_verdict settings old peer datagram are a.0 (verdict.Accept accepts.reply entry) a.1 (by_rules accepts.known accepts.got accepts.received accepts.accepted))
+        by_verdicts (one_verdict settings old peer datagram are a.decided (verdict.Accept accepts.reply entry) a.decides (by_rules accepts.known accepts.got accepts.received accepts.accepted))
       where
-        by_verdicts : (a.0 ≡ verdict.Accept accepts.reply entry)
-            ⊎ (LacksMemory datagram (is_gateway (role_of settings peer)) a.0 ⊎ LacksMemory datagram (is_gateway (role_of settings peer)) (verdict.Accept accepts.reply entry))
+        by_verdicts : (a.decided ≡ verdict.Accept accepts.reply entry)
+            ⊎ (LacksMemory datagram (is_gateway (role_of settings peer)) a.decided ⊎ LacksMemory datagram (is_gateway (role_of settings peer)) (verdict.Accept accepts.reply entry))
             → (new.history ≡ old.history ++ entry ∷ []) ⊎ SaysUnavailable peer datagram sends
-        by_verdicts (inl same) = inl (ap (λ (state : State). state.history) (a.5 ∙ ap (λ v. after v a.3) same) ∙ ap (λ es. es ++ entry ∷ []) (hears_history settings peer datagram old a.3 a.4))
-        by_verdicts (inr (inl lacks)) = inr (says settings old peer datagram are a.0 sends a.2 lacks)
+        by_verdicts (inl same) = inl (answer_history settings old peer datagram sends new a ∙ ap (λ v. (after v old).history) same)
+        by_verdicts (inr (inl lacks)) = inr (says settings old peer datagram are sends new a lacks)
         by_verdicts (inr (inr lacks)) = absurd (cc lacks.answer)
 
 module _ (settings : SettingsValue) (old : State) (at : ℕ) (new : State) where
@@ -56,8 +58,7 @@ module _ (settings : SettingsValue) (old : State) (at : ℕ) (new : State) where
   added_by (event.Datagram peer datagram) owed step =
       let a = step.2 in
       let now = later old at in
-      by_history (sym (ap (λ (state : State). state.history) a.5 ∙ same_history_after a.0 a.3 now (hears_history settings peer datagram now a.3 a.4)))
-      (adds_so settings now peer datagram a.0 a.1)
+      by_history (sym (answer_history settings now peer datagram step.0 new a)) (adds_so settings now peer datagram a.decided a.decides)
     where
       by_history : {before : List Entry} → before ≡ new.history → (before ≡ old.history) ⊎ ((entry : Entry) × (before ≡ old.history ++ entry ∷ []) × AcceptsDatagram settings (later old at) peer datagram entry)
           → AddsOne (event.Datagram peer datagram)
@@ -66,9 +67,9 @@ module _ (settings : SettingsValue) (old : State) (at : ℕ) (new : State) where
   added_by event.End owed step = inl (ap (λ state. state.history) step.1)
   added_by event.Failed owed step = inl (ap (λ state. state.history) step.1)
   added_by (event.Opened c p) owed step = inl (ap (λ state. state.history) step.1)
-  added_by (event.Piece c p) owed step = inl (ap (λ state. state.history) step.1)
+  added_by (event.Piece c p) owed step = inl (told_history settings (later old at) new step.0 step.2)
   added_by (event.Closed c) owed step = inl (ap (λ state. state.history) step.1)
-  added_by event.Tick owed step = inl (ap (λ (state : State). state.history) step.2.1)
+  added_by event.Tick owed step = inl (tick_history settings (later old at) step.0 new step.2)
   added_by event.Restart owed step = inl (ap (λ state. state.history) step.1)
 
   accepted_by : (what : Event) (owed : List (State × OwnedOut)) → Step settings old what at owed new → IsHandedIn what → (entry : Entry) → Accepts settings (later old at) what entry

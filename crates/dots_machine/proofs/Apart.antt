@@ -6,7 +6,7 @@ use Rattle.std.proofs.lemmas.List.Elements.{filter-append}
 use Rattle.dots_host.specs.declared.event.Event.{Event}
 use Rattle.dots_host.specs.declared.event.Event.TheVariants as event
 use Rattle.dots_host.specs.declared.out.OwnedOut.{OwnedOut}
-use Rattle.dots_host.specs.Runs.{outs_of, each_telling}
+use Rattle.dots_host.specs.Runs.{outs_of}
 use Rattle.dots_host.proofs.RunLemmas.{outs_back}
 use Rattle.dots_settings.specs.Settings.{SettingsValue}
 use Rattle.dots_settings.specs.Lookups.{role_of, prefixes_of}
@@ -28,17 +28,18 @@ use Rattle.dots_machine.specs.Domains.{domain_for, session_domain}
 use Rattle.target_rules.specs.Targets.{scope_fault}
 use Rattle.dots_machine.specs.MessageRepeats.{Sent, sent_for, unless_repeated}
 use Rattle.dots_machine.specs.Mitigations.{sent_by, request_of, judged, unless_faulty, put_answer, is_taken, delete_by, delete_answer, get_by, get_answer, client_for}
-use Rattle.dots_machine.specs.Machine.{State, later, DecidesRequest, Rules, Decides, by_silence, by_rules, for_want_of_memory, sends_of, after, Hears, Answers, beating, Step, facts_in}
-use Rattle.dots_machine.specs.Apart.{SameFor, domain_of, AsksFor, by_datagram, StaysApart, elsewhere, same_step, ticks, restarts}
+use Rattle.dots_machine.specs.Observing.{number_of}
+use Rattle.dots_machine.specs.Machine.{State, later, DecidesRequest, Rules, Decides, by_silence, by_rules, for_want_of_memory, after, Answers, Step, facts_in}
+use Rattle.dots_machine.specs.Apart.{SameFor, domain_of, AsksFor, by_datagram, StaysApart, elsewhere, decided_alike, without_request}
 use Rattle.dots_laws.specs.Held.{config_of}
 use Rattle.dots_keys.specs.declared.request.ConfigBody.{ConfigBody}
 use Rattle.session_core.specs.Negotiating.{negotiated}
-use Rattle.dots_notices.specs.Beats.{beats, after_beats}
 use Rattle.dots_machine.specs.Sessions.{sid_of, is_held}
 use Rattle.dots_machine.specs.Facts.{Facts, stands_as, facts_of}
 use Rattle.dots_machine.specs.Deciding.{in_domain, with_mid, put_in, put_for, delete_in, delete_for, get_for, config_answer, put_config_for, clear_answer, delete_config_for, config_view, get_config_for, answer_to, asks_for}
 use Rattle.dots_machine.proofs.Verdicts.{request_valued, request_there, ruled}
-use Rattle.dots_machine.proofs.Hearing.{hears_history, hears_time, hears_too, same_history_after}
+use Rattle.dots_machine.proofs.Hearing.{answer_history, answer_time, tick_history}
+use Rattle.dots_machine.proofs.Observing.{told_history}
 use Rattle.dots_machine.proofs.Outcomes.{AcceptsWell, puts_accept, deletes_accept, gets_accept, put_configs_accept, delete_configs_accept, get_configs_accept}
 
 -- whatever is carried out on both leaves the domain the same
@@ -46,6 +47,7 @@ same_after : (domain : ℕ) (one other : State) → SameFor domain one other →
 same_after domain one other same verdict.Silent = same
 same_after domain one other same (verdict.Reply reply) = same
 same_after domain one other same (verdict.LongReply reply) = same
+same_after domain one other same (verdict.Shows y body) = same
 same_after domain one other same (verdict.Accept reply entry) = record {
   time = same.time;
   entries = filter-append (λ e. e.domain == domain) one.history (entry ∷ []) ∙ ap (λ entries. entries ++ alone domain (entry ∷ [])) same.entries
@@ -59,9 +61,10 @@ module _ (settings : SettingsValue) where
     Untouched v = alone domain (after v one).history ≡ alone domain one.history
 
     pub untouched : (another : ℕ) (v : Verdict) → another ≢ domain → AcceptsWell another v → Untouched v
-    untouched another verdict.Silent there well = refl
+    untouched another verdict.Silent there well = absurd well
     untouched another (verdict.Reply reply) there well = refl
     untouched another (verdict.LongReply reply) there well = refl
+    untouched another (verdict.Shows y body) there well = refl
     untouched another (verdict.Accept reply entry) there well =
         filter-append (λ e. e.domain == domain) one.history (entry ∷ []) ∙ by_test (entry.domain == domain) refl
       where
@@ -193,85 +196,58 @@ module _ (settings : SettingsValue) where
         (delete_configs_accept settings (facts_in settings one) peer x sid) (delete_config_same peer x sid)
     asked_apart peer x (request.PutHeartbeat heard) = inr refl
 
-    module _ (peer : ℕ) (datagram : List ℕ) (sends : List OwnedOut) (new : State) where
-      abbrev ForAnother : Type 0
-      ForAnother = (another : ℕ) × (another ≢ domain) × AsksFor settings another (event.Datagram peer datagram) × (alone domain new.history ≡ alone domain one.history)
+    module _ (peer : ℕ) (datagram : List ℕ) (decided : Verdict) where
+      abbrev pub ForAnother : Type 0
+      ForAnother = (another : ℕ) × (another ≢ domain) × AsksFor settings another (event.Datagram peer datagram) × (alone domain (after decided one).history ≡ alone domain one.history)
 
-      abbrev AlsoThere : Type 0
-      AlsoThere = (last : State) × Answers settings other peer datagram sends last × SameFor domain new last
-
-      -- the same verdict there
-      also_there : (v : Verdict) (met : State) → sends ≡ sends_of v peer → Hears settings one peer datagram met → new ≡ after v met → Decides settings other peer datagram v → AlsoThere
-      also_there v met s hears k decides = (after v last, (v, decides, s, last, there.1, refl), subst (λ state. SameFor domain state (after v last)) (sym k) (same_after domain met last met_same v))
+      -- the datagram is for another domain, or it is decided on alike there
+      pub decided_apart : Decides settings one peer datagram decided → ForAnother ⊎ Decides settings other peer datagram decided
+      decided_apart (by_silence n is) = inr (by_silence n is)
+      decided_apart (for_want_of_memory n lacks) = inr (for_want_of_memory n lacks)
+      decided_apart (by_rules n (received.Unread d) got is) = inr (by_rules n (received.Unread d) got (ruled settings other peer (received.Unread d) decided is.2))
+      decided_apart (by_rules n (received.Dismissed d) got is) = inr (by_rules n (received.Dismissed d) got (ruled settings other peer (received.Dismissed d) decided is.2))
+      decided_apart (by_rules n (received.Refused x e) got is) = inr (by_rules n (received.Refused x e) got (ruled settings other peer (received.Refused x e) decided is.2))
+      decided_apart (by_rules n (received.Asked x r) got is) = joined (asked_apart peer x r)
         where
-          there : (last : State) × Hears settings other peer datagram last
-          there = hears_too settings peer datagram one other met hears
+          there : answer_to settings (facts_in settings one) peer x r ≡ answer_to settings (facts_in settings other) peer x r → Rules settings other peer (received.Asked x r) decided
+          there alike = subst (DecidesRequest settings other peer x r) (sym (request_valued settings one peer x r decided is ∙ alike)) (request_there settings other peer x r)
 
-          last : State
-          last = there.0
-
-          met_same : SameFor domain met last
-          met_same = record {
-            time = hears_time settings peer datagram one met hears ∙ same.time ∙ sym (hears_time settings peer datagram other last there.1);
-            entries = ap (alone domain) (hears_history settings peer datagram one met hears) ∙ same.entries ∙ sym (ap (alone domain) (hears_history settings peer datagram other last there.1));
-          }
-
-      pub answered_apart : Answers settings one peer datagram sends new → ForAnother ⊎ AlsoThere
-      answered_apart a = by_decision a.1
-        where
-          history_is : new.history ≡ (after a.0 one).history
-          history_is = ap (λ (state : State). state.history) a.5 ∙ same_history_after a.0 a.3 one (hears_history settings peer datagram one a.3 a.4)
-
-          by_decision : Decides settings one peer datagram a.0 → ForAnother ⊎ AlsoThere
-          by_decision (by_silence n is) = inr (also_there a.0 a.3 a.2 a.4 a.5 (by_silence n is))
-          by_decision (for_want_of_memory n lacks) = inr (also_there a.0 a.3 a.2 a.4 a.5 (for_want_of_memory n lacks))
-          by_decision (by_rules n (received.Unread d) got is) =
-              inr (also_there a.0 a.3 a.2 a.4 a.5 (by_rules n (received.Unread d) got (ruled settings other peer (received.Unread d) a.0 is.2)))
-          by_decision (by_rules n (received.Dismissed d) got is) =
-              inr (also_there a.0 a.3 a.2 a.4 a.5 (by_rules n (received.Dismissed d) got (ruled settings other peer (received.Dismissed d) a.0 is.2)))
-          by_decision (by_rules n (received.Refused x e) got is) =
-              inr (also_there a.0 a.3 a.2 a.4 a.5 (by_rules n (received.Refused x e) got (ruled settings other peer (received.Refused x e) a.0 is.2)))
-          by_decision (by_rules n (received.Asked x r) got is) = joined (asked_apart peer x r)
-            where
-              there : answer_to settings (facts_in settings one) peer x r ≡ answer_to settings (facts_in settings other) peer x r → Rules settings other peer (received.Asked x r) a.0
-              there alike = subst (DecidesRequest settings other peer x r) (sym (request_valued settings one peer x r a.0 is ∙ alike)) (request_there settings other peer x r)
-
-              joined : Elsewhere r peer (answer_to settings (facts_in settings one) peer x r) ⊎ (answer_to settings (facts_in settings one) peer x r ≡ answer_to settings (facts_in settings other) peer x r) → ForAnother ⊎ AlsoThere
-              joined (inl (another, there, found, none)) =
-                  inl (another, there, by_datagram peer datagram x r refl got found, ap (alone domain) (history_is ∙ ap (λ v. (after v one).history) (request_valued settings one peer x r a.0 is)) ∙ none)
-              joined (inr alike) = inr (also_there a.0 a.3 a.2 a.4 a.5 (by_rules n (received.Asked x r) got (there alike)))
+          joined : Elsewhere r peer (answer_to settings (facts_in settings one) peer x r) ⊎ (answer_to settings (facts_in settings one) peer x r ≡ answer_to settings (facts_in settings other) peer x r)
+              → ForAnother ⊎ Decides settings other peer datagram decided
+          joined (inl (another, there, found, none)) =
+              inl (another, there, by_datagram peer datagram x r refl got found, ap (λ v. alone domain (after v one).history) (request_valued settings one peer x r decided is) ∙ none)
+          joined (inr alike) = inr (by_rules n (received.Asked x r) got (there alike))
 
   module _ (domain : ℕ) (old other : State) (same : SameFor domain old other) (at : ℕ) (new : State) where
     moved : SameFor domain (later old at) (later other at)
     moved = record { time = ap (λ time. max at time) same.time; entries = same.entries }
 
-    rests : (event : Event) (owed : List (State × OwnedOut)) (last : State) → Step settings other event at owed last → SameFor domain new last → StaysApart settings domain old other event at (outs_of owed) new
-    rests event owed last step after_it = same_step owed last refl step after_it
-
     pub step_apart : (event : Event) (owed : List (State × OwnedOut)) → Step settings old event at owed new → StaysApart settings domain old other event at (outs_of owed) new
-    step_apart (event.Datagram peer datagram) owed step = joined (answered_apart domain (later old at) (later other at) moved peer datagram step.0 new step.2)
+    step_apart (event.Datagram peer datagram) owed step = joined (decided_apart domain (later old at) (later other at) moved peer datagram a.decided a.decides)
       where
-        outs : (last : State) → outs_of (each_telling last step.0) ≡ outs_of owed
-        outs last = outs_back last step.0 ∙ sym (ap outs_of step.1 ∙ outs_back new step.0)
+        a : Answers settings (later old at) peer datagram step.0 new
+        a = step.2
 
-        joined : ((another : ℕ) × (another ≢ domain) × AsksFor settings another (event.Datagram peer datagram) × (alone domain new.history ≡ alone domain old.history))
-            ⊎ ((last : State) × Answers settings (later other at) peer datagram step.0 last × SameFor domain new last)
+        history_is : new.history ≡ (after a.decided (later old at)).history
+        history_is = answer_history settings (later old at) peer datagram step.0 new a
+
+        left_same : SameFor domain (after a.decided (later old at)) (after a.decided (later other at))
+        left_same = same_after domain (later old at) (later other at) moved a.decided
+
+        joined : ForAnother domain (later old at) (later other at) moved peer datagram a.decided ⊎ Decides settings (later other at) peer datagram a.decided
             → StaysApart settings domain old other (event.Datagram peer datagram) at (outs_of owed) new
-        joined (inl (another, there, asks, none)) = elsewhere another there asks none
-        joined (inr (last, told, after_it)) = same_step (each_telling last step.0) last (outs last) (step.0, refl, told) after_it
-    step_apart event.End owed step = rests event.End owed other (step.0, refl) (subst (λ state. SameFor domain state other) (sym step.1) same)
-    step_apart event.Failed owed step = rests event.Failed owed other (step.0, refl) (subst (λ state. SameFor domain state other) (sym step.1) same)
-    step_apart (event.Opened c p) owed step = rests (event.Opened c p) owed (later other at) (step.0, refl) (subst (λ state. SameFor domain state (later other at)) (sym step.1) moved)
-    step_apart (event.Piece c p) owed step = rests (event.Piece c p) owed (later other at) (step.0, refl) (subst (λ state. SameFor domain state (later other at)) (sym step.1) moved)
-    step_apart (event.Closed c) owed step = rests (event.Closed c) owed (later other at) (step.0, refl) (subst (λ state. SameFor domain state (later other at)) (sym step.1) moved)
-    step_apart event.Tick owed step =
-        let there = later other at in
-        let last : State = record there { contacts = after_beats (beating settings there) there.time there.contacts } in
-        let sends : List OwnedOut = beats (beating settings there) there.time there.contacts in
-        ticks refl (each_telling last sends) last (sends, refl, (refl, refl))
-        (record {
-          time = ap (λ (state : State). state.time) step.2.1 ∙ moved.time;
-          entries = ap (λ (state : State). alone domain state.history) step.2.1 ∙ moved.entries;
-        })
-        (ap (λ (state : State). alone domain state.history) step.2.1)
-    step_apart event.Restart owed step = restarts refl (ap outs_of step.0) (ap (λ state. alone domain state.history) step.1)
+        joined (inl (another, there, asks, none)) = elsewhere another there asks (ap (alone domain) history_is ∙ none)
+        joined (inr also) =
+            decided_alike peer datagram a.decided (number_of settings a.asked a.met.observers) a.notices refl a.decides also
+            (ap outs_of step.1 ∙ outs_back new step.0 ∙ a.sends_are ∙ ap (λ replies. replies ++ a.notices) a.replies_are)
+            (record {
+              time = answer_time settings (later old at) peer datagram step.0 new a ∙ left_same.time;
+              entries = ap (alone domain) history_is ∙ left_same.entries;
+            })
+    step_apart event.End owed step = without_request tt (ap (λ (state : State). alone domain state.history) step.1)
+    step_apart event.Failed owed step = without_request tt (ap (λ (state : State). alone domain state.history) step.1)
+    step_apart (event.Opened c p) owed step = without_request tt (ap (λ (state : State). alone domain state.history) step.1)
+    step_apart (event.Piece c p) owed step = without_request tt (ap (alone domain) (told_history settings (later old at) new step.0 step.2))
+    step_apart (event.Closed c) owed step = without_request tt (ap (λ (state : State). alone domain state.history) step.1)
+    step_apart event.Tick owed step = without_request tt (ap (alone domain) (tick_history settings (later old at) step.0 new step.2))
+    step_apart event.Restart owed step = without_request tt (ap (λ (state : State). alone domain state.history) step.1)

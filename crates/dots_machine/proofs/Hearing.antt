@@ -1,5 +1,5 @@
 -- To be heard changes neither the history nor the time, and a datagram leaves one state heard.
-use Rattle.std.proofs.Common.{◌≡◌, ℕ, Bool, true, false, List, [], ◌∷◌, ◌++◌, refl, sym, ap, ◌∙◌}
+use Rattle.std.proofs.Common.{◌≡◌, ℕ, Bool, true, false, List, [], ◌∷◌, ◌++◌, refl, sym, ap, ◌∙◌, subst}
 use Rattle.std.proofs.lemmas.Bool.{false≢true}
 use Rattle.coap_message.proofs.Faults.{breaks_no_message}
 use Rattle.dots_settings.specs.Settings.{SettingsValue}
@@ -10,13 +10,22 @@ use Rattle.dots_machine.specs.declared.received.Received.TheVariants as received
 use Rattle.dots_machine.specs.Requests.{IsReceived, unread, asks_nothing, meant}
 use Rattle.dots_machine.specs.Verdict.{Verdict}
 use Rattle.dots_machine.specs.declared.verdict.Verdict.TheVariants as verdict
-use Rattle.dots_machine.specs.Machine.{State, is_stranger, hearing, Hears, by_message, unreadable, by_stranger, after}
+use Rattle.dots_machine.specs.Domains.{is_stranger}
+use Rattle.dots_host.specs.declared.out.OwnedOut.{OwnedOut}
+use Rattle.dots_notices.specs.Notifying.{Apart}
+use Rattle.dots_machine.proofs.Observing.{told_history, told_time, told_apart, watched_apart}
+use Rattle.dots_machine.specs.Machine.{State, watched, Answers, Ticks, hearing, Hears, by_message, unreadable, by_stranger, after}
 
 module _ (settings : SettingsValue) (peer : ℕ) (datagram : List ℕ) where
   pub hears_history : (state met : State) → Hears settings state peer datagram met → met.history ≡ state.history
   hears_history state met (by_message known m is spelled e) = ap (λ (state : State). state.history) e
   hears_history state met (unreadable fault breaks e) = ap (λ (state : State). state.history) e
   hears_history state met (by_stranger unknown e) = ap (λ (state : State). state.history) e
+
+  pub hears_observers : (state met : State) → Hears settings state peer datagram met → met.observers ≡ state.observers
+  hears_observers state met (by_message known m is spelled e) = ap (λ (state : State). state.observers) e
+  hears_observers state met (unreadable fault breaks e) = ap (λ (state : State). state.observers) e
+  hears_observers state met (by_stranger unknown e) = ap (λ (state : State). state.observers) e
 
   pub hears_time : (state met : State) → Hears settings state peer datagram met → met.time ≡ state.time
   hears_time state met (by_message known m is spelled e) = ap (λ (state : State). state.time) e
@@ -57,10 +66,47 @@ pub same_history_after : (v : Verdict) (a b : State) → a.history ≡ b.history
 same_history_after verdict.Silent a b same = same
 same_history_after (verdict.Reply reply) a b same = same
 same_history_after (verdict.LongReply reply) a b same = same
+same_history_after (verdict.Shows x body) a b same = same
 same_history_after (verdict.Accept reply entry) a b same = ap (λ es. es ++ entry ∷ []) same
 
 pub same_time_after : (v : Verdict) (a b : State) → a.time ≡ b.time → (after v a).time ≡ (after v b).time
 same_time_after verdict.Silent a b same = same
 same_time_after (verdict.Reply reply) a b same = same
 same_time_after (verdict.LongReply reply) a b same = same
+same_time_after (verdict.Shows x body) a b same = same
 same_time_after (verdict.Accept reply entry) a b same = same
+
+-- a verdict changes no observer
+pub after_observers : (v : Verdict) (state : State) → (after v state).observers ≡ state.observers
+after_observers verdict.Silent state = refl
+after_observers (verdict.Reply reply) state = refl
+after_observers (verdict.LongReply reply) state = refl
+after_observers (verdict.Shows x body) state = refl
+after_observers (verdict.Accept reply entry) state = refl
+
+-- ---- what an answer leaves
+module _ (settings : SettingsValue) (state : State) (peer : ℕ) (datagram : List ℕ) (sends : List OwnedOut) (new : State) (a : Answers settings state peer datagram sends new) where
+  abbrev pub left : State
+  left = watched settings peer a.asked a.decided a.replies (after a.decided a.met)
+
+  pub answer_history : new.history ≡ (after a.decided state).history
+  answer_history = told_history settings left new a.notices a.notified ∙ same_history_after a.decided a.met state (hears_history settings peer datagram state a.met a.hears)
+
+  pub answer_time : new.time ≡ (after a.decided state).time
+  answer_time = told_time settings left new a.notices a.notified ∙ same_time_after a.decided a.met state (hears_time settings peer datagram state a.met a.hears)
+
+  pub left_apart : Apart state.observers → Apart left.observers
+  left_apart apart =
+      watched_apart settings peer a.asked a.decided a.replies (after a.decided a.met)
+      (subst Apart (sym (after_observers a.decided a.met ∙ hears_observers settings peer datagram state a.met a.hears)) apart)
+
+-- ---- what a tick leaves
+module _ (settings : SettingsValue) (state : State) (sends : List OwnedOut) (new : State) (t : Ticks settings state sends new) where
+  pub tick_history : new.history ≡ state.history
+  tick_history = ap (λ (s : State). s.history) t.beaten.1 ∙ told_history settings state t.told t.notices t.notified
+
+  pub tick_time : new.time ≡ state.time
+  tick_time = ap (λ (s : State). s.time) t.beaten.1 ∙ told_time settings state t.told t.notices t.notified
+
+  pub tick_apart : Apart state.observers → Apart new.observers
+  tick_apart apart = subst Apart (sym (ap (λ (s : State). s.observers) t.beaten.1)) (told_apart settings state t.told t.notices apart t.notified)

@@ -24,9 +24,9 @@ use Rattle.dots_machine.specs.declared.received.Received.{Received}
 use Rattle.dots_machine.specs.declared.received.Received.TheVariants as received
 use Rattle.dots_machine.specs.Verdict.{Verdict}
 use Rattle.dots_machine.specs.declared.verdict.Verdict.TheVariants as verdict
-use Rattle.dots_machine.specs.Domains.{is_gateway, domain_for, session_domain}
+use Rattle.dots_machine.specs.Domains.{is_gateway, domain_for, session_domain, is_stranger}
 use Rattle.dots_machine.specs.Requests.{IsReceived}
-use Rattle.dots_machine.specs.Machine.{State, afresh, later, is_stranger, DecidesRequest, Rules, dismissal_verdict, reject_verdict, Decides, by_silence, by_rules, for_want_of_memory, sends_of, after, Step, facts_in}
+use Rattle.dots_machine.specs.Machine.{State, afresh, later, DecidesRequest, Rules, dismissal_verdict, reject_verdict, Decides, by_silence, by_rules, for_want_of_memory, sends_of, after, Step, facts_in}
 use Rattle.dots_machine.specs.Apart.{SameFor, domain_of, AsksFor, by_datagram}
 use Rattle.dots_machine.specs.Handlings.{Handling, IsHandling, EachHandling, handlings_of}
 use Rattle.dots_machine.specs.Isolation.{TakenUp, TakesUp, PassesBy, none_came, was_refused, lacked_memory, entries_of, Make, IsIsolated}
@@ -34,7 +34,9 @@ use Rattle.dots_machine.specs.Deciding.{in_domain, put_for, delete_for, get_for,
 use Rattle.dots_machine.proofs.OneRequest.{Same, one, first_refused, second_refused, same_received}
 use Rattle.dots_machine.proofs.Outcomes.{AcceptsWell, IsRefusal, reject_refuses, puts_accept, deletes_accept, gets_accept, put_configs_accept, delete_configs_accept, get_configs_accept, request_accepts}
 use Rattle.dots_machine.proofs.Verdicts.{request_valued, request_there}
-use Rattle.dots_machine.proofs.Hearing.{hears_history, hears_time, same_history_after, same_time_after}
+use Rattle.dots_machine.specs.Observing.{number_of}
+use Rattle.dots_machine.proofs.Hearing.{answer_history, answer_time, tick_history}
+use Rattle.dots_machine.proofs.Observing.{told_history}
 use Rattle.dots_machine.proofs.Apart.{untouched, Elsewhere, asked_apart}
 use Rattle.dots_machine.proofs.Handlings.{by_handlings}
 
@@ -79,11 +81,13 @@ refusal_adds_nothing : (v : Verdict) (state : State) → IsRefusal v → after v
 refusal_adds_nothing verdict.Silent state none = refl
 refusal_adds_nothing (verdict.Reply reply) state none = refl
 refusal_adds_nothing (verdict.LongReply reply) state none = absurd none
+refusal_adds_nothing (verdict.Shows y body) state none = absurd none
 refusal_adds_nothing (verdict.Accept reply entry) state none = absurd none
 
 dismissal_adds_nothing : (d : Dismissal) (state : State) → after (dismissal_verdict d) state ≡ state
 dismissal_adds_nothing dismissal.Ignored state = refl
 dismissal_adds_nothing (dismissal.Reset id) state = refl
+dismissal_adds_nothing (dismissal.Rejected id) state = refl
 
 module _ (settings : SettingsValue) (domain : ℕ) (old : State) (handling : Handling) (new : State) where
   abbrev now : State
@@ -98,7 +102,7 @@ module _ (settings : SettingsValue) (domain : ℕ) (old : State) (handling : Han
   Taken =
       (taken : TakenUp) × TakesUp settings domain handling new taken × (decided : Verdict)
       × DecidesRequest settings (afresh settings (alone domain old.history) taken.time) taken.peer taken.exchange taken.request decided
-      × (taken.sends ≡ sends_of decided taken.peer)
+      × (number : Option ℕ) × (taken.replies ≡ sends_of number decided taken.peer)
       × (alone domain new.history ≡ alone domain old.history ++ entries_of decided)
 
   abbrev Passed : Type 0
@@ -143,7 +147,7 @@ module _ (settings : SettingsValue) (domain : ℕ) (old : State) (handling : Han
             by_test true here = let same : d ≡ domain = grind (arith, nat_tests, here) in inl (at ∙ ap Some same)
             by_test false out = inr (λ asked. let same : d ≡ domain = some_same d domain (sym at ∙ asked) in both_ways (d == domain) out (grind (arith, nat_tests, same)))
 
-    module _ (sends : List OwnedOut) (sent : sends ≡ handling.sends) (decided : Verdict) (told : sends ≡ sends_of decided peer)
+    module _ (replies notices : List OwnedOut) (sent : handling.sends ≡ replies ++ notices) (decided : Verdict) (number : Option ℕ) (told : replies ≡ sends_of number decided peer)
         (history_is : new.history ≡ (after decided now).history) (time_is : new.time ≡ (after decided now).time) where
       unchanged : after decided now ≡ now → alone domain new.history ≡ alone domain old.history
       unchanged same = ap (alone domain) (history_is ∙ ap (λ (state : State). state.history) same)
@@ -182,16 +186,18 @@ module _ (settings : SettingsValue) (domain : ℕ) (old : State) (handling : Han
       time_kept verdict.Silent = refl
       time_kept (verdict.Reply reply) = refl
       time_kept (verdict.LongReply reply) = refl
+      time_kept (verdict.Shows y body) = refl
       time_kept (verdict.Accept reply entry) = refl
 
       -- for the domain
       taken_up : (x : Exchange) (r : Request) → IsReceived datagram (is_gateway who) (received.Asked x r) → IsAsked r → decided ≡ answer_to settings (facts_in settings now) peer x r → Taken
       taken_up x r got asked is = (
-        record { time = new.time; peer = peer; exchange = x; request = r; sends = handling.sends },
-        record { datagram = datagram; came = came; is_received = got; for_domain = asked; time_is = refl; sends_are = refl },
+        record { time = new.time; peer = peer; exchange = x; request = r; replies = replies },
+        record { datagram = datagram; came = came; is_received = got; for_domain = asked; time_is = refl; notices = notices; sends_are = sent },
         decided,
         subst (DecidesRequest settings own peer x r) (sym (is ∙ alike)) (request_there settings own peer x r),
-        sym sent ∙ told,
+        number,
+        told,
         ap (alone domain) history_is ∙ added decided (well_so is),
       )
         where
@@ -210,9 +216,10 @@ module _ (settings : SettingsValue) (domain : ℕ) (old : State) (handling : Han
           well_so is = subst (AcceptsWell domain) (sym is) (request_accepts settings (facts_in settings now) peer x r domain asked)
 
           added : (v : Verdict) → AcceptsWell domain v → alone domain (after v now).history ≡ alone domain old.history ++ entries_of v
-          added verdict.Silent well = sym (append-nil (alone domain old.history))
+          added verdict.Silent well = absurd well
           added (verdict.Reply reply) well = sym (append-nil (alone domain old.history))
           added (verdict.LongReply reply) well = sym (append-nil (alone domain old.history))
+          added (verdict.Shows y body) well = sym (append-nil (alone domain old.history))
           added (verdict.Accept reply entry) well =
               filter-append (λ e. e.domain == domain) old.history (entry ∷ [])
               ∙ ap (λ es. alone domain old.history ++ es) (cond-true (entry.domain == domain) (entry ∷ []) [] (grind (arith, nat_tests, well.1)))
@@ -259,7 +266,15 @@ module _ (settings : SettingsValue) (domain : ℕ) (old : State) (handling : Han
       by_decision (by_silence stranger is) =
           inr (none_by (λ asks. stranger_nowhere settings who asks.1 domain stranger asks.3), unchanged (ap (λ v. after v now) is))
       by_decision (for_want_of_memory n lacks) =
-          inr (lacked_memory peer datagram came (record { message = lacks.message; spelled = lacks.spelled; sent = sym sent ∙ told ∙ ap (λ v. sends_of v peer) lacks.answer }), unchanged (ap (λ v. after v now) lacks.answer))
+          inr (
+            lacked_memory peer datagram came (record {
+              message = lacks.message;
+              spelled = lacks.spelled;
+              notices = notices;
+              sent = sent ∙ ap (λ replies. replies ++ notices) (told ∙ ap (λ v. sends_of number v peer) lacks.answer);
+            }),
+            unchanged (ap (λ v. after v now) lacks.answer),
+          )
       by_decision (by_rules n got received rules) = by_received got received rules
 
   -- nothing was asked
@@ -272,16 +287,16 @@ module _ (settings : SettingsValue) (domain : ℕ) (old : State) (handling : Han
   by_event : (what : Event) (owed : List (State × OwnedOut)) → handling.what ≡ what → outs_of owed ≡ handling.sends → Step settings old what handling.at owed new → Taken ⊎ Passed
   by_event (event.Datagram peer datagram) owed is sent step =
       let a = step.2 in
-      by_decision peer datagram is step.0 (sym (ap outs_of step.1 ∙ outs_back new step.0) ∙ sent) a.0 a.2
-      (ap (λ (state : State). state.history) a.5 ∙ same_history_after a.0 a.3 now (hears_history settings peer datagram now a.3 a.4))
-      (ap (λ (state : State). state.time) a.5 ∙ same_time_after a.0 a.3 now (hears_time settings peer datagram now a.3 a.4))
-      a.1
+      by_decision peer datagram is a.replies a.notices (sym sent ∙ ap outs_of step.1 ∙ outs_back new step.0 ∙ a.sends_are) a.decided (number_of settings a.asked a.met.observers) a.replies_are
+      (answer_history settings now peer datagram step.0 new a)
+      (answer_time settings now peer datagram step.0 new a)
+      a.decides
   by_event event.End owed is sent step = nothing_asked event.End is (λ p d e. cc e) (ap (λ (state : State). state.history) step.1)
   by_event event.Failed owed is sent step = nothing_asked event.Failed is (λ p d e. cc e) (ap (λ (state : State). state.history) step.1)
   by_event (event.Opened c p) owed is sent step = nothing_asked (event.Opened c p) is (λ p d e. cc e) (ap (λ (state : State). state.history) step.1)
-  by_event (event.Piece c p) owed is sent step = nothing_asked (event.Piece c p) is (λ p d e. cc e) (ap (λ (state : State). state.history) step.1)
+  by_event (event.Piece c p) owed is sent step = nothing_asked (event.Piece c p) is (λ p d e. cc e) (told_history settings now new step.0 step.2)
   by_event (event.Closed c) owed is sent step = nothing_asked (event.Closed c) is (λ p d e. cc e) (ap (λ (state : State). state.history) step.1)
-  by_event event.Tick owed is sent step = nothing_asked event.Tick is (λ p d e. cc e) (ap (λ (state : State). state.history) step.2.1)
+  by_event event.Tick owed is sent step = nothing_asked event.Tick is (λ p d e. cc e) (tick_history settings now step.0 new step.2)
   by_event event.Restart owed is sent step = nothing_asked event.Restart is (λ p d e. cc e) (ap (λ (state : State). state.history) step.1)
 
   pub one_handling_isolated : IsHandling settings old handling new → Taken ⊎ Passed
@@ -290,10 +305,10 @@ module _ (settings : SettingsValue) (domain : ℕ) (old : State) (handling : Han
 module _ (settings : SettingsValue) (domain : ℕ) where
   isolated_then : (old : State) (handling : Handling) (between : State) (handlings : List Handling) (new : State) → IsHandling settings old handling between → IsIsolated settings between handlings new domain
       → Taken settings domain old handling between ⊎ Passed settings domain old handling between → IsIsolated settings old (handling ∷ handlings) new domain
-  isolated_then old handling between handlings new is rest (inl (taken, takes, decided, decides, told, entries)) = record {
+  isolated_then old handling between handlings new is rest (inl (taken, takes, decided, decides, number, told, entries)) = record {
     requests = taken ∷ rest.requests;
     are = (between, is, inl (taken, rest.requests, refl, takes, rest.are));
-    make = (decided, decides, told, subst (λ es. Make settings es rest.requests (alone domain new.history)) entries rest.make);
+    make = (decided, decides, number, told, subst (λ es. Make settings es rest.requests (alone domain new.history)) entries rest.make);
   }
   isolated_then old handling between handlings new is rest (inr (passes, entries)) = record {
     requests = rest.requests;

@@ -1,3 +1,6 @@
+pub mod BodyRefusals
+pub mod Observing
+pub mod Quiet
 pub mod Apart
 pub mod MessageRepeats
 pub mod OneAnswer

@@ -1,5 +1,5 @@
 -- Any two steps of one state on one event are one, but for want of memory.
-use Rattle.std.proofs.Common.{◌≡◌, ◌⊎◌, inl, inr, ℕ, ◌+◌, ◌<◌, Bool, true, false, List, [], ◌∷◌, ◌++◌, length, sym, ◌∙◌, ap, subst, arith}
+use Rattle.std.proofs.Common.{◌≡◌, ◌⊎◌, inl, inr, ℕ, ◌+◌, ◌<◌, Bool, true, false, List, [], ◌∷◌, ◌++◌, length, refl, sym, ◌∙◌, ap, subst, arith}
 use Rattle.std.proofs.lemmas.List.{get_or-append-add, length-append}
 use Rattle.std.proofs.lemmas.Bool.{false≢true}
 use Rattle.dots_host.specs.declared.event.Event.{Event}
@@ -14,13 +14,15 @@ use Rattle.dots_settings.specs.Settings.{SettingsValue}
 use Rattle.dots_machine.specs.declared.received.Received.{Received}
 use Rattle.dots_machine.specs.Verdict.{Verdict}
 use Rattle.dots_settings.specs.Lookups.{role_of}
-use Rattle.dots_machine.specs.Domains.{is_gateway}
+use Rattle.dots_machine.specs.Domains.{is_gateway, is_stranger}
 use Rattle.dots_machine.specs.Requests.{IsReceived}
-use Rattle.dots_machine.specs.Machine.{State, later, restarted, is_stranger, LacksMemory, Decides, by_silence, by_rules, for_want_of_memory, sends_of, after, Answers, Step, facts_in, rules_say}
-use Rattle.dots_machine.specs.Answering.{AreBytes, IsHandedIn, SaysUnavailable, IsUnavailable}
+use Rattle.dots_machine.specs.Observing.{number_of}
+use Rattle.dots_machine.specs.Machine.{State, later, restarted, LacksMemory, Decides, by_silence, by_rules, for_want_of_memory, sends_of, after, watched, Notified, Answers, Ticks, Step, facts_in, rules_say}
+use Rattle.dots_machine.specs.Answering.{AreBytes, IsHandedIn, SaysUnavailable, IsUnavailable, ComesFrom, HaveOneAnswer}
 use Rattle.dots_machine.proofs.OneRequest.{one_received}
 use Rattle.dots_machine.proofs.Verdicts.{valued}
-use Rattle.dots_machine.proofs.Hearing.{hears_once}
+use Rattle.dots_machine.proofs.Hearing.{hears_once, left}
+use Rattle.dots_machine.proofs.Observing.{watches_once}
 
 -- ---- the payload is a part of the datagram
 
@@ -74,43 +76,89 @@ module _ (settings : SettingsValue) (state : State) (peer : ℕ) (datagram : Lis
       inl (valued settings state peer got v is ∙ ap (rules_say settings (facts_in settings state) peer) (one_thing got other received also)
       ∙ sym (valued settings state peer other w at))
 
-  pub says : (v : Verdict) (sends : List OwnedOut) → sends ≡ sends_of v peer → LacksMemory datagram gateway v → SaysUnavailable peer datagram sends
-  says v sends is lacks = record { message = lacks.message; spelled = lacks.spelled; sent = is ∙ ap (λ v. sends_of v peer) lacks.answer }
+  -- 5.00 is answered, for want of memory
+  pub says : (sends : List OwnedOut) (new : State) (a : Answers settings state peer datagram sends new) → LacksMemory datagram gateway a.decided → SaysUnavailable peer datagram sends
+  says sends new a lacks = record {
+    message = lacks.message;
+    spelled = lacks.spelled;
+    notices = a.notices;
+    sent = a.sends_are ∙ ap (λ replies. replies ++ a.notices) (a.replies_are ∙ ap (λ v. sends_of (number_of settings a.asked a.met.observers) v peer) lacks.answer);
+  }
+
+  -- two answers of one verdict reply the same, and leave the same to be told
+  module _ (sends others : List OwnedOut) (new last : State) (a : Answers settings state peer datagram sends new) (b : Answers settings state peer datagram others last) (same : a.decided ≡ b.decided) where
+    asked_is : a.asked ≡ b.asked
+    asked_is = watches_once settings peer datagram a.asked b.asked a.watches b.watches
+
+    met_is : a.met ≡ b.met
+    met_is = hears_once settings peer datagram state a.met b.met a.hears b.hears
+
+    pub same_replies : a.replies ≡ b.replies
+    same_replies =
+        a.replies_are ∙ ap (λ asked. sends_of (number_of settings asked a.met.observers) a.decided peer) asked_is
+        ∙ ap (λ (met : State). sends_of (number_of settings b.asked met.observers) a.decided peer) met_is
+        ∙ ap (λ v. sends_of (number_of settings b.asked b.met.observers) v peer) same ∙ sym b.replies_are
+
+    pub same_left : left settings state peer datagram sends new a ≡ left settings state peer datagram others last b
+    same_left =
+        ap (λ asked. watched settings peer asked a.decided a.replies (after a.decided a.met)) asked_is
+        ∙ ap (λ met. watched settings peer b.asked a.decided a.replies (after a.decided met)) met_is
+        ∙ ap (λ replies. watched settings peer b.asked a.decided replies (after a.decided b.met)) same_replies
+        ∙ ap (λ v. watched settings peer b.asked v b.replies (after v b.met)) same
 
   pub answered : (sends others : List OwnedOut) (new last : State) → Answers settings state peer datagram sends new → Answers settings state peer datagram others last
-      → ((sends ≡ others) × (new ≡ last)) ⊎ (SaysUnavailable peer datagram sends ⊎ SaysUnavailable peer datagram others)
-  answered sends others new last a b = by_verdicts (one_verdict a.0 b.0 a.1 b.1)
+      → HaveOneAnswer settings (event.Datagram peer datagram) sends new others last ⊎ (SaysUnavailable peer datagram sends ⊎ SaysUnavailable peer datagram others)
+  answered sends others new last a b = by_verdicts (one_verdict a.decided b.decided a.decides b.decides)
     where
-      by_verdicts : (a.0 ≡ b.0) ⊎ (LacksMemory datagram gateway a.0 ⊎ LacksMemory datagram gateway b.0)
-          → ((sends ≡ others) × (new ≡ last)) ⊎ (SaysUnavailable peer datagram sends ⊎ SaysUnavailable peer datagram others)
-      by_verdicts (inl same) = inl (
-        a.2 ∙ ap (λ v. sends_of v peer) same ∙ sym b.2,
-        a.5 ∙ ap (λ v. after v a.3) same ∙ ap (after b.0) (hears_once settings peer datagram state a.3 b.3 a.4 b.4) ∙ sym b.5,
-      )
-      by_verdicts (inr (inl lacks)) = inr (inl (says a.0 sends a.2 lacks))
-      by_verdicts (inr (inr lacks)) = inr (inr (says b.0 others b.2 lacks))
+      by_verdicts : (a.decided ≡ b.decided) ⊎ (LacksMemory datagram gateway a.decided ⊎ LacksMemory datagram gateway b.decided)
+          → HaveOneAnswer settings (event.Datagram peer datagram) sends new others last ⊎ (SaysUnavailable peer datagram sends ⊎ SaysUnavailable peer datagram others)
+      by_verdicts (inl same) = inl (record {
+        replies = b.replies;
+        state = left settings state peer datagram others last b;
+        one = (
+          a.notices,
+          a.sends_are ∙ ap (λ replies. replies ++ a.notices) (same_replies sends others new last a b same),
+          subst (λ from. Notified settings from a.notices new) (same_left sends others new last a b same) a.notified,
+        );
+        another = (b.notices, b.sends_are, b.notified);
+      })
+      by_verdicts (inr (inl lacks)) = inr (inl (says sends new a lacks))
+      by_verdicts (inr (inr lacks)) = inr (inr (says others last b lacks))
 
-rests : {A : Type 0} (owed others : List (State × OwnedOut)) (new last from : State) → (owed ≡ []) × (new ≡ from) → (others ≡ []) × (last ≡ from) → ((owed ≡ others) × (new ≡ last)) ⊎ A
-rests owed others new last from a b = inl (a.0 ∙ sym b.0, a.1 ∙ sym b.1)
+module _ (settings : SettingsValue) (what : Event) (owed others : List (State × OwnedOut)) (new last : State) where
+  abbrev OneOf : Type 0
+  OneOf = HaveOneAnswer settings what (outs_of owed) new (outs_of others) last
+
+  -- both come from the same replies in the same state
+  both_from : (replies : List OwnedOut) (state : State) → ComesFrom settings what replies state (outs_of owed) new → ComesFrom settings what replies state (outs_of others) last → OneOf
+  both_from replies state one another = record { replies = replies; state = state; one = one; another = another }
+
+sends_back : (owed : List (State × OwnedOut)) (new : State) (sends : List OwnedOut) → owed ≡ each_telling new sends → outs_of owed ≡ sends
+sends_back owed new sends is = ap outs_of is ∙ outs_back new sends
 
 pub one_answer : (settings : SettingsValue) (old : State) (event : Event) (at : ℕ) (owed others : List (State × OwnedOut)) (new last : State) → IsHandedIn event
-    → Step settings old event at owed new → Step settings old event at others last → ((owed ≡ others) × (new ≡ last)) ⊎ (IsUnavailable event owed ⊎ IsUnavailable event others)
-one_answer settings old (event.Datagram peer datagram) at owed others new last are a b = joined (answered settings (later old at) peer datagram are a.0 b.0 new last a.2 b.2)
-  where
-    sent : (owed : List (State × OwnedOut)) (new : State) (sends : List OwnedOut) → owed ≡ each_telling new sends → SaysUnavailable peer datagram sends → SaysUnavailable peer datagram (outs_of owed)
-    sent owed new sends is says = subst (SaysUnavailable peer datagram) (sym (ap outs_of is ∙ outs_back new sends)) says
-
-    joined : ((a.0 ≡ b.0) × (new ≡ last)) ⊎ (SaysUnavailable peer datagram a.0 ⊎ SaysUnavailable peer datagram b.0)
-        → ((owed ≡ others) × (new ≡ last)) ⊎ (SaysUnavailable peer datagram (outs_of owed) ⊎ SaysUnavailable peer datagram (outs_of others))
-    joined (inl same) = inl (a.1 ∙ ap (each_telling new) same.0 ∙ ap (λ s. each_telling s b.0) same.1 ∙ sym b.1, same.1)
-    joined (inr (inl says)) = inr (inl (sent owed new a.0 a.1 says))
-    joined (inr (inr says)) = inr (inr (sent others last b.0 b.1 says))
-one_answer settings old event.End at owed others new last are a b = rests owed others new last old a b
-one_answer settings old event.Failed at owed others new last are a b = rests owed others new last old a b
-one_answer settings old (event.Opened c p) at owed others new last are a b = rests owed others new last (later old at) a b
-one_answer settings old (event.Piece c p) at owed others new last are a b = rests owed others new last (later old at) a b
-one_answer settings old (event.Closed c) at owed others new last are a b = rests owed others new last (later old at) a b
+    → Step settings old event at owed new → Step settings old event at others last
+    → HaveOneAnswer settings event (outs_of owed) new (outs_of others) last ⊎ (IsUnavailable event owed ⊎ IsUnavailable event others)
+one_answer settings old (event.Datagram peer datagram) at owed others new last are a b =
+    subst (λ sends. HaveOneAnswer settings (event.Datagram peer datagram) sends new (outs_of others) last ⊎ (SaysUnavailable peer datagram sends ⊎ SaysUnavailable peer datagram (outs_of others)))
+    (sym (sends_back owed new a.0 a.1))
+    (subst (λ sends. HaveOneAnswer settings (event.Datagram peer datagram) a.0 new sends last ⊎ (SaysUnavailable peer datagram a.0 ⊎ SaysUnavailable peer datagram sends))
+    (sym (sends_back others last b.0 b.1)) (answered settings (later old at) peer datagram are a.0 b.0 new last a.2 b.2))
+one_answer settings old event.End at owed others new last are a b =
+    inl (both_from settings event.End owed others new last [] old (refl, ap outs_of a.0, a.1) (refl, ap outs_of b.0, b.1))
+one_answer settings old event.Failed at owed others new last are a b =
+    inl (both_from settings event.Failed owed others new last [] old (refl, ap outs_of a.0, a.1) (refl, ap outs_of b.0, b.1))
+one_answer settings old (event.Opened c p) at owed others new last are a b =
+    inl (both_from settings (event.Opened c p) owed others new last [] (later old at) (refl, ap outs_of a.0, a.1) (refl, ap outs_of b.0, b.1))
+one_answer settings old (event.Piece c p) at owed others new last are a b =
+    inl (both_from settings (event.Piece c p) owed others new last [] (later old at)
+    (refl, subst (λ sends. Notified settings (later old at) sends new) (sym (sends_back owed new a.0 a.1)) a.2)
+    (refl, subst (λ sends. Notified settings (later old at) sends last) (sym (sends_back others last b.0 b.1)) b.2))
+one_answer settings old (event.Closed c) at owed others new last are a b =
+    inl (both_from settings (event.Closed c) owed others new last [] (later old at) (refl, ap outs_of a.0, a.1) (refl, ap outs_of b.0, b.1))
 one_answer settings old event.Tick at owed others new last are a b =
-    let state : new ≡ last = a.2.1 ∙ sym b.2.1 in
-    inl (a.1 ∙ ap (each_telling new) (a.2.0 ∙ sym b.2.0) ∙ ap (λ s. each_telling s b.0) state ∙ sym b.1, state)
-one_answer settings old event.Restart at owed others new last are a b = rests owed others new last (restarted settings old at) a b
+    inl (both_from settings event.Tick owed others new last [] (later old at)
+    (refl, subst (λ sends. Ticks settings (later old at) sends new) (sym (sends_back owed new a.0 a.1)) a.2)
+    (refl, subst (λ sends. Ticks settings (later old at) sends last) (sym (sends_back others last b.0 b.1)) b.2))
+one_answer settings old event.Restart at owed others new last are a b =
+    inl (both_from settings event.Restart owed others new last [] (restarted settings old at) (refl, ap outs_of a.0, a.1) (refl, ap outs_of b.0, b.1))

@@ -52,7 +52,8 @@ use Rattle.dots_machine.specs.Sessions.{Configured, sid_of, is_held}
 use Rattle.dots_machine.specs.Facts.{Facts}
 use Rattle.dots_machine.specs.Deciding.{in_domain, with_mid, put_in, put_for, delete_in, delete_for, get_for, config_answer, put_config_for, clear_answer, delete_config_for, config_view, get_config_for, answer_to, asks_for}
 use Rattle.dots_machine.proofs.Verdicts.{are_facts, valued}
-use Rattle.dots_machine.proofs.Hearing.{hears_history, hears_time, same_history_after, same_time_after}
+use Rattle.dots_machine.proofs.Hearing.{answer_history, answer_time, tick_history, tick_time}
+use Rattle.dots_machine.proofs.Observing.{told_history, told_time}
 use Rattle.dots_machine.proofs.Orderly.{share_later, share_without, share_with, higher_more, higher_with}
 use Rattle.dots_machine.proofs.Handlings.{by_handlings}
 
@@ -202,6 +203,7 @@ module _ (settings : SettingsValue) (state : State) where
     of_dismissal : (d : Dismissal) → AcceptsAs (dismissal_verdict d)
     of_dismissal dismissal.Ignored = tt
     of_dismissal (dismissal.Reset id) = tt
+    of_dismissal (dismissal.Rejected id) = tt
 
     of_received : (got : Received) → AcceptsAs (rules_say settings known peer got)
     of_received (received.Unread d) = of_dismissal d
@@ -242,6 +244,7 @@ module _ (settings : SettingsValue) (state : State) where
   verdict_keeps verdict.Silent how orderly = orderly
   verdict_keeps (verdict.Reply reply) how orderly = orderly
   verdict_keeps (verdict.LongReply reply) how orderly = orderly
+  verdict_keeps (verdict.Shows y body) how orderly = orderly
   verdict_keeps (verdict.Accept reply entry) (inl granted) orderly = granted_keeps entry granted orderly
   verdict_keeps (verdict.Accept reply entry) (inr none) orderly = none_keeps entry none orderly
 
@@ -264,17 +267,18 @@ pub step_orderly : (settings : SettingsValue) (old : State) (event : Event) (at 
 step_orderly settings old (event.Datagram peer datagram) at owed new orderly step =
     let a = step.2 in
     let now = later old at in
-    orderly_as (after a.0 now) new
-    (ap (λ (state : State). state.history) a.5 ∙ same_history_after a.0 a.3 now (hears_history settings peer datagram now a.3 a.4))
-    (ap (λ (state : State). state.time) a.5 ∙ same_time_after a.0 a.3 now (hears_time settings peer datagram now a.3 a.4))
-    (verdict_keeps settings now a.0 (accepts_as settings now peer datagram a.0 a.1) (later_orderly old at orderly))
+    orderly_as (after a.decided now) new
+    (answer_history settings now peer datagram step.0 new a)
+    (answer_time settings now peer datagram step.0 new a)
+    (verdict_keeps settings now a.decided (accepts_as settings now peer datagram a.decided a.decides) (later_orderly old at orderly))
 step_orderly settings old event.End at owed new orderly step = subst IsOrderly (sym step.1) orderly
 step_orderly settings old event.Failed at owed new orderly step = subst IsOrderly (sym step.1) orderly
 step_orderly settings old (event.Opened c p) at owed new orderly step = subst IsOrderly (sym step.1) (later_orderly old at orderly)
-step_orderly settings old (event.Piece c p) at owed new orderly step = subst IsOrderly (sym step.1) (later_orderly old at orderly)
+step_orderly settings old (event.Piece c p) at owed new orderly step =
+    orderly_as (later old at) new (told_history settings (later old at) new step.0 step.2) (told_time settings (later old at) new step.0 step.2) (later_orderly old at orderly)
 step_orderly settings old (event.Closed c) at owed new orderly step = subst IsOrderly (sym step.1) (later_orderly old at orderly)
 step_orderly settings old event.Tick at owed new orderly step =
-    orderly_as (later old at) new (ap (λ (state : State). state.history) step.2.1) (ap (λ (state : State). state.time) step.2.1) (later_orderly old at orderly)
+    orderly_as (later old at) new (tick_history settings (later old at) step.0 new step.2) (tick_time settings (later old at) step.0 new step.2) (later_orderly old at orderly)
 step_orderly settings old event.Restart at owed new orderly step = subst IsOrderly (sym step.1) (restarted_orderly settings old at orderly)
 
 handlings_orderly : (settings : SettingsValue) (old : State) (handlings : List Handling) (new : State) → IsOrderly old → EachHandling (IsHandling settings) old handlings new → IsOrderly new

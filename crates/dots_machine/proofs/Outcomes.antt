@@ -1,4 +1,4 @@
--- Of what is accepted the client is told with a success, 2.01, 2.02 or 2.04; of what is refused, or can't be served, never.
+-- Of what is accepted the client is told with a success, 2.01, 2.02 or 2.04; of what is refused, or can't be served, never. And each request is answered.
 use Rattle.std.proofs.Common.{◌≡◌, ℕ, ◌==◌, Bool, true, false, cond, ◌||◌, List, [], ◌∷◌, Option, Some, None, Result, Ok, Err, refl, sym, subst}
 use Rattle.coap_message.specs.declared.kind.Kind.{Kind}
 use Rattle.coap_message.specs.declared.kind.Kind.TheVariants.{Con, Non, Ack, Rst}
@@ -35,6 +35,7 @@ use Rattle.dots_machine.specs.Domains.{domain_for, session_domain}
 use Rattle.target_rules.specs.Targets.{scope_fault}
 use Rattle.dots_machine.specs.Replies.{grant_code, rejection, configuration_reply, absent}
 use Rattle.dots_machine.specs.MessageRepeats.{sent_for, unless_repeated}
+use Rattle.dots_machine.specs.Observing.{code_of}
 use Rattle.dots_machine.specs.Mitigations.{sent_by, request_of, refusal, judged, get_reply, unless_faulty, put_answer, is_taken, delete_by, delete_answer, get_by, get_answer, client_for}
 use Rattle.dots_machine.specs.Machine.{option_verdict, reject_verdict, dismissal_verdict, rules_say}
 use Rattle.dots_machine.specs.Apart.{domain_of}
@@ -42,20 +43,22 @@ use Rattle.dots_machine.specs.Sessions.{Configured, sid_of, is_held}
 use Rattle.dots_machine.specs.Facts.{Facts}
 use Rattle.dots_machine.specs.Deciding.{in_domain, with_mid, put_in, put_for, delete_in, delete_for, get_for, config_answer, put_config_for, clear_answer, delete_config_for, config_view, get_config_for, answer_to, asks_for}
 
-abbrev pub code_of : List ℕ → ℕ
-code_of (first ∷ code ∷ bytes) = code
-code_of _ = 0
-
--- 2.01, 2.02 or 2.04
+-- 2.01, 2.02, 2.04 or 2.05
 abbrev pub is_success : ℕ → Bool
-is_success code = (code == 0x41) || ((code == 0x42) || (code == 0x44))
+is_success code = (code == 0x41) || ((code == 0x42) || ((code == 0x44) || (code == 0x45)))
 
 abbrev pub IsAccept : Verdict → Type 0
 IsAccept (verdict.Accept reply entry) = Unit {0}
 IsAccept _ = ⊥
 
--- where it accepts, for a domain, it tells a success
+-- something is answered
+abbrev pub Speaks : Verdict → Type 0
+Speaks verdict.Silent = ⊥
+Speaks _ = Unit {0}
+
+-- something is answered, and where it accepts, for a domain, it tells a success
 abbrev pub AcceptsWell : ℕ → Verdict → Type 0
+AcceptsWell domain verdict.Silent = ⊥
 AcceptsWell domain (verdict.Accept reply entry) = (is_success (code_of reply) ≡ true) × (entry.domain ≡ domain)
 AcceptsWell domain _ = Unit {0}
 
@@ -211,9 +214,10 @@ module _ (settings : SettingsValue) (facts : Facts) where
   SucceedsWell _ = Unit {0}
 
   of_domain : (domain : ℕ) (v : Verdict) → AcceptsWell domain v → SucceedsWell v
-  of_domain domain verdict.Silent well = tt
+  of_domain domain verdict.Silent well = absurd well
   of_domain domain (verdict.Reply reply) well = tt
   of_domain domain (verdict.LongReply reply) well = tt
+  of_domain domain (verdict.Shows x body) well = tt
   of_domain domain (verdict.Accept reply entry) well = well.0
 
   in_domain_succeeds : (x : Exchange) (found : Option ℕ) (f : ℕ → Verdict) → ((d : ℕ) → AcceptsWell d (f d)) → SucceedsWell (in_domain x found f)
@@ -229,15 +233,38 @@ module _ (settings : SettingsValue) (facts : Facts) where
   asked_succeeds peer x (request.DeleteConfig sid) = in_domain_succeeds x (session_domain (role_of settings peer)) _ (delete_configs_accept peer x sid)
   asked_succeeds peer x (request.PutHeartbeat heard) = tt
 
+  -- each request is answered
+  speaks_for : (domain : ℕ) (v : Verdict) → AcceptsWell domain v → Speaks v
+  speaks_for domain verdict.Silent well = absurd well
+  speaks_for domain (verdict.Reply reply) well = tt
+  speaks_for domain (verdict.LongReply reply) well = tt
+  speaks_for domain (verdict.Shows x body) well = tt
+  speaks_for domain (verdict.Accept reply entry) well = tt
+
+  in_domain_speaks : (x : Exchange) (found : Option ℕ) (f : ℕ → Verdict) → ((d : ℕ) → AcceptsWell d (f d)) → Speaks (in_domain x found f)
+  in_domain_speaks x None f each = tt
+  in_domain_speaks x (Some d) f each = speaks_for d (f d) (each d)
+
+  pub asked_speaks : (peer : ℕ) (x : Exchange) (r : Request) → Speaks (answer_to settings facts peer x r)
+  asked_speaks peer x (request.PutMitigation path body) = in_domain_speaks x (domain_for settings (role_of settings peer) path.cdid) _ (puts_accept peer x path body)
+  asked_speaks peer x (request.GetMitigation path content observe) = in_domain_speaks x (domain_for settings (role_of settings peer) path.cdid) _ (gets_accept peer x path content)
+  asked_speaks peer x (request.DeleteMitigation path) = in_domain_speaks x (domain_for settings (role_of settings peer) path.cdid) _ (deletes_accept peer x path)
+  asked_speaks peer x (request.PutConfig sid body) = in_domain_speaks x (session_domain (role_of settings peer)) _ (put_configs_accept peer x sid body)
+  asked_speaks peer x (request.GetConfig sid) = in_domain_speaks x (session_domain (role_of settings peer)) _ (get_configs_accept peer x sid)
+  asked_speaks peer x (request.DeleteConfig sid) = in_domain_speaks x (session_domain (role_of settings peer)) _ (delete_configs_accept peer x sid)
+  asked_speaks peer x (request.PutHeartbeat heard) = tt
+
   refusal_succeeds : (v : Verdict) → IsRefusal v → SucceedsWell v
   refusal_succeeds verdict.Silent none = tt
   refusal_succeeds (verdict.Reply reply) none = tt
-  refusal_succeeds (verdict.LongReply reply) none = tt
+  refusal_succeeds (verdict.LongReply reply) none = absurd none
+  refusal_succeeds (verdict.Shows x body) none = absurd none
   refusal_succeeds (verdict.Accept reply entry) none = absurd none
 
   dismissal_succeeds : (d : Dismissal) → SucceedsWell (dismissal_verdict d)
   dismissal_succeeds dismissal.Ignored = tt
   dismissal_succeeds (dismissal.Reset id) = tt
+  dismissal_succeeds (dismissal.Rejected id) = tt
 
   pub succeeds : (peer : ℕ) (got : Received) → SucceedsWell (rules_say settings facts peer got)
   succeeds peer (received.Unread d) = dismissal_succeeds d

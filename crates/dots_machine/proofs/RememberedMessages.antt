@@ -233,6 +233,7 @@ module _ (settings : SettingsValue) (facts : Facts) (peer : ℕ) (x : Exchange) 
   of_domain domain verdict.Silent kept = tt
   of_domain domain (verdict.Reply reply) kept = tt
   of_domain domain (verdict.LongReply reply) kept = tt
+  of_domain domain (verdict.Shows y body) kept = tt
   of_domain domain (verdict.Accept reply entry) kept = (domain, refl, kept)
 
   in_domain_keeps : (found : Option ℕ) (f : ℕ → Verdict) → ((d : ℕ) → KeepsFor d (f d)) → KeepsFound found (in_domain x found f)

@@ -1,9 +1,8 @@
 -- A repeat of an accepted message is answered as the message was, and adds nothing.
-use Rattle.std.proofs.Common.{◌≡◌, ◌⊎◌, inl, inr, ℕ, false, List, [], ◌∷◌, Option, Some, None, sym, ap, ◌∙◌, subst}
+use Rattle.std.proofs.Common.{refl, ◌≡◌, ◌⊎◌, inl, inr, ℕ, false, List, ◌++◌, Option, Some, None, sym, ap, ◌∙◌, subst}
 use Rattle.std.proofs.lemmas.Bool.{both_ways}
 use Rattle.dots_host.specs.declared.event.Event.TheVariants as event
 use Rattle.dots_host.specs.declared.out.OwnedOut.{OwnedOut}
-use Rattle.dots_host.specs.declared.out.OwnedOut.TheVariants as owned
 use Rattle.dots_host.specs.Acts.{Timed}
 use Rattle.dots_host.specs.Runs.{resting, outs_of, Trace}
 use Rattle.dots_host.proofs.RunLemmas.{outs_back}
@@ -18,15 +17,18 @@ use Rattle.dots_machine.specs.declared.client_request.ClientRequest.{ClientReque
 use Rattle.dots_machine.specs.declared.mitigation_request.MitigationRequest.{MitigationRequest}
 use Rattle.dots_machine.specs.Verdict.{Verdict}
 use Rattle.dots_machine.specs.declared.verdict.Verdict.TheVariants as verdict
-use Rattle.dots_machine.specs.Domains.{is_gateway, session_domain}
+use Rattle.dots_machine.specs.Domains.{is_gateway, is_stranger}
 use Rattle.dots_machine.specs.Requests.{IsReceived}
 use Rattle.dots_machine.specs.MessageRepeats.{Repeats, unless_repeated, sent_for, IsRepeatOf}
 use Rattle.dots_machine.specs.Mitigations.{request_of, judged, unless_faulty, delete_answer}
-use Rattle.dots_machine.specs.Machine.{State, later, hearing, is_stranger, DecidesRequest, Rules, Decides, by_silence, by_rules, for_want_of_memory, sends_of, after, Answers, Step}
-use Rattle.dots_machine.specs.Answering.{AreBytes, IsUnavailable}
+use Rattle.dots_machine.specs.Machine.{State, later, DecidesRequest, Rules, Decides, by_silence, by_rules, for_want_of_memory, sends_of, after, watched, Notified, Answers, Step}
+use Rattle.dots_machine.specs.Observing.{watching_of, number_of}
+use Rattle.dots_machine.specs.declared.watching.Watching.TheVariants as watching
+use Rattle.dots_machine.proofs.Observing.{asks_once}
+use Rattle.dots_machine.specs.Answering.{AreBytes, SaysUnavailable, IsUnavailable}
 use Rattle.dots_machine.specs.RepeatRule.{AsksToChange}
 use Rattle.dots_machine.specs.Handlings.{Handling, IsHandling, EachHandling, handlings_of}
-use Rattle.dots_machine.specs.RepeatAnswers.{AnswersRepeats}
+use Rattle.dots_machine.specs.RepeatAnswers.{IsRepeated, AnswersRepeats}
 use Rattle.session_core.specs.Negotiating.{negotiated}
 use Rattle.dots_machine.specs.Sessions.{Configured, sid_of, is_held}
 use Rattle.dots_machine.specs.Facts.{Facts, AreFacts}
@@ -79,13 +81,22 @@ module _ (settings : SettingsValue) (state : State) (peer : ℕ) (x : Exchange) 
 
 module _ (settings : SettingsValue) (old : State) (peer : ℕ) (datagram : List ℕ) (at : ℕ) (owed : List (State × OwnedOut)) (new : State) where
   abbrev Says : List ℕ → Type 0
-  Says reply = (outs_of owed ≡ owned.To peer reply ∷ []) × (new ≡ hearing peer (later old at))
+  Says reply = IsRepeated settings old peer reply at (outs_of owed) new
+
+  change_asks : (x : Exchange) (r : Request) (domain : ℕ) → AsksToChange settings (role_of settings peer) domain r → watching_of settings peer (received.Asked x r) ≡ watching.Nothing
+  change_asks x (request.PutMitigation path body) domain asks = refl
+  change_asks x (request.DeleteMitigation path) domain asks = refl
+  change_asks x (request.PutConfig sid body) domain asks = refl
+  change_asks x (request.DeleteConfig sid) domain asks = refl
+  change_asks x (request.GetMitigation path content said) domain asks = absurd asks
+  change_asks x (request.GetConfig sid) domain asks = absurd asks
+  change_asks x (request.PutHeartbeat heard) domain asks = absurd asks
 
   pub step_repeated : (x : Exchange) (r : Request) (domain : ℕ) (entry : Entry) → AreBytes datagram → is_stranger (role_of settings peer) ≡ false
       → IsReceived datagram (is_gateway (role_of settings peer)) (received.Asked x r) → AsksToChange settings (role_of settings peer) domain r
       → IsRepeatOf settings.limits.remembered (later old at).time old.history (sent_for peer x domain) entry
       → Step settings old (event.Datagram peer datagram) at owed new → Says entry.reply ⊎ IsUnavailable (event.Datagram peer datagram) owed
-  step_repeated x r domain entry are known got asks is step = by_decision a.1
+  step_repeated x r domain entry are known got asks is step = by_decision a.decides
     where
       a : Answers settings (later old at) peer datagram step.0 new
       a = step.2
@@ -93,25 +104,33 @@ module _ (settings : SettingsValue) (old : State) (peer : ℕ) (datagram : List 
       sent : outs_of owed ≡ step.0
       sent = ap outs_of step.1 ∙ outs_back new step.0
 
-      told : a.0 ≡ verdict.Reply entry.reply → Says entry.reply
+      asked_is : a.asked ≡ watching.Nothing
+      asked_is = asks_once settings peer datagram (received.Asked x r) a.asked known got a.watches ∙ change_asks x r domain asks
+
+      told : a.decided ≡ verdict.Reply entry.reply → Says entry.reply
       told same = (
-        sent ∙ a.2 ∙ ap (λ v. sends_of v peer) same,
-        a.5 ∙ ap (λ v. after v a.3) same ∙ asked_is_heard settings peer datagram (is_gateway (role_of settings peer)) x r (later old at) a.3 known got a.4,
+        a.notices,
+        sent ∙ a.sends_are ∙ ap (λ replies. replies ++ a.notices) (a.replies_are ∙ ap (λ v. sends_of (number_of settings a.asked a.met.observers) v peer) same),
+        subst (λ from. Notified settings from a.notices new) (
+            ap (λ asked. watched settings peer asked a.decided a.replies (after a.decided a.met)) asked_is
+            ∙ ap (λ v. after v a.met) same
+            ∙ asked_is_heard settings peer datagram (is_gateway (role_of settings peer)) x r (later old at) a.met known got a.hears
+            ) a.notified,
       )
 
-      by_decision : Decides settings (later old at) peer datagram a.0 → Says entry.reply ⊎ IsUnavailable (event.Datagram peer datagram) owed
+      by_decision : Decides settings (later old at) peer datagram a.decided → Says entry.reply ⊎ IsUnavailable (event.Datagram peer datagram) owed
       by_decision (by_silence stranger silent) = absurd (both_ways (is_stranger (role_of settings peer)) known stranger)
-      by_decision (for_want_of_memory n lacks) = inr (says settings (later old at) peer datagram are a.0 (outs_of owed) (sent ∙ a.2) lacks)
+      by_decision (for_want_of_memory n lacks) = inr (subst (SaysUnavailable peer datagram) (sym sent) (says settings (later old at) peer datagram are step.0 new a lacks))
       by_decision (by_rules n other also rules) =
-          inl (told (request_repeated settings (later old at) peer x domain entry is a.0 r asks
-          (subst (λ got. Rules settings (later old at) peer got a.0) (one_thing settings (later old at) peer datagram are other (received.Asked x r) also got) rules)))
+          inl (told (request_repeated settings (later old at) peer x domain entry is a.decided r asks
+          (subst (λ got. Rules settings (later old at) peer got a.decided) (one_thing settings (later old at) peer datagram are other (received.Asked x r) also got) rules)))
 
 pub handling_repeats : (settings : SettingsValue) (old : State) (handling : Handling) (new : State) → IsHandling settings old handling new → AnswersRepeats settings old handling new
 handling_repeats settings old handling new is = record {
   handled = is;
   repeated = λ peer datagram x r domain entry what are known got asks repeats.
-      subst (λ w. ((handling.sends ≡ owned.To peer entry.reply ∷ []) × (new ≡ hearing peer (later old handling.at))) ⊎ IsUnavailable w is.owed) (sym what)
-      (subst (λ sends. ((sends ≡ owned.To peer entry.reply ∷ []) × (new ≡ hearing peer (later old handling.at))) ⊎ IsUnavailable (event.Datagram peer datagram) is.owed) is.sent
+      subst (λ w. IsRepeated settings old peer entry.reply handling.at handling.sends new ⊎ IsUnavailable w is.owed) (sym what)
+      (subst (λ sends. IsRepeated settings old peer entry.reply handling.at sends new ⊎ IsUnavailable (event.Datagram peer datagram) is.owed) is.sent
       (step_repeated settings old peer datagram handling.at is.owed new x r domain entry are known got asks repeats (subst (λ w. Step settings old w handling.at is.owed new) what is.step)));
 }
 

@@ -24,7 +24,8 @@ use Rattle.dots_machine.specs.declared.ending.Stop.{Stop}
 use Rattle.dots_machine.specs.declared.ending.Stop.TheVariants as stop
 use Rattle.dots_machine.specs.Endings.{Stops, EndsBehind, Ran}
 use Rattle.dots_machine.specs.Machine.{State, later, after, Step}
-use Rattle.dots_machine.proofs.Hearing.{hears_history, hears_time, same_history_after, same_time_after}
+use Rattle.dots_machine.proofs.Hearing.{answer_history, answer_time, tick_history, tick_time}
+use Rattle.dots_machine.proofs.Observing.{told_history, told_time}
 use Rattle.dots_machine.specs.Surviving.{Story, told_by, entries_shown, shown, time_shown, time_at, past_of, NoneBefore, MeansAt, EachFrom, LeavesAt}
 
 -- ---- runs with all that they tell
@@ -173,7 +174,7 @@ step_tells settings old (event.Datagram peer datagram) at owed new step = subst 
 step_tells settings old event.End at owed new step = none_owed _ owed step.0
 step_tells settings old event.Failed at owed new step = none_owed _ owed step.0
 step_tells settings old (event.Opened c p) at owed new step = none_owed _ owed step.0
-step_tells settings old (event.Piece c p) at owed new step = none_owed _ owed step.0
+step_tells settings old (event.Piece c p) at owed new step = subst (TellFew (length new.history)) (sym step.1) (tell_each new step.0)
 step_tells settings old (event.Closed c) at owed new step = none_owed _ owed step.0
 step_tells settings old event.Tick at owed new step = subst (TellFew (length new.history)) (sym step.1) (tell_each new step.0)
 step_tells settings old event.Restart at owed new step = none_owed _ owed step.0
@@ -188,27 +189,28 @@ pub verdict_grows : (v : Verdict) (state : State) → Grows state (after v state
 verdict_grows verdict.Silent state = same_grows state state refl
 verdict_grows (verdict.Reply reply) state = same_grows state state refl
 verdict_grows (verdict.LongReply reply) state = same_grows state state refl
+verdict_grows (verdict.Shows y body) state = same_grows state state refl
 verdict_grows (verdict.Accept reply entry) state = (entry ∷ [], refl)
 
 -- a step adds to the history, or leaves it
 pub step_grows : (settings : SettingsValue) (old : State) (what : Event) (at : ℕ) (owed : List (State × OwnedOut)) (new : State) → Step settings old what at owed new → (extra : List Entry) × (new.history ≡ old.history ++ extra)
 step_grows settings old (event.Datagram peer datagram) at owed new step =
-    let a = step.2 in
     let now = later old at in
-    let grown = verdict_grows a.0 now in
-    (grown.0, ap (λ (state : State). state.history) a.5 ∙ same_history_after a.0 a.3 now (hears_history settings peer datagram now a.3 a.4) ∙ grown.1)
+    let grown = verdict_grows step.2.decided now in
+    (grown.0, answer_history settings now peer datagram step.0 new step.2 ∙ grown.1)
 step_grows settings old event.End at owed new step = same_grows old new (ap (λ (state : State). state.history) step.1)
 step_grows settings old event.Failed at owed new step = same_grows old new (ap (λ (state : State). state.history) step.1)
 step_grows settings old (event.Opened c p) at owed new step = same_grows old new (ap (λ (state : State). state.history) step.1)
-step_grows settings old (event.Piece c p) at owed new step = same_grows old new (ap (λ (state : State). state.history) step.1)
+step_grows settings old (event.Piece c p) at owed new step = same_grows old new (told_history settings (later old at) new step.0 step.2)
 step_grows settings old (event.Closed c) at owed new step = same_grows old new (ap (λ (state : State). state.history) step.1)
-step_grows settings old event.Tick at owed new step = same_grows old new (ap (λ (state : State). state.history) step.2.1)
+step_grows settings old event.Tick at owed new step = same_grows old new (tick_history settings (later old at) step.0 new step.2)
 step_grows settings old event.Restart at owed new step = same_grows old new (ap (λ (state : State). state.history) step.1)
 
 after_time : (v : Verdict) (state : State) → (after v state).time ≡ state.time
 after_time verdict.Silent state = refl
 after_time (verdict.Reply reply) state = refl
 after_time (verdict.LongReply reply) state = refl
+after_time (verdict.Shows y body) state = refl
 after_time (verdict.Accept reply entry) state = refl
 
 moved_on : (old new : State) (at : ℕ) → last_time old.history ≤ old.time → new.time ≡ max at old.time → last_time old.history ≤ new.time
@@ -218,16 +220,14 @@ moved_on old new at timely is = omega (arith, timely, is)
 pub step_timely : (settings : SettingsValue) (old : State) (what : Event) (at : ℕ) (owed : List (State × OwnedOut)) (new : State) → last_time old.history ≤ old.time → Step settings old what at owed new
     → last_time old.history ≤ new.time
 step_timely settings old (event.Datagram peer datagram) at owed new timely step =
-    let a = step.2 in
     let now = later old at in
-    moved_on old new at timely
-    (ap (λ (state : State). state.time) a.5 ∙ same_time_after a.0 a.3 now (hears_time settings peer datagram now a.3 a.4) ∙ after_time a.0 now)
+    moved_on old new at timely (answer_time settings now peer datagram step.0 new step.2 ∙ after_time step.2.decided now)
 step_timely settings old event.End at owed new timely step = subst (λ (state : State). last_time old.history ≤ state.time) (sym step.1) timely
 step_timely settings old event.Failed at owed new timely step = subst (λ (state : State). last_time old.history ≤ state.time) (sym step.1) timely
 step_timely settings old (event.Opened c p) at owed new timely step = moved_on old new at timely (ap (λ (state : State). state.time) step.1)
-step_timely settings old (event.Piece c p) at owed new timely step = moved_on old new at timely (ap (λ (state : State). state.time) step.1)
+step_timely settings old (event.Piece c p) at owed new timely step = moved_on old new at timely (told_time settings (later old at) new step.0 step.2)
 step_timely settings old (event.Closed c) at owed new timely step = moved_on old new at timely (ap (λ (state : State). state.time) step.1)
-step_timely settings old event.Tick at owed new timely step = moved_on old new at timely (ap (λ (state : State). state.time) step.2.1)
+step_timely settings old event.Tick at owed new timely step = moved_on old new at timely (tick_time settings (later old at) step.0 new step.2)
 step_timely settings old event.Restart at owed new timely step =
     let is = ap (λ (state : State). state.time) step.1 in omega (arith, is)
 

@@ -7,9 +7,9 @@ use Rattle.dots_settings.specs.Lookups.{role_of}
 use Rattle.dots_history.specs.declared.entry.Entry.{Entry}
 use Rattle.dots_machine.specs.declared.received.Received.{Received}
 use Rattle.dots_machine.specs.declared.verdict.Verdict.TheVariants as verdict
-use Rattle.dots_machine.specs.Domains.{is_gateway}
+use Rattle.dots_machine.specs.Domains.{is_gateway, is_stranger}
 use Rattle.dots_machine.specs.Requests.{IsReceived}
-use Rattle.dots_machine.specs.Machine.{State, later, is_stranger, Rules}
+use Rattle.dots_machine.specs.Machine.{State, later, Rules}
 use Rattle.dots_machine.specs.Answering.{IsHandedIn, IsUnavailable}
 use Rattle.dots_machine.specs.Handlings.{Handling, IsHandling}
 

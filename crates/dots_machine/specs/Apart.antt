@@ -1,9 +1,8 @@
 -- How the domains stay apart.
-use Rattle.std.specs.Prelude.{◌≡◌, ◌≢◌, ℕ, List, [], Option, Some, None}
+use Rattle.std.specs.Prelude.{◌≡◌, ◌≢◌, ℕ, List, ◌++◌, Option, Some, None, ⊤}
 use Rattle.dots_host.specs.declared.event.Event.{Event}
 use Rattle.dots_host.specs.declared.event.Event.TheVariants as event
 use Rattle.dots_host.specs.declared.out.OwnedOut.{OwnedOut}
-use Rattle.dots_host.specs.Runs.{outs_of}
 use Rattle.dots_keys.specs.declared.request.Request.{Request}
 use Rattle.dots_keys.specs.declared.request.Request.TheVariants as request
 use Rattle.dots_settings.specs.declared.peer.Role.{Role}
@@ -13,7 +12,8 @@ use Rattle.dots_settings.specs.Lookups.{role_of}
 use Rattle.dots_machine.specs.Domains.{is_gateway, domain_for, session_domain}
 use Rattle.dots_machine.specs.declared.exchange.Exchange.{Exchange}
 use Rattle.dots_machine.specs.Requests.{IsReceived}
-use Rattle.dots_machine.specs.Machine.{State, Step}
+use Rattle.dots_machine.specs.Verdict.{Verdict}
+use Rattle.dots_machine.specs.Machine.{State, later, Decides, sends_of, after}
 use Rattle.dots_machine.specs.declared.received.Received.TheVariants as received
 
 -- two states of one time that have the same entries of a domain
@@ -37,15 +37,19 @@ pub data AsksFor (settings : SettingsValue) (domain : ℕ) (what : Event) : Type
       → IsReceived datagram (is_gateway (role_of settings peer)) (received.Asked exchange asked)
       → domain_of settings (role_of settings peer) asked ≡ Some domain → AsksFor settings domain what
 
--- A step from one state is for another domain, and leaves the entries of this one as they were; or it can be made from the other
--- state too, with the same sends, and both leave this domain the same; or it is a tick, which sends heartbeats to peers of all domains, and it can be
--- made from the other state too, and both leave this domain the same; or the machine restarts, and leaves the entries as they were: the time
--- may be held up then by an entry of any domain.
+-- no datagram came
+abbrev pub IsNoDatagram : Event → Type 0
+IsNoDatagram (event.Datagram peer datagram) = ⊥
+IsNoDatagram _ = ⊤
+
+-- A step from one state is for another domain, and leaves the entries of this one as they were; or its datagram can be decided on from the other
+-- state in the same way, the sends begin with the replies of that verdict, whatever number Observe has, and it leaves this domain the same on both;
+-- or no datagram came, and the entries are as they were. Behind the replies stand notifications, which go to observers of all domains.
 pub data StaysApart (settings : SettingsValue) (domain : ℕ) (old other : State) (what : Event) (at : ℕ) (sends : List OwnedOut) (new : State) : Type 0 where
   elsewhere : (another : ℕ) → another ≢ domain → AsksFor settings another what → alone domain new.history ≡ alone domain old.history
       → StaysApart settings domain old other what at sends new
-  same_step : (owed : List (State × OwnedOut)) (last : State) → outs_of owed ≡ sends → Step settings other what at owed last → SameFor domain new last
+  decided_alike : (peer : ℕ) (datagram : List ℕ) (decided : Verdict) (number : Option ℕ) (notices : List OwnedOut) → what ≡ event.Datagram peer datagram
+      → Decides settings (later old at) peer datagram decided → Decides settings (later other at) peer datagram decided
+      → sends ≡ sends_of number decided peer ++ notices → SameFor domain new (after decided (later other at))
       → StaysApart settings domain old other what at sends new
-  ticks : what ≡ event.Tick → (owed : List (State × OwnedOut)) (last : State) → Step settings other what at owed last → SameFor domain new last
-      → alone domain new.history ≡ alone domain old.history → StaysApart settings domain old other what at sends new
-  restarts : what ≡ event.Restart → sends ≡ [] → alone domain new.history ≡ alone domain old.history → StaysApart settings domain old other what at sends new
+  without_request : IsNoDatagram what → alone domain new.history ≡ alone domain old.history → StaysApart settings domain old other what at sends new

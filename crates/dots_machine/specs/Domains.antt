@@ -9,6 +9,10 @@ abbrev pub is_gateway : Role → Bool
 is_gateway role.Gateway = true
 is_gateway _ = false
 
+abbrev pub is_stranger : Role → Bool
+is_stranger role.Stranger = true
+is_stranger _ = false
+
 -- a client's own domain, or the one that a gateway names
 abbrev pub domain_for : SettingsValue → Role → Option (List ℕ) → Option ℕ
 domain_for settings role.Stranger cdid = None

@@ -22,6 +22,12 @@ abbrev pub rejected : Kind → ℕ → Dismissal
 rejected Con id = dismissal.Reset id
 rejected _ id = dismissal.Ignored
 
+-- An empty message that is confirmable, a ping, is reset; a reset rejects the message that had its Message ID; any other is ignored.
+abbrev pub emptied : Kind → ℕ → Dismissal
+emptied Con id = dismissal.Reset id
+emptied Rst id = dismissal.Rejected id
+emptied _ id = dismissal.Ignored
+
 -- Requests are confirmable or not; acknowledgements and resets are none (section 3).
 abbrev pub may_ask : Kind → Bool
 may_ask Con = true
@@ -29,11 +35,11 @@ may_ask Non = true
 may_ask Ack = false
 may_ask Rst = false
 
--- An empty message that is confirmable, a ping, is reset; acknowledgements, resets and other empty messages are ignored; what
--- isn't of the class of requests, 0, is rejected; any other asks something.
+-- An empty message asks nothing, and acknowledgements and resets are ignored; what isn't of the class of requests, 0, is rejected; any other
+-- asks something.
 abbrev pub dismissed : CoapMessage → Option Dismissal
 dismissed m =
-    if m.code == EMPTY then Some (rejected m.kind m.identifier)
+    if m.code == EMPTY then Some (emptied m.kind m.identifier)
     else if not (may_ask m.kind) then Some dismissal.Ignored
     else if not (m.code / 32 == 0) then Some (rejected m.kind m.identifier)
     else None

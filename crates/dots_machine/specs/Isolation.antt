@@ -1,5 +1,5 @@
 -- What becomes of a domain over a whole run.
-use Rattle.std.specs.Prelude.{◌≡◌, ◌⊎◌, ℕ, List, [], ◌∷◌, ◌++◌, Some}
+use Rattle.std.specs.Prelude.{◌≡◌, ◌⊎◌, ℕ, List, [], ◌∷◌, ◌++◌, Option, Some}
 use Rattle.dots_host.specs.declared.event.Event.TheVariants as event
 use Rattle.dots_host.specs.declared.out.OwnedOut.{OwnedOut}
 use Rattle.dots_settings.specs.Settings.{SettingsValue}
@@ -20,13 +20,13 @@ use Rattle.dots_machine.specs.Answering.{SaysUnavailable}
 use Rattle.dots_machine.specs.Handlings.{Handling, IsHandling}
 
 -- A request that was taken up: the time that the run then had, who sent it, what a reply takes from it, what it asks, and the
--- sends that answered it.
+-- replies that answered it.
 pub record TakenUp : Type 0 where
   pub time : ℕ
   pub peer : ℕ
   pub exchange : Exchange
   pub request : Request
-  pub sends : List OwnedOut
+  pub replies : List OwnedOut
 
 -- the handling takes this request up, which is for the domain, and leaves the state
 pub record TakesUp (settings : SettingsValue) (domain : ℕ) (handling : Handling) (new : State) (taken : TakenUp) : Type 0 where
@@ -35,7 +35,8 @@ pub record TakesUp (settings : SettingsValue) (domain : ℕ) (handling : Handlin
   pub is_received : IsReceived datagram (is_gateway (role_of settings taken.peer)) (received.Asked taken.exchange taken.request)
   pub for_domain : domain_of settings (role_of settings taken.peer) taken.request ≡ Some domain
   pub time_is : taken.time ≡ new.time
-  pub sends_are : taken.sends ≡ handling.sends
+  pub notices : List OwnedOut
+  pub sends_are : handling.sends ≡ taken.replies ++ notices
 
 -- The handling takes no request for the domain up: none came; or a message came that is refused for what it has; or 5.00 was answered, for want
 -- of memory.
@@ -62,13 +63,13 @@ entries_of (verdict.Accept reply entry) = entry ∷ []
 entries_of _ = []
 
 -- The requests make the later entries of the earlier ones: each is decided by the entries that those before it left, at its time; it was
--- answered so; and what was accepted is added.
+-- answered so, whatever number Observe had; and what was accepted is added.
 abbrev pub Make : SettingsValue → List Entry → List TakenUp → List Entry → Type 0
 Make settings before [] after = after ≡ before
 Make settings before (taken ∷ rest) after =
     (decided : Verdict)
     × DecidesRequest settings (afresh settings before taken.time) taken.peer taken.exchange taken.request decided
-    × (taken.sends ≡ sends_of decided taken.peer)
+    × (number : Option ℕ) × (taken.replies ≡ sends_of number decided taken.peer)
     × Make settings (before ++ entries_of decided) rest after
 
 -- The entries of the domain are what its own requests make, and each of these was answered by the domain's entries alone.

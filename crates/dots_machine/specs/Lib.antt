@@ -8,6 +8,7 @@ pub mod Sessions
 pub mod Facts
 pub mod Mitigations
 pub mod Deciding
+pub mod Observing
 pub mod Machine
 pub mod RepeatRule
 pub mod Apart

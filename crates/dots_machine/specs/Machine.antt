@@ -1,5 +1,5 @@
 -- The machine: its state, what it decides on a datagram, and a step.
-use Rattle.std.specs.Prelude.{◌≡◌, ℕ, Bool, true, false, max, List, [], ◌∷◌, ◌++◌, map, flat_map, None, IsOk}
+use Rattle.std.specs.Prelude.{◌≡◌, ℕ, Bool, true, false, max, List, [], ◌∷◌, ◌++◌, map, flat_map, None, Option, IsOk}
 use Rattle.dots_host.specs.declared.event.Event.{Event}
 use Rattle.dots_host.specs.declared.event.Event.TheVariants as event
 use Rattle.dots_host.specs.declared.out.OwnedOut.{OwnedOut}
@@ -10,17 +10,17 @@ use Rattle.coap_message.specs.declared.kind.Kind.TheVariants.{Con}
 use Rattle.coap_message.specs.Message.{CoapMessage, IsMessage, spelling}
 use Rattle.coap_message.specs.declared.fault.CoapFault.{CoapFault}
 use Rattle.coap_message.specs.Breaks.{Breaks}
-use Rattle.dots_settings.specs.declared.peer.Role.{Role}
-use Rattle.dots_settings.specs.declared.peer.Role.TheVariants as role
 use Rattle.dots_settings.specs.Settings.{SettingsValue}
 use Rattle.dots_settings.specs.Lookups.{role_of}
 use Rattle.dots_history.specs.declared.entry.Entry.{Entry}
 use Rattle.dots_laws.specs.Fits.{last_time}
 use Rattle.coap_observe.specs.Observed.{ObservedValue}
+use Rattle.coap_observe.specs.Seen.{Lists}
 use Rattle.session_core.specs.declared.contact.PeerContact.{PeerContact}
 use Rattle.session_core.specs.Contacts.{unheard, heard_from}
 use Rattle.session_core.specs.Beating.{Beating}
 use Rattle.dots_notices.specs.Beats.{beats, after_beats}
+use Rattle.dots_notices.specs.Notifying.{Notifies}
 use Rattle.stream_table.specs.Lines.{PeerLines, no_lines}
 use Rattle.dots_heads.specs.declared.reject.Reject.{Reject}
 use Rattle.dots_heads.specs.declared.reject.Reject.TheVariants as reject
@@ -33,10 +33,12 @@ use Rattle.dots_machine.specs.declared.received.Received.{Received}
 use Rattle.dots_machine.specs.declared.received.Received.TheVariants as received
 use Rattle.dots_machine.specs.Verdict.{Verdict}
 use Rattle.dots_machine.specs.declared.verdict.Verdict.TheVariants as verdict
-use Rattle.dots_machine.specs.Domains.{is_gateway}
+use Rattle.dots_machine.specs.Domains.{is_gateway, is_stranger}
 use Rattle.dots_machine.specs.Exchanges.{exchange_in, dismissed}
 use Rattle.dots_machine.specs.Requests.{IsReceived}
-use Rattle.dots_machine.specs.Replies.{unavailable, reset_message, rejection}
+use Rattle.dots_machine.specs.Replies.{unavailable, reset_message, rejection, showing}
+use Rattle.dots_machine.specs.declared.watching.Watching.{Watching}
+use Rattle.dots_machine.specs.Observing.{Watches, seen_at, bodies_at, number_of, observing}
 use Rattle.dots_machine.specs.Sessions.{beating_at}
 use Rattle.dots_machine.specs.Facts.{Facts, AreFacts, facts_of}
 use Rattle.dots_machine.specs.Deciding.{answer_to}
@@ -97,6 +99,7 @@ reject_verdict exchange other = verdict.Reply (rejection exchange other)
 abbrev pub dismissal_verdict : Dismissal → Verdict
 dismissal_verdict dismissal.Ignored = verdict.Silent
 dismissal_verdict (dismissal.Reset id) = verdict.Reply (reset_message id)
+dismissal_verdict (dismissal.Rejected id) = verdict.Silent
 
 -- what the rules say of what a client or a gateway sent, by what is known
 abbrev pub rules_say : SettingsValue → Facts → ℕ → Received → Verdict
@@ -108,10 +111,6 @@ rules_say settings facts peer (received.Asked exchange request) = answer_to sett
 abbrev pub Rules : SettingsValue → State → ℕ → Received → Verdict → Type 0
 Rules settings state peer got decided =
     (facts : Facts) × AreFacts settings state.time state.history facts × (decided ≡ rules_say settings facts peer got)
-
-abbrev pub is_stranger : Role → Bool
-is_stranger role.Stranger = true
-is_stranger _ = false
 
 -- The datagram is a message that asks something, all that stands before its body is right, and it is answered 5.00 for want of memory.
 pub record LacksMemory (datagram : List ℕ) (gateway : Bool) (decided : Verdict) : Type 0 where
@@ -131,12 +130,13 @@ pub data Decides (settings : SettingsValue) (state : State) (peer : ℕ) (datagr
   for_want_of_memory : is_stranger (role_of settings peer) ≡ false → LacksMemory datagram (is_gateway (role_of settings peer)) decided
       → Decides settings state peer datagram decided
 
--- the sends that carry a verdict out, and the state after it
-abbrev pub sends_of : Verdict → ℕ → List OwnedOut
-sends_of verdict.Silent peer = []
-sends_of (verdict.Reply reply) peer = owned.To peer reply ∷ []
-sends_of (verdict.LongReply reply) peer = owned.To peer reply ∷ []
-sends_of (verdict.Accept reply entry) peer = owned.To peer reply ∷ []
+-- The replies that carry a verdict out, and the state after it. Where mitigations are shown Observe has the number, if there is one.
+abbrev pub sends_of : Option ℕ → Verdict → ℕ → List OwnedOut
+sends_of number verdict.Silent peer = []
+sends_of number (verdict.Reply reply) peer = owned.To peer reply ∷ []
+sends_of number (verdict.LongReply reply) peer = owned.To peer reply ∷ []
+sends_of number (verdict.Shows exchange body) peer = owned.To peer (showing exchange number body) ∷ []
+sends_of number (verdict.Accept reply entry) peer = owned.To peer reply ∷ []
 
 abbrev pub after : Verdict → State → State
 after (verdict.Accept reply entry) state = with_entry state entry
@@ -154,11 +154,38 @@ pub data Hears (settings : SettingsValue) (state : State) (peer : ℕ) (datagram
   unreadable : (fault : CoapFault) → Breaks datagram fault → new ≡ state → Hears settings state peer datagram new
   by_stranger : is_stranger (role_of settings peer) ≡ true → new ≡ state → Hears settings state peer datagram new
 
--- a datagram is decided on, its peer is heard, and the verdict is carried out
-abbrev pub Answers : SettingsValue → State → ℕ → List ℕ → List OwnedOut → State → Type 0
-Answers settings state peer datagram sends new =
-    (decided : Verdict) × Decides settings state peer datagram decided × (sends ≡ sends_of decided peer)
-    × (met : State) × Hears settings state peer datagram met × (new ≡ after decided met)
+-- ---- observation
+
+-- what there is to see in a state
+abbrev pub seen_in : SettingsValue → State → Lists
+seen_in settings state = seen_at settings state.time state.history
+
+-- who observes after an answer
+abbrev pub watched : SettingsValue → ℕ → Watching → Verdict → List OwnedOut → State → State
+watched settings peer asked decided replies state =
+    record state { observers = observing settings (seen_in settings state) peer asked decided replies state.observers }
+
+-- Each observer that is due is told what there is to see, in the order of registration, or it stays due for want of memory (RFC 7641, section
+-- 4.2).
+abbrev pub Notified : SettingsValue → State → List OwnedOut → State → Type 0
+Notified settings state sends new =
+    (observers : List ObservedValue) × (contacts : List PeerContact)
+    × Notifies (seen_in settings state) (bodies_at settings state.time state.history) state.observers state.contacts sends observers contacts
+    × (new ≡ record state { observers = observers; contacts = contacts })
+
+-- A datagram is decided on, its peer is heard, and the verdict is carried out; then the observers that are due are told.
+pub record Answers (settings : SettingsValue) (state : State) (peer : ℕ) (datagram : List ℕ) (sends : List OwnedOut) (new : State) : Type 0 where
+  pub decided : Verdict
+  pub decides : Decides settings state peer datagram decided
+  pub met : State
+  pub hears : Hears settings state peer datagram met
+  pub asked : Watching
+  pub watches : Watches settings peer datagram asked
+  pub replies : List OwnedOut
+  pub replies_are : replies ≡ sends_of (number_of settings asked met.observers) decided peer
+  pub notices : List OwnedOut
+  pub notified : Notified settings (watched settings peer asked decided replies (after decided met)) notices new
+  pub sends_are : sends ≡ replies ++ notices
 
 -- what the heartbeats of each peer go by
 abbrev pub beating : SettingsValue → State → Beating
@@ -170,14 +197,25 @@ Beats settings state sends new =
     (sends ≡ beats (beating settings state) state.time state.contacts)
     × (new ≡ record state { contacts = after_beats (beating settings state) state.time state.contacts })
 
+-- at a tick the observers that are due are told, and then the heartbeats are sent
+pub record Ticks (settings : SettingsValue) (state : State) (sends : List OwnedOut) (new : State) : Type 0 where
+  pub notices : List OwnedOut
+  pub told : State
+  pub notified : Notified settings state notices told
+  pub heartbeats : List OwnedOut
+  pub beaten : Beats settings told heartbeats new
+  pub sends_are : sends ≡ notices ++ heartbeats
+
 -- One event: the sends that it owes, each beside the state that it tells, and the state after it. End and a failure of the host move no
--- time; a restart keeps what was accepted alone; what isn't served yet moves the time and no more.
+-- time; a restart keeps what was accepted alone; a connection that opens or closes moves the time and no more, and by a piece of one the
+-- observers that are due are told.
 abbrev pub Step : SettingsValue → State → Event → ℕ → List (State × OwnedOut) → State → Type 0
 Step settings old (event.Datagram peer datagram) at owed new = in_one_turn (λ sends. Answers settings (later old at) peer datagram sends new) owed new
 Step settings old event.End at owed new = (owed ≡ []) × (new ≡ old)
 Step settings old event.Failed at owed new = (owed ≡ []) × (new ≡ old)
 Step settings old event.Restart at owed new = (owed ≡ []) × (new ≡ restarted settings old at)
-Step settings old event.Tick at owed new = in_one_turn (λ sends. Beats settings (later old at) sends new) owed new
+Step settings old event.Tick at owed new = in_one_turn (λ sends. Ticks settings (later old at) sends new) owed new
+Step settings old (event.Piece conn piece) at owed new = in_one_turn (λ sends. Notified settings (later old at) sends new) owed new
 Step settings old _ at owed new = (owed ≡ []) × (new ≡ later old at)
 
 -- In the middle of an event the disk failed. These turns of the event were carried out, and the one after them was being written, which has an

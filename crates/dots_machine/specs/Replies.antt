@@ -1,5 +1,5 @@
 -- The replies: messages with the Message ID and the token of the request (RFC 7252, section 5.2; RFC 9132, section 4.4).
-use Rattle.std.specs.Prelude.{ℕ, ◌/◌, ◌%◌, Bool, true, false, List, [], ◌∷◌, ◌++◌, codes, decimal, map, Option}
+use Rattle.std.specs.Prelude.{ℕ, ◌/◌, ◌%◌, Bool, true, false, List, [], ◌∷◌, ◌++◌, codes, decimal, map, Option, Some, None}
 use Rattle.cbor_profile.specs.Canon.{canon}
 use Rattle.cbor_profile.specs.Tree.{Tree, unsigned}
 use Rattle.coap_message.specs.declared.codes.TheConstants.{EMPTY, CREATED, DELETED, CHANGED, CONTENT, BAD_REQUEST, NOT_FOUND, CONFLICT, UNPROCESSABLE_ENTITY, INTERNAL_SERVER_ERROR, SERVICE_UNAVAILABLE}
@@ -24,6 +24,7 @@ use Rattle.dots_history.specs.declared.config.Values.{Values}
 use Rattle.reply_bodies.specs.declared.session.Current.{Current}
 use Rattle.reply_bodies.specs.declared.session.SessionView.{SessionView}
 use Rattle.target_rules.specs.declared.target.TargetFault.{TargetFault}
+use Rattle.dots_notices.specs.Notices.{observe}
 use Rattle.dots_machine.specs.declared.exchange.Exchange.{Exchange}
 use Rattle.target_rules.specs.Targets.{target_text}
 use Rattle.dots_machine.specs.Exchanges.{reply_kind}
@@ -90,9 +91,25 @@ state_fields _ m = field MITIGATION_START (unsigned m.put.start) ++ field STATUS
 abbrev pub mitigation_fields : Content → LiveView → Tree
 mitigation_fields content m = map_of (field MID (unsigned m.put.mid) ++ config_fields content m ++ state_fields content m)
 
--- 2.05 Content, with these mitigations in their order
-abbrev pub mitigations_reply : Exchange → Content → List LiveView → List ℕ
-mitigations_reply exchange content ms = with_body CONTENT exchange (canon (mitigations_with (map (mitigation_fields content) ms)))
+-- the body that shows these mitigations, in their order
+abbrev pub shown_body : Content → List LiveView → List ℕ
+shown_body content ms = canon (mitigations_with (map (mitigation_fields content) ms))
+
+-- Observe, where there is a number for it (RFC 7641, section 2)
+abbrev pub observe_with : Option ℕ → List CoapOption
+observe_with None = []
+observe_with (Some number) = observe number ∷ []
+
+-- 2.05 Content, with the body that shows mitigations
+abbrev pub showing : Exchange → Option ℕ → List ℕ → List ℕ
+showing exchange number body = spelling (record {
+  kind = reply_kind exchange.kind;
+  code = CONTENT;
+  identifier = exchange.id;
+  token = exchange.token;
+  options = observe_with number ++ dots_cbor ∷ [];
+  payload = body;
+})
 
 -- 4.04 Not Found, where there is none
 abbrev pub absent : Exchange → List ℕ

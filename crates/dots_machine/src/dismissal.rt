@@ -5,4 +5,6 @@ pub enum Dismissal {
     Ignored,
     /// A reset with this Message ID is sent.
     Reset { id: u16 },
+    /// It is a reset itself, and nothing is sent. It rejects the message with this Message ID that was sent to its peer.
+    Rejected { id: u16 },
 }

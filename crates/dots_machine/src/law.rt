@@ -20,18 +20,19 @@ ghost use Rattle.slot_store.specs.Layout.{needed_of};
 ghost use Rattle.slot_journal.specs.DiskEntries.{Holds};
 ghost use Rattle.slot_journal.specs.Sizes.{slots_of};
 ghost use Rattle.dots_history.specs.Histories.{Kept, tally};
+ghost use Rattle.dots_notices.specs.Notifying.{Apart};
 ghost use Rattle.dots_machine.specs.Surviving.{MeansAt, shown, time_at};
 ghost use Rattle.dots_machine.specs.Endings.{GivesSettings, IsReady};
 ghost use Rattle.dots_machine.specs.Apart.{domain_of, SameFor, StaysApart};
-ghost use Rattle.dots_machine.specs.Answering.{AreBytes, IsHandedIn, IsUnavailable};
-ghost use Rattle.dots_machine.specs.Domains.{is_gateway};
+ghost use Rattle.dots_machine.specs.Answering.{AreBytes, IsHandedIn, IsUnavailable, HaveOneAnswer};
+ghost use Rattle.dots_machine.specs.Domains.{is_gateway, is_stranger};
 ghost use Rattle.dots_machine.specs.Requests.{IsReceived};
 ghost use Rattle.dots_machine.specs.MessageRepeats.{sent_for, IsRepeatOf};
 ghost use Rattle.dots_machine.specs.RepeatRule.{heard_for, AsksToChange};
-ghost use Rattle.dots_machine.specs.Machine.{State, afresh, later, hearing, is_stranger, DecidesRequest, Step};
+ghost use Rattle.dots_machine.specs.Machine.{State, afresh, later, DecidesRequest, Step};
 ghost use Rattle.dots_machine.specs.Handlings.{Handling, IsHandling, EachHandling, handlings_of};
 ghost use Rattle.dots_machine.specs.Adding.{AddsExactly};
-ghost use Rattle.dots_machine.specs.RepeatAnswers.{AnswersRepeats};
+ghost use Rattle.dots_machine.specs.RepeatAnswers.{IsRepeated, AnswersRepeats};
 ghost use Rattle.dots_machine.specs.Isolation.{IsIsolated};
 ghost use Rattle.dots_machine.specs.Orderly.{IsOrderly};
 ghost use Rattle.dots_machine.specs.declared.exchange.Exchange.{Exchange};
@@ -39,26 +40,31 @@ ghost use Rattle.dots_machine.specs.declared.received.Received.TheVariants as re
 ghost use Rattle.dots_machine.specs.Verdict.{Verdict};
 ghost use Rattle.dots_machine.specs.declared.verdict.Verdict.TheVariants as verdict;
 
-/// A list of acts fixes one state: whatever was free to choose shows in the sends.
+/// A list of acts fixes one state: whatever was free to choose shows in the sends. No two observers have one peer and token at its start, and
+/// so it stays, as it is at the beginning, where nobody observes.
 pub fn one_state()
-    ensures { (settings : SettingsValue) (from : State) (acts : List Timed) (trace others : List State) (new other : State)
+    ensures begun { (settings : SettingsValue) (entries : List Entry) (t : ℕ) → Apart (afresh settings entries t).observers }
+    ensures step { (settings : SettingsValue) (old : State) (event : Event) (at : ℕ) (owed : List (State × OwnedOut)) (new : State)
+        → Apart old.observers → Step settings old event at owed new → Apart new.observers }
+    ensures one { (settings : SettingsValue) (from : State) (acts : List Timed) (trace others : List State) (new other : State)
+        → Apart from.observers
         → Trace (Step settings) (resting from) acts trace (resting new)
         → Trace (Step settings) (resting from) acts others (resting other)
         → new ≡ other }
 {}
 
-/// An event has one answer: of one state and one event any two steps give the same sends and the same state, or one of them is 5.00
-/// for want of memory.
+/// An event has one answer: of one state and one event any two steps give the same replies in the same state, or one of them is 5.00 for want
+/// of memory. Behind the replies an observer that is due may not be told, for want of memory too.
 pub fn one_answer()
     ensures { (settings : SettingsValue) (old : State) (event : Event) (at : ℕ) (owed others : List (State × OwnedOut)) (new other : State)
         → IsHandedIn event → Step settings old event at owed new → Step settings old event at others other
-        → ((owed ≡ others) × (new ≡ other)) ⊎ (IsUnavailable event owed ⊎ IsUnavailable event others) }
+        → HaveOneAnswer settings event (outs_of owed) new (outs_of others) other ⊎ (IsUnavailable event owed ⊎ IsUnavailable event others) }
 {}
 
 /// The domains stay apart: of two states of one time that have the same entries of a domain, a step from the one is for another
-/// domain, and leaves the entries of this one as they were, or it can be made from the other too, with the same sends, and both
-/// leave this domain the same. Or it is a tick, whose heartbeats go to peers of all domains: it can be made from the other too, and both leave this
-/// domain the same. Or it is a restart, which sends nothing and leaves the entries of this one as they were. And the same rows of mitigations filter for it in both.
+/// domain, and leaves the entries of this one as they were, or its datagram is decided on from the other in the same way, the sends begin with the
+/// replies of that verdict, and it leaves this domain the same on both. Or no datagram came, and the entries of this one are as they were. Behind
+/// the replies stand notifications, and at a tick heartbeats, which go to peers of all domains. And the same rows of mitigations filter for it in both.
 pub fn domains_stay_apart()
     ensures step { (settings : SettingsValue) (domain : ℕ) (old other : State) (event : Event) (at : ℕ) (owed : List (State × OwnedOut)) (new : State)
         → SameFor domain old other → Step settings old event at owed new → StaysApart settings domain old other event at (outs_of owed) new }
@@ -69,7 +75,7 @@ pub fn domains_stay_apart()
 /// A message that is accepted is repeated by each message of its peer for its domain with its Message ID, for 247 seconds if it was confirmable
 /// and for 145 if it wasn't, as long as fewer accepted ones of that peer and domain come after it than are remembered, and none of these
 /// with that Message ID. And a repeat, whatever it asks to change, is answered with the bytes that answered the message, by the rules, over
-/// each step and over each handling of a run, and nothing is added to the history; or 5.00 is answered, for want of memory.
+/// each step and over each handling of a run, nothing is added to the history, and notifications may follow; or 5.00 is answered, for want of memory.
 pub fn repeats_are_answered()
     ensures accepted { (settings : SettingsValue) (state : State) (peer : ℕ) (exchange : Exchange) (asked : Request) (reply : List ℕ) (entry : Entry)
         → DecidesRequest settings state peer exchange asked (verdict.Accept reply entry)
@@ -87,7 +93,7 @@ pub fn repeats_are_answered()
         → AsksToChange settings (role_of settings peer) domain asked
         → IsRepeatOf settings.limits.remembered (later old at).time old.history (sent_for peer exchange domain) entry
         → Step settings old (event.Datagram peer datagram) at owed new
-        → ((outs_of owed ≡ owned.To peer entry.reply ∷ []) × (new ≡ hearing peer (later old at))) ⊎ IsUnavailable (event.Datagram peer datagram) owed }
+        → IsRepeated settings old peer entry.reply at (outs_of owed) new ⊎ IsUnavailable (event.Datagram peer datagram) owed }
     ensures run { (settings : SettingsValue) (from : State) (acts : List Timed) (trace : List State) (new : State)
         → Trace (Step settings) (resting from) acts trace (resting new) → EachHandling (AnswersRepeats settings) from (handlings_of acts) new }
 {}

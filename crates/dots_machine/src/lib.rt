@@ -22,6 +22,7 @@ mod mitigation_request;
 mod received;
 mod short_message;
 mod verdict;
+mod watching;
 
 pub use client_request::ClientRequest;
 pub use dismissal::Dismissal;
@@ -36,3 +37,4 @@ pub use received::Received;
 pub use short_message::{MAX_SHORT, ShortMessage};
 pub use target_rules::{TargetFault, scope_fault};
 pub use verdict::Verdict;
+pub use watching::Watching;

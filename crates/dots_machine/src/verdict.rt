@@ -1,3 +1,4 @@
+use crate::exchange::Exchange;
 use crate::short_message::ShortMessage;
 use dots_lists::Bytes;
 
@@ -10,6 +11,8 @@ pub enum Verdict<E> {
     Reply(ShortMessage),
     /// The same, with a body of any length.
     LongReply(Bytes),
+    /// Mitigations are shown by this body, in a reply to the exchange that may have Observe with a number (RFC 7641, section 2).
+    Shows { exchange: Exchange, body: Bytes },
     /// An accepted change, and the reply that it carries.
     Accept { reply: ShortMessage, entry: E },
 }

@@ -3,9 +3,6 @@ use Rattle.std.proofs.Common.{◌≢◌, refl}
 use Rattle.dots_heads.specs.declared.reject.Reject.{Reject}
 use Rattle.dots_heads.specs.declared.reject.Reject.TheVariants as reject
 use Rattle.dots_heads.specs.Results.{Fulfils}
-use Rattle.dots_machine.specs.declared.dismissal.Dismissal.TheVariants as dismissal
-use Rattle.dots_machine.specs.declared.received.Received.TheVariants as received
-use Rattle.dots_machine.specs.declared.verdict.Verdict.TheVariants as verdict
 
 -- a fact of a refusal that isn't want of memory
 pub fulfilled : (e : Reject) (fact : Type 0) → e ≢ reject.NoMemory → Fulfils e fact → fact

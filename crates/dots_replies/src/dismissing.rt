@@ -2,7 +2,7 @@
 
 ghost use Rattle.std.specs.Prelude.{◌≡◌};
 ghost use Rattle.coap_message.specs.Salvage.{salvaged};
-ghost use Rattle.dots_machine.specs.Exchanges.{dismissed, may_ask, rejected, dismissed_unread};
+ghost use Rattle.dots_machine.specs.Exchanges.{dismissed, may_ask, emptied, rejected, dismissed_unread};
 
 use coap_message::codes::EMPTY;
 use coap_message::{Kind, Message, salvage};
@@ -29,12 +29,23 @@ fn rejected(kind: Kind, id: u16) -> Dismissal
     }
 }
 
+/// What is done with an empty message: a ping, which is confirmable, is reset, and a reset rejects the message with its Message ID.
+fn emptied(kind: Kind, id: u16) -> Dismissal
+    ensures { result ≡ emptied kind id }
+{
+    match kind {
+        Kind::Con => Dismissal::Reset { id },
+        Kind::Rst => Dismissal::Rejected { id },
+        Kind::Non | Kind::Ack => Dismissal::Ignored,
+    }
+}
+
 /// What is done with a message, unless it asks something.
 pub fn dismissed(message: &Message<'_>) -> Option<Dismissal>
     ensures { result ≡ dismissed message.now }
 {
     if message.code() == EMPTY {
-        return Some(rejected(message.kind(), message.id()));
+        return Some(emptied(message.kind(), message.id()));
     }
     if !may_ask(message.kind()) {
         return Some(Dismissal::Ignored);

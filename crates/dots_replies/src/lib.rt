@@ -11,7 +11,7 @@ mod replies;
 
 pub use configurations::config_in;
 pub use entries::{copies, entry_of, session_entry};
-pub use long_replies::{configuration_reply, conflicting, mitigations_reply};
+pub use long_replies::{configuration_reply, conflicting, showing, shown_body};
 pub use receiving::receive;
 pub use replies::{
     absent, at_capacity, bad_parameter, bad_request, bad_target, configuring, deleted, granting,

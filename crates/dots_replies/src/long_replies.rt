@@ -1,10 +1,9 @@
 //! Replies with a body of any length.
 
 ghost use Rattle.std.specs.Prelude.{◌≡◌, ◌≢◌, IfOk, option_map};
-ghost use Rattle.dots_machine.specs.Replies.{with_body, conflicting, configuration_reply};
+ghost use Rattle.dots_machine.specs.Replies.{with_body, conflicting, configuration_reply, showing};
 ghost use Rattle.reply_bodies.specs.Mitigations.{views_tree};
 ghost use Rattle.cbor_profile.specs.Canon.{canon};
-ghost use Rattle.coap_message.specs.declared.codes.TheConstants.{CONTENT};
 
 use crate::configurations::session_view;
 use coap_message::codes::{CONFLICT, CONTENT};
@@ -13,6 +12,7 @@ use coap_message::{DOTS_CBOR, OptionPart, Parts, encode_into, encoded_len};
 use dots_history::Config;
 use dots_lists::{Bytes, NoMemory};
 use dots_machine::Exchange;
+use dots_notices::{Front, numbered_content};
 use reply_bodies::{Conflict, ConflictCause, Reply, ViewList, body_of};
 use std::alloc::Global;
 
@@ -29,16 +29,33 @@ pub fn conflicting(
     long_reply(alloc, CONFLICT, exchange, body.items())
 }
 
-/// 2.05, with these mitigations (RFC 9132, section 4.4.2).
-pub fn mitigations_reply(
+/// The body that shows these mitigations (RFC 9132, section 4.4.2).
+pub fn shown_body(alloc: Global, views: ViewList<'_>) -> Result<Bytes, NoMemory>
+    ensures { IfOk result (λ body. body ≡ canon (views_tree views.entry)) }
+{
+    body_of(alloc, &Reply::Mitigations(views))
+}
+
+/// 2.05, with the body that shows mitigations, and with Observe where there is a number for it (RFC 7641, section 2).
+pub fn showing(
     alloc: Global,
     exchange: &Exchange,
-    views: ViewList<'_>,
+    number: Option<u32>,
+    body: &[u8],
 ) -> Result<Bytes, NoMemory>
-    ensures { IfOk result (λ reply. reply ≡ with_body CONTENT exchange.now (canon (views_tree views.entry))) }
+    ensures { IfOk result (λ reply. reply ≡ showing exchange.now number body.now) }
 {
-    let body = body_of(alloc, &Reply::Mitigations(views))?;
-    long_reply(alloc, CONTENT, exchange, body.items())
+    match number {
+        Some(number) => {
+            let front = Front {
+                kind: exchange.reply_kind(),
+                id: exchange.id,
+                token: &exchange.token,
+            };
+            numbered_content(alloc, &front, number, body)
+        }
+        None => long_reply(alloc, CONTENT, exchange, body),
+    }
 }
 
 /// 2.05, with the configuration of a session and its sid, or with what holds where none is held (RFC 9132, section 4.5.1).

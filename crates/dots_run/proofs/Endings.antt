@@ -1,5 +1,5 @@
 -- How telling ends, by what is to be told.
-use Rattle.std.proofs.Common.{◌≡◌, ℕ, ◌⊎◌, inl, inr, List, Option, Some, Result, Ok, Err, refl, sym, ap, ◌∙◌, subst}
+use Rattle.std.proofs.Common.{◌≡◌, ℕ, ◌⊎◌, inl, inr, List, Option, Result, Ok, Err, refl, sym, ◌∙◌, subst}
 use Rattle.std.specs.Prelude.{IfOk, OnOk, IfSome}
 use Rattle.file_checks.specs.declared.checked.Checked.{Checked}
 use Rattle.file_checks.specs.declared.checked.Checked.TheVariants as checked

@@ -1,5 +1,6 @@
 mod Scripts
 mod Generating
+mod Unwatched
 mod Loads
 mod Once
 mod Endings

@@ -1,5 +1,5 @@
 -- A script has one check.
-use Rattle.std.proofs.Common.{◌≡◌, ℕ, ◌+◌, ◌⊎◌, inl, inr, List, [], ◌∷◌, ◌++◌, length, refl, sym, ap, ◌∙◌, subst, append_assoc, append-nil, codes}
+use Rattle.std.proofs.Common.{◌≡◌, ℕ, ◌+◌, inl, inr, List, [], ◌∷◌, ◌++◌, length, refl, sym, ap, ◌∙◌, append_assoc, append-nil, codes}
 use Rattle.dots_host.specs.Memory.{Coming}
 use Rattle.dots_script.specs.Accounts.{AreMade, LineSays}
 use Rattle.dots_script.specs.Lines.{with_feed, with_feeds, IsFault}

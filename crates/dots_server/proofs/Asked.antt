@@ -7,8 +7,20 @@ use Rattle.dots_machine.specs.Verdict.{Verdict}
 use Rattle.dots_machine.specs.declared.verdict.Verdict.TheVariants as verdict
 use Rattle.dots_machine.specs.Domains.{domain_for}
 use Rattle.dots_machine.specs.Replies.{bad_parameter}
-use Rattle.dots_machine.specs.Deciding.{in_domain}
+use Rattle.dots_machine.specs.Deciding.{in_domain, asks_for, get_for}
+use Rattle.coap_observe.specs.Observed.{ObservedValue}
+use Rattle.dots_heads.specs.declared.request.Content.{Content}
+use Rattle.dots_heads.specs.declared.request.MitigationPath.{MitigationPath}
+use Rattle.dots_heads.specs.declared.request.Observe.{Observe}
+use Rattle.dots_heads.specs.declared.request.Observe.TheVariants as said
+use Rattle.dots_machine.specs.declared.client_request.ClientRequest.{ClientRequest}
+use Rattle.dots_machine.specs.declared.watching.Watching.{Watching}
+use Rattle.dots_machine.specs.declared.watching.Watching.TheVariants as watching
+use Rattle.dots_machine.specs.Facts.{Facts}
+use Rattle.dots_machine.specs.Mitigations.{get_answer}
+use Rattle.dots_machine.specs.Observing.{in_known, asked_in}
 use Rattle.dots_server.specs.Asking.{role_with, IsOwn, domain_asked}
+use Rattle.dots_server.specs.Observing.{asked_from, Does}
 
 by_role : (settings : SettingsValue) (own : Option ℕ) (cdid : Option (List ℕ)) → domain_for settings (role_with own) cdid ≡ domain_asked settings own cdid
 by_role settings (Some domain) cdid = refl
@@ -24,3 +36,43 @@ module _ (here settings : SettingsValue) (peer : ℕ) (own : Option ℕ) (cdid :
 
   pub with_domain : (domain : ℕ) → domain_asked here own cdid ≡ Some domain → decided domain ≡ in_domain x (domain_for settings (role_of settings peer) cdid) decided
   with_domain domain some = sym (ap (λ d. in_domain x d decided) (domain_is ∙ some))
+
+  pub known_nowhere : (asked : ℕ → Watching) → domain_asked here own cdid ≡ None → in_known (domain_for settings (role_of settings peer) cdid) asked ≡ watching.Nothing
+  known_nowhere asked none = ap (λ d. in_known d asked) (domain_is ∙ none)
+
+  pub known_there : (asked : ℕ → Watching) (domain : ℕ) → domain_asked here own cdid ≡ Some domain → asked domain ≡ in_known (domain_for settings (role_of settings peer) cdid) asked
+  known_there asked domain some = sym (ap (λ d. in_known d asked) (domain_is ∙ some))
+
+-- ---- a GET of mitigations
+asked_as : (peer : ℕ) (x : Exchange) (path : MitigationPath) (content : Content) (domain : ℕ) (s : Observe)
+    → asked_from (asks_for peer x path domain) path.mid content s ≡ asked_in peer x content path s domain
+asked_as peer x path content domain said.Register = refl
+asked_as peer x path content domain said.Deregister = refl
+asked_as peer x path content domain said.No = refl
+
+module _ (here settings : SettingsValue) (peer : ℕ) (own : Option ℕ) (path : MitigationPath) (is_own : IsOwn here peer own) (same : here ≡ settings) (x : Exchange) (content : Content) (s : Observe)
+    (facts : Facts) (observed : List ObservedValue) where
+  abbrev found : Option ℕ
+  found = domain_for settings (role_of settings peer) path.cdid
+
+  abbrev DoesRead : Watching → Verdict → Type 0
+  DoesRead watching verdict = Does settings peer observed (in_known found (asked_in peer x content path s)) (in_domain x found (get_for facts peer x path content)) watching verdict
+
+  pub reads_there : (from : ClientRequest) (watching : Watching) (verdict : Verdict) → domain_asked here own path.cdid ≡ Some from.domain → from ≡ asks_for peer x path from.domain
+      → Does settings from.peer observed (asked_from from path.mid content s) (get_answer facts from path.mid content) watching verdict → DoesRead watching verdict
+  reads_there from watching verdict some is does =
+      let domain = from.domain in
+      let by_path : Does settings peer observed (asked_from (asks_for peer x path domain) path.mid content s) (get_answer facts (asks_for peer x path domain) path.mid content) watching verdict
+      = subst (λ (from : ClientRequest). Does settings from.peer observed (asked_from from path.mid content s) (get_answer facts from path.mid content) watching verdict) is does in
+      subst (λ asked. Does settings peer observed asked (in_domain x found (get_for facts peer x path content)) watching verdict)
+      (asked_as peer x path content domain s ∙ known_there here settings peer own path.cdid is_own same x (get_for facts peer x path content) (asked_in peer x content path s) domain some)
+      (subst (λ decided. Does settings peer observed (asked_from (asks_for peer x path domain) path.mid content s) decided watching verdict)
+      (with_domain here settings peer own path.cdid is_own same x (get_for facts peer x path content) domain some) by_path)
+
+  pub reads_nowhere : (reply : List ℕ) → domain_asked here own path.cdid ≡ None → reply ≡ bad_parameter x → DoesRead watching.Nothing (verdict.Reply reply)
+  reads_nowhere reply none is =
+      subst (λ asked. Does settings peer observed asked (in_domain x found (get_for facts peer x path content)) watching.Nothing (verdict.Reply reply))
+      (sym (known_nowhere here settings peer own path.cdid is_own same x (get_for facts peer x path content) (asked_in peer x content path s) none))
+      (subst (λ decided. Does settings peer observed watching.Nothing decided watching.Nothing (verdict.Reply reply))
+      (without_domain here settings peer own path.cdid is_own same x (get_for facts peer x path content) none)
+      (record { verdict_is = ap verdict.Reply is; observers = λ lists. refl }))

@@ -29,10 +29,10 @@ use Rattle.dots_ledger.proofs.Recovering.{fails_alone}
 use Rattle.dots_ledger.proofs.Wholes.{ledger_whole}
 use Rattle.dots_registry.specs.Limits.{ClientsKeepLimits}
 use Rattle.dots_registry.proofs.CalmLimits.{limits_calm, limits_whole, own_calm, early_calm}
-use Rattle.session_core.specs.declared.contact.PeerContact.{PeerContact}
+use Rattle.dots_notices.specs.declared.watch.Watch.{Watch}
 use Rattle.session_core.specs.Contacts.{unheard}
 use Rattle.dots_machine.specs.Machine.{State, begun_from, restarted}
-use Rattle.dots_server.specs.ServerValues.{ServerValue, ledger_of, IsKept, IsServing}
+use Rattle.dots_server.specs.ServerValues.{ServerValue, observers_of, ledger_of, IsKept, IsServing}
 
 -- ---- a server begins
 
@@ -43,9 +43,9 @@ bounded_by (e ∷ entries) each = and_from (within_bounds e) (list_all within_bo
 
 module _ (settings : SettingsValue) (at : ℕ) (tables : LedgerValue) (held : List Entry) (early : at < 2 ^ 48) (represents : ledger.Represents tables settings held held)
     (time : time_of tables.registry ≡ max at (last_time held)) (slots : tables.journal.slots ≡ slots_of settings) (each : AllByRecursion HasRecord held)
-    (sessions : List PeerContact) (unheard_all : sessions ≡ map unheard settings.peers) where
+    (watch : Watch) (unobserved : watch.observers ≡ observers_of settings []) (unheard_all : watch.sessions ≡ map unheard settings.peers) where
   abbrev begun : ServerValue
-  begun = record { settings = settings; registry = tables.registry; journal = tables.journal; sessions = sessions }
+  begun = record { settings = settings; registry = tables.registry; journal = tables.journal; watch = watch }
 
   pub begun_kept : IsKept begun settings (restarted settings (begun_from settings held) at) held
   begun_kept =
@@ -56,6 +56,7 @@ module _ (settings : SettingsValue) (at : ℕ) (tables : LedgerValue) (held : Li
             is_of = represents.is_of;
             registry = represents.registry;
             time_is = time;
+            observers = unobserved;
             contacts = unheard_all;
             early = omega (arith, early, young);
             own = own_calm settings held represents.calm;
@@ -129,6 +130,7 @@ module _ (settings : SettingsValue) (at : ℕ) (old new : ServerValue) (state : 
             is_of = whole.is_of;
             registry = whole.registry;
             time_is = now;
+            observers = begun_anew.represents.represents.observers;
             contacts = begun_anew.represents.represents.contacts;
             early = subst (λ t. max at t < 2 ^ 48) same_time young;
             own = kept.represents.represents.own;

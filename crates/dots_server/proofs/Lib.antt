@@ -17,3 +17,5 @@ pub mod Insides
 pub mod MitigationReplies
 pub mod Verdicts
 pub mod Sessions
+pub mod Watching
+pub mod Telling

@@ -2,14 +2,13 @@
 use Rattle.std.proofs.Common.{◌≡◌, ◌≢◌, ℕ, Bool, true, false, List, [], ◌∷◌, ◌++◌, map, filter, cond, Option, refl, sym, ap, ◌∙◌, append_assoc}
 use Rattle.cbor_profile.specs.Canon.{canon}
 use Rattle.cbor_profile.specs.Tree.{Tree}
-use Rattle.coap_message.specs.declared.codes.TheConstants.{CONTENT}
 use Rattle.dots_heads.specs.declared.request.Content.{Content}
 use Rattle.conflict_rules.specs.LiveViews.{LiveView}
 use Rattle.reply_bodies.specs.declared.scope.MitigationView.{MitigationView}
 use Rattle.reply_bodies.specs.Mitigations.{scope_of, mitigations_with}
 use Rattle.dots_machine.specs.declared.exchange.Exchange.{Exchange}
 use Rattle.dots_machine.specs.declared.verdict.Verdict.TheVariants as verdict
-use Rattle.dots_machine.specs.Replies.{mitigation_fields, with_body, absent}
+use Rattle.dots_machine.specs.Replies.{mitigation_fields, absent}
 use Rattle.dots_machine.specs.Mitigations.{is_wanted, get_reply}
 
 module _ (content : Content) (wanted : Option ℕ) where
@@ -30,10 +29,10 @@ module _ (content : Content) (wanted : Option ℕ) where
 
 -- what is told of those that there are, and where there is none
 pub tells_some : (x : Exchange) (content : Content) (ms : List LiveView) (views : List MitigationView) → map scope_of views ≡ map (mitigation_fields content) ms → views ≢ []
-    → verdict.LongReply (with_body CONTENT x (canon (mitigations_with (map scope_of views)))) ≡ get_reply x content ms
+    → verdict.Shows x (canon (mitigations_with (map scope_of views))) ≡ get_reply x content ms
 tells_some x content [] [] are some = absurd (some refl)
 tells_some x content [] (v ∷ vs) are some = absurd (cc are)
-tells_some x content (m ∷ ms) views are some = ap (λ scopes. verdict.LongReply (with_body CONTENT x (canon (mitigations_with scopes)))) are
+tells_some x content (m ∷ ms) views are some = ap (λ scopes. verdict.Shows x (canon (mitigations_with scopes))) are
 
 pub tells_none : (x : Exchange) (content : Content) (ms : List LiveView) (views : List MitigationView) → map scope_of views ≡ map (mitigation_fields content) ms → views ≡ []
     → verdict.Reply (absent x) ≡ get_reply x content ms

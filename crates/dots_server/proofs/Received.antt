@@ -1,5 +1,5 @@
 -- What is decided on what is received.
-use Rattle.std.proofs.Common.{◌≡◌, ℕ, Bool, false, List, Result, Ok, Err, inl, inr, refl, ap, ◌∙◌, subst}
+use Rattle.std.proofs.Common.{◌≡◌, ℕ, Bool, false, List, [], ◌∷◌, Result, Ok, Err, inl, inr, refl, ap, ◌∙◌, subst}
 use Rattle.std.specs.Prelude.{IsOk}
 use Rattle.dots_heads.specs.declared.reject.Reject.{Reject}
 use Rattle.dots_keys.specs.declared.request.Request.{Request}
@@ -13,14 +13,21 @@ use Rattle.dots_machine.specs.declared.received.Received.TheVariants as received
 use Rattle.dots_machine.specs.Verdict.{Verdict}
 use Rattle.dots_machine.specs.declared.verdict.Verdict.TheVariants as verdict
 use Rattle.dots_settings.specs.Lookups.{role_of}
-use Rattle.dots_machine.specs.Domains.{is_gateway}
+use Rattle.dots_machine.specs.Domains.{is_gateway, is_stranger}
 use Rattle.dots_machine.specs.Exchanges.{exchange_in}
 use Rattle.dots_machine.specs.Requests.{received_as, IsReceived, unread, asks_nothing, meant}
 use Rattle.dots_machine.specs.Replies.{unavailable}
-use Rattle.dots_machine.specs.Machine.{State, is_stranger, Decides, by_rules, for_want_of_memory}
+use Rattle.dots_machine.specs.Machine.{State, Decides, by_rules, for_want_of_memory}
 use Rattle.dots_machine.proofs.Verdicts.{ruled}
 use Rattle.dots_replies.specs.Receiving.{Lacks}
-use Rattle.dots_server.specs.Asking.{IsUnavailable, DecidesOn}
+use Rattle.dots_host.specs.declared.out.OwnedOut.TheVariants as owned
+use Rattle.coap_observe.specs.Seen.{Lists}
+use Rattle.dots_machine.specs.declared.watching.Watching.{Watching}
+use Rattle.dots_machine.specs.declared.watching.Watching.TheVariants as watching
+use Rattle.dots_machine.specs.Observing.{asked_by, unless_dismissed, watching_in, watching_of, by_message, observing}
+use Rattle.dots_machine.proofs.Observing.{received_watches, unavailable_leaves}
+use Rattle.dots_server.specs.Asking.{IsUnavailable, DecidesOn, DoesOn}
+use Rattle.dots_server.specs.Observing.{DoesDecided}
 
 module _ (settings : SettingsValue) (state : State) (peer : ℕ) (datagram : List ℕ) (known : is_stranger (role_of settings peer) ≡ false) where
   abbrev gateway : Bool
@@ -69,3 +76,34 @@ module _ (settings : SettingsValue) (state : State) (peer : ℕ) (datagram : Lis
         head = lacks.head;
         answer = is ∙ ap (λ x. verdict.Reply (unavailable x)) lacks.exchange_is;
       })
+
+  -- ---- with what becomes of the observers
+  pub does_decided : (got : Received) (watching : Watching) (v : Verdict) → IsReceived datagram gateway got → DoesOn settings state peer got watching v → DoesDecided settings state peer datagram watching v
+  does_decided got watching v is does = record {
+    decided = does.0;
+    decides = decided got does.0 is does.1;
+    asked = watching_of settings peer got;
+    watches = received_watches settings peer datagram got known is;
+    does = does.2;
+  }
+
+  pub lacking_decided : (x : Exchange) (reply : List ℕ) → Lacks datagram gateway x → reply ≡ unavailable x → DoesDecided settings state peer datagram watching.Nothing (verdict.Reply reply)
+  lacking_decided x reply lacks is = record {
+    decided = verdict.Reply reply;
+    decides = lacking x (verdict.Reply reply) lacks (ap verdict.Reply is);
+    asked = watching_in settings peer lacks.message;
+    watches = by_message known lacks.message lacks.is_message lacks.spelled refl;
+    does = record { verdict_is = refl; observers = λ lists. leaves lists };
+  }
+    where
+      y : Exchange
+      y = exchange_in lacks.message
+
+      asked : Watching
+      asked = asked_by settings peer y (head_of lacks.message gateway)
+
+      leaves : (lists : Lists) → observing settings lists peer (watching_in settings peer lacks.message) (verdict.Reply reply) (owned.To peer reply ∷ []) state.observers ≡ state.observers
+      leaves lists =
+          ap (λ d. observing settings lists peer (unless_dismissed d asked) (verdict.Reply reply) (owned.To peer reply ∷ []) state.observers) lacks.asks
+          ∙ ap (λ r. observing settings lists peer asked (verdict.Reply r) (owned.To peer r ∷ []) state.observers) (is ∙ ap unavailable lacks.exchange_is)
+          ∙ unavailable_leaves settings peer y lists y state.observers (head_of lacks.message gateway)

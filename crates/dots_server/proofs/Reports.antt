@@ -1,5 +1,5 @@
 -- The report of a server is the machine's.
-use Rattle.std.proofs.Common.{◌≡◌, ℕ, ◌+◌, List, [], ◌∷◌, ◌++◌, map, filter, flat_map, false, refl, ap, ◌∙◌}
+use Rattle.std.proofs.Common.{◌≡◌, ℕ, List, [], ◌++◌, map, filter, flat_map, false, refl, ap, ◌∙◌}
 use Rattle.dots_host.proofs.WriteLemmas.{owes_all}
 use Rattle.filter_rows.specs.declared.rows.ScrubRow.{ScrubRow}
 use Rattle.filter_rows.specs.declared.rows.AclRow.{AclRow}

@@ -21,11 +21,12 @@ use Rattle.dots_ledger.specs.LedgerValues as ledger
 use Rattle.dots_registry.specs.Limits.{ClientsKeepLimits}
 use Rattle.dots_registry.proofs.FittingEntries.{limits_later, limits_fitting}
 use Rattle.dots_machine.specs.Machine.{State, later, with_entry, Step}
+use Rattle.dots_notices.specs.declared.watch.Watch.{Watch}
 use Rattle.dots_server.specs.ServerValues.{ServerValue, ledger_of, Represents, RepresentsWith, IsKept, IsServing, IsAcceptable}
 
 -- ---- the time of the tables was moved
 
-module _ (at : ℕ) (old new : ServerValue) (early : at < 2 ^ 48) (same : new.settings ≡ old.settings) (sessions : new.sessions ≡ old.sessions) (journal : new.journal ≡ old.journal) (time : time_of new.registry ≡ max at (time_of old.registry))
+module _ (at : ℕ) (old new : ServerValue) (early : at < 2 ^ 48) (same : new.settings ≡ old.settings) (watch : new.watch ≡ old.watch) (journal : new.journal ≡ old.journal) (time : time_of new.registry ≡ max at (time_of old.registry))
     (goes : (settings : SettingsValue) (history entries : List Entry) → ledger.Represents (ledger_of old) settings history entries → ledger.Represents (ledger_of new) settings history entries) where
   with_later : (settings : SettingsValue) (state : State) (entries : List Entry) → RepresentsWith old settings state entries → RepresentsWith new settings (later state at) entries
   with_later settings state entries represents =
@@ -36,7 +37,8 @@ module _ (at : ℕ) (old new : ServerValue) (early : at < 2 ^ 48) (same : new.se
           is_of = tables.is_of;
           registry = tables.registry;
           time_is = time ∙ ap (max at) represents.represents.time_is;
-          contacts = sessions ∙ represents.represents.contacts;
+          observers = ap (λ (w : Watch). w.observers) watch ∙ represents.represents.observers;
+          contacts = ap (λ (w : Watch). w.sessions) watch ∙ represents.represents.contacts;
           early = omega (arith, early, young);
           own = represents.represents.own;
           bounded = represents.represents.bounded;
@@ -87,7 +89,7 @@ can_accept server entry serving can = record {
   joins = joins_there server server.settings serving.state entry serving.represents.represents can;
 }
 
-module _ (entry : Entry) (old new : ServerValue) (can : IsAcceptable old entry) (same : new.settings ≡ old.settings) (sessions : new.sessions ≡ old.sessions) (slots : new.journal.slots ≡ old.journal.slots) (time : time_of new.registry ≡ entry.time) where
+module _ (entry : Entry) (old new : ServerValue) (can : IsAcceptable old entry) (same : new.settings ≡ old.settings) (watch : new.watch ≡ old.watch) (slots : new.journal.slots ≡ old.journal.slots) (time : time_of new.registry ≡ entry.time) where
   -- it is in the tables and on the disk
   with_entry_kept : (settings : SettingsValue) (state : State) (entries few : List Entry) → RepresentsWith old settings state entries → ledger.Represents (ledger_of new) settings (state.history ++ entry ∷ []) few
       → RepresentsWith new settings (with_entry state entry) few
@@ -99,7 +101,8 @@ module _ (entry : Entry) (old new : ServerValue) (can : IsAcceptable old entry) 
           is_of = tables.is_of;
           registry = tables.registry;
           time_is = time ∙ at;
-          contacts = sessions ∙ represents.represents.contacts;
+          observers = ap (λ (w : Watch). w.observers) watch ∙ represents.represents.observers;
+          contacts = ap (λ (w : Watch). w.sessions) watch ∙ represents.represents.contacts;
           early = represents.represents.early;
           own = own_with settings old state entry represents.represents can;
           bounded = list_with within_bounds state.history entry represents.represents.bounded fits.0;
@@ -127,9 +130,9 @@ module _ (entry : Entry) (old new : ServerValue) (can : IsAcceptable old entry) 
   }
 
 -- the disk failed, and the tables are as they were
-pub lives_still : (old new : ServerValue) (few : List Entry) (serving : IsServing old) → new.settings ≡ old.settings → new.sessions ≡ old.sessions → new.journal.slots ≡ old.journal.slots → time_of new.registry ≡ time_of old.registry
+pub lives_still : (old new : ServerValue) (few : List Entry) (serving : IsServing old) → new.settings ≡ old.settings → new.watch ≡ old.watch → new.journal.slots ≡ old.journal.slots → time_of new.registry ≡ time_of old.registry
     → ledger.Represents (ledger_of new) old.settings serving.state.history few → IsServing new
-lives_still old new few serving same sessions slots time tables =
+lives_still old new few serving same watch slots time tables =
     let represents = serving.represents in record {
       state = serving.state;
       entries = few;
@@ -139,7 +142,8 @@ lives_still old new few serving same sessions slots time tables =
           is_of = tables.is_of;
           registry = tables.registry;
           time_is = time ∙ represents.represents.time_is;
-          contacts = sessions ∙ represents.represents.contacts;
+          observers = ap (λ (w : Watch). w.observers) watch ∙ represents.represents.observers;
+          contacts = ap (λ (w : Watch). w.sessions) watch ∙ represents.represents.contacts;
           early = represents.represents.early;
           own = represents.represents.own;
           bounded = represents.represents.bounded;
@@ -152,9 +156,9 @@ lives_still old new few serving same sessions slots time tables =
 
 abbrev pub MovesAlone : What → Type 0
 MovesAlone what =
-    ((c : ℕ) × (p : ℕ) × (what ≡ what_is.Opened c p)) ⊎ ((c : ℕ) × (n : ℕ) × (what ≡ what_is.Piece c n)) ⊎ ((c : ℕ) × (what ≡ what_is.Closed c))
+    ((c : ℕ) × (p : ℕ) × (what ≡ what_is.Opened c p)) ⊎ ((c : ℕ) × (what ≡ what_is.Closed c))
 
--- an event that isn't served yet moves the time and no more
+-- a connection that opens or closes moves the time and no more
 pub moves_alone : (settings : SettingsValue) (what : What) (room : List ℕ) (at : ℕ) (state : State) → MovesAlone what → Step settings state (event_of what room) at [] (later state at)
 moves_alone settings what room at state is = by_case is
   where
@@ -163,5 +167,4 @@ moves_alone settings what room at state is = by_case is
 
     by_case : MovesAlone what → Step settings state (event_of what room) at [] (later state at)
     by_case (inl (c, p, e)) = so (what_is.Opened c p) e (refl, refl)
-    by_case (inr (inl (c, n, e))) = so (what_is.Piece c n) e (refl, refl)
-    by_case (inr (inr (c, e))) = so (what_is.Closed c) e (refl, refl)
+    by_case (inr (c, e)) = so (what_is.Closed c) e (refl, refl)

@@ -1,5 +1,5 @@
 -- Who is heard, what is configured, and what heartbeats go by.
-use Rattle.std.proofs.Common.{◌≡◌, ◌⊎◌, inl, inr, ℕ, ◌≤◌, ◌<◌, ◌^◌, Bool, true, false, List, [], ◌∷◌, if◌then◌else◌, option_map, option_and_then, Bor, length, map, Option, Some, None, Result, Ok, Err, refl, sym, ap, ◌∙◌, subst, arith}
+use Rattle.std.proofs.Common.{◌≡◌, ◌⊎◌, inl, inr, ℕ, ◌≤◌, ◌<◌, ◌^◌, Bool, true, false, List, [], ◌∷◌, if◌then◌else◌, option_map, option_and_then, Bor, length, Option, Some, None, Result, Ok, Err, refl, sym, ap, ◌∙◌, subst, arith}
 use Rattle.std.specs.List.{list_any, list_all}
 use Rattle.std.specs.Prelude.{◌==◌, ◌||◌, not, nat_lt, nat_le}
 use Rattle.std.proofs.lemmas.Bool.{false≢true, or_parts, or_cases, and_parts, and_from, cond-true, cond-false, eq-eqb, eqb-true, leb-true, lt-ltb}
@@ -14,12 +14,10 @@ use Rattle.dots_history.specs.declared.entry.Entry.{Entry}
 use Rattle.dots_history.specs.declared.change.Change.{Change}
 use Rattle.dots_history.specs.Bounds.{values_within, change_within}
 use Rattle.dots_history.specs.Entries.{same_client, is_configuration}
-use Rattle.dots_history.specs.Histories.{Mitigation, held, alone, mitigations}
+use Rattle.dots_history.specs.Histories.{Mitigation, held, mitigations}
 use Rattle.dots_laws.specs.Calm.{may_configure, is_own}
 use Rattle.dots_laws.specs.Fits.{is_of_mitigations}
 use Rattle.dots_laws.specs.Held.{config_of}
-use Rattle.dots_laws.specs.HistoryReading.{is_mitigated}
-use Rattle.coap_message.specs.Message.{IsMessage, spelling}
 use Rattle.session_core.specs.declared.contact.PeerContact.{PeerContact}
 use Rattle.session_core.specs.Contacts.{is_of, with_row, heard_from, row_heard}
 use Rattle.session_core.specs.declared.setting.Setting.{Setting}
@@ -38,10 +36,9 @@ use Rattle.dots_registry.specs.Limits.{ClientsKeepLimits}
 use Rattle.dots_registry.proofs.Configured.{own_configured, bounded_configured, fits_configured, configured_alone}
 use Rattle.dots_machine.specs.declared.exchange.Exchange.{Exchange}
 use Rattle.dots_machine.specs.declared.received.Received.{Received}
-use Rattle.dots_machine.specs.declared.received.Received.TheVariants as received
 use Rattle.dots_settings.specs.Lookups.{no_domain}
 use Rattle.dots_machine.specs.Exchanges.{exchange_in}
-use Rattle.dots_machine.specs.Domains.{session_domain}
+use Rattle.dots_machine.specs.Domains.{session_domain, is_stranger}
 use Rattle.dots_machine.specs.Requests.{IsReceived, received_as, unread, asks_nothing, meant}
 use Rattle.held_resources.specs.Tables.{config_now}
 use Rattle.dots_machine.specs.Replies.{configuration_reply, absent}
@@ -49,7 +46,7 @@ use Rattle.dots_machine.specs.Deciding.{session_entry, config_view}
 use Rattle.dots_machine.specs.Sessions.{Configured, sid_of, is_held, configured_in, configured_by, beating_at}
 use Rattle.dots_machine.specs.Verdict.{Verdict}
 use Rattle.dots_machine.specs.declared.verdict.Verdict.TheVariants as verdict
-use Rattle.dots_machine.specs.Machine.{State, is_stranger, Hears, by_message, unreadable, by_stranger, hearing, beating}
+use Rattle.dots_machine.specs.Machine.{State, Hears, by_message, unreadable, hearing, beating}
 use Rattle.dots_replies.specs.Receiving.{Lacks}
 use Rattle.dots_server.specs.ServerValues.{ServerValue, Represents, RepresentsWith, IsKept, IsServing, IsAcceptable, CanCarryOut}
 use Rattle.dots_server.specs.Sessions.{is_heard, is_wanted, met, SaysBeat, beaten}
@@ -88,10 +85,10 @@ hears_by given settings same state peer datagram new is = subst (λ s. Hears s s
 
 module _ (heard : Bool) (peer : ℕ) (old : ServerValue) where
   abbrev pub heard_sessions : List PeerContact
-  heard_sessions = if heard then heard_from peer (time_of old.registry) old.sessions else old.sessions
+  heard_sessions = if heard then heard_from peer (time_of old.registry) old.watch.sessions else old.watch.sessions
 
   abbrev pub with_heard : ServerValue
-  with_heard = record old { sessions = heard_sessions }
+  with_heard = record old { watch = record old.watch { sessions = heard_sessions } }
 
   with_met : (settings : SettingsValue) (state : State) (entries : List Entry) → RepresentsWith old settings state entries → RepresentsWith with_heard settings (met heard peer state) entries
   with_met settings state entries represents =
@@ -101,7 +98,8 @@ module _ (heard : Bool) (peer : ℕ) (old : ServerValue) where
           is_of = of.is_of;
           registry = of.registry;
           time_is = of.time_is;
-          contacts = ap (λ t. if heard then heard_from peer t old.sessions else old.sessions) of.time_is
+          observers = of.observers;
+          contacts = ap (λ t. if heard then heard_from peer t old.watch.sessions else old.watch.sessions) of.time_is
               ∙ ap (λ rows. if heard then heard_from peer state.time rows else rows) of.contacts;
           early = of.early;
           own = of.own;
@@ -123,21 +121,23 @@ module _ (heard : Bool) (peer : ℕ) (old : ServerValue) where
   }
 
 -- a peer that isn't heard, or has no row, leaves the server as it is
-pub not_heard : (heard : Bool) (peer : ℕ) (server : ServerValue) → (heard ≡ true → list_any (is_of peer) server.sessions ≡ false) → server ≡ with_heard heard peer server
+pub not_heard : (heard : Bool) (peer : ℕ) (server : ServerValue) → (heard ≡ true → list_any (is_of peer) server.watch.sessions ≡ false) → server ≡ with_heard heard peer server
 not_heard false peer server none = refl
-not_heard true peer server none = ap (λ rows. record server { sessions = rows }) (sym (none_heard peer (time_of server.registry) server.sessions (none refl)))
+not_heard true peer server none =
+    ap (λ rows. record server { watch = record server.watch { sessions = rows } }) (sym (none_heard peer (time_of server.registry) server.watch.sessions (none refl)))
 
 -- what is acceptable is so whatever the sessions are
 module _ (server : ServerValue) (sessions : List PeerContact) where
   abbrev other : ServerValue
-  other = record server { sessions = sessions }
+  other = record server { watch = record server.watch { sessions = sessions } }
 
-  same_tables : (settings : SettingsValue) (state : State) → Represents other settings state → Represents server settings (record state { contacts = server.sessions })
+  same_tables : (settings : SettingsValue) (state : State) → Represents other settings state → Represents server settings (record state { contacts = server.watch.sessions })
   same_tables settings state is = record {
     settings_are = is.settings_are;
     is_of = is.is_of;
     registry = is.registry;
     time_is = is.time_is;
+    observers = is.observers;
     contacts = refl;
     early = is.early;
     own = is.own;
@@ -148,15 +148,16 @@ module _ (server : ServerValue) (sessions : List PeerContact) where
   acceptable_still : (entry : Entry) → IsAcceptable server entry → IsAcceptable other entry
   acceptable_still entry can = record {
     now = can.now;
-    fits = λ settings state is. can.fits settings (record state { contacts = server.sessions }) (same_tables settings state is);
-    own = λ settings state is. can.own settings (record state { contacts = server.sessions }) (same_tables settings state is);
-    one_peer = λ settings state is. can.one_peer settings (record state { contacts = server.sessions }) (same_tables settings state is);
+    fits = λ settings state is. can.fits settings (record state { contacts = server.watch.sessions }) (same_tables settings state is);
+    own = λ settings state is. can.own settings (record state { contacts = server.watch.sessions }) (same_tables settings state is);
+    one_peer = λ settings state is. can.one_peer settings (record state { contacts = server.watch.sessions }) (same_tables settings state is);
   }
 
   pub carried_still : (v : Verdict) → CanCarryOut v server → CanCarryOut v other
   carried_still verdict.Silent can = tt
   carried_still (verdict.Reply reply) can = tt
   carried_still (verdict.LongReply reply) can = tt
+  carried_still (verdict.Shows x body) can = can
   carried_still (verdict.Accept reply entry) can = acceptable_still entry can
 
 -- ---- what a peer has configured
@@ -268,9 +269,9 @@ agrees server settings state represents peer beat says =
 
 -- the sessions that are lost were forgotten, and the heartbeats that were due were sent
 module _ (old : ServerValue) (now : ℕ) (rows : List PeerContact) (time_is : now ≡ time_of old.registry)
-    (left : (by : Beating) → Agrees (SaysBeat old.settings old.registry) by → rows ≡ after_beats by now old.sessions) where
+    (left : (by : Beating) → Agrees (SaysBeat old.settings old.registry) by → rows ≡ after_beats by now old.watch.sessions) where
   abbrev with_rows : ServerValue
-  with_rows = record old { sessions = rows }
+  with_rows = record old { watch = record old.watch { sessions = rows } }
 
   with_beaten : (settings : SettingsValue) (state : State) (entries : List Entry) → RepresentsWith old settings state entries → RepresentsWith with_rows settings (beaten settings state) entries
   with_beaten settings state entries represents =
@@ -280,8 +281,9 @@ module _ (old : ServerValue) (now : ℕ) (rows : List PeerContact) (time_is : no
           is_of = of.is_of;
           registry = of.registry;
           time_is = of.time_is;
+          observers = of.observers;
           contacts = left (beating settings state) (agrees old settings state of)
-              ∙ ap (λ t. after_beats (beating settings state) t old.sessions) (time_is ∙ of.time_is)
+              ∙ ap (λ t. after_beats (beating settings state) t old.watch.sessions) (time_is ∙ of.time_is)
               ∙ ap (after_beats (beating settings state) state.time) of.contacts;
           early = of.early;
           own = of.own;

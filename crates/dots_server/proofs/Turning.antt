@@ -1,9 +1,9 @@
 -- What an event does to the disk and to the wire, part by part.
-use Rattle.std.proofs.Common.{◌≡◌, ℕ, Bool, inl, inr, List, [], ◌∷◌, ◌++◌, Option, Some, None, refl, sym, ◌∙◌, subst, append-nil}
+use Rattle.std.proofs.Common.{◌≡◌, ℕ, inl, inr, List, [], ◌∷◌, ◌++◌, Option, Some, None, refl, sym, ◌∙◌, subst, append-nil}
 use Rattle.dots_host.specs.declared.out.OwnedOut.{OwnedOut}
 use Rattle.dots_host.specs.Acts.{Timed}
 use Rattle.dots_host.specs.Runs.{Added, Gives}
-use Rattle.dots_host.proofs.RunLemmas.{added_none, added_then}
+use Rattle.dots_host.proofs.RunLemmas.{added_none, added_weaker, added_then}
 use Rattle.dots_disk.specs.Media.{Media}
 use Rattle.dots_disk.specs.Becoming.{Leaves, KeepsMedia, IsMoment}
 use Rattle.dots_disk.specs.Beside.{KeepsActs}
@@ -12,11 +12,10 @@ use Rattle.dots_settings.specs.Settings.{SettingsValue}
 use Rattle.dots_history.specs.declared.entry.Entry.{Entry}
 use Rattle.slot_journal.specs.Kept.{HoldsKept}
 use Rattle.dots_ledger.specs.Crashes.{HoldsEither}
-use Rattle.dots_machine.specs.Verdict.{Verdict}
-use Rattle.dots_machine.specs.declared.verdict.Verdict.TheVariants as verdict
-use Rattle.dots_machine.specs.Machine.{State, later, with_entry, Decides}
-use Rattle.dots_server.specs.Sessions.{met}
-use Rattle.dots_server.specs.Turning.{HoldsTurn, Turned, Broke}
+use Rattle.dots_machine.specs.Machine.{State, with_entry}
+use Rattle.dots_notices.specs.Notifying.{SentTo}
+use Rattle.dots_notices.proofs.Sends.{sent_then, sent_none, keeps_then}
+use Rattle.dots_server.specs.Turning.{HoldsTurn, Turned, TurnedTo, Broke}
 
 -- where nothing was written the disk is as it was, at each moment of none
 pub keeps_itself : (media : Option Media) → KeepsMedia media media
@@ -33,6 +32,19 @@ pub added_behind : (a b c : Option (List Timed)) (P : List Timed → Type 0) →
 added_behind a b c P keeps added = added_then a b c (λ more. more ≡ []) P P (none_added a b keeps) added (λ front back none p. subst (λ f. P (f ++ back)) (sym none) p)
 
 module _ (settings : SettingsValue) (old new : State) (outs : List OwnedOut) (Before : (ℕ → ℕ) → Type 0) (media media_new : Option Media) (moment : ℕ) (acts acts_new : Option (List Timed)) where
+  -- nothing is written, and the sends end at this moment
+  pub unwritten_to : (last : ℕ) → IsMoment moment media → Added acts acts_new (SentTo moment last outs) → KeepsMedia media media_new
+      → TurnedTo last settings old new outs Before Before media media_new acts acts_new
+  unwritten_to last at gives sends = record {
+    between = media;
+    moment = moment;
+    is_moment = at;
+    gives = gives;
+    writes = λ rests. begins media (HoldsTurn settings old new);
+    rests = λ rests. rests;
+    sends = sends;
+  }
+
   -- nothing is written
   pub unwritten : IsMoment moment media → Added acts acts_new (Gives moment outs) → KeepsMedia media media_new → Turned settings old new outs Before Before media media_new acts acts_new
   unwritten at gives sends = record {
@@ -50,10 +62,31 @@ pub silent : (settings : SettingsValue) (old new : State) (Before : (ℕ → ℕ
     → Turned settings old new [] Before Before media media acts acts
 silent settings old new Before media moment acts at = unwritten settings old new [] Before media media moment acts acts at (added_none acts (Gives moment []) tt) (keeps_itself media)
 
--- what is decided accepts this entry
-pub accepted_so : (settings : SettingsValue) (state : State) (peer : ℕ) (datagram : List ℕ) (decided : Verdict) (reply : List ℕ) (entry : Entry) → decided ≡ verdict.Accept reply entry
-    → Decides settings state peer datagram decided → Decides settings state peer datagram (verdict.Accept reply entry)
-accepted_so settings state peer datagram decided reply entry is decides = subst (λ v. Decides settings state peer datagram v) is decides
+pub silent_to : (settings : SettingsValue) (old new : State) (Before : (ℕ → ℕ) → Type 0) (media : Option Media) (moment : ℕ) (acts : Option (List Timed)) → IsMoment moment media
+    → TurnedTo moment settings old new [] Before Before media media acts acts
+silent_to settings old new Before media moment acts at =
+    unwritten_to settings old new [] Before media media moment acts acts moment at (sent_none acts moment) (keeps_itself media)
+
+-- more was sent behind the sends of a turn, which made this of the observers
+pub told_behind : (settings : SettingsValue) (old left new : State) (outs more : List OwnedOut) (Before After : (ℕ → ℕ) → Type 0) (media there media_new : Option Media) (first last : ℕ) (acts told acts_new : Option (List Timed))
+    → TurnedTo first settings old left outs Before After media there acts told → new.history ≡ left.history → new.time ≡ left.time
+    → Added told acts_new (SentTo first last more) → KeepsMedia there media_new → Turned settings old new (outs ++ more) Before After media media_new acts acts_new
+told_behind settings old left new outs more Before After media there media_new first last acts told acts_new turned history time sent keeps = record {
+  between = turned.between;
+  moment = turned.moment;
+  is_moment = turned.is_moment;
+  gives = added_weaker acts acts_new (SentTo turned.moment last (outs ++ more)) (Gives turned.moment (outs ++ more)) (sent_then acts told acts_new turned.moment first last outs more turned.gives sent)
+      (λ acts is. is.0);
+  writes = λ rests. leaves_as media turned.between (HoldsTurn settings old left) (HoldsTurn settings old new) (λ image holds. same_turn image holds) (turned.writes rests);
+  rests = turned.rests;
+  sends = keeps_then turned.between there media_new turned.sends keeps;
+}
+  where
+    same_turn : (image : ℕ → ℕ) → HoldsTurn settings old left image → HoldsTurn settings old new image
+    same_turn image (inl holds) = inl (subst (λ t. HoldsKept settings settings.limits.remembered t old.history image) (sym time) holds)
+    same_turn image (inr holds) =
+        inr (subst (λ t. HoldsKept settings settings.limits.remembered t new.history image) (sym time)
+        (subst (λ es. HoldsKept settings settings.limits.remembered left.time es image) (sym history) holds))
 
 -- what a ledger leaves while it accepts an entry at the time of the state
 pub accepting : (settings : SettingsValue) (n t : ℕ) (state : State) (entry : Entry) (old new : Option Media) → n ≡ settings.limits.remembered → t ≡ state.time → entry.time ≡ state.time
@@ -67,19 +100,27 @@ accepting settings n t state entry old new same at now =
     by_image image (inr holds) =
         inr (subst (λ k. HoldsKept settings k state.time (state.history ++ entry ∷ []) image) same (subst (λ u. HoldsKept settings n u (state.history ++ entry ∷ []) image) now holds))
 
--- the history is the same before and after the time was moved and the peer was met
-module _ (settings : SettingsValue) (state new : State) (at : ℕ) (heard : Bool) (peer : ℕ) (Before : (ℕ → ℕ) → Type 0) (media media_new : Option Media) (acts acts_new : Option (List Timed)) where
-  pub turned_from : (outs : List OwnedOut) (After : (ℕ → ℕ) → Type 0) → Turned settings (met heard peer (later state at)) new outs Before After media media_new acts acts_new
-      → Turned settings state new outs Before After media media_new acts acts_new
+-- from another state with the same history
+module _ (settings : SettingsValue) (from old new : State) (same : from.history ≡ old.history) (Before : (ℕ → ℕ) → Type 0) (media media_new : Option Media) (acts acts_new : Option (List Timed)) where
+  same_start : (image : ℕ → ℕ) → HoldsTurn settings from new image → HoldsTurn settings old new image
+  same_start image (inl holds) = inl (subst (λ es. HoldsKept settings settings.limits.remembered new.time es image) same holds)
+  same_start image (inr holds) = inr holds
+
+  pub turned_from : (outs : List OwnedOut) (After : (ℕ → ℕ) → Type 0) → Turned settings from new outs Before After media media_new acts acts_new
+      → Turned settings old new outs Before After media media_new acts acts_new
   turned_from outs After turned = record {
     between = turned.between;
     moment = turned.moment;
     is_moment = turned.is_moment;
     gives = turned.gives;
-    writes = turned.writes;
+    writes = λ rests. leaves_as media turned.between (HoldsTurn settings from new) (HoldsTurn settings old new) same_start (turned.writes rests);
     rests = turned.rests;
     sends = turned.sends;
   }
 
-  pub broke_from : Broke settings (met heard peer (later state at)) new Before media media_new acts acts_new → Broke settings state new Before media media_new acts acts_new
-  broke_from broke = record { silent = broke.silent; writes = broke.writes; own = broke.own }
+  pub broke_from : Broke settings from new Before media media_new acts acts_new → Broke settings old new Before media media_new acts acts_new
+  broke_from broke = record {
+    silent = broke.silent;
+    writes = λ rests. leaves_as media media_new (HoldsTurn settings from new) (HoldsTurn settings old new) same_start (broke.writes rests);
+    own = broke.own;
+  }

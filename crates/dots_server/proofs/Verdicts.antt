@@ -24,12 +24,12 @@ use Rattle.dots_machine.specs.declared.exchange.Exchange.{Exchange}
 use Rattle.dots_machine.specs.declared.mitigation_request.MitigationRequest.{MitigationRequest}
 use Rattle.dots_machine.specs.Verdict.{Verdict}
 use Rattle.dots_machine.specs.declared.verdict.Verdict.TheVariants as verdict
-use Rattle.dots_machine.specs.Domains.{is_gateway, session_domain}
+use Rattle.dots_machine.specs.Domains.{is_gateway, session_domain, is_stranger}
 use Rattle.target_rules.specs.Targets.{scope_fault}
 use Rattle.dots_machine.specs.Replies.{bad_target}
-use Rattle.dots_machine.specs.MessageRepeats.{Sent, sent_for, unless_repeated}
+use Rattle.dots_machine.specs.MessageRepeats.{Sent, unless_repeated}
 use Rattle.dots_machine.specs.Mitigations.{sent_by, request_of, judged, unless_faulty, put_answer}
-use Rattle.dots_machine.specs.Machine.{State, is_stranger, facts_in}
+use Rattle.dots_machine.specs.Machine.{State, facts_in}
 use Rattle.dots_machine.specs.Deciding.{in_domain}
 use Rattle.dots_server.specs.Asking.{role_with}
 use Rattle.dots_server.specs.ServerValues.{ServerValue, Represents, IsServing}

@@ -9,6 +9,9 @@ use Rattle.dots_machine.specs.Verdict.{Verdict}
 use Rattle.dots_machine.specs.declared.verdict.Verdict.TheVariants as verdict
 use Rattle.dots_settings.specs.Lookups.{role_of}
 use Rattle.dots_machine.specs.Replies.{unavailable}
+use Rattle.dots_machine.specs.declared.watching.Watching.{Watching}
+use Rattle.dots_machine.specs.Observing.{watching_of}
+use Rattle.dots_server.specs.Observing.{Does}
 use Rattle.dots_machine.specs.Machine.{State, facts_in, rules_say}
 
 -- a client has a domain of its own, and a gateway none
@@ -34,3 +37,8 @@ IsUnavailable _ decided = ⊥
 -- what the rules say of it, or 5.00 to a request for want of memory
 abbrev pub DecidesOn : SettingsValue → State → ℕ → Received → Verdict → Type 0
 DecidesOn settings state peer got decided = (decided ≡ rules_say settings (facts_in settings state) peer got) ⊎ IsUnavailable got decided
+
+-- what is to be done on it, for observers too
+abbrev pub DoesOn : SettingsValue → State → ℕ → Received → Watching → Verdict → Type 0
+DoesOn settings state peer got watching verdict =
+    (decided : Verdict) × DecidesOn settings state peer got decided × Does settings peer state.observers (watching_of settings peer got) decided watching verdict

@@ -4,5 +4,7 @@ pub mod Running
 pub mod Taking
 pub mod ServerValues
 pub mod Turning
+pub mod Observing
+pub mod Reading
 pub mod Asking
 pub mod Sessions

@@ -1,4 +1,5 @@
--- What a server keeps: the settings, a registry of what the history comes to, the journal in which its entries are, and the sessions with its peers.
+-- What a server keeps: the settings, a registry of what the history comes to, the journal in which its entries are, the observers and the sessions
+-- with its peers.
 use Rattle.std.specs.Prelude.{◌≡◌, ℕ, ◌<◌, ◌^◌, true, List, ⊤}
 use Rattle.std.specs.List.{list_all}
 use Rattle.dots_settings.specs.Settings.{SettingsValue}
@@ -15,7 +16,10 @@ use Rattle.slot_journal.specs.Sizes.{slots_of}
 use Rattle.dots_ledger.specs.LedgerValues.{LedgerValue}
 use Rattle.dots_ledger.specs.LedgerValues as ledger
 use Rattle.dots_registry.specs.Limits.{ClientsKeepLimits}
-use Rattle.session_core.specs.declared.contact.PeerContact.{PeerContact}
+use Rattle.coap_exchange.specs.Pairs.{pairs_of}
+use Rattle.coap_observe.specs.Observed.{ObservedValue}
+use Rattle.coap_observe.specs.Observing.{ObserversValue}
+use Rattle.dots_notices.specs.declared.watch.Watch.{Watch}
 use Rattle.dots_machine.specs.Verdict.{Verdict}
 use Rattle.dots_machine.specs.declared.verdict.Verdict.TheVariants as verdict
 use Rattle.dots_machine.specs.Machine.{State}
@@ -24,19 +28,24 @@ pub record ServerValue : Type 0 where
   pub settings : SettingsValue
   pub registry : RegistryValue
   pub journal : JournalValue
-  pub sessions : List PeerContact
+  pub watch : Watch
+
+-- the observers, with the room that the settings say
+abbrev pub observers_of : SettingsValue → List ObservedValue → ObserversValue
+observers_of settings observed = record { room = settings.limits.observers; pairs = pairs_of settings; observed = observed }
 
 abbrev pub ledger_of : ServerValue → LedgerValue
 ledger_of server = record { registry = server.registry; journal = server.journal }
 
 -- A server represents a state: its registry is of the settings, and represents the history at the state's time, which is below
--- 2^48; its sessions are those of the state; and the entries are the settings' own and within bounds, and the clients keep the limits.
+-- 2^48; its observers and its sessions are those of the state; and the entries are the settings' own and within bounds, and the clients keep the limits.
 pub record Represents (server : ServerValue) (settings : SettingsValue) (state : State) : Type 0 where
   pub settings_are : server.settings ≡ settings
   pub is_of : IsOf settings server.registry
   pub registry : registry.Represents server.registry state.history
   pub time_is : time_of server.registry ≡ state.time
-  pub contacts : server.sessions ≡ state.contacts
+  pub observers : server.watch.observers ≡ observers_of settings state.observers
+  pub contacts : server.watch.sessions ≡ state.contacts
   pub early : state.time < 2 ^ 48
   pub own : list_all (is_own settings) state.history ≡ true
   pub bounded : list_all within_bounds state.history ≡ true
@@ -70,6 +79,8 @@ pub record IsAcceptable (server : ServerValue) (entry : Entry) : Type 0 where
 abbrev pub IsAccepted : Verdict → Type 0
 IsAccepted decided = (reply : List ℕ) × (entry : Entry) × (decided ≡ verdict.Accept reply entry)
 
+-- What shows mitigations is a message before it is carried out.
 abbrev pub CanCarryOut : Verdict → ServerValue → Type 0
 CanCarryOut (verdict.Accept reply entry) server = IsAcceptable server entry
+CanCarryOut (verdict.Shows exchange body) server = ⊥
 CanCarryOut _ server = ⊤

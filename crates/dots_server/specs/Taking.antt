@@ -6,9 +6,11 @@ use Rattle.dots_host.specs.Runs.{Turn, owed_in}
 use Rattle.dots_disk.specs.Media.{Media}
 use Rattle.dots_settings.specs.Settings.{SettingsValue}
 use Rattle.dots_history.specs.declared.entry.Entry.{Entry}
-use Rattle.dots_machine.specs.Machine.{State, Step, StepInto}
+use Rattle.dots_host.specs.declared.out.OwnedOut.{OwnedOut}
+use Rattle.dots_machine.specs.declared.verdict.Verdict.TheVariants as verdict
+use Rattle.dots_machine.specs.Machine.{State, Step, StepInto, Answers, Decides, Hears, with_entry}
 use Rattle.dots_server.specs.ServerValues.{ServerValue, IsKept}
-use Rattle.dots_server.specs.Turning.{Broke, Stored, LiesOn, Grows, last_left, Chained}
+use Rattle.dots_server.specs.Turning.{Turned, Broke, Stored, LiesOn, Grows, last_left, Chained}
 
 abbrev pub stored_of : ServerValue → List Entry → Stored
 stored_of server entries = record { journal = server.journal; entries = entries }
@@ -34,3 +36,23 @@ pub record BrokeOff (settings : SettingsValue) (state : State) (came : Event) (a
   pub chained : Chained settings last.left.time state (stored_of server entries) turns stored media there acts told
   pub grows : Grows (last_left state turns).history last.left.history
   pub broke : Broke settings (last_left state turns) last.left (LiesOn settings stored) there media_now told acts_now
+
+-- A datagram was answered, the observers that were due were told, and what that led to is kept.
+pub record Answered (settings : SettingsValue) (state : State) (peer : ℕ) (datagram : List ℕ) (old now : ServerValue) (entries : List Entry) (media media_now : Option Media) (acts acts_now : Option (List Timed)) : Type 0 where
+  pub sends : List OwnedOut
+  pub new : State
+  pub few : List Entry
+  pub answers : Answers settings state peer datagram sends new
+  pub kept : IsKept now settings new few
+  pub turned : Turned settings state new sends (LiesOn settings (stored_of old entries)) (LiesOn settings (stored_of now few)) media media_now acts acts_now
+  pub grows : Grows state.history new.history
+
+-- The disk failed while an entry was written that a datagram asks for.
+pub record Failing (settings : SettingsValue) (state : State) (peer : ℕ) (datagram : List ℕ) (server : ServerValue) (entries : List Entry) (media media_now : Option Media) (acts acts_now : Option (List Timed)) : Type 0 where
+  pub reply : List ℕ
+  pub entry : Entry
+  pub decides : Decides settings state peer datagram (verdict.Accept reply entry)
+  pub met : State
+  pub hears : Hears settings state peer datagram met
+  pub broke : Broke settings state (with_entry met entry) (LiesOn settings (stored_of server entries)) media media_now acts acts_now
+  pub grows : Grows state.history (with_entry met entry).history

@@ -17,6 +17,7 @@ use Rattle.dots_laws.specs.Fits.{is_calm, last_time}
 use Rattle.slot_store.specs.StoreValues.{JournalValue}
 use Rattle.slot_journal.specs.DiskEntries as journal
 use Rattle.slot_journal.specs.Kept.{HoldsKept}
+use Rattle.dots_notices.specs.Notifying.{SentTo}
 use Rattle.dots_machine.specs.Machine.{State}
 
 -- an event that a server takes: neither the end nor a failure of the host, nor a restart, at which a server begins anew
@@ -39,6 +40,16 @@ pub record Turned (settings : SettingsValue) (old new : State) (outs : List Owne
   pub moment : ℕ
   pub is_moment : IsMoment moment between
   pub gives : Added acts acts_new (Gives moment outs)
+  pub writes : RestsWith media before → Leaves media between (HoldsTurn settings old new)
+  pub rests : RestsWith media before → RestsWith between after
+  pub sends : KeepsMedia between media_new
+
+-- The same, where the last of the sends was given up to this moment.
+pub record TurnedTo (last : ℕ) (settings : SettingsValue) (old new : State) (outs : List OwnedOut) (before after : (ℕ → ℕ) → Type 0) (media media_new : Option Media) (acts acts_new : Option (List Timed)) : Type 0 where
+  pub between : Option Media
+  pub moment : ℕ
+  pub is_moment : IsMoment moment between
+  pub gives : Added acts acts_new (SentTo moment last outs)
   pub writes : RestsWith media before → Leaves media between (HoldsTurn settings old new)
   pub rests : RestsWith media before → RestsWith between after
   pub sends : KeepsMedia between media_new

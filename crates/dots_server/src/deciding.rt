@@ -1,48 +1,69 @@
 //! What a server decides on a datagram.
 
-ghost use Rattle.std.specs.Prelude.{◌≡◌, ◌<◌, length, true, IfOk, IfSome, IfNone, Some, None};
+ghost use Rattle.std.specs.Prelude.{◌≡◌, ◌<◌, length, true, IfOk, IfSome, IfNone, Some, None, Ok};
 ghost use Rattle.dots_keys.specs.Askable.{IsAskable, IsAskableBody};
 ghost use Rattle.dots_settings.specs.Settings.{SettingsValue};
 ghost use Rattle.dots_settings.specs.Lookups.{role_of};
 ghost use Rattle.dots_laws.specs.Calm.{may_act};
-ghost use Rattle.dots_machine.specs.Machine.{State, reject_verdict, dismissal_verdict, Decides, Hears, facts_in};
+ghost use Rattle.dots_machine.specs.Machine.{State, reject_verdict, dismissal_verdict, Hears, facts_in};
+ghost use Rattle.dots_machine.specs.Observing.{in_known, asked_in, watching_of};
+ghost use Rattle.dots_machine.specs.Mitigations.{get_answer};
+ghost use Rattle.dots_machine.specs.declared.received.Received.TheVariants as received;
+ghost use Rattle.dots_machine.specs.declared.watching.Watching.TheVariants as watchings;
+ghost use Rattle.dots_machine.specs.declared.verdict.Verdict.TheVariants as verdicts;
+ghost use Rattle.dots_server.specs.Observing.{asked_from, leaving, rejecting, Does, DoesDecided, MayObserve};
 ghost use Rattle.dots_machine.specs.Domains.{domain_for};
 ghost use Rattle.dots_machine.specs.Deciding.{in_domain, with_mid, put_in, put_for, delete_in, delete_for, get_for, answer_to};
-ghost use Rattle.dots_server.specs.Asking.{IsOwn, domain_asked, DecidesOn};
+ghost use Rattle.dots_server.specs.Asking.{IsOwn, domain_asked, DoesOn};
 ghost use Rattle.dots_replies.specs.Receiving.{IsGrantable};
 ghost use Rattle.dots_server.specs.ServerValues.{Represents, CanCarryOut};
 ghost use Rattle.dots_server.specs.Sessions.{is_heard, met};
 
+use crate::mitigations::Reading;
 use crate::server::Server;
 use crate::verdict::Verdict;
 use coap_message::Kind;
-use dots_heads::{Content, MitigationPath, Reject};
+use coap_observe::Observer;
+use dots_heads::{Content, MitigationPath, Observe, Reject};
 use dots_keys::{MitigationBody, Request};
-use dots_lists::{Name, NoMemory};
-use dots_machine::{ClientRequest, Dismissal, Exchange, MitigationRequest, Received};
-use dots_replies::{bad_parameter, heartbeat_reply, receive, rejection, reset, unavailable};
+use dots_lists::{Bytes, Name, NoMemory};
+use dots_machine::{ClientRequest, Dismissal, Exchange, MitigationRequest, Received, Watching};
+use dots_replies::{
+    bad_parameter, heartbeat_reply, receive, rejection, reset, showing, unavailable,
+};
 use dots_settings::Role;
+
+/// What is to be done.
+#[derive(Drop)]
+pub(crate) struct Outcome {
+    /// What becomes of the observers.
+    pub watching: Watching,
+    /// What is sent, and what is accepted.
+    pub verdict: Verdict,
+}
 
 /// What is decided on a datagram.
 #[derive(Drop)]
 pub(crate) struct Decided {
     /// Whether its peer is heard by it.
     pub heard: bool,
-    pub verdict: Verdict,
+    pub outcome: Outcome,
 }
 
 impl Server {
     /// What is decided on a datagram, that of a stranger being passed over in silence, and whether its peer is heard by it. What is accepted can
     /// be carried out.
     pub(crate) fn decide(&self, peer: u32, datagram: &[u8]) -> Decided
-        ensures decides { (settings : SettingsValue) (state : State) → Represents self.now settings state → Decides settings state peer datagram.now result.verdict }
+        ensures does { (settings : SettingsValue) (state : State) → Represents self.now settings state
+            → DoesDecided settings state peer datagram.now result.outcome.watching result.outcome.verdict }
         ensures hears { (state : State) → Hears self.now.settings state peer datagram.now (met result.heard peer state) }
-        ensures ready { CanCarryOut result.verdict self.now }
+        ensures ready { CanCarryOut result.outcome.verdict self.now }
+        ensures may { MayObserve self.now.watch.observers.pairs result.outcome.watching }
     {
         match self.settings.domain_of(peer) {
             Role::Stranger => Decided {
                 heard: false,
-                verdict: Verdict::Silent,
+                outcome: unobserved(Verdict::Silent),
             },
             Role::Client(domain) => self.decide_known(peer, Some(domain), datagram),
             Role::Gateway => self.decide_known(peer, None, datagram),
@@ -52,38 +73,46 @@ impl Server {
     /// What is decided on the datagram of a client of this domain, or of a gateway.
     fn decide_known(&self, peer: u32, own: Option<u16>, datagram: &[u8]) -> Decided
         requires own { IsOwn self.now.settings peer own }
-        ensures decides { (settings : SettingsValue) (state : State) → Represents self.now settings state → Decides settings state peer datagram.now result.verdict }
+        ensures does { (settings : SettingsValue) (state : State) → Represents self.now settings state
+            → DoesDecided settings state peer datagram.now result.outcome.watching result.outcome.verdict }
         ensures hears { (state : State) → Hears self.now.settings state peer datagram.now (met result.heard peer state) }
-        ensures ready { CanCarryOut result.verdict self.now }
+        ensures ready { CanCarryOut result.outcome.verdict self.now }
+        ensures may { MayObserve self.now.watch.observers.pairs result.outcome.watching }
     {
         match receive(self.alloc, datagram, own.is_none()) {
             Ok(received) => Decided {
                 heard: is_heard(&received),
-                verdict: self.decide_on(peer, own, received),
+                outcome: self.decide_on(peer, own, received),
             },
             Err(exchange) => Decided {
                 heard: true,
-                verdict: Verdict::Reply(unavailable(&exchange)),
+                outcome: unobserved(Verdict::Reply(unavailable(&exchange))),
             },
         }
     }
 
     /// What is decided on what a client of this domain, or a gateway, sent.
-    fn decide_on(&self, peer: u32, own: Option<u16>, received: Received) -> Verdict
+    fn decide_on(&self, peer: u32, own: Option<u16>, received: Received) -> Outcome
         requires own { IsOwn self.now.settings peer own }
         requires grantable { IsGrantable received }
-        ensures decides { (settings : SettingsValue) (state : State) → Represents self.now settings state → DecidesOn settings state peer received result }
-        ensures ready { CanCarryOut result self.now }
+        ensures does { (settings : SettingsValue) (state : State) → Represents self.now settings state
+            → DoesOn settings state peer received result.watching result.verdict }
+        ensures ready { CanCarryOut result.verdict self.now }
+        ensures may { MayObserve self.now.watch.observers.pairs result.watching }
     {
         match received {
-            Received::Unread(dismissal) | Received::Dismissed(dismissal) => {
-                dismissal_verdict(dismissal)
+            Received::Unread(dismissal) => unobserved(dismissal_verdict(dismissal)),
+            Received::Dismissed(dismissal) => Outcome {
+                watching: rejecting(dismissal),
+                verdict: dismissal_verdict(dismissal),
+            },
+            Received::Refused { exchange, reject } => {
+                unobserved(reject_verdict(&exchange, &reject))
             }
-            Received::Refused { exchange, reject } => reject_verdict(&exchange, &reject),
             Received::Asked { exchange, request } => {
                 match self.decide_request(peer, own, exchange, request) {
-                    Ok(verdict) => verdict,
-                    Err(_) => Verdict::Reply(unavailable(&exchange)),
+                    Ok(outcome) => outcome,
+                    Err(_) => unobserved(Verdict::Reply(unavailable(&exchange))),
                 }
             }
         }
@@ -96,25 +125,35 @@ impl Server {
         own: Option<u16>,
         exchange: Exchange,
         request: Request,
-    ) -> Result<Verdict, NoMemory>
+    ) -> Result<Outcome, NoMemory>
         requires askable { IsAskable request }
         requires own { IsOwn self.now.settings peer own }
-        ensures decides { (settings : SettingsValue) (state : State) → Represents self.now settings state
-            → IfOk result (λ verdict. verdict ≡ answer_to settings (facts_in settings state) peer exchange request) }
-        ensures ready { IfOk result (λ verdict. CanCarryOut verdict self.now) }
+        ensures does { (settings : SettingsValue) (state : State) → Represents self.now settings state
+            → IfOk result (λ outcome. Does settings peer state.observers (watching_of settings peer (received.Asked exchange request))
+            (answer_to settings (facts_in settings state) peer exchange request) outcome.watching outcome.verdict) }
+        ensures ready { IfOk result (λ outcome. CanCarryOut outcome.verdict self.now) }
+        ensures may { IfOk result (λ outcome. MayObserve self.now.watch.observers.pairs outcome.watching) }
     {
         match request {
             Request::PutMitigation { path, body } => {
-                self.put_by_path(peer, own, exchange, path, body)
+                alone(self.put_by_path(peer, own, exchange, path, body))
             }
-            Request::GetMitigation { path, content, .. } => {
-                self.get_by_path(peer, own, exchange, path, content)
+            Request::GetMitigation {
+                path,
+                content,
+                observe,
+            } => self.get_by_path(peer, own, exchange, path, content, observe),
+            Request::DeleteMitigation { path } => {
+                alone(self.delete_by_path(peer, own, exchange, path))
             }
-            Request::DeleteMitigation { path } => self.delete_by_path(peer, own, exchange, path),
-            Request::PutConfig { sid, body } => self.put_config(peer, own, &exchange, sid, &body),
-            Request::GetConfig { sid } => self.get_config(peer, own, &exchange, sid),
-            Request::DeleteConfig { sid } => self.delete_config(peer, own, &exchange, sid),
-            Request::PutHeartbeat { .. } => Ok(Verdict::Reply(heartbeat_reply(&exchange))),
+            Request::PutConfig { sid, body } => {
+                alone(self.put_config(peer, own, &exchange, sid, &body))
+            }
+            Request::GetConfig { sid } => alone(self.get_config(peer, own, &exchange, sid)),
+            Request::DeleteConfig { sid } => alone(self.delete_config(peer, own, &exchange, sid)),
+            Request::PutHeartbeat { .. } => {
+                Ok(unobserved(Verdict::Reply(heartbeat_reply(&exchange))))
+            }
         }
     }
 
@@ -167,17 +206,73 @@ impl Server {
         exchange: Exchange,
         path: MitigationPath,
         content: Content,
-    ) -> Result<Verdict, NoMemory>
+        observe: Observe,
+    ) -> Result<Outcome, NoMemory>
         requires own { IsOwn self.now.settings peer own }
-        ensures decides { (settings : SettingsValue) (state : State) → Represents self.now settings state
-            → IfOk result (λ verdict. verdict ≡ in_domain exchange (domain_for settings (role_of settings peer) path.cdid) (get_for (facts_in settings state) peer exchange path content)) }
-        ensures ready { IfOk result (λ verdict. CanCarryOut verdict self.now) }
+        ensures does { (settings : SettingsValue) (state : State) → Represents self.now settings state
+            → IfOk result (λ outcome. Does settings peer state.observers (in_known (domain_for settings (role_of settings peer) path.cdid) (asked_in peer exchange content path observe))
+            (in_domain exchange (domain_for settings (role_of settings peer) path.cdid) (get_for (facts_in settings state) peer exchange path content)) outcome.watching outcome.verdict) }
+        ensures ready { IfOk result (λ outcome. CanCarryOut outcome.verdict self.now) }
+        ensures may { IfOk result (λ outcome. MayObserve self.now.watch.observers.pairs outcome.watching) }
     {
         let mid = path.mid;
         match self.asks_for(peer, own, exchange, path) {
-            Some(from) => self.decide_get(&from, mid, content),
-            None => Ok(Verdict::Reply(bad_parameter(&exchange))),
+            Some(from) => self.read(from, mid, content, observe),
+            None => Ok(unobserved(Verdict::Reply(bad_parameter(&exchange)))),
         }
+    }
+
+    /// What is decided on a request of a peer that may act for the domain to read mitigations of a client, or that of a mid.
+    fn read(
+        &self,
+        from: ClientRequest,
+        mid: Option<u32>,
+        content: Content,
+        observe: Observe,
+    ) -> Result<Outcome, NoMemory>
+        requires acts { may_act self.now.settings (role_of self.now.settings from.peer) from.domain ≡ true }
+        ensures does { (settings : SettingsValue) (state : State) → Represents self.now settings state
+            → IfOk result (λ outcome. Does settings from.peer state.observers (asked_from from mid content observe)
+            (get_answer (facts_in settings state) from mid content) outcome.watching outcome.verdict) }
+        ensures ready { IfOk result (λ outcome. CanCarryOut outcome.verdict self.now) }
+        ensures may { IfOk result (λ outcome. MayObserve self.now.watch.observers.pairs outcome.watching) }
+    {
+        match self.decide_get(&from, mid, content)? {
+            Reading::Told(verdict) => Ok(Outcome {
+                watching: leaving(&from.exchange, observe),
+                verdict,
+            }),
+            Reading::Shown(body) => self.show(from, mid, content, observe, &body),
+        }
+    }
+
+    /// Mitigations are shown by this body, and who asks observes them, or leaves.
+    fn show(
+        &self,
+        from: ClientRequest,
+        mid: Option<u32>,
+        content: Content,
+        observe: Observe,
+        body: &Bytes,
+    ) -> Result<Outcome, NoMemory>
+        requires acts { may_act self.now.settings (role_of self.now.settings from.peer) from.domain ≡ true }
+        ensures does { (settings : SettingsValue) (state : State) → Represents self.now settings state
+            → IfOk result (λ outcome. Does settings from.peer state.observers (asked_from from mid content observe)
+            (verdicts.Shows from.exchange body.now) outcome.watching outcome.verdict) }
+        ensures ready { IfOk result (λ outcome. CanCarryOut outcome.verdict self.now) }
+        ensures may { IfOk result (λ outcome. MayObserve self.now.watch.observers.pairs outcome.watching) }
+    {
+        let exchange = from.exchange;
+        let watching = asked_from(from, mid, content, observe);
+        let number = match &watching {
+            Watching::Registers(observer) => self.watch.number(observer),
+            Watching::Nothing | Watching::Leaves(_) | Watching::Rejects(_) => None,
+        };
+        let reply = showing(self.alloc, &exchange, number, body.items())?;
+        Ok(Outcome {
+            watching,
+            verdict: Verdict::LongReply(reply),
+        })
     }
 
     /// What is decided on a request to withdraw the mitigation of a path.
@@ -252,6 +347,64 @@ impl Server {
     }
 }
 
+/// What is to be done where nothing is asked of observation.
+fn unobserved(verdict: Verdict) -> Outcome
+    ensures { result ≡ record { watching = watchings.Nothing; verdict = verdict } }
+{
+    Outcome {
+        watching: Watching::Nothing,
+        verdict,
+    }
+}
+
+/// The same, of what is decided.
+fn alone(decided: Result<Verdict, NoMemory>) -> Result<Outcome, NoMemory>
+    ensures { IfOk result (λ outcome. (outcome.watching ≡ watchings.Nothing) × (decided ≡ Ok outcome.verdict)) }
+{
+    match decided {
+        Ok(verdict) => Ok(unobserved(verdict)),
+        Err(fault) => Err(fault),
+    }
+}
+
+/// What a GET of mitigations asks of observation (RFC 7641, section 2).
+fn asked_from(from: ClientRequest, mid: Option<u32>, content: Content, observe: Observe) -> Watching
+    ensures { result ≡ asked_from from mid content observe }
+{
+    match observe {
+        Observe::No => Watching::Nothing,
+        Observe::Deregister => Watching::Leaves(from.exchange.token),
+        Observe::Register => Watching::Registers(Observer {
+            peer: from.peer,
+            domain: from.domain,
+            token: from.exchange.token,
+            cuid: from.cuid,
+            mid,
+            content,
+        }),
+    }
+}
+
+/// The same, where it isn't shown what it asks for.
+fn leaving(exchange: &Exchange, observe: Observe) -> Watching
+    ensures { result ≡ leaving exchange.now observe }
+{
+    match observe {
+        Observe::Deregister => Watching::Leaves(exchange.token),
+        Observe::No | Observe::Register => Watching::Nothing,
+    }
+}
+
+/// What a message that asks nothing asks of observation.
+fn rejecting(dismissal: Dismissal) -> Watching
+    ensures { result ≡ rejecting dismissal }
+{
+    match dismissal {
+        Dismissal::Rejected { id } => Watching::Rejects(id),
+        Dismissal::Ignored | Dismissal::Reset { .. } => Watching::Nothing,
+    }
+}
+
 /// Whether a peer is heard by what it sent: what can't be read isn't heard.
 fn is_heard(received: &Received) -> bool
     ensures { result ≡ is_heard received.now }
@@ -267,7 +420,7 @@ fn dismissal_verdict(dismissal: Dismissal) -> Verdict
     ensures { result ≡ dismissal_verdict dismissal }
 {
     match dismissal {
-        Dismissal::Ignored => Verdict::Silent,
+        Dismissal::Ignored | Dismissal::Rejected { .. } => Verdict::Silent,
         Dismissal::Reset { id } => Verdict::Reply(reset(id)),
     }
 }

@@ -14,6 +14,7 @@ mod events;
 mod gathering;
 mod mitigations;
 mod naming;
+mod observing;
 mod repeating;
 mod report;
 mod server;

@@ -21,23 +21,25 @@ ghost use Rattle.dots_machine.specs.Mitigations.{grant, entry_of, refusal, judge
 ghost use Rattle.dots_machine.specs.Deciding.{delete_in};
 ghost use Rattle.conflict_rules.specs.LiveViews.{LiveView};
 ghost use Rattle.live_mitigations.specs.LiveViews.{row_view};
-ghost use Rattle.conflict_rules.specs.Statuses.{is_standing};
+ghost use Rattle.conflict_rules.specs.Statuses.{is_standing, views_in};
 ghost use Rattle.dots_server.specs.ServerValues.{Represents, CanCarryOut};
+ghost use Rattle.dots_server.specs.Reading.{read_as, CanTell};
 
 use crate::server::Server;
 use crate::verdict::Verdict;
 use conflict_rules::{Judged, PutFault, PutRequest};
 use dots_history::{Change, Entry};
-use dots_lists::{List, NoMemory};
+use dots_lists::{Bytes, List, Name, NoMemory};
 use dots_machine::{ClientRequest, Exchange, MitigationRequest, ShortMessage, scope_fault};
 use dots_registry::Registry;
 use dots_replies::{
     absent, at_capacity, bad_request, bad_target, conflicting, copies, deleted, entry_of, granting,
-    mitigations_reply, unavailable,
+    shown_body, unavailable,
 };
 use dots_settings::Settings;
 use live_mitigations::MitigationRow;
 use reply_bodies::{ConflictCause, Content, MitigationView, ViewList};
+use std::alloc::Global;
 
 /// The status of a mitigation that stands and filters (RFC 9132, section 4.4.2).
 const FILTERS: u8 = 2;
@@ -208,20 +210,21 @@ impl Server {
         from: &ClientRequest,
         mid: Option<u32>,
         content: Content,
-    ) -> Result<Verdict, NoMemory>
+    ) -> Result<Reading, NoMemory>
         requires acts { may_act self.now.settings (role_of self.now.settings from.now.peer) from.now.domain ≡ true }
         ensures decides { (settings : SettingsValue) (state : State) → Represents self.now settings state
-            → IfOk result (λ verdict. verdict ≡ get_answer (facts_in settings state) from.now mid content) }
-        ensures ready { IfOk result (λ verdict. CanCarryOut verdict self.now) }
+            → IfOk result (λ reading. read_as from.now.exchange reading ≡ get_answer (facts_in settings state) from.now mid content) }
+        ensures ready { IfOk result (λ reading. CanTell reading self.now) }
     {
         if self.is_taken(from) {
-            return self.conflict(&from.exchange, mid, ConflictCause::Collision);
+            let conflict = self.conflict(&from.exchange, mid, ConflictCause::Collision)?;
+            return Ok(Reading::Told(conflict));
         }
         let views = self.views(from, mid, content)?;
         if views.items().is_empty() {
-            return Ok(Verdict::Reply(absent(&from.exchange)));
+            return Ok(Reading::Told(Verdict::Reply(absent(&from.exchange))));
         }
-        Ok(Verdict::LongReply(mitigations_reply(self.alloc, &from.exchange, views)?))
+        Ok(Reading::Shown(shown_body(self.alloc, views)?))
     }
 
     /// The refusal for what stands in the way.
@@ -279,16 +282,44 @@ impl Server {
         ensures { (settings : SettingsValue) (state : State) → Represents self.now settings state
             → IfOk result (λ views. map scope_of views ≡ map (mitigation_fields content) (filter (is_wanted mid) ((facts_in settings state).views (client_for from.now)))) }
     {
-        let mut views = List::new(self.alloc);
-        for row in self
-            .ledger
-            .registry()
-            .mitigations(from.domain, from.cuid.bytes())
-        {
-            push_wanted(&mut views, &row, mid, content)?;
-        }
-        Ok(views)
+        views_of(
+            self.alloc,
+            self.ledger.registry(),
+            from.domain,
+            &from.cuid,
+            mid,
+            content,
+        )
     }
+}
+
+/// What is decided on a request to read mitigations.
+#[derive(Drop)]
+pub(crate) enum Reading {
+    /// Something else than mitigations is told.
+    Told(Verdict),
+    /// Mitigations are shown by this body.
+    Shown(Bytes),
+}
+
+/// The live mitigations of the client of this name in a domain, or that of a mid, as they are to be told.
+pub(crate) fn views_of<'a>(
+    alloc: Global,
+    tables: &'a Registry,
+    domain: u16,
+    cuid: &'a Name,
+    mid: Option<u32>,
+    content: Content,
+) -> Result<ViewList<'a>, NoMemory>
+    requires within { domain < domains_of tables.now }
+    ensures { (entries : List Entry) → registry.Represents tables.now entries
+        → IfOk result (λ views. map scope_of views ≡ map (mitigation_fields content) (filter (is_wanted mid) (views_in domain cuid.now (time_of tables.now) entries))) }
+{
+    let mut views = List::new(alloc);
+    for row in tables.mitigations(domain, cuid.bytes()) {
+        push_wanted(&mut views, &row, mid, content)?;
+    }
+    Ok(views)
 }
 
 /// Whether a mitigation stands, by the status that is shown of it.

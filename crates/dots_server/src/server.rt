@@ -1,13 +1,12 @@
-//! The server: the settings, and what was accepted, in its tables and on the disk.
+//! The server: the settings, what was accepted, in its tables and on the disk, and who observes and was heard.
 
-ghost use Rattle.std.specs.Prelude.{◌≡◌, ◌≢◌, ℕ, ◌<◌, ◌≤◌, ◌⊎◌, ◌^◌, [], ◌∷◌, length, true, if◌then◌else◌, List, IfOk, IfErr, OnOk, OnErr, ⊤};
+ghost use Rattle.std.specs.Prelude.{◌≡◌, ◌≢◌, ℕ, ◌<◌, ◌≤◌, ◌⊎◌, ◌^◌, [], ◌∷◌, length, true, if◌then◌else◌, List, map, None, IfOk, IfErr, OnOk, OnErr, ⊤};
 ghost use Rattle.std.specs.Io.KnownBytes.{Appends};
 ghost use Rattle.dots_disk.specs.Becoming.{Leaves, RestsWith, KeepsMedia};
 ghost use Rattle.dots_host.specs.Acts.{IsWithin, event_of};
 ghost use Rattle.dots_host.specs.Causes.{HasCause};
-ghost use Rattle.dots_host.specs.Runs.{Added, Gives};
+ghost use Rattle.dots_host.specs.Runs.{Added};
 ghost use Rattle.dots_host.specs.Writing.{AppendsBeginning};
-ghost use Rattle.dots_host.specs.declared.out.OwnedOut.TheVariants as owned;
 ghost use Rattle.dots_settings.specs.Settings.{SettingsValue};
 ghost use Rattle.dots_history.specs.declared.entry.Entry.{Entry};
 ghost use Rattle.dots_laws.specs.Fits.{is_calm};
@@ -23,21 +22,24 @@ ghost use Rattle.slot_journal.specs.Untaken.{RefusesLedger, IsFailure};
 ghost use Rattle.dots_machine.specs.Machine.{State, begun_from, later, restarted, sends_of, after, beating};
 ghost use Rattle.dots_machine.specs.Report.{report_of};
 ghost use Rattle.dots_registry.specs.RegistryValues.{time_of};
-ghost use Rattle.session_core.specs.Contacts.{heard_from};
+ghost use Rattle.session_core.specs.Contacts.{heard_from, unheard};
 ghost use Rattle.dots_notices.specs.Beats.{beats};
-ghost use Rattle.dots_server.specs.ServerValues.{Represents, IsKept, CanCarryOut, IsAccepted};
+ghost use Rattle.dots_notices.specs.Notifying.{SentTo};
+ghost use Rattle.dots_server.specs.ServerValues.{observers_of, Represents, IsKept, CanCarryOut, IsAccepted};
 ghost use Rattle.dots_server.specs.Sessions.{beaten};
-ghost use Rattle.dots_server.specs.Taking.{Took, BrokeOff};
-ghost use Rattle.dots_server.specs.Turning.{IsServed, Turned, Broke};
+ghost use Rattle.dots_server.specs.Taking.{Took, BrokeOff, Answered, Failing};
+ghost use Rattle.dots_server.specs.Turning.{IsServed, TurnedTo, Broke};
 
 use crate::beating::PeerBeats;
 use crate::gathering::Gatherer;
 use crate::report::{put_packets, put_rows};
 use crate::verdict::Verdict;
+use coap_observe::Observers;
 use dots_disk::Host;
-use dots_host::{Got, Out, Sink, What};
+use dots_host::{Got, Sink, What};
 use dots_ledger::Ledger;
-use dots_notices::beat;
+use dots_lists::NoMemory;
+use dots_notices::{Watch, beat, send_to};
 use dots_registry::Registry;
 use dots_settings::Settings;
 use session_core::Sessions;
@@ -51,8 +53,11 @@ pub struct Server {
     pub(crate) alloc: Global,
     pub(crate) settings: Settings,
     pub(crate) ledger: Ledger,
-    /// The sessions with the peers.
-    sessions: Sessions,
+    /// The observers, and the sessions with the peers.
+    pub(crate) watch: Watch,
+    /// Whether an observer may be due: something was accepted, a second passed, or one wasn't told for want of memory. Where it is false
+    /// none is looked at.
+    pub(crate) stale: bool,
 }
 
 impl Model for Server {
@@ -60,9 +65,9 @@ impl Model for Server {
 
     ghost Value = { ServerValue };
 
-    ghost view = { λ server. record { settings = server.settings; registry = server.ledger.registry; journal = server.ledger.journal; sessions = server.sessions } };
+    ghost view = { λ server. record { settings = server.settings; registry = server.ledger.registry; journal = server.ledger.journal; watch = server.watch } };
 
-    ghost invariant = { λ server. IsServing (record { settings = server.settings; registry = server.ledger.registry; journal = server.ledger.journal; sessions = server.sessions }) };
+    ghost invariant = { λ server. IsServing (record { settings = server.settings; registry = server.ledger.registry; journal = server.ledger.journal; watch = server.watch }) };
 }
 
 /// The report couldn't be written.
@@ -102,13 +107,14 @@ impl Server {
         ensures cause { Caused (H.Disk.faults host.old) (H.Disk.faults host.new) result }
         ensures beside { H.Disk.beside host.old host.new }
     {
-        let sessions = Sessions::new(alloc, &settings)?;
+        let watch = watch_for(alloc, &settings)?;
         let ledger = Ledger::begin(alloc, host, &settings, at)?;
         Ok(Server {
             alloc,
             settings,
             ledger,
-            sessions,
+            watch,
+            stale: false,
         })
     }
 
@@ -185,21 +191,57 @@ impl Server {
         match got.what {
             What::Datagram { from, len } => {
                 self.move_time(got.at);
-                let decided = self.decide(from, &room[..len]);
-                self.hear(from, decided.heard);
-                return self.carry_out(host, from, decided.verdict);
+                return self.take_datagram(host, from, &room[..len]);
             }
             What::Tick => {
                 self.move_time(got.at);
+                self.notify(host);
                 self.send_heartbeats(host);
                 return Ok(());
             }
+            What::Piece { .. } => {
+                self.move_time(got.at);
+                self.notify(host);
+                return Ok(());
+            }
             What::End | What::Failed | What::Restart => return Ok(()),
-            What::Opened { .. } | What::Piece { .. } | What::Closed { .. } => {
+            What::Opened { .. } | What::Closed { .. } => {
                 self.move_time(got.at);
                 return Ok(());
             }
         }
+    }
+
+    /// Takes a peer's datagram: it is decided on, the peer is heard, the verdict is carried out, and the observers that are due are told.
+    fn take_datagram<H: Host>(
+        &mut self,
+        host: &mut H,
+        peer: u32,
+        datagram: &[u8],
+    ) -> Result<(), DiskFault>
+        requires size { needed_of self.old.journal.slots ≤ H.extent host.old }
+        ensures done { OnOk result ((settings : SettingsValue) (state : State) (entries : List Entry) → IsKept self.old settings state entries
+            → Answered settings state peer datagram.now self.old self.new entries (H.media host.old) (H.media host.new) (H.acts host.old) (H.acts host.new)) }
+        ensures failed { OnErr result ((settings : SettingsValue) (state : State) (entries : List Entry) → IsKept self.old settings state entries
+            → Failing settings state peer datagram.now self.old entries (H.media host.old) (H.media host.new) (H.acts host.old) (H.acts host.new)) }
+        ensures adds { Added (H.acts host.old) (H.acts host.new) (λ _. ⊤) }
+        ensures settings { self.new.settings ≡ self.old.settings }
+        ensures slots { self.new.journal.slots ≡ self.old.journal.slots }
+        ensures extent { H.extent host.new ≡ H.extent host.old }
+        ensures cause { HasCause (H.Disk.faults host.old) (H.Disk.faults host.new) result }
+        ensures wire { H.Wire.faults host.new ≡ H.Wire.faults host.old }
+        ensures leads { H.leads host.old host.new }
+    {
+        let decided = self.decide(peer, datagram);
+        self.hear(peer, decided.heard);
+        let outcome = decided.outcome;
+        match self.carry_out(host, peer, outcome.verdict) {
+            Ok(()) => {}
+            Err(fault) => return Err(fault),
+        }
+        self.observe(peer, outcome.watching);
+        self.notify(host);
+        Ok(())
     }
 
     /// The time never falls, and what has ended by then is taken out.
@@ -209,24 +251,28 @@ impl Server {
         ensures journal { self.new.journal ≡ self.old.journal }
         ensures kept { (settings : SettingsValue) (state : State) (entries : List Entry) → IsKept self.old settings state entries → IsKept self.new settings (later state at) entries }
     {
-        let time = at.max(self.ledger.registry().time());
+        let before = self.ledger.registry().time();
+        let time = at.max(before);
         self.ledger.tick(time);
+        self.stale |= time > before;
     }
 
     /// The peer is heard by what it sent, or it isn't.
     fn hear(&mut self, peer: u32, heard: bool)
-        ensures { self.new ≡ record self.old { sessions = if heard then heard_from peer (time_of self.old.registry) self.old.sessions else self.old.sessions } }
+        ensures { self.new ≡ record self.old {
+          watch = record self.old.watch { sessions = if heard then heard_from peer (time_of self.old.registry) self.old.watch.sessions else self.old.watch.sessions };
+        } }
     {
-        if heard && self.sessions.holds(peer) {
+        if heard && self.watch.sessions.holds(peer) {
             let time = self.ledger.registry().time();
-            self.sessions.heard(peer, time);
+            self.watch.hear(peer, time);
         }
     }
 
     /// Forgets the sessions that are lost, and sends the heartbeats that are due (RFC 9132, section 4.7).
     fn send_heartbeats<H: Host>(&mut self, host: &mut H)
         ensures sent { (settings : SettingsValue) (state : State) → Represents self.old settings state
-            → Added (H.acts host.old) (H.acts host.new) (Gives (H.moment host.old) (beats (beating settings state) state.time state.contacts)) }
+            → Added (H.acts host.old) (H.acts host.new) (SentTo (H.moment host.old) (H.moment host.new) (beats (beating settings state) state.time state.contacts)) }
         ensures kept { (settings : SettingsValue) (state : State) (entries : List Entry) → IsKept self.old settings state entries → IsKept self.new settings (beaten settings state) entries }
         ensures journal { self.new.journal ≡ self.old.journal }
         ensures settings { self.new.settings ≡ self.old.settings }
@@ -242,7 +288,7 @@ impl Server {
             settings: &self.settings,
             registry: self.ledger.registry(),
         };
-        beat(host, &mut self.sessions, &beats, time);
+        beat(host, &mut self.watch.sessions, &beats, time);
     }
 
     /// Carries a verdict on a peer's datagram out: what is accepted is kept, on the disk and then in the tables, and then the reply is sent.
@@ -256,8 +302,9 @@ impl Server {
         requires size { needed_of self.old.journal.slots ≤ H.extent host.old }
         ensures done { OnOk result ((settings : SettingsValue) (state : State) (entries : List Entry) → IsKept self.old settings state entries
             → (few : List Entry) × IsKept self.new settings (after verdict state) few
-            × Turned settings state (after verdict state) (sends_of verdict peer) (journal.Represents self.old.journal settings entries) (journal.Represents self.new.journal settings few)
+            × TurnedTo (H.moment host.new) settings state (after verdict state) (sends_of None verdict peer) (journal.Represents self.old.journal settings entries) (journal.Represents self.new.journal settings few)
             (H.media host.old) (H.media host.new) (H.acts host.old) (H.acts host.new)) }
+        ensures watch { self.new.watch ≡ self.old.watch }
         // Nothing but an entry that is accepted is written.
         ensures failed { OnErr result ((settings : SettingsValue) (state : State) (entries : List Entry) → IsKept self.old settings state entries
             → IsAccepted verdict × Broke settings state (after verdict state) (journal.Represents self.old.journal settings entries) (H.media host.old) (H.media host.new) (H.acts host.old) (H.acts host.new)) }
@@ -279,8 +326,11 @@ impl Server {
                 send_to(host, peer, reply.items());
                 return Ok(());
             }
+            // What shows mitigations is a message by now.
+            Verdict::Shows { .. } => unreachable!(),
             Verdict::Accept { reply, entry } => {
                 self.ledger.accept(host, entry)?;
+                self.stale = true;
                 send_to(host, peer, reply.bytes());
                 return Ok(());
             }
@@ -309,14 +359,14 @@ impl Server {
     }
 }
 
-/// Sends a datagram to a peer. Whether it left makes no difference.
-fn send_to<H: Host>(host: &mut H, peer: u32, bytes: &[u8])
-    ensures acts { Added (H.acts host.old) (H.acts host.new) (Gives (H.moment host.old) (owned.To peer bytes.now ∷ [])) }
-    ensures media { KeepsMedia (H.media host.old) (H.media host.new) }
-    ensures extent { H.extent host.new ≡ H.extent host.old }
-    ensures disk { H.Disk.faults host.new ≡ H.Disk.faults host.old }
-    ensures wire { H.Wire.faults host.new ≡ H.Wire.faults host.old }
-    ensures leads { H.leads host.old host.new }
+/// No observers and no sessions, with the memory of both.
+fn watch_for(alloc: Global, settings: &Settings) -> Result<Watch, NoMemory>
+    ensures { IfOk result (λ watch. (watch.observers ≡ observers_of settings.now []) × (watch.sessions ≡ map unheard settings.now.peers)) }
 {
-    let _ = host.send(&Out::To { peer, bytes });
+    let observers = Observers::new(alloc, settings)?;
+    let sessions = Sessions::new(alloc, settings)?;
+    Ok(Watch {
+        observers,
+        sessions,
+    })
 }

@@ -55,6 +55,8 @@ mod mitigation_rows;
 #[cfg(test)]
 mod name_rows;
 #[cfg(test)]
+mod observer_rows;
+#[cfg(test)]
 mod option_rows;
 #[cfg(test)]
 mod plain_texts;

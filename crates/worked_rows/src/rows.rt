@@ -11,6 +11,7 @@ use crate::list_rows::LISTS;
 use crate::long_lists::long_list;
 use crate::mitigation_rows::{FATES, MITIGATIONS};
 use crate::name_rows::{LIFETIMES, SCOPES};
+use crate::observer_rows::OBSERVERS;
 use crate::option_rows::OPTIONS;
 use crate::refusal_rows::REFUSALS;
 use crate::repeat_rows::{LAST_TWO, REPEATS};
@@ -72,6 +73,7 @@ fn runs_over_scripts(rt: HostRuntime) {
     all_hold(&rt, alloc, FATES);
     all_hold(&rt, alloc, SCOPES);
     all_hold(&rt, alloc, LIFETIMES);
+    all_hold(&rt, alloc, OBSERVERS);
     all_hold(&rt, alloc, OPTIONS);
     all_hold(&rt, alloc, REFUSALS);
     all_hold(&rt, alloc, REPEATS);

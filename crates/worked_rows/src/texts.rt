@@ -60,8 +60,8 @@ scrub net1 dz6pHjaADkaFTbjr0JGBpw 124 2001:db8:1::/64 any any
 /// `path parameter`, HOP_LIMIT 4.00 with `hop limit`, NO_CBOR 4.00 with `cbor`, QUERY 4.00 with `query`, NOT_A_TARGET,
 /// OUTSIDE_DOMAIN and UNKNOWN_NAME 4.00 with these words, UNKNOWN_ALIAS and CHANGED 4.00 with `unknown alias` and `changed`, ABSENT
 /// 4.04 with `absent`, DELETED 2.02, REFRESHED 2.04 with mid 123 and 3600 s, and COLLISION 4.09 for mid 123 with conflict-cause 3.
-/// They have Message ID 1. MITIGATE is a datagram behind its Message ID up to the end of `mitigate`, CONFIGURE one up to the end of `config`, and
-/// CBOR the Content-Format of a reply with the mark behind it. BEAT is a heartbeat without a token behind its Message ID, up to its status, and
+/// They have Message ID 1. MITIGATE is a datagram behind its Message ID up to the end of `mitigate`, OBSERVE and LEAVE the same with Observe 0 and 1,
+/// CONFIGURE one up to the end of `config`, CBOR the Content-Format of a reply with the mark behind it, and SEEN the same behind Observe. BEAT is a heartbeat without a token behind its Message ID, up to its status, and
 /// BEAT_4A one with a token. OFFER is the rest of a request behind its sid, for an interval, which stands behind it, while no mitigation filters;
 /// VALUES is the default values of a session, and VALUES_60 the same with an interval of 60 s.
 ///
@@ -112,6 +112,9 @@ ABSENT 518400014aff616273656e74
 DELETED 514200014a
 REFRESHED 514400014ac2010fffa101a10281a205187b0e190e10
 COLLISION 518900014ac2010fffa101a10281a205187b11a212011303
+OBSERVE 4a605b2e77656c6c2d6b6e6f776e04646f7473086d69746967617465
+LEAVE 4a61015b2e77656c6c2d6b6e6f776e04646f7473086d69746967617465
+SEEN 62010fff
 MITIGATE 4abb2e77656c6c2d6b6e6f776e04646f7473086d69746967617465
 CLIENT_ABC bb2e77656c6c2d6b6e6f776e04646f7473086d697469676174650d0e637569643d756e6757763438427a2d704251554465586134694977
 GRANTED_1 c2010fffa101a10281a205010e190e10

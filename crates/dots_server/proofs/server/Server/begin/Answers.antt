@@ -5,13 +5,13 @@ pub invariant_of-result : goal.invariant_of-result
 invariant_of-result g c =
     let begun = c.in_ok-ledger.ensures.recovered in
     begun_lives c.args.settings c.args.at c.in_ok-ledger.ledger begun.entries c.requires.early begun.represents begun.time c.in_ok-ledger.ensures.size.0 begun.each
-    c.in_ok-sessions.sessions c.in_ok-sessions.ensures
+    c.in_ok-watch.watch c.in_ok-watch.ensures.0 c.in_ok-watch.ensures.1
 
 pub returns-clause-begun : goal.returns-clause-begun
 returns-clause-begun g c =
     let begun = c.in_ok-ledger.ensures.recovered in (
       begun.entries,
-      begun_kept c.args.settings c.args.at c.in_ok-ledger.ledger begun.entries c.requires.early begun.represents begun.time c.in_ok-ledger.ensures.size.0 begun.each c.in_ok-sessions.sessions c.in_ok-sessions.ensures,
+      begun_kept c.args.settings c.args.at c.in_ok-ledger.ledger begun.entries c.requires.early begun.represents begun.time c.in_ok-ledger.ensures.size.0 begun.each c.in_ok-watch.watch c.in_ok-watch.ensures.0 c.in_ok-watch.ensures.1,
       begun.represents.calm,
       λ seen sees. (begun.held seen sees, begun.rests seen sees),
     )

@@ -1,4 +1,4 @@
-use Rattle.std.proofs.Common.{◌≡◌, ℕ, Option, true, false, option_map, List, Some, None, Result, Ok, Err, sym, ap, ◌∙◌, subst}
+use Rattle.std.proofs.Common.{◌≡◌, true, option_map, List, sym, ap, ◌∙◌, subst}
 use Rattle.dots_settings.specs.Lookups.{role_of}
 use Rattle.dots_history.specs.declared.entry.Entry.{Entry}
 use Rattle.dots_history.specs.declared.change.Change.TheVariants as change
@@ -8,13 +8,10 @@ use Rattle.dots_laws.specs.Held.{config_of}
 use Rattle.held_resources.specs.Tables.{config_now}
 use Rattle.dots_registry.specs.RegistryValues.{time_of}
 use Rattle.dots_registry.specs.RegistryValues as registry
-use Rattle.session_core.specs.Negotiating.{negotiated}
 use Rattle.dots_machine.specs.declared.verdict.Verdict.TheVariants as verdict
-use Rattle.dots_machine.specs.Replies.{configuring, configuration_reply}
-use Rattle.dots_machine.specs.Sessions.{sid_of, is_held, configured_in}
-use Rattle.dots_machine.specs.Deciding.{session_entry, config_answer, clear_answer}
+use Rattle.dots_machine.specs.Sessions.{is_held, configured_in}
+use Rattle.dots_machine.specs.Deciding.{session_entry, clear_answer}
 use Rattle.dots_server.specs.ServerValues.{ServerValue, Represents}
-use Rattle.dots_server.specs.Sessions.{is_wanted}
 use Rattle.dots_server.proofs.Verdicts.{if_ok}
 use Rattle.dots_server.proofs.Sessions.{configured_here, clearing_configures}
 use Rattle.dots_server.proofs.server.Server.clear_config.Goals as goal
@@ -24,7 +21,7 @@ accept_config-requires-clause-configures c = clearing_configures
 
 pub returns-then-is_held-clause-decides : goal.returns-then-is_held-clause-decides
 returns-then-is_held-clause-decides c = λ settings state represents.
-    let server : ServerValue = record { settings = c.self.inside.settings; registry = c.self.inside.ledger.registry; journal = c.self.inside.ledger.journal; sessions = c.self.inside.sessions } in
+    let server : ServerValue = record { settings = c.self.inside.settings; registry = c.self.inside.ledger.registry; journal = c.self.inside.ledger.journal; watch = c.self.inside.watch } in
     let here = subst (λ server. Represents server settings state) (sym c.self.view_is) represents in
     let may = subst (λ (server : ServerValue). may_configure (role_of server.settings c.args.peer) c.args.domain ≡ true) (sym c.self.view_is) c.requires.may in
     let found =
@@ -41,7 +38,7 @@ returns-then-is_held-clause-decides c = λ settings state represents.
 
 pub returns-clause-decides : goal.returns-clause-decides
 returns-clause-decides c = λ settings state represents.
-    let server : ServerValue = record { settings = c.self.inside.settings; registry = c.self.inside.ledger.registry; journal = c.self.inside.ledger.journal; sessions = c.self.inside.sessions } in
+    let server : ServerValue = record { settings = c.self.inside.settings; registry = c.self.inside.ledger.registry; journal = c.self.inside.ledger.journal; watch = c.self.inside.watch } in
     let here = subst (λ server. Represents server settings state) (sym c.self.view_is) represents in
     let may = subst (λ (server : ServerValue). may_configure (role_of server.settings c.args.peer) c.args.domain ≡ true) (sym c.self.view_is) c.requires.may in
     let found =

@@ -1,4 +1,4 @@
-use Rattle.std.proofs.Common.{◌≡◌, ℕ, Option, true, false, option_map, List, Some, None, Result, Ok, Err, sym, ap, ◌∙◌, subst}
+use Rattle.std.proofs.Common.{◌≡◌, true, option_map, List, Err, sym, ap, ◌∙◌, subst}
 use Rattle.dots_settings.specs.Lookups.{role_of}
 use Rattle.dots_history.specs.declared.entry.Entry.{Entry}
 use Rattle.dots_history.specs.declared.change.Change.TheVariants as change
@@ -12,9 +12,8 @@ use Rattle.session_core.specs.Negotiating.{negotiated}
 use Rattle.dots_machine.specs.declared.verdict.Verdict.TheVariants as verdict
 use Rattle.dots_machine.specs.Replies.{configuring, out_of_range}
 use Rattle.dots_machine.specs.Sessions.{sid_of, is_held, configured_in}
-use Rattle.dots_machine.specs.Deciding.{session_entry, config_answer, clear_answer}
+use Rattle.dots_machine.specs.Deciding.{session_entry, config_answer}
 use Rattle.dots_server.specs.ServerValues.{ServerValue, Represents}
-use Rattle.dots_server.specs.Sessions.{is_wanted}
 use Rattle.dots_server.proofs.Verdicts.{if_ok}
 use Rattle.dots_server.proofs.Sessions.{configured_here, sid_found, setting_configures, taken_within}
 use Rattle.dots_server.proofs.server.Server.configure.Goals as goal
@@ -27,7 +26,7 @@ accept_config-requires-clause-within c = taken_within _ c.args.sid c.args.body.n
 
 pub returns-in-Ok-clause-decides : goal.returns-in-Ok-clause-decides
 returns-in-Ok-clause-decides c = λ settings state represents.
-    let server : ServerValue = record { settings = c.self.inside.settings; registry = c.self.inside.ledger.registry; journal = c.self.inside.ledger.journal; sessions = c.self.inside.sessions } in
+    let server : ServerValue = record { settings = c.self.inside.settings; registry = c.self.inside.ledger.registry; journal = c.self.inside.ledger.journal; watch = c.self.inside.watch } in
     let here = subst (λ server. Represents server settings state) (sym c.self.view_is) represents in
     let may = subst (λ (server : ServerValue). may_configure (role_of server.settings c.args.peer) c.args.domain ≡ true) (sym c.self.view_is) c.requires.may in
     let found =
@@ -47,7 +46,7 @@ returns-in-Ok-clause-decides c = λ settings state represents.
 
 pub returns-in-Err-Range-clause-decides : goal.returns-in-Err-Range-clause-decides
 returns-in-Err-Range-clause-decides c = λ settings state represents.
-    let server : ServerValue = record { settings = c.self.inside.settings; registry = c.self.inside.ledger.registry; journal = c.self.inside.ledger.journal; sessions = c.self.inside.sessions } in
+    let server : ServerValue = record { settings = c.self.inside.settings; registry = c.self.inside.ledger.registry; journal = c.self.inside.ledger.journal; watch = c.self.inside.watch } in
     let here = subst (λ server. Represents server settings state) (sym c.self.view_is) represents in
     let may = subst (λ (server : ServerValue). may_configure (role_of server.settings c.args.peer) c.args.domain ≡ true) (sym c.self.view_is) c.requires.may in
     let found =
@@ -61,7 +60,7 @@ returns-in-Err-Range-clause-decides c = λ settings state represents.
 
 pub returns-in-Err-OlderSid-clause-decides : goal.returns-in-Err-OlderSid-clause-decides
 returns-in-Err-OlderSid-clause-decides c = λ settings state represents.
-    let server : ServerValue = record { settings = c.self.inside.settings; registry = c.self.inside.ledger.registry; journal = c.self.inside.ledger.journal; sessions = c.self.inside.sessions } in
+    let server : ServerValue = record { settings = c.self.inside.settings; registry = c.self.inside.ledger.registry; journal = c.self.inside.ledger.journal; watch = c.self.inside.watch } in
     let here = subst (λ server. Represents server settings state) (sym c.self.view_is) represents in
     let may = subst (λ (server : ServerValue). may_configure (role_of server.settings c.args.peer) c.args.domain ≡ true) (sym c.self.view_is) c.requires.may in
     let found =

@@ -1,25 +1,12 @@
-use Rattle.std.proofs.Common.{◌∙◌, ap}
-use Rattle.dots_machine.specs.declared.client_request.ClientRequest.{ClientRequest}
-use Rattle.dots_machine.specs.declared.verdict.Verdict.TheVariants as verdict
-use Rattle.dots_machine.specs.Deciding.{get_for}
-use Rattle.dots_machine.specs.Mitigations.{get_answer}
 use Rattle.dots_machine.specs.Machine.{facts_in}
-use Rattle.dots_server.proofs.Asked.{without_domain, with_domain}
+use Rattle.dots_server.proofs.Asked.{reads_there}
 use Rattle.dots_server.proofs.Verdicts.{if_ok}
 use Rattle.dots_server.proofs.server.Server.get_by_path.Goals as goal
 
-pub returns-in-Some-clause-decides : goal.returns-in-Some-clause-decides
-returns-in-Some-clause-decides c = λ settings state represents.
-    if_ok c.decide_get.result _ _
-    (λ v is.
-    is
-    ∙ ap (λ (from : ClientRequest). get_answer (facts_in settings state) from c.args.path.mid c.args.content) c.in-Some.ensures.some.1
-    ∙ with_domain c.args.self.now.settings settings c.args.peer c.args.own c.args.path.cdid c.requires.own represents.settings_are c.args.exchange
-    (get_for (facts_in settings state) c.args.peer c.args.exchange c.args.path c.args.content) c.in-Some.from.domain c.in-Some.ensures.some.0)
-    (c.decide_get.ensures.decides settings state represents)
-
-pub returns-in-None-clause-decides : goal.returns-in-None-clause-decides
-returns-in-None-clause-decides c = λ settings state represents.
-    ap verdict.Reply c.bad_parameter.ensures
-    ∙ without_domain c.args.self.now.settings settings c.args.peer c.args.own c.args.path.cdid c.requires.own represents.settings_are c.args.exchange
-    (get_for (facts_in settings state) c.args.peer c.args.exchange c.args.path c.args.content) c.in-None.ensures.none
+pub returns-in-Some-clause-does : goal.returns-in-Some-clause-does
+returns-in-Some-clause-does c = λ settings state represents.
+    if_ok c.read.result _ _
+    (λ outcome does.
+    reads_there c.args.self.now.settings settings c.args.peer c.args.own c.args.path c.requires.own represents.settings_are c.args.exchange c.args.content c.args.observe (facts_in settings state) state.observers
+    c.in-Some.from outcome.watching outcome.verdict c.in-Some.ensures.some.0 c.in-Some.ensures.some.1 does)
+    (c.read.ensures.does settings state represents)

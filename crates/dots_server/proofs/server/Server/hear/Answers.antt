@@ -10,9 +10,9 @@ use Rattle.dots_server.proofs.server.Server.hear.Goals.{else-heard-via-then-hear
 
 pub invariant_of-self : goal.invariant_of-self
 invariant_of-self c =
-    let old : ServerValue = record { settings = c.self.inside.settings; registry = c.self.inside.ledger.registry; journal = c.self.inside.ledger.journal; sessions = c.self.inside.sessions } in
-    subst (λ rows. IsServing (record old { sessions = rows }))
-    (sym (c.heard.ensures ∙ ap (λ t. heard_from c.args.peer t c.self.inside.sessions) (c.time-time.ensures ∙ ap time_of c.registry.ensures)))
+    let old : ServerValue = record { settings = c.self.inside.settings; registry = c.self.inside.ledger.registry; journal = c.self.inside.ledger.journal; watch = c.self.inside.watch } in
+    subst (λ watch. IsServing (record old { watch = watch }))
+    (sym (c.hear.ensures ∙ ap (λ t. record c.self.inside.watch { sessions = heard_from c.args.peer t c.self.inside.watch.sessions }) (c.time-time.ensures ∙ ap time_of c.registry.ensures)))
     (heard_lives true c.args.peer old c.self.invariant)
 
 pub returns-else-heard : goal.returns-else-heard
@@ -20,6 +20,6 @@ returns-else-heard c =
     elim c.else-heard.branch [
       | else-heard-via-then-heard+else-holds w ↦
           not_heard c.args.heard c.args.peer c.args.self.now
-          (λ is. subst (λ (server : ServerValue). list_any (is_of c.args.peer) server.sessions ≡ false) c.self.view_is (sym w.holds.ensures ∙ w.if-holds.false))
+          (λ is. subst (λ (server : ServerValue). list_any (is_of c.args.peer) server.watch.sessions ≡ false) c.self.view_is (sym w.holds.ensures ∙ w.if-holds.false))
       | else-heard-via-else-heard w ↦ not_heard c.args.heard c.args.peer c.args.self.now (λ is. absurd (false≢true (sym w.if-heard.false ∙ is)))
     ]

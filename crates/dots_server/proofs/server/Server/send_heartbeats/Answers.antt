@@ -1,33 +1,30 @@
-use Rattle.std.proofs.Common.{◌≡◌, ℕ, sym, ap, ◌∙◌, subst}
-use Rattle.dots_host.specs.Runs.{Added, Gives}
-use Rattle.dots_host.proofs.RunLemmas.{added_weaker}
-use Rattle.session_core.specs.declared.contact.PeerContact.{PeerContact}
+use Rattle.std.proofs.Common.{sym, ap, ◌∙◌, subst}
+use Rattle.dots_host.specs.Runs.{Added}
 use Rattle.dots_notices.specs.Notifying.{SentTo}
 use Rattle.dots_notices.specs.Beats.{beats}
-use Rattle.dots_registry.specs.RegistryValues.{RegistryValue, time_of}
+use Rattle.dots_registry.specs.RegistryValues.{time_of}
 use Rattle.dots_machine.specs.Machine.{beating}
 use Rattle.dots_server.specs.ServerValues.{ServerValue, Represents}
 use Rattle.session_core.specs.Beating.{Agrees}
 use Rattle.dots_server.specs.Sessions.{SaysBeat}
-use Rattle.dots_server.proofs.Sessions.{agrees, beaten_kept, beaten_lives}
+use Rattle.dots_server.proofs.Sessions.{agrees, beaten_lives}
 use Rattle.dots_server.proofs.server.Server.send_heartbeats.Goals as goal
 
 pub invariant_of-self : goal.invariant_of-self
 invariant_of-self g c =
-    let old : ServerValue = record { settings = c.self.inside.settings; registry = c.self.inside.ledger.registry; journal = c.self.inside.ledger.journal; sessions = c.self.inside.sessions } in
+    let old : ServerValue = record { settings = c.self.inside.settings; registry = c.self.inside.ledger.registry; journal = c.self.inside.ledger.journal; watch = c.self.inside.watch } in
     beaten_lives old c.time-time.result c.beat.new.sessions (c.time-time.ensures ∙ ap time_of c.registry.ensures)
     (λ by agree. c.beat.ensures.left by (subst (λ tables. Agrees (SaysBeat old.settings tables) by) (sym c.registry-2.ensures) agree)) c.self.invariant
 
 pub returns-clause-sent : goal.returns-clause-sent
 returns-clause-sent g c = λ settings state represents.
-    let old : ServerValue = record { settings = c.self.inside.settings; registry = c.self.inside.ledger.registry; journal = c.self.inside.ledger.journal; sessions = c.self.inside.sessions } in
+    let old : ServerValue = record { settings = c.self.inside.settings; registry = c.self.inside.ledger.registry; journal = c.self.inside.ledger.journal; watch = c.self.inside.watch } in
     let here = subst (λ server. Represents server settings state) (sym c.self.view_is) represents in
     let by = beating settings state in
     let acts = g.H.Wire.acts c.args.host.now in
     let acts_new = g.H.Wire.acts c.beat.new.host in
     let moment = g.H.Wire.moment c.args.host.now in
-    let sent = added_weaker acts acts_new (SentTo moment (g.H.Wire.moment c.beat.new.host) (beats by c.time-time.result old.sessions)) (Gives moment (beats by c.time-time.result old.sessions))
-    (c.beat.ensures.sent by (subst (λ tables. Agrees (SaysBeat old.settings tables) by) (sym c.registry-2.ensures) (agrees old settings state here)))
-    (λ more is. is.0) in
-    subst (λ rows. Added acts acts_new (Gives moment (beats by state.time rows))) here.contacts
-    (subst (λ t. Added acts acts_new (Gives moment (beats by t old.sessions))) (c.time-time.ensures ∙ ap time_of c.registry.ensures ∙ here.time_is) sent)
+    let last = g.H.Wire.moment c.beat.new.host in
+    let sent = c.beat.ensures.sent by (subst (λ tables. Agrees (SaysBeat old.settings tables) by) (sym c.registry-2.ensures) (agrees old settings state here)) in
+    subst (λ rows. Added acts acts_new (SentTo moment last (beats by state.time rows))) here.contacts
+    (subst (λ t. Added acts acts_new (SentTo moment last (beats by t old.watch.sessions))) (c.time-time.ensures ∙ ap time_of c.registry.ensures ∙ here.time_is) sent)

@@ -1,0 +1,131 @@
+-- A server goes on representing a state as observers come, go and are told.
+use Rattle.std.proofs.Common.{◌≡◌, ℕ, List, [], refl, sym, ap, ◌∙◌, subst}
+use Rattle.dots_host.specs.declared.out.OwnedOut.{OwnedOut}
+use Rattle.coap_exchange.specs.declared.pair.Pair.{Pair}
+use Rattle.coap_observe.specs.Seen.{Lists}
+use Rattle.coap_observe.specs.Observed.{ObservedValue}
+use Rattle.coap_observe.specs.Observing.{ObserversValue}
+use Rattle.session_core.specs.declared.contact.PeerContact.{PeerContact}
+use Rattle.dots_notices.specs.declared.watch.Watch.{Watch}
+use Rattle.dots_notices.specs.Notifying.{Notifies}
+use Rattle.dots_notices.proofs.Ordering.{pass_all}
+use Rattle.dots_settings.specs.Settings.{SettingsValue}
+use Rattle.dots_history.specs.declared.entry.Entry.{Entry}
+use Rattle.dots_registry.specs.ObserverViews.{views_of}
+use Rattle.dots_machine.specs.declared.watching.Watching.{Watching}
+use Rattle.dots_machine.specs.Verdict.{Verdict}
+use Rattle.dots_machine.specs.Observing.{bodies_at, observing}
+use Rattle.dots_machine.specs.Machine.{State, seen_in, watched, Notified}
+use Rattle.dots_server.specs.Observing.{changed, bodies_of}
+use Rattle.dots_server.specs.ServerValues.{ServerValue, observers_of, Represents, RepresentsWith, IsKept, IsServing}
+use Rattle.dots_server.proofs.Watching.{seen_same, bodies_same}
+
+-- the observers and the sessions became others
+module _ (old : ServerValue) (watch : Watch) (settings : SettingsValue) (state : State) (observers : List ObservedValue) (contacts : List PeerContact)
+    (observers_are : watch.observers ≡ observers_of settings observers) (sessions_are : watch.sessions ≡ contacts) where
+  abbrev with_watch : ServerValue
+  with_watch = record old { watch = watch }
+
+  abbrev with_told : State
+  with_told = record state { observers = observers; contacts = contacts }
+
+  pub watch_represents : (entries : List Entry) → RepresentsWith old settings state entries → RepresentsWith with_watch settings with_told entries
+  watch_represents entries represents =
+      let of = represents.represents in record {
+        represents = record {
+          settings_are = of.settings_are;
+          is_of = of.is_of;
+          registry = of.registry;
+          time_is = of.time_is;
+          observers = observers_are;
+          contacts = sessions_are;
+          early = of.early;
+          own = of.own;
+          bounded = of.bounded;
+          limits = of.limits;
+        };
+        ledger = represents.ledger;
+        slots = represents.slots;
+      }
+
+  pub watch_kept : (entries : List Entry) → IsKept old settings state entries → IsKept with_watch settings with_told entries
+  watch_kept entries kept = record { represents = watch_represents entries kept.represents; rests = kept.rests }
+
+-- ---- what is asked of observation is done
+module _ (old : ServerValue) (peer : ℕ) (asked : Watching) where
+  abbrev pub with_changed : ServerValue
+  with_changed = record old {
+    watch = record old.watch {
+      observers = record old.watch.observers { observed = changed old.watch.observers.room (views_of old.registry) peer asked old.watch.observers.observed };
+    };
+  }
+
+  changed_are : (settings : SettingsValue) (state : State) → Represents old settings state
+      → with_changed.watch.observers ≡ observers_of settings (changed settings.limits.observers (seen_in settings state) peer asked state.observers)
+  changed_are settings state of =
+      ap (λ (v : ObserversValue). with_observed v (changed v.room (views_of old.registry) peer asked v.observed)) of.observers
+      ∙ ap (λ lists. observers_of settings (changed settings.limits.observers lists peer asked state.observers)) (seen_same old settings state of)
+    where
+      with_observed : ObserversValue → List ObservedValue → ObserversValue
+      with_observed v observed = record v { observed = observed }
+
+  pub observed_kept : (settings : SettingsValue) (state : State) (entries : List Entry) (said : Watching) (decided : Verdict) (replies : List OwnedOut) → IsKept old settings state entries
+      → ((lists : Lists) → observing settings lists peer said decided replies state.observers ≡ changed settings.limits.observers lists peer asked state.observers)
+      → IsKept with_changed settings (watched settings peer said decided replies state) entries
+  observed_kept settings state entries said decided replies kept does =
+      watch_kept old with_changed.watch settings state (observing settings (seen_in settings state) peer said decided replies state.observers) state.contacts
+      (changed_are settings state kept.represents.represents ∙ ap (observers_of settings) (sym (does (seen_in settings state)))) kept.represents.represents.contacts entries kept
+
+  pub observed_lives : IsServing old → IsServing with_changed
+  observed_lives serving = record {
+    state = record serving.state { observers = changed old.settings.limits.observers (seen_in old.settings serving.state) peer asked serving.state.observers };
+    entries = serving.entries;
+    represents = watch_represents old with_changed.watch old.settings serving.state
+        (changed old.settings.limits.observers (seen_in old.settings serving.state) peer asked serving.state.observers) serving.state.contacts
+        (changed_are old.settings serving.state serving.represents.represents) serving.represents.represents.contacts serving.entries serving.represents;
+  }
+
+-- ---- observers are told
+module _ (old : ServerValue) (watch : Watch) (room : watch.observers.room ≡ old.watch.observers.room) (pairs : watch.observers.pairs ≡ old.watch.observers.pairs) where
+  abbrev pub with_others : ServerValue
+  with_others = record old { watch = watch }
+
+  others_are : (settings : SettingsValue) (state : State) → Represents old settings state → watch.observers ≡ observers_of settings watch.observers.observed
+  others_are settings state of =
+      ap (λ r. made r watch.observers.pairs) (room ∙ ap (λ (v : ObserversValue). v.room) of.observers)
+      ∙ ap (λ p. made settings.limits.observers p) (pairs ∙ ap (λ (v : ObserversValue). v.pairs) of.observers)
+    where
+      made : ℕ → List Pair → ObserversValue
+      made room pairs = record { room = room; pairs = pairs; observed = watch.observers.observed }
+
+  pub told_kept : (settings : SettingsValue) (state : State) (entries : List Entry) → IsKept old settings state entries
+      → IsKept with_others settings (record state { observers = watch.observers.observed; contacts = watch.sessions }) entries
+  told_kept settings state entries kept =
+      watch_kept old watch settings state watch.observers.observed watch.sessions (others_are settings state kept.represents.represents) refl entries kept
+
+  pub told_lives : IsServing old → IsServing with_others
+  told_lives serving = record {
+    state = record serving.state { observers = watch.observers.observed; contacts = watch.sessions };
+    entries = serving.entries;
+    represents = watch_represents old watch old.settings serving.state watch.observers.observed watch.sessions
+        (others_are old.settings serving.state serving.represents.represents) refl serving.entries serving.represents;
+  }
+
+  -- as the machine tells them
+  pub told_so : (settings : SettingsValue) (state : State) (sends : List OwnedOut) → Represents old settings state
+      → Notifies (views_of old.registry) (bodies_of old.registry) old.watch.observers.observed old.watch.sessions sends watch.observers.observed watch.sessions
+      → Notified settings state sends (record state { observers = watch.observers.observed; contacts = watch.sessions })
+  told_so settings state sends of notifies = (
+    watch.observers.observed,
+    watch.sessions,
+    subst (λ lists. Notifies lists (bodies_at settings state.time state.history) state.observers state.contacts sends watch.observers.observed watch.sessions) (seen_same old settings state of)
+        (subst (λ bodies. Notifies (views_of old.registry) bodies state.observers state.contacts sends watch.observers.observed watch.sessions) (bodies_same old settings state of)
+        (subst (λ (v : ObserversValue). Notifies (views_of old.registry) (bodies_of old.registry) v.observed state.contacts sends watch.observers.observed watch.sessions) of.observers
+        (subst (λ contacts. Notifies (views_of old.registry) (bodies_of old.registry) old.watch.observers.observed contacts sends watch.observers.observed watch.sessions) of.contacts notifies))),
+    refl,
+  )
+
+-- none is told
+pub none_told : (settings : SettingsValue) (state : State) → Notified settings state [] state
+none_told settings state =
+    (state.observers, state.contacts, pass_all (seen_in settings state) (bodies_at settings state.time state.history) state.observers state.contacts, refl)

@@ -1,0 +1,118 @@
+//! Observers of mitigations, and what they are shown (RFC 7641; RFC 9132, section 4.4.2.1).
+
+ghost use Rattle.std.specs.Prelude.{◌≡◌, List, IfOk, ⊤};
+ghost use Rattle.dots_host.specs.Runs.{Added};
+ghost use Rattle.dots_host.specs.declared.out.OwnedOut.{OwnedOut};
+ghost use Rattle.dots_disk.specs.Becoming.{KeepsMedia};
+ghost use Rattle.dots_settings.specs.Settings.{SettingsValue};
+ghost use Rattle.dots_history.specs.declared.entry.Entry.{Entry};
+ghost use Rattle.dots_machine.specs.Machine.{State, Notified};
+ghost use Rattle.dots_notices.specs.Notifying.{SentTo};
+ghost use Rattle.dots_registry.specs.ObserverViews.{views_of};
+ghost use Rattle.dots_server.specs.Observing.{MayObserve, changed};
+ghost use Rattle.dots_server.specs.ServerValues.{observers_of, IsKept};
+
+use crate::mitigations::views_of;
+use crate::server::Server;
+use coap_observe::{Observer, Views};
+use dots_disk::Host;
+use dots_lists::{Bytes, List, NoMemory};
+use dots_machine::Watching;
+use dots_notices::{Shows, notify};
+use dots_registry::Registry;
+use dots_replies::shown_body;
+use dots_settings::Settings;
+use std::alloc::Global;
+use std::marker::Model;
+
+/// The mitigations of all clients, as their observers are shown them.
+#[derive(Drop)]
+pub(crate) struct Shown<'a> {
+    pub settings: &'a Settings,
+    pub registry: &'a Registry,
+}
+
+impl<'a> Model for Shown<'a> {
+    ghost use Rattle.dots_server.specs.Observing.{ShownValue, IsShown};
+
+    ghost Value = { ShownValue };
+
+    ghost view = { λ shown. record { settings = shown.settings.now; registry = shown.registry.now } };
+
+    ghost invariant = { λ shown. IsShown (record { settings = shown.settings.now; registry = shown.registry.now }) };
+}
+
+impl Views for Shown<'_> {
+    ghost lists = { λ shown. views_of shown.registry };
+
+    fn view(&self, domain: u16, cuid: &[u8], mid: Option<u32>, place: usize) -> Option<(u32, u8)> {
+        self.registry.view(domain, cuid, mid, place)
+    }
+}
+
+impl Shows for Shown<'_> {
+    ghost use Rattle.dots_server.specs.Observing.{bodies_of};
+
+    ghost bodies = { λ shown. bodies_of shown.registry };
+
+    fn body(&self, alloc: Global, observer: &Observer) -> Result<Bytes, NoMemory> {
+        if observer.domain < self.settings.domains() {
+            let views = views_of(
+                alloc,
+                self.registry,
+                observer.domain,
+                &observer.cuid,
+                observer.mid,
+                observer.content,
+            )?;
+            return shown_body(alloc, views);
+        }
+        shown_body(alloc, List::new(alloc))
+    }
+}
+
+impl Server {
+    /// What is asked of observation is done: an observer is registered, or one goes.
+    pub(crate) fn observe(&mut self, peer: u32, watching: Watching)
+        requires { MayObserve self.old.watch.observers.pairs watching }
+        ensures { self.new ≡ record self.old {
+          watch = record self.old.watch {
+            observers = record self.old.watch.observers {
+              observed = changed self.old.watch.observers.room (views_of self.old.registry) peer watching self.old.watch.observers.observed;
+            };
+          };
+        } }
+    {
+        match watching {
+            Watching::Nothing => {}
+            Watching::Registers(observer) => {
+                self.watch.register(observer, self.ledger.registry());
+            }
+            Watching::Leaves(token) => self.watch.leave(peer, token.bytes()),
+            Watching::Rejects(id) => self.watch.reset(peer, id),
+        }
+    }
+
+    /// Tells the observers that are due. None is looked at where none can be due.
+    pub(crate) fn notify<H: Host>(&mut self, host: &mut H)
+        ensures told { (settings : SettingsValue) (state : State) (entries : List Entry) → IsKept self.old settings state entries
+            → (sends : List OwnedOut) × (new : State) × Notified settings state sends new × IsKept self.new settings new entries
+            × Added (H.acts host.old) (H.acts host.new) (SentTo (H.moment host.old) (H.moment host.new) sends) }
+        ensures journal { self.new.journal ≡ self.old.journal }
+        ensures settings { self.new.settings ≡ self.old.settings }
+        ensures adds { Added (H.acts host.old) (H.acts host.new) (λ _. ⊤) }
+        ensures media { KeepsMedia (H.media host.old) (H.media host.new) }
+        ensures extent { H.extent host.new ≡ H.extent host.old }
+        ensures disk { H.Disk.faults host.new ≡ H.Disk.faults host.old }
+        ensures wire { H.Wire.faults host.new ≡ H.Wire.faults host.old }
+        ensures leads { H.leads host.old host.new }
+    {
+        if self.stale {
+            let shown = Shown {
+                settings: &self.settings,
+                registry: self.ledger.registry(),
+            };
+            self.stale = notify(host, self.alloc, &mut self.watch, &shown);
+        }
+    }
+}
