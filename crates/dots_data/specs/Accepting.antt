@@ -9,7 +9,9 @@ use Rattle.dots_registry.specs.RegistryValues.{RegistryValue, Represents, time_o
 use Rattle.dots_registry.specs.Fitting.{fits_now}
 use Rattle.dots_registry.specs.Limits.{ClientsKeepLimits}
 use Rattle.rest_answers.specs.declared.answer.RestAnswer.TheVariants as answer
+use Rattle.rest_answers.specs.declared.front.RestFront.TheVariants as front
 use Rattle.rest_answers.specs.Answer.{RestAnswer}
+use Rattle.rest_answers.specs.Turns.{RestFront}
 
 -- A registry in use represents a history whose clients keep the limits, and its time is below 2^48.
 pub record IsInUse (settings : SettingsValue) (registry : RegistryValue) : Type 0 where
@@ -30,3 +32,7 @@ pub record IsAcceptable (settings : SettingsValue) (registry : RegistryValue) (e
 abbrev pub CanCarryOut : SettingsValue → RegistryValue → RestAnswer → Type 0
 CanCarryOut settings registry (answer.Accept reply entry) = IsAcceptable settings registry entry
 CanCarryOut settings registry _ = ⊤
+
+abbrev pub FrontCanBeCarriedOut : SettingsValue → RegistryValue → RestFront → Type 0
+FrontCanBeCarriedOut settings registry (front.Answered size close answered) = CanCarryOut settings registry answered
+FrontCanBeCarriedOut settings registry _ = ⊤

@@ -4,6 +4,8 @@
 //! to, or by 500 where memory ran out. Nothing is changed here: an accepted change is answered as its entry, beside which stands what it takes
 //! to carry it out without memory, and which can be carried out (`specs/Accepting.antt`). A registry takes whatever the rules accept, and stays
 //! in use ([`laws`]).
+//!
+//! [`front`] does the same for what stands at the front of a connection, whose bytes a [`RestStream`] holds; [`caller_at`] says who asks on it.
 #![tactic(auto)]
 
 mod accepting;
@@ -12,7 +14,11 @@ mod copies;
 mod deciding;
 mod desk;
 mod facts;
+mod fronts;
 pub mod laws;
+mod stream;
 
 pub use deciding::decide_rest;
 pub use desk::Desk;
+pub use fronts::{caller_at, front};
+pub use stream::RestStream;

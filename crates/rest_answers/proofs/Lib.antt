@@ -3,3 +3,4 @@ mod Insides
 mod Judged
 mod Rooms
 pub mod Taken
+pub mod Turning

@@ -4,3 +4,4 @@ pub mod Replies
 pub mod Answer
 pub mod Answers
 pub mod Room
+pub mod Turns

@@ -1,7 +1,7 @@
 -- No number stands at two places, so that what becomes of a place becomes of its number.
 use Rattle.std.proofs.Common.{◌≡◌, ℕ, zero, suc, ◌+◌, ◌≤◌, Bool, true, false, cond, List, [], ◌∷◌, ◌++◌, map, Option, Some, None, refl, sym, ap, ◌∙◌, subst, inl, inr, arith}
-use Rattle.std.specs.Prelude.{◌==◌, not, flat_map, count_by, slice_get, option_and_then, option_map}
-use Rattle.std.specs.List.{find}
+use Rattle.std.specs.Prelude.{◌==◌, ◌||◌, not, flat_map, count_by, slice_get, option_and_then, option_map}
+use Rattle.std.specs.List.{find, list_any}
 use Rattle.std.proofs.lemmas.Bool.{cases_eq, eq-eqb, ne_eqb, cond-true, cond-false}
 use Rattle.std.proofs.lemmas.List.Sums.{sum_by-cons, sum_by-append, sum_by_push}
 use Rattle.dots_settings.specs.declared.peer.PeerRow.{PeerRow}
@@ -10,7 +10,7 @@ use Rattle.dots_settings.specs.declared.peer.Role.TheVariants as roles
 use Rattle.stream_table.specs.declared.seat.Seat.{Seat}
 use Rattle.stream_table.specs.declared.seat.Seat.TheVariants.{Older, Newer}
 use Rattle.stream_table.specs.declared.place.LinePlace.{LinePlace}
-use Rattle.stream_table.specs.Lines.{Line, PeerLines, is_number, is_of, all_lines, no_lines_as, no_lines, emptied, others, forgotten, has_room, row_opened, with_row, opened, line_holding, row_holding, holding}
+use Rattle.stream_table.specs.Lines.{Line, PeerLines, is_number, is_of, all_lines, no_lines_as, no_lines, emptied, others, forgotten, has_room, row_opened, with_row, opened, line_holding, row_holding, holding, has_number, peer_in, peer_of}
 use Rattle.stream_table.specs.Numbers.{line_in}
 use Rattle.stream_table.specs.Places.{line_of_row, line_at, conn_of, conn_at, AreApart, IsAt, NowHolds, with_line, held_by, row_with, with_place}
 use Rattle.stream_table.proofs.Placing.{one_there}
@@ -322,6 +322,49 @@ found_at (suc i) seat (row ∷ rows) line there most =
     let a = times_append line.conn row.lines (all_lines rows) in
     let c = counts i seat rows line there in
     found_behind line.conn row.lines (all_lines rows) (omega (arith, a, c, most)) ∙ found_at i seat rows line there (omega (arith, a, most))
+
+-- ---- its peer
+
+some_counted : (conn : ℕ) (lines : List Line) → 1 ≤ times conn lines → list_any (is_number conn) lines ≡ true
+some_counted conn [] least = absurd (omega (arith, least))
+some_counted conn (line ∷ lines) least = by_test (is_number conn line) (times_cons conn line lines) (some_counted conn lines)
+  where
+    by_test : (b : Bool) → times conn (line ∷ lines) ≡ one_if b + times conn lines → (1 ≤ times conn lines → list_any (is_number conn) lines ≡ true)
+        → b || list_any (is_number conn) lines ≡ true
+    by_test true n rest = refl
+    by_test false n rest = rest (omega (arith, n, least))
+
+none_counted : (conn : ℕ) (lines : List Line) → times conn lines ≡ 0 → list_any (is_number conn) lines ≡ false
+none_counted conn [] none = refl
+none_counted conn (line ∷ lines) none = by_test (is_number conn line) (times_cons conn line lines) (none_counted conn lines)
+  where
+    by_test : (b : Bool) → times conn (line ∷ lines) ≡ one_if b + times conn lines → (times conn lines ≡ 0 → list_any (is_number conn) lines ≡ false)
+        → b || list_any (is_number conn) lines ≡ false
+    by_test true n rest = absurd (omega (arith, n, none))
+    by_test false n rest = rest (omega (arith, n, none))
+
+-- the row at its place is the one that has its number
+row_at : (i : ℕ) (seat : Seat) (rows : List PeerLines) (line : Line) → option_and_then (line_of_row seat) (slice_get rows i) ≡ Some line
+    → times line.conn (all_lines rows) ≤ 1 → find (has_number line.conn) rows ≡ slice_get rows i
+row_at i seat [] line there most = cc there
+row_at zero seat (row ∷ rows) line there most =
+    cond-true (has_number line.conn row) (Some row) (find (has_number line.conn) rows) (some_counted line.conn row.lines (counts_in seat row.lines line there))
+row_at (suc i) seat (row ∷ rows) line there most =
+    let a = times_append line.conn row.lines (all_lines rows) in
+    let c = counts i seat rows line there in
+    cond-false (has_number line.conn row) (Some row) (find (has_number line.conn) rows) (none_counted line.conn row.lines (omega (arith, a, c, most)))
+    ∙ row_at i seat rows line there (omega (arith, a, most))
+
+peer_by : (place : LinePlace) (rows : List PeerLines) (o : Option Line) (conn peer : ℕ) → AreApart rows → line_at place rows ≡ o → option_map conn_of o ≡ Some conn
+    → option_map peer_in (slice_get rows place.row) ≡ Some peer → peer_of conn rows ≡ Some peer
+peer_by place rows None conn peer apart there is found = cc is
+peer_by place rows (Some line) conn peer apart there is found =
+    let own = number_there line.conn conn is in
+    ap (λ c. peer_of c rows) (sym own) ∙ ap (option_map peer_in) (row_at place.row place.seat rows line there (apart line.conn)) ∙ found
+
+pub peer_there : (place : LinePlace) (rows : List PeerLines) (conn peer : ℕ) → AreApart rows → conn_at place rows ≡ Some conn
+    → option_map peer_in (slice_get rows place.row) ≡ Some peer → peer_of conn rows ≡ Some peer
+peer_there place rows conn peer apart is found = peer_by place rows (line_at place rows) conn peer apart refl is found
 
 is_at_by : (conn : ℕ) (place : LinePlace) (rows : List PeerLines) (o : Option Line) → AreApart rows → line_at place rows ≡ o → option_map conn_of o ≡ Some conn
     → IsAt conn place rows

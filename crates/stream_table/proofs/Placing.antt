@@ -7,8 +7,9 @@ use Rattle.std.proofs.lemmas.Iterator.Adapters.{position_from-zero}
 use Rattle.std.proofs.lemmas.List.{take_all, get_or_default}
 use Rattle.std.proofs.lemmas.List.Quantifiers.{position-Some}
 use Rattle.stream_table.specs.declared.refused.Refused.TheVariants.{Third}
-use Rattle.stream_table.specs.Lines.{PeerLines, is_of, has_room, taken_in, with_row, is_number, all_lines}
-use Rattle.stream_table.specs.Places.{with_place}
+use Rattle.stream_table.specs.declared.place.LinePlace.{LinePlace}
+use Rattle.stream_table.specs.Lines.{Line, PeerLines, is_of, has_room, taken_in, with_row, is_number, all_lines}
+use Rattle.stream_table.specs.Places.{conn_of, conn_at, IsAt, with_place}
 
 pub there_is : {A : Type 0} (xs : List A) (i : ℕ) (x : A) → i < length xs → x ≡ get_or xs i x → slice_get xs i ≡ Some x
 there_is [] i x less is = absurd (omega (arith, less))
@@ -118,3 +119,11 @@ pub row_within : {A B : Type 0} (f : A → Option B) (xs : List A) (i : ℕ) →
 row_within f [] i is = absurd (false≢true is)
 row_within f (x ∷ xs) zero is = omega arith
 row_within f (x ∷ xs) (suc i) is = let rest = row_within f xs i is in omega (arith, rest)
+
+-- ---- a connection that stands at a place
+
+pub is_there : (conn : ℕ) (place : LinePlace) (rows : List PeerLines) → IsAt conn place rows → is_some (conn_at place rows) ≡ true
+is_there conn place rows at = ap (λ (o : Option Line). is_some (option_map conn_of o)) at.there
+
+pub conn_is : (conn : ℕ) (place : LinePlace) (rows : List PeerLines) → IsAt conn place rows → conn_at place rows ≡ Some conn
+conn_is conn place rows at = ap (option_map conn_of) at.there ∙ ap Some at.own

@@ -1,8 +1,11 @@
 -- The open connections of a server: a row for each client peer, in the order of the settings, with at most two lines in each.
-use Rattle.std.specs.Prelude.{ℕ, Bool, ◌==◌, not, nat_lt, if◌then◌else◌, List, [], ◌∷◌, ◌++◌, length, map, filter, find, flat_map, Option, Some, None, Result, Ok, Err}
+use Rattle.std.specs.Prelude.{◌≡◌, ℕ, ◌<◌, Bool, ◌==◌, not, nat_lt, if◌then◌else◌, List, [], ◌∷◌, ◌++◌, length, map, filter, find, flat_map, Option, Some, None, option_map, Result, Ok, Err}
+use Rattle.std.specs.List.{list_any}
 use Rattle.dots_settings.specs.declared.peer.PeerRow.{PeerRow}
 use Rattle.dots_settings.specs.declared.peer.Role.{Role}
 use Rattle.dots_settings.specs.declared.peer.Role.TheVariants as role
+use Rattle.dots_settings.specs.Settings.{SettingsValue}
+use Rattle.dots_settings.specs.Lookups.{role_of}
 use Rattle.stream_table.specs.declared.refused.Refused.{Refused}
 use Rattle.stream_table.specs.declared.refused.Refused.TheVariants.{Stranger, Third}
 
@@ -33,6 +36,16 @@ all_lines rows = flat_map lines_of rows
 abbrev pub line_of : ℕ → List PeerLines → Option Line
 line_of conn rows = find (is_number conn) (all_lines rows)
 
+-- the peer of it: the one in whose row a connection of this number stands
+abbrev pub has_number : ℕ → PeerLines → Bool
+has_number conn row = list_any (is_number conn) row.lines
+
+abbrev pub peer_in : PeerLines → ℕ
+peer_in row = row.peer
+
+abbrev pub peer_of : ℕ → List PeerLines → Option ℕ
+peer_of conn rows = option_map peer_in (find (has_number conn) rows)
+
 -- ---- at the start
 
 -- a client has a row, and a gateway has none
@@ -43,6 +56,15 @@ no_lines_as peer role.Stranger = []
 
 abbrev pub no_lines : PeerRow → List PeerLines
 no_lines row = no_lines_as row.peer row.role
+
+-- there is a row for each client, in the order of the settings, whatever stands in it
+abbrev pub AreOf : List PeerRow → List PeerLines → Type 0
+AreOf peers rows = map peer_in rows ≡ map peer_in (flat_map no_lines peers)
+
+-- the peer is a client of this domain, which is one of the settings
+pub record IsClientOf (settings : SettingsValue) (peer domain : ℕ) : Type 0 where
+  pub role : role_of settings peer ≡ role.Client domain
+  pub known : domain < length settings.domains
 
 -- nothing is open
 abbrev pub row_emptied : PeerLines → PeerLines

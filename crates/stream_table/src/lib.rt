@@ -8,10 +8,11 @@
 //! What holds the bytes is any [`Holds`]. Only [`StreamTable::new`] takes memory, that of two streams for each client peer: a connection
 //! that is opened finds its stream made.
 //!
-//! Contracts see a table as the list of its rows. Start reading at `specs/Lines.antt`.
+//! [`laws`] say that each row is of a client. Contracts see a table as the list of its rows. Start reading at `specs/Lines.antt`.
 #![tactic(auto)]
 
 mod holds;
+pub mod laws;
 mod numbers;
 mod place;
 mod refused;

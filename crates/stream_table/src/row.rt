@@ -53,6 +53,12 @@ impl<B: Holds + Drop> Row<B> {
         self.peer == peer
     }
 
+    pub fn peer(&self) -> u32
+        ensures { result ≡ self.now.peer }
+    {
+        self.peer
+    }
+
     /// Where the connection of this number stands.
     pub fn seat_of(&self, conn: u32) -> Option<Seat>
         ensures { MatchOption result (list_any (is_number conn) self.now.lines ≡ false)

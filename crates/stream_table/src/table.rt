@@ -1,7 +1,7 @@
 //! The connections of all peers.
 
-ghost use Rattle.std.specs.Prelude.{◌≡◌, ◌-◌, ◌<◌, ◌≤◌, ◌++◌, length, min, take, drop, map, find, flat_map, position, slice_get, option_map, is_some, true, Some, None, MatchOption, IfOk, OnOk};
-ghost use Rattle.stream_table.specs.Lines.{Line, is_of, no_lines, emptied, row_emptied, forgotten, row_forgotten, opened, opening, taken_in, with_row, row_opened, has_room, line_of};
+ghost use Rattle.std.specs.Prelude.{◌≡◌, ℕ, ◌-◌, ◌<◌, ◌≤◌, ◌++◌, length, min, take, drop, map, find, flat_map, position, slice_get, option_map, is_some, true, Some, None, MatchOption, IfOk, OnOk};
+ghost use Rattle.stream_table.specs.Lines.{Line, is_of, no_lines, emptied, row_emptied, forgotten, row_forgotten, opened, opening, taken_in, with_row, row_opened, has_room, line_of, peer_in, peer_of};
 ghost use Rattle.stream_table.specs.Places.{line_at, conn_at, IsAt, NowHolds, row_with, with_place, with_more};
 
 use crate::holds::Holds;
@@ -78,6 +78,14 @@ impl<B: Holds + Drop> StreamTable<B> {
         ensures { self.new ≡ emptied self.old }
     {
         clear_in(&mut self.rows);
+    }
+
+    /// The peer of the connection at this place.
+    pub fn peer(&self, place: LinePlace) -> u32
+        requires { is_some (conn_at place self.now) ≡ true }
+        ensures { (conn : ℕ) → conn_at place self.now ≡ Some conn → peer_of conn self.now ≡ Some result }
+    {
+        peer_at(&self.rows, place)
     }
 
     /// What is held of the connection at this place.
@@ -188,6 +196,13 @@ fn open_at<B: Holds + Drop>(rows: &mut Vec<Row<B>>, at: usize, conn: u32) -> boo
     ensures rows { rows.new.items ≡ with_place at (row_opened conn) rows.old.items }
 {
     rows[at].open(conn)
+}
+
+fn peer_at<B: Holds + Drop>(rows: &Vec<Row<B>>, place: LinePlace) -> u32
+    requires { is_some (line_at place rows.now.items) ≡ true }
+    ensures { option_map peer_in (slice_get rows.now.items place.row) ≡ Some result }
+{
+    rows[place.row].peer()
 }
 
 fn stream_in<B: Holds + Drop>(rows: &Vec<Row<B>>, place: LinePlace) -> &B

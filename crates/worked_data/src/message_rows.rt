@@ -48,14 +48,14 @@ a DELETE /restconf/data/ietf-dots-data-channel:dots-data/dots-client=x||HTTP/1.1
 a GET /restconf/data/ietf-dots-data-channel:dots-data/dots-client=x/aliases/alias=web||HTTP/1.1 404"#;
 
 /// Whether the bytes of a reply begin so.
-fn begins(reply: &RestReply, want: &[u8]) -> bool {
+pub fn begins(reply: &RestReply, want: &[u8]) -> bool {
     let mut bytes = [0; 1024];
     let size = reply.write(&mut bytes);
     bytes[..size].starts_with(want)
 }
 
 /// Takes what is accepted, and says whether the reply is as wanted.
-fn carry_out(
+pub fn carry_out(
     registry: &mut Registry,
     settings: &Settings,
     answer: RestAnswer<Staged>,
@@ -155,7 +155,7 @@ fn all_hold_anew(alloc: Global, settings: &Settings) -> Result<bool, Fail> {
     Ok(all)
 }
 
-fn settings(alloc: Global) -> Result<Settings, Fail> {
+pub fn settings(alloc: Global) -> Result<Settings, Fail> {
     let mut source = MemorySource::new(alloc, SETTINGS.as_bytes())?;
     match read_settings(alloc, &mut source) {
         Ok(settings) => Ok(settings),
