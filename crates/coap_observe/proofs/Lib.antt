@@ -10,3 +10,4 @@ pub mod Rolling
 pub mod Seeing
 pub mod Notifying
 pub mod Walking
+pub mod Telling

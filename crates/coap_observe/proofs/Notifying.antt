@@ -7,6 +7,8 @@ use Rattle.dots_history.specs.Histories.{is_nil}
 use Rattle.coap_exchange.specs.Firsts.{replace_at}
 use Rattle.coap_observe.specs.Seen.{Lists, list_for}
 use Rattle.coap_observe.specs.Observed.{ObservedValue, is_due, notified}
+use Rattle.coap_observe.specs.declared.due_among.DueAmong.{DueAmong}
+use Rattle.coap_observe.specs.DueAmong.{includes_one}
 use Rattle.coap_observe.specs.Observing.{NoneIsDue, after_notice}
 use Rattle.coap_exchange.proofs.Firsts.{one_there, remove_at}
 
@@ -29,16 +31,19 @@ notified_at lists id xs i x seen there is some =
     (ap (λ s. notified id s x ∷ []) is
     ∙ sym (cond-false (is_nil (list_for lists x.observer)) [] (notified id (list_for lists x.observer) x ∷ []) (ap is_nil (sym is) ∙ some)))
 
-pub none_more : (lists : Lists) (from i : ℕ) (xs : List ObservedValue) (x : ObservedValue) → slice_get xs i ≡ Some x → nat_le from i && is_due lists x ≡ false
-    → NoneIsDue lists from i xs → NoneIsDue lists from (i + 1) xs
-none_more lists from i xs x there out before place o later less at =
+pub none_more : (lists : Lists) (among : DueAmong) (from i : ℕ) (xs : List ObservedValue) (x : ObservedValue) → slice_get xs i ≡ Some x
+    → nat_le from i && (includes_one among x && is_due lists x) ≡ false → NoneIsDue lists among from i xs → NoneIsDue lists among from (i + 1) xs
+none_more lists among from i xs x there out before place o later less at within =
     elim (cases_lt place i) [
-      | inl below ↦ before place o later below at
+      | inl below ↦ before place o later below at within
       | inr over ↦
           let same : place ≡ i = omega (arith, over, less) in
           let own : x ≡ o = one_there x o (sym there ∙ ap (slice_get xs) (sym same) ∙ at) in
-          elim (and_cases (nat_le from i) (is_due lists x) out) [
+          elim (and_cases (nat_le from i) (includes_one among x && is_due lists x) out) [
             | inl not_behind ↦ let low = leb-false from i not_behind in absurd (omega (arith, low, later, same))
-            | inr not_due ↦ ap (is_due lists) (sym own) ∙ not_due
+            | inr not_both ↦
+                ap (is_due lists) (sym own)
+                ∙ ap (λ b. b && is_due lists x) (sym (ap (includes_one among) own ∙ within))
+                ∙ not_both
           ]
     ]

@@ -1,4 +1,5 @@
 pub mod Chains
+pub mod DueAmong
 pub mod Observed
 pub mod Observing
 pub mod Rolls

@@ -6,6 +6,8 @@ use Rattle.dots_history.specs.Histories.{tally, is_nil}
 use Rattle.coap_exchange.specs.declared.pair.Pair.{Pair}
 use Rattle.coap_observe.specs.declared.observer.Observer.{Observer}
 use Rattle.coap_observe.specs.Seen.{Lists, list_for}
+use Rattle.coap_observe.specs.declared.due_among.DueAmong.{DueAmong}
+use Rattle.coap_observe.specs.DueAmong.{includes_one}
 use Rattle.coap_observe.specs.Observed.{ObservedValue, next_number, is_token, is_of, had_id, is_due, notified, registered_again}
 
 -- the observers in the order of their registration, for which peers and domains there may be some, and how many for each
@@ -54,20 +56,20 @@ without_id peer id observed = filter (λ o. not (had_id peer id o)) observed
 
 -- ---- notifications
 
--- from a place on, up to another, none is due
-abbrev pub NoneIsDue : Lists → ℕ → ℕ → List ObservedValue → Type 0
-NoneIsDue lists from to observed =
-    (place : ℕ) (o : ObservedValue) → from ≤ place → place < to → slice_get observed place ≡ Some o → is_due lists o ≡ false
+-- from a place on, up to another, none of these is due
+abbrev pub NoneIsDue : Lists → DueAmong → ℕ → ℕ → List ObservedValue → Type 0
+NoneIsDue lists among from to observed =
+    (place : ℕ) (o : ObservedValue) → from ≤ place → place < to → slice_get observed place ≡ Some o → includes_one among o ≡ true → is_due lists o ≡ false
 
--- From a place on, the first that is due stands at this place; its notification has this number; and it is gone where
+-- From a place on, the first of these that is due stands at this place; its notification has this number; and it is gone where
 -- nothing is left to see.
-pub record IsNextDue (lists : Lists) (from : ℕ) (observed : List ObservedValue) (place : ℕ) (observer : Observer) (number : ℕ) (gone : Bool) : Type 0 where
+pub record IsNextDue (lists : Lists) (among : DueAmong) (from : ℕ) (observed : List ObservedValue) (place : ℕ) (observer : Observer) (number : ℕ) (gone : Bool) : Type 0 where
   pub one : ObservedValue
   pub there : slice_get observed place ≡ Some one
   pub within : place < length observed
   pub later : from ≤ place
   pub due : is_due lists one ≡ true
-  pub first : NoneIsDue lists from place observed
+  pub first : NoneIsDue lists among from place observed
   pub observer_is : observer ≡ one.observer
   pub number_is : number ≡ one.number
   pub gone_is : gone ≡ is_nil (list_for lists one.observer)

@@ -8,6 +8,7 @@
 #![tactic(auto)]
 
 mod chains;
+mod due_among;
 pub mod laws;
 mod observed;
 mod observer;
@@ -16,6 +17,7 @@ mod roll;
 mod seen;
 mod views;
 
+pub use due_among::DueAmong;
 pub use observed::Observed;
 pub use observer::Observer;
 pub use observers::{Notice, Observers};

@@ -6,11 +6,13 @@ ghost use Rattle.coap_exchange.specs.Firsts.{replace_at};
 ghost use Rattle.linked_orders.specs.Links.{Distinct};
 ghost use Rattle.coap_observe.specs.Chains.{chain_at, room_in, AreChained, SameRoom};
 ghost use Rattle.coap_observe.specs.Rolls.{keys_of, observed_of, one_at, without_key, first_key, peer_of};
+ghost use Rattle.coap_observe.specs.DueAmong.{includes_one};
 ghost use Rattle.coap_observe.specs.Observed.{is_token, is_of, had_id, is_due};
 ghost use Rattle.coap_observe.specs.Observing.{ObserversValue, own_of, has_room, number_for, entered, registered, deregistered, without_id, NoneIsDue, IsNextDue, notified_or_gone, after_notice};
 ghost use Rattle.coap_exchange.specs.Pairs.{is_pair, pairs_of};
 
 use crate::chains::Chains;
+use crate::due_among::DueAmong;
 use crate::observed::Observed;
 use crate::observer::Observer;
 use crate::roll::Roll;
@@ -133,15 +135,15 @@ impl Observers {
         retain_other_ids(&mut self.roll, &mut self.chains, peer, id);
     }
 
-    /// The first observer at the place `from` or behind it that is due: what there is to see isn't what it was told last.
-    /// Nothing changes.
-    pub fn next_due<V: Views>(&self, views: &V, from: usize) -> Option<Notice<'_>>
-        ensures next { MatchOption result (NoneIsDue (V.lists views.now) from (length self.now.observed) self.now.observed)
-            (λ notice. IsNextDue (V.lists views.now) from self.now.observed notice.place notice.observer.now notice.number notice.gone) }
+    /// The first observer of these at the place `from` or behind it that is due: what there is to see isn't what it was told last.
+    /// What others see isn't looked at. Nothing changes.
+    pub fn next_due<V: Views>(&self, views: &V, among: DueAmong, from: usize) -> Option<Notice<'_>>
+        ensures next { MatchOption result (NoneIsDue (V.lists views.now) among from (length self.now.observed) self.now.observed)
+            (λ notice. IsNextDue (V.lists views.now) among from self.now.observed notice.place notice.observer.now notice.number notice.gone) }
         // The place behind it is one, too.
         ensures few { IfSome result (λ notice. notice.place + 1 < 2 ^ 64) }
     {
-        next_due(&self.roll, views, from)
+        next_due(&self.roll, views, among, from)
     }
 
     /// A notification to the observer at this place was sent with this Message ID. Where nothing is left to
@@ -371,17 +373,22 @@ fn retain_other_ids(roll: &mut Roll, chains: &mut Chains, peer: u32, id: u16)
     }
 }
 
-fn next_due<'a, V: Views>(roll: &'a Roll, views: &V, from: usize) -> Option<Notice<'a>>
+fn next_due<'a, V: Views>(
+    roll: &'a Roll,
+    views: &V,
+    among: DueAmong,
+    from: usize,
+) -> Option<Notice<'a>>
     requires { Distinct (keys_of roll.now.rows) }
-    ensures next { MatchOption result (NoneIsDue (V.lists views.now) from (length (observed_of roll.now.rows)) (observed_of roll.now.rows))
-        (λ notice. IsNextDue (V.lists views.now) from (observed_of roll.now.rows) notice.place notice.observer.now notice.number notice.gone) }
+    ensures next { MatchOption result (NoneIsDue (V.lists views.now) among from (length (observed_of roll.now.rows)) (observed_of roll.now.rows))
+        (λ notice. IsNextDue (V.lists views.now) among from (observed_of roll.now.rows) notice.place notice.observer.now notice.number notice.gone) }
     ensures few { IfSome result (λ notice. notice.place + 1 < 2 ^ 64) }
 {
     let mut key = roll.start();
     for place in 0..roll.len() {
         key = roll.behind(key, place);
         let one = roll.one(key);
-        if is_next(one, views, place, from) {
+        if is_next(one, views, among, place, from) {
             return Some(Notice {
                 place,
                 observer: one.observer(),
@@ -393,11 +400,17 @@ fn next_due<'a, V: Views>(roll: &'a Roll, views: &V, from: usize) -> Option<Noti
     None
 }
 
-/// Whether it is due, and its place is `from` or behind it.
-fn is_next<V: Views>(one: &Observed, views: &V, place: usize, from: usize) -> bool
-    ensures { result ≡ nat_le from place && is_due (V.lists views.now) one.now }
+/// Whether it is one of these and due, and its place is `from` or behind it.
+fn is_next<V: Views>(one: &Observed, views: &V, among: DueAmong, place: usize, from: usize) -> bool
+    ensures { result ≡ nat_le from place && (includes_one among one.now && is_due (V.lists views.now) one.now) }
 {
-    place >= from && one.is_due(views)
+    place >= from && is_due_among(one, views, among)
+}
+
+fn is_due_among<V: Views>(one: &Observed, views: &V, among: DueAmong) -> bool
+    ensures { result ≡ includes_one among one.now && is_due (V.lists views.now) one.now }
+{
+    among.includes(one.observer().domain) && one.is_due(views)
 }
 
 /// The observer at this place was told what there is to see, or goes where there is nothing.

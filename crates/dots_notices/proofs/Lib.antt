@@ -3,3 +3,4 @@ pub mod Ordering
 pub mod Fixing
 pub mod Ticking
 pub mod Parting
+mod Quiet

@@ -1,5 +1,5 @@
 -- What the notifications after an event make of the observers, and of the Message IDs of their peers.
-use Rattle.std.specs.Prelude.{◌≡◌, ◌⊎◌, ℕ, ◌+◌, Bool, true, if◌then◌else◌, List, [], ◌∷◌, ◌++◌, length, Option, Some, MatchOption, ⊤}
+use Rattle.std.specs.Prelude.{◌≡◌, ◌⊎◌, ℕ, ◌+◌, Bool, true, if◌then◌else◌, List, [], ◌∷◌, ◌++◌, length, slice_get, Option, Some, MatchOption, ⊤}
 use Rattle.dots_history.specs.Histories.{is_nil}
 use Rattle.dots_host.specs.declared.out.OwnedOut.{OwnedOut}
 use Rattle.dots_host.specs.declared.out.OwnedOut.TheVariants as owned
@@ -7,6 +7,9 @@ use Rattle.dots_host.specs.Acts.{Timed}
 use Rattle.dots_host.specs.Runs.{Gives}
 use Rattle.coap_exchange.specs.Firsts.{replace_at}
 use Rattle.coap_observe.specs.declared.observer.Observer.{Observer}
+use Rattle.coap_observe.specs.declared.due_among.DueAmong.{DueAmong}
+use Rattle.coap_observe.specs.declared.due_among.DueAmong.TheVariants.{Nobody, Anybody}
+use Rattle.coap_observe.specs.DueAmong.{AreTold}
 use Rattle.coap_observe.specs.Seen.{Lists, list_for}
 use Rattle.coap_observe.specs.Observed.{ObservedValue, is_due}
 use Rattle.coap_observe.specs.Observing.{after_notice}
@@ -44,6 +47,15 @@ Notifies lists bodies (o ∷ os) contacts sends new left =
 abbrev pub SentTo : ℕ → ℕ → List OwnedOut → List Timed → Type 0
 SentTo first last sends acts = Gives first sends acts × (last ≡ first + length sends)
 
+-- ---- who is due behind it
+
+abbrev pub IsOneDue : Lists → List ObservedValue → Type 0
+IsOneDue lists observed = (place : ℕ) × (o : ObservedValue) × (slice_get observed place ≡ Some o) × (is_due lists o ≡ true)
+
+-- Nobody is due any more; or one is that was passed over, and all are looked at the next time.
+abbrev pub IsKnown : Lists → DueAmong → List ObservedValue → Type 0
+IsKnown lists among observed = ((among ≡ Nobody) × AreTold lists Nobody observed) ⊎ ((among ≡ Anybody) × IsOneDue lists observed)
+
 -- ---- no two observe under one token
 
 abbrev pub Unlike : ObservedValue → List ObservedValue → Type 0
@@ -62,6 +74,11 @@ pub record IsMade (lists : Lists) (bodies : Bodies) (contacts : List PeerContact
   pub peer_is : peer ≡ one.observer.peer
   pub gone_is : gone ≡ is_gone lists one
   pub bytes : MatchOption made ⊤ (λ bytes. (id : ℕ) × (number_of one.observer.peer contacts ≡ Some id) × (bytes ≡ notice_bytes lists bodies id one))
+
+-- the one at a place was told, and the next one is looked for from a place on
+abbrev pub IsTold : Lists → List ObservedValue → ℕ → ObservedValue → List ObservedValue → ℕ → Type 0
+IsTold lists rows place one new next =
+    (id : ℕ) × (new ≡ replace_at place (after_notice lists id) rows) × (next ≡ (if is_gone lists one then place else place + 1))
 
 -- the one at a place was told or not, and the next one is looked for from a place on
 pub data OneNotified (lists : Lists) (bodies : Bodies) (rows : List ObservedValue) (contacts : List PeerContact) (place : ℕ) (one : ObservedValue)

@@ -1,18 +1,21 @@
 //! Notifications after an event.
 
-ghost use Rattle.std.specs.Prelude.{◌≡◌, ◌+◌, ◌^◌, ◌<◌, ◌≤◌, true, if◌then◌else◌, List, length, slice_get, Some, IfOk, IfSome};
+ghost use Rattle.std.specs.Prelude.{◌≡◌, ◌+◌, ◌^◌, ◌<◌, ◌≤◌, true, if◌then◌else◌, List, length, slice_get, Some, IfOk, IfSome, MatchOption};
 ghost use Rattle.dots_host.specs.Runs.{Added};
 ghost use Rattle.dots_host.specs.declared.out.OwnedOut.{OwnedOut};
 ghost use Rattle.dots_disk.specs.Becoming.{KeepsMedia};
 ghost use Rattle.coap_observe.specs.Observed.{ObservedValue, is_due};
+ghost use Rattle.coap_observe.specs.Observing.{NoneIsDue};
+ghost use Rattle.coap_observe.specs.DueAmong.{AreTold};
+ghost use Rattle.coap_observe.specs.declared.due_among.DueAmong.TheVariants.{Nobody, Anybody};
 ghost use Rattle.dots_notices.specs.Notices.{content_notice, gone_notice};
-ghost use Rattle.dots_notices.specs.Notifying.{Notifies, SentTo, IsMade, OneNotified};
+ghost use Rattle.dots_notices.specs.Notifying.{Notifies, SentTo, IsMade, OneNotified, IsTold, IsKnown};
 
 use crate::notices::{content_notice, gone_notice};
 use crate::sending::send_to;
 use crate::shows::Shows;
 use crate::watch::Watch;
-use coap_observe::Notice;
+use coap_observe::{DueAmong, Notice};
 use dots_disk::Host;
 use dots_lists::{Bytes, NoMemory};
 use std::alloc::Global;
@@ -30,12 +33,15 @@ struct Due {
 }
 
 /// Tells each observer that is due what there is to see now, in the order of registration (RFC 7641, section 4.2; RFC 9132, section
-/// 4.4.2.1). One for whose notification there is no memory is passed over, and stays due. Whether a notification left makes no difference.
-/// Answers whether one was passed over.
-pub fn notify<H: Host, S: Shows>(host: &mut H, alloc: Global, watch: &mut Watch, shows: &S) -> bool
+/// 4.4.2.1). Those alone are looked at among whom one may be due. One for whose notification there is no memory is passed over, and stays
+/// due. Whether a notification left makes no difference.
+pub fn notify<H: Host, S: Shows>(host: &mut H, alloc: Global, watch: &mut Watch, shows: &S)
     ensures told { (sends : List OwnedOut)
         × Notifies (S.Views.lists shows.now) (S.bodies shows.now) watch.old.observers.observed watch.old.sessions sends watch.new.observers.observed watch.new.sessions
         × Added (H.acts host.old) (H.acts host.new) (SentTo (H.moment host.old) (H.moment host.new) sends) }
+    // Where all others were told before, nobody is due any more, or one is that was passed over.
+    ensures due { AreTold (S.Views.lists shows.now) watch.old.due watch.old.observers.observed
+        → IsKnown (S.Views.lists shows.now) watch.new.due watch.new.observers.observed }
     ensures room { watch.new.observers.room ≡ watch.old.observers.room }
     ensures pairs { watch.new.observers.pairs ≡ watch.old.observers.pairs }
     ensures media { KeepsMedia (H.media host.old) (H.media host.new) }
@@ -50,17 +56,29 @@ pub fn notify<H: Host, S: Shows>(host: &mut H, alloc: Global, watch: &mut Watch,
         passed_over |= due.bytes.is_none();
         from = notify_one(host, watch, shows, due);
     }
-    passed_over
+    watch.due = due_behind(passed_over);
+}
+
+/// Among whom an observer may be due, once all were told but those that were passed over.
+fn due_behind(passed_over: bool) -> DueAmong
+    ensures { result ≡ (if passed_over then Anybody else Nobody) }
+{
+    if passed_over {
+        return DueAmong::Anybody;
+    }
+    DueAmong::Nobody
 }
 
 /// The first notification, from the place on, that is due.
 fn next_notice<S: Shows>(alloc: Global, watch: &Watch, shows: &S, from: usize) -> Option<Due>
-    ensures next { IfSome result (λ due. (one : ObservedValue) × (slice_get watch.now.observers.observed due.place ≡ Some one)
+    ensures next { MatchOption result (NoneIsDue (S.Views.lists shows.now) watch.now.due from (length watch.now.observers.observed) watch.now.observers.observed)
+        (λ due. (one : ObservedValue) × (slice_get watch.now.observers.observed due.place ≡ Some one)
         × (due.place < length watch.now.observers.observed) × (from ≤ due.place) × (is_due (S.Views.lists shows.now) one ≡ true)
-        × IsMade (S.Views.lists shows.now) (S.bodies shows.now) watch.now.sessions one due.peer due.gone due.bytes) }
+        × IsMade (S.Views.lists shows.now) (S.bodies shows.now) watch.now.sessions one due.peer due.gone due.bytes
+        × NoneIsDue (S.Views.lists shows.now) watch.now.due from due.place watch.now.observers.observed) }
     ensures few { IfSome result (λ due. due.place + 1 < 2 ^ 64) }
 {
-    let notice = watch.observers.next_due(shows, from)?;
+    let notice = watch.observers.next_due(shows, watch.due, from)?;
     let peer = notice.observer.peer;
     let bytes = match watch.sessions.next_number(peer) {
         Some(id) => bytes_of(alloc, shows, &notice, id).ok(),
@@ -106,6 +124,11 @@ fn notify_one<H: Host, S: Shows>(host: &mut H, watch: &mut Watch, shows: &S, due
     ensures told { (one : ObservedValue) → slice_get watch.old.observers.observed due.place ≡ Some one → (sends : List OwnedOut)
         × OneNotified (S.Views.lists shows.now) (S.bodies shows.now) watch.old.observers.observed watch.old.sessions due.place one sends watch.new.observers.observed watch.new.sessions result
         × Added (H.acts host.old) (H.acts host.new) (SentTo (H.moment host.old) (H.moment host.new) sends) }
+    // It is told exactly where its notification could be made.
+    ensures tells { (one : ObservedValue) → slice_get watch.old.observers.observed due.place ≡ Some one
+        → MatchOption due.bytes ((watch.new.observers.observed ≡ watch.old.observers.observed) × (result ≡ due.place + 1))
+        (λ _. IsTold (S.Views.lists shows.now) watch.old.observers.observed due.place one watch.new.observers.observed result) }
+    ensures due { watch.new.due ≡ watch.old.due }
     ensures room { watch.new.observers.room ≡ watch.old.observers.room }
     ensures pairs { watch.new.observers.pairs ≡ watch.old.observers.pairs }
     ensures media { KeepsMedia (H.media host.old) (H.media host.new) }

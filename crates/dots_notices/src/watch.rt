@@ -6,7 +6,7 @@ ghost use Rattle.coap_exchange.specs.Pairs.{is_pair};
 ghost use Rattle.coap_observe.specs.Observing.{has_room, number_for, registered, deregistered, without_id};
 ghost use Rattle.session_core.specs.Contacts.{is_of, heard_from};
 
-use coap_observe::{Observer, Observers, Views};
+use coap_observe::{DueAmong, Observer, Observers, Views};
 use session_core::Sessions;
 
 /// The observers of mitigations, and the sessions with all peers, whose Message IDs notifications take.
@@ -14,6 +14,8 @@ use session_core::Sessions;
 pub struct Watch {
     pub observers: Observers,
     pub sessions: Sessions,
+    /// Among whom an observer may be due: what the others were told last is what there is to see.
+    pub due: DueAmong,
 }
 
 impl Watch {

@@ -67,11 +67,18 @@ const THE_LAST: Table = (
     "notify 7; notify 8; notify 9; notify 10 = r1r1r1r1r2233242--",
 );
 
+/// Where one domain alone may have changed, only its observers are looked at.
+const ONE_DOMAIN: Table = (
+    "see 1:2; register 0 0 1; register 3 1 4; register 3 0 3; see 1:5; ",
+    "among 1 7; among 1 8; among 0 9; notify 10; notify 11 = r1r1r142--1232--",
+);
+
 #[test]
 fn observers_are_notified(rt: HostRuntime) -> Result<(), Fail> {
     let tables = [
         A_DAY,
         A_DAY_WITH_A_RESET,
+        ONE_DOMAIN,
         TWO_OF_A_PEER,
         A_GATEWAY,
         MOVING_DOWN,

@@ -1,14 +1,15 @@
 //! What observers are told.
 //!
 //! A step is one of these: a peer `register`s for a client of a domain, with a token of one byte, and the number of the reply is told
-//! behind an `r`, with 0 for none; it `deregister`s a token; it `reset`s a Message ID; there is from now on this to `see`; and the first
-//! observer that is due is `notify`ed, with this Message ID, by which its token and the number are told, with 0 where it is gone, or two dashes where none is due.
+//! behind an `r`, with 0 for none; it `deregister`s a token; it `reset`s a Message ID; there is from now on this to `see`; the first
+//! observer that is due is `notify`ed, with this Message ID, by which its token and the number are told, with 0 where it is gone, or two dashes where none is due;
+//! and with `among` the first of the domain that is named before the Message ID.
 
 use crate::registry::plain_views::PlainViews;
 use crate::registry::spelled::Spelled;
 use crate::registry::words::{NONE, byte, digit, small, three, two};
 use coap_message::Token;
-use coap_observe::{Notice, Observer, Observers};
+use coap_observe::{DueAmong, Notice, Observer, Observers};
 use dots_heads::Content;
 use dots_lists::Name;
 use dots_settings::Settings;
@@ -90,9 +91,14 @@ fn bytes_of_notice(notice: &Notice<'_>) -> [u8; 2] {
     [digit(u64::from(token)), digit(u64::from(number))]
 }
 
-/// Notifies the first observer that is due.
-fn notified(observers: &mut Observers, views: &PlainViews<'_>, id: u16) -> [u8; 2] {
-    let Some(notice) = observers.next_due(views, 0) else {
+/// Notifies the first of these observers that is due.
+fn notified(
+    observers: &mut Observers,
+    views: &PlainViews<'_>,
+    among: DueAmong,
+    id: u16,
+) -> [u8; 2] {
+    let Some(notice) = observers.next_due(views, among, 0) else {
         return [NONE, NONE];
     };
     let place = notice.place;
@@ -108,7 +114,19 @@ fn notify(
     step: &str,
 ) -> Result<(), Fail> {
     let id = small(step)?;
-    spelled.extend(&notified(observers, views, id));
+    spelled.extend(&notified(observers, views, DueAmong::Anybody, id));
+    Ok(())
+}
+
+fn among(
+    spelled: &mut Spelled,
+    observers: &mut Observers,
+    views: &PlainViews<'_>,
+    step: &str,
+) -> Result<(), Fail> {
+    let (domain, id) = two(step)?;
+    let among = DueAmong::Nobody.joined(domain);
+    spelled.extend(&notified(observers, views, among, id));
     Ok(())
 }
 
@@ -126,6 +144,7 @@ fn take(
         "reset" => reset(observers, step),
         "see" => see(views, step),
         "notify" => notify(spelled, observers, views, step),
+        "among" => among(spelled, observers, views, step),
         _ => Err(Fail::from("a verb")),
     }
 }

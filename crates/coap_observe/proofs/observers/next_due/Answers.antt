@@ -1,6 +1,7 @@
 use Rattle.std.proofs.Common.{◌≡◌, ◌<◌, ◌∷◌, true, length, get_or, add-one, ap, sym, subst, ◌∙◌, arith}
-use Rattle.std.specs.Prelude.{slice_get, is_none, nat_le}
+use Rattle.std.specs.Prelude.{slice_get, is_none, nat_le, ◌&&◌}
 use Rattle.std.proofs.lemmas.Bool.{and_parts, leb-true}
+use Rattle.coap_observe.specs.DueAmong.{includes_one}
 use Rattle.coap_observe.specs.Observed.{is_due}
 use Rattle.coap_observe.specs.Seen.{list_for}
 use Rattle.coap_observe.specs.Rolls.{observed_of, keys_of, has_key, one_at}
@@ -24,7 +25,7 @@ loop-place-preserved g c =
     let less : place < length rows = omega (arith, c.loop-place-test.true, c.len-place-end.ensures) in
     let there = sym (one_placed rows place less c.requires) ∙ ap (λ k. one_at k rows) (sym c.behind-key.ensures) ∙ c.one-one.ensures in
     record {
-      none = none_more (g.V.Views.lists c.args.views.now) c.args.from place (observed_of rows) c.one-one.result.now there (sym c.is_next.ensures ∙ c.if-is_next.false) c.loop-place.invariant.none;
+      none = none_more (g.V.Views.lists c.args.views.now) c.args.among c.args.from place (observed_of rows) c.one-one.result.now there (sym c.is_next.ensures ∙ c.if-is_next.false) c.loop-place.invariant.none;
       key = c.behind-key.ensures ∙ ap (λ k. get_or (c.args.roll.now.room ∷ keys_of rows) k 0) (sym (add-one place));
     }
 
@@ -36,14 +37,14 @@ returns-then-is_next-clause-next g c =
     let one = c.one-one.result.now in
     let less : place < length rows = omega (arith, c.loop-place-test.true, c.len-place-end.ensures) in
     let there = sym (one_placed rows place less c.requires) ∙ ap (λ k. one_at k rows) (sym c.behind-key.ensures) ∙ c.one-one.ensures in
-    let both = and_parts (nat_le c.args.from place) (is_due lists one) (sym c.is_next.ensures ∙ c.if-is_next.true) in
+    let both = and_parts (nat_le c.args.from place) (includes_one c.args.among one && is_due lists one) (sym c.is_next.ensures ∙ c.if-is_next.true) in
     let long = length_observed rows in
     record {
       one = one;
       there = there;
       within = omega (arith, less, long);
       later = leb-true c.args.from place both.0;
-      due = both.1;
+      due = (and_parts (includes_one c.args.among one) (is_due lists one) both.1).1;
       first = c.loop-place.invariant.none;
       observer_is = c.observer.ensures;
       number_is = c.number.ensures;

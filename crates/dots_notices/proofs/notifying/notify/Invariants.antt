@@ -1,15 +1,20 @@
-use Rattle.std.proofs.Common.{◌≡◌, List, length, ◌-◌}
+use Rattle.std.proofs.Common.{◌≡◌, true, false, List, length, ◌-◌}
 use Rattle.dots_host.specs.Runs.{Added}
 use Rattle.dots_host.specs.declared.out.OwnedOut.{OwnedOut}
 use Rattle.dots_disk.specs.Becoming.{KeepsMedia}
+use Rattle.coap_observe.specs.Observing.{NoneIsDue}
 use Rattle.dots_notices.specs.Notifying.{SentTo}
 use Rattle.dots_notices.proofs.Ordering.{Far}
+use Rattle.dots_notices.proofs.Quiet.{IsOneOwed}
 use Rattle.dots_notices.proofs.notifying.notify.Given as goal
 
 abbrev pub invariant-loop-due : goal.invariant-loop-due
 invariant-loop-due g l = record {
   told : (sends : List OwnedOut) × Far (g.S.Views.lists l.shows) (g.S.Shows.bodies l.shows) l.fn.watch.observers.observed l.fn.watch.sessions l.from l.watch.observers.observed l.watch.sessions sends
       × Added (g.H.Wire.acts l.fn.host) (g.H.Wire.acts l.host) (SentTo (g.H.Wire.moment l.fn.host) (g.H.Wire.moment l.host) sends);
+  quiet : l.passed_over ≡ false → NoneIsDue (g.S.Views.lists l.shows) l.fn.watch.due 0 l.from l.watch.observers.observed;
+  owed : l.passed_over ≡ true → IsOneOwed (g.S.Views.lists l.shows) l.from l.watch.observers.observed;
+  due : l.watch.due ≡ l.fn.watch.due;
   room : l.watch.observers.room ≡ l.fn.watch.observers.room;
   pairs : l.watch.observers.pairs ≡ l.fn.watch.observers.pairs;
   media : KeepsMedia (g.H.Disk.media l.fn.host) (g.H.Disk.media l.host);

@@ -1,0 +1,31 @@
+-- Among whom an observer may be due.
+use Rattle.std.specs.Prelude.{◌≡◌, ℕ, Bool, true, false, ◌==◌, if◌then◌else◌, List, [], ◌∷◌, ⊤}
+use Rattle.coap_observe.specs.declared.due_among.DueAmong.{DueAmong}
+use Rattle.coap_observe.specs.declared.due_among.DueAmong.TheVariants.{Nobody, Domain, Anybody}
+use Rattle.coap_observe.specs.Seen.{Lists}
+use Rattle.coap_observe.specs.Observed.{ObservedValue, is_due}
+
+abbrev pub is_nobody : DueAmong → Bool
+is_nobody Nobody = true
+is_nobody (Domain own) = false
+is_nobody Anybody = false
+
+-- the observers of a domain are among them
+abbrev pub includes : DueAmong → ℕ → Bool
+includes Nobody domain = false
+includes (Domain own) domain = own == domain
+includes Anybody domain = true
+
+abbrev pub includes_one : DueAmong → ObservedValue → Bool
+includes_one among o = includes among o.observer.domain
+
+-- and the observers of one domain more
+abbrev pub joined : DueAmong → ℕ → DueAmong
+joined Nobody domain = Domain domain
+joined (Domain own) domain = if own == domain then Domain own else Anybody
+joined Anybody domain = Anybody
+
+-- each that isn't among them has been told what there is to see
+abbrev pub AreTold : Lists → DueAmong → List ObservedValue → Type 0
+AreTold lists among [] = ⊤
+AreTold lists among (o ∷ os) = (includes_one among o ≡ false → is_due lists o ≡ false) × AreTold lists among os

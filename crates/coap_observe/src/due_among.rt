@@ -1,0 +1,45 @@
+ghost use Rattle.std.specs.Prelude.{◌≡◌};
+ghost use Rattle.coap_observe.specs.DueAmong.{is_nobody, includes, joined};
+
+/// Among whom an observer may be due. Only these are looked at where one is looked for.
+#[derive(Clone, Copy, PartialEq, Eq)]
+pub enum DueAmong {
+    Nobody,
+    /// The observers of the mitigations of one domain, by its number in the settings.
+    Domain(u16),
+    Anybody,
+}
+
+impl DueAmong {
+    /// Whether no observer may be due.
+    pub fn is_nobody(self) -> bool
+        ensures { result ≡ is_nobody self }
+    {
+        match self {
+            DueAmong::Nobody => true,
+            DueAmong::Domain(_) | DueAmong::Anybody => false,
+        }
+    }
+
+    /// Whether the observers of this domain are among them.
+    pub fn includes(self, domain: u16) -> bool
+        ensures { result ≡ includes self domain }
+    {
+        match self {
+            DueAmong::Nobody => false,
+            DueAmong::Domain(own) => own == domain,
+            DueAmong::Anybody => true,
+        }
+    }
+
+    /// These, and the observers of the domain.
+    pub fn joined(self, domain: u16) -> DueAmong
+        ensures { result ≡ joined self domain }
+    {
+        match self {
+            DueAmong::Nobody => DueAmong::Domain(domain),
+            DueAmong::Domain(own) if own == domain => self,
+            _ => DueAmong::Anybody,
+        }
+    }
+}
