@@ -18,6 +18,7 @@ use Rattle.dots_machine.specs.Handlings.{Handling, IsHandling, EachHandling, han
 use Rattle.dots_machine.specs.Adding.{AcceptsDatagram, Accepts, AddsExactly}
 use Rattle.dots_machine.proofs.OneAnswer.{one_verdict, says}
 use Rattle.dots_machine.proofs.Hearing.{answer_history, tick_history}
+use Rattle.dots_machine.proofs.Connections.{opens_history}
 use Rattle.dots_machine.proofs.Observing.{told_history}
 use Rattle.dots_machine.proofs.Handlings.{by_handlings, each_weaker}
 
@@ -66,7 +67,7 @@ module _ (settings : SettingsValue) (old : State) (at : ℕ) (new : State) where
       by_history same (inr (entry, is, accepts)) = inr (entry, sym same ∙ is, accepts)
   added_by event.End owed step = inl (ap (λ state. state.history) step.1)
   added_by event.Failed owed step = inl (ap (λ state. state.history) step.1)
-  added_by (event.Opened c p) owed step = inl (ap (λ state. state.history) step.1)
+  added_by (event.Opened c p) owed step = inl (opens_history (later old at) p c step.0 new step.2)
   added_by (event.Piece c p) owed step = inl (told_history settings (later old at) new step.0 step.2)
   added_by (event.Closed c) owed step = inl (ap (λ state. state.history) step.1)
   added_by event.Tick owed step = inl (tick_history settings (later old at) step.0 new step.2)

@@ -39,6 +39,7 @@ use Rattle.dots_machine.specs.Facts.{Facts, stands_as, facts_of}
 use Rattle.dots_machine.specs.Deciding.{in_domain, with_mid, put_in, put_for, delete_in, delete_for, get_for, config_answer, put_config_for, clear_answer, delete_config_for, config_view, get_config_for, answer_to, asks_for}
 use Rattle.dots_machine.proofs.Verdicts.{request_valued, request_there, ruled}
 use Rattle.dots_machine.proofs.Hearing.{answer_history, answer_time, tick_history}
+use Rattle.dots_machine.proofs.Connections.{opens_history}
 use Rattle.dots_machine.proofs.Observing.{told_history}
 use Rattle.dots_machine.proofs.Outcomes.{AcceptsWell, puts_accept, deletes_accept, gets_accept, put_configs_accept, delete_configs_accept, get_configs_accept}
 
@@ -246,7 +247,7 @@ module _ (settings : SettingsValue) where
             })
     step_apart event.End owed step = without_request tt (ap (λ (state : State). alone domain state.history) step.1)
     step_apart event.Failed owed step = without_request tt (ap (λ (state : State). alone domain state.history) step.1)
-    step_apart (event.Opened c p) owed step = without_request tt (ap (λ (state : State). alone domain state.history) step.1)
+    step_apart (event.Opened c p) owed step = without_request tt (ap (alone domain) (opens_history (later old at) p c step.0 new step.2))
     step_apart (event.Piece c p) owed step = without_request tt (ap (alone domain) (told_history settings (later old at) new step.0 step.2))
     step_apart (event.Closed c) owed step = without_request tt (ap (λ (state : State). alone domain state.history) step.1)
     step_apart event.Tick owed step = without_request tt (ap (alone domain) (tick_history settings (later old at) step.0 new step.2))

@@ -36,6 +36,7 @@ use Rattle.dots_machine.proofs.Outcomes.{AcceptsWell, IsRefusal, reject_refuses,
 use Rattle.dots_machine.proofs.Verdicts.{request_valued, request_there}
 use Rattle.dots_machine.specs.Observing.{number_of}
 use Rattle.dots_machine.proofs.Hearing.{answer_history, answer_time, tick_history}
+use Rattle.dots_machine.proofs.Connections.{opens_history}
 use Rattle.dots_machine.proofs.Observing.{told_history}
 use Rattle.dots_machine.proofs.Apart.{untouched, Elsewhere, asked_apart}
 use Rattle.dots_machine.proofs.Handlings.{by_handlings}
@@ -293,7 +294,7 @@ module _ (settings : SettingsValue) (domain : ℕ) (old : State) (handling : Han
       a.decides
   by_event event.End owed is sent step = nothing_asked event.End is (λ p d e. cc e) (ap (λ (state : State). state.history) step.1)
   by_event event.Failed owed is sent step = nothing_asked event.Failed is (λ p d e. cc e) (ap (λ (state : State). state.history) step.1)
-  by_event (event.Opened c p) owed is sent step = nothing_asked (event.Opened c p) is (λ p d e. cc e) (ap (λ (state : State). state.history) step.1)
+  by_event (event.Opened c p) owed is sent step = nothing_asked (event.Opened c p) is (λ p d e. cc e) (opens_history now p c step.0 new step.2)
   by_event (event.Piece c p) owed is sent step = nothing_asked (event.Piece c p) is (λ p d e. cc e) (told_history settings now new step.0 step.2)
   by_event (event.Closed c) owed is sent step = nothing_asked (event.Closed c) is (λ p d e. cc e) (ap (λ (state : State). state.history) step.1)
   by_event event.Tick owed is sent step = nothing_asked event.Tick is (λ p d e. cc e) (tick_history settings now step.0 new step.2)

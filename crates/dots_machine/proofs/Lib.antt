@@ -1,4 +1,5 @@
 pub mod BodyRefusals
+pub mod Connections
 pub mod Observing
 pub mod Quiet
 pub mod Apart

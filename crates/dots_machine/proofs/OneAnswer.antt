@@ -12,12 +12,13 @@ use Rattle.coap_message.specs.Message.{CoapMessage, header, options_bytes, paylo
 use Rattle.dots_keys.proofs.OneMeaning.{OneReading}
 use Rattle.dots_settings.specs.Settings.{SettingsValue}
 use Rattle.dots_machine.specs.declared.received.Received.{Received}
+use Rattle.stream_table.specs.Lines.{opening}
 use Rattle.dots_machine.specs.Verdict.{Verdict}
 use Rattle.dots_settings.specs.Lookups.{role_of}
 use Rattle.dots_machine.specs.Domains.{is_gateway, is_stranger}
 use Rattle.dots_machine.specs.Requests.{IsReceived}
 use Rattle.dots_machine.specs.Observing.{number_of}
-use Rattle.dots_machine.specs.Machine.{State, later, restarted, LacksMemory, Decides, by_silence, by_rules, for_want_of_memory, sends_of, after, watched, Notified, Answers, Ticks, Step, facts_in, rules_say}
+use Rattle.dots_machine.specs.Machine.{State, later, restarted, LacksMemory, Decides, by_silence, by_rules, for_want_of_memory, sends_of, after, watched, Notified, Answers, Ticks, connected, disconnected, turned_away, Step, facts_in, rules_say}
 use Rattle.dots_machine.specs.Answering.{AreBytes, IsHandedIn, SaysUnavailable, IsUnavailable, ComesFrom, HaveOneAnswer}
 use Rattle.dots_machine.proofs.OneRequest.{one_received}
 use Rattle.dots_machine.proofs.Verdicts.{valued}
@@ -149,13 +150,15 @@ one_answer settings old event.End at owed others new last are a b =
 one_answer settings old event.Failed at owed others new last are a b =
     inl (both_from settings event.Failed owed others new last [] old (refl, ap outs_of a.0, a.1) (refl, ap outs_of b.0, b.1))
 one_answer settings old (event.Opened c p) at owed others new last are a b =
-    inl (both_from settings (event.Opened c p) owed others new last [] (later old at) (refl, ap outs_of a.0, a.1) (refl, ap outs_of b.0, b.1))
+    inl (both_from settings (event.Opened c p) owed others new last (turned_away c (opening p c old.lines)) (connected p c (later old at))
+    (sends_back owed new a.0 a.1 ∙ a.2.0, a.2.1)
+    (sends_back others last b.0 b.1 ∙ b.2.0, b.2.1))
 one_answer settings old (event.Piece c p) at owed others new last are a b =
     inl (both_from settings (event.Piece c p) owed others new last [] (later old at)
     (refl, subst (λ sends. Notified settings (later old at) sends new) (sym (sends_back owed new a.0 a.1)) a.2)
     (refl, subst (λ sends. Notified settings (later old at) sends last) (sym (sends_back others last b.0 b.1)) b.2))
 one_answer settings old (event.Closed c) at owed others new last are a b =
-    inl (both_from settings (event.Closed c) owed others new last [] (later old at) (refl, ap outs_of a.0, a.1) (refl, ap outs_of b.0, b.1))
+    inl (both_from settings (event.Closed c) owed others new last [] (disconnected c (later old at)) (refl, ap outs_of a.0, a.1) (refl, ap outs_of b.0, b.1))
 one_answer settings old event.Tick at owed others new last are a b =
     inl (both_from settings event.Tick owed others new last [] (later old at)
     (refl, subst (λ sends. Ticks settings (later old at) sends new) (sym (sends_back owed new a.0 a.1)) a.2)

@@ -20,9 +20,10 @@ use Rattle.dots_machine.specs.declared.verdict.Verdict.TheVariants as verdict
 use Rattle.dots_machine.specs.Domains.{is_gateway}
 use Rattle.dots_machine.specs.Exchanges.{exchange_in}
 use Rattle.dots_machine.specs.Replies.{unavailable}
-use Rattle.dots_machine.specs.Machine.{State, later, Decides, by_silence, by_rules, for_want_of_memory, sends_of, after, seen_in, watched, Notified, Answers, Ticks, beating, Step, facts_in, rules_say}
+use Rattle.dots_machine.specs.Machine.{State, later, Decides, by_silence, by_rules, for_want_of_memory, sends_of, after, seen_in, watched, Notified, Answers, Ticks, beating, Opens, Step, facts_in, rules_say}
 use Rattle.dots_machine.proofs.Verdicts.{valued}
 use Rattle.dots_machine.proofs.Hearing.{hears_once, left, left_apart, tick_apart}
+use Rattle.dots_machine.proofs.Connections.{opens_observers, opens_once}
 use Rattle.dots_machine.proofs.Quiet.{sends_size, one_size}
 use Rattle.dots_machine.proofs.Observing.{AllBeats, watches_once, told_apart, told_once, unshown_alike, border, notices_no_beats, all_beats}
 use Rattle.dots_machine.proofs.OneRequest.{Same, one, first_refused, second_refused, same_received}
@@ -198,7 +199,7 @@ step_keeps_apart settings old (event.Datagram peer datagram) at owed new apart s
     told_apart settings (left settings now peer datagram step.0 new step.2) new step.2.notices (left_apart settings now peer datagram step.0 new step.2 apart) step.2.notified
 step_keeps_apart settings old event.End at owed new apart step = subst (λ (s : State). Apart s.observers) (sym step.1) apart
 step_keeps_apart settings old event.Failed at owed new apart step = subst (λ (s : State). Apart s.observers) (sym step.1) apart
-step_keeps_apart settings old (event.Opened c p) at owed new apart step = subst (λ (s : State). Apart s.observers) (sym step.1) apart
+step_keeps_apart settings old (event.Opened c p) at owed new apart step = subst Apart (sym (opens_observers (later old at) p c step.0 new step.2)) apart
 step_keeps_apart settings old (event.Piece c p) at owed new apart step = told_apart settings (later old at) new step.0 apart step.2
 step_keeps_apart settings old (event.Closed c) at owed new apart step = subst (λ (s : State). Apart s.observers) (sym step.1) apart
 step_keeps_apart settings old event.Tick at owed new apart step = tick_apart settings (later old at) step.0 new step.2 apart
@@ -215,7 +216,9 @@ step_once settings old (event.Datagram peer datagram) at owed others new last (a
     (λ sends x y. answered_once settings (later old at) peer datagram sends new last apart x y)
 step_once settings old event.End at owed others new last (apart, a) (too, b) outs = (a.0 ∙ sym b.0, a.1 ∙ sym b.1)
 step_once settings old event.Failed at owed others new last (apart, a) (too, b) outs = (a.0 ∙ sym b.0, a.1 ∙ sym b.1)
-step_once settings old (event.Opened c p) at owed others new last (apart, a) (too, b) outs = (a.0 ∙ sym b.0, a.1 ∙ sym b.1)
+step_once settings old (event.Opened c p) at owed others new last (apart, a) (too, b) outs =
+    one_turn owed others new last (λ sends. Opens (later old at) p c sends new) (λ sends. Opens (later old at) p c sends last) a b outs
+    (λ sends x y. (opens_once (later old at) p c sends new x sends last y).1)
 step_once settings old (event.Piece c p) at owed others new last (apart, a) (too, b) outs =
     one_turn owed others new last (λ sends. Notified settings (later old at) sends new) (λ sends. Notified settings (later old at) sends last) a b outs
     (λ sends x y. told_once settings (later old at) new last sends apart x y)

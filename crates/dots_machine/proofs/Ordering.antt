@@ -53,6 +53,7 @@ use Rattle.dots_machine.specs.Facts.{Facts}
 use Rattle.dots_machine.specs.Deciding.{in_domain, with_mid, put_in, put_for, delete_in, delete_for, get_for, config_answer, put_config_for, clear_answer, delete_config_for, config_view, get_config_for, answer_to, asks_for}
 use Rattle.dots_machine.proofs.Verdicts.{are_facts, valued}
 use Rattle.dots_machine.proofs.Hearing.{answer_history, answer_time, tick_history, tick_time}
+use Rattle.dots_machine.proofs.Connections.{opens_history, opens_time}
 use Rattle.dots_machine.proofs.Observing.{told_history, told_time}
 use Rattle.dots_machine.proofs.Orderly.{share_later, share_without, share_with, higher_more, higher_with}
 use Rattle.dots_machine.proofs.Handlings.{by_handlings}
@@ -273,10 +274,12 @@ step_orderly settings old (event.Datagram peer datagram) at owed new orderly ste
     (verdict_keeps settings now a.decided (accepts_as settings now peer datagram a.decided a.decides) (later_orderly old at orderly))
 step_orderly settings old event.End at owed new orderly step = subst IsOrderly (sym step.1) orderly
 step_orderly settings old event.Failed at owed new orderly step = subst IsOrderly (sym step.1) orderly
-step_orderly settings old (event.Opened c p) at owed new orderly step = subst IsOrderly (sym step.1) (later_orderly old at orderly)
+step_orderly settings old (event.Opened c p) at owed new orderly step =
+    orderly_as (later old at) new (opens_history (later old at) p c step.0 new step.2) (opens_time (later old at) p c step.0 new step.2) (later_orderly old at orderly)
 step_orderly settings old (event.Piece c p) at owed new orderly step =
     orderly_as (later old at) new (told_history settings (later old at) new step.0 step.2) (told_time settings (later old at) new step.0 step.2) (later_orderly old at orderly)
-step_orderly settings old (event.Closed c) at owed new orderly step = subst IsOrderly (sym step.1) (later_orderly old at orderly)
+step_orderly settings old (event.Closed c) at owed new orderly step =
+    orderly_as (later old at) new (ap (λ (s : State). s.history) step.1) (ap (λ (s : State). s.time) step.1) (later_orderly old at orderly)
 step_orderly settings old event.Tick at owed new orderly step =
     orderly_as (later old at) new (tick_history settings (later old at) step.0 new step.2) (tick_time settings (later old at) step.0 new step.2) (later_orderly old at orderly)
 step_orderly settings old event.Restart at owed new orderly step = subst IsOrderly (sym step.1) (restarted_orderly settings old at orderly)

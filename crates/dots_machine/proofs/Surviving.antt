@@ -25,6 +25,7 @@ use Rattle.dots_machine.specs.declared.ending.Stop.TheVariants as stop
 use Rattle.dots_machine.specs.Endings.{Stops, EndsBehind, Ran}
 use Rattle.dots_machine.specs.Machine.{State, later, after, Step}
 use Rattle.dots_machine.proofs.Hearing.{answer_history, answer_time, tick_history, tick_time}
+use Rattle.dots_machine.proofs.Connections.{opens_history, opens_time}
 use Rattle.dots_machine.proofs.Observing.{told_history, told_time}
 use Rattle.dots_machine.specs.Surviving.{Story, told_by, entries_shown, shown, time_shown, time_at, past_of, NoneBefore, MeansAt, EachFrom, LeavesAt}
 
@@ -173,7 +174,7 @@ pub step_tells : (settings : SettingsValue) (old : State) (what : Event) (at : �
 step_tells settings old (event.Datagram peer datagram) at owed new step = subst (TellFew (length new.history)) (sym step.1) (tell_each new step.0)
 step_tells settings old event.End at owed new step = none_owed _ owed step.0
 step_tells settings old event.Failed at owed new step = none_owed _ owed step.0
-step_tells settings old (event.Opened c p) at owed new step = none_owed _ owed step.0
+step_tells settings old (event.Opened c p) at owed new step = subst (TellFew (length new.history)) (sym step.1) (tell_each new step.0)
 step_tells settings old (event.Piece c p) at owed new step = subst (TellFew (length new.history)) (sym step.1) (tell_each new step.0)
 step_tells settings old (event.Closed c) at owed new step = none_owed _ owed step.0
 step_tells settings old event.Tick at owed new step = subst (TellFew (length new.history)) (sym step.1) (tell_each new step.0)
@@ -200,7 +201,7 @@ step_grows settings old (event.Datagram peer datagram) at owed new step =
     (grown.0, answer_history settings now peer datagram step.0 new step.2 ∙ grown.1)
 step_grows settings old event.End at owed new step = same_grows old new (ap (λ (state : State). state.history) step.1)
 step_grows settings old event.Failed at owed new step = same_grows old new (ap (λ (state : State). state.history) step.1)
-step_grows settings old (event.Opened c p) at owed new step = same_grows old new (ap (λ (state : State). state.history) step.1)
+step_grows settings old (event.Opened c p) at owed new step = same_grows old new (opens_history (later old at) p c step.0 new step.2)
 step_grows settings old (event.Piece c p) at owed new step = same_grows old new (told_history settings (later old at) new step.0 step.2)
 step_grows settings old (event.Closed c) at owed new step = same_grows old new (ap (λ (state : State). state.history) step.1)
 step_grows settings old event.Tick at owed new step = same_grows old new (tick_history settings (later old at) step.0 new step.2)
@@ -224,7 +225,7 @@ step_timely settings old (event.Datagram peer datagram) at owed new timely step 
     moved_on old new at timely (answer_time settings now peer datagram step.0 new step.2 ∙ after_time step.2.decided now)
 step_timely settings old event.End at owed new timely step = subst (λ (state : State). last_time old.history ≤ state.time) (sym step.1) timely
 step_timely settings old event.Failed at owed new timely step = subst (λ (state : State). last_time old.history ≤ state.time) (sym step.1) timely
-step_timely settings old (event.Opened c p) at owed new timely step = moved_on old new at timely (ap (λ (state : State). state.time) step.1)
+step_timely settings old (event.Opened c p) at owed new timely step = moved_on old new at timely (opens_time (later old at) p c step.0 new step.2)
 step_timely settings old (event.Piece c p) at owed new timely step = moved_on old new at timely (told_time settings (later old at) new step.0 step.2)
 step_timely settings old (event.Closed c) at owed new timely step = moved_on old new at timely (ap (λ (state : State). state.time) step.1)
 step_timely settings old event.Tick at owed new timely step = moved_on old new at timely (tick_time settings (later old at) step.0 new step.2)

@@ -31,10 +31,11 @@ IsUnavailable (event.Datagram peer datagram) owed = SaysUnavailable peer datagra
 IsUnavailable _ owed = ⊥
 
 -- The sends, and the state after them, come from these replies in this state: behind the replies the observers that are due are told, or some
--- aren't, for want of memory; and at a tick the heartbeats are sent.
+-- aren't, for want of memory; at a tick the heartbeats are sent; and as a connection opens there is nothing but the reply.
 abbrev pub ComesFrom : SettingsValue → Event → List OwnedOut → State → List OwnedOut → State → Type 0
 ComesFrom settings (event.Datagram peer datagram) replies state sends new = (notices : List OwnedOut) × (sends ≡ replies ++ notices) × Notified settings state notices new
 ComesFrom settings (event.Piece conn piece) replies state sends new = (replies ≡ []) × Notified settings state sends new
+ComesFrom settings (event.Opened conn peer) replies state sends new = (sends ≡ replies) × (new ≡ state)
 ComesFrom settings event.Tick replies state sends new = (replies ≡ []) × Ticks settings state sends new
 ComesFrom settings _ replies state sends new = (replies ≡ []) × (sends ≡ []) × (new ≡ state)
 

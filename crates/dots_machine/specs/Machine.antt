@@ -1,5 +1,5 @@
 -- The machine: its state, what it decides on a datagram, and a step.
-use Rattle.std.specs.Prelude.{◌≡◌, ℕ, Bool, true, false, max, List, [], ◌∷◌, ◌++◌, map, flat_map, None, Option, IsOk}
+use Rattle.std.specs.Prelude.{◌≡◌, ℕ, Bool, true, false, max, List, [], ◌∷◌, ◌++◌, map, flat_map, None, Option, Result, Ok, Err, IsOk}
 use Rattle.dots_host.specs.declared.event.Event.{Event}
 use Rattle.dots_host.specs.declared.event.Event.TheVariants as event
 use Rattle.dots_host.specs.declared.out.OwnedOut.{OwnedOut}
@@ -21,7 +21,8 @@ use Rattle.session_core.specs.Contacts.{unheard, heard_from}
 use Rattle.session_core.specs.Beating.{Beating}
 use Rattle.dots_notices.specs.Beats.{beats, after_beats}
 use Rattle.dots_notices.specs.Notifying.{Notifies}
-use Rattle.stream_table.specs.Lines.{PeerLines, no_lines}
+use Rattle.stream_table.specs.declared.refused.Refused.{Refused}
+use Rattle.stream_table.specs.Lines.{PeerLines, no_lines, opened, opening, forgotten}
 use Rattle.dots_heads.specs.declared.reject.Reject.{Reject}
 use Rattle.dots_heads.specs.declared.reject.Reject.TheVariants as reject
 use Rattle.dots_heads.specs.Heads.{head_of}
@@ -206,17 +207,39 @@ pub record Ticks (settings : SettingsValue) (state : State) (sends : List OwnedO
   pub beaten : Beats settings told heartbeats new
   pub sends_are : sends ≡ notices ++ heartbeats
 
+-- ---- connections to the data channel
+
+-- A peer opened a connection. What had its number before is forgotten, and it is taken where the peer is a client of which fewer than two are
+-- open then.
+abbrev pub connected : ℕ → ℕ → State → State
+connected peer conn state = record state { lines = opened peer conn state.lines }
+
+-- a connection was closed: it is forgotten, with the bytes of it that aren't answered
+abbrev pub disconnected : ℕ → State → State
+disconnected conn state = record state { lines = forgotten conn state.lines }
+
+-- a connection that isn't taken is closed, and one that is taken is sent nothing
+abbrev pub turned_away : ℕ → Result Unit Refused → List OwnedOut
+turned_away conn (Ok taken) = []
+turned_away conn (Err refused) = owned.Close conn ∷ []
+
+-- A peer opens a connection to the data channel (RFC 8783, section 3): that of a stranger or a gateway is closed, and so is a third one of
+-- a client. No observer is told.
+abbrev pub Opens : State → ℕ → ℕ → List OwnedOut → State → Type 0
+Opens state peer conn sends new = (sends ≡ turned_away conn (opening peer conn state.lines)) × (new ≡ connected peer conn state)
+
 -- One event: the sends that it owes, each beside the state that it tells, and the state after it. End and a failure of the host move no
--- time; a restart keeps what was accepted alone; a connection that opens or closes moves the time and no more, and by a piece of one the
+-- time; a restart keeps what was accepted alone; a connection that was closed is forgotten, and nobody is told; and by a piece of one the
 -- observers that are due are told.
 abbrev pub Step : SettingsValue → State → Event → ℕ → List (State × OwnedOut) → State → Type 0
 Step settings old (event.Datagram peer datagram) at owed new = in_one_turn (λ sends. Answers settings (later old at) peer datagram sends new) owed new
 Step settings old event.End at owed new = (owed ≡ []) × (new ≡ old)
 Step settings old event.Failed at owed new = (owed ≡ []) × (new ≡ old)
 Step settings old event.Restart at owed new = (owed ≡ []) × (new ≡ restarted settings old at)
+Step settings old (event.Opened conn peer) at owed new = in_one_turn (λ sends. Opens (later old at) peer conn sends new) owed new
+Step settings old (event.Closed conn) at owed new = (owed ≡ []) × (new ≡ disconnected conn (later old at))
 Step settings old event.Tick at owed new = in_one_turn (λ sends. Ticks settings (later old at) sends new) owed new
 Step settings old (event.Piece conn piece) at owed new = in_one_turn (λ sends. Notified settings (later old at) sends new) owed new
-Step settings old _ at owed new = (owed ≡ []) × (new ≡ later old at)
 
 -- In the middle of an event the disk failed. These turns of the event were carried out, and the one after them was being written, which has an
 -- entry. What comes behind it in the event isn't taken up. An event that writes nothing can't be cut so.

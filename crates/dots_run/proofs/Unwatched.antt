@@ -41,7 +41,8 @@ use Rattle.dots_machine.specs.Exchanges.{exchange_in, dismissed}
 use Rattle.dots_machine.specs.Observing.{bodies_at, asked_in, in_known, asked_of, asked_by, unless_dismissed, watching_in, Watches, by_message, unreadable, by_stranger, is_unavailable, observing}
 use Rattle.dots_machine.specs.Answering.{IsHandedIn}
 use Rattle.dots_machine.specs.Replies.{unavailable as refused}
-use Rattle.dots_machine.specs.Machine.{State, later, restarted, LacksMemory, after, seen_in, Notified, Answers, Ticks, beating, Step}
+use Rattle.dots_machine.specs.Machine.{State, later, restarted, LacksMemory, after, seen_in, Notified, Answers, Ticks, beating, disconnected, Step}
+use Rattle.dots_machine.proofs.Connections.{opens_observers, opens_once}
 use Rattle.dots_machine.proofs.Hearing.{left, hears_observers, after_observers}
 use Rattle.dots_machine.proofs.OneAnswer.{one_verdict, says, same_replies, same_left}
 use Rattle.session_core.specs.declared.contact.PeerContact.{PeerContact}
@@ -254,7 +255,7 @@ step_none : (settings : SettingsValue) (old : State) (event : Event) (at : ℕ) 
 step_none settings old (event.Datagram peer bytes) at owed new are none unwatching step = (answered_none settings (later old at) peer bytes are unwatching none step.0 new step.2).2
 step_none settings old event.End at owed new are none unwatching step = ap (λ (s : State). s.observers) step.1 ∙ none
 step_none settings old event.Failed at owed new are none unwatching step = ap (λ (s : State). s.observers) step.1 ∙ none
-step_none settings old (event.Opened c p) at owed new are none unwatching step = ap (λ (s : State). s.observers) step.1 ∙ none
+step_none settings old (event.Opened c p) at owed new are none unwatching step = opens_observers (later old at) p c step.0 new step.2 ∙ none
 step_none settings old (event.Piece c p) at owed new are none unwatching step = (tells_none settings (later old at) new step.0 none step.2).2
 step_none settings old (event.Closed c) at owed new are none unwatching step = ap (λ (s : State). s.observers) step.1 ∙ none
 step_none settings old event.Tick at owed new are none unwatching step = (ticked_none settings (later old at) new step.0 none step.2).2
@@ -279,12 +280,13 @@ decided settings old (event.Datagram peer bytes) at owed others new last are (no
     (subst (λ sends. count_by unavailable sends ≡ 0) (outs_are owed new a.0 a.1) nought) (subst (λ sends. count_by unavailable sends ≡ 0) (outs_are others last b.0 b.1) nil))
 decided settings old event.End at owed others new last are (none, unwatching, a) (too, also, b) nought nil = rests owed others new last old a b
 decided settings old event.Failed at owed others new last are (none, unwatching, a) (too, also, b) nought nil = rests owed others new last old a b
-decided settings old (event.Opened c p) at owed others new last are (none, unwatching, a) (too, also, b) nought nil = rests owed others new last (later old at) a b
+decided settings old (event.Opened c p) at owed others new last are (none, unwatching, a) (too, also, b) nought nil =
+    turn_one owed others new last a.0 b.0 a.1 b.1 (opens_once (later old at) p c a.0 new a.2 b.0 last b.2)
 decided settings old (event.Piece c p) at owed others new last are (none, unwatching, a) (too, also, b) nought nil =
     let one = tells_none settings (later old at) new a.0 none a.2 in
     let another = tells_none settings (later old at) last b.0 none b.2 in
     turn_one owed others new last a.0 b.0 a.1 b.1 (one.0 ∙ sym another.0, one.1 ∙ sym another.1)
-decided settings old (event.Closed c) at owed others new last are (none, unwatching, a) (too, also, b) nought nil = rests owed others new last (later old at) a b
+decided settings old (event.Closed c) at owed others new last are (none, unwatching, a) (too, also, b) nought nil = rests owed others new last (disconnected c (later old at)) a b
 decided settings old event.Tick at owed others new last are (none, unwatching, a) (too, also, b) nought nil =
     let one = ticked_none settings (later old at) new a.0 none a.2 in
     let another = ticked_none settings (later old at) last b.0 none b.2 in

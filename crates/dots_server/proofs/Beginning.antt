@@ -1,5 +1,6 @@
 -- What a server represents when it begins, and when it begins anew.
 use Rattle.std.proofs.Common.{◌≡◌, ℕ, ◌<◌, ◌≤◌, ◌^◌, true, List, [], ◌∷◌, map, max, Option, Some, None, refl, sym, ap, ◌∙◌, subst, arith, inr}
+use Rattle.std.specs.Prelude.{flat_map}
 use Rattle.std.specs.List.{list_all, AllByRecursion}
 use Rattle.std.proofs.lemmas.Bool.{and_from}
 use Rattle.dots_disk.specs.Media.{Media}
@@ -30,7 +31,11 @@ use Rattle.dots_ledger.proofs.Wholes.{ledger_whole}
 use Rattle.dots_registry.specs.Limits.{ClientsKeepLimits}
 use Rattle.dots_registry.proofs.CalmLimits.{limits_calm, limits_whole, own_calm, early_calm}
 use Rattle.dots_notices.specs.declared.watch.Watch.{Watch}
+use Rattle.coap_observe.specs.DueAmong.{AreTold}
+use Rattle.coap_observe.specs.Observing.{ObserversValue}
+use Rattle.dots_registry.specs.ObserverViews.{views_of}
 use Rattle.session_core.specs.Contacts.{unheard}
+use Rattle.stream_table.specs.Lines.{PeerLines, no_lines}
 use Rattle.dots_machine.specs.Machine.{State, begun_from, restarted}
 use Rattle.dots_server.specs.ServerValues.{ServerValue, observers_of, ledger_of, IsKept, IsServing}
 
@@ -43,9 +48,10 @@ bounded_by (e ∷ entries) each = and_from (within_bounds e) (list_all within_bo
 
 module _ (settings : SettingsValue) (at : ℕ) (tables : LedgerValue) (held : List Entry) (early : at < 2 ^ 48) (represents : ledger.Represents tables settings held held)
     (time : time_of tables.registry ≡ max at (last_time held)) (slots : tables.journal.slots ≡ slots_of settings) (each : AllByRecursion HasRecord held)
-    (watch : Watch) (unobserved : watch.observers ≡ observers_of settings []) (unheard_all : watch.sessions ≡ map unheard settings.peers) where
+    (watch : Watch) (unobserved : watch.observers ≡ observers_of settings []) (unheard_all : watch.sessions ≡ map unheard settings.peers)
+    (lines : List PeerLines) (closed : lines ≡ flat_map no_lines settings.peers) where
   abbrev begun : ServerValue
-  begun = record { settings = settings; registry = tables.registry; journal = tables.journal; watch = watch }
+  begun = record { settings = settings; registry = tables.registry; journal = tables.journal; watch = watch; lines = lines }
 
   pub begun_kept : IsKept begun settings (restarted settings (begun_from settings held) at) held
   begun_kept =
@@ -58,6 +64,7 @@ module _ (settings : SettingsValue) (at : ℕ) (tables : LedgerValue) (held : Li
             time_is = time;
             observers = unobserved;
             contacts = unheard_all;
+            lines = closed;
             early = omega (arith, early, young);
             own = own_calm settings held represents.calm;
             bounded = bounded_by held each;
@@ -70,7 +77,12 @@ module _ (settings : SettingsValue) (at : ℕ) (tables : LedgerValue) (held : Li
       }
 
   pub begun_lives : IsServing begun
-  begun_lives = record { state = restarted settings (begun_from settings held) at; entries = held; represents = begun_kept.represents }
+  begun_lives = record {
+    state = restarted settings (begun_from settings held) at;
+    entries = held;
+    represents = begun_kept.represents;
+    told = subst (λ (v : ObserversValue). AreTold (views_of tables.registry) watch.due v.observed) (sym unobserved) tt;
+  }
 
 -- ---- a server begins anew
 
@@ -132,6 +144,7 @@ module _ (settings : SettingsValue) (at : ℕ) (old new : ServerValue) (state : 
             time_is = now;
             observers = begun_anew.represents.represents.observers;
             contacts = begun_anew.represents.represents.contacts;
+            lines = begun_anew.represents.represents.lines;
             early = subst (λ t. max at t < 2 ^ 48) same_time young;
             own = kept.represents.represents.own;
             bounded = kept.represents.represents.bounded;

@@ -19,3 +19,4 @@ pub mod Verdicts
 pub mod Sessions
 pub mod Watching
 pub mod Telling
+pub mod Connecting

@@ -1,11 +1,8 @@
 -- What a server represents, as it goes on.
-use Rattle.std.proofs.Common.{◌≡◌, ℕ, ◌<◌, ◌^◌, Bool, true, ◌&&◌, nat_le, List, [], ◌∷◌, ◌++◌, max, refl, sym, ap, ◌∙◌, subst, arith, ◌⊎◌, inl, inr}
+use Rattle.std.proofs.Common.{◌≡◌, ◌==◌, ℕ, ◌<◌, ◌≤◌, ◌^◌, Bool, true, false, ◌&&◌, nat_le, nat_lt, cond, length, append-nil, List, [], ◌∷◌, ◌++◌, max, refl, sym, ap, ◌∙◌, subst, arith, ◌⊎◌, inl, inr}
 use Rattle.std.specs.List.{list_all}
 use Rattle.std.proofs.lemmas.Bool.{and_parts, and_from}
 use Rattle.std.proofs.lemmas.List.Folds.{list_all-append}
-use Rattle.dots_host.specs.declared.event.What.{What}
-use Rattle.dots_host.specs.declared.event.What.TheVariants as what_is
-use Rattle.dots_host.specs.Acts.{event_of}
 use Rattle.dots_settings.specs.declared.limits.Limits.{Limits}
 use Rattle.dots_settings.specs.Settings.{SettingsValue}
 use Rattle.dots_history.specs.declared.entry.Entry.{Entry}
@@ -20,13 +17,24 @@ use Rattle.dots_ledger.specs.LedgerValues.{CanAccept, joins_at}
 use Rattle.dots_ledger.specs.LedgerValues as ledger
 use Rattle.dots_registry.specs.Limits.{ClientsKeepLimits}
 use Rattle.dots_registry.proofs.FittingEntries.{limits_later, limits_fitting}
-use Rattle.dots_machine.specs.Machine.{State, later, with_entry, Step}
+use Rattle.dots_machine.specs.Machine.{State, later, with_entry}
 use Rattle.dots_notices.specs.declared.watch.Watch.{Watch}
+use Rattle.std.proofs.lemmas.List.Elements.{filter-append}
+use Rattle.coap_observe.specs.declared.observer.Observer.{Observer}
+use Rattle.coap_observe.specs.declared.due_among.DueAmong.TheVariants.{Anybody}
+use Rattle.coap_observe.specs.DueAmong.{joined, AreTold}
+use Rattle.coap_observe.specs.Seen.{list_for}
+use Rattle.coap_observe.proofs.Telling.{anybody_told, changed_told}
+use Rattle.dots_history.specs.Histories.{alone}
+use Rattle.dots_registry.specs.ObserverViews.{views_of}
+use Rattle.conflict_rules.proofs.Alone.{views_apart}
+use Rattle.dots_machine.specs.Observing.{seen_among, seen_at}
+use Rattle.dots_server.proofs.Watching.{seen_same}
 use Rattle.dots_server.specs.ServerValues.{ServerValue, ledger_of, Represents, RepresentsWith, IsKept, IsServing, IsAcceptable}
 
 -- ---- the time of the tables was moved
 
-module _ (at : ℕ) (old new : ServerValue) (early : at < 2 ^ 48) (same : new.settings ≡ old.settings) (watch : new.watch ≡ old.watch) (journal : new.journal ≡ old.journal) (time : time_of new.registry ≡ max at (time_of old.registry))
+module _ (at : ℕ) (old new : ServerValue) (early : at < 2 ^ 48) (same : new.settings ≡ old.settings) (watch : new.watch ≡ record old.watch { due = Anybody }) (connections : new.lines ≡ old.lines) (journal : new.journal ≡ old.journal) (time : time_of new.registry ≡ max at (time_of old.registry))
     (goes : (settings : SettingsValue) (history entries : List Entry) → ledger.Represents (ledger_of old) settings history entries → ledger.Represents (ledger_of new) settings history entries) where
   with_later : (settings : SettingsValue) (state : State) (entries : List Entry) → RepresentsWith old settings state entries → RepresentsWith new settings (later state at) entries
   with_later settings state entries represents =
@@ -39,6 +47,7 @@ module _ (at : ℕ) (old new : ServerValue) (early : at < 2 ^ 48) (same : new.se
           time_is = time ∙ ap (max at) represents.represents.time_is;
           observers = ap (λ (w : Watch). w.observers) watch ∙ represents.represents.observers;
           contacts = ap (λ (w : Watch). w.sessions) watch ∙ represents.represents.contacts;
+          lines = connections ∙ represents.represents.lines;
           early = omega (arith, early, young);
           own = represents.represents.own;
           bounded = represents.represents.bounded;
@@ -56,7 +65,16 @@ module _ (at : ℕ) (old new : ServerValue) (early : at < 2 ^ 48) (same : new.se
     state = later serving.state at;
     entries = serving.entries;
     represents = subst (λ s. RepresentsWith new s (later serving.state at) serving.entries) (sym same) (with_later old.settings serving.state serving.entries serving.represents);
+    told = subst (λ (w : Watch). AreTold (views_of new.registry) w.due w.observers.observed) (sym watch) (anybody_told (views_of new.registry) old.watch.observers.observed);
   }
+
+-- a time that isn't later changes nothing
+pub kept_still : (at : ℕ) (server : ServerValue) (settings : SettingsValue) (state : State) (entries : List Entry) → at ≤ time_of server.registry → IsKept server settings state entries
+    → IsKept server settings (later state at) entries
+kept_still at server settings state entries early kept =
+    let is = kept.represents.represents.time_is in
+    let same : state.time ≡ max at state.time = omega (arith, early, is) in
+    subst (λ t. IsKept server settings (record state { time = t }) entries) same kept
 
 -- ---- an entry is taken
 
@@ -89,7 +107,18 @@ can_accept server entry serving can = record {
   joins = joins_there server server.settings serving.state entry serving.represents.represents can;
 }
 
-module _ (entry : Entry) (old new : ServerValue) (can : IsAcceptable old entry) (same : new.settings ≡ old.settings) (watch : new.watch ≡ old.watch) (slots : new.journal.slots ≡ old.journal.slots) (time : time_of new.registry ≡ entry.time) where
+-- what others see isn't changed by an entry of a domain
+elsewhere : (settings : SettingsValue) (t : ℕ) (history : List Entry) (entry : Entry) (o : Observer) → (entry.domain == o.domain) ≡ false
+    → list_for (seen_at settings t history) o ≡ list_for (seen_at settings t (history ++ entry ∷ [])) o
+elsewhere settings t history entry o other =
+    ap (λ views. seen_among o.mid (cond (nat_lt o.domain (length settings.domains)) views []))
+    (views_apart t history (history ++ entry ∷ []) o.domain o.cuid
+    (sym
+    (filter-append (λ (e : Entry). e.domain == o.domain) history (entry ∷ [])
+    ∙ ap (λ b. alone o.domain history ++ cond b (entry ∷ []) []) other
+    ∙ append-nil (alone o.domain history))))
+
+module _ (entry : Entry) (old new : ServerValue) (can : IsAcceptable old entry) (same : new.settings ≡ old.settings) (watch : new.watch ≡ record old.watch { due = joined old.watch.due entry.domain }) (connections : new.lines ≡ old.lines) (slots : new.journal.slots ≡ old.journal.slots) (time : time_of new.registry ≡ entry.time) where
   -- it is in the tables and on the disk
   with_entry_kept : (settings : SettingsValue) (state : State) (entries few : List Entry) → RepresentsWith old settings state entries → ledger.Represents (ledger_of new) settings (state.history ++ entry ∷ []) few
       → RepresentsWith new settings (with_entry state entry) few
@@ -103,6 +132,7 @@ module _ (entry : Entry) (old new : ServerValue) (can : IsAcceptable old entry) 
           time_is = time ∙ at;
           observers = ap (λ (w : Watch). w.observers) watch ∙ represents.represents.observers;
           contacts = ap (λ (w : Watch). w.sessions) watch ∙ represents.represents.contacts;
+          lines = connections ∙ represents.represents.lines;
           early = represents.represents.early;
           own = own_with settings old state entry represents.represents can;
           bounded = list_with within_bounds state.history entry represents.represents.bounded fits.0;
@@ -126,45 +156,50 @@ module _ (entry : Entry) (old new : ServerValue) (can : IsAcceptable old entry) 
   lives_with few serving tables = record {
     state = with_entry serving.state entry;
     entries = few;
-    represents = subst (λ s. RepresentsWith new s (with_entry serving.state entry) few) (sym same) (with_entry_kept old.settings serving.state serving.entries few serving.represents tables);
+    represents = subst (λ s. RepresentsWith new s (with_entry serving.state entry) few) (sym same) here;
+    told = subst (λ (w : Watch). AreTold (views_of new.registry) w.due w.observers.observed) (sym watch)
+        (changed_told (views_of old.registry) (views_of new.registry) old.watch.due entry.domain
+        (λ o other.
+        ap (λ lists. list_for lists o) (seen_same old old.settings serving.state serving.represents.represents)
+        ∙ elsewhere old.settings serving.state.time serving.state.history entry o other
+        ∙ ap (λ lists. list_for lists o) (sym (seen_same new old.settings (with_entry serving.state entry) here.represents)))
+        old.watch.observers.observed serving.told);
   }
+    where
+      here : RepresentsWith new old.settings (with_entry serving.state entry) few
+      here = with_entry_kept old.settings serving.state serving.entries few serving.represents tables
 
 -- the disk failed, and the tables are as they were
-pub lives_still : (old new : ServerValue) (few : List Entry) (serving : IsServing old) → new.settings ≡ old.settings → new.watch ≡ old.watch → new.journal.slots ≡ old.journal.slots → time_of new.registry ≡ time_of old.registry
-    → ledger.Represents (ledger_of new) old.settings serving.state.history few → IsServing new
-lives_still old new few serving same watch slots time tables =
-    let represents = serving.represents in record {
-      state = serving.state;
-      entries = few;
-      represents = subst (λ s. RepresentsWith new s serving.state few) (sym same) (record {
-        represents = record {
-          settings_are = same;
-          is_of = tables.is_of;
-          registry = tables.registry;
-          time_is = time ∙ represents.represents.time_is;
-          observers = ap (λ (w : Watch). w.observers) watch ∙ represents.represents.observers;
-          contacts = ap (λ (w : Watch). w.sessions) watch ∙ represents.represents.contacts;
-          early = represents.represents.early;
-          own = represents.represents.own;
-          bounded = represents.represents.bounded;
-          limits = represents.represents.limits;
-        };
-        ledger = tables;
-        slots = slots ∙ represents.slots;
-      });
-    }
-
-abbrev pub MovesAlone : What → Type 0
-MovesAlone what =
-    ((c : ℕ) × (p : ℕ) × (what ≡ what_is.Opened c p)) ⊎ ((c : ℕ) × (what ≡ what_is.Closed c))
-
--- a connection that opens or closes moves the time and no more
-pub moves_alone : (settings : SettingsValue) (what : What) (room : List ℕ) (at : ℕ) (state : State) → MovesAlone what → Step settings state (event_of what room) at [] (later state at)
-moves_alone settings what room at state is = by_case is
+pub lives_still : (domain : ℕ) (old new : ServerValue) (few : List Entry) (serving : IsServing old) → new.settings ≡ old.settings → new.watch ≡ record old.watch { due = joined old.watch.due domain } → new.lines ≡ old.lines
+    → new.journal.slots ≡ old.journal.slots → time_of new.registry ≡ time_of old.registry → ledger.Represents (ledger_of new) old.settings serving.state.history few → IsServing new
+lives_still domain old new few serving same watch connections slots time tables = record {
+  state = serving.state;
+  entries = few;
+  represents = subst (λ s. RepresentsWith new s serving.state few) (sym same) here;
+  told = subst (λ (w : Watch). AreTold (views_of new.registry) w.due w.observers.observed) (sym watch)
+      (changed_told (views_of old.registry) (views_of new.registry) old.watch.due domain
+      (λ o other. ap (λ lists. list_for lists o) (seen_same old old.settings serving.state represents.represents ∙ sym (seen_same new old.settings serving.state here.represents)))
+      old.watch.observers.observed serving.told);
+}
   where
-    so : (w : What) → what ≡ w → Step settings state (event_of w room) at [] (later state at) → Step settings state (event_of what room) at [] (later state at)
-    so w e s = subst (λ w. Step settings state (event_of w room) at [] (later state at)) (sym e) s
+    represents : RepresentsWith old old.settings serving.state serving.entries
+    represents = serving.represents
 
-    by_case : MovesAlone what → Step settings state (event_of what room) at [] (later state at)
-    by_case (inl (c, p, e)) = so (what_is.Opened c p) e (refl, refl)
-    by_case (inr (c, e)) = so (what_is.Closed c) e (refl, refl)
+    here : RepresentsWith new old.settings serving.state few
+    here = record {
+      represents = record {
+        settings_are = same;
+        is_of = tables.is_of;
+        registry = tables.registry;
+        time_is = time ∙ represents.represents.time_is;
+        observers = ap (λ (w : Watch). w.observers) watch ∙ represents.represents.observers;
+        contacts = ap (λ (w : Watch). w.sessions) watch ∙ represents.represents.contacts;
+        lines = connections ∙ represents.represents.lines;
+        early = represents.represents.early;
+        own = represents.represents.own;
+        bounded = represents.represents.bounded;
+        limits = represents.represents.limits;
+      };
+      ledger = tables;
+      slots = slots ∙ represents.slots;
+    }

@@ -101,6 +101,7 @@ module _ (heard : Bool) (peer : ℕ) (old : ServerValue) where
           observers = of.observers;
           contacts = ap (λ t. if heard then heard_from peer t old.watch.sessions else old.watch.sessions) of.time_is
               ∙ ap (λ rows. if heard then heard_from peer state.time rows else rows) of.contacts;
+          lines = of.lines;
           early = of.early;
           own = of.own;
           bounded = of.bounded;
@@ -118,6 +119,7 @@ module _ (heard : Bool) (peer : ℕ) (old : ServerValue) where
     state = met heard peer serving.state;
     entries = serving.entries;
     represents = with_met old.settings serving.state serving.entries serving.represents;
+    told = serving.told;
   }
 
 -- a peer that isn't heard, or has no row, leaves the server as it is
@@ -139,6 +141,7 @@ module _ (server : ServerValue) (sessions : List PeerContact) where
     time_is = is.time_is;
     observers = is.observers;
     contacts = refl;
+    lines = is.lines;
     early = is.early;
     own = is.own;
     bounded = is.bounded;
@@ -285,6 +288,7 @@ module _ (old : ServerValue) (now : ℕ) (rows : List PeerContact) (time_is : no
           contacts = left (beating settings state) (agrees old settings state of)
               ∙ ap (λ t. after_beats (beating settings state) t old.watch.sessions) (time_is ∙ of.time_is)
               ∙ ap (after_beats (beating settings state) state.time) of.contacts;
+          lines = of.lines;
           early = of.early;
           own = of.own;
           bounded = of.bounded;
@@ -302,6 +306,7 @@ module _ (old : ServerValue) (now : ℕ) (rows : List PeerContact) (time_is : no
     state = beaten old.settings serving.state;
     entries = serving.entries;
     represents = with_beaten old.settings serving.state serving.entries serving.represents;
+    told = serving.told;
   }
 
 module _ (settings : SettingsValue) (entries : List Entry) (peer : ℕ) (own : list_all (is_own settings) entries ≡ true) where

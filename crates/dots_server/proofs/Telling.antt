@@ -1,18 +1,23 @@
 -- A server goes on representing a state as observers come, go and are told.
-use Rattle.std.proofs.Common.{◌≡◌, ℕ, List, [], refl, sym, ap, ◌∙◌, subst}
+use Rattle.std.proofs.Common.{◌≡◌, ◌⊎◌, inl, inr, ℕ, List, [], refl, sym, ap, ◌∙◌, subst}
 use Rattle.dots_host.specs.declared.out.OwnedOut.{OwnedOut}
 use Rattle.coap_exchange.specs.declared.pair.Pair.{Pair}
 use Rattle.coap_observe.specs.Seen.{Lists}
-use Rattle.coap_observe.specs.Observed.{ObservedValue}
+use Rattle.std.specs.Prelude.{not}
+use Rattle.coap_observe.specs.declared.due_among.DueAmong.{DueAmong}
+use Rattle.coap_observe.specs.DueAmong.{AreTold}
+use Rattle.coap_observe.specs.Observed.{ObservedValue, is_token, had_id}
+use Rattle.coap_observe.proofs.Telling.{registered_told, filtered_told, anybody_told}
 use Rattle.coap_observe.specs.Observing.{ObserversValue}
 use Rattle.session_core.specs.declared.contact.PeerContact.{PeerContact}
 use Rattle.dots_notices.specs.declared.watch.Watch.{Watch}
-use Rattle.dots_notices.specs.Notifying.{Notifies}
+use Rattle.dots_notices.specs.Notifying.{Notifies, IsKnown}
 use Rattle.dots_notices.proofs.Ordering.{pass_all}
 use Rattle.dots_settings.specs.Settings.{SettingsValue}
 use Rattle.dots_history.specs.declared.entry.Entry.{Entry}
 use Rattle.dots_registry.specs.ObserverViews.{views_of}
 use Rattle.dots_machine.specs.declared.watching.Watching.{Watching}
+use Rattle.dots_machine.specs.declared.watching.Watching.TheVariants as watching
 use Rattle.dots_machine.specs.Verdict.{Verdict}
 use Rattle.dots_machine.specs.Observing.{bodies_at, observing}
 use Rattle.dots_machine.specs.Machine.{State, seen_in, watched, Notified}
@@ -39,6 +44,7 @@ module _ (old : ServerValue) (watch : Watch) (settings : SettingsValue) (state :
           time_is = of.time_is;
           observers = observers_are;
           contacts = sessions_are;
+          lines = of.lines;
           early = of.early;
           own = of.own;
           bounded = of.bounded;
@@ -50,6 +56,13 @@ module _ (old : ServerValue) (watch : Watch) (settings : SettingsValue) (state :
 
   pub watch_kept : (entries : List Entry) → IsKept old settings state entries → IsKept with_watch settings with_told entries
   watch_kept entries kept = record { represents = watch_represents entries kept.represents; rests = kept.rests }
+
+-- what others were told goes on being what there is to see
+still_told : (lists : Lists) (among : DueAmong) (room peer : ℕ) (asked : Watching) (os : List ObservedValue) → AreTold lists among os → AreTold lists among (changed room lists peer asked os)
+still_told lists among room peer (watching.Registers observer) os told = registered_told lists among room observer os told
+still_told lists among room peer (watching.Leaves token) os told = filtered_told lists among (λ o. not (is_token peer token o)) os told
+still_told lists among room peer (watching.Rejects id) os told = filtered_told lists among (λ o. not (had_id peer id o)) os told
+still_told lists among room peer watching.Nothing os told = told
 
 -- ---- what is asked of observation is done
 module _ (old : ServerValue) (peer : ℕ) (asked : Watching) where
@@ -83,6 +96,7 @@ module _ (old : ServerValue) (peer : ℕ) (asked : Watching) where
     represents = watch_represents old with_changed.watch old.settings serving.state
         (changed old.settings.limits.observers (seen_in old.settings serving.state) peer asked serving.state.observers) serving.state.contacts
         (changed_are old.settings serving.state serving.represents.represents) serving.represents.represents.contacts serving.entries serving.represents;
+    told = still_told (views_of old.registry) old.watch.due old.watch.observers.room peer asked old.watch.observers.observed serving.told;
   }
 
 -- ---- observers are told
@@ -103,13 +117,18 @@ module _ (old : ServerValue) (watch : Watch) (room : watch.observers.room ≡ ol
   told_kept settings state entries kept =
       watch_kept old watch settings state watch.observers.observed watch.sessions (others_are settings state kept.represents.represents) refl entries kept
 
-  pub told_lives : IsServing old → IsServing with_others
-  told_lives serving = record {
+  pub told_lives : IsKnown (views_of old.registry) watch.due watch.observers.observed → IsServing old → IsServing with_others
+  told_lives known serving = record {
     state = record serving.state { observers = watch.observers.observed; contacts = watch.sessions };
     entries = serving.entries;
     represents = watch_represents old watch old.settings serving.state watch.observers.observed watch.sessions
         (others_are old.settings serving.state serving.represents.represents) refl serving.entries serving.represents;
+    told = by_known known;
   }
+    where
+      by_known : IsKnown (views_of old.registry) watch.due watch.observers.observed → AreTold (views_of old.registry) watch.due watch.observers.observed
+      by_known (inl (is, told)) = subst (λ among. AreTold (views_of old.registry) among watch.observers.observed) (sym is) told
+      by_known (inr (is, one)) = subst (λ among. AreTold (views_of old.registry) among watch.observers.observed) (sym is) (anybody_told (views_of old.registry) watch.observers.observed)
 
   -- as the machine tells them
   pub told_so : (settings : SettingsValue) (state : State) (sends : List OwnedOut) → Represents old settings state

@@ -1,6 +1,8 @@
 -- What a server does with what is asked of observation, and what its observers are shown.
 use Rattle.std.specs.Prelude.{◌≡◌, ℕ, true, nat_lt, if◌then◌else◌, List, [], length, filter, Option, None, ⊤}
 use Rattle.std.specs.List.{list_any}
+use Rattle.dots_host.specs.declared.event.What.{What}
+use Rattle.dots_host.specs.declared.event.What.TheVariants as what
 use Rattle.coap_exchange.specs.declared.pair.Pair.{Pair}
 use Rattle.coap_exchange.specs.Pairs.{is_pair}
 use Rattle.coap_observe.specs.Seen.{Lists}
@@ -88,6 +90,13 @@ pub record DoesDecided (settings : SettingsValue) (state : State) (peer : ℕ) (
 abbrev pub MayObserve : List Pair → Watching → Type 0
 MayObserve pairs (watching.Registers observer) = list_any (is_pair observer.peer observer.domain) pairs ≡ true
 MayObserve pairs _ = ⊤
+
+-- an event by which observers are told: a datagram, a piece of a connection, or a tick
+abbrev pub Tells : What → Type 0
+Tells (what.Datagram from len) = ⊤
+Tells (what.Piece conn len) = ⊤
+Tells what.Tick = ⊤
+Tells _ = ⊥
 
 -- ---- what observers are shown
 

@@ -1,5 +1,5 @@
--- What a server keeps: the settings, a registry of what the history comes to, the journal in which its entries are, the observers and the sessions
--- with its peers.
+-- What a server keeps: the settings, a registry of what the history comes to, the journal in which its entries are, the observers, the sessions
+-- with its peers, and the connections that are open.
 use Rattle.std.specs.Prelude.{◌≡◌, ℕ, ◌<◌, ◌^◌, true, List, ⊤}
 use Rattle.std.specs.List.{list_all}
 use Rattle.dots_settings.specs.Settings.{SettingsValue}
@@ -10,6 +10,7 @@ use Rattle.dots_laws.specs.Calm.{is_own}
 use Rattle.dots_laws.specs.Fits.{last_time, has_one_peer}
 use Rattle.dots_registry.specs.RegistryValues.{RegistryValue, IsOf, time_of}
 use Rattle.dots_registry.specs.RegistryValues as registry
+use Rattle.dots_registry.specs.ObserverViews.{views_of}
 use Rattle.dots_registry.specs.Fitting.{fits_now}
 use Rattle.slot_store.specs.StoreValues.{JournalValue}
 use Rattle.slot_journal.specs.Sizes.{slots_of}
@@ -18,8 +19,10 @@ use Rattle.dots_ledger.specs.LedgerValues as ledger
 use Rattle.dots_registry.specs.Limits.{ClientsKeepLimits}
 use Rattle.coap_exchange.specs.Pairs.{pairs_of}
 use Rattle.coap_observe.specs.Observed.{ObservedValue}
+use Rattle.coap_observe.specs.DueAmong.{AreTold}
 use Rattle.coap_observe.specs.Observing.{ObserversValue}
 use Rattle.dots_notices.specs.declared.watch.Watch.{Watch}
+use Rattle.stream_table.specs.Lines.{PeerLines}
 use Rattle.dots_machine.specs.Verdict.{Verdict}
 use Rattle.dots_machine.specs.declared.verdict.Verdict.TheVariants as verdict
 use Rattle.dots_machine.specs.Machine.{State}
@@ -29,6 +32,7 @@ pub record ServerValue : Type 0 where
   pub registry : RegistryValue
   pub journal : JournalValue
   pub watch : Watch
+  pub lines : List PeerLines
 
 -- the observers, with the room that the settings say
 abbrev pub observers_of : SettingsValue → List ObservedValue → ObserversValue
@@ -38,7 +42,7 @@ abbrev pub ledger_of : ServerValue → LedgerValue
 ledger_of server = record { registry = server.registry; journal = server.journal }
 
 -- A server represents a state: its registry is of the settings, and represents the history at the state's time, which is below
--- 2^48; its observers and its sessions are those of the state; and the entries are the settings' own and within bounds, and the clients keep the limits.
+-- 2^48; its observers, its sessions and its connections are those of the state; and the entries are the settings' own and within bounds, and the clients keep the limits.
 pub record Represents (server : ServerValue) (settings : SettingsValue) (state : State) : Type 0 where
   pub settings_are : server.settings ≡ settings
   pub is_of : IsOf settings server.registry
@@ -46,6 +50,7 @@ pub record Represents (server : ServerValue) (settings : SettingsValue) (state :
   pub time_is : time_of server.registry ≡ state.time
   pub observers : server.watch.observers ≡ observers_of settings state.observers
   pub contacts : server.watch.sessions ≡ state.contacts
+  pub lines : server.lines ≡ state.lines
   pub early : state.time < 2 ^ 48
   pub own : list_all (is_own settings) state.history ≡ true
   pub bounded : list_all within_bounds state.history ≡ true
@@ -62,11 +67,13 @@ pub record IsKept (server : ServerValue) (settings : SettingsValue) (state : Sta
   pub represents : RepresentsWith server settings state entries
   pub rests : Kept settings.limits.remembered (last_time state.history) entries state.history
 
--- it represents some state, of which some entries are on its disk
+-- It represents some state, of which some entries are on its disk. What its observers were told last is what there is to see, but for those among
+-- whom one may be due.
 pub record IsServing (server : ServerValue) : Type 0 where
   pub state : State
   pub entries : List Entry
   pub represents : RepresentsWith server server.settings state entries
+  pub told : AreTold (views_of server.registry) server.watch.due server.watch.observers.observed
 
 -- An entry can be taken: it is of the registry's time, and for each state that the server represents it fits the history, is the settings' own,
 -- and has the peer of each live mitigation of its client.

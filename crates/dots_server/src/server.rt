@@ -1,4 +1,4 @@
-//! The server: the settings, what was accepted, in its tables and on the disk, and who observes and was heard.
+//! The server: the settings, what was accepted, in its tables and on the disk, who observes and was heard, and what is connected.
 
 ghost use Rattle.std.specs.Prelude.{◌≡◌, ◌≢◌, ℕ, ◌<◌, ◌≤◌, ◌⊎◌, ◌^◌, [], ◌∷◌, length, true, if◌then◌else◌, List, map, None, IfOk, IfErr, OnOk, OnErr, ⊤};
 ghost use Rattle.std.specs.Io.KnownBytes.{Appends};
@@ -22,19 +22,22 @@ ghost use Rattle.slot_journal.specs.Untaken.{RefusesLedger, IsFailure};
 ghost use Rattle.dots_machine.specs.Machine.{State, begun_from, later, restarted, sends_of, after, beating};
 ghost use Rattle.dots_machine.specs.Report.{report_of};
 ghost use Rattle.dots_registry.specs.RegistryValues.{time_of};
+ghost use Rattle.dots_registry.specs.ObserverViews.{views_of};
 ghost use Rattle.session_core.specs.Contacts.{heard_from, unheard};
 ghost use Rattle.dots_notices.specs.Beats.{beats};
-ghost use Rattle.dots_notices.specs.Notifying.{SentTo};
+ghost use Rattle.dots_notices.specs.Notifying.{SentTo, IsKnown};
 ghost use Rattle.dots_server.specs.ServerValues.{observers_of, Represents, IsKept, CanCarryOut, IsAccepted};
 ghost use Rattle.dots_server.specs.Sessions.{beaten};
 ghost use Rattle.dots_server.specs.Taking.{Took, BrokeOff, Answered, Failing};
 ghost use Rattle.dots_server.specs.Turning.{IsServed, TurnedTo, Broke};
+ghost use Rattle.dots_server.specs.Observing.{Tells};
 
 use crate::beating::PeerBeats;
 use crate::gathering::Gatherer;
 use crate::report::{put_packets, put_rows};
 use crate::verdict::Verdict;
-use coap_observe::Observers;
+use coap_observe::{DueAmong, Observers};
+use dots_data::RestStream;
 use dots_disk::Host;
 use dots_host::{Got, Sink, What};
 use dots_ledger::Ledger;
@@ -46,6 +49,7 @@ use session_core::Sessions;
 use slot_journal::{DiskFault, JournalFault};
 use std::alloc::Global;
 use std::marker::Model;
+use stream_table::StreamTable;
 
 /// A server: its settings, and what it has accepted.
 #[derive(Drop)]
@@ -53,11 +57,11 @@ pub struct Server {
     pub(crate) alloc: Global,
     pub(crate) settings: Settings,
     pub(crate) ledger: Ledger,
-    /// The observers, and the sessions with the peers.
+    /// The observers, and the sessions with the peers. An observer may be due whose domain something was accepted for; any, where a second
+    /// passed, or one wasn't told for want of memory.
     pub(crate) watch: Watch,
-    /// Whether an observer may be due: something was accepted, a second passed, or one wasn't told for want of memory. Where it is false
-    /// none is looked at.
-    pub(crate) stale: bool,
+    /// The connections that are open, with what is held of each.
+    pub(crate) lines: StreamTable<RestStream>,
 }
 
 impl Model for Server {
@@ -65,9 +69,9 @@ impl Model for Server {
 
     ghost Value = { ServerValue };
 
-    ghost view = { λ server. record { settings = server.settings; registry = server.ledger.registry; journal = server.ledger.journal; watch = server.watch } };
+    ghost view = { λ server. record { settings = server.settings; registry = server.ledger.registry; journal = server.ledger.journal; watch = server.watch; lines = server.lines } };
 
-    ghost invariant = { λ server. IsServing (record { settings = server.settings; registry = server.ledger.registry; journal = server.ledger.journal; watch = server.watch }) };
+    ghost invariant = { λ server. IsServing (record { settings = server.settings; registry = server.ledger.registry; journal = server.ledger.journal; watch = server.watch; lines = server.lines }) };
 }
 
 /// The report couldn't be written.
@@ -108,13 +112,14 @@ impl Server {
         ensures beside { H.Disk.beside host.old host.new }
     {
         let watch = watch_for(alloc, &settings)?;
+        let lines = StreamTable::new(alloc, &settings)?;
         let ledger = Ledger::begin(alloc, host, &settings, at)?;
         Ok(Server {
             alloc,
             settings,
             ledger,
             watch,
-            stale: false,
+            lines,
         })
     }
 
@@ -180,6 +185,9 @@ impl Server {
             → Took settings state (event_of got.now.what room.now) got.now.at self.old self.new entries (H.media host.old) (H.media host.new) (H.acts host.old) (H.acts host.new)) }
         ensures failed { OnErr result ((settings : SettingsValue) (state : State) (entries : List Entry) → IsKept self.old settings state entries
             → BrokeOff settings state (event_of got.now.what room.now) got.now.at self.old entries (H.media host.old) (H.media host.new) (H.acts host.old) (H.acts host.new)) }
+        // Behind an event by which observers are told none is due any more; or one is that was passed over for want of memory, and all are
+        // looked at by the next such event.
+        ensures observers { OnOk result (Tells got.now.what → IsKnown (views_of self.new.registry) self.new.watch.due self.new.watch.observers.observed) }
         ensures adds { Added (H.acts host.old) (H.acts host.new) (λ _. ⊤) }
         ensures settings { self.new.settings ≡ self.old.settings }
         ensures slots { self.new.journal.slots ≡ self.old.journal.slots }
@@ -205,8 +213,14 @@ impl Server {
                 return Ok(());
             }
             What::End | What::Failed | What::Restart => return Ok(()),
-            What::Opened { .. } | What::Closed { .. } => {
+            What::Opened { conn, from } => {
                 self.move_time(got.at);
+                self.open_connection(host, from, conn);
+                return Ok(());
+            }
+            What::Closed { conn } => {
+                self.move_time(got.at);
+                self.forget_connection(conn);
                 return Ok(());
             }
         }
@@ -224,6 +238,7 @@ impl Server {
             → Answered settings state peer datagram.now self.old self.new entries (H.media host.old) (H.media host.new) (H.acts host.old) (H.acts host.new)) }
         ensures failed { OnErr result ((settings : SettingsValue) (state : State) (entries : List Entry) → IsKept self.old settings state entries
             → Failing settings state peer datagram.now self.old entries (H.media host.old) (H.media host.new) (H.acts host.old) (H.acts host.new)) }
+        ensures observers { OnOk result (IsKnown (views_of self.new.registry) self.new.watch.due self.new.watch.observers.observed) }
         ensures adds { Added (H.acts host.old) (H.acts host.new) (λ _. ⊤) }
         ensures settings { self.new.settings ≡ self.old.settings }
         ensures slots { self.new.journal.slots ≡ self.old.journal.slots }
@@ -252,9 +267,10 @@ impl Server {
         ensures kept { (settings : SettingsValue) (state : State) (entries : List Entry) → IsKept self.old settings state entries → IsKept self.new settings (later state at) entries }
     {
         let before = self.ledger.registry().time();
-        let time = at.max(before);
-        self.ledger.tick(time);
-        self.stale |= time > before;
+        if at > before {
+            self.ledger.tick(at);
+            self.watch.due = DueAmong::Anybody;
+        }
     }
 
     /// The peer is heard by what it sent, or it isn't.
@@ -274,6 +290,8 @@ impl Server {
         ensures sent { (settings : SettingsValue) (state : State) → Represents self.old settings state
             → Added (H.acts host.old) (H.acts host.new) (SentTo (H.moment host.old) (H.moment host.new) (beats (beating settings state) state.time state.contacts)) }
         ensures kept { (settings : SettingsValue) (state : State) (entries : List Entry) → IsKept self.old settings state entries → IsKept self.new settings (beaten settings state) entries }
+        ensures registry { self.new.registry ≡ self.old.registry }
+        ensures watch { self.new.watch ≡ record self.old.watch { sessions = self.new.watch.sessions } }
         ensures journal { self.new.journal ≡ self.old.journal }
         ensures settings { self.new.settings ≡ self.old.settings }
         ensures adds { Added (H.acts host.old) (H.acts host.new) (λ _. ⊤) }
@@ -304,7 +322,7 @@ impl Server {
             → (few : List Entry) × IsKept self.new settings (after verdict state) few
             × TurnedTo (H.moment host.new) settings state (after verdict state) (sends_of None verdict peer) (journal.Represents self.old.journal settings entries) (journal.Represents self.new.journal settings few)
             (H.media host.old) (H.media host.new) (H.acts host.old) (H.acts host.new)) }
-        ensures watch { self.new.watch ≡ self.old.watch }
+        ensures watch { self.new.watch ≡ record self.old.watch { due = self.new.watch.due } }
         // Nothing but an entry that is accepted is written.
         ensures failed { OnErr result ((settings : SettingsValue) (state : State) (entries : List Entry) → IsKept self.old settings state entries
             → IsAccepted verdict × Broke settings state (after verdict state) (journal.Represents self.old.journal settings entries) (H.media host.old) (H.media host.new) (H.acts host.old) (H.acts host.new)) }
@@ -329,8 +347,9 @@ impl Server {
             // What shows mitigations is a message by now.
             Verdict::Shows { .. } => unreachable!(),
             Verdict::Accept { reply, entry } => {
+                let due = self.watch.due.joined(entry.entry().domain);
+                self.watch.due = due;
                 self.ledger.accept(host, entry)?;
-                self.stale = true;
                 send_to(host, peer, reply.bytes());
                 return Ok(());
             }
@@ -368,5 +387,6 @@ fn watch_for(alloc: Global, settings: &Settings) -> Result<Watch, NoMemory>
     Ok(Watch {
         observers,
         sessions,
+        due: DueAmong::Nobody,
     })
 }

@@ -23,6 +23,8 @@ mod block_rows;
 #[cfg(test)]
 mod checks;
 #[cfg(test)]
+mod connection_rows;
+#[cfg(test)]
 mod crashes;
 #[cfg(test)]
 mod datagram_rows;

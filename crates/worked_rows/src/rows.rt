@@ -1,6 +1,7 @@
 //! All rows.
 
 use crate::block_rows::BLOCKS;
+use crate::connection_rows::CONNECTIONS;
 use crate::datagram_rows::DATAGRAMS;
 use crate::disk_rows::{CHANGED, FOREIGN, JOINS, OTHERS, SIZES};
 use crate::disks::goes_over_disk;
@@ -67,6 +68,7 @@ fn all_hold(rt: &impl Abort, alloc: Global, table: &str) {
 #[test]
 fn runs_over_scripts(rt: HostRuntime) {
     let alloc = rt.alloc();
+    all_hold(&rt, alloc, CONNECTIONS);
     all_hold(&rt, alloc, DATAGRAMS);
     all_hold(&rt, alloc, DOMAINS);
     all_hold(&rt, alloc, MITIGATIONS);

@@ -3,6 +3,8 @@ use Rattle.dots_host.specs.declared.out.OwnedOut.TheVariants as owned
 use Rattle.dots_host.specs.Runs.{Added}
 use Rattle.dots_notices.specs.Notifying.{SentTo}
 use Rattle.dots_settings.specs.declared.limits.Limits.{Limits}
+use Rattle.dots_history.specs.declared.entry.Entry.{Entry}
+use Rattle.coap_observe.specs.DueAmong.{joined}
 use Rattle.dots_disk.specs.Becoming.{RestsWith, Leaves}
 use Rattle.slot_journal.specs.DiskEntries as journal
 use Rattle.dots_registry.specs.RegistryValues.{time_of, number_remembered}
@@ -66,22 +68,23 @@ returns-in-LongReply-clause-cause g c = record { later = omega (arith, c.send_to
 pub accept-requires-clause-can : goal.accept-requires-clause-can
 accept-requires-clause-can g c =
     let can = subst (λ v. CanCarryOut v c.args.self.now) c.in-Accept.is c.requires.ready in
-    can_accept (record { settings = c.self.inside.settings; registry = c.self.inside.ledger.registry; journal = c.self.inside.ledger.journal; watch = c.self.inside.watch }) c.in-Accept.entry c.self.invariant
+    can_accept (record { settings = c.self.inside.settings; registry = c.self.inside.ledger.registry; journal = c.self.inside.ledger.journal; watch = c.self.inside.watch; lines = c.self.inside.lines }) c.in-Accept.entry c.self.invariant
     (subst (λ server. IsAcceptable server c.in-Accept.entry) (sym c.self.view_is) can)
 
 -- the disk failed
 pub invariant_of-self : goal.invariant_of-self
 invariant_of-self g c =
-    let old : ServerValue = record { settings = c.self.inside.settings; registry = c.self.inside.ledger.registry; journal = c.self.inside.ledger.journal; watch = c.self.inside.watch } in
-    let new : ServerValue = record { settings = c.self.inside.settings; registry = c.accept.new.self.registry; journal = c.accept.new.self.journal; watch = c.self.inside.watch } in
+    let old : ServerValue = record { settings = c.self.inside.settings; registry = c.self.inside.ledger.registry; journal = c.self.inside.ledger.journal; watch = c.self.inside.watch; lines = c.self.inside.lines } in
+    let new : ServerValue = record { settings = c.self.inside.settings; registry = c.accept.new.self.registry; journal = c.accept.new.self.journal; watch = record c.self.inside.watch { due = c.joined-due.result }; lines = c.self.inside.lines } in
+    let watch_is = ap (λ among. record c.self.inside.watch { due = among }) (c.joined-due.ensures ∙ ap (λ (e : Entry). joined c.self.inside.watch.due e.domain) c.entry.ensures) in
     let serving = c.self.invariant in
     let made = c.in_err-accept-in-Accept.ensures.refused c.self.inside.settings serving.state.history serving.entries serving.represents.ledger in
-    lives_still old new made.0 serving refl refl c.accept.ensures.slots c.in_err-accept-in-Accept.ensures.still made.1
+    lives_still c.in-Accept.entry.domain old new made.0 serving refl watch_is refl c.accept.ensures.slots c.in_err-accept-in-Accept.ensures.still made.1
 
 pub returns-in_err-accept-in-Accept-clause-failed : goal.returns-in_err-accept-in-Accept-clause-failed
 returns-in_err-accept-in-Accept-clause-failed g c =
     err_of c.from_residual.result _ (λ settings state entries kept.
-    let old : ServerValue = record { settings = c.self.inside.settings; registry = c.self.inside.ledger.registry; journal = c.self.inside.ledger.journal; watch = c.self.inside.watch } in
+    let old : ServerValue = record { settings = c.self.inside.settings; registry = c.self.inside.ledger.registry; journal = c.self.inside.ledger.journal; watch = c.self.inside.watch; lines = c.self.inside.lines } in
     let entry = c.in-Accept.entry in
     let host = c.args.host.now in
     let left = c.accept.new.disk in
@@ -105,19 +108,21 @@ returns-in_err-accept-in-Accept-clause-failed g c =
 -- it is on the disk and in the tables
 pub invariant_of-self-in-Accept : goal.invariant_of-self-in-Accept
 invariant_of-self-in-Accept g c =
-    let old : ServerValue = record { settings = c.self.inside.settings; registry = c.self.inside.ledger.registry; journal = c.self.inside.ledger.journal; watch = c.self.inside.watch } in
-    let new : ServerValue = record { settings = c.self.inside.settings; registry = c.accept.new.self.registry; journal = c.accept.new.self.journal; watch = c.self.inside.watch } in
+    let old : ServerValue = record { settings = c.self.inside.settings; registry = c.self.inside.ledger.registry; journal = c.self.inside.ledger.journal; watch = c.self.inside.watch; lines = c.self.inside.lines } in
+    let new : ServerValue = record { settings = c.self.inside.settings; registry = c.accept.new.self.registry; journal = c.accept.new.self.journal; watch = record c.self.inside.watch { due = c.joined-due.result }; lines = c.self.inside.lines } in
+    let watch_is = ap (λ among. record c.self.inside.watch { due = among }) (c.joined-due.ensures ∙ ap (λ (e : Entry). joined c.self.inside.watch.due e.domain) c.entry.ensures) in
     let entry = c.in-Accept.entry in
     let can = subst (λ server. IsAcceptable server entry) (sym c.self.view_is) (subst (λ v. CanCarryOut v c.args.self.now) c.in-Accept.is c.requires.ready) in
     let serving = c.self.invariant in
     let made = c.in_ok-accept-in-Accept.ensures.accepted c.self.inside.settings serving.state.history serving.entries serving.represents.ledger
     (joins_there old c.self.inside.settings serving.state entry serving.represents.represents can) in
-    lives_with entry old new can refl refl c.accept.ensures.slots c.in_ok-accept-in-Accept.ensures.time made.0 serving made.1
+    lives_with entry old new can refl watch_is refl c.accept.ensures.slots c.in_ok-accept-in-Accept.ensures.time made.0 serving made.1
 
 pub returns-in-Accept-clause-done : goal.returns-in-Accept-clause-done
 returns-in-Accept-clause-done g c = λ settings state entries kept.
-    let old : ServerValue = record { settings = c.self.inside.settings; registry = c.self.inside.ledger.registry; journal = c.self.inside.ledger.journal; watch = c.self.inside.watch } in
-    let new : ServerValue = record { settings = c.self.inside.settings; registry = c.accept.new.self.registry; journal = c.accept.new.self.journal; watch = c.self.inside.watch } in
+    let old : ServerValue = record { settings = c.self.inside.settings; registry = c.self.inside.ledger.registry; journal = c.self.inside.ledger.journal; watch = c.self.inside.watch; lines = c.self.inside.lines } in
+    let new : ServerValue = record { settings = c.self.inside.settings; registry = c.accept.new.self.registry; journal = c.accept.new.self.journal; watch = record c.self.inside.watch { due = c.joined-due.result }; lines = c.self.inside.lines } in
+    let watch_is = ap (λ among. record c.self.inside.watch { due = among }) (c.joined-due.ensures ∙ ap (λ (e : Entry). joined c.self.inside.watch.due e.domain) c.entry.ensures) in
     let entry = c.in-Accept.entry in
     let host = c.args.host.now in
     let between = c.accept.new.disk in
@@ -134,7 +139,7 @@ returns-in-Accept-clause-done g c = λ settings state entries kept.
     subst (λ reply. Added (g.H.Wire.acts between) (g.H.Wire.acts left) (SentTo (g.H.Wire.moment between) (g.H.Wire.moment left) (owned.To c.args.peer reply ∷ []))) c.bytes-in-Accept.ensures.value c.send_to-in-Accept.ensures.acts in
     rw c.in-Accept.is (
       made.0,
-      kept_with entry old new can refl refl c.accept.ensures.slots c.in_ok-accept-in-Accept.ensures.time settings state entries made.0 here.represents made.1,
+      kept_with entry old new can refl watch_is refl c.accept.ensures.slots c.in_ok-accept-in-Accept.ensures.time settings state entries made.0 here.represents made.1,
       subst
           (λ (server : ServerValue). TurnedTo (g.H.Wire.moment left) settings state (with_entry state entry) (owned.To c.args.peer c.in-Accept.reply ∷ []) (journal.Represents server.journal settings entries)
           (journal.Represents c.accept.new.self.journal settings made.0) (g.H.Disk.media host) (g.H.Disk.media left) (g.H.Wire.acts host) (g.H.Wire.acts left))

@@ -21,7 +21,7 @@ accept_config-requires-clause-configures c = clearing_configures
 
 pub returns-then-is_held-clause-decides : goal.returns-then-is_held-clause-decides
 returns-then-is_held-clause-decides c = λ settings state represents.
-    let server : ServerValue = record { settings = c.self.inside.settings; registry = c.self.inside.ledger.registry; journal = c.self.inside.ledger.journal; watch = c.self.inside.watch } in
+    let server : ServerValue = record { settings = c.self.inside.settings; registry = c.self.inside.ledger.registry; journal = c.self.inside.ledger.journal; watch = c.self.inside.watch; lines = c.self.inside.lines } in
     let here = subst (λ server. Represents server settings state) (sym c.self.view_is) represents in
     let may = subst (λ (server : ServerValue). may_configure (role_of server.settings c.args.peer) c.args.domain ≡ true) (sym c.self.view_is) c.requires.may in
     let found =
@@ -38,7 +38,7 @@ returns-then-is_held-clause-decides c = λ settings state represents.
 
 pub returns-clause-decides : goal.returns-clause-decides
 returns-clause-decides c = λ settings state represents.
-    let server : ServerValue = record { settings = c.self.inside.settings; registry = c.self.inside.ledger.registry; journal = c.self.inside.ledger.journal; watch = c.self.inside.watch } in
+    let server : ServerValue = record { settings = c.self.inside.settings; registry = c.self.inside.ledger.registry; journal = c.self.inside.ledger.journal; watch = c.self.inside.watch; lines = c.self.inside.lines } in
     let here = subst (λ server. Represents server settings state) (sym c.self.view_is) represents in
     let may = subst (λ (server : ServerValue). may_configure (role_of server.settings c.args.peer) c.args.domain ≡ true) (sym c.self.view_is) c.requires.may in
     let found =

@@ -26,7 +26,7 @@ accept_config-requires-clause-within c = taken_within _ c.args.sid c.args.body.n
 
 pub returns-in-Ok-clause-decides : goal.returns-in-Ok-clause-decides
 returns-in-Ok-clause-decides c = λ settings state represents.
-    let server : ServerValue = record { settings = c.self.inside.settings; registry = c.self.inside.ledger.registry; journal = c.self.inside.ledger.journal; watch = c.self.inside.watch } in
+    let server : ServerValue = record { settings = c.self.inside.settings; registry = c.self.inside.ledger.registry; journal = c.self.inside.ledger.journal; watch = c.self.inside.watch; lines = c.self.inside.lines } in
     let here = subst (λ server. Represents server settings state) (sym c.self.view_is) represents in
     let may = subst (λ (server : ServerValue). may_configure (role_of server.settings c.args.peer) c.args.domain ≡ true) (sym c.self.view_is) c.requires.may in
     let found =
@@ -46,7 +46,7 @@ returns-in-Ok-clause-decides c = λ settings state represents.
 
 pub returns-in-Err-Range-clause-decides : goal.returns-in-Err-Range-clause-decides
 returns-in-Err-Range-clause-decides c = λ settings state represents.
-    let server : ServerValue = record { settings = c.self.inside.settings; registry = c.self.inside.ledger.registry; journal = c.self.inside.ledger.journal; watch = c.self.inside.watch } in
+    let server : ServerValue = record { settings = c.self.inside.settings; registry = c.self.inside.ledger.registry; journal = c.self.inside.ledger.journal; watch = c.self.inside.watch; lines = c.self.inside.lines } in
     let here = subst (λ server. Represents server settings state) (sym c.self.view_is) represents in
     let may = subst (λ (server : ServerValue). may_configure (role_of server.settings c.args.peer) c.args.domain ≡ true) (sym c.self.view_is) c.requires.may in
     let found =
@@ -60,7 +60,7 @@ returns-in-Err-Range-clause-decides c = λ settings state represents.
 
 pub returns-in-Err-OlderSid-clause-decides : goal.returns-in-Err-OlderSid-clause-decides
 returns-in-Err-OlderSid-clause-decides c = λ settings state represents.
-    let server : ServerValue = record { settings = c.self.inside.settings; registry = c.self.inside.ledger.registry; journal = c.self.inside.ledger.journal; watch = c.self.inside.watch } in
+    let server : ServerValue = record { settings = c.self.inside.settings; registry = c.self.inside.ledger.registry; journal = c.self.inside.ledger.journal; watch = c.self.inside.watch; lines = c.self.inside.lines } in
     let here = subst (λ server. Represents server settings state) (sym c.self.view_is) represents in
     let may = subst (λ (server : ServerValue). may_configure (role_of server.settings c.args.peer) c.args.domain ≡ true) (sym c.self.view_is) c.requires.may in
     let found =

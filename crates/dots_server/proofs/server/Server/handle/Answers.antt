@@ -1,20 +1,26 @@
 use Rattle.std.proofs.Common.{◌++◌, refl, sym, ap, ◌∙◌, [], ◌∷◌, subst, append-nil}
 use Rattle.dots_host.specs.declared.out.OwnedOut.TheVariants as owned
-use Rattle.dots_host.specs.Runs.{Gives, each_telling}
+use Rattle.dots_host.specs.Runs.{Added, Gives, each_telling}
 use Rattle.dots_host.proofs.RunLemmas.{added_weaker}
 use Rattle.slot_store.specs.StoreValues.{JournalValue}
 use Rattle.slot_journal.specs.DiskEntries as journal
 use Rattle.dots_ledger.proofs.Answering.{ok_as, err_as}
 use Rattle.dots_notices.specs.Beats.{beats}
-use Rattle.dots_notices.specs.Notifying.{SentTo}
+use Rattle.dots_notices.specs.declared.watch.Watch.{Watch}
+use Rattle.dots_registry.specs.RegistryValues.{RegistryValue}
+use Rattle.dots_registry.specs.ObserverViews.{views_of}
+use Rattle.dots_notices.specs.Notifying.{SentTo, IsKnown}
 use Rattle.dots_notices.proofs.Sends.{sent_then, keeps_then}
-use Rattle.dots_machine.specs.Machine.{later, with_entry, beating}
+use Rattle.stream_table.specs.Lines.{opened, opening, forgotten}
+use Rattle.dots_machine.specs.Machine.{later, with_entry, beating, connected, disconnected, turned_away}
 use Rattle.dots_machine.proofs.Observing.{told_history}
+use Rattle.dots_server.specs.ServerValues.{ServerValue, IsKept}
+use Rattle.dots_server.specs.Observing.{Tells}
 use Rattle.dots_server.specs.Sessions.{beaten}
 use Rattle.dots_server.specs.Turning.{Turned, Broke}
 use Rattle.dots_server.specs.Taking.{stored_of}
 use Rattle.dots_server.proofs.Looping.{kept_stored}
-use Rattle.dots_server.proofs.ServerValues.{moves_alone}
+use Rattle.dots_server.proofs.Connecting.{lines_kept}
 use Rattle.dots_server.proofs.Turning.{unwritten, turned_from, broke_from}
 use Rattle.dots_server.proofs.server.Server.handle.Goals as goal
 
@@ -161,12 +167,84 @@ returns-in-Piece-clause-done g c = λ settings state entries kept.
 
 pub returns-in-Opened-clause-done : goal.returns-in-Opened-clause-done
 returns-in-Opened-clause-done g c = λ settings state entries kept.
-    let at = c.args.got.now.at in record {
-      turns = [];
-      new = later state at;
+    let now = later state c.args.got.now.at in
+    let peer = c.in-Opened.from in
+    let conn = c.in-Opened.conn in
+    let host = c.args.host.now in
+    let left = c.open_connection.new.host in
+    let between = c.move_time-in-Opened.new.self in
+    let moved = c.move_time-in-Opened.ensures.kept settings state entries kept in
+    let sends = turned_away conn (opening peer conn state.lines) in
+    let new = connected peer conn now in
+    let kept_so : IsKept c.open_connection.new.self settings new entries =
+    subst (λ server. IsKept server settings new entries) (sym c.open_connection.ensures.lines) (lines_kept (opened peer conn) between settings now entries moved) in
+    let sent : Added (g.H.Wire.acts host) (g.H.Wire.acts left) (SentTo (g.H.Wire.moment host) (g.H.Wire.moment left) sends) =
+    subst (λ lines. Added (g.H.Wire.acts host) (g.H.Wire.acts left) (SentTo (g.H.Wire.moment host) (g.H.Wire.moment left) (turned_away conn (opening peer conn lines))))
+    moved.represents.represents.lines c.open_connection.ensures.sent in
+    let gives = added_weaker (g.H.Wire.acts host) (g.H.Wire.acts left) (SentTo (g.H.Wire.moment host) (g.H.Wire.moment left) sends) (Gives (g.H.Wire.moment host) sends) sent (λ acts is. is.0) in
+    record {
+      turns = (record { sends = sends; left = new }) ∷ [];
+      new = new;
       few = entries;
-      step = moves_alone settings c.args.got.now.what c.args.room.now at state c.in-Opened.is;
-      kept = c.move_time-in-Opened.ensures.kept settings state entries kept;
-      chained = (ap (λ (j : JournalValue). record { journal = j; entries = entries }) c.move_time-in-Opened.ensures.journal, refl, refl);
+      step = rw c.in-Opened.is (sends, append-nil (each_telling new sends), (refl, refl));
+      kept = kept_so;
+      chained = (
+        stored_of c.open_connection.new.self entries,
+        g.H.Disk.media left,
+        g.H.Wire.acts left,
+        refl,
+        ([], sym (append-nil state.history)),
+        kept_stored c.open_connection.new.self settings new entries kept_so,
+        subst
+            (λ (j : JournalValue). Turned settings state new sends (journal.Represents c.args.self.now.journal settings entries) (journal.Represents j settings entries) (g.H.Disk.media host) (g.H.Disk.media left)
+            (g.H.Wire.acts host) (g.H.Wire.acts left))
+            (sym (ap (λ (server : ServerValue). server.journal) c.open_connection.ensures.lines ∙ c.move_time-in-Opened.ensures.journal))
+            (unwritten settings state new sends (journal.Represents c.args.self.now.journal settings entries) (g.H.Disk.media host) (g.H.Disk.media left) (g.H.Wire.moment host) (g.H.Wire.acts host) (g.H.Wire.acts left)
+            (g.met.H.Host.one_moment host) gives c.open_connection.ensures.media),
+        (refl, refl, refl),
+      );
       left = refl;
     }
+
+pub returns-in-Closed-clause-done : goal.returns-in-Closed-clause-done
+returns-in-Closed-clause-done g c = λ settings state entries kept.
+    let now = later state c.args.got.now.at in
+    let conn = c.in-Closed.conn in
+    let between = c.move_time-in-Closed.new.self in
+    let new = disconnected conn now in
+    record {
+      turns = [];
+      new = new;
+      few = entries;
+      step = rw c.in-Closed.is (refl, refl);
+      kept = subst (λ server. IsKept server settings new entries) (sym c.forget_connection.ensures)
+          (lines_kept (forgotten conn) between settings now entries (c.move_time-in-Closed.ensures.kept settings state entries kept));
+      chained = (
+        ap (λ (j : JournalValue). record { journal = j; entries = entries })
+            (ap (λ (server : ServerValue). server.journal) c.forget_connection.ensures ∙ c.move_time-in-Closed.ensures.journal),
+        refl,
+        refl,
+      );
+      left = refl;
+    }
+
+-- ---- who is due behind it
+
+pub returns-in-Datagram-clause-observers : goal.returns-in-Datagram-clause-observers
+returns-in-Datagram-clause-observers g c = ok_as c.take_datagram.result _ _ (λ known tells. known) c.take_datagram.ensures.observers
+
+pub returns-in-Tick-clause-observers : goal.returns-in-Tick-clause-observers
+returns-in-Tick-clause-observers g c = λ tells.
+    let told = c.notify.new.self in
+    let new = c.send_heartbeats.new.self in
+    subst (λ (tables : RegistryValue). IsKnown (views_of tables) new.watch.due new.watch.observers.observed) (sym c.send_heartbeats.ensures.registry)
+    (subst (λ (w : Watch). IsKnown (views_of told.registry) w.due w.observers.observed) (sym c.send_heartbeats.ensures.watch) c.notify.ensures.known)
+
+pub returns-in-Piece-clause-observers : goal.returns-in-Piece-clause-observers
+returns-in-Piece-clause-observers g c = λ tells. c.notify-in-Piece.ensures.known
+
+pub returns-in-Opened-clause-observers : goal.returns-in-Opened-clause-observers
+returns-in-Opened-clause-observers g c = λ tells. absurd (subst Tells c.in-Opened.is tells)
+
+pub returns-in-Closed-clause-observers : goal.returns-in-Closed-clause-observers
+returns-in-Closed-clause-observers g c = λ tells. absurd (subst Tells c.in-Closed.is tells)

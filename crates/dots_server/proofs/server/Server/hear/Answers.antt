@@ -10,7 +10,7 @@ use Rattle.dots_server.proofs.server.Server.hear.Goals.{else-heard-via-then-hear
 
 pub invariant_of-self : goal.invariant_of-self
 invariant_of-self c =
-    let old : ServerValue = record { settings = c.self.inside.settings; registry = c.self.inside.ledger.registry; journal = c.self.inside.ledger.journal; watch = c.self.inside.watch } in
+    let old : ServerValue = record { settings = c.self.inside.settings; registry = c.self.inside.ledger.registry; journal = c.self.inside.ledger.journal; watch = c.self.inside.watch; lines = c.self.inside.lines } in
     subst (λ watch. IsServing (record old { watch = watch }))
     (sym (c.hear.ensures ∙ ap (λ t. record c.self.inside.watch { sessions = heard_from c.args.peer t c.self.inside.watch.sessions }) (c.time-time.ensures ∙ ap time_of c.registry.ensures)))
     (heard_lives true c.args.peer old c.self.invariant)

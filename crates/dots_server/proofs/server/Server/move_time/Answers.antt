@@ -1,20 +1,31 @@
-use Rattle.std.proofs.Common.{max, refl, sym, ap, ◌∙◌, subst}
+use Rattle.std.proofs.Common.{◌≡◌, ◌<◌, ℕ, max, refl, sym, ap, ◌∙◌, subst, arith}
 use Rattle.dots_registry.specs.RegistryValues.{time_of}
-use Rattle.dots_server.specs.ServerValues.{IsKept}
-use Rattle.dots_server.proofs.ServerValues.{kept_later, lives_later}
+use Rattle.dots_server.specs.ServerValues.{ServerValue, IsKept}
+use Rattle.dots_server.proofs.ServerValues.{kept_later, kept_still, lives_later}
+use Rattle.coap_observe.specs.declared.due_among.DueAmong.TheVariants.{Anybody}
 use Rattle.dots_server.proofs.server.Server.move_time.Goals as goal
+
+later_is : (at before : ℕ) → before < at → at ≡ max at before
+later_is at before less = omega (arith, less)
 
 pub invariant_of-self : goal.invariant_of-self
 invariant_of-self c =
-    lives_later c.args.at (record { settings = c.self.inside.settings; registry = c.self.inside.ledger.registry; journal = c.self.inside.ledger.journal; watch = c.self.inside.watch })
-    (record { settings = c.self.inside.settings; registry = c.tick.new.self.registry; journal = c.tick.new.self.journal; watch = c.self.inside.watch }) c.requires.early refl refl c.tick.ensures.journal
-    (c.tick.ensures.time ∙ c.max-time.ensures ∙ ap (max c.args.at) (c.time-before.ensures ∙ ap time_of c.registry.ensures))
+    let old : ServerValue = record { settings = c.self.inside.settings; registry = c.self.inside.ledger.registry; journal = c.self.inside.ledger.journal; watch = c.self.inside.watch; lines = c.self.inside.lines } in
+    let new : ServerValue = record { settings = c.self.inside.settings; registry = c.tick.new.self.registry; journal = c.tick.new.self.journal; watch = record c.self.inside.watch { due = Anybody }; lines = c.self.inside.lines } in
+    lives_later c.args.at old new c.requires.early refl refl refl c.tick.ensures.journal
+    (c.tick.ensures.time ∙ later_is c.args.at c.time-before.result c.if-at-before.true ∙ ap (max c.args.at) (c.time-before.ensures ∙ ap time_of c.registry.ensures))
     c.tick.ensures.represents c.self.invariant
 
-pub returns-clause-kept : goal.returns-clause-kept
-returns-clause-kept c = λ settings state entries kept.
-    kept_later c.args.at (record { settings = c.self.inside.settings; registry = c.self.inside.ledger.registry; journal = c.self.inside.ledger.journal; watch = c.self.inside.watch })
-    (record { settings = c.self.inside.settings; registry = c.tick.new.self.registry; journal = c.tick.new.self.journal; watch = c.self.inside.watch }) c.requires.early refl refl c.tick.ensures.journal
-    (c.tick.ensures.time ∙ c.max-time.ensures ∙ ap (max c.args.at) (c.time-before.ensures ∙ ap time_of c.registry.ensures))
+pub returns-then-at-before-clause-kept : goal.returns-then-at-before-clause-kept
+returns-then-at-before-clause-kept c = λ settings state entries kept.
+    let old : ServerValue = record { settings = c.self.inside.settings; registry = c.self.inside.ledger.registry; journal = c.self.inside.ledger.journal; watch = c.self.inside.watch; lines = c.self.inside.lines } in
+    let new : ServerValue = record { settings = c.self.inside.settings; registry = c.tick.new.self.registry; journal = c.tick.new.self.journal; watch = record c.self.inside.watch { due = Anybody }; lines = c.self.inside.lines } in
+    kept_later c.args.at old new c.requires.early refl refl refl c.tick.ensures.journal
+    (c.tick.ensures.time ∙ later_is c.args.at c.time-before.result c.if-at-before.true ∙ ap (max c.args.at) (c.time-before.ensures ∙ ap time_of c.registry.ensures))
     c.tick.ensures.represents settings state entries
     (subst (λ server. IsKept server settings state entries) (sym c.self.view_is) kept)
+
+pub returns-else-at-before-clause-kept : goal.returns-else-at-before-clause-kept
+returns-else-at-before-clause-kept c = λ settings state entries kept.
+    let is = c.time-before.ensures ∙ ap time_of c.registry.ensures ∙ ap (λ (server : ServerValue). time_of server.registry) c.self.view_is in
+    kept_still c.args.at c.args.self.now settings state entries (omega (arith, is, c.if-at-before.false)) kept

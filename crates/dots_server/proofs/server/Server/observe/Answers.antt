@@ -9,7 +9,7 @@ use Rattle.dots_server.proofs.server.Server.observe.Goals as goal
 
 pub invariant_of-self : goal.invariant_of-self
 invariant_of-self c =
-    let old : ServerValue = record { settings = c.self.inside.settings; registry = c.self.inside.ledger.registry; journal = c.self.inside.ledger.journal; watch = c.self.inside.watch } in
+    let old : ServerValue = record { settings = c.self.inside.settings; registry = c.self.inside.ledger.registry; journal = c.self.inside.ledger.journal; watch = c.self.inside.watch; lines = c.self.inside.lines } in
     subst (λ (watch : Watch). IsServing (record old { watch = watch }))
     (sym (c.register.ensures
     ∙ ap (λ tables. record old.watch { observers = record old.watch.observers { observed = registered (views_of tables) old.watch.observers.room c.in-Registers.observer old.watch.observers.observed } }) c.registry.ensures))
@@ -17,19 +17,19 @@ invariant_of-self c =
 
 pub invariant_of-self-in-Leaves : goal.invariant_of-self-in-Leaves
 invariant_of-self-in-Leaves c =
-    let old : ServerValue = record { settings = c.self.inside.settings; registry = c.self.inside.ledger.registry; journal = c.self.inside.ledger.journal; watch = c.self.inside.watch } in
+    let old : ServerValue = record { settings = c.self.inside.settings; registry = c.self.inside.ledger.registry; journal = c.self.inside.ledger.journal; watch = c.self.inside.watch; lines = c.self.inside.lines } in
     subst (λ (watch : Watch). IsServing (record old { watch = watch }))
     (sym (c.leave.ensures ∙ ap (λ token. (with_changed old c.args.peer (watching.Leaves token)).watch) c.bytes.ensures.value))
     (observed_lives old c.args.peer (watching.Leaves c.in-Leaves.token) c.self.invariant)
 
 pub invariant_of-self-in-Rejects : goal.invariant_of-self-in-Rejects
 invariant_of-self-in-Rejects c =
-    let old : ServerValue = record { settings = c.self.inside.settings; registry = c.self.inside.ledger.registry; journal = c.self.inside.ledger.journal; watch = c.self.inside.watch } in
+    let old : ServerValue = record { settings = c.self.inside.settings; registry = c.self.inside.ledger.registry; journal = c.self.inside.ledger.journal; watch = c.self.inside.watch; lines = c.self.inside.lines } in
     subst (λ (watch : Watch). IsServing (record old { watch = watch })) (sym c.reset.ensures) (observed_lives old c.args.peer (watching.Rejects c.in-Rejects.id) c.self.invariant)
 
 pub returns-in-Registers : goal.returns-in-Registers
 returns-in-Registers c =
-    let old : ServerValue = record { settings = c.self.inside.settings; registry = c.self.inside.ledger.registry; journal = c.self.inside.ledger.journal; watch = c.self.inside.watch } in
+    let old : ServerValue = record { settings = c.self.inside.settings; registry = c.self.inside.ledger.registry; journal = c.self.inside.ledger.journal; watch = c.self.inside.watch; lines = c.self.inside.lines } in
     ap (λ (watch : Watch). record old { watch = watch })
     (c.register.ensures
     ∙ ap (λ tables. record old.watch { observers = record old.watch.observers { observed = registered (views_of tables) old.watch.observers.room c.in-Registers.observer old.watch.observers.observed } }) c.registry.ensures)

@@ -14,7 +14,7 @@ Answers peer domain id answer r = (entries : List Entry) → registry.Represents
 
 pub copy_of-requires : goal.copy_of-requires
 copy_of-requires c = record {
-  short = reply_is_short (record { settings = c.self.inside.settings; registry = c.self.inside.ledger.registry; journal = c.self.inside.ledger.journal; watch = c.self.inside.watch }) c.args.peer c.args.domain c.args.exchange.now.id
+  short = reply_is_short (record { settings = c.self.inside.settings; registry = c.self.inside.ledger.registry; journal = c.self.inside.ledger.journal; watch = c.self.inside.watch; lines = c.self.inside.lines }) c.args.peer c.args.domain c.args.exchange.now.id
       c.in_ok-reply.reply.now c.self.invariant
       (subst (Answers c.args.peer c.args.domain c.args.exchange.now.id (Some c.in_ok-reply.reply.now)) c.registry.ensures c.in_ok-reply.ensures);
 }
@@ -25,7 +25,7 @@ returns-in_err-reply c = λ settings state represents.
     c.from_residual.ensures
     ∙ subst (Answers c.args.peer c.args.domain c.args.exchange.now.id None) c.registry.ensures c.in_err-reply.ensures state.history here.registry
     ∙ ap reply_in
-    (remembered_here (record { settings = c.self.inside.settings; registry = c.self.inside.ledger.registry; journal = c.self.inside.ledger.journal; watch = c.self.inside.watch }) settings state (sent_for c.args.peer c.args.exchange.now c.args.domain) here)
+    (remembered_here (record { settings = c.self.inside.settings; registry = c.self.inside.ledger.registry; journal = c.self.inside.ledger.journal; watch = c.self.inside.watch; lines = c.self.inside.lines }) settings state (sent_for c.args.peer c.args.exchange.now c.args.domain) here)
 
 pub returns : goal.returns
 returns c = λ settings state represents.
@@ -33,4 +33,4 @@ returns c = λ settings state represents.
     ap Some c.copy_of.ensures
     ∙ subst (Answers c.args.peer c.args.domain c.args.exchange.now.id (Some c.in_ok-reply.reply.now)) c.registry.ensures c.in_ok-reply.ensures state.history here.registry
     ∙ ap reply_in
-    (remembered_here (record { settings = c.self.inside.settings; registry = c.self.inside.ledger.registry; journal = c.self.inside.ledger.journal; watch = c.self.inside.watch }) settings state (sent_for c.args.peer c.args.exchange.now c.args.domain) here)
+    (remembered_here (record { settings = c.self.inside.settings; registry = c.self.inside.ledger.registry; journal = c.self.inside.ledger.journal; watch = c.self.inside.watch; lines = c.self.inside.lines }) settings state (sent_for c.args.peer c.args.exchange.now c.args.domain) here)

@@ -12,13 +12,13 @@ use Rattle.dots_server.proofs.server.Server.send_heartbeats.Goals as goal
 
 pub invariant_of-self : goal.invariant_of-self
 invariant_of-self g c =
-    let old : ServerValue = record { settings = c.self.inside.settings; registry = c.self.inside.ledger.registry; journal = c.self.inside.ledger.journal; watch = c.self.inside.watch } in
+    let old : ServerValue = record { settings = c.self.inside.settings; registry = c.self.inside.ledger.registry; journal = c.self.inside.ledger.journal; watch = c.self.inside.watch; lines = c.self.inside.lines } in
     beaten_lives old c.time-time.result c.beat.new.sessions (c.time-time.ensures ∙ ap time_of c.registry.ensures)
     (λ by agree. c.beat.ensures.left by (subst (λ tables. Agrees (SaysBeat old.settings tables) by) (sym c.registry-2.ensures) agree)) c.self.invariant
 
 pub returns-clause-sent : goal.returns-clause-sent
 returns-clause-sent g c = λ settings state represents.
-    let old : ServerValue = record { settings = c.self.inside.settings; registry = c.self.inside.ledger.registry; journal = c.self.inside.ledger.journal; watch = c.self.inside.watch } in
+    let old : ServerValue = record { settings = c.self.inside.settings; registry = c.self.inside.ledger.registry; journal = c.self.inside.ledger.journal; watch = c.self.inside.watch; lines = c.self.inside.lines } in
     let here = subst (λ server. Represents server settings state) (sym c.self.view_is) represents in
     let by = beating settings state in
     let acts = g.H.Wire.acts c.args.host.now in

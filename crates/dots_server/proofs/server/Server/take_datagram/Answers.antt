@@ -123,3 +123,6 @@ returns-clause-done g c = λ settings state entries kept.
           history_is time_is told.4 c.notify.ensures.media);
       grows = (grown.0, history_is ∙ grown.1);
     }
+
+pub returns-clause-observers : goal.returns-clause-observers
+returns-clause-observers g c = c.notify.ensures.known

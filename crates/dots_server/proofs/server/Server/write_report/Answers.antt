@@ -15,7 +15,7 @@ returns-in-Ok-clause-ok g c = λ settings state represents.
     let start = sunk g.K.Sink.holds g.K.Sink.faults c.args.report.now in
     let here = subst (λ server. Represents server settings state) (sym c.self.view_is) represents in
     let lines = puts_then _ _ _ _ _ _ _ _ c.put_rows.ensures c.put_packets.ensures start [] (rw c.new-gatherer.ensures (nothing_written start)) in
-    let is = report_is (record { settings = c.self.inside.settings; registry = c.self.inside.ledger.registry; journal = c.self.inside.ledger.journal; watch = c.self.inside.watch }) settings state c.filters-table.result.now.scrubs c.filters-table.result.now.acls here
+    let is = report_is (record { settings = c.self.inside.settings; registry = c.self.inside.ledger.registry; journal = c.self.inside.ledger.journal; watch = c.self.inside.watch; lines = c.self.inside.lines }) settings state c.filters-table.result.now.scrubs c.filters-table.result.now.acls here
     (c.filters-table.ensures.scrubs state.history (subst (λ r. registry.Represents r state.history) (sym c.registry.ensures) here.registry)
     ∙ ap (λ r. plain_rows (registry.time_of r) state.history) c.registry.ensures ∙ ap (λ t. plain_rows t state.history) here.time_is)
     (c.filters-table.ensures.acls state.history (subst (λ r. registry.Represents r state.history) (sym c.registry.ensures) here.registry)
@@ -34,7 +34,7 @@ returns-in-Err-clause-err g c = λ settings state represents.
     let start = sunk g.K.Sink.holds g.K.Sink.faults c.args.report.now in
     let here = subst (λ server. Represents server settings state) (sym c.self.view_is) represents in
     let lines = puts_then _ _ _ _ _ _ _ _ c.put_rows.ensures c.put_packets.ensures start [] (rw c.new-gatherer.ensures (nothing_written start)) in
-    let is = report_is (record { settings = c.self.inside.settings; registry = c.self.inside.ledger.registry; journal = c.self.inside.ledger.journal; watch = c.self.inside.watch }) settings state c.filters-table.result.now.scrubs c.filters-table.result.now.acls here
+    let is = report_is (record { settings = c.self.inside.settings; registry = c.self.inside.ledger.registry; journal = c.self.inside.ledger.journal; watch = c.self.inside.watch; lines = c.self.inside.lines }) settings state c.filters-table.result.now.scrubs c.filters-table.result.now.acls here
     (c.filters-table.ensures.scrubs state.history (subst (λ r. registry.Represents r state.history) (sym c.registry.ensures) here.registry)
     ∙ ap (λ r. plain_rows (registry.time_of r) state.history) c.registry.ensures ∙ ap (λ t. plain_rows t state.history) here.time_is)
     (c.filters-table.ensures.acls state.history (subst (λ r. registry.Represents r state.history) (sym c.registry.ensures) here.registry)
