@@ -131,7 +131,7 @@ few_of_peer (pair ∷ pairs) room peer xs bounded =
     by_test true apart few rest = omega (arith, apart, few, rest, one_more (tally (is_pair_of peer) pairs) room)
     by_test false apart few rest = omega (arith, apart, rest)
 
--- ---- one that was told of something, or is gone
+-- ---- one that was notified of something, or is gone
 
 by_nil : (seen : List (ℕ × ℕ)) (id : ℕ) (o : ObservedValue) (q : ObservedValue → Bool) (rest : List ObservedValue) (count : ℕ)
     → q (notified id seen o) ≡ q o → tally q rest ≤ count → tally q (notified_or_gone id seen o ++ rest) ≤ cond (q o) 1 0 + count

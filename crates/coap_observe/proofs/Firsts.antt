@@ -7,7 +7,7 @@ use Rattle.std.proofs.lemmas.Iterator.Adapters.{position_from-zero}
 use Rattle.coap_exchange.specs.declared.pair.Pair.{Pair}
 use Rattle.coap_observe.specs.Chains.{ChainValue, is_chain_of, chain_peer, peer_chain, peer_in, pair_peer}
 
-eq_turned : (a b : ℕ) → (a == b) ≡ (b == a)
+pub eq_turned : (a b : ℕ) → (a == b) ≡ (b == a)
 eq_turned a b =
     elim (cases_eq a b) [
       | inl same ↦ eq-eqb a b same ∙ sym (eq-eqb b a (sym same))

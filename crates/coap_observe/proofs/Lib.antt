@@ -10,4 +10,5 @@ pub mod Rolling
 pub mod Seeing
 pub mod Notifying
 pub mod Walking
-pub mod Telling
+pub mod Notified
+pub mod Including

@@ -1,8 +1,9 @@
--- An observer that is due, and one that is told.
+-- An observer that is due, and one that is notified.
 use Rattle.std.proofs.Common.{◌≡◌, ℕ, ◌+◌, zero, suc, true, false, List, [], ◌∷◌, ◌++◌, Some, refl, sym, ap, ◌∙◌, inl, inr, arith}
 use Rattle.std.specs.Prelude.{slice_get, nat_le, ◌&&◌}
 use Rattle.std.specs.List.{remove}
 use Rattle.std.proofs.lemmas.Bool.{cases_lt, and_cases, cond-true, cond-false, leb-false}
+use Rattle.dots_history.specs.Entries.{option_any}
 use Rattle.dots_history.specs.Histories.{is_nil}
 use Rattle.coap_exchange.specs.Firsts.{replace_at}
 use Rattle.coap_observe.specs.Seen.{Lists, list_for}
@@ -31,19 +32,19 @@ notified_at lists id xs i x seen there is some =
     (ap (λ s. notified id s x ∷ []) is
     ∙ sym (cond-false (is_nil (list_for lists x.observer)) [] (notified id (list_for lists x.observer) x ∷ []) (ap is_nil (sym is) ∙ some)))
 
-pub none_more : (lists : Lists) (among : DueAmong) (from i : ℕ) (xs : List ObservedValue) (x : ObservedValue) → slice_get xs i ≡ Some x
-    → nat_le from i && (includes_one among x && is_due lists x) ≡ false → NoneIsDue lists among from i xs → NoneIsDue lists among from (i + 1) xs
-none_more lists among from i xs x there out before place o later less at within =
+pub none_more : (lists : Lists) (among : DueAmong) (from i : ℕ) (xs : List ObservedValue)
+    → nat_le from i && option_any (λ o. includes_one among o && is_due lists o) (slice_get xs i) ≡ false → NoneIsDue lists among from i xs → NoneIsDue lists among from (i + 1) xs
+none_more lists among from i xs out before place o later less at within =
     elim (cases_lt place i) [
       | inl below ↦ before place o later below at within
       | inr over ↦
           let same : place ≡ i = omega (arith, over, less) in
-          let own : x ≡ o = one_there x o (sym there ∙ ap (slice_get xs) (sym same) ∙ at) in
-          elim (and_cases (nat_le from i) (includes_one among x && is_due lists x) out) [
+          let here : slice_get xs i ≡ Some o = ap (slice_get xs) (sym same) ∙ at in
+          elim (and_cases (nat_le from i) (option_any (λ o. includes_one among o && is_due lists o) (slice_get xs i)) out) [
             | inl not_behind ↦ let low = leb-false from i not_behind in absurd (omega (arith, low, later, same))
             | inr not_both ↦
-                ap (is_due lists) (sym own)
-                ∙ ap (λ b. b && is_due lists x) (sym (ap (includes_one among) own ∙ within))
+                ap (λ b. b && is_due lists o) (sym within)
+                ∙ sym (ap (option_any (λ o. includes_one among o && is_due lists o)) here)
                 ∙ not_both
           ]
     ]

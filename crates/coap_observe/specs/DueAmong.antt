@@ -25,7 +25,7 @@ joined Nobody domain = Domain domain
 joined (Domain own) domain = if own == domain then Domain own else Anybody
 joined Anybody domain = Anybody
 
--- each that isn't among them has been told what there is to see
-abbrev pub AreTold : Lists → DueAmong → List ObservedValue → Type 0
-AreTold lists among [] = ⊤
-AreTold lists among (o ∷ os) = (includes_one among o ≡ false → is_due lists o ≡ false) × AreTold lists among os
+-- each that isn't among them has been notified of what there is to see
+abbrev pub AreNotified : Lists → DueAmong → List ObservedValue → Type 0
+AreNotified lists among [] = ⊤
+AreNotified lists among (o ∷ os) = (includes_one among o ≡ false → is_due lists o ≡ false) × AreNotified lists among os

@@ -1,4 +1,4 @@
--- An observer with what it was told.
+-- An observer with what it was notified of.
 use Rattle.std.specs.Prelude.{ℕ, ◌+◌, ◌%◌, Bool, ◌&&◌, ◌==◌, not, bytes_eq, List, [], ◌∷◌, Option, Some}
 use Rattle.coap_observe.specs.declared.observer.Observer.{Observer}
 use Rattle.dots_history.specs.Entries.{option_any}
@@ -10,7 +10,7 @@ pub record ObservedValue : Type 0 where
   pub number : ℕ
   -- the Message ID of its last notification
   pub last : Option ℕ
-  -- what it was told last
+  -- what it was notified of last
   pub seen : List (ℕ × ℕ)
 
 -- numbers rise by one, in 24 bits (RFC 7641, section 3.4)
@@ -35,11 +35,11 @@ same_id id last = option_any (λ other. other == id) last
 abbrev pub had_id : ℕ → ℕ → ObservedValue → Bool
 had_id peer id o = (o.observer.peer == peer) && same_id id o.last
 
--- what it was told last isn't what there is to see
+-- what it was notified of last isn't what there is to see
 abbrev pub is_due : Lists → ObservedValue → Bool
 is_due lists o = not (same_seen o.seen (list_for lists o.observer))
 
--- it is told what there is to see, by a notification of this Message ID
+-- it is notified of what there is to see, with this Message ID
 abbrev pub notified : ℕ → List (ℕ × ℕ) → ObservedValue → ObservedValue
 notified id seen o = record { observer = o.observer; number = next_number o.number; last = Some id; seen = seen }
 

@@ -1,5 +1,5 @@
 -- Observers of mitigations (RFC 7641; RFC 9132, section 4.4.2.1), in the order of their registration.
-use Rattle.std.specs.Prelude.{◌≡◌, ℕ, ◌<◌, ◌≤◌, Bool, true, false, not, ◌||◌, ◌==◌, nat_lt, if◌then◌else◌, List, [], ◌∷◌, filter, length, slice_get, Option, Some, None, option_map, unwrap_or}
+use Rattle.std.specs.Prelude.{◌≡◌, ℕ, ◌<◌, ◌≤◌, Bool, true, false, not, ◌||◌, ◌&&◌, ◌==◌, nat_lt, if◌then◌else◌, List, [], ◌∷◌, filter, length, slice_get, Option, Some, None, option_map, unwrap_or}
 use Rattle.std.specs.List.{find, list_any}
 use Rattle.dots_history.specs.Entries.{option_any}
 use Rattle.dots_history.specs.Histories.{tally, is_nil}
@@ -74,12 +74,18 @@ pub record IsNextDue (lists : Lists) (among : DueAmong) (from : ℕ) (observed :
   pub number_is : number ≡ one.number
   pub gone_is : gone ≡ is_nil (list_for lists one.observer)
 
--- an observer that was told of something left to see stays, and one that is gone goes
+-- an observer that was notified of something left to see stays, and one that is gone goes
 abbrev pub notified_or_gone : ℕ → List (ℕ × ℕ) → ObservedValue → List ObservedValue
 notified_or_gone id seen o = if is_nil seen then [] else notified id seen o ∷ []
 
 abbrev pub after_notice : Lists → ℕ → ObservedValue → List ObservedValue
 after_notice lists id o = notified_or_gone id (list_for lists o.observer) o
+
+-- ---- whether there is one
+
+-- the pair is one of this domain, and has an observer
+abbrev pub has_one : ℕ → List ObservedValue → Pair → Bool
+has_one domain observed pair = (pair.domain == domain) && list_any (is_of pair.peer domain) observed
 
 -- ---- what always holds
 

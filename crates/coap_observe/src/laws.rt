@@ -6,7 +6,7 @@ ghost use Rattle.coap_observe.specs.Observed.{ObservedValue, Sending, next_numbe
 ghost use Rattle.coap_observe.specs.Observing.{own_of, number_for, entered};
 ghost use Rattle.coap_observe.specs.Seen.{Lists, list_for};
 
-/// An observer is due exactly where what there is to see isn't what it was told last.
+/// An observer is due exactly where what there is to see isn't what it was notified of last.
 pub fn observers_are_due_where_lists_differ()
     ensures due { (lists : Lists) (o : ObservedValue) → is_due lists o ≡ true → o.seen ≢ list_for lists o.observer }
     ensures notified { (lists : Lists) (o : ObservedValue) → is_due lists o ≡ false → o.seen ≡ list_for lists o.observer }

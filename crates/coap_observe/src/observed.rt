@@ -10,7 +10,7 @@ use std::marker::Model;
 /// The numbers of notifications have 24 bits (RFC 7641, section 3.4).
 const NUMBERS: u32 = 16_777_216;
 
-/// An observer with what it was told.
+/// An observer with what it was notified of.
 #[derive(Drop)]
 pub struct Observed {
     observer: Observer,
@@ -18,7 +18,7 @@ pub struct Observed {
     number: u32,
     /// The Message ID of its last notification.
     last: Option<u16>,
-    /// What it was told last.
+    /// What it was notified of last.
     seen: SeenList,
 }
 
@@ -34,7 +34,7 @@ impl Model for Observed {
 }
 
 impl Observed {
-    /// An observer that is registered for the first time, and has been told this by the reply of number 1.
+    /// An observer that is registered for the first time, and has seen this in the reply of number 1.
     pub fn new(observer: Observer, seen: SeenList) -> Self
         ensures { result ≡ registered_first observer seen }
     {
@@ -80,14 +80,14 @@ impl Observed {
         self.observer.peer == peer && is_same_id(self.last, id)
     }
 
-    /// Whether there is something else to see than it was told last.
+    /// Whether there is something else to see than it was notified of last.
     pub fn is_due<V: Views>(&self, views: &V) -> bool
         ensures { result ≡ is_due (V.lists views.now) self.now }
     {
         !self.seen.is(views, &self.observer)
     }
 
-    /// It was told this by a notification of this Message ID.
+    /// It was notified of this with this Message ID.
     pub fn notify(&mut self, seen: SeenList, id: u16)
         ensures { self.new ≡ notified id seen self.old }
     {
@@ -96,7 +96,7 @@ impl Observed {
         self.seen = seen;
     }
 
-    /// It is registered again and has been told this; answers the number of the reply.
+    /// It is registered again and has seen this in the reply; answers the number of that.
     pub fn register_again(&mut self, observer: Observer, seen: SeenList) -> u32
         ensures number { result ≡ self.old.number }
         ensures again { self.new ≡ registered_again observer seen self.old }

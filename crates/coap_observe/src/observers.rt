@@ -5,10 +5,11 @@ ghost use Rattle.dots_history.specs.Histories.{tally};
 ghost use Rattle.coap_exchange.specs.Firsts.{replace_at};
 ghost use Rattle.linked_orders.specs.Links.{Distinct};
 ghost use Rattle.coap_observe.specs.Chains.{chain_at, room_in, AreChained, SameRoom};
-ghost use Rattle.coap_observe.specs.Rolls.{keys_of, observed_of, one_at, without_key, first_key, peer_of};
+ghost use Rattle.coap_observe.specs.Rolls.{keys_of, observed_of, has_key, one_at, without_key, first_key, peer_of};
 ghost use Rattle.coap_observe.specs.DueAmong.{includes_one};
+ghost use Rattle.coap_observe.specs.declared.due_among.DueAmong.TheVariants.{Domain};
 ghost use Rattle.coap_observe.specs.Observed.{is_token, is_of, had_id, is_due};
-ghost use Rattle.coap_observe.specs.Observing.{ObserversValue, own_of, has_room, number_for, entered, registered, deregistered, without_id, NoneIsDue, IsNextDue, notified_or_gone, after_notice};
+ghost use Rattle.coap_observe.specs.Observing.{ObserversValue, own_of, has_room, number_for, entered, registered, deregistered, without_id, NoneIsDue, IsNextDue, notified_or_gone, after_notice, has_one, AreOf};
 ghost use Rattle.coap_exchange.specs.Pairs.{is_pair, pairs_of};
 
 use crate::chains::Chains;
@@ -18,7 +19,7 @@ use crate::observer::Observer;
 use crate::roll::Roll;
 use crate::seen::{SeenList, ends_at};
 use crate::views::Views;
-use coap_exchange::Pairs;
+use coap_exchange::{Pair, Pairs};
 use dots_lists::NoMemory;
 use dots_settings::Settings;
 use std::alloc::Global;
@@ -135,14 +136,17 @@ impl Observers {
         retain_other_ids(&mut self.roll, &mut self.chains, peer, id);
     }
 
-    /// The first observer of these at the place `from` or behind it that is due: what there is to see isn't what it was told last.
-    /// What others see isn't looked at. Nothing changes.
+    /// The first observer of these at the place `from` or behind it that is due: what there is to see isn't what it was
+    /// notified of last. What others see isn't looked at. Nothing changes.
     pub fn next_due<V: Views>(&self, views: &V, among: DueAmong, from: usize) -> Option<Notice<'_>>
         ensures next { MatchOption result (NoneIsDue (V.lists views.now) among from (length self.now.observed) self.now.observed)
             (λ notice. IsNextDue (V.lists views.now) among from self.now.observed notice.place notice.observer.now notice.number notice.gone) }
         // The place behind it is one, too.
         ensures few { IfSome result (λ notice. notice.place + 1 < 2 ^ 64) }
     {
+        if !has_any_among(&self.roll, &self.chains, self.pairs.pairs(), among) {
+            return None;
+        }
         next_due(&self.roll, views, among, from)
     }
 
@@ -373,6 +377,70 @@ fn retain_other_ids(roll: &mut Roll, chains: &mut Chains, peer: u32, id: u16)
     }
 }
 
+/// Whether an observer is among these. Those of a domain are looked for among those of its peers alone.
+fn has_any_among(roll: &Roll, chains: &Chains, pairs: &[Pair], among: DueAmong) -> bool
+    requires chained { AreChained chains.now.chains roll.now.rows }
+    requires known { AreOf pairs.now (observed_of roll.now.rows) }
+    ensures { result ≡ list_any (includes_one among) (observed_of roll.now.rows) }
+{
+    if roll.len() == 0 {
+        return false;
+    }
+    match among {
+        DueAmong::Nobody => return false,
+        DueAmong::Domain(domain) => return has_any_of(roll, chains, pairs, domain),
+        DueAmong::Anybody => return true,
+    }
+}
+
+/// Whether an observer is of this domain.
+fn has_any_of(roll: &Roll, chains: &Chains, pairs: &[Pair], domain: u16) -> bool
+    requires chained { AreChained chains.now.chains roll.now.rows }
+    requires known { AreOf pairs.now (observed_of roll.now.rows) }
+    ensures { result ≡ list_any (includes_one (Domain domain)) (observed_of roll.now.rows) }
+{
+    for pair in pairs {
+        if has_one(roll, chains, *pair, domain) {
+            return true;
+        }
+    }
+    false
+}
+
+/// Whether the pair is one of this domain, and has an observer.
+fn has_one(roll: &Roll, chains: &Chains, pair: Pair, domain: u16) -> bool
+    requires { AreChained chains.now.chains roll.now.rows }
+    ensures { result ≡ has_one domain (observed_of roll.now.rows) pair }
+{
+    pair.domain == domain && pair_key(roll, chains, pair.peer, domain).is_some()
+}
+
+/// The key of the first observer of this peer and domain.
+fn pair_key(roll: &Roll, chains: &Chains, peer: u32, domain: u16) -> Option<usize>
+    requires { AreChained chains.now.chains roll.now.rows }
+    ensures { result ≡ first_key (is_of peer domain) roll.now.rows }
+{
+    match chains.place(peer) {
+        Some(at) => pair_among(roll, chains, at, peer, domain),
+        None => None,
+    }
+}
+
+/// The first key of the chain at this place whose observer is of this peer and domain.
+fn pair_among(roll: &Roll, chains: &Chains, at: usize, peer: u32, domain: u16) -> Option<usize>
+    requires { at < length chains.now.chains }
+    ensures { result ≡ find (λ key. option_any (is_of peer domain) (one_at key roll.now.rows)) (chain_at at chains.now.chains).keys }
+{
+    let mut key = chains.start(at);
+    for place in 0..chains.len(at) {
+        key = chains.behind(at, key, place);
+        if is_of_at(roll, key, peer, domain) {
+            return Some(key);
+        }
+    }
+    None
+}
+
 fn next_due<'a, V: Views>(
     roll: &'a Roll,
     views: &V,
@@ -387,8 +455,8 @@ fn next_due<'a, V: Views>(
     let mut key = roll.start();
     for place in 0..roll.len() {
         key = roll.behind(key, place);
-        let one = roll.one(key);
-        if is_next(one, views, among, place, from) {
+        if is_next(roll, key, views, among, place, from) {
+            let one = roll.one(key);
             return Some(Notice {
                 place,
                 observer: one.observer(),
@@ -400,11 +468,19 @@ fn next_due<'a, V: Views>(
     None
 }
 
-/// Whether it is one of these and due, and its place is `from` or behind it.
-fn is_next<V: Views>(one: &Observed, views: &V, among: DueAmong, place: usize, from: usize) -> bool
-    ensures { result ≡ nat_le from place && (includes_one among one.now && is_due (V.lists views.now) one.now) }
+/// Whether the observer under this key is one of these and due, and its place is `from` or behind it. One before it isn't looked at.
+fn is_next<V: Views>(
+    roll: &Roll,
+    key: usize,
+    views: &V,
+    among: DueAmong,
+    place: usize,
+    from: usize,
+) -> bool
+    requires { has_key key roll.now.rows ≡ true }
+    ensures { result ≡ nat_le from place && option_any (λ o. includes_one among o && is_due (V.lists views.now) o) (one_at key roll.now.rows) }
 {
-    place >= from && is_due_among(one, views, among)
+    place >= from && is_due_among(roll.one(key), views, among)
 }
 
 fn is_due_among<V: Views>(one: &Observed, views: &V, among: DueAmong) -> bool
@@ -413,7 +489,7 @@ fn is_due_among<V: Views>(one: &Observed, views: &V, among: DueAmong) -> bool
     among.includes(one.observer().domain) && one.is_due(views)
 }
 
-/// The observer at this place was told what there is to see, or goes where there is nothing.
+/// The observer at this place was notified of what there is to see, or goes where there is nothing.
 fn notify<V: Views>(roll: &mut Roll, chains: &mut Chains, views: &V, place: usize, id: u16)
     requires at { place < length roll.old.rows }
     requires chained { AreChained chains.old.chains roll.old.rows }

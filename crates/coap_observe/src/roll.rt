@@ -121,7 +121,7 @@ impl Roll {
         self.order.depart(key);
     }
 
-    /// The observer under this key was told this by a notification of this Message ID.
+    /// The observer under this key was notified of this with this Message ID.
     pub fn notify(&mut self, key: usize, seen: SeenList, id: u16)
         requires { has_key key self.old.rows ≡ true }
         ensures { self.new ≡ record { room = self.old.room; rows = with_key key (notified id seen) self.old.rows } }
@@ -131,7 +131,7 @@ impl Roll {
         self.ones.insert_reserved(one);
     }
 
-    /// The observer under this key is registered again and has been told this; answers the number of the reply.
+    /// The observer under this key is registered again and has seen this in the reply; answers the number of that.
     pub fn register_again(&mut self, key: usize, observer: Observer, seen: SeenList) -> u32
         requires { has_key key self.old.rows ≡ true }
         ensures number { Some result ≡ option_map (λ one. one.number) (one_at key self.old.rows) }

@@ -1,4 +1,4 @@
-//! What an observer was told.
+//! What an observer was notified of.
 
 ghost use Rattle.std.specs.Prelude.{◌≡◌, ◌≤◌, length, slice_get, is_none};
 ghost use Rattle.dots_history.specs.Entries.{option_any};

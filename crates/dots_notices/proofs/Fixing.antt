@@ -1,4 +1,4 @@
--- The sends fix who was told.
+-- The sends fix who was notified.
 use Rattle.std.proofs.Common.{◌≡◌, ℕ, ◌+◌, ◌-◌, Bool, true, false, cond, List, [], ◌∷◌, ◌++◌, length, take, drop, Some, sym, ap, ◌∙◌, subst, arith, inl, inr, append_assoc}
 use Rattle.std.proofs.lemmas.List.{take_at}
 use Rattle.dots_host.specs.declared.out.OwnedOut.{OwnedOut}

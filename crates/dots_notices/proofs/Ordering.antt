@@ -15,7 +15,7 @@ use Rattle.session_core.specs.declared.contact.PeerContact.{PeerContact}
 use Rattle.session_core.specs.Contacts.{number_of, numbered}
 use Rattle.dots_notices.specs.Notifying.{Bodies, is_gone, notice_bytes, notice, Notifies, SentTo, IsMade, OneNotified, missing, sent}
 
--- none is told
+-- none is notified
 pub pass_all : (lists : Lists) (bodies : Bodies) (os : List ObservedValue) (numbers : List PeerContact) → Notifies lists bodies os numbers [] os numbers
 pass_all lists bodies [] numbers = (refl, refl, refl)
 pass_all lists bodies (o ∷ os) numbers = inl (os, refl, pass_all lists bodies os numbers)
@@ -88,15 +88,15 @@ pub record Far (lists : Lists) (bodies : Bodies) (old : List ObservedValue) (num
   pub was : old ≡ front ++ rest
   pub now : rows ≡ done ++ rest
   pub place : length done ≡ from
-  pub told : Notifies lists bodies front numbers sends done left
+  pub notifies : Notifies lists bodies front numbers sends done left
 
 pub far_first : (lists : Lists) (bodies : Bodies) (old : List ObservedValue) (numbers : List PeerContact) → Far lists bodies old numbers 0 old numbers []
-far_first lists bodies old numbers = record { front = []; done = []; rest = old; was = refl; now = refl; place = refl; told = (refl, refl, refl) }
+far_first lists bodies old numbers = record { front = []; done = []; rest = old; was = refl; now = refl; place = refl; notifies = (refl, refl, refl) }
 
 pub far_last : (lists : Lists) (bodies : Bodies) (old : List ObservedValue) (numbers : List PeerContact) (from : ℕ) (rows : List ObservedValue) (left : List PeerContact) (sends : List OwnedOut)
     → Far lists bodies old numbers from rows left sends → Notifies lists bodies old numbers sends rows left
 far_last lists bodies old numbers from rows left sends far =
-    let all = notifies_then lists bodies far.front far.rest far.done far.rest numbers left left sends [] far.told (pass_all lists bodies far.rest left) in
+    let all = notifies_then lists bodies far.front far.rest far.done far.rest numbers left left sends [] far.notifies (pass_all lists bodies far.rest left) in
     subst (λ xs. Notifies lists bodies xs numbers sends rows left) (sym far.was)
     (subst (λ xs. Notifies lists bodies (far.front ++ far.rest) numbers sends xs left) (sym far.now)
     (subst (λ xs. Notifies lists bodies (far.front ++ far.rest) numbers xs (far.done ++ far.rest) left) (append-nil sends) all))
@@ -118,22 +118,22 @@ module _ (lists : Lists) (bodies : Bodies) (old : List ObservedValue) (numbers :
       far.was ∙ ap (λ xs. far.front ++ xs) (between.2 ∙ sym (append_assoc between.0 (one ∷ []) here.back))
       ∙ sym (append_assoc far.front (between.0 ++ one ∷ []) here.back)
 
-  pub far_on : (more : List OwnedOut) (new : List ObservedValue) (after : List PeerContact) (then_from : ℕ) → OneNotified lists bodies rows left place one more new after then_from
+  pub far_on : (made : Option (List ℕ)) (more : List OwnedOut) (new : List ObservedValue) (after : List PeerContact) (then_from : ℕ) → OneNotified lists bodies rows left place one made more new after then_from
       → Far lists bodies old numbers then_from new after (sends ++ more)
-  far_on more new after then_from (missing none same still on) = record {
+  far_on made more new after then_from (missing unmade none same still on) = record {
     front = through;
     done = here.front ++ one ∷ [];
     rest = here.back;
     was = was_there;
     now = same ∙ here.are ∙ sym (append_assoc here.front (one ∷ []) here.back);
     place = let a = length-append here.front (one ∷ []) in let b = here.length_is in omega (arith, a, b, on);
-    told =
+    notifies =
         subst (λ xs. Notifies lists bodies through numbers (sends ++ xs) (here.front ++ one ∷ []) after) (sym none)
         (subst (λ n. Notifies lists bodies through numbers (sends ++ []) (here.front ++ one ∷ []) n) (sym still)
         (subst (λ xs. Notifies lists bodies through numbers (sends ++ []) xs left) (sym (append_assoc far.done between.0 (one ∷ [])) ∙ ap (λ xs. xs ++ one ∷ []) (sym between.1))
-        (notifies_then lists bodies far.front (between.0 ++ one ∷ []) far.done (between.0 ++ one ∷ []) numbers left left sends [] far.told (pass_all lists bodies (between.0 ++ one ∷ []) left))));
+        (notifies_then lists bodies far.front (between.0 ++ one ∷ []) far.done (between.0 ++ one ∷ []) numbers left left sends [] far.notifies (pass_all lists bodies (between.0 ++ one ∷ []) left))));
   }
-  far_on more new after then_from (sent id has is became counted on) = record {
+  far_on made more new after then_from (sent bytes written id has is became counted on) = record {
     front = through;
     done = here.front ++ after_notice lists id one;
     rest = here.back;
@@ -143,13 +143,13 @@ module _ (lists : Lists) (bodies : Bodies) (old : List ObservedValue) (numbers :
         ∙ replaced (after_notice lists id) here.front here.back one place here.length_is
         ∙ sym (append_assoc here.front (after_notice lists id one) here.back);
     place = placed (is_gone lists one) refl;
-    told =
+    notifies =
         subst (λ xs. Notifies lists bodies through numbers (sends ++ xs) (here.front ++ after_notice lists id one) after) (sym is)
         (subst (λ n. Notifies lists bodies through numbers (sends ++ notice lists bodies id one ∷ []) (here.front ++ after_notice lists id one) n) (sym counted)
         (subst (λ xs. Notifies lists bodies through numbers (sends ++ notice lists bodies id one ∷ []) xs (numbered one.observer.peer left))
         (sym (append_assoc far.done between.0 (after_notice lists id one)) ∙ ap (λ xs. xs ++ after_notice lists id one) (sym between.1))
         (notifies_then lists bodies far.front (between.0 ++ one ∷ []) far.done (between.0 ++ after_notice lists id one) numbers left (numbered one.observer.peer left) sends
-        (notice lists bodies id one ∷ []) far.told
+        (notice lists bodies id one ∷ []) far.notifies
         (notifies_then lists bodies between.0 (one ∷ []) between.0 (after_notice lists id one) left left (numbered one.observer.peer left) [] (notice lists bodies id one ∷ []) (pass_all lists bodies between.0 left)
         (inr (id, [], [], due, has, refl, sym (append-nil _), (refl, refl, refl)))))));
   }
@@ -169,11 +169,11 @@ module _ (lists : Lists) (bodies : Bodies) (old : List ObservedValue) (numbers :
           omega (arith, n, to, l)
 
   -- fewer are left
-  pub fewer : (more : List OwnedOut) (new : List ObservedValue) (after : List PeerContact) (then_from : ℕ) → OneNotified lists bodies rows left place one more new after then_from
+  pub fewer : (made : Option (List ℕ)) (more : List OwnedOut) (new : List ObservedValue) (after : List PeerContact) (then_from : ℕ) → OneNotified lists bodies rows left place one made more new after then_from
       → length new - then_from < length rows - from
-  fewer more new after then_from (missing none same still on) =
+  fewer made more new after then_from (missing unmade none same still on) =
       let n = ap length same in omega (arith, n, on, within, later)
-  fewer more new after then_from (sent id has is became counted on) = by_gone (is_gone lists one) refl
+  fewer made more new after then_from (sent bytes written id has is became counted on) = by_gone (is_gone lists one) refl
     where
       by_gone : (b : Bool) → is_gone lists one ≡ b → length new - then_from < length rows - from
       by_gone b is_b =
@@ -222,17 +222,18 @@ id_is : (a b : ℕ) → Some a ≡ Some b → a ≡ b
 id_is a b same = cc
 
 module _ (lists : Lists) (bodies : Bodies) (rows new : List ObservedValue) (contacts left : List PeerContact) (place : ℕ) (one : ObservedValue) (peer id : ℕ) (gone : Bool) (written bytes : List ℕ)
-    (next : ℕ) (a b : Option (List Timed)) (first last : ℕ) where
-  pub one_notified : IsMade lists bodies contacts one peer gone (Some bytes) → Some id ≡ number_of peer contacts → left ≡ numbered peer contacts
+    (made : Option (List ℕ)) (next : ℕ) (a b : Option (List Timed)) (first last : ℕ) where
+  pub one_notified : IsMade lists bodies contacts one peer gone made → made ≡ Some bytes → Some id ≡ number_of peer contacts → left ≡ numbered peer contacts
       → new ≡ replace_at place (after_notice lists id) rows → written ≡ bytes → Added a b (SentTo first last (owned.To peer written ∷ [])) → next ≡ (if gone then place else place + 1)
-      → (sends : List OwnedOut) × OneNotified lists bodies rows contacts place one sends new left next × Added a b (SentTo first last sends)
-  one_notified made number counted became same acts on =
-      let mine : number_of one.observer.peer contacts ≡ Some id = ap (λ p. number_of p contacts) (sym made.peer_is) ∙ sym number in
-      let id_same : made.bytes.0 ≡ id = id_is made.bytes.0 id (sym made.bytes.1 ∙ mine) in
+      → (sends : List OwnedOut) × OneNotified lists bodies rows contacts place one made sends new left next × Added a b (SentTo first last sends)
+  one_notified is_made some number counted became same acts on =
+      let is : IsMade lists bodies contacts one peer gone (Some bytes) = subst (IsMade lists bodies contacts one peer gone) some is_made in
+      let mine : number_of one.observer.peer contacts ≡ Some id = ap (λ p. number_of p contacts) (sym is.peer_is) ∙ sym number in
+      let id_same : is.bytes.0 ≡ id = id_is is.bytes.0 id (sym is.bytes.1 ∙ mine) in
       let out : owned.To peer written ≡ notice lists bodies id one =
-      ap (λ p. owned.To p written) made.peer_is
-      ∙ ap (λ bs. owned.To one.observer.peer bs) (same ∙ made.bytes.2 ∙ ap (λ i. notice_bytes lists bodies i one) id_same) in (
+      ap (λ p. owned.To p written) is.peer_is
+      ∙ ap (λ bs. owned.To one.observer.peer bs) (same ∙ is.bytes.2 ∙ ap (λ i. notice_bytes lists bodies i one) id_same) in (
         notice lists bodies id one ∷ [],
-        sent id mine refl became (counted ∙ ap (λ p. numbered p contacts) made.peer_is) (on ∙ ap (λ g. if g then place else place + 1) made.gone_is),
+        sent bytes some id mine refl became (counted ∙ ap (λ p. numbered p contacts) is.peer_is) (on ∙ ap (λ g. if g then place else place + 1) is.gone_is),
         subst (λ o. Added a b (SentTo first last (o ∷ []))) out acts,
       )

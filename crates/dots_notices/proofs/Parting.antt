@@ -29,7 +29,7 @@ apart_filtered test (o ∷ os) apart = by_test (test o) (apart_filtered test os 
     by_test true rest unlike = (unlike, rest)
     by_test false rest unlike = rest
 
--- ---- some are told
+-- ---- some are notified
 
 unlike_notified : (lists : Lists) (bodies : Bodies) (x : ObservedValue) (os new : List ObservedValue) (contacts left : List PeerContact) (sends : List OwnedOut)
     → Unlike x os → Notifies lists bodies os contacts sends new left → Unlike x new

@@ -1,19 +1,19 @@
--- What was told isn't due any more, and what was passed over is.
-use Rattle.std.proofs.Common.{◌≡◌, ◌⊎◌, inl, inr, ℕ, ◌+◌, ◌<◌, ◌≤◌, zero, suc, Bool, true, false, cond, List, [], ◌∷◌, ◌++◌, length, Option, Some, None, refl, sym, ap, ◌∙◌, subst, arith}
+-- Who was notified isn't due any more, and who was passed over is.
+use Rattle.std.proofs.Common.{◌≡◌, inl, inr, ℕ, ◌+◌, ◌<◌, ◌≤◌, zero, suc, Bool, true, false, List, [], ◌∷◌, ◌++◌, length, Option, Some, None, refl, sym, ap, ◌∙◌, subst, arith}
 use Rattle.std.specs.Prelude.{slice_get, not, ◌||◌, nat_lt, is_some, MatchOption, if◌then◌else◌}
 use Rattle.std.proofs.lemmas.Bool.{cond-true, cond-false, ltb-true, ltb-false, false≢true}
 use Rattle.dots_host.specs.declared.out.OwnedOut.{OwnedOut}
 use Rattle.coap_exchange.specs.Firsts.{replace_at}
 use Rattle.coap_observe.specs.declared.due_among.DueAmong.{DueAmong}
 use Rattle.coap_observe.specs.declared.due_among.DueAmong.TheVariants.{Nobody, Anybody}
-use Rattle.coap_observe.specs.DueAmong.{includes_one, AreTold}
+use Rattle.coap_observe.specs.DueAmong.{AreNotified}
 use Rattle.coap_observe.specs.Seen.{Lists, list_for}
 use Rattle.coap_observe.specs.Observed.{ObservedValue, is_due, notified}
 use Rattle.coap_observe.specs.Observing.{after_notice, NoneIsDue}
-use Rattle.coap_observe.proofs.Telling.{notified_is_told, none_due}
+use Rattle.coap_observe.proofs.Notified.{notified_isnt_due, none_due}
 use Rattle.session_core.specs.declared.contact.PeerContact.{PeerContact}
 use Rattle.session_core.specs.Contacts.{numbered}
-use Rattle.dots_notices.specs.Notifying.{Bodies, Notifies, is_gone, IsTold, IsOneDue, IsKnown}
+use Rattle.dots_notices.specs.Notifying.{Bodies, Notifies, is_gone, OneNotified, missing, sent, IsKnown}
 use Rattle.dots_notices.proofs.Ordering.{Stands, stands_at, replaced}
 
 pub quiet_first : (lists : Lists) (among : DueAmong) (rows : List ObservedValue) → NoneIsDue lists among 0 0 rows
@@ -47,33 +47,38 @@ behind_front (y ∷ front) ys x o (suc place) is there = behind_front front ys x
 abbrev pub IsOneOwed : Lists → ℕ → List ObservedValue → Type 0
 IsOneOwed lists from rows = (place : ℕ) × (o : ObservedValue) × (place < from) × (slice_get rows place ≡ Some o) × (is_due lists o ≡ true)
 
--- ---- the one at a place was told
+-- ---- the one at a place was notified
+
+abbrev pub IsNotified : Lists → List ObservedValue → ℕ → ObservedValue → List ObservedValue → ℕ → Type 0
+IsNotified lists rows place one new next =
+    (id : ℕ) × (new ≡ replace_at place (after_notice lists id) rows) × (next ≡ (if is_gone lists one then place else place + 1))
+
 module _ (lists : Lists) (among : DueAmong) (rows : List ObservedValue) (from place : ℕ) (one : ObservedValue) (there : slice_get rows place ≡ Some one) (later : from ≤ place)
-    (new : List ObservedValue) (next : ℕ) (told : IsTold lists rows place one new next) where
+    (new : List ObservedValue) (next : ℕ) (went : IsNotified lists rows place one new next) where
   here : Stands rows place one
   here = stands_at rows place one there
 
-  now : new ≡ here.front ++ (after_notice lists told.0 one ++ here.back)
-  now = told.1 ∙ ap (replace_at place (after_notice lists told.0)) here.are ∙ replaced (after_notice lists told.0) here.front here.back one place here.length_is
+  now : new ≡ here.front ++ (after_notice lists went.0 one ++ here.back)
+  now = went.1 ∙ ap (replace_at place (after_notice lists went.0)) here.are ∙ replaced (after_notice lists went.0) here.front here.back one place here.length_is
 
   -- what stands in front of it is the same
   was : (at : ℕ) (o : ObservedValue) → at < place → slice_get new at ≡ Some o → slice_get rows at ≡ Some o
   was at o less is =
       ap (λ xs. slice_get xs at) here.are
-      ∙ front_same here.front (after_notice lists told.0 one ++ here.back) (one ∷ here.back) at o (let n = here.length_is in omega (arith, n, less)) (ap (λ xs. slice_get xs at) (sym now) ∙ is)
+      ∙ front_same here.front (after_notice lists went.0 one ++ here.back) (one ∷ here.back) at o (let n = here.length_is in omega (arith, n, less)) (ap (λ xs. slice_get xs at) (sym now) ∙ is)
 
   stays : (at : ℕ) (o : ObservedValue) → at < place → slice_get rows at ≡ Some o → slice_get new at ≡ Some o
   stays at o less is =
       ap (λ xs. slice_get xs at) now
-      ∙ front_same here.front (one ∷ here.back) (after_notice lists told.0 one ++ here.back) at o (let n = here.length_is in omega (arith, n, less)) (ap (λ xs. slice_get xs at) (sym here.are) ∙ is)
+      ∙ front_same here.front (one ∷ here.back) (after_notice lists went.0 one ++ here.back) at o (let n = here.length_is in omega (arith, n, less)) (ap (λ xs. slice_get xs at) (sym here.are) ∙ is)
 
   at_place : is_gone lists one ≡ false → NoneIsDue lists among place (place + 1) new
   at_place left at o low less is within =
       let same : at ≡ place = omega (arith, low, less) in
-      let stay = cond-false (is_gone lists one) [] (notified told.0 (list_for lists one.observer) one ∷ []) left in
+      let stay = cond-false (is_gone lists one) [] (notified went.0 (list_for lists one.observer) one ∷ []) left in
       let rows_now = now ∙ ap (λ (xs : List ObservedValue). here.front ++ (xs ++ here.back)) stay in
-      let o_is = behind_front here.front here.back (notified told.0 (list_for lists one.observer) one) o place here.length_is (ap (λ xs. slice_get xs place) (sym rows_now) ∙ subst (λ k. slice_get new k ≡ Some o) same is) in
-      ap (is_due lists) o_is ∙ notified_is_told lists told.0 one
+      let o_is = behind_front here.front here.back (notified went.0 (list_for lists one.observer) one) o place here.length_is (ap (λ xs. slice_get xs place) (sym rows_now) ∙ subst (λ k. slice_get new k ≡ Some o) same is) in
+      ap (is_due lists) o_is ∙ notified_isnt_due lists went.0 one
 
   quiet_on : NoneIsDue lists among 0 from rows → NoneIsDue lists among from place rows → NoneIsDue lists among 0 next new
   quiet_on quiet first = by_gone (is_gone lists one) refl
@@ -82,17 +87,17 @@ module _ (lists : Lists) (among : DueAmong) (rows : List ObservedValue) (from pl
       before at o low less is within = quiet_both lists among rows from place quiet first at o low less (was at o less is) within
 
       by_gone : (b : Bool) → is_gone lists one ≡ b → NoneIsDue lists among 0 next new
-      by_gone true gone = subst (λ n. NoneIsDue lists among 0 n new) (sym (told.2 ∙ cond-true (is_gone lists one) place (place + 1) gone)) before
+      by_gone true gone = subst (λ n. NoneIsDue lists among 0 n new) (sym (went.2 ∙ cond-true (is_gone lists one) place (place + 1) gone)) before
       by_gone false left =
-          subst (λ n. NoneIsDue lists among 0 n new) (sym (told.2 ∙ cond-false (is_gone lists one) place (place + 1) left))
+          subst (λ n. NoneIsDue lists among 0 n new) (sym (went.2 ∙ cond-false (is_gone lists one) place (place + 1) left))
           (quiet_both lists among new place (place + 1) before (at_place left))
 
   not_before : place ≤ next
   not_before = by_gone (is_gone lists one) refl
     where
       by_gone : (b : Bool) → is_gone lists one ≡ b → place ≤ next
-      by_gone true gone = let to = told.2 ∙ cond-true (is_gone lists one) place (place + 1) gone in omega (arith, to)
-      by_gone false left = let to = told.2 ∙ cond-false (is_gone lists one) place (place + 1) left in omega (arith, to)
+      by_gone true gone = let to = went.2 ∙ cond-true (is_gone lists one) place (place + 1) gone in omega (arith, to)
+      by_gone false left = let to = went.2 ∙ cond-false (is_gone lists one) place (place + 1) left in omega (arith, to)
 
   owed_on : IsOneOwed lists from rows → IsOneOwed lists next new
   owed_on owed =
@@ -100,13 +105,19 @@ module _ (lists : Lists) (among : DueAmong) (rows : List ObservedValue) (from pl
       let n = not_before in
       (owed.0, owed.1, omega (arith, less, later, n), stays owed.0 owed.1 (omega (arith, less, later)) owed.3, owed.4)
 
--- ---- the one at a place was told, or passed over
+-- ---- the one at a place was notified, or passed over
+
+abbrev pub Went : Lists → List ObservedValue → ℕ → ObservedValue → List ObservedValue → ℕ → Option (List ℕ) → Type 0
+Went lists rows place one new next made = MatchOption made ((new ≡ rows) × (next ≡ place + 1)) (λ bytes. IsNotified lists rows place one new next)
+
+pub went_so : (lists : Lists) (bodies : Bodies) (rows : List ObservedValue) (contacts : List PeerContact) (place : ℕ) (one : ObservedValue) (made : Option (List ℕ)) (sends : List OwnedOut)
+    (new : List ObservedValue) (left : List PeerContact) (next : ℕ) → OneNotified lists bodies rows contacts place one made sends new left next → Went lists rows place one new next made
+went_so lists bodies rows contacts place one made sends new left next (missing unmade none same still on) = subst (Went lists rows place one new next) (sym unmade) (same, on)
+went_so lists bodies rows contacts place one made sends new left next (sent bytes written id has is became counted on) = subst (Went lists rows place one new next) (sym written) (id, became, on)
+
 module _ (lists : Lists) (among : DueAmong) (rows : List ObservedValue) (from place : ℕ) (one : ObservedValue) (there : slice_get rows place ≡ Some one) (later : from ≤ place)
     (due : is_due lists one ≡ true) (new : List ObservedValue) (next : ℕ) where
-  abbrev Went : Option (List ℕ) → Type 0
-  Went made = MatchOption made ((new ≡ rows) × (next ≡ place + 1)) (λ bytes. IsTold lists rows place one new next)
-
-  pub quiet_then : (made : Option (List ℕ)) (none passed : Bool) → is_some made ≡ not none → Went made → (passed ≡ false → NoneIsDue lists among 0 from rows) → NoneIsDue lists among from place rows
+  pub quiet_then : (made : Option (List ℕ)) (none passed : Bool) → is_some made ≡ not none → Went lists rows place one new next made → (passed ≡ false → NoneIsDue lists among 0 from rows) → NoneIsDue lists among from place rows
       → (passed || none) ≡ false → NoneIsDue lists among 0 next new
   quiet_then None false passed is went quiet first neither = absurd (false≢true is)
   quiet_then None true false is went quiet first neither = absurd (false≢true (sym neither))
@@ -114,7 +125,7 @@ module _ (lists : Lists) (among : DueAmong) (rows : List ObservedValue) (from pl
   quiet_then (Some bytes) none true is went quiet first neither = absurd (false≢true (sym neither))
   quiet_then (Some bytes) none false is went quiet first neither = quiet_on lists among rows from place one there later new next went (quiet refl) first
 
-  pub owed_then : (made : Option (List ℕ)) (none passed : Bool) → is_some made ≡ not none → Went made → (passed ≡ true → IsOneOwed lists from rows)
+  pub owed_then : (made : Option (List ℕ)) (none passed : Bool) → is_some made ≡ not none → Went lists rows place one new next made → (passed ≡ true → IsOneOwed lists from rows)
       → (passed || none) ≡ true → IsOneOwed lists next new
   owed_then None none passed is went owed either =
       let to = went.1 in
@@ -123,30 +134,30 @@ module _ (lists : Lists) (among : DueAmong) (rows : List ObservedValue) (from pl
   owed_then (Some bytes) true false is went owed either = absurd (false≢true (sym is))
   owed_then (Some bytes) false false is went owed either = absurd (false≢true either)
 
--- ---- the others go on being told
+-- ---- the others go on being notified
 
-told_behind : (lists : Lists) (among : DueAmong) (id : ℕ) (o : ObservedValue) (rest : List ObservedValue) → AreTold lists among rest → AreTold lists among (after_notice lists id o ++ rest)
-told_behind lists among id o rest told = by_gone (is_gone lists o) refl
+notified_behind : (lists : Lists) (among : DueAmong) (id : ℕ) (o : ObservedValue) (rest : List ObservedValue) → AreNotified lists among rest → AreNotified lists among (after_notice lists id o ++ rest)
+notified_behind lists among id o rest are = by_gone (is_gone lists o) refl
   where
-    by_gone : (b : Bool) → is_gone lists o ≡ b → AreTold lists among (after_notice lists id o ++ rest)
+    by_gone : (b : Bool) → is_gone lists o ≡ b → AreNotified lists among (after_notice lists id o ++ rest)
     by_gone true gone =
-        subst (λ xs. AreTold lists among (xs ++ rest)) (sym (cond-true (is_gone lists o) [] (notified id (list_for lists o.observer) o ∷ []) gone)) told
+        subst (λ xs. AreNotified lists among (xs ++ rest)) (sym (cond-true (is_gone lists o) [] (notified id (list_for lists o.observer) o ∷ []) gone)) are
     by_gone false left =
-        subst (λ xs. AreTold lists among (xs ++ rest)) (sym (cond-false (is_gone lists o) [] (notified id (list_for lists o.observer) o ∷ []) left))
-        (λ out. notified_is_told lists id o, told)
+        subst (λ xs. AreNotified lists among (xs ++ rest)) (sym (cond-false (is_gone lists o) [] (notified id (list_for lists o.observer) o ∷ []) left))
+        (λ out. notified_isnt_due lists id o, are)
 
-pub told_still : (lists : Lists) (bodies : Bodies) (among : DueAmong) (os : List ObservedValue) (contacts : List PeerContact) (sends : List OwnedOut) (new : List ObservedValue) (left : List PeerContact)
-    → Notifies lists bodies os contacts sends new left → AreTold lists among os → AreTold lists among new
-told_still lists bodies among [] contacts sends new left is told = subst (AreTold lists among) (sym is.1) tt
-told_still lists bodies among (o ∷ os) contacts sends new left (inl (rest, new_is, later)) told =
-    subst (AreTold lists among) (sym new_is) (told.0, told_still lists bodies among os contacts sends rest left later told.1)
-told_still lists bodies among (o ∷ os) contacts sends new left (inr (id, behind, rest, due, has, sends_are, new_is, later)) told =
-    subst (AreTold lists among) (sym new_is)
-    (told_behind lists among id o rest (told_still lists bodies among os (numbered o.observer.peer contacts) behind rest left later told.1))
+pub notified_still : (lists : Lists) (bodies : Bodies) (among : DueAmong) (os : List ObservedValue) (contacts : List PeerContact) (sends : List OwnedOut) (new : List ObservedValue) (left : List PeerContact)
+    → Notifies lists bodies os contacts sends new left → AreNotified lists among os → AreNotified lists among new
+notified_still lists bodies among [] contacts sends new left is are = subst (AreNotified lists among) (sym is.1) tt
+notified_still lists bodies among (o ∷ os) contacts sends new left (inl (rest, new_is, later)) are =
+    subst (AreNotified lists among) (sym new_is) (are.0, notified_still lists bodies among os contacts sends rest left later are.1)
+notified_still lists bodies among (o ∷ os) contacts sends new left (inr (id, behind, rest, due, has, sends_are, new_is, later)) are =
+    subst (AreNotified lists among) (sym new_is)
+    (notified_behind lists among id o rest (notified_still lists bodies among os (numbered o.observer.peer contacts) behind rest left later are.1))
 
 -- in the end
-pub known_behind : (lists : Lists) (among : DueAmong) (new : List ObservedValue) (from : ℕ) (passed : Bool) (behind : DueAmong) → behind ≡ (if passed then Anybody else Nobody) → AreTold lists among new
+pub known_behind : (lists : Lists) (among : DueAmong) (new : List ObservedValue) (from : ℕ) (passed : Bool) (behind : DueAmong) → behind ≡ (if passed then Anybody else Nobody) → AreNotified lists among new
     → (passed ≡ false → NoneIsDue lists among 0 from new) → NoneIsDue lists among from (length new) new → (passed ≡ true → IsOneOwed lists from new) → IsKnown lists behind new
-known_behind lists among new from true behind is told quiet rest owed = let one = owed refl in inr (is, (one.0, one.1, one.3, one.4))
-known_behind lists among new from false behind is told quiet rest owed =
-    inl (is, none_due lists among new (quiet_both lists among new from (length new) (quiet refl) rest) told)
+known_behind lists among new from true behind is are quiet rest owed = let one = owed refl in inr (is, (one.0, one.1, one.3, one.4))
+known_behind lists among new from false behind is are quiet rest owed =
+    inl (is, none_due lists among new (quiet_both lists among new from (length new) (quiet refl) rest) are)

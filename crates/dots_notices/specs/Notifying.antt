@@ -1,5 +1,5 @@
 -- What the notifications after an event make of the observers, and of the Message IDs of their peers.
-use Rattle.std.specs.Prelude.{◌≡◌, ◌⊎◌, ℕ, ◌+◌, Bool, true, if◌then◌else◌, List, [], ◌∷◌, ◌++◌, length, slice_get, Option, Some, MatchOption, ⊤}
+use Rattle.std.specs.Prelude.{◌≡◌, ◌⊎◌, ℕ, ◌+◌, Bool, true, if◌then◌else◌, List, [], ◌∷◌, ◌++◌, length, slice_get, Option, Some, None, MatchOption, ⊤}
 use Rattle.dots_history.specs.Histories.{is_nil}
 use Rattle.dots_host.specs.declared.out.OwnedOut.{OwnedOut}
 use Rattle.dots_host.specs.declared.out.OwnedOut.TheVariants as owned
@@ -9,7 +9,7 @@ use Rattle.coap_exchange.specs.Firsts.{replace_at}
 use Rattle.coap_observe.specs.declared.observer.Observer.{Observer}
 use Rattle.coap_observe.specs.declared.due_among.DueAmong.{DueAmong}
 use Rattle.coap_observe.specs.declared.due_among.DueAmong.TheVariants.{Nobody, Anybody}
-use Rattle.coap_observe.specs.DueAmong.{AreTold}
+use Rattle.coap_observe.specs.DueAmong.{AreNotified}
 use Rattle.coap_observe.specs.Seen.{Lists, list_for}
 use Rattle.coap_observe.specs.Observed.{ObservedValue, is_due}
 use Rattle.coap_observe.specs.Observing.{after_notice}
@@ -33,8 +33,8 @@ notice_bytes lists bodies id o =
 abbrev pub notice : Lists → Bodies → ℕ → ObservedValue → OwnedOut
 notice lists bodies id o = owned.To o.observer.peer (notice_bytes lists bodies id o)
 
--- In the order of registration each observer that is due is told, with the next Message ID of its peer; or it stays as it was, where it
--- isn't due, for want of memory, or since its peer wasn't heard.
+-- In the order of registration each observer is notified, if it is due, with the next Message ID of its peer; or it is passed over, and stays
+-- as it was.
 abbrev pub Notifies : Lists → Bodies → List ObservedValue → List PeerContact → List OwnedOut → List ObservedValue → List PeerContact → Type 0
 Notifies lists bodies [] contacts sends new left = (sends ≡ []) × (new ≡ []) × (left ≡ contacts)
 Notifies lists bodies (o ∷ os) contacts sends new left =
@@ -54,7 +54,7 @@ IsOneDue lists observed = (place : ℕ) × (o : ObservedValue) × (slice_get obs
 
 -- Nobody is due any more; or one is that was passed over, and all are looked at the next time.
 abbrev pub IsKnown : Lists → DueAmong → List ObservedValue → Type 0
-IsKnown lists among observed = ((among ≡ Nobody) × AreTold lists Nobody observed) ⊎ ((among ≡ Anybody) × IsOneDue lists observed)
+IsKnown lists among observed = ((among ≡ Nobody) × AreNotified lists Nobody observed) ⊎ ((among ≡ Anybody) × IsOneDue lists observed)
 
 -- ---- no two observe under one token
 
@@ -75,15 +75,10 @@ pub record IsMade (lists : Lists) (bodies : Bodies) (contacts : List PeerContact
   pub gone_is : gone ≡ is_gone lists one
   pub bytes : MatchOption made ⊤ (λ bytes. (id : ℕ) × (number_of one.observer.peer contacts ≡ Some id) × (bytes ≡ notice_bytes lists bodies id one))
 
--- the one at a place was told, and the next one is looked for from a place on
-abbrev pub IsTold : Lists → List ObservedValue → ℕ → ObservedValue → List ObservedValue → ℕ → Type 0
-IsTold lists rows place one new next =
-    (id : ℕ) × (new ≡ replace_at place (after_notice lists id) rows) × (next ≡ (if is_gone lists one then place else place + 1))
-
--- the one at a place was told or not, and the next one is looked for from a place on
+-- The one at a place was notified, where its notification was made, or else it is as it was; and the next one is looked for from a place on.
 pub data OneNotified (lists : Lists) (bodies : Bodies) (rows : List ObservedValue) (contacts : List PeerContact) (place : ℕ) (one : ObservedValue)
-    (sends : List OwnedOut) (new : List ObservedValue) (left : List PeerContact) (next : ℕ) : Type 0 where
-  missing : sends ≡ [] → new ≡ rows → left ≡ contacts → next ≡ place + 1 → OneNotified lists bodies rows contacts place one sends new left next
-  sent : (id : ℕ) → number_of one.observer.peer contacts ≡ Some id → sends ≡ notice lists bodies id one ∷ [] → new ≡ replace_at place (after_notice lists id) rows
-      → left ≡ numbered one.observer.peer contacts → next ≡ (if is_gone lists one then place else place + 1)
-      → OneNotified lists bodies rows contacts place one sends new left next
+    (made : Option (List ℕ)) (sends : List OwnedOut) (new : List ObservedValue) (left : List PeerContact) (next : ℕ) : Type 0 where
+  missing : made ≡ None → sends ≡ [] → new ≡ rows → left ≡ contacts → next ≡ place + 1 → OneNotified lists bodies rows contacts place one made sends new left next
+  sent : (bytes : List ℕ) → made ≡ Some bytes → (id : ℕ) → number_of one.observer.peer contacts ≡ Some id → sends ≡ notice lists bodies id one ∷ []
+      → new ≡ replace_at place (after_notice lists id) rows → left ≡ numbered one.observer.peer contacts → next ≡ (if is_gone lists one then place else place + 1)
+      → OneNotified lists bodies rows contacts place one made sends new left next

@@ -6,10 +6,10 @@ ghost use Rattle.dots_host.specs.declared.out.OwnedOut.{OwnedOut};
 ghost use Rattle.dots_disk.specs.Becoming.{KeepsMedia};
 ghost use Rattle.coap_observe.specs.Observed.{ObservedValue, is_due};
 ghost use Rattle.coap_observe.specs.Observing.{NoneIsDue};
-ghost use Rattle.coap_observe.specs.DueAmong.{AreTold};
+ghost use Rattle.coap_observe.specs.DueAmong.{AreNotified};
 ghost use Rattle.coap_observe.specs.declared.due_among.DueAmong.TheVariants.{Nobody, Anybody};
 ghost use Rattle.dots_notices.specs.Notices.{content_notice, gone_notice};
-ghost use Rattle.dots_notices.specs.Notifying.{Notifies, SentTo, IsMade, OneNotified, IsTold, IsKnown};
+ghost use Rattle.dots_notices.specs.Notifying.{Notifies, SentTo, IsMade, OneNotified, IsKnown};
 
 use crate::notices::{content_notice, gone_notice};
 use crate::sending::send_to;
@@ -32,15 +32,15 @@ struct Due {
     bytes: Option<Bytes>,
 }
 
-/// Tells each observer that is due what there is to see now, in the order of registration (RFC 7641, section 4.2; RFC 9132, section
-/// 4.4.2.1). Those alone are looked at among whom one may be due. One for whose notification there is no memory is passed over, and stays
-/// due. Whether a notification left makes no difference.
+/// Notifies each observer that is due of what there is to see now, in the order of registration (RFC 7641, section 4.2; RFC 9132, section
+/// 4.4.2.1). Those alone are looked at among whom one may be due. One whose notification can't be made is passed over, and stays due.
+/// Whether a notification left makes no difference.
 pub fn notify<H: Host, S: Shows>(host: &mut H, alloc: Global, watch: &mut Watch, shows: &S)
-    ensures told { (sends : List OwnedOut)
+    ensures notified { (sends : List OwnedOut)
         × Notifies (S.Views.lists shows.now) (S.bodies shows.now) watch.old.observers.observed watch.old.sessions sends watch.new.observers.observed watch.new.sessions
         × Added (H.acts host.old) (H.acts host.new) (SentTo (H.moment host.old) (H.moment host.new) sends) }
-    // Where all others were told before, nobody is due any more, or one is that was passed over.
-    ensures due { AreTold (S.Views.lists shows.now) watch.old.due watch.old.observers.observed
+    // Where all others were notified before, nobody is due any more, or one is that was passed over.
+    ensures due { AreNotified (S.Views.lists shows.now) watch.old.due watch.old.observers.observed
         → IsKnown (S.Views.lists shows.now) watch.new.due watch.new.observers.observed }
     ensures room { watch.new.observers.room ≡ watch.old.observers.room }
     ensures pairs { watch.new.observers.pairs ≡ watch.old.observers.pairs }
@@ -59,7 +59,7 @@ pub fn notify<H: Host, S: Shows>(host: &mut H, alloc: Global, watch: &mut Watch,
     watch.due = due_behind(passed_over);
 }
 
-/// Among whom an observer may be due, once all were told but those that were passed over.
+/// Among whom an observer may be due, once all were notified but those that were passed over.
 fn due_behind(passed_over: bool) -> DueAmong
     ensures { result ≡ (if passed_over then Anybody else Nobody) }
 {
@@ -115,19 +115,17 @@ fn bytes_of<S: Shows>(
     )
 }
 
-/// Tells the observer at the place, where its notification could be made, and answers from which place on the next one is looked for.
+/// Notifies the observer at the place exactly where its notification could be made, and answers from which place on the next one is looked
+/// for.
 fn notify_one<H: Host, S: Shows>(host: &mut H, watch: &mut Watch, shows: &S, due: Due) -> usize
     requires within { due.place < length watch.old.observers.observed }
     requires few { due.place + 1 < 2 ^ 64 }
     requires made { (one : ObservedValue) → slice_get watch.old.observers.observed due.place ≡ Some one
         → IsMade (S.Views.lists shows.now) (S.bodies shows.now) watch.old.sessions one due.peer due.gone due.bytes }
-    ensures told { (one : ObservedValue) → slice_get watch.old.observers.observed due.place ≡ Some one → (sends : List OwnedOut)
-        × OneNotified (S.Views.lists shows.now) (S.bodies shows.now) watch.old.observers.observed watch.old.sessions due.place one sends watch.new.observers.observed watch.new.sessions result
+    ensures notified { (one : ObservedValue) → slice_get watch.old.observers.observed due.place ≡ Some one → (sends : List OwnedOut)
+        × OneNotified (S.Views.lists shows.now) (S.bodies shows.now) watch.old.observers.observed watch.old.sessions due.place one due.bytes sends
+        watch.new.observers.observed watch.new.sessions result
         × Added (H.acts host.old) (H.acts host.new) (SentTo (H.moment host.old) (H.moment host.new) sends) }
-    // It is told exactly where its notification could be made.
-    ensures tells { (one : ObservedValue) → slice_get watch.old.observers.observed due.place ≡ Some one
-        → MatchOption due.bytes ((watch.new.observers.observed ≡ watch.old.observers.observed) × (result ≡ due.place + 1))
-        (λ _. IsTold (S.Views.lists shows.now) watch.old.observers.observed due.place one watch.new.observers.observed result) }
     ensures due { watch.new.due ≡ watch.old.due }
     ensures room { watch.new.observers.room ≡ watch.old.observers.room }
     ensures pairs { watch.new.observers.pairs ≡ watch.old.observers.pairs }

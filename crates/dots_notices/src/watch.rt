@@ -14,7 +14,7 @@ use session_core::Sessions;
 pub struct Watch {
     pub observers: Observers,
     pub sessions: Sessions,
-    /// Among whom an observer may be due: what the others were told last is what there is to see.
+    /// Among whom an observer may be due: what the others were notified of last is what there is to see.
     pub due: DueAmong,
 }
 

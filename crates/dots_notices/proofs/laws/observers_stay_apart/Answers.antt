@@ -6,5 +6,5 @@ returns c = record {
   registered = apart_entered;
   gone = λ peer token old. apart_filtered _ old;
   reset = λ peer id old. apart_filtered _ old;
-  told = apart_notified;
+  notified = apart_notified;
 }

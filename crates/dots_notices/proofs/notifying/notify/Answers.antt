@@ -1,15 +1,14 @@
 use Rattle.std.proofs.Common.{[], ◌++◌, ◌∙◌, refl, subst, length}
 use Rattle.std.proofs.lemmas.Bool.{false≢true}
 use Rattle.dots_notices.proofs.Sends.{sent_then, sent_none, keeps_still, keeps_then}
-use Rattle.dots_notices.specs.Notifying.{IsTold}
 use Rattle.coap_observe.specs.Observing.{NoneIsDue}
-use Rattle.dots_notices.proofs.Quiet.{quiet_first, quiet_then, owed_then, told_still, known_behind}
+use Rattle.dots_notices.proofs.Quiet.{quiet_first, went_so, quiet_then, owed_then, notified_still, known_behind}
 use Rattle.dots_notices.proofs.Ordering.{far_first, far_last, far_on, fewer, made_of}
 use Rattle.dots_notices.proofs.notifying.notify.Goals as goal
 
 pub loop-due-init : goal.loop-due-init
 loop-due-init g c = record {
-  told = ([], far_first _ _ _ _, sent_none (g.H.Wire.acts c.args.host.now) (g.H.Wire.moment c.args.host.now));
+  notified = ([], far_first _ _ _ _, sent_none (g.H.Wire.acts c.args.host.now) (g.H.Wire.moment c.args.host.now));
   quiet = λ none. quiet_first (g.S.Views.lists c.args.shows.now) c.args.watch.now.due c.args.watch.now.observers.observed;
   owed = λ passed. absurd (false≢true passed);
   due = refl;
@@ -30,23 +29,23 @@ notify_one-from-requires g c =
 pub loop-due-smaller : goal.loop-due-smaller
 loop-due-smaller g c =
     let next = c.in-Some.ensures.next in
-    let one = c.notify_one-from.ensures.told next.0 next.1 in
-    fewer _ _ _ _ _ _ _ _ c.loop-due.invariant.told.1 _ next.0 next.1 next.2 next.3 next.4 _ _ _ _ one.1
+    let one = c.notify_one-from.ensures.notified next.0 next.1 in
+    fewer _ _ _ _ _ _ _ _ c.loop-due.invariant.notified.1 _ next.0 next.1 next.2 next.3 next.4 _ _ _ _ _ one.1
 
 pub loop-due-preserved : goal.loop-due-preserved
 loop-due-preserved g c =
     let next = c.in-Some.ensures.next in
-    let one = c.notify_one-from.ensures.told next.0 next.1 in
+    let one = c.notify_one-from.ensures.notified next.0 next.1 in
     let kept = c.loop-due.invariant in
     let lists = g.S.Views.lists c.args.shows.now in
     let rows = c.loop-due.watch.observers.observed in
     let new = c.notify_one-from.new.watch.observers.observed in
-    let went = c.notify_one-from.ensures.tells next.0 next.1 in
+    let went = went_so _ _ _ _ _ _ _ _ _ _ _ one.1 in
     record {
-      told = (
-        kept.told.0 ++ one.0,
-        far_on _ _ _ _ _ _ _ _ kept.told.1 _ next.0 next.1 next.2 next.3 next.4 _ _ _ _ one.1,
-        sent_then _ _ _ _ _ _ _ _ kept.told.2 one.2,
+      notified = (
+        kept.notified.0 ++ one.0,
+        far_on _ _ _ _ _ _ _ _ kept.notified.1 _ next.0 next.1 next.2 next.3 next.4 _ _ _ _ _ one.1,
+        sent_then _ _ _ _ _ _ _ _ kept.notified.2 one.2,
       );
       quiet = quiet_then lists c.args.watch.now.due rows c.loop-due.from c.in-Some.due.place next.0 next.1 next.3 next.4 new c.notify_one-from.result
           c.in-Some.due.bytes c.is_none-passed_over.result c.loop-due.passed_over c.is_none-passed_over.ensures went kept.quiet (subst (λ among. NoneIsDue lists among c.loop-due.from c.in-Some.due.place rows) kept.due next.6);
@@ -62,17 +61,17 @@ loop-due-preserved g c =
       leads = g.met.H.Wire.leads_then _ _ _ kept.leads c.notify_one-from.ensures.leads;
     }
 
-pub returns-clause-told : goal.returns-clause-told
-returns-clause-told g c =
+pub returns-clause-notified : goal.returns-clause-notified
+returns-clause-notified g c =
     let kept = c.loop-due.invariant in
-    (kept.told.0, far_last _ _ _ _ _ _ _ _ kept.told.1, kept.told.2)
+    (kept.notified.0, far_last _ _ _ _ _ _ _ _ kept.notified.1, kept.notified.2)
 
 pub returns-clause-due : goal.returns-clause-due
-returns-clause-due g c = λ told.
+returns-clause-due g c = λ are.
     let lists = g.S.Views.lists c.args.shows.now in
     let kept = c.loop-due.invariant in
     let rows = c.loop-due.watch.observers.observed in
-    let all = far_last _ _ _ _ _ _ _ _ kept.told.1 in
+    let all = far_last _ _ _ _ _ _ _ _ kept.notified.1 in
     known_behind lists c.args.watch.now.due rows c.loop-due.from c.loop-due.passed_over c.due_behind-watch.result c.due_behind-watch.ensures
-    (told_still lists (g.S.Shows.bodies c.args.shows.now) c.args.watch.now.due c.args.watch.now.observers.observed c.args.watch.now.sessions kept.told.0 rows c.loop-due.watch.sessions all told)
+    (notified_still lists (g.S.Shows.bodies c.args.shows.now) c.args.watch.now.due c.args.watch.now.observers.observed c.args.watch.now.sessions kept.notified.0 rows c.loop-due.watch.sessions all are)
     kept.quiet (subst (λ among. NoneIsDue lists among c.loop-due.from (length rows) rows) kept.due c.in_default.ensures.next) kept.owed

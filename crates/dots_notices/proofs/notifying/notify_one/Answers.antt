@@ -1,8 +1,6 @@
-use Rattle.std.proofs.Common.{◌≡◌, sym, ap, subst, ◌+◌, ◌∙◌}
-use Rattle.std.specs.Prelude.{MatchOption}
+use Rattle.std.proofs.Common.{sym, ap, ◌+◌}
 use Rattle.std.proofs.lemmas.Bool.{cond-true, cond-false}
 use Rattle.coap_observe.specs.Observing.{ObserversValue}
-use Rattle.dots_notices.specs.Notifying.{IsMade, IsTold, is_gone}
 use Rattle.dots_notices.proofs.Ordering.{has_number, one_notified}
 use Rattle.dots_notices.proofs.notifying.notify_one.Goals as goal
 
@@ -11,40 +9,20 @@ number-id-requires g c =
     has_number (g.S.Views.lists c.args.shows.now) (g.S.Shows.bodies c.args.shows.now) c.args.watch.now.sessions c.args.watch.now.observers.observed c.args.due.place c.args.due.peer c.args.due.gone
     c.args.due.bytes c.in-Some.bytes c.requires.within c.requires.made c.in-Some.is
 
-pub returns-then-gone-clause-told : goal.returns-then-gone-clause-told
-returns-then-gone-clause-told g c one there =
+pub returns-then-gone-clause-notified : goal.returns-then-gone-clause-notified
+returns-then-gone-clause-notified g c one there =
     one_notified (g.S.Views.lists c.args.shows.now) (g.S.Shows.bodies c.args.shows.now) c.args.watch.now.observers.observed c.notified.new.self.observed c.args.watch.now.sessions c.number-id.new.self
-    c.args.due.place one c.args.due.peer c.number-id.result c.args.due.gone c.items.result.now c.in-Some.bytes c.args.due.place
+    c.args.due.place one c.args.due.peer c.number-id.result c.args.due.gone c.items.result.now c.in-Some.bytes c.args.due.bytes c.args.due.place
     (g.H.Wire.acts c.args.host.now) (g.H.Wire.acts c.send_to.new.host) (g.H.Wire.moment c.args.host.now) (g.H.Wire.moment c.send_to.new.host)
-    (subst (IsMade (g.S.Views.lists c.args.shows.now) (g.S.Shows.bodies c.args.shows.now) c.args.watch.now.sessions one c.args.due.peer c.args.due.gone) c.in-Some.is (c.requires.made one there))
+    (c.requires.made one there) c.in-Some.is
     c.number-id.ensures.number c.number-id.ensures.after (ap (λ (o : ObserversValue). o.observed) c.notified.ensures) c.items.ensures c.send_to.ensures.acts
     (sym (cond-true c.args.due.gone c.args.due.place (c.args.due.place + 1) c.if-gone.true))
 
-pub returns-in-Some-clause-told : goal.returns-in-Some-clause-told
-returns-in-Some-clause-told g c one there =
+pub returns-in-Some-clause-notified : goal.returns-in-Some-clause-notified
+returns-in-Some-clause-notified g c one there =
     one_notified (g.S.Views.lists c.args.shows.now) (g.S.Shows.bodies c.args.shows.now) c.args.watch.now.observers.observed c.notified.new.self.observed c.args.watch.now.sessions c.number-id.new.self
-    c.args.due.place one c.args.due.peer c.number-id.result c.args.due.gone c.items.result.now c.in-Some.bytes (c.args.due.place + 1)
+    c.args.due.place one c.args.due.peer c.number-id.result c.args.due.gone c.items.result.now c.in-Some.bytes c.args.due.bytes (c.args.due.place + 1)
     (g.H.Wire.acts c.args.host.now) (g.H.Wire.acts c.send_to.new.host) (g.H.Wire.moment c.args.host.now) (g.H.Wire.moment c.send_to.new.host)
-    (subst (IsMade (g.S.Views.lists c.args.shows.now) (g.S.Shows.bodies c.args.shows.now) c.args.watch.now.sessions one c.args.due.peer c.args.due.gone) c.in-Some.is (c.requires.made one there))
+    (c.requires.made one there) c.in-Some.is
     c.number-id.ensures.number c.number-id.ensures.after (ap (λ (o : ObserversValue). o.observed) c.notified.ensures) c.items.ensures c.send_to.ensures.acts
     (sym (cond-false c.args.due.gone c.args.due.place (c.args.due.place + 1) c.if-gone.false))
-
-pub returns-then-gone-clause-tells : goal.returns-then-gone-clause-tells
-returns-then-gone-clause-tells g c one there =
-    let lists = g.S.Views.lists c.args.shows.now in
-    let gone_is = (c.requires.made one there).gone_is in
-    subst
-    (λ made. MatchOption made ((c.notified.new.self.observed ≡ c.args.watch.now.observers.observed) × (c.args.due.place ≡ c.args.due.place + 1))
-    (λ bytes. IsTold lists c.args.watch.now.observers.observed c.args.due.place one c.notified.new.self.observed c.args.due.place))
-    (sym c.in-Some.is)
-    (c.number-id.result, ap (λ (o : ObserversValue). o.observed) c.notified.ensures, sym (cond-true (is_gone lists one) c.args.due.place (c.args.due.place + 1) (sym gone_is ∙ c.if-gone.true)))
-
-pub returns-in-Some-clause-tells : goal.returns-in-Some-clause-tells
-returns-in-Some-clause-tells g c one there =
-    let lists = g.S.Views.lists c.args.shows.now in
-    let gone_is = (c.requires.made one there).gone_is in
-    subst
-    (λ made. MatchOption made ((c.notified.new.self.observed ≡ c.args.watch.now.observers.observed) × (c.args.due.place + 1 ≡ c.args.due.place + 1))
-    (λ bytes. IsTold lists c.args.watch.now.observers.observed c.args.due.place one c.notified.new.self.observed (c.args.due.place + 1)))
-    (sym c.in-Some.is)
-    (c.number-id.result, ap (λ (o : ObserversValue). o.observed) c.notified.ensures, sym (cond-false (is_gone lists one) c.args.due.place (c.args.due.place + 1) (sym gone_is ∙ c.if-gone.false)))

@@ -1,0 +1,15 @@
+-- what is found is found among the rest, and the key at hand is the one before them
+use Rattle.std.proofs.Common.{◌≡◌, ◌∷◌, drop, get_or}
+use Rattle.std.specs.List.{find}
+use Rattle.dots_history.specs.Entries.{option_any}
+use Rattle.coap_observe.specs.Chains.{chain_at}
+use Rattle.coap_observe.specs.Observed.{is_of}
+use Rattle.coap_observe.specs.Rolls.{one_at}
+use Rattle.coap_observe.proofs.observers.pair_among.Given as goal
+
+abbrev pub invariant-loop-place : goal.invariant-loop-place
+invariant-loop-place l = record {
+  rest : find (λ key. option_any (is_of l.peer l.domain) (one_at key l.roll.rows)) (drop l.place (chain_at l.at l.chains.chains).keys)
+      ≡ find (λ key. option_any (is_of l.peer l.domain) (one_at key l.roll.rows)) (chain_at l.at l.chains.chains).keys;
+  key : l.key ≡ get_or ((chain_at l.at l.chains.chains).start ∷ (chain_at l.at l.chains.chains).keys) l.place 0;
+}
