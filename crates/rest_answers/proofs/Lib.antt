@@ -1,4 +1,5 @@
 pub mod Accepted
+pub mod Apart
 mod Insides
 mod Judged
 mod Rooms

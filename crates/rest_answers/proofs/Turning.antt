@@ -32,7 +32,7 @@ use Rattle.rest_answers.specs.Answers.{IsOf, answer_to, LacksMemory, Answers}
 use Rattle.rest_answers.specs.Turns.{RestFront, caller_in, caller_by, caller_of, IsFront, is_waiting, HasSize, reply_in, closing, sends_of, entries_in, entries_of, lines_behind, HttpTurn, with_piece, AddsOne, LackMemory, IsEarly}
 use Rattle.rest_answers.proofs.Accepted.{accepted_succeeds, accepted_is_of, failure}
 
-one_there : {A : Type 0} (x y : A) → Some x ≡ Some y → x ≡ y
+pub one_there : {A : Type 0} (x y : A) → Some x ≡ Some y → x ≡ y
 one_there x y same = cc
 
 -- ---- what is cut is one
@@ -188,7 +188,7 @@ module _ (settings : SettingsValue) (t : ℕ) (history : List Entry) (caller : C
       ((asked, accepted_is_of known caller message.close asked reply entry (sym is)), accepted_succeeds known caller message.close asked reply entry (sym is))
   accepted_by message (Err rejected) reply entry is = absurd (cc is)
 
-  accepted : (message : Request) (reply : List ℕ) (entry : Entry) → Answers settings t history caller message (answer.Accept reply entry)
+  pub accepted : (message : Request) (reply : List ℕ) (entry : Entry) → Answers settings t history caller message (answer.Accept reply entry)
       → ((asked : RestRequest) × IsOf t caller asked entry) × ((rest : List ℕ) × (reply ≡ codes "HTTP/1.1 2" ++ rest))
   accepted message reply entry (inl x) = accepted_by message x.0 reply entry x.2
   accepted message reply entry (inr lacks) = absurd (cc lacks)

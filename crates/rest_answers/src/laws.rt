@@ -7,6 +7,7 @@ ghost use Rattle.dots_settings.specs.Settings.{SettingsValue, IsSettings};
 ghost use Rattle.dots_settings.specs.Lookups.{role_of};
 ghost use Rattle.dots_history.specs.declared.entry.Entry.{Entry};
 ghost use Rattle.dots_history.specs.Bounds.{within_bounds};
+ghost use Rattle.dots_history.specs.Histories.{alone};
 ghost use Rattle.dots_laws.specs.Calm.{may_act, is_own};
 ghost use Rattle.dots_laws.specs.Fits.{fits};
 ghost use Rattle.stream_table.specs.Lines.{Line, PeerLines, AreOf, line_of};
@@ -90,4 +91,14 @@ pub fn a_turn_stays_where_bytes_follow()
     ensures { (settings : SettingsValue) (conn t : ℕ) (history : List Entry) (lines : List PeerLines) (more : List ℕ) (sends : List OwnedOut) (after : List Entry)
         (behind : List PeerLines) → AreApart lines → HttpTurn settings conn t history lines sends after behind
         → HttpTurn settings conn t history (with_piece conn more lines) sends after (with_piece conn more behind) }
+{}
+
+/// What is known of a request, and so what it is answered, goes by the entries of the caller's domain alone. A turn of a connection is the same by any
+/// other history with the same entries of that domain, adds the same there, and what it adds is of that domain.
+pub fn a_turn_goes_by_its_domain()
+    ensures known { (settings : SettingsValue) (t : ℕ) (one other : List Entry) (caller : CallerValue) (asked : RestRequest) → alone caller.domain one ≡ alone caller.domain other
+        → known_of settings t one caller asked ≡ known_of settings t other caller asked }
+    ensures turn { (settings : SettingsValue) (conn t : ℕ) (one other : List Entry) (lines : List PeerLines) (sends : List OwnedOut) (after : List Entry) (behind : List PeerLines)
+        (caller : CallerValue) → HttpTurn settings conn t one lines sends after behind → caller_of settings conn lines ≡ Some caller → alone caller.domain one ≡ alone caller.domain other
+        → (extra : List Entry) × (after ≡ one ++ extra) × (alone caller.domain extra ≡ extra) × HttpTurn settings conn t other lines sends (other ++ extra) behind }
 {}
