@@ -1,6 +1,8 @@
 -- What becomes of a domain depends on its own entries alone.
 use Rattle.std.proofs.Common.{◌≡◌, ◌≢◌, ◌⊎◌, ◌==◌, ℕ, Bool, true, false, cond, List, [], ◌∷◌, ◌++◌, max, Option, Some, None, inl, inr, refl, sym, ap, ◌∙◌, subst, arith, append-nil}
+use Rattle.std.proofs.lemmas.Bool.{both_ways}
 use Rattle.std.proofs.lemmas.Bool.Decides.{nat_tests}
+use Rattle.std.proofs.lemmas.Option.{none-some, same_Some}
 use Rattle.std.specs.List.{list_any}
 use Rattle.std.proofs.lemmas.List.Elements.{filter-append}
 use Rattle.dots_host.specs.declared.event.Event.{Event}
@@ -29,8 +31,10 @@ use Rattle.target_rules.specs.Targets.{scope_fault}
 use Rattle.dots_machine.specs.MessageRepeats.{Sent, sent_for, unless_repeated}
 use Rattle.dots_machine.specs.Mitigations.{sent_by, request_of, judged, unless_faulty, put_answer, is_taken, delete_by, delete_answer, get_by, get_answer, client_for}
 use Rattle.dots_machine.specs.Observing.{number_of}
-use Rattle.dots_machine.specs.Machine.{State, later, DecidesRequest, Rules, Decides, by_silence, by_rules, for_want_of_memory, after, Answers, Step, facts_in}
-use Rattle.dots_machine.specs.Apart.{SameFor, domain_of, AsksFor, by_datagram, StaysApart, elsewhere, decided_alike, without_request}
+use Rattle.rest_answers.specs.declared.caller.Caller.{Caller}
+use Rattle.rest_answers.specs.Turns.{caller_of}
+use Rattle.dots_machine.specs.Machine.{State, later, DecidesRequest, Rules, Decides, by_silence, by_rules, for_want_of_memory, after, Answers, receiving, Takes, Step, facts_in}
+use Rattle.dots_machine.specs.Apart.{SameFor, domain_of, AsksFor, by_datagram, AsksOn, AsksElsewhere, connected_as, StaysApart, elsewhere, decided_alike, piece_elsewhere, answered_alike, without_request}
 use Rattle.dots_laws.specs.Held.{config_of}
 use Rattle.dots_keys.specs.declared.request.ConfigBody.{ConfigBody}
 use Rattle.session_core.specs.Negotiating.{negotiated}
@@ -40,7 +44,9 @@ use Rattle.dots_machine.specs.Deciding.{in_domain, with_mid, put_in, put_for, de
 use Rattle.dots_machine.proofs.Verdicts.{request_valued, request_there, ruled}
 use Rattle.dots_machine.proofs.Hearing.{answer_history, answer_time, tick_history}
 use Rattle.dots_machine.proofs.Connections.{opens_history}
-use Rattle.dots_machine.proofs.Observing.{told_history}
+use Rattle.dots_machine.proofs.Observing.{told_history, told_time}
+use Rattle.dots_machine.proofs.Fronts.{takes_outs}
+use Rattle.dots_machine.proofs.FrontsApart.{on_received, elsewhere_received, fronts_elsewhere, fronts_alike}
 use Rattle.dots_machine.proofs.Outcomes.{AcceptsWell, puts_accept, deletes_accept, gets_accept, put_configs_accept, delete_configs_accept, get_configs_accept}
 
 -- whatever is carried out on both leaves the domain the same
@@ -248,7 +254,42 @@ module _ (settings : SettingsValue) where
     step_apart event.End owed step = without_request tt (ap (λ (state : State). alone domain state.history) step.1)
     step_apart event.Failed owed step = without_request tt (ap (λ (state : State). alone domain state.history) step.1)
     step_apart (event.Opened c p) owed step = without_request tt (ap (alone domain) (opens_history (later old at) p c step.0 new step.2))
-    step_apart (event.Piece c p) owed step = without_request tt (ap (alone domain) (told_history settings (later old at) new step.0 step.2))
+    step_apart (event.Piece conn piece) owed step = by_caller (caller_of settings conn old.lines) refl
+      where
+        state : State
+        state = receiving conn piece (later old at)
+
+        x : Takes settings conn state step.0 new
+        x = step.2
+
+        history_is : new.history ≡ x.rested.history
+        history_is = told_history settings x.rested new x.notices x.notified
+
+        Apartly : Type 0
+        Apartly = StaysApart settings domain old other (event.Piece conn piece) at (outs_of owed) new
+
+        away : AsksElsewhere settings domain conn old → Apartly
+        away asks =
+            piece_elsewhere conn piece refl asks
+            (ap (alone domain) history_is ∙ fronts_elsewhere settings conn domain state x.answered x.rested x.fronts (elsewhere_received settings conn domain piece (later old at) asks))
+
+        here : AsksOn settings domain conn old → Apartly
+        here asks =
+            let a = fronts_alike settings conn domain state (receiving conn piece (later (connected_as old other) at)) x.answered x.rested x.fronts (on_received settings conn domain piece (later old at) asks) refl
+            (record { time = moved.time; entries = moved.entries }) in
+            answered_alike conn piece x.answered a.0 x.rested a.1 x.notices refl asks x.fronts a.2 a.3 (ap outs_of step.1 ∙ takes_outs settings conn state step.0 new x)
+            (record { time = told_time settings x.rested new x.notices x.notified ∙ a.4.time; entries = ap (alone domain) history_is ∙ a.4.entries })
+
+        by_caller : (found : Option Caller) → caller_of settings conn old.lines ≡ found → Apartly
+        by_caller None is = away (λ caller there. absurd (none-some caller (sym is ∙ there)))
+        by_caller (Some caller) is = by_test (caller.domain == domain) refl
+          where
+            one : (c : Caller) → caller_of settings conn old.lines ≡ Some c → caller ≡ c
+            one c there = same_Some caller c (sym is ∙ there)
+
+            by_test : (own : Bool) → (caller.domain == domain) ≡ own → Apartly
+            by_test true own = here (λ c there. ap (λ (c : Caller). c.domain) (sym (one c there)) ∙ grind (arith, nat_tests, own))
+            by_test false out = away (λ c there same. both_ways (caller.domain == domain) out (let is : caller.domain ≡ domain = ap (λ (c : Caller). c.domain) (one c there) ∙ same in grind (arith, nat_tests, is)))
     step_apart (event.Closed c) owed step = without_request tt (ap (λ (state : State). alone domain state.history) step.1)
     step_apart event.Tick owed step = without_request tt (ap (alone domain) (tick_history settings (later old at) step.0 new step.2))
     step_apart event.Restart owed step = without_request tt (ap (λ (state : State). alone domain state.history) step.1)

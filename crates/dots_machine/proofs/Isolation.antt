@@ -1,13 +1,14 @@
 -- Over a whole run a domain's entries are what its own requests make.
-use Rattle.std.proofs.Common.{◌≡◌, ◌⊎◌, ◌==◌, inl, inr, ℕ, Bool, true, false, List, [], ◌∷◌, ◌++◌, Option, Some, None, refl, sym, ap, ◌∙◌, subst, arith, append-nil}
-use Rattle.std.proofs.lemmas.Bool.{cond_both, both_ways, cond-true}
+use Rattle.std.proofs.Common.{◌≡◌, ◌≢◌, ◌⊎◌, ◌==◌, inl, inr, ℕ, Bool, true, false, List, [], ◌∷◌, ◌++◌, Option, Some, None, refl, sym, ap, ◌∙◌, subst, arith, append-nil}
+use Rattle.std.proofs.lemmas.Bool.{false≢true, cond_both, both_ways, cond-true}
 use Rattle.std.proofs.lemmas.Bool.Decides.{nat_tests}
 use Rattle.std.proofs.lemmas.List.Elements.{filter-append}
 use Rattle.dots_host.specs.declared.event.Event.{Event}
 use Rattle.dots_host.specs.declared.event.Event.TheVariants as event
 use Rattle.dots_host.specs.declared.out.OwnedOut.{OwnedOut}
+use Rattle.dots_host.specs.declared.out.OwnedOut.TheVariants as owned
 use Rattle.dots_host.specs.Acts.{Timed}
-use Rattle.dots_host.specs.Runs.{resting, outs_of, Trace}
+use Rattle.dots_host.specs.Runs.{resting, Turn, Chain, outs_of, Trace}
 use Rattle.dots_host.proofs.RunLemmas.{outs_back}
 use Rattle.dots_settings.specs.declared.peer.Role.{Role}
 use Rattle.dots_settings.specs.declared.peer.Role.TheVariants as role
@@ -15,6 +16,14 @@ use Rattle.dots_settings.specs.Settings.{SettingsValue}
 use Rattle.dots_settings.specs.Lookups.{role_of}
 use Rattle.dots_history.specs.declared.entry.Entry.{Entry}
 use Rattle.dots_history.specs.Histories.{alone}
+use Rattle.stream_table.specs.Lines.{PeerLines}
+use Rattle.http_cut.specs.Requests.{Request as HttpRequest, takes, IsCut}
+use Rattle.rest_answers.specs.declared.caller.Caller.{Caller}
+use Rattle.rest_answers.specs.declared.front.RestFront.TheVariants as fronts
+use Rattle.rest_answers.specs.Answer.{RestAnswer}
+use Rattle.rest_answers.specs.Answers.{answer_to as http_answer, Answers as HttpAnswers}
+use Rattle.rest_answers.specs.Replies.{unavailable}
+use Rattle.rest_answers.specs.Turns.{RestFront, caller_of, IsFront, is_waiting, reply_in, closing, sends_of as http_sends, entries_in, entries_of as http_entries, HttpTurn}
 use Rattle.dots_keys.specs.declared.request.Request.{Request}
 use Rattle.dots_keys.specs.declared.request.Request.TheVariants as request
 use Rattle.dots_machine.specs.declared.exchange.Exchange.{Exchange}
@@ -26,10 +35,10 @@ use Rattle.dots_machine.specs.Verdict.{Verdict}
 use Rattle.dots_machine.specs.declared.verdict.Verdict.TheVariants as verdict
 use Rattle.dots_machine.specs.Domains.{is_gateway, domain_for, session_domain, is_stranger}
 use Rattle.dots_machine.specs.Requests.{IsReceived}
-use Rattle.dots_machine.specs.Machine.{State, afresh, later, DecidesRequest, Rules, dismissal_verdict, reject_verdict, Decides, by_silence, by_rules, for_want_of_memory, sends_of, after, Step, facts_in}
-use Rattle.dots_machine.specs.Apart.{SameFor, domain_of, AsksFor, by_datagram}
+use Rattle.dots_machine.specs.Machine.{State, afresh, later, DecidesRequest, Rules, dismissal_verdict, reject_verdict, Decides, by_silence, by_rules, for_want_of_memory, sends_of, after, AnswersFront, receiving, Takes, Step, facts_in}
+use Rattle.dots_machine.specs.Apart.{SameFor, domain_of, AsksFor, by_datagram, AsksOn}
 use Rattle.dots_machine.specs.Handlings.{Handling, IsHandling, EachHandling, handlings_of}
-use Rattle.dots_machine.specs.Isolation.{TakenUp, TakesUp, PassesBy, none_came, was_refused, lacked_memory, entries_of, Make, IsIsolated}
+use Rattle.dots_machine.specs.Isolation.{by_message, by_http, TakenUp, TakesUp, PassesBy, none_came, was_refused, lacked_memory, FrontTakesUp, FrontPassesBy, of_another, front_refused, failed, FrontsTakeUp, PieceTakesUp, TakesUpAll, entries_of, AnsweredBy, Make, IsIsolated}
 use Rattle.dots_machine.specs.Deciding.{in_domain, put_for, delete_for, get_for, put_config_for, delete_config_for, get_config_for, answer_to}
 use Rattle.dots_machine.proofs.OneRequest.{Same, one, first_refused, second_refused, same_received}
 use Rattle.dots_machine.proofs.Outcomes.{AcceptsWell, IsRefusal, reject_refuses, puts_accept, deletes_accept, gets_accept, put_configs_accept, delete_configs_accept, get_configs_accept, request_accepts}
@@ -39,6 +48,8 @@ use Rattle.dots_machine.proofs.Hearing.{answer_history, answer_time, tick_histor
 use Rattle.dots_machine.proofs.Connections.{opens_history}
 use Rattle.dots_machine.proofs.Observing.{told_history}
 use Rattle.dots_machine.proofs.Apart.{untouched, Elsewhere, asked_apart}
+use Rattle.dots_machine.proofs.Fronts.{takes_outs}
+use Rattle.dots_machine.proofs.FrontsApart.{front_elsewhere, front_alike}
 use Rattle.dots_machine.proofs.Handlings.{by_handlings}
 
 -- ---- small steps
@@ -90,6 +101,110 @@ dismissal_adds_nothing dismissal.Ignored state = refl
 dismissal_adds_nothing (dismissal.Reset id) state = refl
 dismissal_adds_nothing (dismissal.Rejected id) state = refl
 
+-- ---- of a connection
+
+module _ (settings : SettingsValue) (domain conn : ℕ) where
+  module _ (state : State) (sends : List OwnedOut) (new : State) where
+    -- one turn, and what it makes of the entries of the domain
+    abbrev Front : Type 0
+    Front =
+        ((taken : TakenUp) × FrontTakesUp settings domain conn state sends taken × (accepted : List Entry)
+        × AnsweredBy settings domain (alone domain state.history) taken.time taken.peer taken.asking taken.replies accepted
+        × (alone domain new.history ≡ alone domain state.history ++ accepted))
+        ⊎ (FrontPassesBy settings domain conn state sends × (alone domain new.history ≡ alone domain state.history))
+
+    module _ (extra : List Entry) (made : alone domain new.history ≡ alone domain state.history ++ extra) (lines : List PeerLines)
+        (turn : HttpTurn settings conn state.time (alone domain state.history) state.lines sends (alone domain state.history ++ extra) lines) (here : turn.caller.domain ≡ domain) where
+      -- it leaves the domain with what its front adds
+      left_with : (at : RestFront) → turn.front ≡ at → alone domain new.history ≡ alone domain state.history ++ http_entries at
+      left_with at is = made ∙ turn.history_is ∙ ap (λ f. alone domain state.history ++ http_entries f) is
+
+      left_alone : (at : RestFront) → turn.front ≡ at → http_entries at ≡ [] → alone domain new.history ≡ alone domain state.history
+      left_alone at is none = left_with at is ∙ ap (λ es. alone domain state.history ++ es) none ∙ append-nil (alone domain state.history)
+
+      by_answers : (size : ℕ) (close : Bool) (answered : RestAnswer) → turn.front ≡ fronts.Answered size close answered → (message : HttpRequest) → IsCut turn.line.held (takes message)
+          → close ≡ message.close → HttpAnswers settings state.time (alone domain state.history) turn.caller message answered → Front
+      by_answers size close answered is message cut closes (inl (read, means, given)) = inl (
+        record { time = state.time; peer = turn.caller.peer; asking = by_http conn message; replies = sends },
+        record {
+          caller = turn.caller;
+          asks_on = turn.asks;
+          for_domain = here;
+          peer_is = refl;
+          line = turn.line;
+          there = turn.there;
+          message = message;
+          cut = cut;
+          asks = refl;
+          time_is = refl;
+          sends_are = refl;
+        },
+        entries_in answered,
+        (
+          read,
+          means,
+          answered,
+          given ∙ ap (λ d. http_answer settings state.time (alone domain state.history) (asks_as turn.caller.peer d) message.close read) here,
+          turn.sends_are ∙ ap (http_sends conn) is ∙ ap (λ b. owned.Conn conn (reply_in answered) ∷ closing conn b) closes,
+          refl,
+        ),
+        left_with (fronts.Answered size close answered) is,
+      )
+        where
+          asks_as : ℕ → ℕ → Caller
+          asks_as peer domain = record { peer = peer; domain = domain }
+      by_answers size close answered is message cut closes (inr lacks) = inr (
+        failed (
+          message.close,
+          turn.sends_are ∙ ap (http_sends conn) (is ∙ ap (fronts.Answered size close) lacks) ∙ ap (λ b. owned.Conn conn (unavailable message.close) ∷ closing conn b) closes,
+        ),
+        left_alone (fronts.Answered size close answered) is (ap entries_in lacks),
+      )
+
+      by_front : (at : RestFront) → turn.front ≡ at → IsFront settings state.time (alone domain state.history) turn.caller turn.line.held at → Front
+      by_front fronts.Waits is stands = absurd (false≢true (sym turn.due ∙ ap is_waiting is))
+      by_front (fronts.Refused fault) is stands = inr (front_refused turn.line fault turn.there stands, left_alone (fronts.Refused fault) is refl)
+      by_front (fronts.Answered size close answered) is stands = by_answers size close answered is stands.0 stands.1 stands.3 stands.4
+
+    one_front_isolated : AnswersFront settings conn state sends new → Front
+    one_front_isolated x = by_test (x.2.caller.domain == domain) refl
+      where
+        callers : (c : Caller) → caller_of settings conn state.lines ≡ Some c → x.2.caller ≡ c
+        callers c there = some_same x.2.caller c (sym x.2.asks ∙ there)
+
+        by_test : (own : Bool) → (x.2.caller.domain == domain) ≡ own → Front
+        by_test false out =
+            let away : x.2.caller.domain ≢ domain = λ same. both_ways (x.2.caller.domain == domain) out (grind (arith, nat_tests, same)) in inr (
+              of_another x.2.caller x.2.asks away,
+              front_elsewhere settings conn domain state sends new x (λ c there same. away (ap (λ (c : Caller). c.domain) (callers c there) ∙ same)),
+            )
+        by_test true own =
+            let here : x.2.caller.domain ≡ domain = grind (arith, nat_tests, own) in
+            let asks : AsksOn settings domain conn state = λ c there. ap (λ (c : Caller). c.domain) (sym (callers c there)) ∙ here in
+            let alone_state : State = record state { history = alone domain state.history } in
+            let a = front_alike settings conn domain state alone_state sends new x asks (alone_twice domain state.history) in
+            by_front a.extra
+            (ap (alone domain) a.history_is ∙ filter-append (λ (e : Entry). e.domain == domain) state.history a.extra ∙ ap (λ es. alone domain state.history ++ es) a.own)
+            a.lines a.turn (asks a.turn.caller a.turn.asks) a.turn.front refl a.turn.stands
+
+  fronts_isolated : (state : State) (turns : List (Turn State)) (new : State) → Chain (AnswersFront settings conn) state turns new
+      → (requests : List TakenUp) × FrontsTakeUp settings domain conn state turns requests × Make settings domain (alone domain state.history) requests (alone domain new.history)
+  fronts_isolated state [] new x = ([], refl, ap (λ (s : State). alone domain s.history) x)
+  fronts_isolated state (turn ∷ turns) new x = joined (one_front_isolated state turn.sends turn.left x.0) (fronts_isolated turn.left turns new x.1)
+    where
+      joined : Front state turn.sends turn.left
+          → ((requests : List TakenUp) × FrontsTakeUp settings domain conn turn.left turns requests × Make settings domain (alone domain turn.left.history) requests (alone domain new.history))
+          → (requests : List TakenUp) × FrontsTakeUp settings domain conn state (turn ∷ turns) requests × Make settings domain (alone domain state.history) requests (alone domain new.history)
+      joined (inl (taken, how, accepted, answered, entries)) more = (
+        taken ∷ more.0,
+        inl (taken, more.0, refl, how, more.1),
+        (accepted, answered, subst (λ es. Make settings domain es more.0 (alone domain new.history)) entries more.2),
+      )
+      joined (inr (passes, entries)) more =
+          (more.0, inr (passes, more.1), subst (λ es. Make settings domain es more.0 (alone domain new.history)) entries more.2)
+
+-- ---- of a handling
+
 module _ (settings : SettingsValue) (domain : ℕ) (old : State) (handling : Handling) (new : State) where
   abbrev now : State
   now = later old handling.at
@@ -98,13 +213,12 @@ module _ (settings : SettingsValue) (domain : ℕ) (old : State) (handling : Han
   abbrev own : State
   own = afresh settings (alone domain old.history) new.time
 
-  -- a request for the domain was taken up, and its verdict goes by the domain's entries alone
+  -- a request for the domain was taken up, and its answer goes by the domain's entries alone
   abbrev Taken : Type 0
   Taken =
-      (taken : TakenUp) × TakesUp settings domain handling new taken × (decided : Verdict)
-      × DecidesRequest settings (afresh settings (alone domain old.history) taken.time) taken.peer taken.exchange taken.request decided
-      × (number : Option ℕ) × (taken.replies ≡ sends_of number decided taken.peer)
-      × (alone domain new.history ≡ alone domain old.history ++ entries_of decided)
+      (taken : TakenUp) × TakesUp settings domain handling new taken × (accepted : List Entry)
+      × AnsweredBy settings domain (alone domain old.history) taken.time taken.peer taken.asking taken.replies accepted
+      × (alone domain new.history ≡ alone domain old.history ++ accepted)
 
   abbrev Passed : Type 0
   Passed = PassesBy settings domain handling × (alone domain new.history ≡ alone domain old.history)
@@ -193,12 +307,21 @@ module _ (settings : SettingsValue) (domain : ℕ) (old : State) (handling : Han
       -- for the domain
       taken_up : (x : Exchange) (r : Request) → IsReceived datagram (is_gateway who) (received.Asked x r) → IsAsked r → decided ≡ answer_to settings (facts_in settings now) peer x r → Taken
       taken_up x r got asked is = (
-        record { time = new.time; peer = peer; exchange = x; request = r; replies = replies },
-        record { datagram = datagram; came = came; is_received = got; for_domain = asked; time_is = refl; notices = notices; sends_are = sent },
-        decided,
-        subst (DecidesRequest settings own peer x r) (sym (is ∙ alike)) (request_there settings own peer x r),
-        number,
-        told,
+        record { time = new.time; peer = peer; asking = by_message x r; replies = replies },
+        record {
+          datagram = datagram;
+          came = came;
+          exchange = x;
+          request = r;
+          asks = refl;
+          is_received = got;
+          for_domain = asked;
+          time_is = refl;
+          notices = notices;
+          sends_are = sent;
+        },
+        entries_of decided,
+        (decided, subst (DecidesRequest settings own peer x r) (sym (is ∙ alike)) (request_there settings own peer x r), number, told, refl),
         ap (alone domain) history_is ∙ added decided (well_so is),
       )
         where
@@ -285,42 +408,68 @@ module _ (settings : SettingsValue) (domain : ℕ) (old : State) (handling : Han
       out : AsksFor settings domain handling.what → ⊥
       out (by_datagram p bytes x r e got found) = never p bytes (sym is ∙ e)
 
-  by_event : (what : Event) (owed : List (State × OwnedOut)) → handling.what ≡ what → outs_of owed ≡ handling.sends → Step settings old what handling.at owed new → Taken ⊎ Passed
+  -- what was taken up, which makes the later entries of the domain of the earlier ones
+  abbrev IsolatedBy : (List TakenUp → Type 0) → Type 0
+  IsolatedBy TakeUp = (requests : List TakenUp) × TakeUp requests × Make settings domain (alone domain old.history) requests (alone domain new.history)
+
+  abbrev OneOrNone : List TakenUp → Type 0
+  OneOrNone requests = ((taken : TakenUp) × (requests ≡ taken ∷ []) × TakesUp settings domain handling new taken) ⊎ ((requests ≡ []) × PassesBy settings domain handling)
+
+  one_or_none : Taken ⊎ Passed → IsolatedBy OneOrNone
+  one_or_none (inl (taken, how, accepted, answered, entries)) = (taken ∷ [], inl (taken, refl, how), (accepted, answered, entries))
+  one_or_none (inr (passes, entries)) = ([], inr (refl, passes), entries)
+
+  by_piece : (conn : ℕ) (piece : List ℕ) (owed : List (State × OwnedOut)) → outs_of owed ≡ handling.sends → Step settings old (event.Piece conn piece) handling.at owed new
+      → IsolatedBy (PieceTakesUp settings domain conn (receiving conn piece now) handling.sends)
+  by_piece conn piece owed sent step =
+      let x : Takes settings conn (receiving conn piece now) step.0 new = step.2 in
+      let all = fronts_isolated settings domain conn (receiving conn piece now) x.answered x.rested x.fronts in (
+        all.0,
+        record {
+          turns = x.answered;
+          rested = x.rested;
+          fronts = x.fronts;
+          take_up = all.1;
+          notices = x.notices;
+          sends_are = sym sent ∙ ap outs_of step.1 ∙ takes_outs settings conn (receiving conn piece now) step.0 new x;
+        },
+        subst (Make settings domain (alone domain old.history) all.0) (sym (ap (alone domain) (told_history settings x.rested new x.notices x.notified))) all.2,
+      )
+
+  by_event : (what : Event) (owed : List (State × OwnedOut)) → handling.what ≡ what → outs_of owed ≡ handling.sends → Step settings old what handling.at owed new
+      → IsolatedBy (TakesUpAll settings domain old handling new what)
   by_event (event.Datagram peer datagram) owed is sent step =
       let a = step.2 in
-      by_decision peer datagram is a.replies a.notices (sym sent ∙ ap outs_of step.1 ∙ outs_back new step.0 ∙ a.sends_are) a.decided (number_of settings a.asked a.met.observers) a.replies_are
+      one_or_none (by_decision peer datagram is a.replies a.notices (sym sent ∙ ap outs_of step.1 ∙ outs_back new step.0 ∙ a.sends_are) a.decided (number_of settings a.asked a.met.observers) a.replies_are
       (answer_history settings now peer datagram step.0 new a)
       (answer_time settings now peer datagram step.0 new a)
-      a.decides
-  by_event event.End owed is sent step = nothing_asked event.End is (λ p d e. cc e) (ap (λ (state : State). state.history) step.1)
-  by_event event.Failed owed is sent step = nothing_asked event.Failed is (λ p d e. cc e) (ap (λ (state : State). state.history) step.1)
-  by_event (event.Opened c p) owed is sent step = nothing_asked (event.Opened c p) is (λ p d e. cc e) (opens_history now p c step.0 new step.2)
-  by_event (event.Piece c p) owed is sent step = nothing_asked (event.Piece c p) is (λ p d e. cc e) (told_history settings now new step.0 step.2)
-  by_event (event.Closed c) owed is sent step = nothing_asked (event.Closed c) is (λ p d e. cc e) (ap (λ (state : State). state.history) step.1)
-  by_event event.Tick owed is sent step = nothing_asked event.Tick is (λ p d e. cc e) (tick_history settings now step.0 new step.2)
-  by_event event.Restart owed is sent step = nothing_asked event.Restart is (λ p d e. cc e) (ap (λ (state : State). state.history) step.1)
+      a.decides)
+  by_event event.End owed is sent step = one_or_none (nothing_asked event.End is (λ p d e. cc e) (ap (λ (state : State). state.history) step.1))
+  by_event event.Failed owed is sent step = one_or_none (nothing_asked event.Failed is (λ p d e. cc e) (ap (λ (state : State). state.history) step.1))
+  by_event (event.Opened c p) owed is sent step = one_or_none (nothing_asked (event.Opened c p) is (λ p d e. cc e) (opens_history now p c step.0 new step.2))
+  by_event (event.Piece c p) owed is sent step = by_piece c p owed sent step
+  by_event (event.Closed c) owed is sent step = one_or_none (nothing_asked (event.Closed c) is (λ p d e. cc e) (ap (λ (state : State). state.history) step.1))
+  by_event event.Tick owed is sent step = one_or_none (nothing_asked event.Tick is (λ p d e. cc e) (tick_history settings now step.0 new step.2))
+  by_event event.Restart owed is sent step = one_or_none (nothing_asked event.Restart is (λ p d e. cc e) (ap (λ (state : State). state.history) step.1))
 
-  pub one_handling_isolated : IsHandling settings old handling new → Taken ⊎ Passed
+  pub one_handling_isolated : IsHandling settings old handling new → IsolatedBy (TakesUpAll settings domain old handling new handling.what)
   one_handling_isolated is = by_event handling.what is.owed refl is.sent is.step
 
 module _ (settings : SettingsValue) (domain : ℕ) where
-  isolated_then : (old : State) (handling : Handling) (between : State) (handlings : List Handling) (new : State) → IsHandling settings old handling between → IsIsolated settings between handlings new domain
-      → Taken settings domain old handling between ⊎ Passed settings domain old handling between → IsIsolated settings old (handling ∷ handlings) new domain
-  isolated_then old handling between handlings new is rest (inl (taken, takes, decided, decides, number, told, entries)) = record {
-    requests = taken ∷ rest.requests;
-    are = (between, is, inl (taken, rest.requests, refl, takes, rest.are));
-    make = (decided, decides, number, told, subst (λ es. Make settings es rest.requests (alone domain new.history)) entries rest.make);
-  }
-  isolated_then old handling between handlings new is rest (inr (passes, entries)) = record {
-    requests = rest.requests;
-    are = (between, is, inr (passes, rest.are));
-    make = subst (λ es. Make settings es rest.requests (alone domain new.history)) entries rest.make;
-  }
+  make_then : (before between after : List Entry) (first rest : List TakenUp) → Make settings domain before first between → Make settings domain between rest after
+      → Make settings domain before (first ++ rest) after
+  make_then before between after [] rest a b = subst (λ es. Make settings domain es rest after) a b
+  make_then before between after (taken ∷ first) rest a b = (a.0, a.1, make_then (before ++ a.0) between after first rest a.2 b)
 
   handlings_isolated : (old : State) (handlings : List Handling) (new : State) → EachHandling (IsHandling settings) old handlings new → IsIsolated settings old handlings new domain
   handlings_isolated old [] new is = record { requests = []; are = (refl, is); make = ap (λ (state : State). alone domain state.history) is }
   handlings_isolated old (handling ∷ handlings) new each =
-      isolated_then old handling each.0 handlings new each.1 (handlings_isolated each.0 handlings new each.2) (one_handling_isolated settings domain old handling each.0 each.1)
+      let one = one_handling_isolated settings domain old handling each.0 each.1 in
+      let rest = handlings_isolated each.0 handlings new each.2 in record {
+        requests = one.0 ++ rest.requests;
+        are = (each.0, each.1, one.0, rest.requests, refl, one.1, rest.are);
+        make = make_then (alone domain old.history) (alone domain each.0.history) (alone domain new.history) one.0 rest.requests one.2 rest.make;
+      }
 
 pub run_isolated : (settings : SettingsValue) (domain : ℕ) (from : State) (acts : List Timed) (trace : List State) (new : State) → Trace (Step settings) (resting from) acts trace (resting new)
     → IsIsolated settings from (handlings_of acts) new domain

@@ -1,6 +1,10 @@
 pub mod BodyRefusals
 pub mod Connections
 pub mod Observing
+pub mod Fronts
+pub mod FrontsOnce
+pub mod FrontsApart
+pub mod FrontsAlike
 pub mod Quiet
 pub mod Apart
 pub mod MessageRepeats

@@ -1,4 +1,4 @@
--- Any two steps of one state on one event are one, but for want of memory.
+-- Any two steps of one state on one event are one, but for want of memory, or where a connection is refused early.
 use Rattle.std.proofs.Common.{◌≡◌, ◌⊎◌, inl, inr, ℕ, ◌+◌, ◌<◌, Bool, true, false, List, [], ◌∷◌, ◌++◌, length, refl, sym, ◌∙◌, ap, subst, arith}
 use Rattle.std.proofs.lemmas.List.{get_or-append-add, length-append}
 use Rattle.std.proofs.lemmas.Bool.{false≢true}
@@ -18,12 +18,14 @@ use Rattle.dots_settings.specs.Lookups.{role_of}
 use Rattle.dots_machine.specs.Domains.{is_gateway, is_stranger}
 use Rattle.dots_machine.specs.Requests.{IsReceived}
 use Rattle.dots_machine.specs.Observing.{number_of}
-use Rattle.dots_machine.specs.Machine.{State, later, restarted, LacksMemory, Decides, by_silence, by_rules, for_want_of_memory, sends_of, after, watched, Notified, Answers, Ticks, connected, disconnected, turned_away, Step, facts_in, rules_say}
-use Rattle.dots_machine.specs.Answering.{AreBytes, IsHandedIn, SaysUnavailable, IsUnavailable, ComesFrom, HaveOneAnswer}
+use Rattle.dots_machine.specs.Machine.{State, later, restarted, LacksMemory, Decides, by_silence, by_rules, for_want_of_memory, sends_of, after, watched, Notified, Answers, Ticks, connected, disconnected, turned_away, receiving, Takes, Step, facts_in, rules_say}
+use Rattle.dots_machine.specs.Answering.{AreBytes, IsHandedIn, SaysUnavailable, ComesFrom, HaveOneAnswer, PartWays, Differ}
 use Rattle.dots_machine.proofs.OneRequest.{one_received}
 use Rattle.dots_machine.proofs.Verdicts.{valued}
 use Rattle.dots_machine.proofs.Hearing.{hears_once, left}
 use Rattle.dots_machine.proofs.Observing.{watches_once}
+use Rattle.dots_machine.proofs.Fronts.{outs_in, takes_outs}
+use Rattle.dots_machine.proofs.FrontsAlike.{AreAlike, fronts_once}
 
 -- ---- the payload is a part of the datagram
 
@@ -139,7 +141,7 @@ sends_back owed new sends is = ap outs_of is ∙ outs_back new sends
 
 pub one_answer : (settings : SettingsValue) (old : State) (event : Event) (at : ℕ) (owed others : List (State × OwnedOut)) (new last : State) → IsHandedIn event
     → Step settings old event at owed new → Step settings old event at others last
-    → HaveOneAnswer settings event (outs_of owed) new (outs_of others) last ⊎ (IsUnavailable event owed ⊎ IsUnavailable event others)
+    → HaveOneAnswer settings event (outs_of owed) new (outs_of others) last ⊎ Differ settings (later old at) event (outs_of owed) (outs_of others)
 one_answer settings old (event.Datagram peer datagram) at owed others new last are a b =
     subst (λ sends. HaveOneAnswer settings (event.Datagram peer datagram) sends new (outs_of others) last ⊎ (SaysUnavailable peer datagram sends ⊎ SaysUnavailable peer datagram (outs_of others)))
     (sym (sends_back owed new a.0 a.1))
@@ -153,10 +155,31 @@ one_answer settings old (event.Opened c p) at owed others new last are a b =
     inl (both_from settings (event.Opened c p) owed others new last (turned_away c (opening p c old.lines)) (connected p c (later old at))
     (sends_back owed new a.0 a.1 ∙ a.2.0, a.2.1)
     (sends_back others last b.0 b.1 ∙ b.2.0, b.2.1))
-one_answer settings old (event.Piece c p) at owed others new last are a b =
-    inl (both_from settings (event.Piece c p) owed others new last [] (later old at)
-    (refl, subst (λ sends. Notified settings (later old at) sends new) (sym (sends_back owed new a.0 a.1)) a.2)
-    (refl, subst (λ sends. Notified settings (later old at) sends last) (sym (sends_back others last b.0 b.1)) b.2))
+one_answer settings old (event.Piece c p) at owed others new last are a b = by_fronts (fronts_once settings c state x.answered y.answered x.rested y.rested x.notices y.notices x.fronts x.rests y.fronts y.rests)
+  where
+    state : State
+    state = receiving c p (later old at)
+
+    x : Takes settings c state a.0 new
+    x = a.2
+
+    y : Takes settings c state b.0 last
+    y = b.2
+
+    first : outs_of owed ≡ outs_in x.answered ++ x.notices
+    first = ap outs_of a.1 ∙ takes_outs settings c state a.0 new x
+
+    second : outs_of others ≡ outs_in y.answered ++ y.notices
+    second = ap outs_of b.1 ∙ takes_outs settings c state b.0 last y
+
+    by_fronts : AreAlike settings c state x.answered y.answered x.rested y.rested x.notices y.notices
+        → HaveOneAnswer settings (event.Piece c p) (outs_of owed) new (outs_of others) last ⊎ PartWays settings c state (outs_of owed) (outs_of others)
+    by_fronts (inl same) =
+        inl (both_from settings (event.Piece c p) owed others new last (outs_in y.answered) y.rested
+        (x.notices, first ∙ ap (λ turns. outs_in turns ++ x.notices) same.0, subst (λ from. Notified settings from x.notices new) same.1 x.notified)
+        (y.notices, second, y.notified))
+    by_fronts (inr part) =
+        inr (subst (λ sends. PartWays settings c state sends (outs_of others)) (sym first) (subst (PartWays settings c state (outs_in x.answered ++ x.notices)) (sym second) part))
 one_answer settings old (event.Closed c) at owed others new last are a b =
     inl (both_from settings (event.Closed c) owed others new last [] (disconnected c (later old at)) (refl, ap outs_of a.0, a.1) (refl, ap outs_of b.0, b.1))
 one_answer settings old event.Tick at owed others new last are a b =

@@ -6,7 +6,7 @@ use Rattle.dots_host.specs.declared.event.Event.TheVariants as event
 use Rattle.dots_host.specs.declared.out.OwnedOut.{OwnedOut}
 use Rattle.dots_host.specs.declared.out.OwnedOut.TheVariants as owned
 use Rattle.dots_host.specs.Acts.{WireAct, took, gave, Timed}
-use Rattle.dots_host.specs.Runs.{Owing, resting, outs_of, ToldStep, Trace}
+use Rattle.dots_host.specs.Runs.{Owing, resting, owed_in, outs_of, ToldStep, Trace}
 use Rattle.dots_host.proofs.RunLemmas.{one_run, one_turn}
 use Rattle.dots_settings.specs.Settings.{SettingsValue}
 use Rattle.dots_settings.specs.Lookups.{role_of}
@@ -20,10 +20,12 @@ use Rattle.dots_machine.specs.declared.verdict.Verdict.TheVariants as verdict
 use Rattle.dots_machine.specs.Domains.{is_gateway}
 use Rattle.dots_machine.specs.Exchanges.{exchange_in}
 use Rattle.dots_machine.specs.Replies.{unavailable}
-use Rattle.dots_machine.specs.Machine.{State, later, Decides, by_silence, by_rules, for_want_of_memory, sends_of, after, seen_in, watched, Notified, Answers, Ticks, beating, Opens, Step, facts_in, rules_say}
+use Rattle.dots_machine.specs.Machine.{State, later, Decides, by_silence, by_rules, for_want_of_memory, sends_of, after, seen_in, watched, Notified, Answers, Ticks, beating, Opens, receiving, Step, facts_in, rules_say}
 use Rattle.dots_machine.proofs.Verdicts.{valued}
 use Rattle.dots_machine.proofs.Hearing.{hears_once, left, left_apart, tick_apart}
 use Rattle.dots_machine.proofs.Connections.{opens_observers, opens_once}
+use Rattle.dots_machine.proofs.Fronts.{takes_apart}
+use Rattle.dots_machine.proofs.FrontsOnce.{takes_once}
 use Rattle.dots_machine.proofs.Quiet.{sends_size, one_size}
 use Rattle.dots_machine.proofs.Observing.{AllBeats, watches_once, told_apart, told_once, unshown_alike, border, notices_no_beats, all_beats}
 use Rattle.dots_machine.proofs.OneRequest.{Same, one, first_refused, second_refused, same_received}
@@ -200,7 +202,7 @@ step_keeps_apart settings old (event.Datagram peer datagram) at owed new apart s
 step_keeps_apart settings old event.End at owed new apart step = subst (λ (s : State). Apart s.observers) (sym step.1) apart
 step_keeps_apart settings old event.Failed at owed new apart step = subst (λ (s : State). Apart s.observers) (sym step.1) apart
 step_keeps_apart settings old (event.Opened c p) at owed new apart step = subst Apart (sym (opens_observers (later old at) p c step.0 new step.2)) apart
-step_keeps_apart settings old (event.Piece c p) at owed new apart step = told_apart settings (later old at) new step.0 apart step.2
+step_keeps_apart settings old (event.Piece c p) at owed new apart step = takes_apart settings c (receiving c p (later old at)) step.0 new step.2 apart
 step_keeps_apart settings old (event.Closed c) at owed new apart step = subst (λ (s : State). Apart s.observers) (sym step.1) apart
 step_keeps_apart settings old event.Tick at owed new apart step = tick_apart settings (later old at) step.0 new step.2 apart
 step_keeps_apart settings old event.Restart at owed new apart step = subst (λ (s : State). Apart s.observers) (sym step.1) tt
@@ -220,8 +222,8 @@ step_once settings old (event.Opened c p) at owed others new last (apart, a) (to
     one_turn owed others new last (λ sends. Opens (later old at) p c sends new) (λ sends. Opens (later old at) p c sends last) a b outs
     (λ sends x y. (opens_once (later old at) p c sends new x sends last y).1)
 step_once settings old (event.Piece c p) at owed others new last (apart, a) (too, b) outs =
-    one_turn owed others new last (λ sends. Notified settings (later old at) sends new) (λ sends. Notified settings (later old at) sends last) a b outs
-    (λ sends x y. told_once settings (later old at) new last sends apart x y)
+    let one = takes_once settings c (receiving c p (later old at)) a.0 b.0 new last apart a.2 b.2 (sym (ap outs_of a.1) ∙ outs ∙ ap outs_of b.1) in
+    (a.1 ∙ ap owed_in one.0 ∙ sym b.1, one.1)
 step_once settings old (event.Closed c) at owed others new last (apart, a) (too, b) outs = (a.0 ∙ sym b.0, a.1 ∙ sym b.1)
 step_once settings old event.Tick at owed others new last (apart, a) (too, b) outs =
     one_turn owed others new last (λ sends. Ticks settings (later old at) sends new) (λ sends. Ticks settings (later old at) sends last) a b outs

@@ -1,5 +1,6 @@
 -- A run keeps the mitigations that stand apart.
 use Rattle.std.proofs.Common.{◌≡◌, ◌⊎◌, inl, inr, ℕ, Bool, true, false, cond, List, [], ◌∷◌, ◌++◌, Option, Some, None, Result, Ok, Err, refl, sym, ap, ◌∙◌, subst, arith}
+use Rattle.std.proofs.lemmas.Bool.{false≢true}
 use Rattle.std.proofs.lemmas.Option.{none-some}
 use Rattle.coap_message.specs.declared.kind.Kind.{Kind}
 use Rattle.coap_message.specs.declared.kind.Kind.TheVariants.{Con, Non, Ack, Rst}
@@ -7,8 +8,8 @@ use Rattle.dots_host.specs.declared.event.Event.{Event}
 use Rattle.dots_host.specs.declared.event.Event.TheVariants as event
 use Rattle.dots_host.specs.declared.out.OwnedOut.{OwnedOut}
 use Rattle.dots_host.specs.Acts.{Timed}
-use Rattle.dots_host.specs.Runs.{resting, Trace}
-use Rattle.dots_laws.specs.Fits.{last_time}
+use Rattle.dots_host.specs.Runs.{resting, Turn, Chain, Trace}
+use Rattle.dots_laws.specs.Fits.{last_time, is_of_mitigations}
 use Rattle.dots_laws.proofs.Joining.{last_of_push}
 use Rattle.dots_settings.specs.Settings.{SettingsValue}
 use Rattle.dots_settings.specs.Lookups.{role_of, prefixes_of}
@@ -44,7 +45,7 @@ use Rattle.dots_machine.specs.Domains.{domain_for, session_domain}
 use Rattle.target_rules.specs.Targets.{scope_fault}
 use Rattle.dots_machine.specs.MessageRepeats.{sent_for, unless_repeated}
 use Rattle.dots_machine.specs.Mitigations.{entry_of, sent_by, request_of, refusal, judged, client_for, get_reply, unless_faulty, put_answer, is_taken, delete_by, delete_answer, get_by, get_answer}
-use Rattle.dots_machine.specs.Machine.{State, afresh, later, restarted, with_entry, option_verdict, reject_verdict, dismissal_verdict, Decides, by_silence, by_rules, for_want_of_memory, after, Step, facts_in, rules_say}
+use Rattle.dots_machine.specs.Machine.{State, afresh, later, restarted, with_entry, option_verdict, reject_verdict, dismissal_verdict, Decides, by_silence, by_rules, for_want_of_memory, after, AnswersFront, receiving, Takes, Step, facts_in, rules_say}
 use Rattle.dots_machine.specs.Orderly.{ShareNone, HigherStays, IsOrderly}
 use Rattle.dots_machine.specs.Handlings.{Handling, IsHandling, EachHandling, handlings_of}
 use Rattle.dots_machine.specs.Replies.{configuration_reply, absent}
@@ -55,6 +56,9 @@ use Rattle.dots_machine.proofs.Verdicts.{are_facts, valued}
 use Rattle.dots_machine.proofs.Hearing.{answer_history, answer_time, tick_history, tick_time}
 use Rattle.dots_machine.proofs.Connections.{opens_history, opens_time}
 use Rattle.dots_machine.proofs.Observing.{told_history, told_time}
+use Rattle.dots_machine.proofs.Fronts.{front_time}
+use Rattle.rest_answers.specs.Turns.{AddsOne}
+use Rattle.rest_answers.proofs.Turning.{adds_one}
 use Rattle.dots_machine.proofs.Orderly.{share_later, share_without, share_with, higher_more, higher_with}
 use Rattle.dots_machine.proofs.Handlings.{by_handlings}
 
@@ -264,6 +268,26 @@ orderly_as one other history time orderly = record {
 restarted_orderly : (settings : SettingsValue) (state : State) (at : ℕ) → IsOrderly state → IsOrderly (restarted settings state at)
 restarted_orderly settings state at orderly = record { timely = omega arith; share_none = orderly.share_none; higher_stays = orderly.higher_stays }
 
+-- what is answered of a connection adds no mitigation
+mitigates_no : (entry : Entry) → is_of_mitigations entry.change ≡ false → (put : Put) → entry.change ≡ change.Put put → ⊥
+unfolding is_of_mitigations
+mitigates_no entry none put is = false≢true (sym none ∙ ap is_of_mitigations is)
+
+front_orderly : (settings : SettingsValue) (conn : ℕ) (state : State) (sends : List OwnedOut) (new : State) → AnswersFront settings conn state sends new → IsOrderly state → IsOrderly new
+front_orderly settings conn state sends new x orderly =
+    by_entry (adds_one settings conn state.time state.history state.lines sends x.0 x.1 x.2.caller x.2 x.2.asks)
+  where
+    by_entry : AddsOne state.time x.2.caller state.history x.0 → IsOrderly new
+    by_entry (inl same) = orderly_as state new (ap (λ (s : State). s.history) x.3 ∙ same) (front_time settings conn state sends new x) orderly
+    by_entry (inr (asked, entry, is, of)) =
+        orderly_as (with_entry state entry) new (ap (λ (s : State). s.history) x.3 ∙ is) (front_time settings conn state sends new x)
+        (none_keeps settings state entry (of.now, mitigates_no entry of.other) orderly)
+
+fronts_orderly : (settings : SettingsValue) (conn : ℕ) (state : State) (turns : List (Turn State)) (new : State) → Chain (AnswersFront settings conn) state turns new → IsOrderly state → IsOrderly new
+fronts_orderly settings conn state [] new x orderly = subst IsOrderly (sym x) orderly
+fronts_orderly settings conn state (turn ∷ turns) new x orderly =
+    fronts_orderly settings conn turn.left turns new x.1 (front_orderly settings conn state turn.sends turn.left x.0 orderly)
+
 pub step_orderly : (settings : SettingsValue) (old : State) (event : Event) (at : ℕ) (owed : List (State × OwnedOut)) (new : State) → IsOrderly old → Step settings old event at owed new → IsOrderly new
 step_orderly settings old (event.Datagram peer datagram) at owed new orderly step =
     let a = step.2 in
@@ -277,7 +301,10 @@ step_orderly settings old event.Failed at owed new orderly step = subst IsOrderl
 step_orderly settings old (event.Opened c p) at owed new orderly step =
     orderly_as (later old at) new (opens_history (later old at) p c step.0 new step.2) (opens_time (later old at) p c step.0 new step.2) (later_orderly old at orderly)
 step_orderly settings old (event.Piece c p) at owed new orderly step =
-    orderly_as (later old at) new (told_history settings (later old at) new step.0 step.2) (told_time settings (later old at) new step.0 step.2) (later_orderly old at orderly)
+    let state = receiving c p (later old at) in
+    let x : Takes settings c state step.0 new = step.2 in
+    orderly_as x.rested new (told_history settings x.rested new x.notices x.notified) (told_time settings x.rested new x.notices x.notified)
+    (fronts_orderly settings c state x.answered x.rested x.fronts (orderly_as (later old at) state refl refl (later_orderly old at orderly)))
 step_orderly settings old (event.Closed c) at owed new orderly step =
     orderly_as (later old at) new (ap (λ (s : State). s.history) step.1) (ap (λ (s : State). s.time) step.1) (later_orderly old at orderly)
 step_orderly settings old event.Tick at owed new orderly step =

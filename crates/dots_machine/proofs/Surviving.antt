@@ -7,7 +7,7 @@ use Rattle.dots_host.specs.declared.event.Event.{Event}
 use Rattle.dots_host.specs.declared.event.Event.TheVariants as event
 use Rattle.dots_host.specs.declared.out.OwnedOut.{OwnedOut}
 use Rattle.dots_host.specs.Acts.{WireAct, took, gave, Timed}
-use Rattle.dots_host.specs.Runs.{Owing, resting, Trace, each_telling, IsSend, outs_of, Gives}
+use Rattle.dots_host.specs.Runs.{Owing, resting, Turn, Chain, Trace, each_telling, owed_in, IsSend, outs_of, Gives}
 use Rattle.dots_host.proofs.RunLemmas.{outs_back}
 use Rattle.dots_disk.specs.Media.{Medium, Media, IsImage, all_media}
 use Rattle.dots_disk.specs.Becoming.{EachMedium, KeepsMedia, Leaves, RestsWith}
@@ -23,10 +23,11 @@ use Rattle.dots_machine.specs.declared.verdict.Verdict.TheVariants as verdict
 use Rattle.dots_machine.specs.declared.ending.Stop.{Stop}
 use Rattle.dots_machine.specs.declared.ending.Stop.TheVariants as stop
 use Rattle.dots_machine.specs.Endings.{Stops, EndsBehind, Ran}
-use Rattle.dots_machine.specs.Machine.{State, later, after, Step}
+use Rattle.dots_machine.specs.Machine.{State, later, after, AnswersFront, receiving, Takes, Step}
 use Rattle.dots_machine.proofs.Hearing.{answer_history, answer_time, tick_history, tick_time}
 use Rattle.dots_machine.proofs.Connections.{opens_history, opens_time}
-use Rattle.dots_machine.proofs.Observing.{told_history, told_time}
+use Rattle.dots_machine.proofs.Fronts.{owed_then, fronts_grow, takes_grows, takes_time}
+use Rattle.dots_machine.proofs.Observing.{told_history}
 use Rattle.dots_machine.specs.Surviving.{Story, told_by, entries_shown, shown, time_shown, time_at, past_of, NoneBefore, MeansAt, EachFrom, LeavesAt}
 
 -- ---- runs with all that they tell
@@ -169,13 +170,41 @@ tell_each new (out ∷ outs) = (le_refl (length new.history), tell_each new outs
 none_owed : (most : ℕ) (owed : List (State × OwnedOut)) → owed ≡ [] → TellFew most owed
 none_owed most owed is = subst (TellFew most) (sym is) tt
 
+tell_more : (few most : ℕ) (owed : List (State × OwnedOut)) → few ≤ most → TellFew few owed → TellFew most owed
+tell_more few most [] less tell = tt
+tell_more few most (send ∷ owed) less tell = let first = tell.0 in (omega (arith, less, first), tell_more few most owed less tell.1)
+
+tell_both : (most : ℕ) (xs ys : List (State × OwnedOut)) → TellFew most xs → TellFew most ys → TellFew most (xs ++ ys)
+tell_both most [] ys tell more = more
+tell_both most (send ∷ xs) ys tell more = (tell.0, tell_both most xs ys tell.1 more)
+
+-- the history that a chain of turns comes to has what each of them left
+tell_fronts : (settings : SettingsValue) (conn : ℕ) (state : State) (turns : List (Turn State)) (new : State) → Chain (AnswersFront settings conn) state turns new → TellFew (length new.history) (owed_in turns)
+tell_fronts settings conn state [] new x = tt
+tell_fronts settings conn state (turn ∷ turns) new x =
+    let more = fronts_grow settings conn turn.left turns new x.1 in
+    let size = ap length more.1 in
+    let sum = length-append turn.left.history more.0 in
+    tell_both (length new.history) (each_telling turn.left turn.sends) (owed_in turns)
+    (tell_more (length turn.left.history) (length new.history) (each_telling turn.left turn.sends) (omega (arith, size, sum)) (tell_each turn.left turn.sends))
+    (tell_fronts settings conn turn.left turns new x.1)
+
+tell_turns : (settings : SettingsValue) (conn : ℕ) (state : State) (turns : List (Turn State)) (new : State) → Takes settings conn state turns new → TellFew (length new.history) (owed_in turns)
+tell_turns settings conn state turns new x =
+    let last : Turn State = record { sends = x.notices; left = new } in
+    let size = ap length (told_history settings x.rested new x.notices x.notified) in
+    subst (TellFew (length new.history)) (sym (ap owed_in x.turns_are ∙ owed_then x.answered (last ∷ [])))
+    (tell_both (length new.history) (owed_in x.answered) (owed_in (last ∷ []))
+    (tell_more (length x.rested.history) (length new.history) (owed_in x.answered) (omega (arith, size)) (tell_fronts settings conn state x.answered x.rested x.fronts))
+    (tell_both (length new.history) (each_telling new x.notices) [] (tell_each new x.notices) tt))
+
 -- the sends of a step tell no more than the history after it has
 pub step_tells : (settings : SettingsValue) (old : State) (what : Event) (at : ℕ) (owed : List (State × OwnedOut)) (new : State) → Step settings old what at owed new → TellFew (length new.history) owed
 step_tells settings old (event.Datagram peer datagram) at owed new step = subst (TellFew (length new.history)) (sym step.1) (tell_each new step.0)
 step_tells settings old event.End at owed new step = none_owed _ owed step.0
 step_tells settings old event.Failed at owed new step = none_owed _ owed step.0
 step_tells settings old (event.Opened c p) at owed new step = subst (TellFew (length new.history)) (sym step.1) (tell_each new step.0)
-step_tells settings old (event.Piece c p) at owed new step = subst (TellFew (length new.history)) (sym step.1) (tell_each new step.0)
+step_tells settings old (event.Piece c p) at owed new step = subst (TellFew (length new.history)) (sym step.1) (tell_turns settings c (receiving c p (later old at)) step.0 new step.2)
 step_tells settings old (event.Closed c) at owed new step = none_owed _ owed step.0
 step_tells settings old event.Tick at owed new step = subst (TellFew (length new.history)) (sym step.1) (tell_each new step.0)
 step_tells settings old event.Restart at owed new step = none_owed _ owed step.0
@@ -202,7 +231,7 @@ step_grows settings old (event.Datagram peer datagram) at owed new step =
 step_grows settings old event.End at owed new step = same_grows old new (ap (λ (state : State). state.history) step.1)
 step_grows settings old event.Failed at owed new step = same_grows old new (ap (λ (state : State). state.history) step.1)
 step_grows settings old (event.Opened c p) at owed new step = same_grows old new (opens_history (later old at) p c step.0 new step.2)
-step_grows settings old (event.Piece c p) at owed new step = same_grows old new (told_history settings (later old at) new step.0 step.2)
+step_grows settings old (event.Piece c p) at owed new step = takes_grows settings c (receiving c p (later old at)) step.0 new step.2
 step_grows settings old (event.Closed c) at owed new step = same_grows old new (ap (λ (state : State). state.history) step.1)
 step_grows settings old event.Tick at owed new step = same_grows old new (tick_history settings (later old at) step.0 new step.2)
 step_grows settings old event.Restart at owed new step = same_grows old new (ap (λ (state : State). state.history) step.1)
@@ -226,7 +255,7 @@ step_timely settings old (event.Datagram peer datagram) at owed new timely step 
 step_timely settings old event.End at owed new timely step = subst (λ (state : State). last_time old.history ≤ state.time) (sym step.1) timely
 step_timely settings old event.Failed at owed new timely step = subst (λ (state : State). last_time old.history ≤ state.time) (sym step.1) timely
 step_timely settings old (event.Opened c p) at owed new timely step = moved_on old new at timely (opens_time (later old at) p c step.0 new step.2)
-step_timely settings old (event.Piece c p) at owed new timely step = moved_on old new at timely (told_time settings (later old at) new step.0 step.2)
+step_timely settings old (event.Piece c p) at owed new timely step = moved_on old new at timely (takes_time settings c (receiving c p (later old at)) step.0 new step.2)
 step_timely settings old (event.Closed c) at owed new timely step = moved_on old new at timely (ap (λ (state : State). state.time) step.1)
 step_timely settings old event.Tick at owed new timely step = moved_on old new at timely (tick_time settings (later old at) step.0 new step.2)
 step_timely settings old event.Restart at owed new timely step =

@@ -3,6 +3,7 @@ use Rattle.std.specs.Prelude.{◌≡◌, ◌≢◌, ℕ, List, ◌++◌, Option,
 use Rattle.dots_host.specs.declared.event.Event.{Event}
 use Rattle.dots_host.specs.declared.event.Event.TheVariants as event
 use Rattle.dots_host.specs.declared.out.OwnedOut.{OwnedOut}
+use Rattle.dots_host.specs.Runs.{Turn, Chain, owed_in, outs_of}
 use Rattle.dots_keys.specs.declared.request.Request.{Request}
 use Rattle.dots_keys.specs.declared.request.Request.TheVariants as request
 use Rattle.dots_settings.specs.declared.peer.Role.{Role}
@@ -13,7 +14,9 @@ use Rattle.dots_machine.specs.Domains.{is_gateway, domain_for, session_domain}
 use Rattle.dots_machine.specs.declared.exchange.Exchange.{Exchange}
 use Rattle.dots_machine.specs.Requests.{IsReceived}
 use Rattle.dots_machine.specs.Verdict.{Verdict}
-use Rattle.dots_machine.specs.Machine.{State, later, Decides, sends_of, after}
+use Rattle.rest_answers.specs.declared.caller.Caller.{Caller}
+use Rattle.rest_answers.specs.Turns.{caller_of}
+use Rattle.dots_machine.specs.Machine.{State, later, Decides, sends_of, after, AnswersFront, receiving}
 use Rattle.dots_machine.specs.declared.received.Received.TheVariants as received
 
 -- two states of one time that have the same entries of a domain
@@ -37,14 +40,27 @@ pub data AsksFor (settings : SettingsValue) (domain : ℕ) (what : Event) : Type
       → IsReceived datagram (is_gateway (role_of settings peer)) (received.Asked exchange asked)
       → domain_of settings (role_of settings peer) asked ≡ Some domain → AsksFor settings domain what
 
--- no datagram came
-abbrev pub IsNoDatagram : Event → Type 0
-IsNoDatagram (event.Datagram peer datagram) = ⊥
-IsNoDatagram _ = ⊤
+-- no datagram came, and no piece of a connection
+abbrev pub IsNoRequest : Event → Type 0
+IsNoRequest (event.Datagram peer datagram) = ⊥
+IsNoRequest (event.Piece conn piece) = ⊥
+IsNoRequest _ = ⊤
+
+-- each who asks on the connection is of the domain, or none is
+abbrev pub AsksOn : SettingsValue → ℕ → ℕ → State → Type 0
+AsksOn settings domain conn state = (caller : Caller) → caller_of settings conn state.lines ≡ Some caller → caller.domain ≡ domain
+
+abbrev pub AsksElsewhere : SettingsValue → ℕ → ℕ → State → Type 0
+AsksElsewhere settings domain conn state = (caller : Caller) → caller_of settings conn state.lines ≡ Some caller → caller.domain ≢ domain
+
+-- a state with the connections of another
+abbrev pub connected_as : State → State → State
+connected_as one other = record other { lines = one.lines }
 
 -- A step from one state is for another domain, and leaves the entries of this one as they were; or its datagram can be decided on from the other
 -- state in the same way, the sends begin with the replies of that verdict, whatever number Observe has, and it leaves this domain the same on both;
--- or no datagram came, and the entries are as they were. Behind the replies stand notifications, which go to observers of all domains.
+-- or its piece can be answered from the other state in the same way, where that has the same connections, and it leaves this domain the same on
+-- both; or neither came, and the entries are as they were. Behind the replies stand notifications, which go to observers of all domains.
 pub data StaysApart (settings : SettingsValue) (domain : ℕ) (old other : State) (what : Event) (at : ℕ) (sends : List OwnedOut) (new : State) : Type 0 where
   elsewhere : (another : ℕ) → another ≢ domain → AsksFor settings another what → alone domain new.history ≡ alone domain old.history
       → StaysApart settings domain old other what at sends new
@@ -52,4 +68,12 @@ pub data StaysApart (settings : SettingsValue) (domain : ℕ) (old other : State
       → Decides settings (later old at) peer datagram decided → Decides settings (later other at) peer datagram decided
       → sends ≡ sends_of number decided peer ++ notices → SameFor domain new (after decided (later other at))
       → StaysApart settings domain old other what at sends new
-  without_request : IsNoDatagram what → alone domain new.history ≡ alone domain old.history → StaysApart settings domain old other what at sends new
+  piece_elsewhere : (conn : ℕ) (piece : List ℕ) → what ≡ event.Piece conn piece → AsksElsewhere settings domain conn old → alone domain new.history ≡ alone domain old.history
+      → StaysApart settings domain old other what at sends new
+  answered_alike : (conn : ℕ) (piece : List ℕ) (turns others : List (Turn State)) (rested left : State) (notices : List OwnedOut) → what ≡ event.Piece conn piece
+      → AsksOn settings domain conn old
+      → Chain (AnswersFront settings conn) (receiving conn piece (later old at)) turns rested
+      → Chain (AnswersFront settings conn) (receiving conn piece (later (connected_as old other) at)) others left
+      → outs_of (owed_in turns) ≡ outs_of (owed_in others) → sends ≡ outs_of (owed_in turns) ++ notices → SameFor domain new left
+      → StaysApart settings domain old other what at sends new
+  without_request : IsNoRequest what → alone domain new.history ≡ alone domain old.history → StaysApart settings domain old other what at sends new

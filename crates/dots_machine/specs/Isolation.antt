@@ -1,11 +1,24 @@
 -- What becomes of a domain over a whole run.
-use Rattle.std.specs.Prelude.{◌≡◌, ◌⊎◌, ℕ, List, [], ◌∷◌, ◌++◌, Option, Some}
+use Rattle.std.specs.Prelude.{◌≡◌, ◌≢◌, ◌⊎◌, ℕ, List, [], ◌∷◌, ◌++◌, Option, Some, Result}
+use Rattle.dots_host.specs.declared.event.Event.{Event}
 use Rattle.dots_host.specs.declared.event.Event.TheVariants as event
 use Rattle.dots_host.specs.declared.out.OwnedOut.{OwnedOut}
+use Rattle.dots_host.specs.declared.out.OwnedOut.TheVariants as owned
+use Rattle.dots_host.specs.Runs.{Turn, Chain, owed_in, outs_of}
 use Rattle.dots_settings.specs.Settings.{SettingsValue}
 use Rattle.dots_settings.specs.Lookups.{role_of}
 use Rattle.dots_history.specs.declared.entry.Entry.{Entry}
 use Rattle.dots_history.specs.Histories.{alone}
+use Rattle.stream_table.specs.Lines.{Line, line_of}
+use Rattle.http_cut.specs.declared.fault.HttpFault.{HttpFault}
+use Rattle.http_cut.specs.Requests.{Request as HttpRequest, takes, refuses, IsCut}
+use Rattle.data_channel.specs.declared.request.RestRequest.{RestRequest}
+use Rattle.data_channel.specs.declared.reject.RestReject.{RestReject}
+use Rattle.data_channel.specs.Rest.{Rest}
+use Rattle.rest_answers.specs.declared.caller.Caller.{Caller}
+use Rattle.rest_answers.specs.Answer.{RestAnswer}
+use Rattle.rest_answers.specs.Answers.{answer_to as http_answer}
+use Rattle.rest_answers.specs.Turns.{caller_of, reply_in, closing, entries_in}
 use Rattle.dots_heads.specs.declared.reject.Reject.{Reject}
 use Rattle.dots_keys.specs.declared.request.Request.{Request}
 use Rattle.dots_machine.specs.declared.exchange.Exchange.{Exchange}
@@ -14,26 +27,35 @@ use Rattle.dots_machine.specs.Verdict.{Verdict}
 use Rattle.dots_machine.specs.declared.verdict.Verdict.TheVariants as verdict
 use Rattle.dots_machine.specs.Domains.{is_gateway}
 use Rattle.dots_machine.specs.Requests.{IsReceived}
-use Rattle.dots_machine.specs.Machine.{State, afresh, DecidesRequest, sends_of}
+use Rattle.dots_machine.specs.Machine.{State, afresh, later, DecidesRequest, sends_of, AnswersFront, receiving}
 use Rattle.dots_machine.specs.Apart.{domain_of, AsksFor}
 use Rattle.dots_machine.specs.Answering.{SaysUnavailable}
+use Rattle.dots_machine.specs.Adding.{SaysFailed}
 use Rattle.dots_machine.specs.Handlings.{Handling, IsHandling}
 
--- A request that was taken up: the time that the run then had, who sent it, what a reply takes from it, what it asks, and the
--- replies that answered it.
+-- What a request asks, with what a reply takes from it: of the signal channel, or of the data channel over a connection.
+pub data Asking : Type 0 where
+  by_message : (exchange : Exchange) (request : Request) → Asking
+  by_http : (conn : ℕ) (message : HttpRequest) → Asking
+
+-- A request that was taken up: the time that the run then had, who sent it, what it asks, and the replies that answered it.
 pub record TakenUp : Type 0 where
   pub time : ℕ
   pub peer : ℕ
-  pub exchange : Exchange
-  pub request : Request
+  pub asking : Asking
   pub replies : List OwnedOut
+
+-- ---- of the signal channel
 
 -- the handling takes this request up, which is for the domain, and leaves the state
 pub record TakesUp (settings : SettingsValue) (domain : ℕ) (handling : Handling) (new : State) (taken : TakenUp) : Type 0 where
   pub datagram : List ℕ
   pub came : handling.what ≡ event.Datagram taken.peer datagram
-  pub is_received : IsReceived datagram (is_gateway (role_of settings taken.peer)) (received.Asked taken.exchange taken.request)
-  pub for_domain : domain_of settings (role_of settings taken.peer) taken.request ≡ Some domain
+  pub exchange : Exchange
+  pub request : Request
+  pub asks : taken.asking ≡ by_message exchange request
+  pub is_received : IsReceived datagram (is_gateway (role_of settings taken.peer)) (received.Asked exchange request)
+  pub for_domain : domain_of settings (role_of settings taken.peer) request ≡ Some domain
   pub time_is : taken.time ≡ new.time
   pub notices : List OwnedOut
   pub sends_are : handling.sends ≡ taken.replies ++ notices
@@ -47,33 +69,89 @@ pub data PassesBy (settings : SettingsValue) (domain : ℕ) (handling : Handling
   lacked_memory : (peer : ℕ) (datagram : List ℕ) → handling.what ≡ event.Datagram peer datagram → SaysUnavailable peer datagram handling.sends
       → PassesBy settings domain handling
 
+-- ---- of the data channel
+
+-- the turn takes this request up, which stands at the front of the connection, and whose client is of the domain
+pub record FrontTakesUp (settings : SettingsValue) (domain conn : ℕ) (old : State) (sends : List OwnedOut) (taken : TakenUp) : Type 0 where
+  pub caller : Caller
+  pub asks_on : caller_of settings conn old.lines ≡ Some caller
+  pub for_domain : caller.domain ≡ domain
+  pub peer_is : taken.peer ≡ caller.peer
+  pub line : Line
+  pub there : line_of conn old.lines ≡ Some line
+  pub message : HttpRequest
+  pub cut : IsCut line.held (takes message)
+  pub asks : taken.asking ≡ by_http conn message
+  pub time_is : taken.time ≡ old.time
+  pub sends_are : sends ≡ taken.replies
+
+-- The turn takes no request for the domain up: who asks is of another domain; or what stands at the front is refused; or 500 was answered, for want of
+-- memory.
+pub data FrontPassesBy (settings : SettingsValue) (domain conn : ℕ) (old : State) (sends : List OwnedOut) : Type 0 where
+  of_another : (caller : Caller) → caller_of settings conn old.lines ≡ Some caller → caller.domain ≢ domain → FrontPassesBy settings domain conn old sends
+  front_refused : (line : Line) (fault : HttpFault) → line_of conn old.lines ≡ Some line → IsCut line.held (refuses fault) → FrontPassesBy settings domain conn old sends
+  failed : SaysFailed conn sends → FrontPassesBy settings domain conn old sends
+
+-- the turns take these requests for the domain up, in order, one each or none
+abbrev pub FrontsTakeUp : SettingsValue → ℕ → ℕ → State → List (Turn State) → List TakenUp → Type 0
+FrontsTakeUp settings domain conn old [] requests = requests ≡ []
+FrontsTakeUp settings domain conn old (turn ∷ turns) requests =
+    ((taken : TakenUp) × (rest : List TakenUp) × (requests ≡ taken ∷ rest) × FrontTakesUp settings domain conn old turn.sends taken
+    × FrontsTakeUp settings domain conn turn.left turns rest)
+    ⊎ (FrontPassesBy settings domain conn old turn.sends × FrontsTakeUp settings domain conn turn.left turns requests)
+
+-- the handling of a piece takes these requests up, in its turns, and notifications follow
+pub record PieceTakesUp (settings : SettingsValue) (domain conn : ℕ) (old : State) (sends : List OwnedOut) (requests : List TakenUp) : Type 0 where
+  pub turns : List (Turn State)
+  pub rested : State
+  pub fronts : Chain (AnswersFront settings conn) old turns rested
+  pub take_up : FrontsTakeUp settings domain conn old turns requests
+  pub notices : List OwnedOut
+  pub sends_are : sends ≡ outs_of (owed_in turns) ++ notices
+
+-- ---- of both
+
+-- a handling takes these requests for the domain up: by a datagram one at most, by a piece one in each turn at most, and else none
+abbrev pub TakesUpAll : SettingsValue → ℕ → State → Handling → State → Event → List TakenUp → Type 0
+TakesUpAll settings domain old handling new (event.Piece conn piece) requests = PieceTakesUp settings domain conn (receiving conn piece (later old handling.at)) handling.sends requests
+TakesUpAll settings domain old handling new _ requests =
+    ((taken : TakenUp) × (requests ≡ taken ∷ []) × TakesUp settings domain handling new taken) ⊎ ((requests ≡ []) × PassesBy settings domain handling)
+
 -- The handlings lead from the one state to the other, and the requests for the domain that they take up are these, in order, each with the time
 -- that the whole run gave it.
 abbrev pub HasRequests : SettingsValue → ℕ → State → List Handling → List TakenUp → State → Type 0
 HasRequests settings domain old [] requests new = (requests ≡ []) × (new ≡ old)
 HasRequests settings domain old (handling ∷ handlings) requests new =
     (between : State) × IsHandling settings old handling between
-    × (((taken : TakenUp) × (rest : List TakenUp) × (requests ≡ taken ∷ rest) × TakesUp settings domain handling between taken
-    × HasRequests settings domain between handlings rest new)
-    ⊎ (PassesBy settings domain handling × HasRequests settings domain between handlings requests new))
+    × (first : List TakenUp) × (rest : List TakenUp) × (requests ≡ first ++ rest) × TakesUpAll settings domain old handling between handling.what first
+    × HasRequests settings domain between handlings rest new
 
 -- what a verdict adds to the history
 abbrev pub entries_of : Verdict → List Entry
 entries_of (verdict.Accept reply entry) = entry ∷ []
 entries_of _ = []
 
+-- What is asked at the time by the peer is answered by these entries, by the rules of its channel, with these replies, whatever number Observe has;
+-- and this is what is accepted.
+abbrev pub AnsweredBy : SettingsValue → ℕ → List Entry → ℕ → ℕ → Asking → List OwnedOut → List Entry → Type 0
+AnsweredBy settings domain before time peer (by_message exchange request) replies accepted =
+    (decided : Verdict) × DecidesRequest settings (afresh settings before time) peer exchange request decided
+    × (number : Option ℕ) × (replies ≡ sends_of number decided peer) × (accepted ≡ entries_of decided)
+AnsweredBy settings domain before time peer (by_http conn message) replies accepted =
+    (read : Result RestRequest RestReject) × Rest message read × (answered : RestAnswer)
+    × (answered ≡ http_answer settings time before (record { peer = peer; domain = domain }) message.close read)
+    × (replies ≡ owned.Conn conn (reply_in answered) ∷ closing conn message.close) × (accepted ≡ entries_in answered)
+
 -- The requests make the later entries of the earlier ones: each is decided by the entries that those before it left, at its time; it was
--- answered so, whatever number Observe had; and what was accepted is added.
-abbrev pub Make : SettingsValue → List Entry → List TakenUp → List Entry → Type 0
-Make settings before [] after = after ≡ before
-Make settings before (taken ∷ rest) after =
-    (decided : Verdict)
-    × DecidesRequest settings (afresh settings before taken.time) taken.peer taken.exchange taken.request decided
-    × (number : Option ℕ) × (taken.replies ≡ sends_of number decided taken.peer)
-    × Make settings (before ++ entries_of decided) rest after
+-- answered so; and what was accepted is added.
+abbrev pub Make : SettingsValue → ℕ → List Entry → List TakenUp → List Entry → Type 0
+Make settings domain before [] after = after ≡ before
+Make settings domain before (taken ∷ rest) after =
+    (accepted : List Entry) × AnsweredBy settings domain before taken.time taken.peer taken.asking taken.replies accepted
+    × Make settings domain (before ++ accepted) rest after
 
 -- The entries of the domain are what its own requests make, and each of these was answered by the domain's entries alone.
 pub record IsIsolated (settings : SettingsValue) (start : State) (handlings : List Handling) (end : State) (domain : ℕ) : Type 0 where
   pub requests : List TakenUp
   pub are : HasRequests settings domain start handlings requests end
-  pub make : Make settings (alone domain start.history) requests (alone domain end.history)
+  pub make : Make settings domain (alone domain start.history) requests (alone domain end.history)

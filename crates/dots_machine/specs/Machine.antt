@@ -4,7 +4,7 @@ use Rattle.dots_host.specs.declared.event.Event.{Event}
 use Rattle.dots_host.specs.declared.event.Event.TheVariants as event
 use Rattle.dots_host.specs.declared.out.OwnedOut.{OwnedOut}
 use Rattle.dots_host.specs.declared.out.OwnedOut.TheVariants as owned
-use Rattle.dots_host.specs.Runs.{Turn, in_one_turn}
+use Rattle.dots_host.specs.Runs.{Turn, Chain, owed_in, in_one_turn}
 use Rattle.coap_message.specs.declared.kind.Kind.{Kind}
 use Rattle.coap_message.specs.declared.kind.Kind.TheVariants.{Con}
 use Rattle.coap_message.specs.Message.{CoapMessage, IsMessage, spelling}
@@ -23,6 +23,7 @@ use Rattle.dots_notices.specs.Beats.{beats, after_beats}
 use Rattle.dots_notices.specs.Notifying.{Notifies}
 use Rattle.stream_table.specs.declared.refused.Refused.{Refused}
 use Rattle.stream_table.specs.Lines.{PeerLines, no_lines, opened, opening, forgotten}
+use Rattle.rest_answers.specs.Turns.{HttpTurn, with_piece, Rests}
 use Rattle.dots_heads.specs.declared.reject.Reject.{Reject}
 use Rattle.dots_heads.specs.declared.reject.Reject.TheVariants as reject
 use Rattle.dots_heads.specs.Heads.{head_of}
@@ -228,9 +229,37 @@ turned_away conn (Err refused) = owned.Close conn ∷ []
 abbrev pub Opens : State → ℕ → ℕ → List OwnedOut → State → Type 0
 Opens state peer conn sends new = (sends ≡ turned_away conn (opening peer conn state.lines)) × (new ≡ connected peer conn state)
 
--- One event: the sends that it owes, each beside the state that it tells, and the state after it. End and a failure of the host move no
--- time; a restart keeps what was accepted alone; a connection that was closed is forgotten, and nobody is told; and by a piece of one the
+-- ---- what comes of a connection
+
+-- What stands at its front is answered: a request by the rules, or by 500 for want of memory; or it is no request, and the connection is closed.
+abbrev pub AnswersFront : SettingsValue → ℕ → State → List OwnedOut → State → Type 0
+AnswersFront settings conn state sends new =
+    (history : List Entry) × (lines : List PeerLines) × HttpTurn settings conn state.time state.history state.lines sends history lines
+    × (new ≡ record state { history = history; lines = lines })
+
+-- the bytes of a piece are held behind those that were
+abbrev pub receiving : ℕ → List ℕ → State → State
+receiving conn piece state = record state { lines = with_piece conn piece state.lines }
+
+-- What stands at the front of a connection is answered, one after the other, until more is waited for or the connection is gone. Each is a turn: its
+-- entry is written before its reply is sent, and what comes behind it is decided on by the history with that entry. Then, in a last turn, the
 -- observers that are due are told.
+pub record Takes (settings : SettingsValue) (conn : ℕ) (state : State) (turns : List (Turn State)) (new : State) : Type 0 where
+  pub answered : List (Turn State)
+  pub rested : State
+  pub fronts : Chain (AnswersFront settings conn) state answered rested
+  pub rests : Rests conn rested.lines
+  pub notices : List OwnedOut
+  pub notified : Notified settings rested notices new
+  pub turns_are : turns ≡ answered ++ record { sends = notices; left = new } ∷ []
+
+-- in these turns: each of the sends tells the state that its turn leaves
+abbrev pub in_turns : (List (Turn State) → Type 0) → List (State × OwnedOut) → Type 0
+in_turns takes owed = (turns : List (Turn State)) × (owed ≡ owed_in turns) × takes turns
+
+-- One event: the sends that it owes, each beside the state that it tells, and the state after it. End and a failure of the host move no
+-- time; a restart keeps what was accepted alone; a connection that was closed is forgotten, and nobody is told; and a piece of one is put behind
+-- what is held of it.
 abbrev pub Step : SettingsValue → State → Event → ℕ → List (State × OwnedOut) → State → Type 0
 Step settings old (event.Datagram peer datagram) at owed new = in_one_turn (λ sends. Answers settings (later old at) peer datagram sends new) owed new
 Step settings old event.End at owed new = (owed ≡ []) × (new ≡ old)
@@ -239,7 +268,7 @@ Step settings old event.Restart at owed new = (owed ≡ []) × (new ≡ restarte
 Step settings old (event.Opened conn peer) at owed new = in_one_turn (λ sends. Opens (later old at) peer conn sends new) owed new
 Step settings old (event.Closed conn) at owed new = (owed ≡ []) × (new ≡ disconnected conn (later old at))
 Step settings old event.Tick at owed new = in_one_turn (λ sends. Ticks settings (later old at) sends new) owed new
-Step settings old (event.Piece conn piece) at owed new = in_one_turn (λ sends. Notified settings (later old at) sends new) owed new
+Step settings old (event.Piece conn piece) at owed new = in_turns (λ turns. Takes settings conn (receiving conn piece (later old at)) turns new) owed
 
 -- In the middle of an event the disk failed. These turns of the event were carried out, and the one after them was being written, which has an
 -- entry. What comes behind it in the event isn't taken up. An event that writes nothing can't be cut so.
@@ -247,4 +276,7 @@ abbrev pub StepInto : SettingsValue → State → Event → ℕ → List (Turn S
 StepInto settings old (event.Datagram peer datagram) at turns last =
     (turns ≡ []) × (reply : List ℕ) × (entry : Entry) × Decides settings (later old at) peer datagram (verdict.Accept reply entry)
     × (met : State) × Hears settings (later old at) peer datagram met × (last ≡ (record { sends = owned.To peer reply ∷ []; left = with_entry met entry }))
+StepInto settings old (event.Piece conn piece) at turns last =
+    (between : State) × Chain (AnswersFront settings conn) (receiving conn piece (later old at)) turns between
+    × AnswersFront settings conn between last.sends last.left × (entry : Entry) × (last.left.history ≡ between.history ++ entry ∷ [])
 StepInto settings old _ at turns last = ⊥

@@ -24,7 +24,7 @@ ghost use Rattle.dots_notices.specs.Notifying.{Apart};
 ghost use Rattle.dots_machine.specs.Surviving.{MeansAt, shown, time_at};
 ghost use Rattle.dots_machine.specs.Endings.{GivesSettings, IsReady};
 ghost use Rattle.dots_machine.specs.Apart.{domain_of, SameFor, StaysApart};
-ghost use Rattle.dots_machine.specs.Answering.{AreBytes, IsHandedIn, IsUnavailable, HaveOneAnswer};
+ghost use Rattle.dots_machine.specs.Answering.{AreBytes, IsHandedIn, IsUnavailable, HaveOneAnswer, Differ};
 ghost use Rattle.dots_machine.specs.Domains.{is_gateway, is_stranger};
 ghost use Rattle.dots_machine.specs.Requests.{IsReceived};
 ghost use Rattle.dots_machine.specs.MessageRepeats.{sent_for, IsRepeatOf};
@@ -54,16 +54,18 @@ pub fn one_state()
 {}
 
 /// An event has one answer: of one state and one event any two steps give the same replies in the same state, or one of them is 5.00 for want
-/// of memory. Behind the replies an observer that is due may not be told, for want of memory too.
+/// of memory. The turns of a piece are the same so far as none of them is 500 for want of memory, and a connection on which no head can come any
+/// more isn't refused at once in one of them alone. Behind the replies an observer that is due may not be told, for want of memory too.
 pub fn one_answer()
     ensures { (settings : SettingsValue) (old : State) (event : Event) (at : ℕ) (owed others : List (State × OwnedOut)) (new other : State)
         → IsHandedIn event → Step settings old event at owed new → Step settings old event at others other
-        → HaveOneAnswer settings event (outs_of owed) new (outs_of others) other ⊎ (IsUnavailable event owed ⊎ IsUnavailable event others) }
+        → HaveOneAnswer settings event (outs_of owed) new (outs_of others) other ⊎ Differ settings (later old at) event (outs_of owed) (outs_of others) }
 {}
 
 /// The domains stay apart: of two states of one time that have the same entries of a domain, a step from the one is for another
 /// domain, and leaves the entries of this one as they were, or its datagram is decided on from the other in the same way, the sends begin with the
-/// replies of that verdict, and it leaves this domain the same on both. Or no datagram came, and the entries of this one are as they were. Behind
+/// replies of that verdict, and it leaves this domain the same on both. So it is with a piece of a connection, where the other state has the same
+/// connections: it is of another domain, or its turns are the same from both. Or neither came, and the entries of this one are as they were. Behind
 /// the replies stand notifications, and at a tick heartbeats, which go to peers of all domains. And the same rows of mitigations filter for it in both.
 pub fn domains_stay_apart()
     ensures step { (settings : SettingsValue) (domain : ℕ) (old other : State) (event : Event) (at : ℕ) (owed : List (State × OwnedOut)) (new : State)
@@ -99,15 +101,16 @@ pub fn repeats_are_answered()
 {}
 
 /// An entry is added to the history exactly where the rules accept what came, at its time, with that entry; or 5.00 was answered, for
-/// want of memory. It holds of each handling, and so of each handling of a run.
+/// want of memory. So it is with each request of a piece, which is answered 500 for want of memory. It holds of each handling, and so of each
+/// handling of a run.
 pub fn entries_are_accepted()
     ensures handling { (settings : SettingsValue) (old : State) (handling : Handling) (new : State) → IsHandling settings old handling new → AddsExactly settings old handling new }
     ensures run { (settings : SettingsValue) (from : State) (acts : List Timed) (trace : List State) (new : State)
         → Trace (Step settings) (resting from) acts trace (resting new) → EachHandling (AddsExactly settings) from (handlings_of acts) new }
 {}
 
-/// Over a whole run the entries of a domain are what its own requests make, each with the time that the whole run gave it, and each of these
-/// is answered by the domain's entries alone.
+/// Over a whole run the entries of a domain are what its own requests make, of the signal channel and of the data channel, each with the time that
+/// the whole run gave it, and each of these is answered by the domain's entries alone.
 pub fn domains_are_isolated()
     ensures { (settings : SettingsValue) (domain : ℕ) (from : State) (acts : List Timed) (trace : List State) (new : State)
         → Trace (Step settings) (resting from) acts trace (resting new) → IsIsolated settings from (handlings_of acts) new domain }
