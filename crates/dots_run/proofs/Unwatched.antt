@@ -57,9 +57,10 @@ use Rattle.dots_load.specs.Requests.{AreShort, request, all_path, mid_path, dots
 
 -- ---- what asks to observe
 
--- the datagram is a message without Observe
+-- the datagram is a message without Observe, and no piece of a connection comes
 abbrev pub Unwatching : Event → Type 0
 Unwatching (event.Datagram peer bytes) = (message : CoapMessage) × IsMessage message × (bytes ≡ spelling message) × (value_of 6 message.options ≡ None)
+Unwatching (event.Piece conn piece) = ⊥
 Unwatching _ = Unit {0}
 
 -- what is asked registers nobody
@@ -256,7 +257,7 @@ step_none settings old (event.Datagram peer bytes) at owed new are none unwatchi
 step_none settings old event.End at owed new are none unwatching step = ap (λ (s : State). s.observers) step.1 ∙ none
 step_none settings old event.Failed at owed new are none unwatching step = ap (λ (s : State). s.observers) step.1 ∙ none
 step_none settings old (event.Opened c p) at owed new are none unwatching step = opens_observers (later old at) p c step.0 new step.2 ∙ none
-step_none settings old (event.Piece c p) at owed new are none unwatching step = (tells_none settings (later old at) new step.0 none step.2).2
+step_none settings old (event.Piece c p) at owed new are none unwatching step = absurd unwatching
 step_none settings old (event.Closed c) at owed new are none unwatching step = ap (λ (s : State). s.observers) step.1 ∙ none
 step_none settings old event.Tick at owed new are none unwatching step = (ticked_none settings (later old at) new step.0 none step.2).2
 step_none settings old event.Restart at owed new are none unwatching step = ap (λ (s : State). s.observers) step.1
@@ -282,10 +283,7 @@ decided settings old event.End at owed others new last are (none, unwatching, a)
 decided settings old event.Failed at owed others new last are (none, unwatching, a) (too, also, b) nought nil = rests owed others new last old a b
 decided settings old (event.Opened c p) at owed others new last are (none, unwatching, a) (too, also, b) nought nil =
     turn_one owed others new last a.0 b.0 a.1 b.1 (opens_once (later old at) p c a.0 new a.2 b.0 last b.2)
-decided settings old (event.Piece c p) at owed others new last are (none, unwatching, a) (too, also, b) nought nil =
-    let one = tells_none settings (later old at) new a.0 none a.2 in
-    let another = tells_none settings (later old at) last b.0 none b.2 in
-    turn_one owed others new last a.0 b.0 a.1 b.1 (one.0 ∙ sym another.0, one.1 ∙ sym another.1)
+decided settings old (event.Piece c p) at owed others new last are (none, unwatching, a) (too, also, b) nought nil = absurd unwatching
 decided settings old (event.Closed c) at owed others new last are (none, unwatching, a) (too, also, b) nought nil = rests owed others new last (disconnected c (later old at)) a b
 decided settings old event.Tick at owed others new last are (none, unwatching, a) (too, also, b) nought nil =
     let one = ticked_none settings (later old at) new a.0 none a.2 in

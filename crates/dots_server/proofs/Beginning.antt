@@ -31,11 +31,13 @@ use Rattle.dots_ledger.proofs.Wholes.{ledger_whole}
 use Rattle.dots_registry.specs.Limits.{ClientsKeepLimits}
 use Rattle.dots_registry.proofs.CalmLimits.{limits_calm, limits_whole, own_calm, early_calm}
 use Rattle.dots_notices.specs.declared.watch.Watch.{Watch}
-use Rattle.coap_observe.specs.DueAmong.{AreTold}
+use Rattle.coap_observe.specs.DueAmong.{AreNotified}
 use Rattle.coap_observe.specs.Observing.{ObserversValue}
 use Rattle.dots_registry.specs.ObserverViews.{views_of}
 use Rattle.session_core.specs.Contacts.{unheard}
-use Rattle.stream_table.specs.Lines.{PeerLines, no_lines}
+use Rattle.stream_table.specs.Lines.{PeerLines, peer_in, no_lines}
+use Rattle.stream_table.specs.Places.{AreApart}
+use Rattle.stream_table.proofs.Apart.{apart_begun}
 use Rattle.dots_machine.specs.Machine.{State, begun_from, restarted}
 use Rattle.dots_server.specs.ServerValues.{ServerValue, observers_of, ledger_of, IsKept, IsServing}
 
@@ -81,7 +83,9 @@ module _ (settings : SettingsValue) (at : ℕ) (tables : LedgerValue) (held : Li
     state = restarted settings (begun_from settings held) at;
     entries = held;
     represents = begun_kept.represents;
-    told = subst (λ (v : ObserversValue). AreTold (views_of tables.registry) watch.due v.observed) (sym unobserved) tt;
+    notified = subst (λ (v : ObserversValue). AreNotified (views_of tables.registry) watch.due v.observed) (sym unobserved) tt;
+    rows = ap (map peer_in) closed;
+    apart = subst AreApart (sym closed) (apart_begun settings.peers);
   }
 
 -- ---- a server begins anew

@@ -1,10 +1,15 @@
 -- A server goes on representing a state as its connections change.
-use Rattle.std.proofs.Common.{List, ap}
+use Rattle.std.proofs.Common.{ℕ, List, sym, ap, subst}
 use Rattle.dots_settings.specs.Settings.{SettingsValue}
 use Rattle.dots_history.specs.declared.entry.Entry.{Entry}
-use Rattle.stream_table.specs.Lines.{PeerLines}
+use Rattle.stream_table.specs.declared.place.LinePlace.{LinePlace}
+use Rattle.stream_table.specs.Lines.{Line, PeerLines, AreOf, opened, forgotten, holding}
+use Rattle.stream_table.specs.Places.{AreApart, NowHolds}
+use Rattle.stream_table.proofs.Apart.{apart_opened, apart_forgotten}
+use Rattle.stream_table.proofs.Clients.{opened_of, forgotten_of, holding_of}
 use Rattle.dots_machine.specs.Machine.{State}
 use Rattle.dots_server.specs.ServerValues.{ServerValue, RepresentsWith, IsKept, IsServing}
+use Rattle.dots_server.proofs.Rows.{apart_holding}
 
 module _ (becomes : List PeerLines → List PeerLines) (old : ServerValue) where
   abbrev pub with_lines : ServerValue
@@ -38,10 +43,29 @@ module _ (becomes : List PeerLines → List PeerLines) (old : ServerValue) where
       → IsKept with_lines settings (lines_become state) entries
   lines_kept settings state entries kept = record { represents = lines_represent settings state entries kept.represents; rests = kept.rests }
 
-  pub lines_live : IsServing old → IsServing with_lines
-  lines_live serving = record {
+  lines_live : IsServing old → AreOf old.settings.peers (becomes old.lines) → AreApart (becomes old.lines) → IsServing with_lines
+  lines_live serving of apart = record {
     state = lines_become serving.state;
     entries = serving.entries;
     represents = lines_represent old.settings serving.state serving.entries serving.represents;
-    told = serving.told;
+    notified = serving.notified;
+    rows = of;
+    apart = apart;
   }
+
+-- ---- what becomes of them
+
+pub opened_lives : (peer conn : ℕ) (old : ServerValue) → IsServing old → IsServing (with_lines (opened peer conn) old)
+opened_lives peer conn old serving =
+    lines_live (opened peer conn) old serving (opened_of old.settings.peers peer conn old.lines serving.rows) (apart_opened peer conn old.lines serving.apart)
+
+pub forgotten_lives : (conn : ℕ) (old : ServerValue) → IsServing old → IsServing (with_lines (forgotten conn) old)
+forgotten_lives conn old serving =
+    lines_live (forgotten conn) old serving (forgotten_of old.settings.peers conn old.lines serving.rows) (apart_forgotten conn old.lines serving.apart)
+
+-- other bytes are held at a place
+pub held_lives : (place : LinePlace) (becomes : List ℕ → List ℕ) (old : ServerValue) (new : List PeerLines) (line : Line) → NowHolds place becomes old.lines new line → IsServing old
+    → IsServing (record old { lines = new })
+held_lives place becomes old new line holds serving =
+    subst (λ (lines : List PeerLines). IsServing (record old { lines = lines })) (sym holds.all)
+    (lines_live (holding line.conn becomes) old serving (holding_of old.settings.peers line.conn becomes old.lines serving.rows) (apart_holding line.conn becomes old.lines serving.apart))

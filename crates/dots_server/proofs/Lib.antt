@@ -18,5 +18,10 @@ pub mod MitigationReplies
 pub mod Verdicts
 pub mod Sessions
 pub mod Watching
-pub mod Telling
+pub mod Notifying
+pub mod Rows
 pub mod Connecting
+mod Chaining
+mod Fronts
+mod Standing
+mod TakingPieces

@@ -22,15 +22,26 @@ use Rattle.dots_notices.specs.declared.watch.Watch.{Watch}
 use Rattle.std.proofs.lemmas.List.Elements.{filter-append}
 use Rattle.coap_observe.specs.declared.observer.Observer.{Observer}
 use Rattle.coap_observe.specs.declared.due_among.DueAmong.TheVariants.{Anybody}
-use Rattle.coap_observe.specs.DueAmong.{joined, AreTold}
+use Rattle.coap_observe.specs.DueAmong.{joined, AreNotified}
 use Rattle.coap_observe.specs.Seen.{list_for}
-use Rattle.coap_observe.proofs.Telling.{anybody_told, changed_told}
+use Rattle.coap_observe.proofs.Notified.{anybody_notified, changed_notified}
 use Rattle.dots_history.specs.Histories.{alone}
 use Rattle.dots_registry.specs.ObserverViews.{views_of}
 use Rattle.conflict_rules.proofs.Alone.{views_apart}
 use Rattle.dots_machine.specs.Observing.{seen_among, seen_at}
 use Rattle.dots_server.proofs.Watching.{seen_same}
+use Rattle.stream_table.specs.Lines.{PeerLines, AreOf}
+use Rattle.stream_table.specs.Places.{AreApart}
 use Rattle.dots_server.specs.ServerValues.{ServerValue, ledger_of, Represents, RepresentsWith, IsKept, IsServing, IsAcceptable}
+
+-- ---- the connections are those that were
+
+rows_still : (old new : ServerValue) → new.settings ≡ old.settings → new.lines ≡ old.lines → AreOf old.settings.peers old.lines → AreOf new.settings.peers new.lines
+rows_still old new same connections rows =
+    subst (λ (s : SettingsValue). AreOf s.peers new.lines) (sym same) (subst (λ (lines : List PeerLines). AreOf old.settings.peers lines) (sym connections) rows)
+
+apart_still : (old new : ServerValue) → new.lines ≡ old.lines → AreApart old.lines → AreApart new.lines
+apart_still old new connections apart = subst AreApart (sym connections) apart
 
 -- ---- the time of the tables was moved
 
@@ -65,7 +76,9 @@ module _ (at : ℕ) (old new : ServerValue) (early : at < 2 ^ 48) (same : new.se
     state = later serving.state at;
     entries = serving.entries;
     represents = subst (λ s. RepresentsWith new s (later serving.state at) serving.entries) (sym same) (with_later old.settings serving.state serving.entries serving.represents);
-    told = subst (λ (w : Watch). AreTold (views_of new.registry) w.due w.observers.observed) (sym watch) (anybody_told (views_of new.registry) old.watch.observers.observed);
+    notified = subst (λ (w : Watch). AreNotified (views_of new.registry) w.due w.observers.observed) (sym watch) (anybody_notified (views_of new.registry) old.watch.observers.observed);
+    rows = rows_still old new same connections serving.rows;
+    apart = apart_still old new connections serving.apart;
   }
 
 -- a time that isn't later changes nothing
@@ -157,13 +170,15 @@ module _ (entry : Entry) (old new : ServerValue) (can : IsAcceptable old entry) 
     state = with_entry serving.state entry;
     entries = few;
     represents = subst (λ s. RepresentsWith new s (with_entry serving.state entry) few) (sym same) here;
-    told = subst (λ (w : Watch). AreTold (views_of new.registry) w.due w.observers.observed) (sym watch)
-        (changed_told (views_of old.registry) (views_of new.registry) old.watch.due entry.domain
+    notified = subst (λ (w : Watch). AreNotified (views_of new.registry) w.due w.observers.observed) (sym watch)
+        (changed_notified (views_of old.registry) (views_of new.registry) old.watch.due entry.domain
         (λ o other.
         ap (λ lists. list_for lists o) (seen_same old old.settings serving.state serving.represents.represents)
         ∙ elsewhere old.settings serving.state.time serving.state.history entry o other
         ∙ ap (λ lists. list_for lists o) (sym (seen_same new old.settings (with_entry serving.state entry) here.represents)))
-        old.watch.observers.observed serving.told);
+        old.watch.observers.observed serving.notified);
+    rows = rows_still old new same connections serving.rows;
+    apart = apart_still old new connections serving.apart;
   }
     where
       here : RepresentsWith new old.settings (with_entry serving.state entry) few
@@ -176,10 +191,12 @@ lives_still domain old new few serving same watch connections slots time tables 
   state = serving.state;
   entries = few;
   represents = subst (λ s. RepresentsWith new s serving.state few) (sym same) here;
-  told = subst (λ (w : Watch). AreTold (views_of new.registry) w.due w.observers.observed) (sym watch)
-      (changed_told (views_of old.registry) (views_of new.registry) old.watch.due domain
+  notified = subst (λ (w : Watch). AreNotified (views_of new.registry) w.due w.observers.observed) (sym watch)
+      (changed_notified (views_of old.registry) (views_of new.registry) old.watch.due domain
       (λ o other. ap (λ lists. list_for lists o) (seen_same old old.settings serving.state represents.represents ∙ sym (seen_same new old.settings serving.state here.represents)))
-      old.watch.observers.observed serving.told);
+      old.watch.observers.observed serving.notified);
+  rows = rows_still old new same connections serving.rows;
+  apart = apart_still old new connections serving.apart;
 }
   where
     represents : RepresentsWith old old.settings serving.state serving.entries

@@ -119,7 +119,9 @@ module _ (heard : Bool) (peer : ℕ) (old : ServerValue) where
     state = met heard peer serving.state;
     entries = serving.entries;
     represents = with_met old.settings serving.state serving.entries serving.represents;
-    told = serving.told;
+    notified = serving.notified;
+    rows = serving.rows;
+    apart = serving.apart;
   }
 
 -- a peer that isn't heard, or has no row, leaves the server as it is
@@ -306,7 +308,9 @@ module _ (old : ServerValue) (now : ℕ) (rows : List PeerContact) (time_is : no
     state = beaten old.settings serving.state;
     entries = serving.entries;
     represents = with_beaten old.settings serving.state serving.entries serving.represents;
-    told = serving.told;
+    notified = serving.notified;
+    rows = serving.rows;
+    apart = serving.apart;
   }
 
 module _ (settings : SettingsValue) (entries : List Entry) (peer : ℕ) (own : list_all (is_own settings) entries ≡ true) where

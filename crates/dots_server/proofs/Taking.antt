@@ -23,8 +23,9 @@ use Rattle.slot_journal.specs.DiskEntries.{Holds}
 use Rattle.slot_journal.specs.DiskEntries as journal
 use Rattle.dots_machine.specs.declared.ending.Stop.{Stop}
 use Rattle.dots_machine.specs.declared.ending.Stop.TheVariants as stop
-use Rattle.dots_machine.specs.Machine.{State, later, restarted, StepInto}
+use Rattle.dots_machine.specs.Machine.{State, later, restarted, receiving, StepInto}
 use Rattle.dots_machine.proofs.Hearing.{hears_time}
+use Rattle.dots_machine.proofs.Fronts.{front_time, fronts_time}
 use Rattle.dots_server.specs.ServerValues.{ServerValue, IsKept}
 use Rattle.dots_server.specs.Turning.{IsServed, HoldsTurn, Broke}
 use Rattle.dots_server.proofs.Turning.{keeps_itself, added_behind}
@@ -101,7 +102,10 @@ into_timely settings old (event.Datagram peer datagram) at turns last timely int
 into_timely settings old event.End at turns last timely into = absurd into
 into_timely settings old event.Failed at turns last timely into = absurd into
 into_timely settings old (event.Opened c p) at turns last timely into = absurd into
-into_timely settings old (event.Piece c p) at turns last timely into = absurd into
+into_timely settings old (event.Piece c p) at turns last timely into =
+    let from = receiving c p (later old at) in
+    let is : last.left.time ≡ max at old.time = front_time settings c into.0 last.sends last.left into.2 ∙ fronts_time settings c from turns into.0 into.1 in
+    omega (arith, timely, is)
 into_timely settings old (event.Closed c) at turns last timely into = absurd into
 into_timely settings old event.Tick at turns last timely into = absurd into
 into_timely settings old event.Restart at turns last timely into = absurd into

@@ -15,7 +15,7 @@ use Rattle.dots_ledger.specs.Crashes.{HoldsEither}
 use Rattle.dots_machine.specs.Machine.{State, with_entry}
 use Rattle.dots_notices.specs.Notifying.{SentTo}
 use Rattle.dots_notices.proofs.Sends.{sent_then, sent_none, keeps_then}
-use Rattle.dots_server.specs.Turning.{HoldsTurn, Turned, TurnedTo, Broke}
+use Rattle.dots_server.specs.Turning.{HoldsTurn, Turned, TurnedTo, Wrote, Broke}
 
 -- where nothing was written the disk is as it was, at each moment of none
 pub keeps_itself : (media : Option Media) → KeepsMedia media media
@@ -30,6 +30,10 @@ none_added (Some xs) (Some ys) keeps = ([], keeps ∙ sym (append-nil xs), refl)
 
 pub added_behind : (a b c : Option (List Timed)) (P : List Timed → Type 0) → KeepsActs a b → Added b c P → Added a c P
 added_behind a b c P keeps added = added_then a b c (λ more. more ≡ []) P P (none_added a b keeps) added (λ front back none p. subst (λ f. P (f ++ back)) (sym none) p)
+
+-- where no call of the wire was made some acts were added: none
+pub silent_adds : (a b : Option (List Timed)) → KeepsActs a b → Added a b (λ _. Unit {0})
+silent_adds a b keeps = added_weaker a b (λ more. more ≡ []) (λ _. Unit {0}) (none_added a b keeps) (λ more none. tt)
 
 module _ (settings : SettingsValue) (old new : State) (outs : List OwnedOut) (Before : (ℕ → ℕ) → Type 0) (media media_new : Option Media) (moment : ℕ) (acts acts_new : Option (List Timed)) where
   -- nothing is written, and the sends end at this moment
@@ -66,6 +70,20 @@ pub silent_to : (settings : SettingsValue) (old new : State) (Before : (ℕ → 
     → TurnedTo moment settings old new [] Before Before media media acts acts
 silent_to settings old new Before media moment acts at =
     unwritten_to settings old new [] Before media media moment acts acts moment at (sent_none acts moment) (keeps_itself media)
+
+-- it was written, and then the sends were given
+pub sent_behind : (settings : SettingsValue) (old new : State) (outs : List OwnedOut) (Before After : (ℕ → ℕ) → Type 0) (media there media_new : Option Media) (moment last : ℕ) (acts told acts_new : Option (List Timed))
+    → Wrote settings old new Before After media there acts told → IsMoment moment there → Added told acts_new (SentTo moment last outs) → KeepsMedia there media_new
+    → TurnedTo last settings old new outs Before After media media_new acts acts_new
+sent_behind settings old new outs Before After media there media_new moment last acts told acts_new wrote at sent keeps = record {
+  between = there;
+  moment = moment;
+  is_moment = at;
+  gives = added_behind acts told acts_new (SentTo moment last outs) wrote.silent sent;
+  writes = wrote.writes;
+  rests = wrote.rests;
+  sends = keeps;
+}
 
 -- more was sent behind the sends of a turn, which made this of the observers
 pub told_behind : (settings : SettingsValue) (old left new : State) (outs more : List OwnedOut) (Before After : (ℕ → ℕ) → Type 0) (media there media_new : Option Media) (first last : ℕ) (acts told acts_new : Option (List Timed))

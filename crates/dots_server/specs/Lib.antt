@@ -8,3 +8,4 @@ pub mod Observing
 pub mod Reading
 pub mod Asking
 pub mod Sessions
+pub mod Pieces

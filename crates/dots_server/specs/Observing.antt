@@ -91,7 +91,7 @@ abbrev pub MayObserve : List Pair → Watching → Type 0
 MayObserve pairs (watching.Registers observer) = list_any (is_pair observer.peer observer.domain) pairs ≡ true
 MayObserve pairs _ = ⊤
 
--- an event by which observers are told: a datagram, a piece of a connection, or a tick
+-- an event by which observers are notified: a datagram, a piece of a connection, or a tick
 abbrev pub Tells : What → Type 0
 Tells (what.Datagram from len) = ⊤
 Tells (what.Piece conn len) = ⊤

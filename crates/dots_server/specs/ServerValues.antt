@@ -19,10 +19,11 @@ use Rattle.dots_ledger.specs.LedgerValues as ledger
 use Rattle.dots_registry.specs.Limits.{ClientsKeepLimits}
 use Rattle.coap_exchange.specs.Pairs.{pairs_of}
 use Rattle.coap_observe.specs.Observed.{ObservedValue}
-use Rattle.coap_observe.specs.DueAmong.{AreTold}
+use Rattle.coap_observe.specs.DueAmong.{AreNotified}
 use Rattle.coap_observe.specs.Observing.{ObserversValue}
 use Rattle.dots_notices.specs.declared.watch.Watch.{Watch}
-use Rattle.stream_table.specs.Lines.{PeerLines}
+use Rattle.stream_table.specs.Lines.{PeerLines, AreOf}
+use Rattle.stream_table.specs.Places.{AreApart}
 use Rattle.dots_machine.specs.Verdict.{Verdict}
 use Rattle.dots_machine.specs.declared.verdict.Verdict.TheVariants as verdict
 use Rattle.dots_machine.specs.Machine.{State}
@@ -67,13 +68,15 @@ pub record IsKept (server : ServerValue) (settings : SettingsValue) (state : Sta
   pub represents : RepresentsWith server settings state entries
   pub rests : Kept settings.limits.remembered (last_time state.history) entries state.history
 
--- It represents some state, of which some entries are on its disk. What its observers were told last is what there is to see, but for those among
--- whom one may be due.
+-- It represents some state, of which some entries are on its disk. What its observers were notified of last is what there is to see, but for
+-- those among whom one may be due. There is a row for each client, and no number stands for two connections.
 pub record IsServing (server : ServerValue) : Type 0 where
   pub state : State
   pub entries : List Entry
   pub represents : RepresentsWith server server.settings state entries
-  pub told : AreTold (views_of server.registry) server.watch.due server.watch.observers.observed
+  pub notified : AreNotified (views_of server.registry) server.watch.due server.watch.observers.observed
+  pub rows : AreOf server.settings.peers server.lines
+  pub apart : AreApart server.lines
 
 -- An entry can be taken: it is of the registry's time, and for each state that the server represents it fits the history, is the settings' own,
 -- and has the peer of each live mitigation of its client.

@@ -37,7 +37,7 @@ pub record BrokeOff (settings : SettingsValue) (state : State) (came : Event) (a
   pub grows : Grows (last_left state turns).history last.left.history
   pub broke : Broke settings (last_left state turns) last.left (LiesOn settings stored) there media_now told acts_now
 
--- A datagram was answered, the observers that were due were told, and what that led to is kept.
+-- A datagram was answered, the observers that were due were notified, and what that led to is kept.
 pub record Answered (settings : SettingsValue) (state : State) (peer : ℕ) (datagram : List ℕ) (old now : ServerValue) (entries : List Entry) (media media_now : Option Media) (acts acts_now : Option (List Timed)) : Type 0 where
   pub sends : List OwnedOut
   pub new : State

@@ -54,6 +54,13 @@ pub record TurnedTo (last : ℕ) (settings : SettingsValue) (old new : State) (o
   pub rests : RestsWith media before → RestsWith between after
   pub sends : KeepsMedia between media_new
 
+-- It was written on the way from the one state to the other, and nothing was sent. At each moment the disk has entries with the view of the one
+-- history or of the other, and in the end it rests with those of the other.
+pub record Wrote (settings : SettingsValue) (old new : State) (before after : (ℕ → ℕ) → Type 0) (media media_new : Option Media) (acts acts_new : Option (List Timed)) : Type 0 where
+  pub silent : KeepsActs acts acts_new
+  pub writes : RestsWith media before → Leaves media media_new (HoldsTurn settings old new)
+  pub rests : RestsWith media before → RestsWith media_new after
+
 -- The disk failed on the way from the one state to the other: nothing was sent, and at each moment the disk has entries with the view of the
 -- one history or of the other. The entries of the other are the settings' own.
 pub record Broke (settings : SettingsValue) (old new : State) (before : (ℕ → ℕ) → Type 0) (media media_new : Option Media) (acts acts_new : Option (List Timed)) : Type 0 where

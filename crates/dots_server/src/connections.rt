@@ -38,6 +38,20 @@ impl Server {
     {
         self.lines.forget(conn);
     }
+
+    /// Closes a connection, and lets it go.
+    pub(crate) fn end_connection<H: Host>(&mut self, host: &mut H, conn: u32)
+        ensures lines { self.new ≡ record self.old { lines = forgotten conn self.old.lines } }
+        ensures sent { Added (H.acts host.old) (H.acts host.new) (SentTo (H.moment host.old) (H.moment host.new) (owned.Close conn ∷ [])) }
+        ensures media { KeepsMedia (H.media host.old) (H.media host.new) }
+        ensures extent { H.extent host.new ≡ H.extent host.old }
+        ensures disk { H.Disk.faults host.new ≡ H.Disk.faults host.old }
+        ensures wire { H.Wire.faults host.new ≡ H.Wire.faults host.old }
+        ensures leads { H.leads host.old host.new }
+    {
+        close(host, conn);
+        self.forget_connection(conn);
+    }
 }
 
 /// Closes a connection. Whether the host did makes no difference.

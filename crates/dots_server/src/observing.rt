@@ -93,9 +93,9 @@ impl Server {
         }
     }
 
-    /// Tells the observers that are due. None is looked at where none can be due.
+    /// Notifies the observers that are due. None is looked at where none can be due.
     pub(crate) fn notify<H: Host>(&mut self, host: &mut H)
-        ensures told { (settings : SettingsValue) (state : State) (entries : List Entry) → IsKept self.old settings state entries
+        ensures notified { (settings : SettingsValue) (state : State) (entries : List Entry) → IsKept self.old settings state entries
             → (sends : List OwnedOut) × (new : State) × Notified settings state sends new × IsKept self.new settings new entries
             × Added (H.acts host.old) (H.acts host.new) (SentTo (H.moment host.old) (H.moment host.new) sends) }
         ensures known { IsKnown (views_of self.new.registry) self.new.watch.due self.new.watch.observers.observed }

@@ -19,17 +19,17 @@ ghost use Rattle.slot_journal.specs.DiskEntries as journal;
 ghost use Rattle.slot_journal.specs.Refused.{Caused};
 ghost use Rattle.slot_journal.specs.declared.fault.JournalFault.TheVariants as faults;
 ghost use Rattle.slot_journal.specs.Untaken.{RefusesLedger, IsFailure};
-ghost use Rattle.dots_machine.specs.Machine.{State, begun_from, later, restarted, sends_of, after, beating};
+ghost use Rattle.dots_machine.specs.Machine.{State, begun_from, later, restarted, sends_of, after, with_entry, beating};
 ghost use Rattle.dots_machine.specs.Report.{report_of};
 ghost use Rattle.dots_registry.specs.RegistryValues.{time_of};
 ghost use Rattle.dots_registry.specs.ObserverViews.{views_of};
 ghost use Rattle.session_core.specs.Contacts.{heard_from, unheard};
 ghost use Rattle.dots_notices.specs.Beats.{beats};
 ghost use Rattle.dots_notices.specs.Notifying.{SentTo, IsKnown};
-ghost use Rattle.dots_server.specs.ServerValues.{observers_of, Represents, IsKept, CanCarryOut, IsAccepted};
+ghost use Rattle.dots_server.specs.ServerValues.{observers_of, Represents, IsKept, IsAcceptable, CanCarryOut, IsAccepted};
 ghost use Rattle.dots_server.specs.Sessions.{beaten};
 ghost use Rattle.dots_server.specs.Taking.{Took, BrokeOff, Answered, Failing};
-ghost use Rattle.dots_server.specs.Turning.{IsServed, TurnedTo, Broke};
+ghost use Rattle.dots_server.specs.Turning.{IsServed, TurnedTo, Wrote, Broke};
 ghost use Rattle.dots_server.specs.Observing.{Tells};
 
 use crate::beating::PeerBeats;
@@ -45,6 +45,9 @@ use dots_lists::NoMemory;
 use dots_notices::{Watch, beat, send_to};
 use dots_registry::Registry;
 use dots_settings::Settings;
+use http_cut::HeadRoom;
+use installed_filters::Staged;
+use json_room::JsonRoom;
 use session_core::Sessions;
 use slot_journal::{DiskFault, JournalFault};
 use std::alloc::Global;
@@ -58,10 +61,14 @@ pub struct Server {
     pub(crate) settings: Settings,
     pub(crate) ledger: Ledger,
     /// The observers, and the sessions with the peers. An observer may be due whose domain something was accepted for; any, where a second
-    /// passed, or one wasn't told for want of memory.
+    /// passed, or one was passed over.
     pub(crate) watch: Watch,
     /// The connections that are open, with what is held of each.
     pub(crate) lines: StreamTable<RestStream>,
+    /// Room for the head of a request.
+    pub(crate) heads: HeadRoom,
+    /// Room for its body.
+    pub(crate) json: JsonRoom,
 }
 
 impl Model for Server {
@@ -113,6 +120,8 @@ impl Server {
     {
         let watch = watch_for(alloc, &settings)?;
         let lines = StreamTable::new(alloc, &settings)?;
+        let heads = HeadRoom::new(alloc)?;
+        let json = JsonRoom::new(alloc);
         let ledger = Ledger::begin(alloc, host, &settings, at)?;
         Ok(Server {
             alloc,
@@ -120,6 +129,8 @@ impl Server {
             ledger,
             watch,
             lines,
+            heads,
+            json,
         })
     }
 
@@ -185,8 +196,8 @@ impl Server {
             → Took settings state (event_of got.now.what room.now) got.now.at self.old self.new entries (H.media host.old) (H.media host.new) (H.acts host.old) (H.acts host.new)) }
         ensures failed { OnErr result ((settings : SettingsValue) (state : State) (entries : List Entry) → IsKept self.old settings state entries
             → BrokeOff settings state (event_of got.now.what room.now) got.now.at self.old entries (H.media host.old) (H.media host.new) (H.acts host.old) (H.acts host.new)) }
-        // Behind an event by which observers are told none is due any more; or one is that was passed over for want of memory, and all are
-        // looked at by the next such event.
+        // Behind an event by which observers are notified none is due any more; or one is that was passed over, and all are looked at by the
+        // next such event.
         ensures observers { OnOk result (Tells got.now.what → IsKnown (views_of self.new.registry) self.new.watch.due self.new.watch.observers.observed) }
         ensures adds { Added (H.acts host.old) (H.acts host.new) (λ _. ⊤) }
         ensures settings { self.new.settings ≡ self.old.settings }
@@ -207,8 +218,9 @@ impl Server {
                 self.send_heartbeats(host);
                 return Ok(());
             }
-            What::Piece { .. } => {
+            What::Piece { conn, len } => {
                 self.move_time(got.at);
+                self.take_piece(host, conn, &room[..len])?;
                 self.notify(host);
                 return Ok(());
             }
@@ -226,7 +238,8 @@ impl Server {
         }
     }
 
-    /// Takes a peer's datagram: it is decided on, the peer is heard, the verdict is carried out, and the observers that are due are told.
+    /// Takes a peer's datagram: it is decided on, the peer is heard, the verdict is carried out, and the observers that are due are
+    /// notified.
     fn take_datagram<H: Host>(
         &mut self,
         host: &mut H,
@@ -347,13 +360,41 @@ impl Server {
             // What shows mitigations is a message by now.
             Verdict::Shows { .. } => unreachable!(),
             Verdict::Accept { reply, entry } => {
-                let due = self.watch.due.joined(entry.entry().domain);
-                self.watch.due = due;
-                self.ledger.accept(host, entry)?;
+                self.keep_entry(host, entry)?;
                 send_to(host, peer, reply.bytes());
                 return Ok(());
             }
         }
+    }
+
+    /// Keeps an entry that is accepted, on the disk and then in the tables. An observer of its domain may be due then.
+    pub(crate) fn keep_entry<H: Host>(
+        &mut self,
+        host: &mut H,
+        entry: Staged,
+    ) -> Result<(), DiskFault>
+        requires ready { IsAcceptable self.old entry }
+        requires size { needed_of self.old.journal.slots ≤ H.extent host.old }
+        ensures done { OnOk result ((settings : SettingsValue) (state : State) (entries : List Entry) → IsKept self.old settings state entries
+            → (few : List Entry) × IsKept self.new settings (with_entry state entry) few
+            × Wrote settings state (with_entry state entry) (journal.Represents self.old.journal settings entries) (journal.Represents self.new.journal settings few)
+            (H.media host.old) (H.media host.new) (H.acts host.old) (H.acts host.new)) }
+        ensures failed { OnErr result ((settings : SettingsValue) (state : State) (entries : List Entry) → IsKept self.old settings state entries
+            → Broke settings state (with_entry state entry) (journal.Represents self.old.journal settings entries) (H.media host.old) (H.media host.new) (H.acts host.old) (H.acts host.new)) }
+        ensures watch { self.new.watch ≡ record self.old.watch { due = self.new.watch.due } }
+        ensures lines { self.new.lines ≡ self.old.lines }
+        ensures adds { Added (H.acts host.old) (H.acts host.new) (λ _. ⊤) }
+        ensures settings { self.new.settings ≡ self.old.settings }
+        ensures slots { self.new.journal.slots ≡ self.old.journal.slots }
+        ensures extent { H.extent host.new ≡ H.extent host.old }
+        ensures cause { HasCause (H.Disk.faults host.old) (H.Disk.faults host.new) result }
+        ensures wire { H.Wire.faults host.new ≡ H.Wire.faults host.old }
+        ensures leads { H.leads host.old host.new }
+    {
+        let due = self.watch.due.joined(entry.entry().domain);
+        self.watch.due = due;
+        self.ledger.accept(host, entry)?;
+        Ok(())
     }
 
     /// Writes the report: a line for each row that mitigations install, in order of acceptance, and one for each sample packet.

@@ -1,10 +1,10 @@
-use Rattle.std.proofs.Common.{◌++◌, refl, sym, ap, ◌∙◌, [], ◌∷◌, subst, append-nil}
+use Rattle.std.proofs.Common.{◌++◌, take, refl, sym, ap, ◌∙◌, [], ◌∷◌, subst, append-nil, arith}
 use Rattle.dots_host.specs.declared.out.OwnedOut.TheVariants as owned
 use Rattle.dots_host.specs.Runs.{Added, Gives, each_telling}
 use Rattle.dots_host.proofs.RunLemmas.{added_weaker}
 use Rattle.slot_store.specs.StoreValues.{JournalValue}
 use Rattle.slot_journal.specs.DiskEntries as journal
-use Rattle.dots_ledger.proofs.Answering.{ok_as, err_as}
+use Rattle.dots_ledger.proofs.Answering.{ok_as, err_as, err_of}
 use Rattle.dots_notices.specs.Beats.{beats}
 use Rattle.dots_notices.specs.declared.watch.Watch.{Watch}
 use Rattle.dots_registry.specs.RegistryValues.{RegistryValue}
@@ -22,6 +22,8 @@ use Rattle.dots_server.specs.Taking.{stored_of}
 use Rattle.dots_server.proofs.Looping.{kept_stored}
 use Rattle.dots_server.proofs.Connecting.{lines_kept}
 use Rattle.dots_server.proofs.Turning.{unwritten, turned_from, broke_from}
+use Rattle.dots_server.proofs.Following.{added_on}
+use Rattle.dots_server.proofs.TakingPieces.{piece_took, piece_broke_off}
 use Rattle.dots_server.proofs.server.Server.handle.Goals as goal
 
 pub returns-in-Datagram-clause-done : goal.returns-in-Datagram-clause-done
@@ -91,7 +93,7 @@ returns-in-Tick-clause-done g c = λ settings state entries kept.
     let between = c.notify.new.host in
     let left = c.send_heartbeats.new.host in
     let moved = c.move_time-in-Tick.ensures.kept settings state entries kept in
-    let tells = c.notify.ensures.told settings now entries moved in
+    let tells = c.notify.ensures.notified settings now entries moved in
     let notices = tells.0 in
     let told = tells.1 in
     let heartbeats = beats (beating settings told) told.time told.contacts in
@@ -133,37 +135,46 @@ returns-in-Tick-clause-done g c = λ settings state entries kept.
 
 pub returns-in-Piece-clause-done : goal.returns-in-Piece-clause-done
 returns-in-Piece-clause-done g c = λ settings state entries kept.
-    let now = later state c.args.got.now.at in
+    let at = c.args.got.now.at in
+    let now = later state at in
     let host = c.args.host.now in
+    let between = c.take_piece.new.host in
     let left = c.notify-in-Piece.new.host in
     let moved = c.move_time-in-Piece.ensures.kept settings state entries kept in
-    let tells = c.notify-in-Piece.ensures.told settings now entries moved in
-    let sends = tells.0 in
-    let new = tells.1 in
-    let gives = added_weaker (g.H.Wire.acts host) (g.H.Wire.acts left) (SentTo (g.H.Wire.moment host) (g.H.Wire.moment left) sends) (Gives (g.H.Wire.moment host) sends) tells.4 (λ acts is. is.0) in
-    record {
-      turns = (record { sends = sends; left = new }) ∷ [];
-      new = new;
-      few = entries;
-      step = rw c.in-Piece.is (sends, append-nil (each_telling new sends), tells.2);
-      kept = tells.3;
-      chained = (
-        stored_of c.notify-in-Piece.new.self entries,
-        g.H.Disk.media left,
-        g.H.Wire.acts left,
-        refl,
-        ([], told_history settings now new sends tells.2 ∙ sym (append-nil state.history)),
-        kept_stored c.notify-in-Piece.new.self settings new entries tells.3,
-        subst
-            (λ (j : JournalValue). Turned settings state new sends (journal.Represents c.args.self.now.journal settings entries) (journal.Represents j settings entries) (g.H.Disk.media host) (g.H.Disk.media left)
-            (g.H.Wire.acts host) (g.H.Wire.acts left))
-            (sym (c.notify-in-Piece.ensures.journal ∙ c.move_time-in-Piece.ensures.journal))
-            (unwritten settings state new sends (journal.Represents c.args.self.now.journal settings entries) (g.H.Disk.media host) (g.H.Disk.media left) (g.H.Wire.moment host) (g.H.Wire.acts host) (g.H.Wire.acts left)
-            (g.met.H.Host.one_moment host) gives c.notify-in-Piece.ensures.media),
-        (refl, refl, refl),
-      );
-      left = refl;
-    }
+    let taken = c.in_ok-take_piece-in-Piece.ensures.done settings now entries moved in
+    let notified = c.notify-in-Piece.ensures.notified settings taken.rested taken.few taken.kept in
+    rw c.in-Piece.is (
+    piece_took settings c.in-Piece.conn at (take c.in-Piece.len c.args.room.now) state c.args.self.now c.move_time-in-Piece.new.self entries c.move_time-in-Piece.ensures.journal c.take_piece.new.self c.notify-in-Piece.new.self
+    (g.H.Disk.media host) (g.H.Disk.media between) (g.H.Disk.media left) (g.H.Wire.acts host) (g.H.Wire.acts between) (g.H.Wire.acts left) (g.H.Wire.moment between) (g.H.Wire.moment left)
+    taken notified.0 notified.1 notified.2 notified.3 c.notify-in-Piece.ensures.journal (g.met.H.Host.one_moment between) notified.4 c.notify-in-Piece.ensures.media
+    )
+
+pub returns-in_err-take_piece-in-Piece-clause-failed : goal.returns-in_err-take_piece-in-Piece-clause-failed
+returns-in_err-take_piece-in-Piece-clause-failed g c =
+    err_of c.from_residual.result _ (λ settings state entries kept.
+    let at = c.args.got.now.at in
+    let host = c.args.host.now in
+    let left = c.take_piece.new.host in
+    let moved = c.move_time-in-Piece.ensures.kept settings state entries kept in
+    rw c.in-Piece.is (
+    piece_broke_off settings c.in-Piece.conn at (take c.in-Piece.len c.args.room.now) state c.args.self.now c.move_time-in-Piece.new.self entries c.move_time-in-Piece.ensures.journal
+    (g.H.Disk.media host) (g.H.Disk.media left) (g.H.Wire.acts host) (g.H.Wire.acts left) (c.in_err-take_piece-in-Piece.ensures.failed settings (later state at) entries moved)
+    ))
+
+pub returns-in-Piece-clause-adds : goal.returns-in-Piece-clause-adds
+returns-in-Piece-clause-adds g c = added_on (g.H.Wire.acts c.args.host.now) (g.H.Wire.acts c.take_piece.new.host) (g.H.Wire.acts c.notify-in-Piece.new.host) c.take_piece.ensures.adds c.notify-in-Piece.ensures.adds
+
+pub returns-in-Piece-clause-slots : goal.returns-in-Piece-clause-slots
+returns-in-Piece-clause-slots g c =
+    ap (λ (j : JournalValue). j.slots) c.notify-in-Piece.ensures.journal ∙ c.take_piece.ensures.slots ∙ ap (λ (j : JournalValue). j.slots) c.move_time-in-Piece.ensures.journal
+
+pub returns-in-Piece-clause-cause : goal.returns-in-Piece-clause-cause
+returns-in-Piece-clause-cause g c =
+    let same = c.notify-in-Piece.ensures.disk ∙ c.in_ok-take_piece-in-Piece.ensures.cause.same in
+    record { later = omega (arith, same); same = same; rose = tt }
+
+pub returns-in-Piece-clause-leads : goal.returns-in-Piece-clause-leads
+returns-in-Piece-clause-leads g c = g.met.H.Wire.leads_then _ _ _ c.take_piece.ensures.leads c.notify-in-Piece.ensures.leads
 
 pub returns-in-Opened-clause-done : goal.returns-in-Opened-clause-done
 returns-in-Opened-clause-done g c = λ settings state entries kept.

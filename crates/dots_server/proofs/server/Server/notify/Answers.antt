@@ -1,7 +1,7 @@
 use Rattle.std.proofs.Common.{◌≡◌, inl, [], sym, ap, ◌∙◌, subst}
 use Rattle.coap_observe.specs.declared.due_among.DueAmong.{DueAmong}
-use Rattle.coap_observe.specs.DueAmong.{AreTold}
-use Rattle.coap_observe.proofs.Telling.{nobody_is}
+use Rattle.coap_observe.specs.DueAmong.{AreNotified}
+use Rattle.coap_observe.proofs.Notified.{nobody_is}
 use Rattle.dots_machine.specs.Machine.{State}
 use Rattle.dots_notices.specs.Notifying.{Notifies, IsKnown}
 use Rattle.dots_registry.specs.RegistryValues.{RegistryValue}
@@ -9,16 +9,16 @@ use Rattle.dots_registry.specs.ObserverViews.{views_of}
 use Rattle.dots_server.specs.Observing.{bodies_of}
 use Rattle.dots_notices.proofs.Sends.{sent_none}
 use Rattle.dots_server.specs.ServerValues.{ServerValue, IsKept}
-use Rattle.dots_server.proofs.Telling.{told_kept, told_lives, told_so, none_told}
+use Rattle.dots_server.proofs.Notifying.{notified_kept, notified_lives, notified_so, none_notified}
 use Rattle.dots_server.proofs.server.Server.notify.Goals as goal
 
 pub invariant_of-self : goal.invariant_of-self
 invariant_of-self g c =
     let old : ServerValue = record { settings = c.self.inside.settings; registry = c.self.inside.ledger.registry; journal = c.self.inside.ledger.journal; watch = c.self.inside.watch; lines = c.self.inside.lines } in
     let watch = c.notify.new.watch in
-    told_lives old watch c.notify.ensures.room c.notify.ensures.pairs
+    notified_lives old watch c.notify.ensures.room c.notify.ensures.pairs
     (subst (λ (tables : RegistryValue). IsKnown (views_of tables) watch.due watch.observers.observed) c.registry.ensures
-    (c.notify.ensures.due (subst (λ (tables : RegistryValue). AreTold (views_of tables) old.watch.due old.watch.observers.observed) (sym c.registry.ensures) c.self.invariant.told)))
+    (c.notify.ensures.due (subst (λ (tables : RegistryValue). AreNotified (views_of tables) old.watch.due old.watch.observers.observed) (sym c.registry.ensures) c.self.invariant.notified)))
     c.self.invariant
 
 pub returns-then-not-is_nobody-clause-known : goal.returns-then-not-is_nobody-clause-known
@@ -26,30 +26,30 @@ returns-then-not-is_nobody-clause-known g c =
     let old : ServerValue = record { settings = c.self.inside.settings; registry = c.self.inside.ledger.registry; journal = c.self.inside.ledger.journal; watch = c.self.inside.watch; lines = c.self.inside.lines } in
     let watch = c.notify.new.watch in
     subst (λ (tables : RegistryValue). IsKnown (views_of tables) watch.due watch.observers.observed) c.registry.ensures
-    (c.notify.ensures.due (subst (λ (tables : RegistryValue). AreTold (views_of tables) old.watch.due old.watch.observers.observed) (sym c.registry.ensures) c.self.invariant.told))
+    (c.notify.ensures.due (subst (λ (tables : RegistryValue). AreNotified (views_of tables) old.watch.due old.watch.observers.observed) (sym c.registry.ensures) c.self.invariant.notified))
 
 pub returns-else-not-is_nobody-clause-known : goal.returns-else-not-is_nobody-clause-known
 returns-else-not-is_nobody-clause-known g c =
     let old : ServerValue = record { settings = c.self.inside.settings; registry = c.self.inside.ledger.registry; journal = c.self.inside.ledger.journal; watch = c.self.inside.watch; lines = c.self.inside.lines } in
     let none = nobody_is old.watch.due (sym c.is_nobody.ensures ∙ c.if-not-is_nobody.false) in
     subst (λ (server : ServerValue). IsKnown (views_of server.registry) server.watch.due server.watch.observers.observed) c.self.view_is
-    (inl (none, subst (λ among. AreTold (views_of old.registry) among old.watch.observers.observed) none c.self.invariant.told))
+    (inl (none, subst (λ among. AreNotified (views_of old.registry) among old.watch.observers.observed) none c.self.invariant.notified))
 
-pub returns-then-not-is_nobody-clause-told : goal.returns-then-not-is_nobody-clause-told
-returns-then-not-is_nobody-clause-told g c = λ settings state entries kept.
+pub returns-then-not-is_nobody-clause-notified : goal.returns-then-not-is_nobody-clause-notified
+returns-then-not-is_nobody-clause-notified g c = λ settings state entries kept.
     let old : ServerValue = record { settings = c.self.inside.settings; registry = c.self.inside.ledger.registry; journal = c.self.inside.ledger.journal; watch = c.self.inside.watch; lines = c.self.inside.lines } in
     let here = subst (λ server. IsKept server settings state entries) (sym c.self.view_is) kept in
     let watch = c.notify.new.watch in
-    let told = c.notify.ensures.told in
+    let notified = c.notify.ensures.notified in
     let new : State = record state { observers = watch.observers.observed; contacts = watch.sessions } in (
-      told.0,
+      notified.0,
       new,
-      told_so old watch c.notify.ensures.room c.notify.ensures.pairs settings state told.0 here.represents.represents
-          (subst (λ (tables : RegistryValue). Notifies (views_of tables) (bodies_of tables) old.watch.observers.observed old.watch.sessions told.0 watch.observers.observed watch.sessions) c.registry.ensures told.1),
-      told_kept old watch c.notify.ensures.room c.notify.ensures.pairs settings state entries here,
-      told.2,
+      notified_so old watch c.notify.ensures.room c.notify.ensures.pairs settings state notified.0 here.represents.represents
+          (subst (λ (tables : RegistryValue). Notifies (views_of tables) (bodies_of tables) old.watch.observers.observed old.watch.sessions notified.0 watch.observers.observed watch.sessions) c.registry.ensures notified.1),
+      notified_kept old watch c.notify.ensures.room c.notify.ensures.pairs settings state entries here,
+      notified.2,
     )
 
-pub returns-else-not-is_nobody-clause-told : goal.returns-else-not-is_nobody-clause-told
-returns-else-not-is_nobody-clause-told g c = λ settings state entries kept.
-    ([], state, none_told settings state, kept, sent_none (g.H.Wire.acts c.args.host.now) (g.H.Wire.moment c.args.host.now))
+pub returns-else-not-is_nobody-clause-notified : goal.returns-else-not-is_nobody-clause-notified
+returns-else-not-is_nobody-clause-notified g c = λ settings state entries kept.
+    ([], state, none_notified settings state, kept, sent_none (g.H.Wire.acts c.args.host.now) (g.H.Wire.moment c.args.host.now))

@@ -4,7 +4,7 @@ use Rattle.dots_notices.specs.declared.watch.Watch.{Watch}
 use Rattle.dots_registry.specs.ObserverViews.{views_of}
 use Rattle.dots_machine.specs.declared.watching.Watching.TheVariants as watching
 use Rattle.dots_server.specs.ServerValues.{ServerValue, IsServing}
-use Rattle.dots_server.proofs.Telling.{with_changed, observed_lives}
+use Rattle.dots_server.proofs.Notifying.{with_changed, observed_lives}
 use Rattle.dots_server.proofs.server.Server.observe.Goals as goal
 
 pub invariant_of-self : goal.invariant_of-self

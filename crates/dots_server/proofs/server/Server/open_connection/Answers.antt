@@ -6,18 +6,18 @@ use Rattle.dots_machine.specs.Machine.{turned_away}
 use Rattle.dots_notices.specs.Notifying.{SentTo}
 use Rattle.dots_notices.proofs.Sends.{sent_none}
 use Rattle.dots_server.specs.ServerValues.{ServerValue, IsServing}
-use Rattle.dots_server.proofs.Connecting.{with_lines, lines_live}
+use Rattle.dots_server.proofs.Connecting.{with_lines, opened_lives}
 use Rattle.dots_server.proofs.server.Server.open_connection.Goals as goal
 
 pub invariant_of-self : goal.invariant_of-self
 invariant_of-self g c =
     let old : ServerValue = record { settings = c.self.inside.settings; registry = c.self.inside.ledger.registry; journal = c.self.inside.ledger.journal; watch = c.self.inside.watch; lines = c.self.inside.lines } in
-    subst (λ (lines : List PeerLines). IsServing (record old { lines = lines })) (sym c.open.ensures.rows) (lines_live (opened c.args.peer c.args.conn) old c.self.invariant)
+    subst (λ (lines : List PeerLines). IsServing (record old { lines = lines })) (sym c.open.ensures.rows) (opened_lives c.args.peer c.args.conn old c.self.invariant)
 
 pub invariant_of-self-in-Err : goal.invariant_of-self-in-Err
 invariant_of-self-in-Err g c =
     let old : ServerValue = record { settings = c.self.inside.settings; registry = c.self.inside.ledger.registry; journal = c.self.inside.ledger.journal; watch = c.self.inside.watch; lines = c.self.inside.lines } in
-    subst (λ (lines : List PeerLines). IsServing (record old { lines = lines })) (sym c.open.ensures.rows) (lines_live (opened c.args.peer c.args.conn) old c.self.invariant)
+    subst (λ (lines : List PeerLines). IsServing (record old { lines = lines })) (sym c.open.ensures.rows) (opened_lives c.args.peer c.args.conn old c.self.invariant)
 
 pub returns-in-Ok-clause-lines : goal.returns-in-Ok-clause-lines
 returns-in-Ok-clause-lines g c =

@@ -13,7 +13,7 @@ use Rattle.dots_server.specs.ServerValues.{ServerValue, IsKept, CanCarryOut}
 use Rattle.dots_server.specs.Sessions.{met}
 use Rattle.dots_server.specs.Turning.{TurnedTo, Broke}
 use Rattle.dots_server.proofs.Sessions.{hears_by, heard_kept, carried_still}
-use Rattle.dots_server.proofs.Telling.{observed_kept}
+use Rattle.dots_server.proofs.Notifying.{observed_kept}
 use Rattle.dots_server.proofs.Turning.{told_behind, turned_from, broke_from}
 use Rattle.dots_server.proofs.Watching.{spoken_sends, spoken_after, spoken_accepts}
 use Rattle.dots_server.proofs.server.Server.take_datagram.Goals as goal
@@ -79,7 +79,7 @@ returns-clause-done g c = λ settings state entries kept.
     subst (λ (os : List ObservedValue). observing settings lists peer does.asked does.decided replies os ≡ changed settings.limits.observers lists peer watching os) (sym (after_observers does.decided here))
     (does.does.observers lists)) in
     let from : State = watched settings peer does.asked does.decided replies (after does.decided here) in
-    let told = c.notify.ensures.told settings from few (subst (λ (server : ServerValue). IsKept server settings from few) (sym c.observe.ensures) observed_now) in
+    let told = c.notify.ensures.notified settings from few (subst (λ (server : ServerValue). IsKept server settings from few) (sym c.observe.ensures) observed_now) in
     let notices = told.0 in
     let new = told.1 in
     let history_is : new.history ≡ (after does.decided here).history = told_history settings from new notices told.2 in

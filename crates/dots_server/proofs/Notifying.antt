@@ -1,13 +1,13 @@
--- A server goes on representing a state as observers come, go and are told.
+-- A server goes on representing a state as observers come, go and are notified.
 use Rattle.std.proofs.Common.{◌≡◌, ◌⊎◌, inl, inr, ℕ, List, [], refl, sym, ap, ◌∙◌, subst}
 use Rattle.dots_host.specs.declared.out.OwnedOut.{OwnedOut}
 use Rattle.coap_exchange.specs.declared.pair.Pair.{Pair}
 use Rattle.coap_observe.specs.Seen.{Lists}
 use Rattle.std.specs.Prelude.{not}
 use Rattle.coap_observe.specs.declared.due_among.DueAmong.{DueAmong}
-use Rattle.coap_observe.specs.DueAmong.{AreTold}
+use Rattle.coap_observe.specs.DueAmong.{AreNotified}
 use Rattle.coap_observe.specs.Observed.{ObservedValue, is_token, had_id}
-use Rattle.coap_observe.proofs.Telling.{registered_told, filtered_told, anybody_told}
+use Rattle.coap_observe.proofs.Notified.{registered_notified, filtered_notified, anybody_notified}
 use Rattle.coap_observe.specs.Observing.{ObserversValue}
 use Rattle.session_core.specs.declared.contact.PeerContact.{PeerContact}
 use Rattle.dots_notices.specs.declared.watch.Watch.{Watch}
@@ -31,10 +31,10 @@ module _ (old : ServerValue) (watch : Watch) (settings : SettingsValue) (state :
   abbrev with_watch : ServerValue
   with_watch = record old { watch = watch }
 
-  abbrev with_told : State
-  with_told = record state { observers = observers; contacts = contacts }
+  abbrev with_notified : State
+  with_notified = record state { observers = observers; contacts = contacts }
 
-  pub watch_represents : (entries : List Entry) → RepresentsWith old settings state entries → RepresentsWith with_watch settings with_told entries
+  pub watch_represents : (entries : List Entry) → RepresentsWith old settings state entries → RepresentsWith with_watch settings with_notified entries
   watch_represents entries represents =
       let of = represents.represents in record {
         represents = record {
@@ -54,15 +54,15 @@ module _ (old : ServerValue) (watch : Watch) (settings : SettingsValue) (state :
         slots = represents.slots;
       }
 
-  pub watch_kept : (entries : List Entry) → IsKept old settings state entries → IsKept with_watch settings with_told entries
+  pub watch_kept : (entries : List Entry) → IsKept old settings state entries → IsKept with_watch settings with_notified entries
   watch_kept entries kept = record { represents = watch_represents entries kept.represents; rests = kept.rests }
 
--- what others were told goes on being what there is to see
-still_told : (lists : Lists) (among : DueAmong) (room peer : ℕ) (asked : Watching) (os : List ObservedValue) → AreTold lists among os → AreTold lists among (changed room lists peer asked os)
-still_told lists among room peer (watching.Registers observer) os told = registered_told lists among room observer os told
-still_told lists among room peer (watching.Leaves token) os told = filtered_told lists among (λ o. not (is_token peer token o)) os told
-still_told lists among room peer (watching.Rejects id) os told = filtered_told lists among (λ o. not (had_id peer id o)) os told
-still_told lists among room peer watching.Nothing os told = told
+-- what others were notified of goes on being what there is to see
+still_notified : (lists : Lists) (among : DueAmong) (room peer : ℕ) (asked : Watching) (os : List ObservedValue) → AreNotified lists among os → AreNotified lists among (changed room lists peer asked os)
+still_notified lists among room peer (watching.Registers observer) os notified = registered_notified lists among room observer os notified
+still_notified lists among room peer (watching.Leaves token) os notified = filtered_notified lists among (λ o. not (is_token peer token o)) os notified
+still_notified lists among room peer (watching.Rejects id) os notified = filtered_notified lists among (λ o. not (had_id peer id o)) os notified
+still_notified lists among room peer watching.Nothing os notified = notified
 
 -- ---- what is asked of observation is done
 module _ (old : ServerValue) (peer : ℕ) (asked : Watching) where
@@ -96,10 +96,12 @@ module _ (old : ServerValue) (peer : ℕ) (asked : Watching) where
     represents = watch_represents old with_changed.watch old.settings serving.state
         (changed old.settings.limits.observers (seen_in old.settings serving.state) peer asked serving.state.observers) serving.state.contacts
         (changed_are old.settings serving.state serving.represents.represents) serving.represents.represents.contacts serving.entries serving.represents;
-    told = still_told (views_of old.registry) old.watch.due old.watch.observers.room peer asked old.watch.observers.observed serving.told;
+    notified = still_notified (views_of old.registry) old.watch.due old.watch.observers.room peer asked old.watch.observers.observed serving.notified;
+    rows = serving.rows;
+    apart = serving.apart;
   }
 
--- ---- observers are told
+-- ---- observers are notified
 module _ (old : ServerValue) (watch : Watch) (room : watch.observers.room ≡ old.watch.observers.room) (pairs : watch.observers.pairs ≡ old.watch.observers.pairs) where
   abbrev pub with_others : ServerValue
   with_others = record old { watch = watch }
@@ -112,29 +114,31 @@ module _ (old : ServerValue) (watch : Watch) (room : watch.observers.room ≡ ol
       made : ℕ → List Pair → ObserversValue
       made room pairs = record { room = room; pairs = pairs; observed = watch.observers.observed }
 
-  pub told_kept : (settings : SettingsValue) (state : State) (entries : List Entry) → IsKept old settings state entries
+  pub notified_kept : (settings : SettingsValue) (state : State) (entries : List Entry) → IsKept old settings state entries
       → IsKept with_others settings (record state { observers = watch.observers.observed; contacts = watch.sessions }) entries
-  told_kept settings state entries kept =
+  notified_kept settings state entries kept =
       watch_kept old watch settings state watch.observers.observed watch.sessions (others_are settings state kept.represents.represents) refl entries kept
 
-  pub told_lives : IsKnown (views_of old.registry) watch.due watch.observers.observed → IsServing old → IsServing with_others
-  told_lives known serving = record {
+  pub notified_lives : IsKnown (views_of old.registry) watch.due watch.observers.observed → IsServing old → IsServing with_others
+  notified_lives known serving = record {
     state = record serving.state { observers = watch.observers.observed; contacts = watch.sessions };
     entries = serving.entries;
     represents = watch_represents old watch old.settings serving.state watch.observers.observed watch.sessions
         (others_are old.settings serving.state serving.represents.represents) refl serving.entries serving.represents;
-    told = by_known known;
+    notified = by_known known;
+    rows = serving.rows;
+    apart = serving.apart;
   }
     where
-      by_known : IsKnown (views_of old.registry) watch.due watch.observers.observed → AreTold (views_of old.registry) watch.due watch.observers.observed
-      by_known (inl (is, told)) = subst (λ among. AreTold (views_of old.registry) among watch.observers.observed) (sym is) told
-      by_known (inr (is, one)) = subst (λ among. AreTold (views_of old.registry) among watch.observers.observed) (sym is) (anybody_told (views_of old.registry) watch.observers.observed)
+      by_known : IsKnown (views_of old.registry) watch.due watch.observers.observed → AreNotified (views_of old.registry) watch.due watch.observers.observed
+      by_known (inl (is, notified)) = subst (λ among. AreNotified (views_of old.registry) among watch.observers.observed) (sym is) notified
+      by_known (inr (is, one)) = subst (λ among. AreNotified (views_of old.registry) among watch.observers.observed) (sym is) (anybody_notified (views_of old.registry) watch.observers.observed)
 
-  -- as the machine tells them
-  pub told_so : (settings : SettingsValue) (state : State) (sends : List OwnedOut) → Represents old settings state
+  -- as the machine notifies them
+  pub notified_so : (settings : SettingsValue) (state : State) (sends : List OwnedOut) → Represents old settings state
       → Notifies (views_of old.registry) (bodies_of old.registry) old.watch.observers.observed old.watch.sessions sends watch.observers.observed watch.sessions
       → Notified settings state sends (record state { observers = watch.observers.observed; contacts = watch.sessions })
-  told_so settings state sends of notifies = (
+  notified_so settings state sends of notifies = (
     watch.observers.observed,
     watch.sessions,
     subst (λ lists. Notifies lists (bodies_at settings state.time state.history) state.observers state.contacts sends watch.observers.observed watch.sessions) (seen_same old settings state of)
@@ -144,7 +148,7 @@ module _ (old : ServerValue) (watch : Watch) (room : watch.observers.room ≡ ol
     refl,
   )
 
--- none is told
-pub none_told : (settings : SettingsValue) (state : State) → Notified settings state [] state
-none_told settings state =
+-- none is notified
+pub none_notified : (settings : SettingsValue) (state : State) → Notified settings state [] state
+none_notified settings state =
     (state.observers, state.contacts, pass_all (seen_in settings state) (bodies_at settings state.time state.history) state.observers state.contacts, refl)
