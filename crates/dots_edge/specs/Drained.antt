@@ -5,7 +5,7 @@ use Rattle.dots_edge.specs.declared.ends.Waiting.{Waiting}
 use Rattle.dots_edge.specs.declared.ends.Accepting.{Accepting}
 use Rattle.dots_edge.specs.declared.ends.Accepting.TheVariants as accepting
 
--- no datagram may be there, and no connection may have something to read
+-- no datagram may be there, and no connection may have something to read, or a socket that takes some of its rest
 pub record IsDrained (ends : Ends) : Type 0 where
   pub datagrams : ends.waiting.datagrams ≡ false
   pub connections : ends.connections.looks ≡ 0

@@ -1,12 +1,15 @@
-ghost use Rattle.std.specs.Prelude.{◌≡◌, ◌≤◌, length, true, false, None, Some, unwrap_or};
+ghost use Rattle.std.specs.Prelude.{◌≡◌, ◌==◌, ◌<◌, ◌≤◌, ◌++◌, [], length, drop, true, false, not, None, Some, unwrap_or, IfOk, IfSome};
 ghost use Rattle.dots_edge.specs.Events.{IsPiece, AfterRead};
 ghost use Rattle.dots_edge.specs.Passing.{is_stale};
 
 use crate::passing::have_passed;
+use crate::rest::Rest;
 use dots_host::Sent;
 use mio::net::TcpStream;
+use mio::{Interest, Registry, Token};
+use std::alloc::Global;
 use std::io;
-use std::io::{ErrorKind, Read, Write};
+use std::io::{Error, ErrorKind, Read, Write};
 use std::net::Shutdown;
 use std::time::Duration;
 
@@ -19,49 +22,101 @@ const UNANSWERED_SECONDS: u32 = 30;
 /// How often the bytes that have come are read and dropped before a close.
 const DROPPED_READS: u32 = 16;
 
-/// What a read of a connection gives.
+/// What a turn of a connection gives.
 #[derive(Clone, Copy)]
 pub enum Piece {
     /// So many bytes, at the front of the room.
     Bytes(usize),
-    /// Nothing is there now.
+    /// Nothing is there now, and the socket takes nothing.
     Nothing,
-    /// The read was interrupted, and there may be something.
+    /// The call was interrupted, or some of the rest was written, and there may be more to do.
     Again,
     /// The connection has ended, or is of no use any more.
     Ended,
 }
 
 /// A connection of a peer.
+///
+/// What its socket doesn't take at once is kept, and written on as the socket takes it. Until then nothing is read.
 #[derive(Drop)]
 pub struct Connection {
     stream: TcpStream,
+    /// Under what waits tell of it.
+    token: Token,
     /// Whether there may be something to read.
-    pub ready: bool,
-    /// When the last byte came or went.
+    ready: bool,
+    /// Whether the socket may take some of the rest.
+    takes: bool,
+    /// Whether waits tell when the socket takes more, too.
+    told: bool,
+    /// When the last byte came or went, or a send was kept.
     moved: Duration,
     /// When the first byte came that no send has answered.
     asked: Option<Duration>,
-    /// Whether a send took a part of its bytes alone.
+    /// Whether bytes of a send were lost.
     broken: bool,
+    /// Whether the server has closed it. It lives until the rest is written.
+    closing: bool,
+    /// What was sent and the socket hasn't taken yet.
+    rest: Rest,
 }
 
 impl Connection {
     /// A connection that was accepted now.
-    pub fn new(stream: TcpStream, now: Duration) -> Connection
-        ensures { result ≡ record { stream = stream; ready = true; moved = now; asked = None; broken = false } }
+    pub fn new(alloc: Global, stream: TcpStream, token: Token, now: Duration) -> Connection
+        ensures fields { result ≡ record {
+          stream = stream;
+          token = token;
+          ready = true;
+          takes = false;
+          told = false;
+          moved = now;
+          asked = None;
+          broken = false;
+          closing = false;
+          rest = result.rest;
+        } }
+        ensures rest { result.rest.bytes.items ≡ [] }
     {
         Connection {
             stream,
+            token,
             ready: true,
+            takes: false,
+            told: false,
             moved: now,
             asked: None,
             broken: false,
+            closing: false,
+            rest: Rest::new(alloc),
         }
     }
 
+    /// Something may have come, or the socket may take more.
+    pub fn mark(&mut self)
+        ensures { self.new ≡ record self.old { ready = true; takes = true } }
+    {
+        self.ready = true;
+        self.takes = true;
+    }
+
+    /// Writes on what is kept, and else reads what has come.
+    pub fn turn(&mut self, into: &mut [u8], now: Duration, registry: &Registry) -> Piece
+        ensures piece { IsPiece result (length into.old) }
+        // Nothing is read while something is kept.
+        ensures rest { 0 < length self.old.rest.bytes.items → IsPiece result 0 × (into.new ≡ into.old) }
+    {
+        if !self.rest.is_empty() {
+            return self.write_on(now, registry);
+        }
+        if !self.ready {
+            return Piece::Nothing;
+        }
+        self.read(into, now)
+    }
+
     /// Reads what has come.
-    pub fn read(&mut self, into: &mut [u8], now: Duration) -> Piece
+    fn read(&mut self, into: &mut [u8], now: Duration) -> Piece
         ensures piece { IsPiece result (length into.old) }
         ensures broken { self.old.broken ≡ true → result ≡ Piece.Ended }
         ensures kept { self.new.broken ≡ self.old.broken }
@@ -96,20 +151,123 @@ impl Connection {
         }
     }
 
-    /// Sends all of the bytes, or loses them. After a loss the connection is of no use.
-    pub fn send(&mut self, bytes: &[u8], now: Duration) -> Sent
+    /// Writes on what is kept, where the socket may take some of it.
+    fn write_on(&mut self, now: Duration, registry: &Registry) -> Piece
+        ensures { IsPiece result 0 }
+    {
+        if !self.takes {
+            return Piece::Nothing;
+        }
+        match write_once(&mut self.stream, self.rest.as_slice()) {
+            Ok(Some(count)) => self.pass(count, now, registry),
+            Ok(None) => {
+                self.takes = false;
+                Piece::Nothing
+            }
+            Err(_) => {
+                self.lose();
+                Piece::Ended
+            }
+        }
+    }
+
+    /// The socket took so many bytes of the rest. A connection that the server has closed ends behind the last of them.
+    fn pass(&mut self, count: usize, now: Duration, registry: &Registry) -> Piece
+        requires { count ≤ length self.old.rest.bytes.items }
+        ensures { IsPiece result 0 }
+    {
+        self.rest.pass(count);
+        if count > 0 {
+            self.moved = now;
+        }
+        if self.closing && self.rest.is_empty() {
+            return Piece::Ended;
+        }
+        if self.tell(registry).is_err() {
+            self.lose();
+            return Piece::Ended;
+        }
+        Piece::Again
+    }
+
+    /// Sends all of the bytes, or loses them: those that the socket doesn't take now are kept. After a loss the connection is of no use.
+    pub fn send(&mut self, bytes: &[u8], now: Duration, registry: &Registry) -> Sent
         ensures done { result ≡ Sent.Done → (self.old.broken ≡ false) × (self.new.broken ≡ false)
             × (self.new.moved ≡ now) × (self.new.asked ≡ None) × (self.new.ready ≡ self.old.ready) }
         ensures lost { result ≡ Sent.Lost → (self.new.broken ≡ true) × (self.new.ready ≡ true) }
     {
-        if self.broken || self.stream.write_all(bytes).is_err() {
-            self.broken = true;
-            self.ready = true;
+        if self.broken || self.give(bytes).is_err() || self.tell(registry).is_err() {
+            self.lose();
             return Sent::Lost;
         }
         self.moved = now;
         self.asked = None;
         Sent::Done
+    }
+
+    /// Gives the bytes to the socket, behind the rest, and keeps what it doesn't take now. Answers how many it took.
+    fn give(&mut self, bytes: &[u8]) -> io::Result<usize>
+        ensures kept { self.new ≡ record self.old { takes = self.new.takes; rest = self.new.rest } }
+        // What is kept are the last bytes of all, in their order.
+        ensures order { IfOk result (λ count. self.new.rest.bytes.items ≡ drop count (self.old.rest.bytes.items ++ bytes.now)) }
+    {
+        let count = if self.rest.is_empty() {
+            write_once(&mut self.stream, bytes)?.unwrap_or(0)
+        } else {
+            0
+        };
+        self.rest.keep(&bytes[count..])?;
+        self.takes = true;
+        Ok(count)
+    }
+
+    /// Has waits tell when the socket takes more, too, while there is a rest.
+    fn tell(&mut self, registry: &Registry) -> io::Result<()>
+        ensures { self.new ≡ record self.old { told = self.new.told } }
+    {
+        let wanted = !self.rest.is_empty();
+        if wanted == self.told {
+            return Ok(());
+        }
+        let interests = if wanted {
+            Interest::READABLE | Interest::WRITABLE
+        } else {
+            Interest::READABLE
+        };
+        registry.reregister(&mut self.stream, self.token, interests)?;
+        self.told = wanted;
+        Ok(())
+    }
+
+    /// It is of no use from now on, and what was kept is lost.
+    fn lose(&mut self)
+        ensures kept { self.new ≡ record self.old { ready = true; broken = true; rest = self.new.rest } }
+        ensures rest { self.new.rest.bytes.items ≡ [] }
+    {
+        self.broken = true;
+        self.ready = true;
+        self.rest.clear();
+    }
+
+    /// Whether something is kept.
+    pub fn has_rest(&self) -> bool
+        ensures { result ≡ not (length self.now.rest.bytes.items == 0) }
+    {
+        !self.rest.is_empty()
+    }
+
+    /// Whether the server has closed it.
+    pub fn is_closing(&self) -> bool
+        ensures { result ≡ self.now.closing }
+    {
+        self.closing
+    }
+
+    /// The server has closed it. It lives until the rest is written.
+    pub fn begin_to_close(&mut self)
+        ensures { self.new ≡ record self.old { closing = true } }
+    {
+        self.closing = true;
     }
 
     /// Whether it was idle or left its sender without an answer for too long.
@@ -138,5 +296,21 @@ impl Connection {
                 Err(_) => return,
             }
         }
+    }
+}
+
+/// How many of the bytes the socket takes in one write. None where it takes none now.
+fn write_once(stream: &mut TcpStream, bytes: &[u8]) -> io::Result<Option<usize>>
+    ensures count { IfOk result (λ taken. IfSome taken (λ count. count ≤ length bytes.now)) }
+    ensures same { stream.new ≡ stream.old }
+{
+    match stream.write(bytes) {
+        Ok(0) if !bytes.is_empty() => Err(Error::from(ErrorKind::WriteZero)),
+        Ok(count) => Ok(Some(count)),
+        Err(error) => match error.kind() {
+            ErrorKind::WouldBlock => Ok(None),
+            ErrorKind::Interrupted => Ok(Some(0)),
+            _ => Err(error),
+        },
     }
 }

@@ -7,6 +7,7 @@ ghost use Rattle.dots_edge.specs.Events.{IsPiece};
 use crate::connection::{Connection, Piece};
 use dots_host::{MAX_EVENT_BYTES, NoMemory, Sent, What};
 use mio::net::TcpStream;
+use mio::{Registry, Token};
 use std::alloc::Global;
 use std::time::Duration;
 
@@ -16,10 +17,11 @@ pub const MAX_CONNECTIONS: usize = 128;
 /// The open connections, each at the place that is its number.
 #[derive(Drop)]
 pub struct Connections {
+    alloc: Global,
     places: Vec<Option<Connection>>,
     /// The place that is looked at next.
     turn: usize,
-    /// How many places from there on may have something to read.
+    /// How many places from there on may have something to read, or a socket that takes some of the rest.
     pub looks: usize,
     /// The place from which on stale connections are closed.
     swept: usize,
@@ -31,6 +33,7 @@ impl Connections {
         let mut places = Vec::new(alloc);
         places.resize_with(MAX_CONNECTIONS, || None)?;
         Ok(Connections {
+            alloc,
             places,
             turn: 0,
             looks: 0,
@@ -54,38 +57,51 @@ impl Connections {
     pub fn open(&mut self, place: usize, stream: TcpStream, now: Duration)
         ensures { self.new.looks ≡ 128 }
     {
+        let alloc = self.alloc;
         if let Some(free) = self.places.get_mut(place) {
-            *free = Some(Connection::new(stream, now));
+            *free = Some(Connection::new(alloc, stream, Token(place), now));
         }
         self.looks = MAX_CONNECTIONS;
     }
 
-    /// Lets the connection at the place go.
-    fn forget(&mut self, place: usize) {
-        if let Some(taken) = self.places.get_mut(place) {
-            *taken = None;
+    /// Lets the connection at the place go, and answers its number where the server hasn't closed it.
+    fn end(&mut self, place: usize) -> Option<u32>
+        requires { place < 128 }
+        ensures { IfSome result (λ conn. conn < 128) }
+    {
+        let connection = self.places.get_mut(place)?.take()?;
+        if connection.is_closing() {
+            connection.close();
+            return None;
         }
+        drop(connection);
+        Some(place as u32)
     }
 
-    /// Whether none may have something to read.
+    /// Whether none may have something to read, or a socket that takes some of its rest.
     pub fn is_drained(&self) -> bool
         ensures { result ≡ (self.now.looks == 0) }
     {
         self.looks == 0
     }
 
-    /// Something may have come at a place.
+    /// Something may have come at a place, or its socket may take more.
     pub fn mark(&mut self, place: usize)
         ensures { self.new.looks ≡ 128 }
     {
         if let Some(Some(connection)) = self.places.get_mut(place) {
-            connection.ready = true;
+            connection.mark();
         }
         self.looks = MAX_CONNECTIONS;
     }
 
-    /// The next piece or end of a connection: one read of each in turn.
-    pub fn next_piece(&mut self, into: &mut [u8], now: Duration) -> Option<What>
+    /// The next piece or end of a connection: one read or write of each in turn.
+    pub fn next_piece(
+        &mut self,
+        into: &mut [u8],
+        now: Duration,
+        registry: &Registry,
+    ) -> Option<What>
         requires { length into.old ≡ MAX_EVENT_BYTES }
         ensures within { IfSome result (λ what. IsWithin what MAX_EVENT_BYTES) }
         ensures event { IfSome result (λ what. OnFailed what ⊥) }
@@ -96,7 +112,7 @@ impl Connections {
                 return None;
             }
             let place = self.pass();
-            if let Some(what) = self.look(place, into, now) {
+            if let Some(what) = self.look(place, into, now, registry) {
                 return Some(what);
             }
         }
@@ -115,8 +131,14 @@ impl Connections {
         place
     }
 
-    /// What a read of the connection at the place gives.
-    fn look(&mut self, place: usize, into: &mut [u8], now: Duration) -> Option<What>
+    /// What a turn of the connection at the place gives.
+    fn look(
+        &mut self,
+        place: usize,
+        into: &mut [u8],
+        now: Duration,
+        registry: &Registry,
+    ) -> Option<What>
         requires place { place < 128 }
         requires room { length into.old ≡ MAX_EVENT_BYTES }
         ensures within { IfSome result (λ what. IsWithin what MAX_EVENT_BYTES) }
@@ -124,7 +146,7 @@ impl Connections {
         ensures restart { IfSome result (λ what. OnRestart what ⊥) }
     {
         let conn = place as u32;
-        match self.read(place, into, now) {
+        match self.turn_of(place, into, now, registry) {
             Piece::Bytes(len) => {
                 self.looks = MAX_CONNECTIONS;
                 Some(What::Piece { conn, len })
@@ -134,18 +156,24 @@ impl Connections {
                 self.looks = MAX_CONNECTIONS;
                 None
             }
-            Piece::Ended => {
-                self.forget(place);
-                Some(What::Closed { conn })
-            }
+            Piece::Ended => match self.end(place) {
+                Some(conn) => Some(What::Closed { conn }),
+                None => None,
+            },
         }
     }
 
-    fn read(&mut self, place: usize, into: &mut [u8], now: Duration) -> Piece
+    fn turn_of(
+        &mut self,
+        place: usize,
+        into: &mut [u8],
+        now: Duration,
+        registry: &Registry,
+    ) -> Piece
         ensures { IsPiece result (length into.old) }
     {
         match self.places.get_mut(place) {
-            Some(Some(connection)) if connection.ready => connection.read(into, now),
+            Some(Some(connection)) => connection.turn(into, now, registry),
             _ => Piece::Nothing,
         }
     }
@@ -157,7 +185,8 @@ impl Connections {
         self.swept = 0;
     }
 
-    /// Closes the next stale connection, and answers its number.
+    /// Closes the next stale connection, and answers its number where the server hasn't closed it. The rest of any other is tried again,
+    /// since a wait tells of a socket only once a good part of its buffer is free.
     pub fn next_stale(&mut self, now: Duration) -> Option<u32>
         ensures { IfSome result (λ conn. conn < 128) }
     {
@@ -167,12 +196,27 @@ impl Connections {
             }
             let place = self.swept;
             self.swept += 1;
-            if self.is_stale(place, now) {
-                self.forget(place);
-                return Some(place as u32);
+            if !self.is_stale(place, now) {
+                self.try_again(place);
+            } else if let Some(conn) = self.end(place) {
+                return Some(conn);
             }
         }
         None
+    }
+
+    /// The socket of the place may take some of its rest.
+    fn try_again(&mut self, place: usize) {
+        if self.has_rest(place) {
+            self.mark(place);
+        }
+    }
+
+    fn has_rest(&self, place: usize) -> bool {
+        match self.places.get(place) {
+            Some(Some(connection)) => connection.has_rest(),
+            _ => false,
+        }
     }
 
     fn is_stale(&self, place: usize, now: Duration) -> bool {
@@ -183,28 +227,41 @@ impl Connections {
     }
 
     /// Sends on a connection. It is lost where none of that number is open.
-    pub fn send(&mut self, conn: u32, bytes: &[u8], now: Duration) -> Sent {
+    pub fn send(&mut self, conn: u32, bytes: &[u8], now: Duration, registry: &Registry) -> Sent {
         let sent = match self.places.get_mut(conn as usize) {
-            Some(Some(connection)) => connection.send(bytes, now),
+            Some(Some(connection)) if !connection.is_closing() => {
+                connection.send(bytes, now, registry)
+            }
             _ => return Sent::Lost,
         };
-        if sent == Sent::Lost {
-            self.looks = MAX_CONNECTIONS;
-        }
+        self.looks = MAX_CONNECTIONS;
         sent
     }
 
-    /// Closes a connection. It is lost where none of that number is open.
+    /// Closes a connection, where something is kept once that is written. It is lost where none of that number is open.
     pub fn close(&mut self, conn: u32) -> Sent {
-        let Some(place) = self.places.get_mut(conn as usize) else {
-            return Sent::Lost;
-        };
-        match place.take() {
-            Some(connection) => {
-                connection.close();
-                Sent::Done
-            }
+        match self.places.get_mut(conn as usize) {
+            Some(place) => close_at(place),
             None => Sent::Lost,
         }
+    }
+}
+
+/// Closes the connection of the place.
+fn close_at(place: &mut Option<Connection>) -> Sent {
+    match place {
+        Some(connection) if connection.is_closing() => return Sent::Lost,
+        Some(connection) if connection.has_rest() => {
+            connection.begin_to_close();
+            return Sent::Done;
+        }
+        _ => {}
+    }
+    match place.take() {
+        Some(connection) => {
+            connection.close();
+            Sent::Done
+        }
+        None => Sent::Lost,
     }
 }

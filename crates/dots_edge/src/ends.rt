@@ -252,12 +252,23 @@ impl Ends {
             if let Some(what) = self.next_opened() {
                 return Some(what);
             }
-            return self.connections.next_piece(into, self.time);
+            return self.next_piece(into);
         }
-        if let Some(what) = self.connections.next_piece(into, self.time) {
+        if let Some(what) = self.next_piece(into) {
             return Some(what);
         }
         self.next_opened()
+    }
+
+    /// What came on a connection.
+    fn next_piece(&mut self, into: &mut [u8]) -> Option<What>
+        requires { length into.old ≡ MAX_EVENT_BYTES }
+        ensures within { IfSome result (λ what. IsWithin what MAX_EVENT_BYTES) }
+        ensures event { IfSome result (λ what. OnFailed what ⊥) }
+        ensures restart { IfSome result (λ what. OnRestart what ⊥) }
+    {
+        self.connections
+            .next_piece(into, self.time, self.sockets.registry())
     }
 
     /// A new connection, where a place is free.
@@ -299,7 +310,10 @@ impl Ends {
                 Some(way) => self.sockets.send_to(*bytes, way),
                 None => Sent::Lost,
             },
-            Out::Conn { conn, bytes } => self.connections.send(*conn, *bytes, self.time),
+            Out::Conn { conn, bytes } => {
+                let registry = self.sockets.registry();
+                self.connections.send(*conn, *bytes, self.time, registry)
+            }
             Out::Close { conn } => self.connections.close(*conn),
         }
     }

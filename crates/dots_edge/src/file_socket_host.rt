@@ -459,7 +459,8 @@ impl<R: Files<File = File> + Net + Clock + Drop> Wire for FileSocketHost<R> {
         }
     }
 
-    /// Done is a send of which the system took all bytes.
+    /// Done is a send of which no byte was lost: the system took them all, or, on a connection, took some and the host keeps the others for
+    /// it. What is kept is lost only where its connection ends before the system took it, or the host does.
     fn send(&mut self, out: &Out) -> Sent
         ensures acts { Adds (acts_told self.old) (length self.old.calls)
             (acts_told self.new) (length self.new.calls) (given out.now result) }

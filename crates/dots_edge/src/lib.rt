@@ -12,6 +12,9 @@
 //! of it again. So the host waits only where each source was found empty, and else goes on: a tick that is due, the end of a stale
 //! connection, a datagram, then one piece of each connection in turn. After 64 events at most it looks at the sockets without
 //! waiting, and what came to the connections has a turn.
+//!
+//! What a socket doesn't take of a send on a connection is kept, at most 524,288 bytes of each, and in a turn of its connection what is
+//! kept is written on. Nothing is read from the connection before all is written.
 #![tactic(auto)]
 
 mod address;
@@ -24,6 +27,7 @@ mod journal_file;
 mod journal_reader;
 mod passing;
 mod peers;
+mod rest;
 mod seconds;
 mod sockets;
 

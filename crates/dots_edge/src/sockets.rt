@@ -8,7 +8,7 @@ use crate::connections::MAX_CONNECTIONS;
 use dots_host::{NoMemory, Sent};
 use host_file::{Endpoint, HostLine};
 use mio::net::{TcpListener, TcpStream, UdpSocket};
-use mio::{Events, Interest, Poll, Token};
+use mio::{Events, Interest, Poll, Registry, Token};
 use peer_endpoints::Way;
 use std::alloc::Global;
 use std::io;
@@ -171,6 +171,11 @@ impl Sockets {
             Some(listener) => port_of(listener.local_addr()),
             None => 0,
         }
+    }
+
+    /// What waits tell of.
+    pub fn registry(&self) -> &Registry {
+        self.poll.registry()
     }
 
     /// Waits until something comes or the time is over.
