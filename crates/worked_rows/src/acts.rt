@@ -4,19 +4,28 @@ use dots_host::{Act, OwnedOut};
 use std::alloc::Global;
 use std::fmt::Write;
 
+/// Puts the line of a send.
+fn push_send(alloc: Global, text: &mut String, out: &OwnedOut) -> Option<()> {
+    match out {
+        OwnedOut::To { peer, bytes } => {
+            let digits = hex::encode(alloc, bytes.items()).ok()?;
+            write!(text, "to {peer} {digits}\n").ok()
+        }
+        OwnedOut::Conn { conn, bytes } => {
+            let digits = hex::encode(alloc, bytes.items()).ok()?;
+            write!(text, "conn {conn} {digits}\n").ok()
+        }
+        OwnedOut::Close { conn } => write!(text, "close {conn}\n").ok(),
+    }
+}
+
 /// The lines of the sends, where each was done.
 pub fn sends_of(alloc: Global, acts: &[Act]) -> Option<String> {
     let mut text = String::new(alloc);
     for act in acts {
         match act {
-            Act::Gave {
-                out: OwnedOut::To { peer, bytes },
-                done: true,
-            } => {
-                let digits = hex::encode(alloc, bytes.items()).ok()?;
-                write!(text, "to {peer} {digits}\n").ok()?;
-            }
-            Act::Gave { .. } => text.push_str("another send\n").ok()?,
+            Act::Gave { out, done: true } => push_send(alloc, &mut text, out)?,
+            Act::Gave { .. } => text.push_str("a send that is lost\n").ok()?,
             _ => {}
         }
     }

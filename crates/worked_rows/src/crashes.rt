@@ -1,11 +1,12 @@
 //! Runs in which a call fails, and what is found on the disk after them.
 
+use crate::acts::sends_of;
 use crate::disks::host_over;
 use crate::events::push_all;
 use crate::images::{WAYS, image_after, image_of};
 use crate::runs::{Asked, run_over};
 use crate::tables::Row;
-use crate::texts::{BOTH_ROWS, FIRST_ROW, TWO, TWO_BYTES};
+use crate::texts::{TWO, TWO_BYTES};
 use dots_disk::MemoryHost;
 use dots_host::{Act, Event, MemorySink, OwnedOut};
 use std::alloc::Global;
@@ -13,34 +14,8 @@ use std::alloc::Global;
 /// More calls than a run of a plan makes.
 const MANY: u64 = 1000;
 
-/// Requests over a journal.
-#[derive(Clone, Copy)]
-struct Plan<'a> {
-    /// What the disk holds before, and the events.
-    row: Row<'a>,
-    /// What is reported where none of the requests is accepted, where the first is, and so on.
-    reports: &'a [&'a str],
-    /// The half of the disk that is in use in the end.
-    half: u8,
-}
-
-/// Two requests over a disk that wasn't formatted, and a restart between them.
-const OVER_NOTHING: Plan<'static> = Plan {
-    row: Row {
-        lines: "\
-< at 2000 from 0 5103+0001+ASK
-< at 2001 restart
-< at 2001 from 0 5103+0002+ASK_SECOND",
-    },
-    reports: &["", FIRST_ROW, BOTH_ROWS],
-    half: 0,
-};
-
-/// A request over a journal that is compacted for it: the first request was accepted 28 times, so that each slot has an entry.
-const OVER_FULL: Plan<'static> = Plan {
-    row: Row {
-        lines: "\
-< at 2000 from 0 5103+001d+ASK_SECOND
+/// A journal in which each slot has an entry: the first request was accepted 28 times.
+const FULL: &str = "\
 * 0 HEADER
 * 8192 a5007e+00000000000003e8+CLIENT+0100010016+51410001+DONE+PUT+AT_1000
 * 16384 a5007e+00000000000003e9+CLIENT+0100020016+51440002+DONE+PUT+AT_1000
@@ -69,9 +44,75 @@ const OVER_FULL: Plan<'static> = Plan {
 * 204800 a5007e+0000000000000400+CLIENT+0100190016+51440019+DONE+PUT+AT_1000
 * 212992 a5007e+0000000000000401+CLIENT+01001a0016+5144001a+DONE+PUT+AT_1000
 * 221184 a5007e+0000000000000402+CLIENT+01001b0016+5144001b+DONE+PUT+AT_1000
-* 229376 a5007e+0000000000000403+CLIENT+01001c0016+5144001c+DONE+PUT+AT_1000",
-    },
-    reports: &[FIRST_ROW, BOTH_ROWS],
+* 229376 a5007e+0000000000000403+CLIENT+01001c0016+5144001c+DONE+PUT+AT_1000";
+
+/// Requests over a journal.
+#[derive(Clone, Copy)]
+struct Plan<'a> {
+    /// What the disk holds before.
+    before: &'a str,
+    /// The events.
+    events: &'a str,
+    /// How many requests a datagram or a piece brings.
+    requests: usize,
+    /// The events of a run that looks for what is on the disk.
+    asked: &'a str,
+    /// What is sent and reported in that run where none of the requests is accepted, where the first is, and so on.
+    found: &'a [&'a str],
+    /// The half of the disk that is in use in the end.
+    half: u8,
+}
+
+/// Two requests over a disk that wasn't formatted, and a restart between them.
+const OVER_NOTHING: Plan<'static> = Plan {
+    before: "",
+    events: "\
+< at 2000 from 0 5103+0001+ASK
+< at 2001 restart
+< at 2001 from 0 5103+0002+ASK_SECOND",
+    requests: 1,
+    asked: "",
+    found: &["", "= ROW", "= ROW\n= ROW_SECOND"],
+    half: 0,
+};
+
+/// A request over a journal that is compacted for it.
+const OVER_FULL: Plan<'static> = Plan {
+    before: FULL,
+    events: "< at 2000 from 0 5103+001d+ASK_SECOND",
+    requests: 1,
+    asked: "",
+    found: &["= ROW", "= ROW\n= ROW_SECOND"],
+    half: 1,
+};
+
+/// A registration and an alias, which come in one piece.
+const REST_EVENTS: &str = "< at 2000 open 1 0\n<~ at 2000 piece 1 PUT_CLIENT^PUT_WEB";
+
+/// What the client has is read.
+const REST_ASKED: &str = "< at 2000 open 1 0\n<~ at 2000 piece 1 GET_CLIENT";
+
+/// Both over a disk that wasn't formatted.
+const REST_OVER_NOTHING: Plan<'static> = Plan {
+    before: "",
+    events: REST_EVENTS,
+    requests: 2,
+    asked: REST_ASKED,
+    found: &[">~ conn 1 NOT_FOUND", ">~ conn 1 NOTHING", ">~ conn 1 HELD"],
+    half: 0,
+};
+
+/// Both over a journal that is compacted for the first of them.
+const REST_OVER_FULL: Plan<'static> = Plan {
+    before: FULL,
+    events: REST_EVENTS,
+    requests: 2,
+    asked: REST_ASKED,
+    found: &[
+        ">~ conn 1 NOT_FOUND\n= ROW",
+        ">~ conn 1 NOTHING\n= ROW",
+        ">~ conn 1 HELD\n= ROW",
+    ],
     half: 1,
 };
 
@@ -103,28 +144,32 @@ impl Failing {
         host.fail_at(self.call).is_ok()
     }
 
-    /// The status of a run whose first call that failed is this one. A send that is lost ends nothing; but then the next event
-    /// can't be had where every later call fails.
-    fn status(self, act: &Act) -> u8 {
-        match act {
-            Act::Took { .. } => 5,
-            Act::Gave { .. } => if self.onwards { 5 } else { 0 },
-            Act::Read { .. } | Act::Wrote { .. } | Act::Synced { .. } => 6,
+    /// The status of a run that made these calls from the first that failed on. A send that is lost ends nothing; but where every later call
+    /// fails, the next one that is no send ends the run.
+    fn status(self, acts: &[Act]) -> u8 {
+        for act in acts {
+            match act {
+                Act::Took { .. } => return 5,
+                Act::Gave { .. } if self.onwards => {}
+                Act::Gave { .. } => return 0,
+                Act::Read { .. } | Act::Wrote { .. } | Act::Synced { .. } => return 6,
+            }
         }
+        0
     }
 }
 
-/// How many requests are accepted after these acts: at least up to the last whose acceptance was told, 2.01 or 2.04, and at most
-/// those that were taken.
-fn range_of(acts: &[Act]) -> (usize, usize) {
+/// How many requests are accepted after these acts: at least those whose acceptance was told, 2.01, 2.04 or 201, and at most those that were
+/// taken.
+fn range_of(acts: &[Act], requests: usize) -> (usize, usize) {
     let mut least: usize = 0;
     let mut most: usize = 0;
     for act in acts {
         match act {
             Act::Took {
-                event: Event::Datagram { .. },
+                event: Event::Datagram { .. } | Event::Piece { .. },
                 ..
-            } => most = most.saturating_add(1),
+            } => most = most.saturating_add(requests),
             Act::Gave {
                 out: OwnedOut::To { bytes, .. },
                 done: true,
@@ -132,31 +177,48 @@ fn range_of(acts: &[Act]) -> (usize, usize) {
                 [_, 0x41 | 0x44, ..] => least = most,
                 _ => {}
             },
+            Act::Gave {
+                out: OwnedOut::Conn { bytes, .. },
+                ..
+            } => if bytes.items().starts_with(b"HTTP/1.1 201") {
+                least = least.saturating_add(1);
+            },
             _ => {}
         }
     }
     (least, most)
 }
 
+/// What came of a run that looked for what is on the disk.
+#[derive(Clone, Copy)]
+struct Seen<'a> {
+    sends: &'a [u8],
+    report: &'a [u8],
+}
+
 impl<'a> Plan<'a> {
-    /// Whether this is reported where a number of requests in the range are accepted.
-    fn has_report(&self, report: &[u8], range: (usize, usize)) -> bool {
+    /// Whether this is seen where a number of requests in the range are accepted.
+    fn has_seen(&self, alloc: Global, seen: Seen, range: (usize, usize)) -> bool {
         let (least, most) = range;
-        let reports = self.reports.get(least..most.saturating_add(1));
-        for text in reports.unwrap_or(&[]) {
-            if text.as_bytes() == report {
+        let found = self.found.get(least..most.saturating_add(1));
+        for lines in found.unwrap_or(&[]) {
+            let row = Row { lines: *lines };
+            if row.has(alloc, ">", seen.sends) && row.has(alloc, "=", seen.report) {
                 return true;
             }
         }
         false
     }
-}
 
-/// Whether a run that ended with this status reports what both requests leave, where it came to its end, and else nothing.
-fn is_reported(status: u8, report: &[u8]) -> bool {
-    match status {
-        0 => report == BOTH_ROWS.as_bytes(),
-        _ => report.is_empty(),
+    /// Whether a run that ended with this status reports what all requests leave, where it came to its end, and else nothing.
+    fn is_reported(&self, alloc: Global, status: u8, report: &[u8]) -> bool {
+        if status != 0 {
+            return report.is_empty();
+        }
+        match self.found.last() {
+            Some(lines) => Row { lines: *lines }.has(alloc, "=", report),
+            None => false,
+        }
     }
 }
 
@@ -167,7 +229,8 @@ fn replayed(
     host: &mut MemoryHost,
     sink: &mut MemorySink,
 ) -> Option<u8> {
-    push_all(alloc, host, events)?;
+    let events = Row { lines: events }.text(alloc, "<")?;
+    push_all(alloc, host, events.as_str())?;
     let asked = Asked {
         words: "replay settings",
         settings: TWO.as_bytes(),
@@ -176,14 +239,30 @@ fn replayed(
     run_over(alloc, asked, host, sink).ok()
 }
 
-/// Whether a run without events over this image ends well, and reports what is left where so many requests are accepted.
+/// Whether a run that looks for what is on the disk of the host ends well, and sees what is left where so many requests are accepted.
+fn is_seen(
+    alloc: Global,
+    plan: &Plan,
+    host: &mut MemoryHost,
+    range: (usize, usize),
+) -> Option<bool> {
+    let mut sink = MemorySink::new(alloc);
+    let status = replayed(alloc, plan.asked, host, &mut sink)?;
+    let sends = sends_of(alloc, host.acts())?;
+    let seen = Seen {
+        sends: sends.as_bytes(),
+        report: sink.bytes(),
+    };
+    Some(status == 0 && plan.has_seen(alloc, seen, range))
+}
+
+/// The same of this image.
 fn is_found(alloc: Global, plan: &Plan, image: &[u8], range: (usize, usize)) -> bool {
     match host_over(alloc, TWO_BYTES, image) {
         Some(mut host) => {
-            let mut sink = MemorySink::new(alloc);
-            let is_well = replayed(alloc, "", &mut host, &mut sink) == Some(0);
+            let seen = is_seen(alloc, plan, &mut host, range);
             drop(host);
-            is_well && plan.has_report(sink.bytes(), range)
+            seen == Some(true)
         }
         None => false,
     }
@@ -192,7 +271,7 @@ fn is_found(alloc: Global, plan: &Plan, image: &[u8], range: (usize, usize)) -> 
 /// The same of what stands on the disk of the host, which held the image before, and of each image that a crash leaves behind its calls.
 fn is_found_each_way(alloc: Global, plan: &Plan, before: &[u8], host: &MemoryHost) -> bool {
     let acts = host.acts();
-    let range = range_of(acts);
+    let range = range_of(acts, plan.requests);
     let mut all = is_found(alloc, plan, host.image(), range);
     for way in WAYS {
         all &= match image_after(alloc, before, acts, way) {
@@ -213,14 +292,17 @@ fn found_after(
     status: u8,
 ) -> Found {
     let number = (failing.call as usize).saturating_sub(1);
-    let is_as_wanted = match host.acts().get(number) {
-        Some(failed) => status == failing.status(failed),
-        None if status == 0 && host.image().get(48) == Some(&plan.half) => {
-            return Found::NothingFailed;
-        }
-        None => false,
-    };
-    if is_as_wanted && host.whole() && is_found_each_way(alloc, plan, before, host) {
+    let failed = host.acts().get(number..).unwrap_or(&[]);
+    if failed.is_empty() {
+        let is_well = status == 0 && host.image().get(48) == Some(&plan.half);
+        return if is_well {
+            Found::NothingFailed
+        } else {
+            Found::Lost
+        };
+    }
+    let is_as_wanted = status == failing.status(failed) && host.whole();
+    if is_as_wanted && is_found_each_way(alloc, plan, before, host) {
         return Found::Survived;
     }
     Found::Lost
@@ -231,7 +313,6 @@ fn judged(
     alloc: Global,
     plan: &Plan,
     before: &[u8],
-    events: &str,
     failing: Failing,
     host: &mut MemoryHost,
 ) -> Found {
@@ -239,8 +320,8 @@ fn judged(
         return Found::Lost;
     }
     let mut sink = MemorySink::new(alloc);
-    match replayed(alloc, events, host, &mut sink) {
-        Some(status) if is_reported(status, sink.bytes()) => {
+    match replayed(alloc, plan.events, host, &mut sink) {
+        Some(status) if plan.is_reported(alloc, status, sink.bytes()) => {
             found_after(alloc, plan, before, failing, host, status)
         }
         _ => Found::Lost,
@@ -248,10 +329,10 @@ fn judged(
 }
 
 /// What comes of the plan over the image from before, with calls that fail.
-fn outcome(alloc: Global, plan: &Plan, before: &[u8], events: &str, failing: Failing) -> Found {
+fn outcome(alloc: Global, plan: &Plan, before: &[u8], failing: Failing) -> Found {
     match host_over(alloc, TWO_BYTES, before) {
         Some(mut host) => {
-            let found = judged(alloc, plan, before, events, failing, &mut host);
+            let found = judged(alloc, plan, before, failing, &mut host);
             drop(host);
             found
         }
@@ -260,10 +341,10 @@ fn outcome(alloc: Global, plan: &Plan, before: &[u8], events: &str, failing: Fai
 }
 
 /// Whether each call of the plan over the image from before may fail.
-fn survives_over(alloc: Global, plan: &Plan, before: &[u8], events: &str, onwards: bool) -> bool {
+fn survives_over(alloc: Global, plan: &Plan, before: &[u8], onwards: bool) -> bool {
     for call in 1..MANY {
         let failing = Failing { call, onwards };
-        match outcome(alloc, plan, before, events, failing) {
+        match outcome(alloc, plan, before, failing) {
             Found::Survived => {}
             Found::Lost => return false,
             Found::NothingFailed => return true,
@@ -275,24 +356,32 @@ fn survives_over(alloc: Global, plan: &Plan, before: &[u8], events: &str, onward
 /// Whichever call fails, alone or with all behind it, what is found is what the first of the requests leave, among which each is whose
 /// acceptance was told.
 fn survives(alloc: Global, plan: &Plan, onwards: bool) -> Option<bool> {
-    let lines = plan.row.text(alloc, "*")?;
-    let events = plan.row.text(alloc, "<")?;
+    let lines = Row { lines: plan.before }.text(alloc, "*")?;
     let before = image_of(alloc, TWO_BYTES as usize, lines.as_str())?;
-    Some(survives_over(alloc, plan, before.as_slice(), events.as_str(), onwards))
+    Some(survives_over(alloc, plan, before.as_slice(), onwards))
 }
 
 /// Whether both plans survive.
-fn both_survive(alloc: Global, onwards: bool) -> bool {
-    survives(alloc, &OVER_NOTHING, onwards) == Some(true)
-        && survives(alloc, &OVER_FULL, onwards) == Some(true)
+fn both_survive(alloc: Global, first: &Plan, second: &Plan, onwards: bool) -> bool {
+    survives(alloc, first, onwards) == Some(true) && survives(alloc, second, onwards) == Some(true)
 }
 
 #[test]
 fn a_call_that_fails(rt: HostRuntime) {
-    assert!(rt; both_survive(rt.alloc(), false));
+    assert!(rt; both_survive(rt.alloc(), &OVER_NOTHING, &OVER_FULL, false));
 }
 
 #[test]
 fn all_calls_that_fail(rt: HostRuntime) {
-    assert!(rt; both_survive(rt.alloc(), true));
+    assert!(rt; both_survive(rt.alloc(), &OVER_NOTHING, &OVER_FULL, true));
+}
+
+#[test]
+fn a_call_that_fails_in_a_piece(rt: HostRuntime) {
+    assert!(rt; both_survive(rt.alloc(), &REST_OVER_NOTHING, &REST_OVER_FULL, false));
+}
+
+#[test]
+fn all_calls_that_fail_in_a_piece(rt: HostRuntime) {
+    assert!(rt; both_survive(rt.alloc(), &REST_OVER_NOTHING, &REST_OVER_FULL, true));
 }

@@ -103,4 +103,18 @@ $ replay settings
 
 # missing 6
 < at 1000 from 0 HEAD+MID_123+12010fffa101a10281a206800e190e10
-> to 0 518000014aff6d697373696e672036";
+> to 0 518000014aff6d697373696e672036
+
+# Messages that can't be what they say, and a body of 3,900 arrays in one another: a request behind them is answered as ever.
+# a token of nine bytes; an option of a length that can't be; one whose number is too large
+< at 1000 from 0 49030001
+< at 1000 from 0 40030002f0
+< at 1000 from 0 40030003e0ffff
+< at 1000 from 0 51030004+MITIGATE+CUID+056d69643d31+12010fff+3900*81
+< at 1000 from 0 REQUEST
+> to 0 70000001
+> to 0 70000002
+> to 0 70000003
+> to 0 518000044aff63626f72
+> to 0 REPLY
+= ROW";

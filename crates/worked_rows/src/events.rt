@@ -4,28 +4,39 @@ use dots_disk::MemoryHost;
 use dots_host::{Bytes, Event};
 use std::alloc::Global;
 
-/// An event with bytes: `from` with a peer and a datagram, or `piece` with those of a connection.
-fn event_with_bytes(alloc: Global, words: &str) -> Option<Event> {
-    let (front, digits) = words.rsplit_once(' ')?;
-    let from = match front {
-        "piece" => 0,
-        _ => front.strip_prefix("from ")?.parse::<u32>().ok()?,
-    };
-    let bytes = Bytes::from_vec(hex::decode(alloc, digits).ok()?);
-    if front == "piece" {
-        Some(Event::Piece { conn: 1, bytes })
-    } else {
-        Some(Event::Datagram { from, bytes })
+fn bytes_of(alloc: Global, digits: &str) -> Option<Bytes> {
+    Some(Bytes::from_vec(hex::decode(alloc, digits).ok()?))
+}
+
+/// An event of a peer or a connection: `from` with a peer and a datagram, `open` with a connection and a peer, `piece` with a connection and its
+/// bytes, or `close` with a connection.
+fn event_with_number(alloc: Global, words: &str) -> Option<Event> {
+    let (kind, rest) = words.split_once(' ')?;
+    let (number, last) = rest.split_once(' ').unwrap_or((rest, ""));
+    let number = number.parse::<u32>().ok()?;
+    match kind {
+        "from" => Some(Event::Datagram {
+            from: number,
+            bytes: bytes_of(alloc, last)?,
+        }),
+        "open" => Some(Event::Opened {
+            conn: number,
+            from: last.parse::<u32>().ok()?,
+        }),
+        "piece" => Some(Event::Piece {
+            conn: number,
+            bytes: bytes_of(alloc, last)?,
+        }),
+        "close" => Some(Event::Closed { conn: number }),
+        _ => None,
     }
 }
 
 fn event_of(alloc: Global, words: &str) -> Option<Event> {
     match words {
         "restart" => Some(Event::Restart),
-        "opened" => Some(Event::Opened { conn: 1, from: 0 }),
-        "closed" => Some(Event::Closed { conn: 1 }),
         "end" => Some(Event::End),
-        _ => event_with_bytes(alloc, words),
+        _ => event_with_number(alloc, words),
     }
 }
 

@@ -10,6 +10,7 @@ mod acts;
 mod around;
 mod edges;
 mod faults;
+mod late_reader;
 mod scripts;
 mod set_clock;
 mod streams;

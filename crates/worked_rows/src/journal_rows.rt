@@ -41,6 +41,23 @@ $ replay settings
 % 2/2 2/2 2/2 2/2 2/2 2/2 2/2 2/2 2/2 2/2 2/2 2/2 2/2 2/2
 % 31/4 0/0 0/1 0/0
 
+# a registration and an alias in one piece are two entries, the same registration again is none, and the alias is one; what is read and what is
+# refused is none
+< at 1000 open 1 0
+<~ at 1000 piece 1 PUT_CLIENT^PUT ^WEB^ALIAS^web^TO^192.0.2.10/32^END
+<~ at 1000 piece 1 PUT_CLIENT^PUT_WEB^GET_CLIENT^PUT ^CLIENT^/aliases/alias=dns^ALIAS^dns^TO^192.0.2.53/32^END
+>~ conn 1 CREATED
+>~ conn 1 CREATED
+>~ conn 1 NO_CONTENT
+>~ conn 1 NO_CONTENT
+>~ conn 1 HELD
+>~ conn 1 FULL
+% 2/3 0/0 4/4 2/2
++ 8192 a5002b+AT_1000+CLIENT+HTTP+07
++ 16384 a50046+AT_1000+CLIENT+HTTP+0303776562010420000000000000000000000000c000020a00000000
++ 24576 a50046+AT_1000+CLIENT+HTTP+0303776562010420000000000000000000000000c000025000000000
++ 32768 00
+
 # a hundred, a restart, and the last once more
 <* 100
 < at 1100 restart
@@ -82,7 +99,7 @@ $ replay settings
 + 65536 a5007e+0000000000000413+CLIENT+01002c0016+5144002c+DONE+PUT+AT_1000
 + 73728 00";
 
-/// `end` has a time beside it, and moves none; events that aren't served yet do.
+/// `end` has a time beside it, and moves none; what happens to a connection does.
 pub const TIMES: &str = "\
 $ replay settings
 : domain net1
@@ -102,14 +119,14 @@ $ replay settings
 < at 9999 end
 = ROW
 
-< at 4599 opened
+< at 4599 open 5 0
 = ROW
 
-< at 4600 opened
+< at 4600 open 5 0
 
-< at 4600 piece 00
+< at 4600 piece 5 00
 
-< at 4600 closed";
+< at 4600 close 5";
 
 /// The header of a journal under the settings of most rows has their digest. Packets, empty lines and comments leave it as it is, and
 /// the last line may lack its line feed. The gateway asks in the first domain, the client in its own, and a stranger isn't answered.

@@ -41,6 +41,8 @@ mod faults;
 #[cfg(test)]
 mod hosts;
 #[cfg(test)]
+mod http_texts;
+#[cfg(test)]
 mod images;
 #[cfg(test)]
 mod journal_rows;
@@ -72,6 +74,8 @@ mod refusals;
 mod registry;
 #[cfg(test)]
 mod repeat_rows;
+#[cfg(test)]
+mod rest_rows;
 #[cfg(test)]
 mod restart_rows;
 #[cfg(test)]

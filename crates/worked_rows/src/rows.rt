@@ -16,6 +16,7 @@ use crate::observer_rows::OBSERVERS;
 use crate::option_rows::OPTIONS;
 use crate::refusal_rows::REFUSALS;
 use crate::repeat_rows::{LAST_TWO, REPEATS};
+use crate::rest_rows::{FRONTS, REST, REST_FATES};
 use crate::restart_rows::RESTARTS;
 use crate::runs::sink_of;
 use crate::script_rows::SCRIPTS;
@@ -68,7 +69,6 @@ fn all_hold(rt: &impl Abort, alloc: Global, table: &str) {
 #[test]
 fn runs_over_scripts(rt: HostRuntime) {
     let alloc = rt.alloc();
-    all_hold(&rt, alloc, CONNECTIONS);
     all_hold(&rt, alloc, DATAGRAMS);
     all_hold(&rt, alloc, DOMAINS);
     all_hold(&rt, alloc, MITIGATIONS);
@@ -92,6 +92,15 @@ fn list_holds(alloc: Global) -> bool {
         Some(text) => holds(alloc, "$ replay settings\n:&", text.as_str()),
         None => false,
     }
+}
+
+#[test]
+fn runs_with_connections(rt: HostRuntime) {
+    let alloc = rt.alloc();
+    all_hold(&rt, alloc, CONNECTIONS);
+    all_hold(&rt, alloc, REST);
+    all_hold(&rt, alloc, FRONTS);
+    all_hold(&rt, alloc, REST_FATES);
 }
 
 #[test]

@@ -32,12 +32,13 @@ $ replay settings
 > to 0 REPLY
 = ROW
 
-# what comes on a connection isn't answered: the replies and the report are those of the request alone
+# what comes on a connection is answered there, and changes nothing of what is answered to a datagram
 < at 999 open 5 0
-< at 999 piece 5 474554202f20485454502f312e310d0a0d0a
+<~ at 999 piece 5 GET / HTTP/1.1~~
 < at 1000 from 0 REQUEST
 < at 1000 piece 5 00
 < at 1001 close 5
+>~ conn 5 NOT_FOUND
 > to 0 REPLY
 = ROW
 

@@ -7,8 +7,9 @@
 //!   of [`SETTINGS`]; `:*` a line that is repeated so many times, with the number of each from 0 on in place of `%`, or without
 //!   `%` a text that is repeated in one line
 //! - `<` a line of the script that is served, and `<|` its last line, which lacks its line feed; `<*` so many requests, each a
-//!   message of its own
-//! - `>` a line that is sent, and `>*` the replies to so many requests
+//!   message of its own; `<~` a text of HTTP that comes on a connection, in pieces as large as they may be, and `<.` one that comes byte
+//!   by byte
+//! - `>` a line that is sent, and `>*` the replies to so many requests; `>~` a text of HTTP that is sent on a connection
 //! - `=` a line that is reported
 //! - `?` the exit status, where it isn't 0
 //! - `!` what fails: a `read` of the settings, or a `write` of the report, and which one
@@ -21,8 +22,10 @@
 //! - `+` a place on the disk, and bytes that stand there in the end
 //! - `%` how many writes and syncs there are before the first event, and behind each event
 //!
-//! The last word of a line is names of [`NAMES`] and other texts, joined by `+`, which alone stands for no text.
+//! The last word of a line is names of [`NAMES`], texts that are repeated, as `3*81`, and other texts, joined by `+`, which alone stands for no
+//! text. How a text of HTTP is written is said in [`http_texts`](crate::http_texts).
 
+use crate::http_texts::{push_pieces, push_sent};
 use crate::many::push_many;
 use crate::texts::{NAMES, SETTINGS};
 use std::alloc::Global;
@@ -31,6 +34,7 @@ use std::alloc::Global;
 fn is_mark(mark: &[u8]) -> bool {
     match mark {
         [one] => b"$:<>=?!#@*+%".contains(one),
+        [b'<' | b'>', b'~'] | [b'<', b'.'] => true,
         [b':' | b'<' | b'>', how] => b"|&*".contains(how),
         _ => false,
     }
@@ -75,7 +79,7 @@ impl<'a> Row<'a> {
         let mut text = String::new(alloc);
         for line in self.lines.lines() {
             if let Some(rest) = line.strip_prefix(mark) {
-                push(&mut text, mark, rest)?;
+                push(alloc, &mut text, mark, rest)?;
             }
         }
         Some(text)
@@ -91,20 +95,23 @@ impl<'a> Row<'a> {
 }
 
 /// Puts what stands behind the first character of a mark.
-fn push(text: &mut String, mark: &str, rest: &str) -> Option<()> {
+fn push(alloc: Global, text: &mut String, mark: &str, rest: &str) -> Option<()> {
     let (how, words) = rest.split_once(' ').unwrap_or((rest, ""));
     let end = if mark == "%" { " " } else { "\n" };
     match how {
         "" => push_line(text, words, end),
         "|" => text.push_str(words).ok(),
         "&" => text.push_str(SETTINGS).ok(),
+        "." => push_pieces(alloc, text, words, 1),
+        "~" if mark == ">" => push_sent(alloc, text, words),
+        "~" => push_pieces(alloc, text, words, 4096),
         _ => push_many(text, mark, words),
     }
 }
 
-/// What a part of a word stands for: the text behind a name, else itself.
-fn meaning(part: &str) -> &str {
-    for line in NAMES.lines() {
+/// What a part of a word stands for: the text behind a name of these, else itself.
+fn meaning<'a>(names: &'a str, part: &'a str) -> &'a str {
+    for line in names.lines() {
         if let Some((name, text)) = line.split_once(' ') {
             if name == part {
                 return text;
@@ -112,6 +119,16 @@ fn meaning(part: &str) -> &str {
         }
     }
     part
+}
+
+/// How often a part of a word stands there, and what it is: a text that is repeated, or what one of these names stands for, or itself.
+pub fn repeated<'a>(names: &'a str, part: &'a str) -> (u32, &'a str) {
+    if let Some((digits, text)) = part.split_once('*') {
+        if let Ok(count) = digits.parse::<u32>() {
+            return (count, text);
+        }
+    }
+    (1, meaning(names, part))
 }
 
 /// Puts a line, with what its names stand for, and its end.
@@ -123,7 +140,10 @@ fn push_line(text: &mut String, line: &str, end: &str) -> Option<()> {
         word = last;
     }
     for part in word.split('+') {
-        text.push_str(meaning(part)).ok()?;
+        let (count, part) = repeated(NAMES, part);
+        for _ in 0..count {
+            text.push_str(part).ok()?;
+        }
     }
     text.push_str(end).ok()
 }

@@ -39,20 +39,11 @@ pub const ASK: &str =
 /// The reply to it behind its Message ID: mid 123 and 3600 s.
 pub const DONE: &str = "4ac2010fffa101a10281a205187b0e190e10";
 
-/// The line of its filter.
-pub const FIRST_ROW: &str = "scrub net1 dz6pHjaADkaFTbjr0JGBpw 123 192.0.2.0/24 any any\n";
-
-/// The lines of it and of the second.
-pub const BOTH_ROWS: &str = "\
-scrub net1 dz6pHjaADkaFTbjr0JGBpw 123 192.0.2.0/24 any any
-scrub net1 dz6pHjaADkaFTbjr0JGBpw 124 2001:db8:1::/64 any any
-";
-
 /// What stands for a name in a row: each line is a name and a text.
 ///
 /// REQUEST is the datagram of a request for 192.0.2.0/24 with mid 123, lifetime 3600 s and Message ID 1, in hexadecimal, REPLY its reply,
 /// 2.01 with mid 123 and 3600 s, and ROW the line of its filter. HEAD is the datagram up to its mid, and START up to its path. CUID, MID_123 and MID_124 are options of the path. BODY stands
-/// between the mid and the array of the prefixes, and LIFETIME_3600 behind that. NET1 and NET2 are the rest behind the mid for
+/// between the mid and the array of the prefixes, and LIFETIME_3600 behind that. BY_WEB is the rest behind the mid for the alias `web` and 3600 s. NET1 and NET2 are the rest behind the mid for
 /// 192.0.2.0/24 and for 198.51.100.0/25. INSIDE and OUTSIDE are the texts of 192.0.2.0/24 and of 198.51.100.0/24, and CDID_NET1,
 /// CDID_NET2 and CDID_NET9 options in front of the cuid. B_7 is the parameters of a client `b` and mid 7.
 ///
@@ -90,6 +81,7 @@ MID_123 076d69643d313233
 MID_124 076d69643d313234
 BODY 12010fffa101a10281a206
 LIFETIME_3600 0e190e10
+BY_WEB 12010fffa101a10281a20d81637765620e190e10
 NET1 12010fffa101a10281a206816c3139322e302e322e302f32340e190e10
 NET2 12010fffa101a10281a206816f3139382e35312e3130302e302f32350e190e10
 INSIDE 6c3139322e302e322e302f3234
