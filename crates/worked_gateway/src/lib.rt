@@ -1,4 +1,4 @@
-//! Worked bytes of a gateway of the signal channel: what it passes on and answers.
+//! Worked bytes of a gateway of the signal channel: what it passes on and answers, and what it keeps on its disk.
 //!
 //! Each row is put to the gateway's public calls. The expected bytes come from the RFCs and the protocol's documents, and not from the
 //! program.
@@ -8,3 +8,5 @@
 mod gateway_rows;
 #[cfg(test)]
 mod row;
+#[cfg(test)]
+mod store_rows;

@@ -1,0 +1,11 @@
+pub mod Orders
+pub mod Young
+pub mod Kept
+pub mod Forms
+pub mod Foreign
+pub mod Slots
+pub mod Keeping
+pub mod Strays
+pub mod Waiting
+pub mod Sizes
+pub mod Writing

@@ -1,0 +1,108 @@
+use Rattle.std.proofs.Common.{◌≡◌, ℕ, inl, inr, length, refl, sym, ap, subst, ◌∙◌, arith}
+use Rattle.std.proofs.lemmas.List.{length-map}
+use Rattle.std.proofs.lemmas.Result.{err_from_is_err_and}
+use Rattle.dots_disk.specs.Becoming.{RestsWith}
+use Rattle.slot_store.proofs.DiskReading.{sees_at_rest}
+use Rattle.slot_store.specs.StoreValues.{JournalValue}
+use Rattle.slot_journal.specs.DiskEntries.{Holds, Represents}
+use Rattle.gateway_store.specs.Exchanges.{IsStore, most_young}
+use Rattle.gateway_store.specs.Forms.{entry_of}
+use Rattle.gateway_store.proofs.Strays.{used_many, refuses_stray, refuses_more, caused_entries}
+use Rattle.gateway_store.proofs.opening.fill.Goals as goal
+
+-- ---- where the journal isn't recovered
+
+pub returns-in_err-journal : goal.returns-in_err-journal
+returns-in_err-journal g c =
+    let p = err_from_is_err_and c.from_residual.result c.from_residual.ensures.1 in
+    record {
+      moments = c.in_err-journal.ensures.moments;
+      recovered = rw p.1 tt;
+      store = rw p.1 tt;
+      used = rw p.1 tt;
+      size = rw p.1 tt;
+      capacity = refl;
+      refused = rw (p.1, p.2) (λ seen sees. refuses_more c.args.settings.now (g.D.Disk.extent c.args.disk.now) seen _ _ (c.in_err-journal.ensures.refused seen sees));
+      unwritten = rw (p.1, p.2) (λ seen other rests. inl (c.in_err-journal.ensures.unwritten seen other rests));
+      extent = c.in_err-journal.ensures.extent;
+      cause = rw (p.1, p.2) c.in_err-journal.ensures.cause;
+      beside = c.in_err-journal.ensures.beside;
+    }
+
+-- ---- where its entries aren't taken
+
+pub place-at-requires : goal.place-at-requires
+place-at-requires g c = let slots = c.in_ok-journal.ensures.size.0 in omega (arith, slots)
+
+pub returns-then-many-used : goal.returns-then-many-used
+returns-then-many-used g c =
+    let many = ap length c.items-many.ensures in
+    let other = c.if-many-used.true in
+    let used = c.used-used.ensures.used in
+    record {
+      moments = c.in_ok-journal.ensures.moments;
+      recovered = tt;
+      store = tt;
+      used = tt;
+      size = tt;
+      capacity = refl;
+      refused = λ seen sees.
+          let same = used_many _ c.args.settings.now c.in_ok-journal.journal c.in_ok-journal.entries (c.in_ok-journal.ensures.recovered seen sees).1 in
+          absurd (other (many ∙ sym same ∙ sym used));
+      unwritten = λ seen gone rests. inr (c.in_ok-journal.entries, (c.in_ok-journal.ensures.recovered seen (sees_at_rest _ seen rests)).0);
+      extent = c.in_ok-journal.ensures.extent;
+      cause = c.in_ok-journal.ensures.cause;
+      beside = c.in_ok-journal.ensures.beside;
+    }
+
+pub returns-in_err-take_all : goal.returns-in_err-take_all
+returns-in_err-take_all g c =
+    let p = err_from_is_err_and c.from_residual-in_err-take_all.result c.from_residual-in_err-take_all.ensures.1 in
+    let extent = g.D.Disk.extent c.args.disk.now in
+    let items = c.items.ensures in
+    let stray = rw items at c.in_err-take_all.ensures.refused in
+    record {
+      moments = c.in_ok-journal.ensures.moments;
+      recovered = rw p.1 tt;
+      store = rw p.1 tt;
+      used = rw p.1 tt;
+      size = rw p.1 tt;
+      capacity = c.take_all.ensures.capacity;
+      refused = rw (p.1, p.2) (λ seen sees.
+          let found = c.in_ok-journal.ensures.recovered seen sees in
+          refuses_stray c.args.settings.now extent seen _ c.in_ok-journal.journal c.in_ok-journal.entries _ c.in_ok-journal.ensures.size.0 found.0 found.1
+          stray);
+      unwritten = rw (p.1, p.2) (λ seen other rests. inr (c.in_ok-journal.entries, (c.in_ok-journal.ensures.recovered seen (sees_at_rest _ seen rests)).0));
+      extent = c.in_ok-journal.ensures.extent;
+      cause = rw (p.1, p.2) (caused_entries JournalValue c.in_ok-journal.journal c.in_ok-journal.entries _ _ _ stray c.in_ok-journal.ensures.cause);
+      beside = c.in_ok-journal.ensures.beside;
+    }
+
+-- ---- and where they are
+
+pub returns : goal.returns
+returns g c =
+    let items = c.items.ensures in
+    let taken = sym items ∙ c.in_ok-take_all.ensures.taken in
+    let many = ap length c.items-many.ensures in
+    let same = c.if-many-used.false in
+    let used = c.used-used.ensures.used in
+    let fits = c.used-used.ensures.fits in
+    let long = ap length taken ∙ length-map c.take_all.new.exchanges.items entry_of in
+    record {
+      moments = c.in_ok-journal.ensures.moments;
+      recovered = λ seen sees.
+          let found = c.in_ok-journal.ensures.recovered seen sees in (
+            subst (Holds c.args.settings.now seen) taken found.0,
+            subst (λ es. RestsWith (g.D.Disk.media c.recover.new.disk) (Represents c.in_ok-journal.journal c.args.settings.now es)) taken found.1,
+          );
+      store = subst (λ n. IsStore (most_young n) c.take_all.new.exchanges.items) c.in_ok-journal.ensures.size.0 c.in_ok-take_all.ensures.store;
+      used = (omega (arith, many, same, used, long), omega (arith, used, fits));
+      size = c.in_ok-journal.ensures.size;
+      capacity = c.take_all.ensures.capacity;
+      refused = tt;
+      unwritten = tt;
+      extent = c.in_ok-journal.ensures.extent;
+      cause = c.in_ok-journal.ensures.cause;
+      beside = c.in_ok-journal.ensures.beside;
+    }

@@ -1,0 +1,5 @@
+pub mod Forms
+pub mod Exchanges
+pub mod Stores
+pub mod Crashes
+pub mod Refusing
