@@ -8,7 +8,7 @@ use Rattle.coap_observe.specs.declared.observer.Observer.{Observer}
 use Rattle.coap_observe.specs.Seen.{Lists, list_for, same_one, same_seen}
 use Rattle.coap_observe.specs.Observed.{ObservedValue, is_token, is_due, notified, registered_again}
 use Rattle.coap_observe.specs.Observing.{entered, registered, has_room, NoneIsDue}
-use Rattle.coap_observe.specs.DueAmong.{is_nobody, includes, includes_one, joined, AreNotified}
+use Rattle.coap_observe.specs.DueAmong.{is_nobody, includes, includes_one, joined, merged, AreNotified}
 
 own_list : (xs : List (ℕ × ℕ)) → same_seen xs xs ≡ true
 own_list [] = refl
@@ -66,7 +66,7 @@ anybody_notified lists [] = tt
 anybody_notified lists (o ∷ os) = (λ out. absurd (false≢true (sym out)), anybody_notified lists os)
 
 -- those of one domain more may be due
-excluded : (among : DueAmong) (domain other : ℕ) → includes (joined among domain) other ≡ false → (includes among other ≡ false) × (domain == other ≡ false)
+pub excluded : (among : DueAmong) (domain other : ℕ) → includes (joined among domain) other ≡ false → (includes among other ≡ false) × (domain == other ≡ false)
 excluded Nobody domain other out = (refl, out)
 excluded (Domain own) domain other out = by_domain (own == domain) refl
   where
@@ -88,6 +88,17 @@ changed_notified old new among domain same (o ∷ os) are = (
       ap (λ list. not (same_seen o.seen list)) (sym (same o.observer both.1)) ∙ are.0 both.0,
   changed_notified old new among domain same os are.1,
 )
+
+-- what there is to see became something else, but not of a domain that isn't among the others
+pub merged_notified : (old new : Lists) (among others : DueAmong) → ((o : Observer) → includes others o.domain ≡ false → list_for new o ≡ list_for old o)
+    → (os : List ObservedValue) → AreNotified old among os → AreNotified new (merged among others) os
+merged_notified old new among Nobody same [] are = tt
+merged_notified old new among Nobody same (o ∷ os) are = (
+  λ out. ap (λ list. not (same_seen o.seen list)) (same o.observer refl) ∙ are.0 out,
+  merged_notified old new among Nobody same os are.1,
+)
+merged_notified old new among (Domain domain) same os are = changed_notified old new among domain (λ o out. sym (same o out)) os are
+merged_notified old new among Anybody same os are = anybody_notified new os
 
 -- ---- observers are notified
 

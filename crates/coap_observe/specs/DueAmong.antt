@@ -25,6 +25,12 @@ joined Nobody domain = Domain domain
 joined (Domain own) domain = if own == domain then Domain own else Anybody
 joined Anybody domain = Anybody
 
+-- these, and those of the other
+abbrev pub merged : DueAmong → DueAmong → DueAmong
+merged among Nobody = among
+merged among (Domain domain) = joined among domain
+merged among Anybody = Anybody
+
 -- each that isn't among them has been notified of what there is to see
 abbrev pub AreNotified : Lists → DueAmong → List ObservedValue → Type 0
 AreNotified lists among [] = ⊤

@@ -1,5 +1,5 @@
 ghost use Rattle.std.specs.Prelude.{◌≡◌};
-ghost use Rattle.coap_observe.specs.DueAmong.{is_nobody, includes, joined};
+ghost use Rattle.coap_observe.specs.DueAmong.{is_nobody, includes, joined, merged};
 
 /// Among whom an observer may be due. Only these are looked at where one is looked for.
 #[derive(Clone, Copy, PartialEq, Eq)]
@@ -40,6 +40,17 @@ impl DueAmong {
             DueAmong::Nobody => DueAmong::Domain(domain),
             DueAmong::Domain(own) if own == domain => self,
             _ => DueAmong::Anybody,
+        }
+    }
+
+    /// These, and those of the other.
+    pub fn merged(self, other: DueAmong) -> DueAmong
+        ensures { result ≡ merged self other }
+    {
+        match other {
+            DueAmong::Nobody => self,
+            DueAmong::Domain(domain) => self.joined(domain),
+            DueAmong::Anybody => DueAmong::Anybody,
         }
     }
 }

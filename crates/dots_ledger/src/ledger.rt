@@ -1,6 +1,6 @@
 //! The journal and the registry, side by side.
 
-ghost use Rattle.std.specs.Prelude.{◌≡◌, ◌+◌, ◌<◌, ◌≤◌, ◌++◌, ◌∷◌, [], true, List, OnOk, OnErr};
+ghost use Rattle.std.specs.Prelude.{◌≡◌, ◌+◌, ◌<◌, ◌≤◌, ◌++◌, ◌∷◌, [], ℕ, true, false, List, Option, OnOk, OnErr};
 ghost use Rattle.dots_disk.specs.Becoming.{Leaves, RestsWith};
 ghost use Rattle.dots_host.specs.Causes.{HasCause};
 ghost use Rattle.dots_history.specs.declared.entry.Entry.{Entry};
@@ -8,12 +8,15 @@ ghost use Rattle.dots_history.specs.Keeping.{kept};
 ghost use Rattle.dots_settings.specs.Settings.{SettingsValue};
 ghost use Rattle.live_mitigations.specs.Ends.{never};
 ghost use Rattle.dots_registry.specs.RegistryValues.{time_of, number_remembered};
+ghost use Rattle.dots_registry.specs.ObserverViews.{views_of};
+ghost use Rattle.coap_observe.specs.DueAmong.{includes};
 ghost use Rattle.slot_store.specs.Layout.{needed_of};
 ghost use Rattle.slot_store.specs.Copying.{other_selector};
 ghost use Rattle.slot_journal.specs.DiskEntries as journal;
 ghost use Rattle.dots_ledger.specs.LedgerValues.{Represents, CanAccept, joins_at, once_free};
 ghost use Rattle.dots_ledger.specs.Crashes.{HoldsEither, HoldsOne};
 
+use coap_observe::DueAmong;
 use dots_disk::Disk;
 use dots_history::SlotList;
 use dots_registry::Registry;
@@ -49,16 +52,19 @@ impl Ledger {
         &self.registry
     }
 
-    /// Moves the time, in seconds, below 2^64 - 1, and takes out of the tables what is over then. The disk stays as it is.
-    pub fn tick(&mut self, now: u64)
+    /// Moves the time, in seconds, below 2^64 - 1, and takes out of the tables what is over then. The disk stays as it is. The answer has
+    /// the domains of which something is over, as that of [`Registry::tick`].
+    pub fn tick(&mut self, now: u64) -> DueAmong
         requires later { time_of self.old.registry ≤ now }
         requires bounded { now < never }
         ensures represents { (settings : SettingsValue) (history entries : List Entry) → Represents self.old settings history entries
             → Represents self.new settings history entries }
+        ensures seen { (domain : ℕ) (cuid : List ℕ) (mid : Option ℕ) → includes result domain ≡ false
+            → views_of self.new.registry domain cuid mid ≡ views_of self.old.registry domain cuid mid }
         ensures time { time_of self.new.registry ≡ now }
         ensures journal { self.new.journal ≡ self.old.journal }
     {
-        self.registry.tick(now);
+        self.registry.tick(now)
     }
 
     /// Lets all of it go. The disk stays as it is.

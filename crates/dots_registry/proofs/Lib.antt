@@ -16,6 +16,7 @@ pub mod Keeping
 pub mod Filtering
 mod Judged
 mod Seeing
+mod Ended
 pub mod Going
 pub mod Recents
 pub mod Named

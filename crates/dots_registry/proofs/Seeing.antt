@@ -30,16 +30,16 @@ length_taken (suc n) (x ∷ xs) = let rest = length_taken n xs in omega (arith, 
 
 -- ---- one mitigation more
 module _ (lost : ℕ → ℕ → Bool) (domain t : ℕ) (cuid : List ℕ) (mid : Option ℕ) where
-  abbrev view_at : Mitigation → LiveView
+  abbrev pub view_at : Mitigation → LiveView
   view_at m = view_with lost domain (live_view t m)
 
-  abbrev all_seen : List Mitigation → List (ℕ × ℕ)
+  abbrev pub all_seen : List Mitigation → List (ℕ × ℕ)
   all_seen ms = seen_among lost domain t cuid mid ms
 
-  abbrev is_here : Mitigation → Bool
+  abbrev pub is_here : Mitigation → Bool
   is_here m = bytes_eq m.put.cuid cuid && is_wanted mid (view_at m)
 
-  first_seen : (m : Mitigation) (ms : List Mitigation)
+  pub first_seen : (m : Mitigation) (ms : List Mitigation)
       → all_seen (m ∷ ms) ≡ cond (is_here m) (seen (view_at m) ∷ all_seen ms) (all_seen ms)
   first_seen m ms =
       elim (bytes_eq m.put.cuid cuid) as (λ b.

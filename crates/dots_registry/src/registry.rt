@@ -1,6 +1,6 @@
 //! What a registry keeps, and how it goes on.
 
-ghost use Rattle.std.specs.Prelude.{◌≡◌, ◌≤◌, ◌<◌, ◌++◌, ◌∷◌, [], true, false, map, List, IfOk, OnErr};
+ghost use Rattle.std.specs.Prelude.{◌≡◌, ◌≤◌, ◌<◌, ◌++◌, ◌∷◌, [], ℕ, true, false, map, List, Option, IfOk, OnErr};
 ghost use Rattle.std.specs.List.{list_any};
 ghost use Rattle.dots_settings.specs.Settings.{SettingsValue};
 ghost use Rattle.dots_history.specs.declared.entry.Entry.{Entry};
@@ -13,12 +13,15 @@ ghost use Rattle.installed_filters.specs.Filters.{rows_put, list_put, needs_rows
 ghost use Rattle.dots_history.specs.Entries.{is_loss};
 ghost use Rattle.held_resources.specs.Tables.{lost_in};
 ghost use Rattle.dots_registry.specs.RegistryValues.{Represents, IsOf, time_of, has_ring, silent, answered, rings_with};
+ghost use Rattle.coap_observe.specs.DueAmong.{includes};
+ghost use Rattle.dots_registry.specs.ObserverViews.{views_of};
 ghost use Rattle.dots_registry.specs.Fitting.{FitsIn};
 ghost use Rattle.dots_laws.specs.Filed.{Filed};
 ghost use Rattle.dots_registry.specs.Filed.{RepresentsFiled};
 
 use crate::expiring::expire_all;
 use coap_exchange::Remembered;
+use coap_observe::DueAmong;
 use dots_history::{Entry, is_loss, is_signal};
 use dots_lists::{Bytes, NoMemory};
 use dots_settings::Settings;
@@ -110,18 +113,22 @@ impl Registry {
         self.live.time()
     }
 
-    /// Moves the time, in seconds, below 2^64 - 1, and takes out what is over then.
-    pub fn tick(&mut self, now: u64)
+    /// Moves the time, in seconds, below 2^64 - 1, and takes out what is over then. The answer has the domains of which something is, so
+    /// an observer may be due among those of them.
+    pub fn tick(&mut self, now: u64) -> DueAmong
         requires later { time_of self.old ≤ now }
         requires bounded { now < never }
         ensures represents { (entries : List Entry) → Represents self.old entries → Represents self.new entries }
         ensures filed { (filed : List Filed) → RepresentsFiled self.old filed → RepresentsFiled self.new filed }
+        // Of the other domains there is to see what there was.
+        ensures seen { (domain : ℕ) (cuid : List ℕ) (mid : Option ℕ) → includes result domain ≡ false → views_of self.new domain cuid mid ≡ views_of self.old domain cuid mid }
         ensures time { time_of self.new ≡ now }
         ensures rings { self.new.rings ≡ self.old.rings }
         ensures settings { (settings : SettingsValue) → IsOf settings self.old → IsOf settings self.new }
     {
-        expire_all(&mut self.live, &mut self.filters, &self.held, now);
+        let ended = expire_all(&mut self.live, &mut self.filters, &self.held, now);
         self.live.tick(now);
+        ended
     }
 
     /// Makes the copies that the rows of an entry need, so that it can be applied without memory. This takes memory only for

@@ -1,5 +1,5 @@
 -- What a server represents, as it goes on.
-use Rattle.std.proofs.Common.{◌≡◌, ◌==◌, ℕ, ◌<◌, ◌≤◌, ◌^◌, Bool, true, false, ◌&&◌, nat_le, nat_lt, cond, length, append-nil, List, [], ◌∷◌, ◌++◌, max, refl, sym, ap, ◌∙◌, subst, arith, ◌⊎◌, inl, inr}
+use Rattle.std.proofs.Common.{◌≡◌, ◌==◌, ℕ, Option, ◌<◌, ◌≤◌, ◌^◌, Bool, true, false, ◌&&◌, nat_le, nat_lt, cond, length, append-nil, List, [], ◌∷◌, ◌++◌, max, refl, sym, ap, ◌∙◌, subst, arith, ◌⊎◌, inl, inr}
 use Rattle.std.specs.List.{list_all}
 use Rattle.std.proofs.lemmas.Bool.{and_parts, and_from}
 use Rattle.std.proofs.lemmas.List.Folds.{list_all-append}
@@ -21,10 +21,10 @@ use Rattle.dots_machine.specs.Machine.{State, later, with_entry}
 use Rattle.dots_notices.specs.declared.watch.Watch.{Watch}
 use Rattle.std.proofs.lemmas.List.Elements.{filter-append}
 use Rattle.coap_observe.specs.declared.observer.Observer.{Observer}
-use Rattle.coap_observe.specs.declared.due_among.DueAmong.TheVariants.{Anybody}
-use Rattle.coap_observe.specs.DueAmong.{joined, AreNotified}
+use Rattle.coap_observe.specs.declared.due_among.DueAmong.{DueAmong}
+use Rattle.coap_observe.specs.DueAmong.{includes, joined, merged, AreNotified}
 use Rattle.coap_observe.specs.Seen.{list_for}
-use Rattle.coap_observe.proofs.Notified.{anybody_notified, changed_notified}
+use Rattle.coap_observe.proofs.Notified.{changed_notified, merged_notified}
 use Rattle.dots_history.specs.Histories.{alone}
 use Rattle.dots_registry.specs.ObserverViews.{views_of}
 use Rattle.conflict_rules.proofs.Alone.{views_apart}
@@ -45,7 +45,8 @@ apart_still old new connections apart = subst AreApart (sym connections) apart
 
 -- ---- the time of the tables was moved
 
-module _ (at : ℕ) (old new : ServerValue) (early : at < 2 ^ 48) (same : new.settings ≡ old.settings) (watch : new.watch ≡ record old.watch { due = Anybody }) (connections : new.lines ≡ old.lines) (journal : new.journal ≡ old.journal) (time : time_of new.registry ≡ max at (time_of old.registry))
+module _ (at : ℕ) (old new : ServerValue) (ended : DueAmong) (early : at < 2 ^ 48) (same : new.settings ≡ old.settings) (watch : new.watch ≡ record old.watch { due = merged old.watch.due ended }) (connections : new.lines ≡ old.lines) (journal : new.journal ≡ old.journal) (time : time_of new.registry ≡ max at (time_of old.registry))
+    (seen : (domain : ℕ) (cuid : List ℕ) (mid : Option ℕ) → includes ended domain ≡ false → views_of new.registry domain cuid mid ≡ views_of old.registry domain cuid mid)
     (goes : (settings : SettingsValue) (history entries : List Entry) → ledger.Represents (ledger_of old) settings history entries → ledger.Represents (ledger_of new) settings history entries) where
   with_later : (settings : SettingsValue) (state : State) (entries : List Entry) → RepresentsWith old settings state entries → RepresentsWith new settings (later state at) entries
   with_later settings state entries represents =
@@ -76,7 +77,8 @@ module _ (at : ℕ) (old new : ServerValue) (early : at < 2 ^ 48) (same : new.se
     state = later serving.state at;
     entries = serving.entries;
     represents = subst (λ s. RepresentsWith new s (later serving.state at) serving.entries) (sym same) (with_later old.settings serving.state serving.entries serving.represents);
-    notified = subst (λ (w : Watch). AreNotified (views_of new.registry) w.due w.observers.observed) (sym watch) (anybody_notified (views_of new.registry) old.watch.observers.observed);
+    notified = subst (λ (w : Watch). AreNotified (views_of new.registry) w.due w.observers.observed) (sym watch)
+        (merged_notified (views_of old.registry) (views_of new.registry) old.watch.due ended (λ o out. seen o.domain o.cuid o.mid out) old.watch.observers.observed serving.notified);
     rows = rows_still old new same connections serving.rows;
     apart = apart_still old new connections serving.apart;
   }

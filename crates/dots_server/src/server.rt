@@ -60,8 +60,8 @@ pub struct Server {
     pub(crate) alloc: Global,
     pub(crate) settings: Settings,
     pub(crate) ledger: Ledger,
-    /// The observers, and the sessions with the peers. An observer may be due whose domain something was accepted for; any, where a second
-    /// passed, or one was passed over.
+    /// The observers, and the sessions with the peers. An observer may be due in whose domain something was accepted or is over; any, where one
+    /// was passed over.
     pub(crate) watch: Watch,
     /// The connections that are open, with what is held of each.
     pub(crate) lines: StreamTable<RestStream>,
@@ -281,8 +281,9 @@ impl Server {
     {
         let before = self.ledger.registry().time();
         if at > before {
-            self.ledger.tick(at);
-            self.watch.due = DueAmong::Anybody;
+            let ended = self.ledger.tick(at);
+            let due = self.watch.due.merged(ended);
+            self.watch.due = due;
         }
     }
 

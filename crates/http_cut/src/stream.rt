@@ -59,6 +59,9 @@ impl Stream {
         ensures held { self.new ≡ self.old ++ take result piece.now }
         ensures bound { length self.new ≤ 16384 }
     {
+        if piece.is_empty() {
+            return 0;
+        }
         self.look_up_need();
         let count = piece.len().min(GREATEST_HELD - self.bytes.len());
         let came = &piece[..count];

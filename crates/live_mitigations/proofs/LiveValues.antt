@@ -5,7 +5,7 @@ use Rattle.std.specs.List.{list_any, list_all}
 use Rattle.std.proofs.lemmas.List.{map-append, append-nil}
 use Rattle.std.proofs.lemmas.List.Elements.{filter-append}
 use Rattle.std.proofs.lemmas.List.Folds.{list_all-append}
-use Rattle.std.proofs.lemmas.Bool.{cases_eq, cond-true, cond-false, eq-eqb, ne_eqb, and_from, or_right, lt-ltb, lt-leb, le-leb}
+use Rattle.std.proofs.lemmas.Bool.{cases_eq, cond-true, cond-false, eq-eqb, ne_eqb, and_from, or_right, lt-ltb, lt-leb, le-leb, false≢true}
 use Rattle.dots_settings.specs.declared.limits.Limits.{Limits}
 use Rattle.dots_history.specs.declared.entry.Entry.{Entry}
 use Rattle.dots_history.specs.Histories.{Mitigation, Within, tally, mitigations, alone}
@@ -226,6 +226,17 @@ pub within_inside : (domains : ℕ) (e : Entry) → e.domain < domains → is_in
 within_inside domains e less = or_right (not (puts e)) (nat_lt e.domain domains) (lt-ltb e.domain domains less)
 
 -- ---- the next domain in which one is over
+
+-- a domain in which one is over changes, so one in which none is goes on as it was
+pub still_on : (now domain : ℕ) (start before found after : LiveValue) → found ≡ before → has_due now before domain ≡ true
+    → ((other : ℕ) → other ≢ domain → rows_for after other ≡ rows_for found other)
+    → ((other : ℕ) → has_due now start other ≡ false → rows_for before other ≡ rows_for start other)
+    → (other : ℕ) → has_due now start other ≡ false → rows_for after other ≡ rows_for start other
+still_on now domain start before found after is due others so_far other none =
+    let same = so_far other none in
+    let apart : other ≢ domain = λ one. false≢true (sym none ∙ ap (list_any (is_due now)) (sym same) ∙ ap (has_due now before) one ∙ due) in
+    others other apart ∙ ap (λ (live : LiveValue). rows_for live other) is ∙ same
+
 pub none_is_due : (now : ℕ) (inside old : LiveValue) (found : Option ℕ) → now < never → inside ≡ old
     → IfNone found ((domain : ℕ) → now < first_end (rows_for inside domain)) → IfNone found ((domain : ℕ) → has_due now old domain ≡ false)
 none_is_due now inside old None less is none =

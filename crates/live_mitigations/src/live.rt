@@ -148,6 +148,8 @@ impl LiveMitigations {
         requires bounded { now < never }
         ensures represents { (entries : List Entry) → ComesTo now self.old entries → Represents self.new entries }
         ensures slots { (filed : List Filed) → SlotsCome now self.old.tables filed → SlotsAre now self.new.tables filed }
+        // A domain in which none is over stays as it was.
+        ensures still { (domain : ℕ) → has_due now self.old domain ≡ false → rows_for self.new domain ≡ rows_for self.old domain }
         ensures time { self.new.time ≡ now }
         ensures domains { self.new.domains ≡ self.old.domains }
         ensures limits { self.new.limits ≡ self.old.limits }
@@ -162,6 +164,7 @@ impl LiveMitigations {
         ensures none { (domain : ℕ) → has_due now self.new domain ≡ false }
         ensures comes { (entries : List Entry) → ComesTo now self.old entries → ComesTo now self.new entries }
         ensures slots { (filed : List Filed) → SlotsCome now self.old.tables filed → SlotsCome now self.new.tables filed }
+        ensures still { (domain : ℕ) → has_due now self.old domain ≡ false → rows_for self.new domain ≡ rows_for self.old domain }
         ensures same { SameButRows self.old self.new }
     {
         while let Some(domain) = self.next_due(now) {

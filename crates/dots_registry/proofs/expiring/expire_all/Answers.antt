@@ -1,4 +1,5 @@
 use Rattle.std.proofs.Common.{◌≡◌, ◌<◌, refl, sym, ap, ◌∙◌, subst}
+use Rattle.dots_registry.proofs.Ended.{others_still}
 use Rattle.live_mitigations.specs.LiveValues.{LiveValue, ComesTo, SlotsCome}
 use Rattle.dots_history.specs.Histories.{held}
 use Rattle.held_resources.specs.Tables.{lost_in}
@@ -11,6 +12,7 @@ pub loop-domain-init : goal.loop-domain-init
 loop-domain-init c = record {
   comes = λ entries comes. comes;
   same = record { domains = refl; limits = refl; time = refl };
+  others = λ domain out. refl;
   between = λ entries less alive held_so represents. between_first _ _ _ entries less alive represents;
   room = record { scrubs = refl; acls = refl };
   slots = λ filed come. come;
@@ -27,6 +29,18 @@ loop-domain-preserved c =
         limits = c.expire.ensures.same.limits ∙ ap (λ (l : LiveValue). l.limits) same ∙ before.same.limits;
         time = c.expire.ensures.same.time ∙ ap (λ (l : LiveValue). l.time) same ∙ before.same.time;
       };
+      others = others_still
+          c.loop-domain.ended
+          c.in-Some.domain
+          c.joined-ended.result
+          c.joined-ended.ensures
+          c.args.live.now
+          c.loop-domain.live
+          c.next_due.new.self
+          c.expire.new.self
+          same
+          c.expire.ensures.others
+          before.others;
       between = λ entries less alive held_so represents.
           between_next
           (lost_in c.args.held.now)
